@@ -1,0 +1,33 @@
+-- The bits of bytes, the most significant first, and the number that bits spell.
+use Rattle.std.specs.Prelude.{ℕ, zero, suc, ◌+◌, ◌*◌, ◌^◌, ◌<◌, List, [], ◌∷◌, ◌++◌, length}
+use Rattle.std.specs.Int.{bit_at}
+
+-- a number in so many bits
+unfoldable pub bits_of : ℕ → ℕ → List ℕ
+bits_of zero n = []
+bits_of (suc width) n = bit_at n width ∷ bits_of width n
+
+-- the number that bits spell
+unfoldable pub number : List ℕ → ℕ
+number [] = 0
+number (bit ∷ rest) = bit * 2 ^ length rest + number rest
+
+-- the bits of bytes, eight for each
+unfoldable pub bits : List ℕ → List ℕ
+bits [] = []
+bits (byte ∷ rest) = bits_of 8 byte ++ bits rest
+
+-- the bytes that bits spell, eight bits for each
+unfoldable pub bytes : List ℕ → List ℕ
+bytes (a ∷ b ∷ c ∷ d ∷ e ∷ f ∷ g ∷ h ∷ rest) = number (a ∷ b ∷ c ∷ d ∷ e ∷ f ∷ g ∷ h ∷ []) ∷ bytes rest
+bytes rest = []
+
+-- each is 0 or 1
+abbrev pub AreBits : List ℕ → Type 0
+AreBits [] = Unit {0}
+AreBits (bit ∷ rest) = (bit < 2) × AreBits rest
+
+-- each is below 256
+abbrev pub AreBytes : List ℕ → Type 0
+AreBytes [] = Unit {0}
+AreBytes (byte ∷ rest) = (byte < 256) × AreBytes rest

@@ -1,0 +1,8 @@
+//! The bits of a byte slice: taken in turn as numbers, and put in place.
+#![tactic(auto)]
+
+mod reader;
+mod writer;
+
+pub use reader::Bits;
+pub use writer::put;

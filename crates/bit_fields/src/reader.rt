@@ -1,0 +1,64 @@
+//! Numbers of successive groups of bits.
+ghost use Rattle.std.specs.Prelude.{◌≡◌, ◌+◌, ◌*◌, ◌^◌, ◌<◌, ◌≤◌, ◌↔◌, length, take, IsNone, IsSome, IfNone, IfSome};
+ghost use Rattle.bit_fields.specs.Bits.{bits, number};
+ghost use Rattle.bit_fields.specs.Cursor.{advanced};
+
+use std::marker::Model;
+
+/// A place among the bits of a byte slice, the most significant bit of each byte first.
+#[derive(Debug, Drop)]
+pub struct Bits<'a> {
+    bytes: &'a [u8],
+    place: usize,
+}
+
+impl<'a> Model for Bits<'a> {
+    ghost use Rattle.std.specs.Prelude.{◌*◌, ◌^◌, ◌≤◌, length, drop};
+    ghost use Rattle.bit_fields.specs.Bits.{bits};
+    ghost use Rattle.bit_fields.specs.Cursor.{Cursor};
+
+    ghost Value = { Cursor };
+
+    ghost view = { λ b. record { place = b.place; left = drop b.place (bits b.bytes.now) } };
+
+    ghost invariant = { λ b. (length b.bytes.now ≤ 2 ^ 28) × (b.place ≤ 8 * length b.bytes.now) };
+}
+
+impl<'a> Bits<'a> {
+    /// The first bit of the bytes, of which there are at most 2^28.
+    pub fn new(bytes: &'a [u8]) -> Self
+        requires { length bytes.now ≤ 2 ^ 28 }
+        ensures place { result.place ≡ 0 }
+        ensures left { result.left ≡ bits bytes.now }
+    {
+        Bits { bytes, place: 0 }
+    }
+
+    /// How many bits were taken.
+    pub fn place(&self) -> usize
+        ensures { result ≡ self.now.place }
+    {
+        self.place
+    }
+
+    /// How many bits are left.
+    pub fn left(&self) -> usize
+        ensures { result ≡ length self.now.left }
+    {
+        8 * self.bytes.len() - self.place
+    }
+
+    /// The number of the next n bits, at most 32 of them, the most significant first. `None` exactly
+    /// where fewer are left; the place then stays.
+    pub fn take(&mut self, n: u32) -> Option<u32>
+        requires { n ≤ 32 }
+        ensures short { IsNone result ↔ (length self.old.left < n) }
+        ensures enough { n ≤ length self.old.left → IsSome result }
+        ensures value { IfSome result (λ v. v ≡ number (take n self.old.left)) }
+        ensures below { IfSome result (λ v. v < 2 ^ n) }
+        ensures moves { IfSome result (λ v. self.new ≡ advanced self.old n) }
+        ensures stays { IfNone result (self.new ≡ self.old) }
+    {
+        None
+    }
+}

@@ -1,0 +1,43 @@
+-- How often a folder or a sink has failed, and when that may be told.
+use Rattle.std.specs.Prelude.{◌≡◌, ℕ, ◌+◌, ◌-◌, ◌^◌, ◌≤◌, min, Result, OnErr}
+
+-- a count has grown, or stands at the greatest value of a u64
+abbrev pub Rose : ℕ → ℕ → Type 0
+Rose before now = min (before + 1) (2 ^ 64 - 1) ≤ now
+
+-- the counts of a folder
+pub record Counts : Type 0 where
+  -- missing files that `find` met
+  pub misses : ℕ
+  -- reads that gave no byte though there was room for one
+  pub ends : ℕ
+  -- failures of `find` and `read`
+  pub read_faults : ℕ
+  -- failures of `create` and `write`
+  pub write_faults : ℕ
+
+-- no count has fallen
+pub record NoneFell (old new : Counts) : Type 0 where
+  pub misses : old.misses ≤ new.misses
+  pub ends : old.ends ≤ new.ends
+  pub read_faults : old.read_faults ≤ new.read_faults
+  pub write_faults : old.write_faults ≤ new.write_faults
+
+-- what a call that only reads does to the counts
+pub record OnlyReads (old new : Counts) : Type 0 where
+  pub misses : old.misses ≤ new.misses
+  pub ends : old.ends ≤ new.ends
+  pub read_faults : old.read_faults ≤ new.read_faults
+  pub write_faults : new.write_faults ≡ old.write_faults
+
+-- what a call that only writes does to the counts
+pub record OnlyWrites (old new : Counts) : Type 0 where
+  pub misses : old.misses ≤ new.misses
+  pub ends : old.ends ≤ new.ends
+  pub read_faults : new.read_faults ≡ old.read_faults
+  pub write_faults : old.write_faults ≤ new.write_faults
+
+-- a sink's count never falls, and it fails only where the count rose
+pub record HasCause {T E : Type 0} (before now : ℕ) (result : Result T E) : Type 0 where
+  pub later : before ≤ now
+  pub failed : OnErr result (Rose before now)

@@ -1,0 +1,67 @@
+//! A folder of files.
+ghost use Rattle.std.specs.Prelude.{◌≡◌, ◌⊎◌, ◌-◌, ◌<◌, ◌≤◌, List, ℕ, length, take, drop, string_bytes, IfOk, OnOk, OnErr, IsErrOf};
+ghost use Rattle.outside.specs.Files.{Files, emptied, appended, Holds, IsThere, IsMissing};
+ghost use Rattle.outside.specs.Counts.{Counts, OnlyReads, OnlyWrites, Rose};
+
+/// A call on the outside failed.
+#[derive(Clone, Copy, Debug, PartialEq, Eq)]
+pub struct Failed;
+
+/// Why a file was not found.
+#[derive(Clone, Copy, Debug, PartialEq, Eq)]
+pub enum FindFault {
+    /// There is no file of that name.
+    Absent,
+    /// The call failed.
+    Failed,
+}
+
+/// A folder of files, each of a name. What it tells of them, contracts see as a map from names to bytes.
+pub trait Folder {
+    /// The files, where they are told. Whether they are told never changes.
+    ghost files: { Self → Files };
+
+    /// How often a file was missing, a read met an end, and a call failed.
+    ghost counts: { Self → Counts };
+
+    /// The length of the file in bytes.
+    fn find(&mut self, name: &str) -> Result<u64, FindFault>
+        ensures found { IfOk result (λ n. (bytes : List ℕ) → Holds (files self.old) name.now bytes → n ≡ length bytes) }
+        ensures there { OnOk result (IsThere (files self.old) name.now) }
+        ensures missing { IsErrOf result FindFault.Absent → IsMissing (files self.old) name.now }
+        ensures absent { IsErrOf result FindFault.Absent → Rose (counts self.old).misses (counts self.new).misses }
+        ensures failed { IsErrOf result FindFault.Failed → Rose (counts self.old).read_faults (counts self.new).read_faults }
+        ensures files { files self.new ≡ files self.old }
+        ensures counts { OnlyReads (counts self.old) (counts self.new) };
+
+    /// Puts bytes of the file, from the place `at` on, at the front of `into`, and answers how many.
+    /// The rest of `into` stays.
+    fn read(&mut self, name: &str, at: u64, into: &mut [u8]) -> Result<usize, Failed>
+        requires { IsThere (files self.old) name.now }
+        ensures bound { IfOk result (λ k. k ≤ length into.old) }
+        ensures bytes { IfOk result (λ k. (bytes : List ℕ) → Holds (files self.old) name.now bytes → take k into.new ≡ take k (drop at bytes)) }
+        ensures rest { IfOk result (λ k. drop k into.new ≡ drop k into.old) }
+        ensures end { IfOk result (λ k. (bytes : List ℕ) → Holds (files self.old) name.now bytes → k ≡ 0 → (length into.old ≡ 0) ⊎ (length bytes ≤ at)) }
+        ensures within { IfOk result (λ k. (bytes : List ℕ) → Holds (files self.old) name.now bytes → k ≤ length bytes - at) }
+        ensures ended { IfOk result (λ k. k ≡ 0 → 0 < length into.old → Rose (counts self.old).ends (counts self.new).ends) }
+        ensures failed { OnErr result (Rose (counts self.old).read_faults (counts self.new).read_faults) }
+        ensures files { files self.new ≡ files self.old }
+        ensures counts { OnlyReads (counts self.old) (counts self.new) };
+
+    /// Makes the name hold no bytes.
+    fn create(&mut self, name: &str) -> Result<(), Failed>
+        ensures created { OnOk result (files self.new ≡ emptied (files self.old) name.now) }
+        ensures kept { OnErr result (files self.new ≡ files self.old) }
+        ensures failed { OnErr result (Rose (counts self.old).write_faults (counts self.new).write_faults) }
+        ensures counts { OnlyWrites (counts self.old) (counts self.new) };
+
+    /// Appends a front of the bytes to the file, and answers how many.
+    fn write(&mut self, name: &str, bytes: &[u8]) -> Result<usize, Failed>
+        requires { IsThere (files self.old) name.now }
+        ensures bound { IfOk result (λ k. k ≤ length bytes.now) }
+        ensures some { IfOk result (λ k. 0 < length bytes.now → 0 < k) }
+        ensures written { IfOk result (λ k. files self.new ≡ appended (files self.old) name.now (take k bytes.now)) }
+        ensures kept { OnErr result (files self.new ≡ files self.old) }
+        ensures failed { OnErr result (Rose (counts self.old).write_faults (counts self.new).write_faults) }
+        ensures counts { OnlyWrites (counts self.old) (counts self.new) };
+}

@@ -1,0 +1,51 @@
+//! Whole pieces read, written and sent.
+ghost use Rattle.std.specs.Prelude.{◌≡◌, ◌+◌, ◌-◌, ◌^◌, ◌<◌, ◌≤◌, List, ℕ, length, take, drop, IfOk, OnOk, OnErr};
+ghost use Rattle.outside.specs.Files.{appended, sent_more, Holds, IsThere};
+ghost use Rattle.outside.specs.Counts.{OnlyReads, OnlyWrites, HasCause, Rose};
+
+use crate::folder::{Failed, Folder};
+use crate::sink::Sink;
+
+/// Appends all the bytes to the file, or fails with a front of them appended.
+pub fn write_all<D: Folder>(folder: &mut D, name: &str, bytes: &[u8]) -> Result<(), Failed>
+    requires { IsThere (D.files folder.old) name.now }
+    ensures written { OnOk result (D.files folder.new ≡ appended (D.files folder.old) name.now bytes.now) }
+    ensures front { OnErr result ((k : ℕ) × (k ≤ length bytes.now) × (D.files folder.new ≡ appended (D.files folder.old) name.now (take k bytes.now))) }
+    ensures failed { OnErr result (Rose (D.counts folder.old).write_faults (D.counts folder.new).write_faults) }
+    ensures counts { OnlyWrites (D.counts folder.old) (D.counts folder.new) }
+{
+    folder.write(name, bytes)?;
+    Ok(())
+}
+
+/// Sends all the bytes, or fails with a front of them sent.
+pub fn send_all<T: Sink>(sink: &mut T, bytes: &[u8]) -> Result<(), Failed>
+    ensures written { OnOk result (T.sent sink.new ≡ sent_more (T.sent sink.old) bytes.now) }
+    ensures front { OnErr result ((k : ℕ) × (k ≤ length bytes.now) × (T.sent sink.new ≡ sent_more (T.sent sink.old) (take k bytes.now))) }
+    ensures cause { HasCause (T.faults sink.old) (T.faults sink.new) result }
+{
+    sink.write(bytes)?;
+    Ok(())
+}
+
+/// Reads the file from the place `at` on until `into` is full or a read gives no byte, and answers how
+/// many bytes were read.
+pub fn read_full<D: Folder>(
+    folder: &mut D,
+    name: &str,
+    at: u64,
+    into: &mut [u8],
+) -> Result<usize, Failed>
+    requires there { IsThere (D.files folder.old) name.now }
+    requires short { at + length into.old < 2 ^ 63 }
+    ensures bound { IfOk result (λ k. k ≤ length into.old) }
+    ensures bytes { IfOk result (λ k. (bytes : List ℕ) → Holds (D.files folder.old) name.now bytes → take k into.new ≡ take k (drop at bytes)) }
+    ensures rest { IfOk result (λ k. drop k into.new ≡ drop k into.old) }
+    ensures end { IfOk result (λ k. (bytes : List ℕ) → Holds (D.files folder.old) name.now bytes → k < length into.old → k ≡ length bytes - at) }
+    ensures ended { IfOk result (λ k. k < length into.old → Rose (D.counts folder.old).ends (D.counts folder.new).ends) }
+    ensures failed { OnErr result (Rose (D.counts folder.old).read_faults (D.counts folder.new).read_faults) }
+    ensures files { D.files folder.new ≡ D.files folder.old }
+    ensures counts { OnlyReads (D.counts folder.old) (D.counts folder.new) }
+{
+    folder.read(name, at, into)
+}
