@@ -42,9 +42,14 @@ frequency_of c = slice_index (frequencies c.version) c.frequency_index
 unfoldable pub side_size_of : ClassFields → ℕ
 side_size_of c = side_bytes_of c.version c.channels
 
--- the length of a frame in bytes: an eighth of the bits that its samples last at the bit rate, rounded down, and the padding
+-- an eighth of the samples of a frame: its bytes at one bit per sample
+abbrev pub length_factor : Version → ℕ
+length_factor One = 144
+length_factor Two = 72
+
+-- the length of a frame in bytes: the factor times the bit rate in bit/s, divided by the frequency and rounded down, and the padding
 unfoldable pub length_of : ClassFields → SlotFields → ℕ
-length_of c s = samples_of c.version / 8 * (1000 * rate_of c s) / frequency_of c + (if s.padding then 1 else 0)
+length_of c s = (length_factor c.version * (1000 * rate_of c s)) / frequency_of c + (if s.padding then 1 else 0)
 
 -- the bytes before the area: the header, the check word of a protected frame, and the side information
 unfoldable pub overhead_of : ClassFields → Bool → ℕ

@@ -1,13 +1,43 @@
 //! The 32 bits at the front of a frame.
-ghost use Rattle.std.specs.Prelude.{◌≡◌, ◌≤◌};
-ghost use Rattle.frame_header.specs.Fields.{IsHeader};
+ghost use Rattle.std.specs.Prelude.{◌≡◌, ◌+◌, ◌^◌, ◌<◌, ◌≤◌, ◌==◌};
+ghost use Rattle.bit_fields.specs.Bits.{bits_of};
+ghost use Rattle.bit_fields.specs.Groups.{group};
 ghost use Rattle.frame_header.specs.Tables.{class_of, length_of, area_of};
-ghost use Rattle.frame_header.specs.Reading.{header_at};
+ghost use Rattle.frame_header.specs.Reading.{header_at, is_readable as is_readable_lem};
 
 use crate::class::Class;
 use crate::slot::Slot;
 use crate::version::Version;
 use std::marker::Model;
+
+/// The number of a group of bits of a header, counted from the most significant.
+fn group_of(word: u32, from: u32, width: u32) -> u32
+    requires some { 1 ≤ width }
+    requires within { from + width ≤ 32 }
+    requires small { width ≤ 12 }
+    ensures group { result ≡ group from width (bits_of 32 word) }
+    ensures below { result < 2 ^ width }
+{
+    (word >> (32 - from - width)) % (1 << width)
+}
+
+/// Whether a bit of a header is 1.
+fn is_set(word: u32, at: u32) -> bool
+    requires { at < 32 }
+    ensures { result ≡ (group at 1 (bits_of 32 word) == 1) }
+{
+    group_of(word, at, 1) == 1
+}
+
+/// All sync bits are ones, the layer is III, and no forbidden bit rate and no reserved frequency stands.
+fn is_readable(word: u32) -> bool
+    ensures { result ≡ is_readable_lem (bits_of 32 word) }
+{
+    group_of(word, 0, 12) == 0xfff
+        && group_of(word, 13, 2) == 1
+        && group_of(word, 16, 4) != 15
+        && group_of(word, 20, 2) != 3
+}
 
 /// Why four bytes are no header that is edited here.
 #[derive(Clone, Copy, Debug, PartialEq, Eq)]
@@ -58,10 +88,24 @@ impl Header {
         if !is_readable(word) {
             return Err(NotHeader::No);
         }
-        if group(word, 16, 4) == 0 {
+        if group_of(word, 16, 4) == 0 {
             return Err(NotHeader::Free);
         }
-        Ok(fields(word))
+        Ok(Header {
+            version: if is_set(word, 12) { Version::One } else { Version::Two },
+            protected: !is_set(word, 15),
+            slot: Slot {
+                rate_index: group_of(word, 16, 4) as u8,
+                padding: is_set(word, 22),
+            },
+            frequency_index: group_of(word, 20, 2) as u8,
+            private_bit: is_set(word, 23),
+            mode: group_of(word, 24, 2) as u8,
+            mode_extension: group_of(word, 26, 2) as u8,
+            copyright: is_set(word, 28),
+            original: is_set(word, 29),
+            emphasis: group_of(word, 30, 2) as u8,
+        })
     }
 
     /// Version, frequency and number of channels.
