@@ -1,12 +1,12 @@
 -- The 32 bits of a header (ISO/IEC 11172-3 and 13818-3, 2.4.1.3 and 2.4.2.3).
-use Rattle.std.specs.Prelude.{ℕ, ◌==◌, ◌&&◌, not, if◌then◌else◌, Bool, true, false, List, Result, Ok, Err}
+use Rattle.std.specs.Prelude.{ℕ, ◌==◌, ◌&&◌, not, if◌then◌else◌, Bool, List, Result, Ok, Err}
 use Rattle.bit_fields.specs.Bits.{bits}
 use Rattle.bit_fields.specs.Groups.{group}
 use Rattle.frame_header.specs.declared.version.Version.{Version}
 use Rattle.frame_header.specs.declared.version.Version.TheVariants.{One, Two}
 use Rattle.frame_header.specs.declared.header.NotHeader.{NotHeader}
 use Rattle.frame_header.specs.declared.header.NotHeader.TheVariants.{Free, No}
-use Rattle.frame_header.specs.Fields.{SlotFields, HeaderFields}
+use Rattle.frame_header.specs.Fields.{HeaderFields}
 
 -- the groups of the 32 bits
 abbrev pub sync_word : List ℕ → ℕ
@@ -31,9 +31,12 @@ frequency_bits h = group 20 2 h
 unfoldable pub is_readable : List ℕ → Bool
 is_readable h = (sync_word h == 4095) && (layer_bits h == 1) && not (rate_bits h == 15) && not (frequency_bits h == 3)
 
+abbrev pub version_of : List ℕ → Version
+version_of h = if version_bit h == 1 then One else Two
+
 unfoldable pub header_fields : List ℕ → HeaderFields
 header_fields h = record {
-  version = if version_bit h == 1 then One else Two;
+  version = version_of h;
   protected = protection_bit h == 0;
   slot = record { rate_index = rate_bits h; padding = group 22 1 h == 1 };
   frequency_index = frequency_bits h;
@@ -45,7 +48,10 @@ header_fields h = record {
   emphasis = group 30 2 h;
 }
 
--- the header that four bytes are: readable, and of no free format
+-- the header that 32 bits are: readable, and of no free format
+unfoldable pub header_in : List ℕ → Result HeaderFields NotHeader
+header_in h = if is_readable h then (if rate_bits h == 0 then Err Free else Ok (header_fields h)) else Err No
+
+-- the header that four bytes are
 unfoldable pub header_at : List ℕ → Result HeaderFields NotHeader
-header_at four = let h = bits four in
-  if is_readable h then (if rate_bits h == 0 then Err Free else Ok (header_fields h)) else Err No
+header_at four = header_in (bits four)

@@ -1,5 +1,5 @@
 //! What all frames of one stream share.
-ghost use Rattle.std.specs.Prelude.{◌≡◌, ◌≤◌, ◌<◌};
+ghost use Rattle.std.specs.Prelude.{◌≡◌, ◌+◌, ◌<◌, ◌≤◌};
 ghost use Rattle.frame_header.specs.Tables.{rate_of, frequency_of, samples_of, side_size_of, window_of, length_of, area_of};
 
 use crate::slot::Slot;
@@ -26,10 +26,12 @@ impl Model for Class {
     ghost inverse = { λ v. record { version = v.version; frequency_index = v.frequency_index; channels = v.channels } };
 }
 
+#[tactic(auto, unfolding(crate::specs::Tables::frequency_of, crate::specs::Tables::rate_of, crate::specs::Tables::side_size_of, crate::specs::Tables::length_of, crate::specs::Tables::area_of, crate::specs::Tables::overhead_of))]
 impl Class {
     /// The sampling frequency in Hz.
     pub fn frequency(&self) -> u32
-        ensures { result ≡ frequency_of self.now }
+        ensures frequency { result ≡ frequency_of self.now }
+        ensures some { 0 < result }
     {
         match (self.version, self.frequency_index) {
             (Version::One, 0) => 44_100,
@@ -89,9 +91,15 @@ impl Class {
     pub fn length_of(&self, slot: Slot) -> u32
         ensures length { result ≡ length_of self.now slot }
         ensures most { result ≤ 1441 }
+        // Header, check word and side information leave room for main data.
+        ensures room { 6 + side_size_of self.now < result }
     {
+        let factor = match self.version {
+            Version::One => 144,
+            Version::Two => 72,
+        };
         let rate = 1000 * self.rate(slot);
-        self.samples() / 8 * rate / self.frequency() + u32::from(slot.padding)
+        factor * rate / self.frequency() + u32::from(slot.padding)
     }
 
     /// The bytes of a frame that hold main data: its length without header, check word and side

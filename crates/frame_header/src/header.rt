@@ -1,14 +1,22 @@
 //! The 32 bits at the front of a frame.
-ghost use Rattle.std.specs.Prelude.{◌≡◌, ◌+◌, ◌^◌, ◌<◌, ◌≤◌, ◌==◌};
-ghost use Rattle.bit_fields.specs.Bits.{bits_of};
+ghost use Rattle.std.specs.Prelude.{◌≡◌, ◌+◌, ◌^◌, ◌<◌, ◌≤◌, ◌==◌, length};
+ghost use Rattle.bit_fields.specs.Bits.{bits, bits_of};
 ghost use Rattle.bit_fields.specs.Groups.{group};
 ghost use Rattle.frame_header.specs.Tables.{class_of, length_of, area_of};
-ghost use Rattle.frame_header.specs.Reading.{header_at, is_readable as is_readable_lem};
+ghost use Rattle.frame_header.specs.Reading.{header_at, header_in, is_readable as is_readable_lem, version_of as version_of_lem};
 
 use crate::class::Class;
 use crate::slot::Slot;
 use crate::version::Version;
 use std::marker::Model;
+
+/// Four bytes as one number, the first the most significant.
+fn word_at(bytes: &[u8]) -> u32
+    requires { length bytes.now ≡ 4 }
+    ensures { bits bytes.now ≡ bits_of 32 result }
+{
+    u32::from_be_bytes([bytes[0], bytes[1], bytes[2], bytes[3]])
+}
 
 /// The number of a group of bits of a header, counted from the most significant.
 fn group_of(word: u32, from: u32, width: u32) -> u32
@@ -30,6 +38,7 @@ fn is_set(word: u32, at: u32) -> bool
 }
 
 /// All sync bits are ones, the layer is III, and no forbidden bit rate and no reserved frequency stands.
+#[tactic(auto, unfolding(crate::specs::Reading::is_readable))]
 fn is_readable(word: u32) -> bool
     ensures { result ≡ is_readable_lem (bits_of 32 word) }
 {
@@ -78,34 +87,51 @@ impl Model for Header {
     ghost inverse = { inside_of };
 }
 
+fn version_of(word: u32) -> Version
+    ensures { result ≡ version_of_lem (bits_of 32 word) }
+{
+    if is_set(word, 12) {
+        Version::One
+    } else {
+        Version::Two
+    }
+}
+
+/// Reads the 32 bits of a header.
+#[tactic(auto, unfolding(crate::specs::Reading::header_in, crate::specs::Reading::header_fields, crate::specs::Reading::is_readable))]
+fn read_word(word: u32) -> Result<Header, NotHeader>
+    ensures { result ≡ header_in (bits_of 32 word) }
+{
+    if !is_readable(word) {
+        return Err(NotHeader::No);
+    }
+    if group_of(word, 16, 4) == 0 {
+        return Err(NotHeader::Free);
+    }
+    Ok(Header {
+        version: version_of(word),
+        protected: group_of(word, 15, 1) == 0,
+        slot: Slot {
+            rate_index: group_of(word, 16, 4) as u8,
+            padding: is_set(word, 22),
+        },
+        frequency_index: group_of(word, 20, 2) as u8,
+        private_bit: is_set(word, 23),
+        mode: group_of(word, 24, 2) as u8,
+        mode_extension: group_of(word, 26, 2) as u8,
+        copyright: is_set(word, 28),
+        original: is_set(word, 29),
+        emphasis: group_of(word, 30, 2) as u8,
+    })
+}
+
 impl Header {
     /// Reads four bytes. `Free` exactly where they are readable with bit rate index 0, `No` exactly
     /// where they aren't readable.
     pub fn read(bytes: [u8; 4]) -> Result<Header, NotHeader>
         ensures { result ≡ header_at bytes }
     {
-        let word = u32::from_be_bytes(bytes);
-        if !is_readable(word) {
-            return Err(NotHeader::No);
-        }
-        if group_of(word, 16, 4) == 0 {
-            return Err(NotHeader::Free);
-        }
-        Ok(Header {
-            version: if is_set(word, 12) { Version::One } else { Version::Two },
-            protected: !is_set(word, 15),
-            slot: Slot {
-                rate_index: group_of(word, 16, 4) as u8,
-                padding: is_set(word, 22),
-            },
-            frequency_index: group_of(word, 20, 2) as u8,
-            private_bit: is_set(word, 23),
-            mode: group_of(word, 24, 2) as u8,
-            mode_extension: group_of(word, 26, 2) as u8,
-            copyright: is_set(word, 28),
-            original: is_set(word, 29),
-            emphasis: group_of(word, 30, 2) as u8,
-        })
+        read_word(word_at(&bytes))
     }
 
     /// Version, frequency and number of channels.
