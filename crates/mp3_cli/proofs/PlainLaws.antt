@@ -1,0 +1,93 @@
+-- What the tests of a plain frame say of its length.
+use Rattle.std.proofs.Common.{◌≡◌, ◌≢◌, ℕ, ◌+◌, ◌-◌, ◌<◌, ◌≤◌, Bool, true, false, cond, not, ◌&&◌, eqb, leb, List, length, take, drop, Option, Some, None, Result, Ok, Err, refl, sym, ◌∙◌, ap, subst, arith}
+use Rattle.std.proofs.lemmas.Bool.{true≢false, false≢true, eqb-true, leb-true}
+use Rattle.frame_header.specs.declared.version.Version.{Version}
+use Rattle.frame_header.specs.declared.version.Version.TheVariants.{One, Two}
+use Rattle.frame_header.specs.declared.header.NotHeader.{NotHeader}
+use Rattle.frame_header.specs.Fields.{HeaderFields, ClassFields, SlotFields, IsHeader, IsClass}
+use Rattle.frame_header.specs.Tables.{class_of, length_of, side_size_of}
+use Rattle.frame_header.specs.Reading.{header_at}
+use Rattle.frame_header.proofs.Lengths.{area_some}
+use Rattle.frame_header.proofs.HeaderLaws.{IsHeader-header_at}
+use Rattle.mp3_cli.specs.Plain.{good, header_front, same_version, same_class, is_plain, plain_length, plain_front}
+
+-- what a test that passed says of its two parts
+pub both : (a b : Bool) → (a && b) ≡ true → (a ≡ true) × (b ≡ true)
+both true b h = (refl, h)
+both false b h = absurd (false≢true h)
+
+-- the header that was found has its fields in range
+good_header : (r : Result HeaderFields NotHeader) (h : HeaderFields) → good r ≡ Some h → r ≡ Ok h
+good_header (Ok f) h e = cc
+good_header (Err why) h e = absurd cc
+
+header_cases : (b : Bool) (o : Option HeaderFields) (h : HeaderFields) → cond b o None ≡ Some h → o ≡ Some h
+header_cases true o h e = e
+header_cases false o h e = absurd cc
+
+pub header_front-in_range : (bytes : List ℕ) (h : HeaderFields) → header_front bytes ≡ Some h → IsHeader h
+unfolding header_front
+header_front-in_range bytes h e = IsHeader-header_at (take 4 bytes) h (good_header _ h (header_cases _ _ h e))
+
+same_version-eq : (v w : Version) → same_version v w ≡ true → v ≡ w
+same_version-eq One One e = refl
+same_version-eq One Two e = absurd (false≢true e)
+same_version-eq Two One e = absurd (false≢true e)
+same_version-eq Two Two e = refl
+
+pub same_class-eq : (c d : ClassFields) → same_class c d ≡ true → c ≡ d
+same_class-eq c d e =
+    let outer = both _ _ e in
+    let inner = both _ _ outer.0 in
+    let version = same_version-eq c.version d.version inner.0 in
+    let frequency = eqb-true _ _ inner.1 in
+    let channels = eqb-true _ _ outer.1 in
+    λ i. record { version = version i; frequency_index = frequency i; channels = channels i }
+
+class_in_range : (h : HeaderFields) → IsHeader h → IsClass (class_of h)
+class_in_range h fields = (fields.frequency_index, channels (eqb h.mode 3), channels_most (eqb h.mode 3))
+  where
+    channels : (b : Bool) → 1 ≤ cond b 1 2
+    channels true = omega arith
+    channels false = omega arith
+    channels_most : (b : Bool) → cond b 1 2 ≤ 2
+    channels_most true = omega arith
+    channels_most false = omega arith
+
+-- ---- the length of a plain frame
+
+-- the tests of a plain frame that its length needs
+record IsPlain (c : ClassFields) (h : HeaderFields) (bytes : List ℕ) : Type 0 where
+  pub class : class_of h ≡ c
+  pub whole : length_of c h.slot ≤ length bytes
+
+plain_tests : (c : ClassFields) (h : HeaderFields) (bytes : List ℕ) → is_plain c h bytes ≡ true → IsPlain c h bytes
+unfolding is_plain
+plain_tests c h bytes e =
+    let payload = both _ _ e in
+    let begin = both _ _ payload.0 in
+    let whole = both _ _ begin.0 in
+    let class = both _ _ whole.0 in
+    record { class = same_class-eq _ _ class.1; whole = leb-true _ _ whole.1 }
+
+-- a length of a plain frame at the front leaves room for an area, and the frame is whole
+pub record IsFront (c : ClassFields) (bytes : List ℕ) (len : ℕ) : Type 0 where
+  pub room : 6 + side_size_of c < len
+  pub within : len ≤ length bytes
+
+front_cases : (b : Bool) (n len : ℕ) → cond b (Some n) None ≡ Some len → (b ≡ true) × (n ≡ len)
+front_cases true n len e = (refl, cc)
+front_cases false n len e = absurd cc
+
+front_of : (c : ClassFields) (bytes : List ℕ) (len : ℕ) (o : Option HeaderFields) → header_front bytes ≡ o → plain_length c bytes o ≡ Some len → IsFront c bytes len
+front_of c bytes len None is e = absurd cc
+front_of c bytes len (Some h) is e =
+    let parts = front_cases (is_plain c h bytes) (length_of c h.slot) len e in
+    let tests = plain_tests c h bytes parts.0 in
+    let fields = header_front-in_range bytes h is in
+    let class : IsClass c = subst IsClass tests.class (class_in_range h fields) in
+    subst (IsFront c bytes) parts.1 (record { room = area_some c h.slot class fields.slot; within = tests.whole })
+
+pub front : (c : ClassFields) (bytes : List ℕ) (len : ℕ) → plain_front c bytes ≡ Some len → IsFront c bytes len
+unfolding plain_front
+front c bytes len e = front_of c bytes len (header_front bytes) refl e
