@@ -1,0 +1,307 @@
+-- The laws of the bits of bytes and of the numbers that bits spell, general in their widths.
+use Rattle.std.proofs.Common.{◌≡◌, ℕ, zero, suc, ◌+◌, ◌-◌, ◌*◌, ◌/◌, ◌%◌, ◌^◌, ◌<◌, ◌≤◌, min, List, [], ◌∷◌, ◌++◌, length, get_or, take, drop, refl, sym, ap, ap₂, ◌∙◌, append_assoc, arith, rules, add-one, add-suc, add_assoc, append-nil, one-add, mul_assoc, mod-eq_of_lt, length-append, length-take, length-drop, take-append-drop}
+use Rattle.std.proofs.Math.Nat.{add_comm, zero-add, suc-add, pow-suc, mod-one, div-one, mul-add, add-mul}
+use Rattle.std.proofs.Math.Seq.{take-nil, take-append-add, drop-append-add}
+use Rattle.std.proofs.lemmas.List.{take_at, drop_at, length-take-le, drop_all, nil_from_length}
+use Rattle.std.specs.Int.{bit_at, from_be_bytes, w32}
+use Rattle.std.proofs.lemmas.Nat.{pow_pos, pow-add, shr-shr, shr_split, mod-pow-add, mod_below, mod_low, shr_high, mul-add-lt}
+use Rattle.std.proofs.lemmas.Nat.Bits.{bit_at-lt, bit_at_cat_low}
+use Rattle.std.proofs.lemmas.Grind.{common_steps}
+use Rattle.bit_fields.specs.Bits.{bits_of, number, bits, bytes, AreBits, AreBytes}
+
+-- ---- lengths
+pub length-bits_of : (width n : ℕ) → length (bits_of width n) ≡ width
+unfolding bits_of
+length-bits_of zero n = refl
+length-bits_of (suc width) n = ap suc (length-bits_of width n)
+
+pub length-bits : (xs : List ℕ) → length (bits xs) ≡ 8 * length xs
+unfolding bits
+length-bits [] = refl
+length-bits (x ∷ xs) = omega (arith, length-append (bits_of 8 x) (bits xs), length-bits_of 8 x, length-bits xs)
+
+-- ---- each is 0 or 1
+pub AreBits-append : (cs bs : List ℕ) → AreBits cs → AreBits bs → AreBits (cs ++ bs)
+AreBits-append [] bs ha hb = hb
+AreBits-append (c ∷ cs) bs ha hb = (ha.0, AreBits-append cs bs ha.1 hb)
+
+pub AreBits-take : (n : ℕ) (bs : List ℕ) → AreBits bs → AreBits (take n bs)
+AreBits-take zero bs h = tt
+AreBits-take (suc n) [] h = tt
+AreBits-take (suc n) (b ∷ bs) h = (h.0, AreBits-take n bs h.1)
+
+pub AreBits-drop : (n : ℕ) (bs : List ℕ) → AreBits bs → AreBits (drop n bs)
+AreBits-drop zero bs h = h
+AreBits-drop (suc n) [] h = tt
+AreBits-drop (suc n) (b ∷ bs) h = AreBits-drop n bs h.1
+
+pub AreBits-bits_of : (width n : ℕ) → AreBits (bits_of width n)
+unfolding bits_of
+AreBits-bits_of zero n = tt
+AreBits-bits_of (suc width) n = (bit_at-lt n width, AreBits-bits_of width n)
+
+pub AreBits-bits : (xs : List ℕ) → AreBits (bits xs)
+unfolding bits
+AreBits-bits [] = tt
+AreBits-bits (x ∷ xs) = AreBits-append (bits_of 8 x) (bits xs) (AreBits-bits_of 8 x) (AreBits-bits xs)
+
+-- ---- the number of bits
+pub number-nil : number [] ≡ 0
+unfolding number
+number-nil = refl
+
+pub number-below : (bs : List ℕ) → AreBits bs → number bs < 2 ^ length bs
+unfolding number
+number-below [] h = omega arith
+number-below (b ∷ bs) h = rw pow-suc (mul-add-lt b (2 ^ length bs) (number bs) 2 h.0 (number-below bs h.1))
+
+pub number-append : (cs bs : List ℕ) → number (cs ++ bs) ≡ number cs * 2 ^ length bs + number bs
+unfolding number
+number-append [] bs = omega arith
+number-append (c ∷ cs) bs =
+    rw (number-append cs bs, length-append cs bs, pow-add 2 (length cs) (length bs))
+    (grind (arith, add-mul, mul_assoc, add_assoc))
+
+-- the number of the lowest bits
+pub number-bits_of : (width n : ℕ) → number (bits_of width n) ≡ n % 2 ^ width
+unfolding bits_of number
+number-bits_of zero n = sym (mod-one n)
+number-bits_of (suc width) n =
+    rw (length-bits_of width n, number-bits_of width n, ← one-add width) (sym (mod-pow-add n 1 width))
+
+pub number-bits_of-below : (width n : ℕ) → n < 2 ^ width → number (bits_of width n) ≡ n
+number-bits_of-below width n h = number-bits_of width n ∙ mod-eq_of_lt h
+
+-- bits from the width up don't count
+pub bits_of-cat_low : (width place high n : ℕ) → width ≤ place → bits_of width (high * 2 ^ place + n) ≡ bits_of width n
+unfolding bits_of
+bits_of-cat_low zero place high n h = refl
+bits_of-cat_low (suc width) place high n h =
+    ap₂ (λ b bs. b ∷ bs) (bit_at_cat_low high place n width h) (bits_of-cat_low width place high n (omega arith))
+
+pub bits_of-mod : (width n : ℕ) → bits_of width (n % 2 ^ width) ≡ bits_of width n
+bits_of-mod width n =
+    sym (bits_of-cat_low width width (n / 2 ^ width) (n % 2 ^ width) (omega arith)) ∙ ap (bits_of width) (shr_split n width)
+
+pub bits_of-number : (bs : List ℕ) → AreBits bs → bits_of (length bs) (number bs) ≡ bs
+unfolding bits_of number
+bits_of-number [] h = refl
+bits_of-number (b ∷ bs) h =
+    let below : number bs < 2 ^ length bs = number-below bs h.1 in
+    ap₂ (λ c cs. c ∷ cs)
+      (ap (λ n. n % 2) (shr_high b (length bs) (number bs) below) ∙ mod-eq_of_lt h.0)
+      (bits_of-cat_low (length bs) (length bs) b (number bs) (omega arith) ∙ bits_of-number bs h.1)
+
+-- bits with one number and one length are one
+pub number-injective : (cs bs : List ℕ) → AreBits cs → AreBits bs → length cs ≡ length bs → number cs ≡ number bs → cs ≡ bs
+number-injective cs bs ha hb l e =
+    sym (bits_of-number cs ha) ∙ ap₂ bits_of l e ∙ bits_of-number bs hb
+
+-- ---- bits of a sum of widths
+pub bits_of-add : (high low n : ℕ) → bits_of (high + low) n ≡ bits_of high (n / 2 ^ low) ++ bits_of low n
+unfolding bits_of
+bits_of-add zero low n = ap (λ w. bits_of w n) (zero-add low)
+bits_of-add (suc high) low n =
+    rw suc-add
+    (ap₂ (λ b bs. b ∷ bs)
+      (ap (λ m. m % 2) (ap (λ w. n / 2 ^ w) (add_comm high low) ∙ sym (shr-shr n low high)))
+      (bits_of-add high low n))
+
+pub bits_of-cat : (high low a n : ℕ) → n < 2 ^ low → bits_of (high + low) (a * 2 ^ low + n) ≡ bits_of high a ++ bits_of low n
+bits_of-cat high low a n h =
+    bits_of-add high low (a * 2 ^ low + n)
+    ∙ ap₂ (λ xs ys. xs ++ ys) (ap (bits_of high) (shr_high a low n h)) (bits_of-cat_low low low a n (omega arith))
+
+pub take-bits_of : (high low n : ℕ) → take high (bits_of (high + low) n) ≡ bits_of high (n / 2 ^ low)
+take-bits_of high low n =
+    ap (take high) (bits_of-add high low n) ∙ take_at (bits_of high (n / 2 ^ low)) (bits_of low n) high (length-bits_of high (n / 2 ^ low))
+
+pub drop-bits_of : (high low n : ℕ) → drop high (bits_of (high + low) n) ≡ bits_of low n
+drop-bits_of high low n =
+    ap (drop high) (bits_of-add high low n) ∙ drop_at (bits_of high (n / 2 ^ low)) (bits_of low n) high (length-bits_of high (n / 2 ^ low))
+
+-- so many bits in the middle
+pub middle-bits_of : (before width after n : ℕ) → take width (drop before (bits_of (before + (width + after)) n)) ≡ bits_of width (n / 2 ^ after)
+middle-bits_of before width after n =
+    ap (take width) (drop-bits_of before (width + after) n) ∙ take-bits_of width after n
+
+-- their number
+pub number-middle : (before width after n : ℕ) → number (take width (drop before (bits_of (before + (width + after)) n))) ≡ n / 2 ^ after % 2 ^ width
+number-middle before width after n =
+    ap number (middle-bits_of before width after n) ∙ number-bits_of width (n / 2 ^ after)
+
+-- the same where all the bits are so many
+pub number-middle_of : (whole before width n : ℕ) → before + width ≤ whole → number (take width (drop before (bits_of whole n))) ≡ n / 2 ^ (whole - before - width) % 2 ^ width
+number-middle_of whole before width n h =
+    let e : before + (width + (whole - before - width)) ≡ whole = omega arith in
+    ap (λ w. number (take width (drop before (bits_of w n)))) (sym e) ∙ number-middle before width (whole - before - width) n
+
+-- ---- the bits of bytes
+pub bits-nil : bits [] ≡ []
+unfolding bits
+bits-nil = refl
+
+pub bits-cons : (x : ℕ) (xs : List ℕ) → bits (x ∷ xs) ≡ bits_of 8 x ++ bits xs
+unfolding bits
+bits-cons x xs = refl
+
+pub bits-one : (x : ℕ) → bits (x ∷ []) ≡ bits_of 8 x
+bits-one x = bits-cons x [] ∙ ap (λ bs. bits_of 8 x ++ bs) bits-nil ∙ append-nil (bits_of 8 x)
+
+pub bits-append : (xs ys : List ℕ) → bits (xs ++ ys) ≡ bits xs ++ bits ys
+unfolding bits
+bits-append [] ys = refl
+bits-append (x ∷ xs) ys = ap (λ bs. bits_of 8 x ++ bs) (bits-append xs ys) ∙ sym (append_assoc (bits_of 8 x) (bits xs) (bits ys))
+
+eights : (k : ℕ) (x : ℕ) → 8 * suc k ≡ length (bits_of 8 x) + 8 * k
+eights k x = omega (arith, length-bits_of 8 x)
+
+pub take-bits : (k : ℕ) (xs : List ℕ) → take (8 * k) (bits xs) ≡ bits (take k xs)
+unfolding bits
+take-bits zero xs = refl
+take-bits (suc k) [] = take-nil (8 * suc k)
+take-bits (suc k) (x ∷ xs) =
+    ap (λ n. take n (bits_of 8 x ++ bits xs)) (eights k x)
+    ∙ take-append-add (bits_of 8 x) (bits xs) (8 * k)
+    ∙ ap (λ bs. bits_of 8 x ++ bs) (take-bits k xs)
+
+pub drop-bits : (k : ℕ) (xs : List ℕ) → drop (8 * k) (bits xs) ≡ bits (drop k xs)
+unfolding bits
+drop-bits zero xs = refl
+drop-bits (suc k) [] = drop_all (8 * suc k) [] (omega arith)
+drop-bits (suc k) (x ∷ xs) =
+    ap (λ n. drop n (bits_of 8 x ++ bits xs)) (eights k x)
+    ∙ drop-append-add (bits_of 8 x) (bits xs) (8 * k)
+    ∙ drop-bits k xs
+
+-- the number in the middle of any bits
+pub number-within : (from width : ℕ) (bs : List ℕ) → AreBits bs → from + width ≤ length bs → number (take width (drop from bs)) ≡ number bs / 2 ^ (length bs - from - width) % 2 ^ width
+number-within from width bs h l =
+    ap (λ cs. number (take width (drop from cs))) (sym (bits_of-number bs h))
+    ∙ number-middle_of (length bs) from width (number bs) l
+
+-- bits of bytes, by their number
+pub bits-bits_of : (xs : List ℕ) → bits xs ≡ bits_of (8 * length xs) (number (bits xs))
+bits-bits_of xs =
+    sym (bits_of-number (bits xs) (AreBits-bits xs)) ∙ ap (λ w. bits_of w (number (bits xs))) (length-bits xs)
+
+pub number-bits-push : (xs : List ℕ) (x : ℕ) → x < 256 → number (bits (xs ++ x ∷ [])) ≡ number (bits xs) * 256 + x
+number-bits-push xs x h =
+    ap number (bits-append xs (x ∷ []) ∙ ap (λ bs. bits xs ++ bs) (bits-one x))
+    ∙ number-append (bits xs) (bits_of 8 x)
+    ∙ ap₂ (λ w n. number (bits xs) * 2 ^ w + n) (length-bits_of 8 x) (number-bits_of-below 8 x h)
+
+-- ---- the bytes of bits
+pub bytes-nil : bytes [] ≡ []
+unfolding bytes
+bytes-nil = refl
+
+pub bytes-eight : (cs bs : List ℕ) → length cs ≡ 8 → bytes (cs ++ bs) ≡ number cs ∷ bytes bs
+unfolding bytes
+bytes-eight (a ∷ b ∷ c ∷ d ∷ e ∷ f ∷ g ∷ h ∷ []) bs l = refl
+bytes-eight cs bs l = absurd (omega arith)
+
+pub bytes-front : (bs : List ℕ) → 8 ≤ length bs → bytes bs ≡ number (take 8 bs) ∷ bytes (drop 8 bs)
+bytes-front bs h =
+    ap bytes (sym (take-append-drop 8 bs)) ∙ bytes-eight (take 8 bs) (drop 8 bs) (length-take-le 8 bs h)
+
+pub length-bytes : (k : ℕ) (bs : List ℕ) → length bs ≡ 8 * k → length (bytes bs) ≡ k
+length-bytes zero bs h = ap (λ cs. length (bytes cs)) (nil_from_length bs h) ∙ ap length bytes-nil
+length-bytes (suc k) bs h =
+    let l : length (drop 8 bs) ≡ 8 * k = simp length-drop (omega arith) in
+    ap length (bytes-front bs (omega arith)) ∙ ap suc (length-bytes k (drop 8 bs) l)
+
+pub AreBytes-bytes : (bs : List ℕ) → AreBits bs → AreBytes (bytes bs)
+unfolding bytes
+AreBytes-bytes (a ∷ b ∷ c ∷ d ∷ e ∷ f ∷ g ∷ h ∷ bs) all =
+    (number-below (a ∷ b ∷ c ∷ d ∷ e ∷ f ∷ g ∷ h ∷ []) (AreBits-take 8 (a ∷ b ∷ c ∷ d ∷ e ∷ f ∷ g ∷ h ∷ bs) all), AreBytes-bytes bs (AreBits-drop 8 (a ∷ b ∷ c ∷ d ∷ e ∷ f ∷ g ∷ h ∷ bs) all))
+AreBytes-bytes bs all = tt
+
+pub bytes-append : (k : ℕ) (cs bs : List ℕ) → length cs ≡ 8 * k → bytes (cs ++ bs) ≡ bytes cs ++ bytes bs
+bytes-append zero cs bs h = rw (nil_from_length cs h, bytes-nil)
+bytes-append (suc k) cs bs h =
+    let l : length (drop 8 cs) ≡ 8 * k = simp length-drop (omega arith) in
+    let m : 8 ≤ length cs = omega arith in
+    ap (λ ds. bytes (ds ++ bs)) (sym (take-append-drop 8 cs))
+    ∙ ap bytes (append_assoc (take 8 cs) (drop 8 cs) bs)
+    ∙ bytes-eight (take 8 cs) (drop 8 cs ++ bs) (length-take-le 8 cs m)
+    ∙ ap (λ ys. number (take 8 cs) ∷ ys) (bytes-append k (drop 8 cs) bs l)
+    ∙ ap (λ ys. ys ++ bytes bs) (sym (bytes-front cs m))
+
+pub take-bytes : (k : ℕ) (bs : List ℕ) → 8 * k ≤ length bs → take k (bytes bs) ≡ bytes (take (8 * k) bs)
+take-bytes k bs h =
+    let l : length (take (8 * k) bs) ≡ 8 * k = length-take-le (8 * k) bs h in
+    ap (take k) (ap bytes (sym (take-append-drop (8 * k) bs)) ∙ bytes-append k (take (8 * k) bs) (drop (8 * k) bs) l)
+    ∙ take_at (bytes (take (8 * k) bs)) (bytes (drop (8 * k) bs)) k (length-bytes k (take (8 * k) bs) l)
+
+pub drop-bytes : (k : ℕ) (bs : List ℕ) → 8 * k ≤ length bs → drop k (bytes bs) ≡ bytes (drop (8 * k) bs)
+drop-bytes k bs h =
+    let l : length (take (8 * k) bs) ≡ 8 * k = length-take-le (8 * k) bs h in
+    ap (drop k) (ap bytes (sym (take-append-drop (8 * k) bs)) ∙ bytes-append k (take (8 * k) bs) (drop (8 * k) bs) l)
+    ∙ drop_at (bytes (take (8 * k) bs)) (bytes (drop (8 * k) bs)) k (length-bytes k (take (8 * k) bs) l)
+
+-- ---- there and back
+pub bytes-bits : (xs : List ℕ) → AreBytes xs → bytes (bits xs) ≡ xs
+bytes-bits [] h = ap bytes bits-nil ∙ bytes-nil
+bytes-bits (x ∷ xs) h =
+    ap bytes (bits-cons x xs)
+    ∙ bytes-eight (bits_of 8 x) (bits xs) (length-bits_of 8 x)
+    ∙ ap₂ (λ y ys. y ∷ ys) (number-bits_of-below 8 x h.0) (bytes-bits xs h.1)
+
+pub bits-bytes : (k : ℕ) (bs : List ℕ) → AreBits bs → length bs ≡ 8 * k → bits (bytes bs) ≡ bs
+bits-bytes zero bs all h = rw (nil_from_length bs h, bytes-nil, bits-nil)
+bits-bytes (suc k) bs all h =
+    let l : length (drop 8 bs) ≡ 8 * k = simp length-drop (omega arith) in
+    let m : 8 ≤ length bs = omega arith in
+    let e : length (take 8 bs) ≡ 8 = length-take-le 8 bs m in
+    ap bits (bytes-front bs m)
+    ∙ bits-cons (number (take 8 bs)) (bytes (drop 8 bs))
+    ∙ ap₂ (λ cs ds. cs ++ ds)
+      (ap (λ w. bits_of w (number (take 8 bs))) (sym e) ∙ bits_of-number (take 8 bs) (AreBits-take 8 bs all))
+      (bits-bytes k (drop 8 bs) (AreBits-drop 8 bs all) l)
+    ∙ take-append-drop 8 bs
+
+pub bits-injective : (xs ys : List ℕ) → AreBytes xs → AreBytes ys → bits xs ≡ bits ys → xs ≡ ys
+bits-injective xs ys hx hy e = sym (bytes-bits xs hx) ∙ ap bytes e ∙ bytes-bits ys hy
+
+-- ---- each is below 256
+pub AreBytes-append : (xs ys : List ℕ) → AreBytes xs → AreBytes ys → AreBytes (xs ++ ys)
+AreBytes-append [] ys hx hy = hy
+AreBytes-append (x ∷ xs) ys hx hy = (hx.0, AreBytes-append xs ys hx.1 hy)
+
+pub AreBytes-take : (n : ℕ) (xs : List ℕ) → AreBytes xs → AreBytes (take n xs)
+AreBytes-take zero xs h = tt
+AreBytes-take (suc n) [] h = tt
+AreBytes-take (suc n) (x ∷ xs) h = (h.0, AreBytes-take n xs h.1)
+
+pub AreBytes-drop : (n : ℕ) (xs : List ℕ) → AreBytes xs → AreBytes (drop n xs)
+AreBytes-drop zero xs h = h
+AreBytes-drop (suc n) [] h = tt
+AreBytes-drop (suc n) (x ∷ xs) h = AreBytes-drop n xs h.1
+
+-- a slice of `u8` gives its bound place by place
+pub AreBytes-from_places : (xs : List ℕ) → ((i : ℕ) → get_or xs i 0 < 256) → AreBytes xs
+AreBytes-from_places [] h = tt
+AreBytes-from_places (x ∷ xs) h = (h 0, AreBytes-from_places xs (λ i. h (suc i)))
+
+pub places_below : (xs : List ℕ) → AreBytes xs → (i : ℕ) → get_or xs i 0 < 256
+places_below [] h i = omega arith
+places_below (x ∷ xs) h zero = h.0
+places_below (x ∷ xs) h (suc i) = places_below xs h.1 i
+
+-- ---- four bytes as one big-endian number
+number-four : (a b c d : ℕ) → AreBytes (a ∷ b ∷ c ∷ d ∷ []) → number (bits (a ∷ b ∷ c ∷ d ∷ [])) ≡ from_be_bytes w32 (a ∷ b ∷ c ∷ d ∷ [])
+number-four a b c d h =
+    let one : number (bits (a ∷ [])) ≡ a = ap number (bits-one a) ∙ number-bits_of-below 8 a h.0 in
+    let two : number (bits (a ∷ b ∷ [])) ≡ number (bits (a ∷ [])) * 256 + b = number-bits-push (a ∷ []) b h.1.0 in
+    let three : number (bits (a ∷ b ∷ c ∷ [])) ≡ number (bits (a ∷ b ∷ [])) * 256 + c = number-bits-push (a ∷ b ∷ []) c h.1.1.0 in
+    let four : number (bits (a ∷ b ∷ c ∷ d ∷ [])) ≡ number (bits (a ∷ b ∷ c ∷ [])) * 256 + d = number-bits-push (a ∷ b ∷ c ∷ []) d h.1.1.1.0 in
+    omega arith
+
+pub number-bits-be_bytes : (xs : List ℕ) → length xs ≡ 4 → AreBytes xs → number (bits xs) ≡ from_be_bytes w32 xs
+number-bits-be_bytes (a ∷ b ∷ c ∷ d ∷ []) l h = number-four a b c d h
+number-bits-be_bytes xs l h = absurd (omega arith)
+
+pub bits-be_bytes : (xs : List ℕ) → length xs ≡ 4 → AreBytes xs → bits xs ≡ bits_of 32 (from_be_bytes w32 xs)
+bits-be_bytes xs l h =
+    bits-bits_of xs ∙ ap₂ (λ k n. bits_of (8 * k) n) l (number-bits-be_bytes xs l h)

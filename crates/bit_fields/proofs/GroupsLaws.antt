@@ -1,0 +1,162 @@
+-- The laws of successive groups of bits: numbers and bits give each other back.
+use Rattle.std.proofs.Common.{◌≡◌, ℕ, zero, suc, ◌+◌, ◌-◌, ◌*◌, ◌/◌, ◌%◌, ◌^◌, ◌<◌, ◌≤◌, min, List, [], ◌∷◌, ◌++◌, length, take, drop, refl, sym, ap, ap₂, ◌∙◌, append_assoc, append-nil, arith, sum, pow_mono, lt_of_lt_of_le, length-append, length-take, length-drop, take-append-drop}
+use Rattle.std.proofs.Math.Seq.{take-add, drop-append-add}
+use Rattle.std.proofs.lemmas.List.{take_at, drop_at, drop-drop, take-append-le, drop-append-le, length-take-le, take_all}
+use Rattle.bit_fields.specs.Bits.{bits_of, number, AreBits}
+use Rattle.bit_fields.specs.Groups.{group, numbers_at, spelled, Fits}
+use Rattle.bit_fields.proofs.BitsLaws.{length-bits_of, number-below, number-bits_of-below, bits_of-number, AreBits-append, AreBits-take, AreBits-drop, AreBits-bits_of}
+
+-- ---- one step
+pub numbers_at-nil : (bs : List ℕ) → numbers_at [] bs ≡ []
+unfolding numbers_at
+numbers_at-nil bs = refl
+
+pub numbers_at-cons : (width : ℕ) (widths bs : List ℕ) → numbers_at (width ∷ widths) bs ≡ number (take width bs) ∷ numbers_at widths (drop width bs)
+unfolding numbers_at
+numbers_at-cons width widths bs = refl
+
+pub spelled-nil : (ns : List ℕ) → spelled [] ns ≡ []
+unfolding spelled
+spelled-nil ns = refl
+
+pub spelled-cons : (width n : ℕ) (widths ns : List ℕ) → spelled (width ∷ widths) (n ∷ ns) ≡ bits_of width n ++ spelled widths ns
+unfolding spelled
+spelled-cons width n widths ns = refl
+
+-- a group is the first number behind what stands before it
+pub group-numbers_at : (from width : ℕ) (bs : List ℕ) → numbers_at (width ∷ []) (drop from bs) ≡ group from width bs ∷ []
+unfolding group numbers_at
+group-numbers_at from width bs = refl
+
+-- ---- lengths
+pub length-numbers_at : (widths bs : List ℕ) → length (numbers_at widths bs) ≡ length widths
+unfolding numbers_at
+length-numbers_at [] bs = refl
+length-numbers_at (width ∷ widths) bs = ap suc (length-numbers_at widths (drop width bs))
+
+pub length-Fits : (widths ns : List ℕ) → Fits widths ns → length ns ≡ length widths
+length-Fits [] [] h = refl
+length-Fits [] (n ∷ ns) h = absurd h
+length-Fits (width ∷ widths) [] h = absurd h
+length-Fits (width ∷ widths) (n ∷ ns) h = ap suc (length-Fits widths ns h.1)
+
+pub length-spelled : (widths ns : List ℕ) → length ns ≡ length widths → length (spelled widths ns) ≡ sum widths
+unfolding spelled
+length-spelled [] ns h = refl
+length-spelled (width ∷ widths) [] h = absurd (omega arith)
+length-spelled (width ∷ widths) (n ∷ ns) h =
+    let rest : length (spelled widths ns) ≡ sum widths = length-spelled widths ns (omega arith) in
+    omega (arith, length-append (bits_of width n) (spelled widths ns), length-bits_of width n)
+
+-- ---- what numbers and bits are
+pub AreBits-spelled : (widths ns : List ℕ) → AreBits (spelled widths ns)
+unfolding spelled
+AreBits-spelled [] ns = tt
+AreBits-spelled (width ∷ widths) [] = tt
+AreBits-spelled (width ∷ widths) (n ∷ ns) =
+    AreBits-append (bits_of width n) (spelled widths ns) (AreBits-bits_of width n) (AreBits-spelled widths ns)
+
+pub group-below : (from width : ℕ) (bs : List ℕ) → AreBits bs → group from width bs < 2 ^ width
+unfolding group
+group-below from width bs h =
+    let few : length (take width (drop from bs)) ≤ width = simp length-take (omega arith) in
+    lt_of_lt_of_le (number-below (take width (drop from bs)) (AreBits-take width (drop from bs) (AreBits-drop from bs h))) (pow_mono few)
+
+pub Fits-numbers_at : (widths bs : List ℕ) → AreBits bs → Fits widths (numbers_at widths bs)
+unfolding numbers_at group
+Fits-numbers_at [] bs h = tt
+Fits-numbers_at (width ∷ widths) bs h = (group-below 0 width bs h, Fits-numbers_at widths (drop width bs) (AreBits-drop width bs h))
+
+-- ---- there and back
+pub numbers_at-spelled_more : (widths ns more : List ℕ) → Fits widths ns → numbers_at widths (spelled widths ns ++ more) ≡ ns
+unfolding numbers_at spelled
+numbers_at-spelled_more [] [] more h = refl
+numbers_at-spelled_more [] (n ∷ ns) more h = absurd h
+numbers_at-spelled_more (width ∷ widths) [] more h = absurd h
+numbers_at-spelled_more (width ∷ widths) (n ∷ ns) more h =
+    let l : length (bits_of width n) ≡ width = length-bits_of width n in
+    rw append_assoc
+    (ap₂ (λ m ms. m ∷ ms)
+      (ap number (take_at (bits_of width n) (spelled widths ns ++ more) width l) ∙ number-bits_of-below width n h.0)
+      (ap (numbers_at widths) (drop_at (bits_of width n) (spelled widths ns ++ more) width l) ∙ numbers_at-spelled_more widths ns more h.1))
+
+pub numbers_at-spelled : (widths ns : List ℕ) → Fits widths ns → numbers_at widths (spelled widths ns) ≡ ns
+numbers_at-spelled widths ns h =
+    ap (numbers_at widths) (sym (append-nil (spelled widths ns))) ∙ numbers_at-spelled_more widths ns [] h
+
+-- the first bits are those of the numbers
+pub spelled-numbers_at_front : (widths bs : List ℕ) → AreBits bs → sum widths ≤ length bs → spelled widths (numbers_at widths bs) ≡ take (sum widths) bs
+unfolding numbers_at spelled
+spelled-numbers_at_front [] bs all h = refl
+spelled-numbers_at_front (width ∷ widths) bs all h =
+    let l : length (take width bs) ≡ width = length-take-le width bs (omega arith) in
+    let m : sum widths ≤ length (drop width bs) = simp length-drop (omega arith) in
+    ap₂ (λ cs ds. cs ++ ds)
+      (ap (λ w. bits_of w (number (take width bs))) (sym l) ∙ bits_of-number (take width bs) (AreBits-take width bs all))
+      (spelled-numbers_at_front widths (drop width bs) (AreBits-drop width bs all) m)
+    ∙ sym (take-add width (sum widths) bs)
+
+pub spelled-numbers_at : (widths bs : List ℕ) → AreBits bs → length bs ≡ sum widths → spelled widths (numbers_at widths bs) ≡ bs
+spelled-numbers_at widths bs all h =
+    spelled-numbers_at_front widths bs all (omega arith) ∙ take_all (sum widths) bs (omega arith)
+
+-- bits with the same numbers in groups that take them all are one
+pub numbers_at-injective : (widths cs bs : List ℕ) → AreBits cs → AreBits bs → length cs ≡ sum widths → length bs ≡ sum widths → numbers_at widths cs ≡ numbers_at widths bs → cs ≡ bs
+numbers_at-injective widths cs bs hc hb lc lb e =
+    sym (spelled-numbers_at widths cs hc lc) ∙ ap (spelled widths) e ∙ spelled-numbers_at widths bs hb lb
+
+-- ---- groups one after another
+pub numbers_at-append : (widths more bs : List ℕ) → numbers_at (widths ++ more) bs ≡ numbers_at widths bs ++ numbers_at more (drop (sum widths) bs)
+unfolding numbers_at
+numbers_at-append [] more bs = refl
+numbers_at-append (width ∷ widths) more bs =
+    ap (λ ns. number (take width bs) ∷ ns)
+      (numbers_at-append widths more (drop width bs)
+       ∙ ap (λ ds. numbers_at widths (drop width bs) ++ numbers_at more ds) (drop-drop (sum widths) width bs))
+
+pub spelled-append : (widths more ns ms : List ℕ) → length ns ≡ length widths → spelled (widths ++ more) (ns ++ ms) ≡ spelled widths ns ++ spelled more ms
+unfolding spelled
+spelled-append [] more [] ms h = refl
+spelled-append [] more (n ∷ ns) ms h = absurd (omega arith)
+spelled-append (width ∷ widths) more [] ms h = absurd (omega arith)
+spelled-append (width ∷ widths) more (n ∷ ns) ms h =
+    ap (λ bs. bits_of width n ++ bs) (spelled-append widths more ns ms (omega arith))
+    ∙ sym (append_assoc (bits_of width n) (spelled widths ns) (spelled more ms))
+
+pub Fits-append : (widths more ns ms : List ℕ) → Fits widths ns → Fits more ms → Fits (widths ++ more) (ns ++ ms)
+Fits-append [] more [] ms h g = g
+Fits-append [] more (n ∷ ns) ms h g = absurd h
+Fits-append (width ∷ widths) more [] ms h g = absurd h
+Fits-append (width ∷ widths) more (n ∷ ns) ms h g = (h.0, Fits-append widths more ns ms h.1 g)
+
+-- ---- only the bits of the groups count
+pub numbers_at-front : (widths bs more : List ℕ) → sum widths ≤ length bs → numbers_at widths (bs ++ more) ≡ numbers_at widths bs
+unfolding numbers_at
+numbers_at-front [] bs more h = refl
+numbers_at-front (width ∷ widths) bs more h =
+    let m : sum widths ≤ length (drop width bs) = simp length-drop (omega arith) in
+    ap₂ (λ n ns. n ∷ ns)
+      (ap number (take-append-le width bs more (omega arith)))
+      (ap (numbers_at widths) (drop-append-le width bs more (omega arith)) ∙ numbers_at-front widths (drop width bs) more m)
+
+pub numbers_at-take : (widths bs : List ℕ) (n : ℕ) → sum widths ≤ n → n ≤ length bs → numbers_at widths (take n bs) ≡ numbers_at widths bs
+numbers_at-take widths bs n h l =
+    let m : sum widths ≤ length (take n bs) = simp length-take (omega arith) in
+    sym (numbers_at-front widths (take n bs) (drop n bs) m) ∙ ap (numbers_at widths) (take-append-drop n bs)
+
+-- a group of the front
+pub group-front : (from width : ℕ) (bs more : List ℕ) → from + width ≤ length bs → group from width (bs ++ more) ≡ group from width bs
+unfolding group
+group-front from width bs more h =
+    let m : width ≤ length (drop from bs) = simp length-drop (omega arith) in
+    ap (λ cs. number (take width cs)) (drop-append-le from bs more (omega arith))
+    ∙ ap number (take-append-le width (drop from bs) more m)
+
+-- a group behind a front
+pub group-behind : (from width : ℕ) (cs bs : List ℕ) → group (length cs + from) width (cs ++ bs) ≡ group from width bs
+unfolding group
+group-behind from width cs bs = ap (λ ds. number (take width ds)) (drop-append-add cs bs from)
+
+pub group-drop : (more from width : ℕ) (bs : List ℕ) → group from width (drop more bs) ≡ group (more + from) width bs
+unfolding group
+group-drop more from width bs = ap (λ ds. number (take width ds)) (drop-drop from more bs)
