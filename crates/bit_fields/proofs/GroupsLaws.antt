@@ -2,9 +2,17 @@
 use Rattle.std.proofs.Common.{◌≡◌, ℕ, zero, suc, ◌+◌, ◌-◌, ◌*◌, ◌/◌, ◌%◌, ◌^◌, ◌<◌, ◌≤◌, min, List, [], ◌∷◌, ◌++◌, length, take, drop, refl, sym, ap, ap₂, ◌∙◌, append_assoc, append-nil, arith, sum, pow_mono, lt_of_lt_of_le, length-append, length-take, length-drop, take-append-drop}
 use Rattle.std.proofs.Math.Seq.{take-add, drop-append-add}
 use Rattle.std.proofs.lemmas.List.{take_at, drop_at, drop-drop, take-append-le, drop-append-le, length-take-le, take_all}
+use Rattle.std.proofs.lemmas.List.Sums.{sum_by-cons, sum_by-append}
 use Rattle.bit_fields.specs.Bits.{bits_of, number, AreBits}
 use Rattle.bit_fields.specs.Groups.{group, numbers_at, spelled, Fits}
 use Rattle.bit_fields.proofs.BitsLaws.{length-bits_of, number-below, number-bits_of-below, bits_of-number, AreBits-append, AreBits-take, AreBits-drop, AreBits-bits_of}
+
+-- ---- how many bits
+pub sum-cons : (width : ℕ) (widths : List ℕ) → sum (width ∷ widths) ≡ width + sum widths
+sum-cons width widths = sum_by-cons (λ n. n) width widths
+
+pub sum-append : (widths more : List ℕ) → sum (widths ++ more) ≡ sum widths + sum more
+sum-append widths more = sum_by-append (λ n. n) widths more
 
 -- ---- one step
 pub numbers_at-nil : (bs : List ℕ) → numbers_at [] bs ≡ []
@@ -46,6 +54,7 @@ length-spelled [] ns h = refl
 length-spelled (width ∷ widths) [] h = absurd (omega arith)
 length-spelled (width ∷ widths) (n ∷ ns) h =
     let rest : length (spelled widths ns) ≡ sum widths = length-spelled widths ns (omega arith) in
+    let both : sum (width ∷ widths) ≡ width + sum widths = sum-cons width widths in
     omega (arith, length-append (bits_of width n) (spelled widths ns), length-bits_of width n)
 
 -- ---- what numbers and bits are
@@ -89,12 +98,14 @@ pub spelled-numbers_at_front : (widths bs : List ℕ) → AreBits bs → sum wid
 unfolding numbers_at spelled
 spelled-numbers_at_front [] bs all h = refl
 spelled-numbers_at_front (width ∷ widths) bs all h =
+    let both : sum (width ∷ widths) ≡ width + sum widths = sum-cons width widths in
     let l : length (take width bs) ≡ width = length-take-le width bs (omega arith) in
     let m : sum widths ≤ length (drop width bs) = simp length-drop (omega arith) in
     ap₂ (λ cs ds. cs ++ ds)
       (ap (λ w. bits_of w (number (take width bs))) (sym l) ∙ bits_of-number (take width bs) (AreBits-take width bs all))
       (spelled-numbers_at_front widths (drop width bs) (AreBits-drop width bs all) m)
     ∙ sym (take-add width (sum widths) bs)
+    ∙ ap (λ n. take n bs) (sym both)
 
 pub spelled-numbers_at : (widths bs : List ℕ) → AreBits bs → length bs ≡ sum widths → spelled widths (numbers_at widths bs) ≡ bs
 spelled-numbers_at widths bs all h =
@@ -112,7 +123,7 @@ numbers_at-append [] more bs = refl
 numbers_at-append (width ∷ widths) more bs =
     ap (λ ns. number (take width bs) ∷ ns)
       (numbers_at-append widths more (drop width bs)
-       ∙ ap (λ ds. numbers_at widths (drop width bs) ++ numbers_at more ds) (drop-drop (sum widths) width bs))
+       ∙ ap (λ ds. numbers_at widths (drop width bs) ++ numbers_at more ds) (drop-drop (sum widths) width bs ∙ ap (λ n. drop n bs) (sym (sum-cons width widths))))
 
 pub spelled-append : (widths more ns ms : List ℕ) → length ns ≡ length widths → spelled (widths ++ more) (ns ++ ms) ≡ spelled widths ns ++ spelled more ms
 unfolding spelled
@@ -134,6 +145,7 @@ pub numbers_at-front : (widths bs more : List ℕ) → sum widths ≤ length bs 
 unfolding numbers_at
 numbers_at-front [] bs more h = refl
 numbers_at-front (width ∷ widths) bs more h =
+    let both : sum (width ∷ widths) ≡ width + sum widths = sum-cons width widths in
     let m : sum widths ≤ length (drop width bs) = simp length-drop (omega arith) in
     ap₂ (λ n ns. n ∷ ns)
       (ap number (take-append-le width bs more (omega arith)))
