@@ -4,6 +4,8 @@ use Rattle.std.proofs.Math.Nat.{add_comm, zero-add, suc-add, pow-suc, mod-one, d
 use Rattle.std.proofs.Math.Seq.{take-nil, take-append-add, drop-append-add}
 use Rattle.std.proofs.lemmas.List.{take_at, drop_at, length-take-le, drop_all, nil_from_length}
 use Rattle.std.specs.Int.{bit_at, from_be_bytes, w32}
+use mir.Val.{Fits}
+use mir.Syntax.{w8}
 use Rattle.std.proofs.lemmas.Nat.{pow_pos, pow-add, shr-shr, shr_split, mod-pow-add, mod_below, mod_low, shr_high, mul-add-lt}
 use Rattle.std.proofs.lemmas.Nat.Bits.{bit_at-lt, bit_at_cat_low}
 use Rattle.std.proofs.lemmas.Grind.{common_steps}
@@ -185,6 +187,12 @@ pub bits-bits_of : (xs : List ℕ) → bits xs ≡ bits_of (8 * length xs) (numb
 bits-bits_of xs =
     sym (bits_of-number (bits xs) (AreBits-bits xs)) ∙ ap (λ w. bits_of w (number (bits xs))) (length-bits xs)
 
+pub length-left : (place : ℕ) (xs : List ℕ) → length (drop place (bits xs)) ≡ 8 * length xs - place
+length-left place xs = length-drop place (bits xs) ∙ ap (λ n. n - place) (length-bits xs)
+
+pub number-bits-below : (xs : List ℕ) → number (bits xs) < 2 ^ (8 * length xs)
+number-bits-below xs = rw (← length-bits xs) (number-below (bits xs) (AreBits-bits xs))
+
 pub number-bits-push : (xs : List ℕ) (x : ℕ) → x < 256 → number (bits (xs ++ x ∷ [])) ≡ number (bits xs) * 256 + x
 number-bits-push xs x h =
     ap number (bits-append xs (x ∷ []) ∙ ap (λ bs. bits xs ++ bs) (bits-one x))
@@ -283,6 +291,9 @@ AreBytes-drop (suc n) (x ∷ xs) h = AreBytes-drop n xs h.1
 pub AreBytes-from_places : (xs : List ℕ) → ((i : ℕ) → get_or xs i 0 < 256) → AreBytes xs
 AreBytes-from_places [] h = tt
 AreBytes-from_places (x ∷ xs) h = (h 0, AreBytes-from_places xs (λ i. h (suc i)))
+
+pub AreBytes-from_slice : (xs : List ℕ) → ((i : ℕ) → Fits w8 (get_or xs i 0)) → AreBytes xs
+AreBytes-from_slice xs h = AreBytes-from_places xs (λ i. let fits : Fits w8 (get_or xs i 0) = h i in omega arith)
 
 pub places_below : (xs : List ℕ) → AreBytes xs → (i : ℕ) → get_or xs i 0 < 256
 places_below [] h i = omega arith

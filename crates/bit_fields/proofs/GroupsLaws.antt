@@ -1,11 +1,11 @@
 -- The laws of successive groups of bits: numbers and bits give each other back.
 use Rattle.std.proofs.Common.{◌≡◌, ℕ, zero, suc, ◌+◌, ◌-◌, ◌*◌, ◌/◌, ◌%◌, ◌^◌, ◌<◌, ◌≤◌, min, List, [], ◌∷◌, ◌++◌, length, take, drop, refl, sym, ap, ap₂, ◌∙◌, append_assoc, append-nil, arith, sum, pow_mono, lt_of_lt_of_le, length-append, length-take, length-drop, take-append-drop}
 use Rattle.std.proofs.Math.Seq.{take-add, drop-append-add}
-use Rattle.std.proofs.lemmas.List.{take_at, drop_at, drop-drop, take-append-le, drop-append-le, length-take-le, take_all}
+use Rattle.std.proofs.lemmas.List.{take_at, drop_at, drop-drop, take-append-le, drop-append-le, length-take-le, take_all, take-take, drop-take}
 use Rattle.std.proofs.lemmas.List.Sums.{sum_by-cons, sum_by-append}
-use Rattle.bit_fields.specs.Bits.{bits_of, number, AreBits}
+use Rattle.bit_fields.specs.Bits.{bits_of, number, bits, AreBits}
 use Rattle.bit_fields.specs.Groups.{group, numbers_at, spelled, Fits}
-use Rattle.bit_fields.proofs.BitsLaws.{length-bits_of, number-below, number-bits_of-below, bits_of-number, AreBits-append, AreBits-take, AreBits-drop, AreBits-bits_of}
+use Rattle.bit_fields.proofs.BitsLaws.{length-bits_of, number-below, number-bits_of-below, bits_of-number, AreBits-append, AreBits-take, AreBits-drop, AreBits-bits_of, take-bits, drop-bits, number-within}
 
 -- ---- how many bits
 pub sum-cons : (width : ℕ) (widths : List ℕ) → sum (width ∷ widths) ≡ width + sum widths
@@ -164,6 +164,14 @@ group-front from width bs more h =
     ap (λ cs. number (take width cs)) (drop-append-le from bs more (omega arith))
     ∙ ap number (take-append-le width (drop from bs) more m)
 
+pub group-take : (from width n : ℕ) (bs : List ℕ) → from + width ≤ n → group from width (take n bs) ≡ group from width bs
+unfolding group
+group-take from width n bs h =
+    let e : from + (n - from) ≡ n = omega arith in
+    ap (λ k. number (take width (drop from (take k bs)))) (sym e)
+    ∙ ap (λ ds. number (take width ds)) (drop-take from (n - from) bs)
+    ∙ ap number (take-take width (n - from) (drop from bs) (omega arith))
+
 -- a group behind a front
 pub group-behind : (from width : ℕ) (cs bs : List ℕ) → group (length cs + from) width (cs ++ bs) ≡ group from width bs
 unfolding group
@@ -172,3 +180,18 @@ group-behind from width cs bs = ap (λ ds. number (take width ds)) (drop-append-
 pub group-drop : (more from width : ℕ) (bs : List ℕ) → group from width (drop more bs) ≡ group (more + from) width bs
 unfolding group
 group-drop more from width bs = ap (λ ds. number (take width ds)) (drop-drop from more bs)
+
+-- a group of the bits of bytes is one of the bits of those bytes that it reaches
+pub group-bits_part : (from width first count : ℕ) (xs : List ℕ) → 8 * first ≤ from → from + width ≤ 8 * (first + count) → group from width (bits xs) ≡ group (from - 8 * first) width (bits (take count (drop first xs)))
+group-bits_part from width first count xs h l =
+    let e : 8 * first + (from - 8 * first) ≡ from = omega arith in
+    ap (λ k. group k width (bits xs)) (sym e)
+    ∙ sym (group-drop (8 * first) (from - 8 * first) width (bits xs))
+    ∙ ap (group (from - 8 * first) width) (drop-bits first xs)
+    ∙ sym (group-take (from - 8 * first) width (8 * count) (bits (drop first xs)) (omega arith))
+    ∙ ap (group (from - 8 * first) width) (take-bits count (drop first xs))
+
+-- a group as a part of the number of all bits
+pub group-number : (from width : ℕ) (bs : List ℕ) → AreBits bs → from + width ≤ length bs → group from width bs ≡ number bs / 2 ^ (length bs - from - width) % 2 ^ width
+unfolding group
+group-number from width bs h l = number-within from width bs h l

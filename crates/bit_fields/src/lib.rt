@@ -2,6 +2,7 @@
 #![tactic(auto)]
 
 mod reader;
+mod window;
 mod writer;
 
 pub use reader::Bits;

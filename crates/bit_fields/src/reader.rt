@@ -5,6 +5,8 @@ ghost use Rattle.bit_fields.specs.Cursor.{advanced};
 
 use std::marker::Model;
 
+use crate::window::number_at;
+
 /// A place among the bits of a byte slice, the most significant bit of each byte first.
 #[derive(Debug, Drop)]
 pub struct Bits<'a> {
@@ -59,6 +61,11 @@ impl<'a> Bits<'a> {
         ensures moves { IfSome result (λ v. self.new ≡ advanced self.old n) }
         ensures stays { IfNone result (self.new ≡ self.old) }
     {
-        None
+        if self.left() < n as usize {
+            return None;
+        }
+        let value = number_at(self.bytes, self.place, n);
+        self.place += n as usize;
+        Some(value)
     }
 }
