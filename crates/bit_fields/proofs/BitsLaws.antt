@@ -91,8 +91,8 @@ bits_of-number [] h = refl
 bits_of-number (b ∷ bs) h =
     let below : number bs < 2 ^ length bs = number-below bs h.1 in
     ap₂ (λ c cs. c ∷ cs)
-      (ap (λ n. n % 2) (shr_high b (length bs) (number bs) below) ∙ mod-eq_of_lt h.0)
-      (bits_of-cat_low (length bs) (length bs) b (number bs) (omega arith) ∙ bits_of-number bs h.1)
+    (ap (λ n. n % 2) (shr_high b (length bs) (number bs) below) ∙ mod-eq_of_lt h.0)
+    (bits_of-cat_low (length bs) (length bs) b (number bs) (omega arith) ∙ bits_of-number bs h.1)
 
 -- bits with one number and one length are one
 pub number-injective : (cs bs : List ℕ) → AreBits cs → AreBits bs → length cs ≡ length bs → number cs ≡ number bs → cs ≡ bs
@@ -106,8 +106,8 @@ bits_of-add zero low n = ap (λ w. bits_of w n) (zero-add low)
 bits_of-add (suc high) low n =
     rw suc-add
     (ap₂ (λ b bs. b ∷ bs)
-      (ap (λ m. m % 2) (ap (λ w. n / 2 ^ w) (add_comm high low) ∙ sym (shr-shr n low high)))
-      (bits_of-add high low n))
+    (ap (λ m. m % 2) (ap (λ w. n / 2 ^ w) (add_comm high low) ∙ sym (shr-shr n low high)))
+    (bits_of-add high low n))
 
 pub bits_of-cat : (high low a n : ℕ) → n < 2 ^ low → bits_of (high + low) (a * 2 ^ low + n) ≡ bits_of high a ++ bits_of low n
 bits_of-cat high low a n h =
@@ -265,8 +265,8 @@ bits-bytes (suc k) bs all h =
     ap bits (bytes-front bs m)
     ∙ bits-cons (number (take 8 bs)) (bytes (drop 8 bs))
     ∙ ap₂ (λ cs ds. cs ++ ds)
-      (ap (λ w. bits_of w (number (take 8 bs))) (sym e) ∙ bits_of-number (take 8 bs) (AreBits-take 8 bs all))
-      (bits-bytes k (drop 8 bs) (AreBits-drop 8 bs all) l)
+    (ap (λ w. bits_of w (number (take 8 bs))) (sym e) ∙ bits_of-number (take 8 bs) (AreBits-take 8 bs all))
+    (bits-bytes k (drop 8 bs) (AreBits-drop 8 bs all) l)
     ∙ take-append-drop 8 bs
 
 pub bits-injective : (xs ys : List ℕ) → AreBytes xs → AreBytes ys → bits xs ≡ bits ys → xs ≡ ys

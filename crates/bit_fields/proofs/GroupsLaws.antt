@@ -86,8 +86,8 @@ numbers_at-spelled_more (width ∷ widths) (n ∷ ns) more h =
     let l : length (bits_of width n) ≡ width = length-bits_of width n in
     rw append_assoc
     (ap₂ (λ m ms. m ∷ ms)
-      (ap number (take_at (bits_of width n) (spelled widths ns ++ more) width l) ∙ number-bits_of-below width n h.0)
-      (ap (numbers_at widths) (drop_at (bits_of width n) (spelled widths ns ++ more) width l) ∙ numbers_at-spelled_more widths ns more h.1))
+    (ap number (take_at (bits_of width n) (spelled widths ns ++ more) width l) ∙ number-bits_of-below width n h.0)
+    (ap (numbers_at widths) (drop_at (bits_of width n) (spelled widths ns ++ more) width l) ∙ numbers_at-spelled_more widths ns more h.1))
 
 pub numbers_at-spelled : (widths ns : List ℕ) → Fits widths ns → numbers_at widths (spelled widths ns) ≡ ns
 numbers_at-spelled widths ns h =
@@ -102,8 +102,8 @@ spelled-numbers_at_front (width ∷ widths) bs all h =
     let l : length (take width bs) ≡ width = length-take-le width bs (omega arith) in
     let m : sum widths ≤ length (drop width bs) = simp length-drop (omega arith) in
     ap₂ (λ cs ds. cs ++ ds)
-      (ap (λ w. bits_of w (number (take width bs))) (sym l) ∙ bits_of-number (take width bs) (AreBits-take width bs all))
-      (spelled-numbers_at_front widths (drop width bs) (AreBits-drop width bs all) m)
+    (ap (λ w. bits_of w (number (take width bs))) (sym l) ∙ bits_of-number (take width bs) (AreBits-take width bs all))
+    (spelled-numbers_at_front widths (drop width bs) (AreBits-drop width bs all) m)
     ∙ sym (take-add width (sum widths) bs)
     ∙ ap (λ n. take n bs) (sym both)
 
@@ -122,8 +122,8 @@ unfolding numbers_at
 numbers_at-append [] more bs = refl
 numbers_at-append (width ∷ widths) more bs =
     ap (λ ns. number (take width bs) ∷ ns)
-      (numbers_at-append widths more (drop width bs)
-       ∙ ap (λ ds. numbers_at widths (drop width bs) ++ numbers_at more ds) (drop-drop (sum widths) width bs ∙ ap (λ n. drop n bs) (sym (sum-cons width widths))))
+    (numbers_at-append widths more (drop width bs)
+    ∙ ap (λ ds. numbers_at widths (drop width bs) ++ numbers_at more ds) (drop-drop (sum widths) width bs ∙ ap (λ n. drop n bs) (sym (sum-cons width widths))))
 
 pub spelled-append : (widths more ns ms : List ℕ) → length ns ≡ length widths → spelled (widths ++ more) (ns ++ ms) ≡ spelled widths ns ++ spelled more ms
 unfolding spelled
@@ -148,8 +148,8 @@ numbers_at-front (width ∷ widths) bs more h =
     let both : sum (width ∷ widths) ≡ width + sum widths = sum-cons width widths in
     let m : sum widths ≤ length (drop width bs) = simp length-drop (omega arith) in
     ap₂ (λ n ns. n ∷ ns)
-      (ap number (take-append-le width bs more (omega arith)))
-      (ap (numbers_at widths) (drop-append-le width bs more (omega arith)) ∙ numbers_at-front widths (drop width bs) more m)
+    (ap number (take-append-le width bs more (omega arith)))
+    (ap (numbers_at widths) (drop-append-le width bs more (omega arith)) ∙ numbers_at-front widths (drop width bs) more m)
 
 pub numbers_at-take : (widths bs : List ℕ) (n : ℕ) → sum widths ≤ n → n ≤ length bs → numbers_at widths (take n bs) ≡ numbers_at widths bs
 numbers_at-take widths bs n h l =
@@ -195,3 +195,43 @@ group-bits_part from width first count xs h l =
 pub group-number : (from width : ℕ) (bs : List ℕ) → AreBits bs → from + width ≤ length bs → group from width bs ≡ number bs / 2 ^ (length bs - from - width) % 2 ^ width
 unfolding group
 group-number from width bs h l = number-within from width bs h l
+
+-- ---- a group put in place
+module _ (bs : List ℕ) (at width value : ℕ) (room : at + width ≤ length bs) where
+  pub length-put : length (take at bs ++ bits_of width value ++ drop (at + width) bs) ≡ length bs
+  length-put =
+      let front : length (take at bs) ≡ at = length-take-le at bs (omega arith) in
+      omega (arith, length-append (take at bs ++ bits_of width value) (drop (at + width) bs), length-append (take at bs) (bits_of width value), length-bits_of width value, length-drop (at + width) bs)
+
+  pub AreBits-put : AreBits bs → AreBits (take at bs ++ bits_of width value ++ drop (at + width) bs)
+  AreBits-put h =
+      AreBits-append (take at bs ++ bits_of width value) (drop (at + width) bs)
+      (AreBits-append (take at bs) (bits_of width value) (AreBits-take at bs h) (AreBits-bits_of width value))
+      (AreBits-drop (at + width) bs h)
+
+  -- it holds the value
+  pub group-put_same : value < 2 ^ width → group at width (take at bs ++ bits_of width value ++ drop (at + width) bs) ≡ value
+  unfolding group
+  group-put_same fits =
+      ap (λ cs. number (take width (drop at cs))) (append_assoc (take at bs) (bits_of width value) (drop (at + width) bs))
+      ∙ ap (λ cs. number (take width cs)) (drop_at (take at bs) (bits_of width value ++ drop (at + width) bs) at (length-take-le at bs (omega arith)))
+      ∙ ap number (take_at (bits_of width value) (drop (at + width) bs) width (length-bits_of width value))
+      ∙ number-bits_of-below width value fits
+
+  -- groups before it stay
+  pub group-put_before : (from size : ℕ) → from + size ≤ at → group from size (take at bs ++ bits_of width value ++ drop (at + width) bs) ≡ group from size bs
+  group-put_before from size h =
+      ap (group from size) (append_assoc (take at bs) (bits_of width value) (drop (at + width) bs))
+      ∙ group-front from size (take at bs) (bits_of width value ++ drop (at + width) bs) (simp length-take (omega arith))
+      ∙ group-take from size at bs h
+
+  -- groups behind it stay
+  pub group-put_behind : (from size : ℕ) → at + width ≤ from → group from size (take at bs ++ bits_of width value ++ drop (at + width) bs) ≡ group from size bs
+  group-put_behind from size h =
+      let l : length (take at bs ++ bits_of width value) ≡ at + width = length-append (take at bs) (bits_of width value) ∙ ap₂ (λ m n. m + n) (length-take-le at bs (omega arith)) (length-bits_of width value) in
+      let e : length (take at bs ++ bits_of width value) + (from - (at + width)) ≡ from = omega arith in
+      let f : at + width + (from - (at + width)) ≡ from = omega arith in
+      ap (λ k. group k size (take at bs ++ bits_of width value ++ drop (at + width) bs)) (sym e)
+      ∙ group-behind (from - (at + width)) size (take at bs ++ bits_of width value) (drop (at + width) bs)
+      ∙ group-drop (at + width) (from - (at + width)) size bs
+      ∙ ap (λ k. group k size bs) f

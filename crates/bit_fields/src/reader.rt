@@ -3,9 +3,8 @@ ghost use Rattle.std.specs.Prelude.{◌≡◌, ◌+◌, ◌*◌, ◌^◌, ◌<�
 ghost use Rattle.bit_fields.specs.Bits.{bits, number};
 ghost use Rattle.bit_fields.specs.Cursor.{advanced};
 
-use std::marker::Model;
-
 use crate::window::number_at;
+use std::marker::Model;
 
 /// A place among the bits of a byte slice, the most significant bit of each byte first.
 #[derive(Debug, Drop)]

@@ -1,5 +1,5 @@
 //! The few bytes around a group of bits, as one number.
-ghost use Rattle.std.specs.Prelude.{◌≡◌, ◌+◌, ◌*◌, ◌^◌, ◌<◌, ◌≤◌, length};
+ghost use Rattle.std.specs.Prelude.{◌≡◌, ◌+◌, ◌*◌, ◌/◌, ◌%◌, ◌^◌, ◌<◌, ◌≤◌, length};
 ghost use Rattle.bit_fields.specs.Bits.{bits, bits_of, number};
 ghost use Rattle.bit_fields.specs.Groups.{group};
 
@@ -26,6 +26,19 @@ pub(crate) fn set_number(bytes: &mut [u8], window: u64)
         bytes[i] = (rest % 256) as u8;
         rest /= 256;
     }
+}
+
+/// The number with the value in place of the n bits above its lowest `low` bits.
+pub(crate) fn with_group(window: u64, n: u32, low: u32, value: u32) -> u64
+    requires small { window < 2 ^ 40 }
+    requires few { n ≤ 32 }
+    requires part { low < 8 }
+    requires fits { value < 2 ^ n }
+    ensures { result ≡ (window / 2 ^ (n + low) * 2 ^ n + value) * 2 ^ low + window % 2 ^ low }
+{
+    let above = window >> (n + low);
+    let below = window % (1 << low);
+    (((above << n) + u64::from(value)) << low) + below
 }
 
 /// The number of the n bits from bit `at` on, at most 32 of them.

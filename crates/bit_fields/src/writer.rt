@@ -2,7 +2,7 @@
 ghost use Rattle.std.specs.Prelude.{◌≡◌, ◌+◌, ◌*◌, ◌^◌, ◌<◌, ◌≤◌, ◌++◌, length, take, drop};
 ghost use Rattle.bit_fields.specs.Bits.{bits, bits_of};
 
-use crate::window::{number_of, set_number};
+use crate::window::{number_of, set_number, with_group};
 
 /// The n bits from bit `at` on, at most 32 of them, become the value, the most significant bit first;
 /// all other bits stay.
@@ -18,8 +18,6 @@ pub fn put(bytes: &mut [u8], at: usize, n: u32, value: u32)
     let last = (end + 7) / 8;
     let low = (8 * last - end) as u32;
     let part = &mut bytes[first..last];
-    let old = number_of(part);
-    let above = old >> (n + low);
-    let below = old % (1 << low);
-    set_number(part, (((above << n) + u64::from(value)) << low) + below);
+    let window = with_group(number_of(part), n, low, value);
+    set_number(part, window);
 }

@@ -11,4 +11,4 @@ returns-clause-value c =
     let few : c.args.n < 64 = omega arith in
     rw (one_shl c.args.n 64 few)
     (read_group c.args.bytes.now c.args.at c.args.n (c.args.at / 8) ((c.args.at + c.args.n + 7) / 8) c.number_of-window.result
-      (omega arith) (omega arith) (omega arith) (omega arith) c.number_of-window.ensures)
+    (omega arith) (omega arith) (omega arith) (omega arith) c.number_of-window.ensures)
