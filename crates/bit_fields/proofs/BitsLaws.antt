@@ -1,14 +1,13 @@
 -- The laws of the bits of bytes and of the numbers that bits spell, general in their widths.
-use Rattle.std.proofs.Common.{◌≡◌, ℕ, zero, suc, ◌+◌, ◌-◌, ◌*◌, ◌/◌, ◌%◌, ◌^◌, ◌<◌, ◌≤◌, min, List, [], ◌∷◌, ◌++◌, length, get_or, take, drop, refl, sym, ap, ap₂, ◌∙◌, append_assoc, arith, rules, add-one, add-suc, add_assoc, append-nil, one-add, mul_assoc, mod-eq_of_lt, length-append, length-take, length-drop, take-append-drop}
-use Rattle.std.proofs.Math.Nat.{add_comm, zero-add, suc-add, pow-suc, mod-one, div-one, mul-add, add-mul}
+use Rattle.std.proofs.Common.{◌≡◌, ℕ, zero, suc, ◌+◌, ◌-◌, ◌*◌, ◌/◌, ◌%◌, ◌^◌, ◌<◌, ◌≤◌, List, [], ◌∷◌, ◌++◌, length, get_or, take, drop, refl, sym, ap, ap₂, ◌∙◌, append_assoc, arith, add_assoc, append-nil, one-add, mul_assoc, mod-eq_of_lt, length-append, length-drop, take-append-drop}
+use Rattle.std.proofs.Math.Nat.{add_comm, zero-add, suc-add, pow-suc, mod-one, add-mul}
 use Rattle.std.proofs.Math.Seq.{take-nil, take-append-add, drop-append-add}
 use Rattle.std.proofs.lemmas.List.{take_at, drop_at, length-take-le, drop_all, nil_from_length}
-use Rattle.std.specs.Int.{bit_at, from_be_bytes, w32}
+use Rattle.std.specs.Int.{from_be_bytes, w32}
 use mir.Val.{Fits}
 use mir.Syntax.{w8}
-use Rattle.std.proofs.lemmas.Nat.{pow_pos, pow-add, shr-shr, shr_split, mod-pow-add, mod_below, mod_low, shr_high, mul-add-lt}
+use Rattle.std.proofs.lemmas.Nat.{pow-add, shr-shr, shr_split, mod-pow-add, shr_high, mul-add-lt}
 use Rattle.std.proofs.lemmas.Nat.Bits.{bit_at-lt, bit_at_cat_low}
-use Rattle.std.proofs.lemmas.Grind.{common_steps}
 use Rattle.bit_fields.specs.Bits.{bits_of, number, bits, bytes, AreBits, AreBytes}
 
 -- ---- lengths

@@ -1,10 +1,10 @@
 -- The few bytes around a group of bits, read and written as one number.
-use Rattle.std.proofs.Common.{◌≡◌, ℕ, zero, suc, ◌+◌, ◌-◌, ◌*◌, ◌/◌, ◌%◌, ◌^◌, ◌<◌, ◌≤◌, List, [], ◌∷◌, ◌++◌, length, get_or, set, take, drop, refl, sym, ap, ap₂, ◌∙◌, append_assoc, take-append-drop, arith, pow_mono, lt_of_lt_of_le, length-take, length-drop, length-set}
+use Rattle.std.proofs.Common.{◌≡◌, ℕ, ◌+◌, ◌-◌, ◌*◌, ◌/◌, ◌%◌, ◌^◌, ◌<◌, ◌≤◌, List, ◌++◌, length, get_or, set, take, drop, sym, ap, ap₂, ◌∙◌, append_assoc, take-append-drop, arith, pow_mono, lt_of_lt_of_le, length-take, length-drop}
 use Rattle.std.proofs.lemmas.Nat.{shr-shr, shr_below, shl_whole, pow-add, mul-add-lt, mod_below, pow_pos}
 use Rattle.std.proofs.Math.Nat.{div-one}
 use Rattle.std.proofs.Math.Seq.{take-add}
 use Rattle.std.proofs.lemmas.List.{take_more, drop_all, drop-set, length-take-le, take-take, drop-append-le, drop-drop}
-use Rattle.bit_fields.specs.Bits.{bits_of, number, bits, AreBits}
+use Rattle.bit_fields.specs.Bits.{bits_of, number, bits}
 use Rattle.bit_fields.specs.Groups.{group}
 use Rattle.bit_fields.proofs.BitsLaws.{length-bits, AreBits-bits, bits-nil, bits-cons, bits_of-mod, bits_of-add, bits_of-cat, take-bits_of, drop-bits_of, bits-append, bits-bits_of, take-bits, drop-bits, number-bits-push, number-bits-below}
 use Rattle.bit_fields.proofs.GroupsLaws.{group-bits_part, group-number}

@@ -1,8 +1,6 @@
 -- The group is within the bytes that it reaches.
-use Rattle.std.proofs.Common.{◌≡◌, ◌<◌, ◌≤◌, ◌+◌, ◌-◌, ◌*◌, ◌/◌, ◌%◌, ◌^◌, arith, length, drop, take}
+use Rattle.std.proofs.Common.{◌<◌, ◌+◌, ◌/◌, arith}
 use Rattle.std.proofs.lemmas.Nat.{one_shl}
-use Rattle.bit_fields.specs.Bits.{bits, number}
-use Rattle.bit_fields.specs.Groups.{group}
 use Rattle.bit_fields.proofs.WindowLaws.{read_group}
 use Rattle.bit_fields.proofs.window.number_at.Goals as goal
 

@@ -1,6 +1,5 @@
 -- One byte more.
-use Rattle.std.proofs.Common.{◌≡◌, ◌<◌, ◌+◌, ◌*◌, ◌^◌, arith, sym, take, length, get_or}
-use Rattle.bit_fields.specs.Bits.{bits, number}
+use Rattle.std.proofs.Common.{arith, sym}
 use Rattle.bit_fields.proofs.BitsLaws.{bits-nil, number-nil}
 use Rattle.bit_fields.proofs.WindowLaws.{read_more, read_small}
 use Rattle.bit_fields.proofs.window.number_of.Goals as goal

@@ -1,6 +1,5 @@
 -- One byte more, from the last to the first.
-use Rattle.std.proofs.Common.{◌≡◌, ◌<◌, ◌≤◌, ◌+◌, ◌-◌, ◌*◌, ◌/◌, ◌%◌, ◌^◌, arith, length, drop, set, length-set}
-use Rattle.bit_fields.specs.Bits.{bits, bits_of}
+use Rattle.std.proofs.Common.{◌≡◌, ◌<◌, ◌+◌, ◌-◌, arith, length, length-set}
 use Rattle.bit_fields.proofs.WindowLaws.{write_none, left_none, write_more, left_more}
 use Rattle.bit_fields.proofs.window.set_number.Goals as goal
 

@@ -1,5 +1,5 @@
 -- No bit is lost.
-use Rattle.std.proofs.Common.{◌≡◌, ◌+◌, ◌-◌, ◌*◌, ◌/◌, ◌%◌, ◌^◌, ◌<◌, ◌≤◌, lt_of_lt_of_le, pow_mono, arith, refl}
+use Rattle.std.proofs.Common.{◌-◌, ◌^◌, ◌≤◌, pow_mono, arith, refl}
 use Rattle.std.proofs.lemmas.Nat.{one_shl}
 use Rattle.bit_fields.proofs.WindowLaws.{above_whole, upper_small, upper_whole, whole_small}
 use Rattle.bit_fields.proofs.window.with_group.Goals as goal

@@ -1,6 +1,5 @@
 -- The bytes that the group reaches are written anew.
-use Rattle.std.proofs.Common.{◌≡◌, ◌+◌, ◌*◌, ◌^◌, ◌<◌, ◌≤◌, ◌++◌, length, take, drop, ℕ, ◌-◌, ◌/◌, ◌%◌, ◌∙◌, ap, arith, lt_of_lt_of_le, pow_mono}
-use Rattle.bit_fields.specs.Bits.{bits, bits_of, number}
+use Rattle.std.proofs.Common.{◌≡◌, ◌+◌, ◌*◌, ◌^◌, ◌<◌, ◌≤◌, length, take, drop, ◌-◌, ◌/◌, arith, lt_of_lt_of_le, pow_mono}
 use Rattle.bit_fields.proofs.BitsLaws.{number-bits-below}
 use Rattle.bit_fields.proofs.WindowLaws.{reached, whole_small, write_group}
 use Rattle.bit_fields.proofs.writer.put.Goals as goal

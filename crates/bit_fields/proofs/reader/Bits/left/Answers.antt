@@ -1,6 +1,5 @@
 -- What is left has as many bits.
-use Rattle.std.proofs.Common.{arith, length, length-drop, ap, ◌≡◌, ◌-◌, ◌*◌}
-use Rattle.bit_fields.specs.Bits.{bits}
+use Rattle.std.proofs.Common.{length-drop}
 use Rattle.bit_fields.proofs.BitsLaws.{length-bits}
 use Rattle.bit_fields.proofs.reader.Bits.left.Goals as goal
 

@@ -1,6 +1,5 @@
 -- Enough bits are left, and the value is that of the first of them.
-use Rattle.std.proofs.Common.{◌≡◌, ◌<◌, ◌≤◌, ◌+◌, ◌-◌, ◌*◌, arith, ap, length, drop, take}
-use Rattle.bit_fields.specs.Bits.{bits, number}
+use Rattle.std.proofs.Common.{◌≡◌, ◌≤◌, ◌+◌, ◌-◌, ◌*◌, arith, length}
 use Rattle.bit_fields.specs.Groups.{group}
 use Rattle.bit_fields.proofs.BitsLaws.{length-left}
 use Rattle.bit_fields.proofs.reader.Bits.take.Goals as goal
