@@ -1,0 +1,66 @@
+-- Bounds on the tables and on the lengths that follow from them.
+use Rattle.std.proofs.Common.{◌≡◌, ℕ, ◌+◌, ◌-◌, ◌*◌, ◌/◌, ◌<◌, ◌≤◌, Bool, true, false, cond, List, length, get_or, leb, eqb, refl, sym, ◌∙◌, lit<, arith}
+use Rattle.std.proofs.lemmas.Nat.{le-div}
+use Rattle.std.proofs.lemmas.Bool.{leb-true, true≢false}
+use Rattle.std.proofs.lemmas.List.Folds.{list_all_at}
+use Rattle.std.specs.List.{list_all}
+use Rattle.frame_header.specs.declared.version.Version.{Version}
+use Rattle.frame_header.specs.declared.version.Version.TheVariants.{One, Two}
+use Rattle.frame_header.specs.Fields.{SlotFields, ClassFields, IsSlot, IsClass}
+use Rattle.frame_header.specs.Tables.{rates, frequencies, rate_of, frequency_of, side_bytes_of, side_size_of, length_factor, length_of}
+
+-- the lowest bit rate of a version in kbit/s
+abbrev pub least_rate : Version → ℕ
+least_rate One = 32
+least_rate Two = 8
+
+-- the highest frequency of a version in Hz
+abbrev pub highest_frequency : Version → ℕ
+highest_frequency One = 48000
+highest_frequency Two = 24000
+
+not_false : (b : Bool) → (b ≡ false → ⊥) → b ≡ true
+not_false true h = refl
+not_false false h = absurd (h refl)
+
+-- what a test says of a whole table holds at each of its places
+all_pass : (p : ℕ → Bool) (xs : List ℕ) (i : ℕ) → list_all p xs ≡ true → i < length xs → p (get_or xs i 0) ≡ true
+all_pass p xs i all lt = not_false (p (get_or xs i 0)) (λ fails. true≢false (sym all ∙ list_all_at p xs i 0 lt fails))
+
+least : (version : Version) (i : ℕ) → i < 14 → least_rate version ≤ get_or (rates version) i 0
+least One i lt = leb-true 32 (get_or (rates One) i 0) (all_pass (λ r. leb 32 r) (rates One) i refl lt)
+least Two i lt = leb-true 8 (get_or (rates Two) i 0) (all_pass (λ r. leb 8 r) (rates Two) i refl lt)
+
+highest : (version : Version) (i : ℕ) → i < 3 → (get_or (frequencies version) i 0 ≤ highest_frequency version) × (16000 ≤ get_or (frequencies version) i 0)
+highest One i lt = (leb-true _ _ (all_pass (λ f. leb f 48000) (frequencies One) i refl lt), leb-true 16000 _ (all_pass (λ f. leb 16000 f) (frequencies One) i refl lt))
+highest Two i lt = (leb-true _ _ (all_pass (λ f. leb f 24000) (frequencies Two) i refl lt), leb-true 16000 _ (all_pass (λ f. leb 16000 f) (frequencies Two) i refl lt))
+
+pub frequency-positive : (c : ClassFields) → IsClass c → 16000 ≤ frequency_of c
+unfolding frequency_of
+frequency-positive c class = (highest c.version c.frequency_index (omega (arith, class.0))).1
+
+-- the shortest frame of a version
+abbrev pub least_length : Version → ℕ
+least_length One = 96
+least_length Two = 24
+
+shortest : (version : Version) (rate frequency : ℕ) → least_rate version ≤ rate → 0 < frequency → frequency ≤ highest_frequency version → least_length version ≤ (length_factor version * (1000 * rate)) / frequency
+shortest One rate frequency most some few = le-div 96 _ frequency some (omega arith)
+shortest Two rate frequency most some few = le-div 24 _ frequency some (omega arith)
+
+pub length-least : (c : ClassFields) (s : SlotFields) → IsClass c → IsSlot s → least_length c.version ≤ length_of c s
+unfolding length_of rate_of frequency_of
+length-least c s class slot =
+    let rate = least c.version (s.rate_index - 1) (omega (arith, slot.0, slot.1)) in
+    let frequency = highest c.version c.frequency_index (omega (arith, class.0)) in
+    let bound = shortest c.version _ _ rate (omega (arith, frequency.1)) frequency.0 in
+    omega (arith, bound)
+
+room : (version : Version) (channels : ℕ) → 6 + side_bytes_of version channels < least_length version
+room One channels = elim (eqb channels 1) as (λ b. 6 + cond b 17 32 < 96) [ true ↦ lit< tt | false ↦ lit< tt ]
+room Two channels = elim (eqb channels 1) as (λ b. 6 + cond b 9 17 < 24) [ true ↦ lit< tt | false ↦ lit< tt ]
+
+-- header, check word and side information leave room for main data
+pub area_some : (c : ClassFields) (s : SlotFields) → IsClass c → IsSlot s → 6 + side_size_of c < length_of c s
+unfolding side_size_of
+area_some c s class slot = omega (arith, length-least c s class slot, room c.version c.channels)

@@ -1,0 +1,6 @@
+pub mod Fields
+pub mod Tables
+pub mod Reading
+pub mod HeaderView
+pub use Rattle.bit_fields.specs.Bits
+pub use Rattle.bit_fields.specs.Groups

@@ -1,0 +1,57 @@
+-- The 32 bits of a header (ISO/IEC 11172-3 and 13818-3, 2.4.1.3 and 2.4.2.3).
+use Rattle.std.specs.Prelude.{ℕ, ◌==◌, ◌&&◌, not, if◌then◌else◌, Bool, List, Result, Ok, Err}
+use Rattle.bit_fields.specs.Bits.{bits}
+use Rattle.bit_fields.specs.Groups.{group}
+use Rattle.frame_header.specs.declared.version.Version.{Version}
+use Rattle.frame_header.specs.declared.version.Version.TheVariants.{One, Two}
+use Rattle.frame_header.specs.declared.header.NotHeader.{NotHeader}
+use Rattle.frame_header.specs.declared.header.NotHeader.TheVariants.{Free, No}
+use Rattle.frame_header.specs.Fields.{HeaderFields}
+
+-- the groups of the 32 bits
+abbrev pub sync_word : List ℕ → ℕ
+sync_word h = group 0 12 h
+
+abbrev pub version_bit : List ℕ → ℕ
+version_bit h = group 12 1 h
+
+abbrev pub layer_bits : List ℕ → ℕ
+layer_bits h = group 13 2 h
+
+abbrev pub protection_bit : List ℕ → ℕ
+protection_bit h = group 15 1 h
+
+abbrev pub rate_bits : List ℕ → ℕ
+rate_bits h = group 16 4 h
+
+abbrev pub frequency_bits : List ℕ → ℕ
+frequency_bits h = group 20 2 h
+
+-- all twelve sync bits are ones, the layer is III, and neither the forbidden bit rate nor the reserved frequency stands
+unfoldable pub is_readable : List ℕ → Bool
+is_readable h = (sync_word h == 4095) && (layer_bits h == 1) && not (rate_bits h == 15) && not (frequency_bits h == 3)
+
+abbrev pub version_of : List ℕ → Version
+version_of h = if version_bit h == 1 then One else Two
+
+unfoldable pub header_fields : List ℕ → HeaderFields
+header_fields h = record {
+  version = version_of h;
+  protected = protection_bit h == 0;
+  slot = record { rate_index = rate_bits h; padding = group 22 1 h == 1 };
+  frequency_index = frequency_bits h;
+  private_bit = group 23 1 h == 1;
+  mode = group 24 2 h;
+  mode_extension = group 26 2 h;
+  copyright = group 28 1 h == 1;
+  original = group 29 1 h == 1;
+  emphasis = group 30 2 h;
+}
+
+-- the header that 32 bits are: readable, and of no free format
+unfoldable pub header_in : List ℕ → Result HeaderFields NotHeader
+header_in h = if is_readable h then (if rate_bits h == 0 then Err Free else Ok (header_fields h)) else Err No
+
+-- the header that four bytes are
+unfoldable pub header_at : List ℕ → Result HeaderFields NotHeader
+header_at four = header_in (bits four)

@@ -1,0 +1,64 @@
+-- The tables of the standard, and the rule of the frame length (ISO/IEC 11172-3 and 13818-3, 2.4.2.3 and 2.4.3.1).
+use Rattle.std.specs.Prelude.{ℕ, ◌+◌, ◌-◌, ◌*◌, ◌/◌, ◌==◌, if◌then◌else◌, Bool, List, [], ◌∷◌, slice_index}
+use Rattle.frame_header.specs.declared.version.Version.{Version}
+use Rattle.frame_header.specs.declared.version.Version.TheVariants.{One, Two}
+use Rattle.frame_header.specs.Fields.{SlotFields, ClassFields, HeaderFields}
+
+-- bit rates in kbit/s, for the indexes 1 to 14
+abbrev pub rates : Version → List ℕ
+rates One = 32 ∷ 40 ∷ 48 ∷ 56 ∷ 64 ∷ 80 ∷ 96 ∷ 112 ∷ 128 ∷ 160 ∷ 192 ∷ 224 ∷ 256 ∷ 320 ∷ []
+rates Two = 8 ∷ 16 ∷ 24 ∷ 32 ∷ 40 ∷ 48 ∷ 56 ∷ 64 ∷ 80 ∷ 96 ∷ 112 ∷ 128 ∷ 144 ∷ 160 ∷ []
+
+-- sampling frequencies in Hz, for the indexes 0 to 2
+abbrev pub frequencies : Version → List ℕ
+frequencies One = 44100 ∷ 48000 ∷ 32000 ∷ []
+frequencies Two = 22050 ∷ 24000 ∷ 16000 ∷ []
+
+-- the granules of a frame
+abbrev pub granules_of : Version → ℕ
+granules_of One = 2
+granules_of Two = 1
+
+-- the samples of a frame in each channel, 576 for each granule
+abbrev pub samples_of : Version → ℕ
+samples_of version = 576 * granules_of version
+
+-- how far back main data may begin, in bytes: the greatest number in main_data_begin
+abbrev pub window_of : Version → ℕ
+window_of One = 511
+window_of Two = 255
+
+-- the bytes of the side information, by version and channels
+abbrev pub side_bytes_of : Version → ℕ → ℕ
+side_bytes_of One channels = if channels == 1 then 17 else 32
+side_bytes_of Two channels = if channels == 1 then 9 else 17
+
+unfoldable pub rate_of : ClassFields → SlotFields → ℕ
+rate_of c s = slice_index (rates c.version) (s.rate_index - 1)
+
+unfoldable pub frequency_of : ClassFields → ℕ
+frequency_of c = slice_index (frequencies c.version) c.frequency_index
+
+unfoldable pub side_size_of : ClassFields → ℕ
+side_size_of c = side_bytes_of c.version c.channels
+
+-- an eighth of the samples of a frame: its bytes at one bit per sample
+abbrev pub length_factor : Version → ℕ
+length_factor One = 144
+length_factor Two = 72
+
+-- the length of a frame in bytes: the factor times the bit rate in bit/s, divided by the frequency and rounded down, and the padding
+unfoldable pub length_of : ClassFields → SlotFields → ℕ
+length_of c s = (length_factor c.version * (1000 * rate_of c s)) / frequency_of c + (if s.padding then 1 else 0)
+
+-- the bytes before the area: the header, the check word of a protected frame, and the side information
+unfoldable pub overhead_of : ClassFields → Bool → ℕ
+overhead_of c protected = 4 + (if protected then 2 else 0) + side_size_of c
+
+-- the bytes of a frame that hold main data
+unfoldable pub area_of : ClassFields → SlotFields → Bool → ℕ
+area_of c s protected = length_of c s - overhead_of c protected
+
+-- one channel in mode 3, else two
+abbrev pub class_of : HeaderFields → ClassFields
+class_of h = record { version = h.version; frequency_index = h.frequency_index; channels = if h.mode == 3 then 1 else 2 }

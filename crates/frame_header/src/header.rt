@@ -1,0 +1,163 @@
+//! The 32 bits at the front of a frame.
+ghost use Rattle.std.specs.Prelude.{◌≡◌, ◌+◌, ◌^◌, ◌<◌, ◌≤◌, ◌==◌, length};
+ghost use Rattle.bit_fields.specs.Bits.{bits, bits_of};
+ghost use Rattle.bit_fields.specs.Groups.{group};
+ghost use Rattle.frame_header.specs.Tables.{class_of, length_of, area_of};
+ghost use Rattle.frame_header.specs.Reading.{header_at, header_in, is_readable as is_readable_lem, version_of as version_of_lem};
+
+use crate::class::Class;
+use crate::slot::Slot;
+use crate::version::Version;
+use std::marker::Model;
+
+/// Four bytes as one number, the first the most significant.
+fn word_at(bytes: &[u8]) -> u32
+    requires { length bytes.now ≡ 4 }
+    ensures { bits bytes.now ≡ bits_of 32 result }
+{
+    u32::from_be_bytes([bytes[0], bytes[1], bytes[2], bytes[3]])
+}
+
+/// The number of a group of bits of a header, counted from the most significant.
+fn group_of(word: u32, from: u32, width: u32) -> u32
+    requires some { 1 ≤ width }
+    requires within { from + width ≤ 32 }
+    requires small { width ≤ 12 }
+    ensures group { result ≡ group from width (bits_of 32 word) }
+    ensures below { result < 2 ^ width }
+{
+    (word >> (32 - from - width)) % (1 << width)
+}
+
+/// Whether a bit of a header is 1.
+fn is_set(word: u32, at: u32) -> bool
+    requires { at < 32 }
+    ensures { result ≡ (group at 1 (bits_of 32 word) == 1) }
+{
+    group_of(word, at, 1) == 1
+}
+
+/// All sync bits are ones, the layer is III, and no forbidden bit rate and no reserved frequency stands.
+#[tactic(auto, unfolding(crate::specs::Reading::is_readable))]
+fn is_readable(word: u32) -> bool
+    ensures { result ≡ is_readable_lem (bits_of 32 word) }
+{
+    group_of(word, 0, 12) == 0xfff
+        && group_of(word, 13, 2) == 1
+        && group_of(word, 16, 4) != 15
+        && group_of(word, 20, 2) != 3
+}
+
+/// Why four bytes are no header that is edited here.
+#[derive(Clone, Copy, Debug, PartialEq, Eq)]
+pub enum NotHeader {
+    /// A readable header with bit rate index 0: free format.
+    Free,
+    /// No readable header.
+    No,
+}
+
+/// The header of a Layer III frame (ISO/IEC 11172-3 and 13818-3, 2.4.1.3): mode, mode extension and
+/// emphasis from 0 to 3, frequency index from 0 to 2.
+#[derive(Clone, Copy, Debug, PartialEq, Eq)]
+pub struct Header {
+    pub version: Version,
+    pub protected: bool,
+    pub slot: Slot,
+    pub frequency_index: u8,
+    pub private_bit: bool,
+    pub mode: u8,
+    pub mode_extension: u8,
+    pub copyright: bool,
+    pub original: bool,
+    pub emphasis: u8,
+}
+
+impl Model for Header {
+    ghost use Rattle.frame_header.specs.Fields.{HeaderFields, IsHeader};
+
+    ghost Value = { HeaderFields };
+
+    ghost use Rattle.frame_header.specs.HeaderView.{fields_of, inside_of};
+
+    ghost view = { fields_of };
+
+    ghost invariant = { λ h. IsHeader (fields_of h) };
+
+    ghost inverse = { inside_of };
+}
+
+fn version_of(word: u32) -> Version
+    ensures { result ≡ version_of_lem (bits_of 32 word) }
+{
+    if is_set(word, 12) {
+        Version::One
+    } else {
+        Version::Two
+    }
+}
+
+/// Reads the 32 bits of a header.
+#[tactic(auto, unfolding(crate::specs::Reading::header_in, crate::specs::Reading::header_fields, crate::specs::Reading::is_readable))]
+fn read_word(word: u32) -> Result<Header, NotHeader>
+    ensures { result ≡ header_in (bits_of 32 word) }
+{
+    if !is_readable(word) {
+        return Err(NotHeader::No);
+    }
+    if group_of(word, 16, 4) == 0 {
+        return Err(NotHeader::Free);
+    }
+    Ok(Header {
+        version: version_of(word),
+        protected: group_of(word, 15, 1) == 0,
+        slot: Slot {
+            rate_index: group_of(word, 16, 4) as u8,
+            padding: is_set(word, 22),
+        },
+        frequency_index: group_of(word, 20, 2) as u8,
+        private_bit: is_set(word, 23),
+        mode: group_of(word, 24, 2) as u8,
+        mode_extension: group_of(word, 26, 2) as u8,
+        copyright: is_set(word, 28),
+        original: is_set(word, 29),
+        emphasis: group_of(word, 30, 2) as u8,
+    })
+}
+
+impl Header {
+    /// Reads four bytes. `Free` exactly where they are readable with bit rate index 0, `No` exactly
+    /// where they aren't readable.
+    pub fn read(bytes: [u8; 4]) -> Result<Header, NotHeader>
+        ensures { result ≡ header_at bytes }
+    {
+        read_word(word_at(&bytes))
+    }
+
+    /// Version, frequency and number of channels.
+    pub fn class(&self) -> Class
+        ensures { result ≡ class_of self.now }
+    {
+        Class {
+            version: self.version,
+            frequency_index: self.frequency_index,
+            channels: if self.mode == 3 { 1 } else { 2 },
+        }
+    }
+
+    /// The length of the frame in bytes, at most 1,441.
+    pub fn length(&self) -> u32
+        ensures length { result ≡ length_of (class_of self.now) self.now.slot }
+        ensures most { result ≤ 1441 }
+    {
+        self.class().length_of(self.slot)
+    }
+
+    /// The bytes of the frame that hold main data. At least 1.
+    pub fn area(&self) -> u32
+        ensures area { result ≡ area_of (class_of self.now) self.now.slot self.now.protected }
+        ensures some { 1 ≤ result }
+    {
+        self.class().area_of(self.slot, self.protected)
+    }
+}

@@ -1,0 +1,7 @@
+pub mod Granule
+pub mod Side
+pub use Rattle.frame_header.specs.Fields
+pub use Rattle.frame_header.specs.Tables
+pub use Rattle.frame_header.specs.Reading
+pub use Rattle.bit_fields.specs.Bits
+pub use Rattle.bit_fields.specs.Groups

@@ -1,0 +1,75 @@
+-- The side information of a frame (ISO/IEC 11172-3 and 13818-3, 2.4.1.7).
+use Rattle.std.specs.Prelude.{◌≡◌, ℕ, ◌+◌, ◌*◌, ◌/◌, ◌^◌, ◌<◌, ◌==◌, ◌&&◌, nat_lt, if◌then◌else◌, Bool, List, [], ◌∷◌, ◌++◌, map, take, drop, slice_index, slice_index_or, sum, sum_by, flat_map, MatchBool}
+use Rattle.bit_fields.specs.Groups.{numbers_at, spelled}
+use Rattle.frame_header.specs.declared.version.Version.{Version}
+use Rattle.frame_header.specs.declared.version.Version.TheVariants.{One, Two}
+use Rattle.frame_header.specs.Fields.{ClassFields}
+use Rattle.frame_header.specs.Tables.{granules_of}
+use Rattle.side_info.specs.declared.granule.Granule.{Granule}
+use Rattle.side_info.specs.declared.side.Side.{Side}
+use Rattle.side_info.specs.Granule.{no_granule, granule_at, granule_bits, granule_size, GranuleFits}
+
+-- the widths in bits of main_data_begin, the private bits, and (MPEG-1 alone) the scfsi of each channel
+abbrev pub front_widths_of : Version → ℕ → List ℕ
+front_widths_of One channels = if channels == 1 then 9 ∷ 5 ∷ 4 ∷ [] else 9 ∷ 3 ∷ 4 ∷ 4 ∷ []
+front_widths_of Two channels = if channels == 1 then 8 ∷ 1 ∷ [] else 8 ∷ 2 ∷ []
+
+abbrev pub front_widths : ClassFields → List ℕ
+front_widths c = front_widths_of c.version c.channels
+
+-- the granule and channel behind so many others
+abbrev pub nth_granule : Version → ℕ → List ℕ → Granule
+nth_granule version n bs = granule_at version (drop (n * granule_size version) bs)
+
+-- the channels of one granule, whose first stands behind so many others; one that the class lacks is all 0
+abbrev pub channels_at : ClassFields → ℕ → List ℕ → List Granule
+channels_at c n bs = nth_granule c.version n bs ∷ (if c.channels == 1 then no_granule else nth_granule c.version (n + 1) bs) ∷ []
+
+-- granule 0 with its channels, then granule 1, which MPEG-2 lacks
+abbrev pub granules_at : ClassFields → List ℕ → List (List Granule)
+granules_at c bs = channels_at c 0 bs ∷ (if granules_of c.version == 1 then no_granule ∷ no_granule ∷ [] else channels_at c c.channels bs) ∷ []
+
+-- the side fields of these bits; what the class lacks is 0
+unfoldable pub side_at : ClassFields → List ℕ → Side
+side_at c bs = let front = numbers_at (front_widths c) bs in record {
+  main_data_begin = slice_index front 0;
+  private_bits = slice_index front 1;
+  scfsi = slice_index front 2 ∷ slice_index front 3 ∷ [];
+  granules = granules_at c (drop (sum (front_widths c)) bs);
+}
+
+-- the granules and channels that the class has, in order
+unfoldable pub granules_in : ClassFields → Side → List Granule
+granules_in c s = flat_map (take c.channels) (take (granules_of c.version) s.granules)
+
+-- the bits of the side fields
+unfoldable pub side_bits : ClassFields → Side → List ℕ
+side_bits c s =
+  spelled (front_widths c) (s.main_data_begin ∷ s.private_bits ∷ s.scfsi) ++ flat_map (granule_bits c.version) (granules_in c s)
+
+-- a granule's channel; all 0 past the two of each
+abbrev pub granule_in : Side → ℕ → ℕ → Granule
+granule_in s granule channel = slice_index_or (slice_index_or s.granules granule []) channel no_granule
+
+-- the class has this granule and channel
+abbrev pub has_granule : ClassFields → ℕ → ℕ → Bool
+has_granule c granule channel = nat_lt granule (granules_of c.version) && nat_lt channel c.channels
+
+-- the bits of a front field, 0 for one that the class lacks
+abbrev pub front_width : ClassFields → ℕ → ℕ
+front_width c field = slice_index (front_widths c) field
+
+-- each field is within its bits for the class, and one that the class lacks is 0
+pub record SideFits (c : ClassFields) (s : Side) : Type 0 where
+  pub main_data_begin : s.main_data_begin < 2 ^ front_width c 0
+  pub private_bits : s.private_bits < 2 ^ front_width c 1
+  pub scfsi : (channel : ℕ) → slice_index s.scfsi channel < 2 ^ front_width c (2 + channel)
+  pub granules : (granule channel : ℕ) → MatchBool (has_granule c granule channel) (GranuleFits c.version (granule_in s granule channel)) (granule_in s granule channel ≡ no_granule)
+
+-- the main data of a frame in bits: the sum of its part2_3_length
+unfoldable pub payload_bits : Side → ℕ
+payload_bits s = sum_by (λ (channels : List Granule). sum_by (λ (g : Granule). g.part2_3_length) channels) s.granules
+
+-- the same in bytes, the last one maybe in part
+unfoldable pub payload_bytes : Side → ℕ
+payload_bytes s = (payload_bits s + 7) / 8

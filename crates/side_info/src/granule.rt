@@ -1,0 +1,22 @@
+//! The side information of one granule and channel.
+
+/// The fields of one granule and channel (ISO/IEC 11172-3 and 13818-3, 2.4.1.7). All 0 where the
+/// class lacks the granule or the channel.
+#[derive(Clone, Copy, Debug, PartialEq, Eq)]
+pub struct Granule {
+    /// The bits of main data: scale factors and Huffman codes, 12 bits.
+    pub part2_3_length: u16,
+    /// Pairs of spectral values in the big values, 9 bits.
+    pub big_values: u16,
+    /// The quantiser step in steps of 1.5 dB, 8 bits.
+    pub global_gain: u8,
+    /// 4 bits, in MPEG-2 9.
+    pub scalefac_compress: u16,
+    pub window_switching: bool,
+    /// The 22 bits behind `window_switching`, unread: block type and table numbers, as the flag says.
+    pub detail: u32,
+    /// False in MPEG-2, which lacks it.
+    pub preflag: bool,
+    pub scalefac_scale: bool,
+    pub count1table_select: bool,
+}

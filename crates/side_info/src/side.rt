@@ -1,0 +1,55 @@
+//! The side information of a frame.
+ghost use Rattle.std.specs.Prelude.{◌≡◌, length};
+ghost use Rattle.frame_header.specs.declared.version.Version.TheVariants.{One};
+ghost use Rattle.bit_fields.specs.Bits.{bits};
+ghost use Rattle.frame_header.specs.Tables.{side_size_of};
+ghost use Rattle.side_info.specs.Side.{side_at, side_bits, payload_bits, payload_bytes, SideFits};
+
+use crate::granule::Granule;
+use frame_header::Class;
+
+/// The side fields of a frame. What the class of the frame lacks is 0.
+#[derive(Clone, Copy, Debug, PartialEq, Eq)]
+pub struct Side {
+    /// How many bytes before the frame's own area its main data begin, counted over areas alone.
+    pub main_data_begin: u16,
+    pub private_bits: u8,
+    /// The scale factor selection of each channel, 4 bits; 0 in MPEG-2.
+    pub scfsi: [u8; 2],
+    /// `granules[g][c]` is granule g, channel c.
+    pub granules: [[Granule; 2]; 2],
+}
+
+impl Side {
+    /// Reads the side information of an MPEG-1 frame, all its bytes.
+    pub fn read(class: Class, bytes: &[u8]) -> Side
+        requires size { length bytes.now ≡ side_size_of class }
+        requires version { class.version ≡ One }
+        ensures side { result ≡ side_at class (bits bytes.now) }
+        ensures fits { SideFits class result }
+    {
+    }
+
+    /// Writes the side information of an MPEG-1 frame over all the bytes.
+    pub fn write(&self, class: Class, bytes: &mut [u8])
+        requires fits { SideFits class self.now }
+        requires size { length bytes.old ≡ side_size_of class }
+        requires version { class.version ≡ One }
+        ensures { bits bytes.new ≡ side_bits class self.now }
+    {
+    }
+
+    /// The main data of the frame in bits: the sum of the part2_3_length.
+    pub fn bits(&self) -> u32
+        ensures { result ≡ payload_bits self.now }
+    {
+        0
+    }
+
+    /// The main data of the frame in bytes, rounded up.
+    pub fn payload_bytes(&self) -> u32
+        ensures { result ≡ payload_bytes self.now }
+    {
+        self.bits().div_ceil(8)
+    }
+}
