@@ -1,11 +1,13 @@
 -- The laws of successive groups of bits: numbers and bits give each other back.
-use Rattle.std.proofs.Common.{◌≡◌, ℕ, suc, ◌+◌, ◌-◌, ◌*◌, ◌/◌, ◌%◌, ◌^◌, ◌<◌, ◌≤◌, List, [], ◌∷◌, ◌++◌, length, take, drop, refl, sym, ap, ap₂, ◌∙◌, append_assoc, append-nil, arith, sum, pow_mono, lt_of_lt_of_le, length-append, length-take, length-drop, take-append-drop}
+use Rattle.std.proofs.Common.{◌≡◌, ℕ, suc, ◌+◌, ◌-◌, ◌*◌, ◌/◌, ◌%◌, ◌^◌, ◌<◌, ◌≤◌, List, [], ◌∷◌, ◌++◌, length, take, drop, refl, sym, ap, subst, mod-eq_of_lt, ap₂, ◌∙◌, append_assoc, append-nil, arith, sum, pow_mono, lt_of_lt_of_le, length-append, length-take, length-drop, take-append-drop}
 use Rattle.std.proofs.Math.Seq.{take-add, drop-append-add}
 use Rattle.std.proofs.lemmas.List.{take_at, drop_at, drop-drop, take-append-le, drop-append-le, length-take-le, take_all, take-take, drop-take}
+use Rattle.std.proofs.Math.Nat.{add_comm}
+use Rattle.std.proofs.lemmas.Nat.{shr_high, pow-add, mul-add-lt}
 use Rattle.std.proofs.lemmas.List.Sums.{sum_by-cons, sum_by-append}
 use Rattle.bit_fields.specs.Bits.{bits_of, number, bits, AreBits}
 use Rattle.bit_fields.specs.Groups.{group, numbers_at, spelled, Fits}
-use Rattle.bit_fields.proofs.BitsLaws.{length-bits_of, number-below, number-bits_of-below, bits_of-number, AreBits-append, AreBits-take, AreBits-drop, AreBits-bits_of, take-bits, drop-bits, number-within}
+use Rattle.bit_fields.proofs.BitsLaws.{length-bits_of, number-below, number-bits_of, number-bits_of-below, number-append, bits_of-cat, bits_of-cat_low, take-bits_of, bits_of-number, AreBits-append, AreBits-take, AreBits-drop, AreBits-bits_of, take-bits, drop-bits, number-within}
 
 -- ---- how many bits
 pub sum-cons : (width : ℕ) (widths : List ℕ) → sum (width ∷ widths) ≡ width + sum widths
@@ -235,3 +237,74 @@ module _ (bs : List ℕ) (at width value : ℕ) (room : at + width ≤ length bs
       ∙ group-behind (from - (at + width)) size (take at bs ++ bits_of width value) (drop (at + width) bs)
       ∙ group-drop (at + width) (from - (at + width)) size bs
       ∙ ap (λ k. group k size bs) f
+
+-- ---- groups as parts of one number
+-- the numbers of successive groups of a number of so many bits
+unfoldable pub sliced : List ℕ → ℕ → List ℕ
+sliced [] n = []
+sliced (width ∷ widths) n = n / 2 ^ sum widths % 2 ^ width ∷ sliced widths n
+
+-- the number that has these in its groups
+unfoldable pub joined : List ℕ → List ℕ → ℕ
+joined [] ns = 0
+joined (width ∷ widths) [] = 0
+joined (width ∷ widths) (n ∷ ns) = n * 2 ^ sum widths + joined widths ns
+
+sliced_one : (width low place high n : ℕ) → width + low ≤ place → (high * 2 ^ place + n) / 2 ^ low % 2 ^ width ≡ n / 2 ^ low % 2 ^ width
+sliced_one width low place high n h =
+    sym (number-bits_of width ((high * 2 ^ place + n) / 2 ^ low))
+    ∙ ap number (sym (take-bits_of width low (high * 2 ^ place + n)) ∙ ap (take width) (bits_of-cat_low (width + low) place high n h) ∙ take-bits_of width low n)
+    ∙ number-bits_of width (n / 2 ^ low)
+
+-- bits above the groups don't count
+sliced-cat : (widths : List ℕ) (place high n : ℕ) → sum widths ≤ place → sliced widths (high * 2 ^ place + n) ≡ sliced widths n
+unfolding sliced
+sliced-cat [] place high n h = refl
+sliced-cat (width ∷ widths) place high n h =
+    let both : sum (width ∷ widths) ≡ width + sum widths = sum-cons width widths in
+    ap₂ (λ m ms. m ∷ ms) (sliced_one width (sum widths) place high n (omega arith)) (sliced-cat widths place high n (omega arith))
+
+pub numbers_at-number : (widths bs : List ℕ) → AreBits bs → length bs ≡ sum widths → numbers_at widths bs ≡ sliced widths (number bs)
+unfolding numbers_at sliced
+numbers_at-number [] bs all h = refl
+numbers_at-number (width ∷ widths) bs all h =
+    let both : sum (width ∷ widths) ≡ width + sum widths = sum-cons width widths in
+    let rest : length (drop width bs) ≡ sum widths = simp length-drop (omega arith) in
+    let upper : number bs ≡ number (take width bs) * 2 ^ sum widths + number (drop width bs) =
+    ap number (sym (take-append-drop width bs))
+    ∙ number-append (take width bs) (drop width bs)
+    ∙ ap (λ k. number (take width bs) * 2 ^ k + number (drop width bs)) rest in
+    let small : number (drop width bs) < 2 ^ sum widths = rw (← rest) (number-below (drop width bs) (AreBits-drop width bs all)) in
+    let l : length (take width bs) ≡ width = length-take-le width bs (omega arith) in
+    let low : number (take width bs) < 2 ^ width = subst (λ k. number (take width bs) < 2 ^ k) l (number-below (take width bs) (AreBits-take width bs all)) in
+    ap₂ (λ m ms. m ∷ ms)
+    (sym (mod-eq_of_lt low)
+    ∙ ap (λ m. m % 2 ^ width) (sym (shr_high (number (take width bs)) (sum widths) (number (drop width bs)) small) ∙ ap (λ m. m / 2 ^ sum widths) (sym upper)))
+    (numbers_at-number widths (drop width bs) (AreBits-drop width bs all) rest
+    ∙ sym (sliced-cat widths (sum widths) (number (take width bs)) (number (drop width bs)) (omega arith))
+    ∙ ap (sliced widths) (sym upper))
+
+-- the same where more bits follow
+pub numbers_at-number_front : (widths bs : List ℕ) → AreBits bs → sum widths ≤ length bs → numbers_at widths bs ≡ sliced widths (number (take (sum widths) bs))
+numbers_at-number_front widths bs all h =
+    sym (numbers_at-take widths bs (sum widths) (omega arith) h)
+    ∙ numbers_at-number widths (take (sum widths) bs) (AreBits-take (sum widths) bs all) (length-take-le (sum widths) bs h)
+
+pub joined-below : (widths ns : List ℕ) → Fits widths ns → joined widths ns < 2 ^ sum widths
+unfolding joined
+joined-below [] [] h = omega arith
+joined-below [] (n ∷ ns) h = absurd h
+joined-below (width ∷ widths) [] h = absurd h
+joined-below (width ∷ widths) (n ∷ ns) h =
+    rw (sum-cons width widths, add_comm width (sum widths), pow-add 2 (sum widths) width)
+    (mul-add-lt n (2 ^ sum widths) (joined widths ns) (2 ^ width) h.0 (joined-below widths ns h.1))
+
+pub spelled-joined : (widths ns : List ℕ) → Fits widths ns → spelled widths ns ≡ bits_of (sum widths) (joined widths ns)
+unfolding spelled joined bits_of
+spelled-joined [] [] h = refl
+spelled-joined [] (n ∷ ns) h = absurd h
+spelled-joined (width ∷ widths) [] h = absurd h
+spelled-joined (width ∷ widths) (n ∷ ns) h =
+    ap (λ bs. bits_of width n ++ bs) (spelled-joined widths ns h.1)
+    ∙ sym (bits_of-cat width (sum widths) n (joined widths ns) (joined-below widths ns h.1))
+    ∙ ap (λ k. bits_of k (n * 2 ^ sum widths + joined widths ns)) (sym (sum-cons width widths))
