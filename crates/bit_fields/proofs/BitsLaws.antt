@@ -1,12 +1,13 @@
 -- The laws of the bits of bytes and of the numbers that bits spell, general in their widths.
-use Rattle.std.proofs.Common.{◌≡◌, ℕ, zero, suc, ◌+◌, ◌-◌, ◌*◌, ◌/◌, ◌%◌, ◌^◌, ◌<◌, ◌≤◌, min, List, [], ◌∷◌, ◌++◌, length, get_or, take, drop, refl, sym, ap, ap₂, ◌∙◌, append_assoc, arith, rules, add-one, add-suc, add_assoc, append-nil, one-add, mul_assoc, mod-eq_of_lt, length-append, length-take, length-drop, take-append-drop}
-use Rattle.std.proofs.Math.Nat.{add_comm, zero-add, suc-add, pow-suc, mod-one, div-one, mul-add, add-mul}
+use Rattle.std.proofs.Common.{◌≡◌, ℕ, zero, suc, ◌+◌, ◌-◌, ◌*◌, ◌/◌, ◌%◌, ◌^◌, ◌<◌, ◌≤◌, List, [], ◌∷◌, ◌++◌, length, get_or, take, drop, refl, sym, ap, ap₂, ◌∙◌, append_assoc, arith, add_assoc, append-nil, one-add, mul_assoc, mod-eq_of_lt, length-append, length-drop, take-append-drop}
+use Rattle.std.proofs.Math.Nat.{add_comm, zero-add, suc-add, pow-suc, mod-one, add-mul}
 use Rattle.std.proofs.Math.Seq.{take-nil, take-append-add, drop-append-add}
 use Rattle.std.proofs.lemmas.List.{take_at, drop_at, length-take-le, drop_all, nil_from_length}
-use Rattle.std.specs.Int.{bit_at, from_be_bytes, w32}
-use Rattle.std.proofs.lemmas.Nat.{pow_pos, pow-add, shr-shr, shr_split, mod-pow-add, mod_below, mod_low, shr_high, mul-add-lt}
+use Rattle.std.specs.Int.{from_be_bytes, w32}
+use mir.Val.{Fits}
+use mir.Syntax.{w8}
+use Rattle.std.proofs.lemmas.Nat.{pow-add, shr-shr, shr_split, mod-pow-add, shr_high, mul-add-lt}
 use Rattle.std.proofs.lemmas.Nat.Bits.{bit_at-lt, bit_at_cat_low}
-use Rattle.std.proofs.lemmas.Grind.{common_steps}
 use Rattle.bit_fields.specs.Bits.{bits_of, number, bits, bytes, AreBits, AreBytes}
 
 -- ---- lengths
@@ -89,8 +90,8 @@ bits_of-number [] h = refl
 bits_of-number (b ∷ bs) h =
     let below : number bs < 2 ^ length bs = number-below bs h.1 in
     ap₂ (λ c cs. c ∷ cs)
-      (ap (λ n. n % 2) (shr_high b (length bs) (number bs) below) ∙ mod-eq_of_lt h.0)
-      (bits_of-cat_low (length bs) (length bs) b (number bs) (omega arith) ∙ bits_of-number bs h.1)
+    (ap (λ n. n % 2) (shr_high b (length bs) (number bs) below) ∙ mod-eq_of_lt h.0)
+    (bits_of-cat_low (length bs) (length bs) b (number bs) (omega arith) ∙ bits_of-number bs h.1)
 
 -- bits with one number and one length are one
 pub number-injective : (cs bs : List ℕ) → AreBits cs → AreBits bs → length cs ≡ length bs → number cs ≡ number bs → cs ≡ bs
@@ -104,8 +105,8 @@ bits_of-add zero low n = ap (λ w. bits_of w n) (zero-add low)
 bits_of-add (suc high) low n =
     rw suc-add
     (ap₂ (λ b bs. b ∷ bs)
-      (ap (λ m. m % 2) (ap (λ w. n / 2 ^ w) (add_comm high low) ∙ sym (shr-shr n low high)))
-      (bits_of-add high low n))
+    (ap (λ m. m % 2) (ap (λ w. n / 2 ^ w) (add_comm high low) ∙ sym (shr-shr n low high)))
+    (bits_of-add high low n))
 
 pub bits_of-cat : (high low a n : ℕ) → n < 2 ^ low → bits_of (high + low) (a * 2 ^ low + n) ≡ bits_of high a ++ bits_of low n
 bits_of-cat high low a n h =
@@ -185,6 +186,12 @@ pub bits-bits_of : (xs : List ℕ) → bits xs ≡ bits_of (8 * length xs) (numb
 bits-bits_of xs =
     sym (bits_of-number (bits xs) (AreBits-bits xs)) ∙ ap (λ w. bits_of w (number (bits xs))) (length-bits xs)
 
+pub length-left : (place : ℕ) (xs : List ℕ) → length (drop place (bits xs)) ≡ 8 * length xs - place
+length-left place xs = length-drop place (bits xs) ∙ ap (λ n. n - place) (length-bits xs)
+
+pub number-bits-below : (xs : List ℕ) → number (bits xs) < 2 ^ (8 * length xs)
+number-bits-below xs = rw (← length-bits xs) (number-below (bits xs) (AreBits-bits xs))
+
 pub number-bits-push : (xs : List ℕ) (x : ℕ) → x < 256 → number (bits (xs ++ x ∷ [])) ≡ number (bits xs) * 256 + x
 number-bits-push xs x h =
     ap number (bits-append xs (x ∷ []) ∙ ap (λ bs. bits xs ++ bs) (bits-one x))
@@ -257,8 +264,8 @@ bits-bytes (suc k) bs all h =
     ap bits (bytes-front bs m)
     ∙ bits-cons (number (take 8 bs)) (bytes (drop 8 bs))
     ∙ ap₂ (λ cs ds. cs ++ ds)
-      (ap (λ w. bits_of w (number (take 8 bs))) (sym e) ∙ bits_of-number (take 8 bs) (AreBits-take 8 bs all))
-      (bits-bytes k (drop 8 bs) (AreBits-drop 8 bs all) l)
+    (ap (λ w. bits_of w (number (take 8 bs))) (sym e) ∙ bits_of-number (take 8 bs) (AreBits-take 8 bs all))
+    (bits-bytes k (drop 8 bs) (AreBits-drop 8 bs all) l)
     ∙ take-append-drop 8 bs
 
 pub bits-injective : (xs ys : List ℕ) → AreBytes xs → AreBytes ys → bits xs ≡ bits ys → xs ≡ ys
@@ -283,6 +290,9 @@ AreBytes-drop (suc n) (x ∷ xs) h = AreBytes-drop n xs h.1
 pub AreBytes-from_places : (xs : List ℕ) → ((i : ℕ) → get_or xs i 0 < 256) → AreBytes xs
 AreBytes-from_places [] h = tt
 AreBytes-from_places (x ∷ xs) h = (h 0, AreBytes-from_places xs (λ i. h (suc i)))
+
+pub AreBytes-from_slice : (xs : List ℕ) → ((i : ℕ) → Fits w8 (get_or xs i 0)) → AreBytes xs
+AreBytes-from_slice xs h = AreBytes-from_places xs (λ i. let fits : Fits w8 (get_or xs i 0) = h i in omega arith)
 
 pub places_below : (xs : List ℕ) → AreBytes xs → (i : ℕ) → get_or xs i 0 < 256
 places_below [] h i = omega arith

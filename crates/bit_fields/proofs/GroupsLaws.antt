@@ -1,11 +1,13 @@
 -- The laws of successive groups of bits: numbers and bits give each other back.
-use Rattle.std.proofs.Common.{◌≡◌, ℕ, zero, suc, ◌+◌, ◌-◌, ◌*◌, ◌/◌, ◌%◌, ◌^◌, ◌<◌, ◌≤◌, min, List, [], ◌∷◌, ◌++◌, length, take, drop, refl, sym, ap, ap₂, ◌∙◌, append_assoc, append-nil, arith, sum, pow_mono, lt_of_lt_of_le, length-append, length-take, length-drop, take-append-drop}
+use Rattle.std.proofs.Common.{◌≡◌, ℕ, suc, ◌+◌, ◌-◌, ◌*◌, ◌/◌, ◌%◌, ◌^◌, ◌<◌, ◌≤◌, List, [], ◌∷◌, ◌++◌, length, take, drop, refl, sym, ap, subst, mod-eq_of_lt, ap₂, ◌∙◌, append_assoc, append-nil, arith, sum, pow_mono, lt_of_lt_of_le, length-append, length-take, length-drop, take-append-drop}
 use Rattle.std.proofs.Math.Seq.{take-add, drop-append-add}
-use Rattle.std.proofs.lemmas.List.{take_at, drop_at, drop-drop, take-append-le, drop-append-le, length-take-le, take_all}
+use Rattle.std.proofs.lemmas.List.{take_at, drop_at, drop-drop, take-append-le, drop-append-le, length-take-le, take_all, take-take, drop-take}
+use Rattle.std.proofs.Math.Nat.{add_comm}
+use Rattle.std.proofs.lemmas.Nat.{shr_high, pow-add, mul-add-lt}
 use Rattle.std.proofs.lemmas.List.Sums.{sum_by-cons, sum_by-append}
-use Rattle.bit_fields.specs.Bits.{bits_of, number, AreBits}
+use Rattle.bit_fields.specs.Bits.{bits_of, number, bits, AreBits}
 use Rattle.bit_fields.specs.Groups.{group, numbers_at, spelled, Fits}
-use Rattle.bit_fields.proofs.BitsLaws.{length-bits_of, number-below, number-bits_of-below, bits_of-number, AreBits-append, AreBits-take, AreBits-drop, AreBits-bits_of}
+use Rattle.bit_fields.proofs.BitsLaws.{length-bits_of, number-below, number-bits_of, number-bits_of-below, number-append, bits_of-cat, bits_of-cat_low, take-bits_of, bits_of-number, AreBits-append, AreBits-take, AreBits-drop, AreBits-bits_of, take-bits, drop-bits, number-within}
 
 -- ---- how many bits
 pub sum-cons : (width : ℕ) (widths : List ℕ) → sum (width ∷ widths) ≡ width + sum widths
@@ -86,8 +88,8 @@ numbers_at-spelled_more (width ∷ widths) (n ∷ ns) more h =
     let l : length (bits_of width n) ≡ width = length-bits_of width n in
     rw append_assoc
     (ap₂ (λ m ms. m ∷ ms)
-      (ap number (take_at (bits_of width n) (spelled widths ns ++ more) width l) ∙ number-bits_of-below width n h.0)
-      (ap (numbers_at widths) (drop_at (bits_of width n) (spelled widths ns ++ more) width l) ∙ numbers_at-spelled_more widths ns more h.1))
+    (ap number (take_at (bits_of width n) (spelled widths ns ++ more) width l) ∙ number-bits_of-below width n h.0)
+    (ap (numbers_at widths) (drop_at (bits_of width n) (spelled widths ns ++ more) width l) ∙ numbers_at-spelled_more widths ns more h.1))
 
 pub numbers_at-spelled : (widths ns : List ℕ) → Fits widths ns → numbers_at widths (spelled widths ns) ≡ ns
 numbers_at-spelled widths ns h =
@@ -102,8 +104,8 @@ spelled-numbers_at_front (width ∷ widths) bs all h =
     let l : length (take width bs) ≡ width = length-take-le width bs (omega arith) in
     let m : sum widths ≤ length (drop width bs) = simp length-drop (omega arith) in
     ap₂ (λ cs ds. cs ++ ds)
-      (ap (λ w. bits_of w (number (take width bs))) (sym l) ∙ bits_of-number (take width bs) (AreBits-take width bs all))
-      (spelled-numbers_at_front widths (drop width bs) (AreBits-drop width bs all) m)
+    (ap (λ w. bits_of w (number (take width bs))) (sym l) ∙ bits_of-number (take width bs) (AreBits-take width bs all))
+    (spelled-numbers_at_front widths (drop width bs) (AreBits-drop width bs all) m)
     ∙ sym (take-add width (sum widths) bs)
     ∙ ap (λ n. take n bs) (sym both)
 
@@ -122,8 +124,8 @@ unfolding numbers_at
 numbers_at-append [] more bs = refl
 numbers_at-append (width ∷ widths) more bs =
     ap (λ ns. number (take width bs) ∷ ns)
-      (numbers_at-append widths more (drop width bs)
-       ∙ ap (λ ds. numbers_at widths (drop width bs) ++ numbers_at more ds) (drop-drop (sum widths) width bs ∙ ap (λ n. drop n bs) (sym (sum-cons width widths))))
+    (numbers_at-append widths more (drop width bs)
+    ∙ ap (λ ds. numbers_at widths (drop width bs) ++ numbers_at more ds) (drop-drop (sum widths) width bs ∙ ap (λ n. drop n bs) (sym (sum-cons width widths))))
 
 pub spelled-append : (widths more ns ms : List ℕ) → length ns ≡ length widths → spelled (widths ++ more) (ns ++ ms) ≡ spelled widths ns ++ spelled more ms
 unfolding spelled
@@ -148,8 +150,8 @@ numbers_at-front (width ∷ widths) bs more h =
     let both : sum (width ∷ widths) ≡ width + sum widths = sum-cons width widths in
     let m : sum widths ≤ length (drop width bs) = simp length-drop (omega arith) in
     ap₂ (λ n ns. n ∷ ns)
-      (ap number (take-append-le width bs more (omega arith)))
-      (ap (numbers_at widths) (drop-append-le width bs more (omega arith)) ∙ numbers_at-front widths (drop width bs) more m)
+    (ap number (take-append-le width bs more (omega arith)))
+    (ap (numbers_at widths) (drop-append-le width bs more (omega arith)) ∙ numbers_at-front widths (drop width bs) more m)
 
 pub numbers_at-take : (widths bs : List ℕ) (n : ℕ) → sum widths ≤ n → n ≤ length bs → numbers_at widths (take n bs) ≡ numbers_at widths bs
 numbers_at-take widths bs n h l =
@@ -164,6 +166,14 @@ group-front from width bs more h =
     ap (λ cs. number (take width cs)) (drop-append-le from bs more (omega arith))
     ∙ ap number (take-append-le width (drop from bs) more m)
 
+pub group-take : (from width n : ℕ) (bs : List ℕ) → from + width ≤ n → group from width (take n bs) ≡ group from width bs
+unfolding group
+group-take from width n bs h =
+    let e : from + (n - from) ≡ n = omega arith in
+    ap (λ k. number (take width (drop from (take k bs)))) (sym e)
+    ∙ ap (λ ds. number (take width ds)) (drop-take from (n - from) bs)
+    ∙ ap number (take-take width (n - from) (drop from bs) (omega arith))
+
 -- a group behind a front
 pub group-behind : (from width : ℕ) (cs bs : List ℕ) → group (length cs + from) width (cs ++ bs) ≡ group from width bs
 unfolding group
@@ -172,3 +182,129 @@ group-behind from width cs bs = ap (λ ds. number (take width ds)) (drop-append-
 pub group-drop : (more from width : ℕ) (bs : List ℕ) → group from width (drop more bs) ≡ group (more + from) width bs
 unfolding group
 group-drop more from width bs = ap (λ ds. number (take width ds)) (drop-drop from more bs)
+
+-- a group of the bits of bytes is one of the bits of those bytes that it reaches
+pub group-bits_part : (from width first count : ℕ) (xs : List ℕ) → 8 * first ≤ from → from + width ≤ 8 * (first + count) → group from width (bits xs) ≡ group (from - 8 * first) width (bits (take count (drop first xs)))
+group-bits_part from width first count xs h l =
+    let e : 8 * first + (from - 8 * first) ≡ from = omega arith in
+    ap (λ k. group k width (bits xs)) (sym e)
+    ∙ sym (group-drop (8 * first) (from - 8 * first) width (bits xs))
+    ∙ ap (group (from - 8 * first) width) (drop-bits first xs)
+    ∙ sym (group-take (from - 8 * first) width (8 * count) (bits (drop first xs)) (omega arith))
+    ∙ ap (group (from - 8 * first) width) (take-bits count (drop first xs))
+
+-- a group as a part of the number of all bits
+pub group-number : (from width : ℕ) (bs : List ℕ) → AreBits bs → from + width ≤ length bs → group from width bs ≡ number bs / 2 ^ (length bs - from - width) % 2 ^ width
+unfolding group
+group-number from width bs h l = number-within from width bs h l
+
+-- ---- a group put in place
+module _ (bs : List ℕ) (at width value : ℕ) (room : at + width ≤ length bs) where
+  pub length-put : length (take at bs ++ bits_of width value ++ drop (at + width) bs) ≡ length bs
+  length-put =
+      let front : length (take at bs) ≡ at = length-take-le at bs (omega arith) in
+      omega (arith, length-append (take at bs ++ bits_of width value) (drop (at + width) bs), length-append (take at bs) (bits_of width value), length-bits_of width value, length-drop (at + width) bs)
+
+  pub AreBits-put : AreBits bs → AreBits (take at bs ++ bits_of width value ++ drop (at + width) bs)
+  AreBits-put h =
+      AreBits-append (take at bs ++ bits_of width value) (drop (at + width) bs)
+      (AreBits-append (take at bs) (bits_of width value) (AreBits-take at bs h) (AreBits-bits_of width value))
+      (AreBits-drop (at + width) bs h)
+
+  -- it holds the value
+  pub group-put_same : value < 2 ^ width → group at width (take at bs ++ bits_of width value ++ drop (at + width) bs) ≡ value
+  unfolding group
+  group-put_same fits =
+      ap (λ cs. number (take width (drop at cs))) (append_assoc (take at bs) (bits_of width value) (drop (at + width) bs))
+      ∙ ap (λ cs. number (take width cs)) (drop_at (take at bs) (bits_of width value ++ drop (at + width) bs) at (length-take-le at bs (omega arith)))
+      ∙ ap number (take_at (bits_of width value) (drop (at + width) bs) width (length-bits_of width value))
+      ∙ number-bits_of-below width value fits
+
+  -- groups before it stay
+  pub group-put_before : (from size : ℕ) → from + size ≤ at → group from size (take at bs ++ bits_of width value ++ drop (at + width) bs) ≡ group from size bs
+  group-put_before from size h =
+      ap (group from size) (append_assoc (take at bs) (bits_of width value) (drop (at + width) bs))
+      ∙ group-front from size (take at bs) (bits_of width value ++ drop (at + width) bs) (simp length-take (omega arith))
+      ∙ group-take from size at bs h
+
+  -- groups behind it stay
+  pub group-put_behind : (from size : ℕ) → at + width ≤ from → group from size (take at bs ++ bits_of width value ++ drop (at + width) bs) ≡ group from size bs
+  group-put_behind from size h =
+      let l : length (take at bs ++ bits_of width value) ≡ at + width = length-append (take at bs) (bits_of width value) ∙ ap₂ (λ m n. m + n) (length-take-le at bs (omega arith)) (length-bits_of width value) in
+      let e : length (take at bs ++ bits_of width value) + (from - (at + width)) ≡ from = omega arith in
+      let f : at + width + (from - (at + width)) ≡ from = omega arith in
+      ap (λ k. group k size (take at bs ++ bits_of width value ++ drop (at + width) bs)) (sym e)
+      ∙ group-behind (from - (at + width)) size (take at bs ++ bits_of width value) (drop (at + width) bs)
+      ∙ group-drop (at + width) (from - (at + width)) size bs
+      ∙ ap (λ k. group k size bs) f
+
+-- ---- groups as parts of one number
+-- the numbers of successive groups of a number of so many bits
+unfoldable pub sliced : List ℕ → ℕ → List ℕ
+sliced [] n = []
+sliced (width ∷ widths) n = n / 2 ^ sum widths % 2 ^ width ∷ sliced widths n
+
+-- the number that has these in its groups
+unfoldable pub joined : List ℕ → List ℕ → ℕ
+joined [] ns = 0
+joined (width ∷ widths) [] = 0
+joined (width ∷ widths) (n ∷ ns) = n * 2 ^ sum widths + joined widths ns
+
+sliced_one : (width low place high n : ℕ) → width + low ≤ place → (high * 2 ^ place + n) / 2 ^ low % 2 ^ width ≡ n / 2 ^ low % 2 ^ width
+sliced_one width low place high n h =
+    sym (number-bits_of width ((high * 2 ^ place + n) / 2 ^ low))
+    ∙ ap number (sym (take-bits_of width low (high * 2 ^ place + n)) ∙ ap (take width) (bits_of-cat_low (width + low) place high n h) ∙ take-bits_of width low n)
+    ∙ number-bits_of width (n / 2 ^ low)
+
+-- bits above the groups don't count
+sliced-cat : (widths : List ℕ) (place high n : ℕ) → sum widths ≤ place → sliced widths (high * 2 ^ place + n) ≡ sliced widths n
+unfolding sliced
+sliced-cat [] place high n h = refl
+sliced-cat (width ∷ widths) place high n h =
+    let both : sum (width ∷ widths) ≡ width + sum widths = sum-cons width widths in
+    ap₂ (λ m ms. m ∷ ms) (sliced_one width (sum widths) place high n (omega arith)) (sliced-cat widths place high n (omega arith))
+
+pub numbers_at-number : (widths bs : List ℕ) → AreBits bs → length bs ≡ sum widths → numbers_at widths bs ≡ sliced widths (number bs)
+unfolding numbers_at sliced
+numbers_at-number [] bs all h = refl
+numbers_at-number (width ∷ widths) bs all h =
+    let both : sum (width ∷ widths) ≡ width + sum widths = sum-cons width widths in
+    let rest : length (drop width bs) ≡ sum widths = simp length-drop (omega arith) in
+    let upper : number bs ≡ number (take width bs) * 2 ^ sum widths + number (drop width bs) =
+    ap number (sym (take-append-drop width bs))
+    ∙ number-append (take width bs) (drop width bs)
+    ∙ ap (λ k. number (take width bs) * 2 ^ k + number (drop width bs)) rest in
+    let small : number (drop width bs) < 2 ^ sum widths = rw (← rest) (number-below (drop width bs) (AreBits-drop width bs all)) in
+    let l : length (take width bs) ≡ width = length-take-le width bs (omega arith) in
+    let low : number (take width bs) < 2 ^ width = subst (λ k. number (take width bs) < 2 ^ k) l (number-below (take width bs) (AreBits-take width bs all)) in
+    ap₂ (λ m ms. m ∷ ms)
+    (sym (mod-eq_of_lt low)
+    ∙ ap (λ m. m % 2 ^ width) (sym (shr_high (number (take width bs)) (sum widths) (number (drop width bs)) small) ∙ ap (λ m. m / 2 ^ sum widths) (sym upper)))
+    (numbers_at-number widths (drop width bs) (AreBits-drop width bs all) rest
+    ∙ sym (sliced-cat widths (sum widths) (number (take width bs)) (number (drop width bs)) (omega arith))
+    ∙ ap (sliced widths) (sym upper))
+
+-- the same where more bits follow
+pub numbers_at-number_front : (widths bs : List ℕ) → AreBits bs → sum widths ≤ length bs → numbers_at widths bs ≡ sliced widths (number (take (sum widths) bs))
+numbers_at-number_front widths bs all h =
+    sym (numbers_at-take widths bs (sum widths) (omega arith) h)
+    ∙ numbers_at-number widths (take (sum widths) bs) (AreBits-take (sum widths) bs all) (length-take-le (sum widths) bs h)
+
+pub joined-below : (widths ns : List ℕ) → Fits widths ns → joined widths ns < 2 ^ sum widths
+unfolding joined
+joined-below [] [] h = omega arith
+joined-below [] (n ∷ ns) h = absurd h
+joined-below (width ∷ widths) [] h = absurd h
+joined-below (width ∷ widths) (n ∷ ns) h =
+    rw (sum-cons width widths, add_comm width (sum widths), pow-add 2 (sum widths) width)
+    (mul-add-lt n (2 ^ sum widths) (joined widths ns) (2 ^ width) h.0 (joined-below widths ns h.1))
+
+pub spelled-joined : (widths ns : List ℕ) → Fits widths ns → spelled widths ns ≡ bits_of (sum widths) (joined widths ns)
+unfolding spelled joined bits_of
+spelled-joined [] [] h = refl
+spelled-joined [] (n ∷ ns) h = absurd h
+spelled-joined (width ∷ widths) [] h = absurd h
+spelled-joined (width ∷ widths) (n ∷ ns) h =
+    ap (λ bs. bits_of width n ++ bs) (spelled-joined widths ns h.1)
+    ∙ sym (bits_of-cat width (sum widths) n (joined widths ns) (joined-below widths ns h.1))
+    ∙ ap (λ k. bits_of k (n * 2 ^ sum widths + joined widths ns)) (sym (sum-cons width widths))

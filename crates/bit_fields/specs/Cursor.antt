@@ -1,5 +1,5 @@
 -- A place among the bits of bytes.
-use Rattle.std.specs.Prelude.{ℕ, ◌+◌, List, take, drop}
+use Rattle.std.specs.Prelude.{ℕ, ◌+◌, List, drop}
 
 -- how many bits were taken, and the bits that are left
 pub record Cursor : Type 0 where

@@ -1,5 +1,5 @@
 -- A format as a list of widths: successive groups of so many bits each, as the tables of a standard give them.
-use Rattle.std.specs.Prelude.{ℕ, ◌+◌, ◌^◌, ◌<◌, List, [], ◌∷◌, ◌++◌, take, drop}
+use Rattle.std.specs.Prelude.{ℕ, ◌^◌, ◌<◌, List, [], ◌∷◌, ◌++◌, take, drop}
 use Rattle.bit_fields.specs.Bits.{bits_of, number}
 
 -- the number of the group of so many bits that begins at a bit

@@ -2,7 +2,37 @@
 #![tactic(auto)]
 
 mod reader;
+mod window;
 mod writer;
 
 pub use reader::Bits;
 pub use writer::put;
+
+#[cfg(test)]
+mod tests {
+    use super::{Bits, put};
+
+    // The first eight side bytes of an MPEG-1 frame of two channels, ISO/IEC 11172-3, 2.4.1.7.
+    const SIDE: [u8; 8] = [0x00, 0x00, 0x00, 0x08, 0x00, 0x32, 0x00, 0x00];
+
+    #[test]
+    fn takes_the_first_fields_of_a_side_information(rt: HostRuntime) {
+        let mut bits = Bits::new(&SIDE);
+        assert_eq!(rt; bits.take(20), Some(0), "begin, private bits and scfsi");
+        assert_eq!(rt; bits.take(12), Some(8), "part2_3_length");
+        assert_eq!(rt; bits.take(9), Some(0), "big_values");
+        assert_eq!(rt; bits.take(8), Some(100), "global_gain");
+        assert_eq!(rt; bits.place(), 49);
+        assert_eq!(rt; bits.left(), 15);
+        assert_eq!(rt; bits.take(16), None);
+        assert_eq!(rt; bits.place(), 49);
+        assert_eq!(rt; bits.take(0), Some(0));
+    }
+
+    #[test]
+    fn puts_a_gain(rt: HostRuntime) {
+        let mut bytes = SIDE;
+        put(&mut bytes, 41, 8, 101);
+        assert_eq!(rt; bytes, [0x00, 0x00, 0x00, 0x08, 0x00, 0x32, 0x80, 0x00]);
+    }
+}

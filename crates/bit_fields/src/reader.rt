@@ -3,6 +3,7 @@ ghost use Rattle.std.specs.Prelude.{◌≡◌, ◌+◌, ◌*◌, ◌^◌, ◌<�
 ghost use Rattle.bit_fields.specs.Bits.{bits, number};
 ghost use Rattle.bit_fields.specs.Cursor.{advanced};
 
+use crate::window::number_at;
 use std::marker::Model;
 
 /// A place among the bits of a byte slice, the most significant bit of each byte first.
@@ -59,6 +60,11 @@ impl<'a> Bits<'a> {
         ensures moves { IfSome result (λ v. self.new ≡ advanced self.old n) }
         ensures stays { IfNone result (self.new ≡ self.old) }
     {
-        None
+        if self.left() < n as usize {
+            return None;
+        }
+        let value = number_at(self.bytes, self.place, n);
+        self.place += n as usize;
+        Some(value)
     }
 }

@@ -1,0 +1,57 @@
+//! The few bytes around a group of bits, as one number.
+ghost use Rattle.std.specs.Prelude.{◌≡◌, ◌+◌, ◌*◌, ◌/◌, ◌%◌, ◌^◌, ◌<◌, ◌≤◌, length};
+ghost use Rattle.bit_fields.specs.Bits.{bits, bits_of, number};
+ghost use Rattle.bit_fields.specs.Groups.{group};
+
+/// The number of at most five bytes, the most significant first.
+pub(crate) fn number_of(bytes: &[u8]) -> u64
+    requires { length bytes.now ≤ 5 }
+    ensures { result ≡ number (bits bytes.now) }
+{
+    let mut window = 0;
+    for byte in bytes {
+        window = window * 256 + u64::from(*byte);
+    }
+    window
+}
+
+/// The bytes become those of the number, the most significant first.
+pub(crate) fn set_number(bytes: &mut [u8], window: u64)
+    requires few { length bytes.old ≤ 5 }
+    requires fits { window < 2 ^ (8 * length bytes.old) }
+    ensures { bits bytes.new ≡ bits_of (8 * length bytes.old) window }
+{
+    let mut rest = window;
+    for i in (0..bytes.len()).rev() {
+        bytes[i] = (rest % 256) as u8;
+        rest /= 256;
+    }
+}
+
+/// The number with the value in place of the n bits above its lowest `low` bits.
+pub(crate) fn with_group(window: u64, n: u32, low: u32, value: u32) -> u64
+    requires small { window < 2 ^ 40 }
+    requires few { n ≤ 32 }
+    requires part { low < 8 }
+    requires fits { value < 2 ^ n }
+    ensures { result ≡ (window / 2 ^ (n + low) * 2 ^ n + value) * 2 ^ low + window % 2 ^ low }
+{
+    let above = window >> (n + low);
+    let below = window % (1 << low);
+    (((above << n) + u64::from(value)) << low) + below
+}
+
+/// The number of the n bits from bit `at` on, at most 32 of them.
+pub(crate) fn number_at(bytes: &[u8], at: usize, n: u32) -> u32
+    requires few { n ≤ 32 }
+    requires room { at + n ≤ 8 * length bytes.now }
+    requires short { length bytes.now ≤ 2 ^ 28 }
+    ensures value { result ≡ group at n (bits bytes.now) }
+    ensures below { result < 2 ^ n }
+{
+    let end = at + n as usize;
+    let first = at / 8;
+    let last = (end + 7) / 8;
+    let window = number_of(&bytes[first..last]);
+    ((window >> (8 * last - end) as u32) % (1 << n)) as u32
+}
