@@ -1,0 +1,12 @@
+//! The program but for its `main`: the words that it takes, and the lines that it writes.
+#![tactic(auto)]
+
+mod fault;
+mod jobs;
+mod shift;
+mod words;
+
+pub use fault::EditFault;
+pub use jobs::Job;
+pub use shift::{Channels, Shift};
+pub use words::job;
