@@ -14,7 +14,10 @@ pub fn write_all<D: Folder>(folder: &mut D, name: &str, bytes: &[u8]) -> Result<
     ensures failed { OnErr result (Rose (D.counts folder.old).write_faults (D.counts folder.new).write_faults) }
     ensures counts { OnlyWrites (D.counts folder.old) (D.counts folder.new) }
 {
-    folder.write(name, bytes)?;
+    let mut done = 0;
+    while done < bytes.len() {
+        done += folder.write(name, &bytes[done..])?;
+    }
     Ok(())
 }
 
@@ -24,7 +27,10 @@ pub fn send_all<T: Sink>(sink: &mut T, bytes: &[u8]) -> Result<(), Failed>
     ensures front { OnErr result ((k : ℕ) × (k ≤ length bytes.now) × (T.sent sink.new ≡ sent_more (T.sent sink.old) (take k bytes.now))) }
     ensures cause { HasCause (T.faults sink.old) (T.faults sink.new) result }
 {
-    sink.write(bytes)?;
+    let mut done = 0;
+    while done < bytes.len() {
+        done += sink.write(&bytes[done..])?;
+    }
     Ok(())
 }
 
@@ -47,5 +53,13 @@ pub fn read_full<D: Folder>(
     ensures files { D.files folder.new ≡ D.files folder.old }
     ensures counts { OnlyReads (D.counts folder.old) (D.counts folder.new) }
 {
-    folder.read(name, at, into)
+    let mut done = 0;
+    while done < into.len() {
+        let got = folder.read(name, at + done as u64, &mut into[done..])?;
+        if got == 0 {
+            return Ok(done);
+        }
+        done += got;
+    }
+    Ok(done)
 }

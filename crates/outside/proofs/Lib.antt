@@ -1,0 +1,3 @@
+pub mod FilesLaws
+pub mod CountsLaws
+pub mod Pieces

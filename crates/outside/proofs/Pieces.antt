@@ -1,0 +1,66 @@
+-- A piece that is written or read in several calls, one behind the other.
+use Rattle.std.proofs.Common.{◌≡◌, ℕ, ◌+◌, ◌-◌, ◌≤◌, List, ◌++◌, length, take, drop, sym, ◌∙◌, ap, arith, length-append, length-drop}
+use Rattle.std.proofs.lemmas.List.{length-take-le, take-take, drop-take, drop-drop, take-append-drop, take_all, drop_all, append-nil}
+use Rattle.std.proofs.Math.Seq.{take-append-add, drop-append-add}
+use borrow.Rule.Slice.PartMut.{put_mid}
+use Rattle.outside.specs.Files.{Files, Sent, appended, sent_more}
+use Rattle.outside.proofs.FilesLaws.{appended-appended, sent_more-sent_more}
+
+-- a front and what follows it
+pub take_then : {X : Type 0} (m n : ℕ) (xs : List X) → take (m + n) xs ≡ take m xs ++ take n (drop m xs)
+take_then m n xs =
+    sym (take-append-drop m (take (m + n) xs))
+    ∙ ap (λ front. front ++ drop m (take (m + n) xs)) (take-take m (m + n) xs (omega arith))
+    ∙ ap (λ back. take m xs ++ back) (drop-take m n xs)
+
+-- the part from m on, as code that slices it says it
+pub part_from : {X : Type 0} (m : ℕ) (xs : List X) → take (length xs - m) (drop m xs) ≡ drop m xs
+part_from m xs = take_all (length xs - m) (drop m xs) (omega (arith, length-drop m xs))
+
+-- files that got a front, and then the next part of the bytes
+pub appended_then : (old before now : Files) (name bytes : List ℕ) (m n : ℕ) → before ≡ appended old name (take m bytes) → now ≡ appended before name (take n (drop m bytes)) → now ≡ appended old name (take (m + n) bytes)
+appended_then old before now name bytes m n first then =
+    then
+    ∙ ap (λ files. appended files name (take n (drop m bytes))) first
+    ∙ appended-appended old name (take m bytes) (take n (drop m bytes))
+    ∙ ap (appended old name) (sym (take_then m n bytes))
+
+pub sent_then : (old before now : Sent) (bytes : List ℕ) (m n : ℕ) → before ≡ sent_more old (take m bytes) → now ≡ sent_more before (take n (drop m bytes)) → now ≡ sent_more old (take (m + n) bytes)
+sent_then old before now bytes m n first then =
+    then
+    ∙ ap (λ sent. sent_more sent (take n (drop m bytes))) first
+    ∙ sent_more-sent_more old (take m bytes) (take n (drop m bytes))
+    ∙ ap (sent_more old) (sym (take_then m n bytes))
+
+-- a list with its end, from m on, filled anew
+module _ (m n : ℕ) (xs ys : List ℕ) (in_range : m ≤ length xs) (as_many : length ys ≡ length xs - m) where
+  pub refilled : put_mid m (length xs - m) xs ys ≡ take m xs ++ ys
+  refilled =
+      ap (λ (back : List ℕ). take m xs ++ (ys ++ back)) (drop_all (length xs - m) (drop m xs) (omega (arith, length-drop m xs)))
+      ∙ ap (λ (back : List ℕ). take m xs ++ back) (append-nil ys)
+
+  front : length (take m xs) ≡ m
+  front = length-take-le m xs in_range
+
+  take_front : take (m + n) (take m xs ++ ys) ≡ take m xs ++ take n ys
+  take_front = ap (λ k. take (k + n) (take m xs ++ ys)) (sym front) ∙ take-append-add (take m xs) ys n
+
+  drop_front : drop (m + n) (take m xs ++ ys) ≡ drop n ys
+  drop_front = ap (λ k. drop (k + n) (take m xs ++ ys)) (sym front) ∙ drop-append-add (take m xs) ys n
+
+  pub length_refilled : length (put_mid m (length xs - m) xs ys) ≡ length xs
+  length_refilled = ap length refilled ∙ length-append (take m xs) ys ∙ omega (arith, front)
+
+  -- m items that are there and n more
+  pub take_refilled : (all : List ℕ) → take m xs ≡ take m all → take n ys ≡ take n (drop m all) → take (m + n) (put_mid m (length xs - m) xs ys) ≡ take (m + n) all
+  take_refilled all here more =
+      ap (take (m + n)) refilled
+      ∙ take_front
+      ∙ ap (λ (list : List ℕ). list ++ take n ys) here
+      ∙ ap (λ (list : List ℕ). take m all ++ list) more
+      ∙ sym (take_then m n all)
+
+  -- what lies past them
+  pub drop_refilled : (old : List ℕ) → drop m xs ≡ drop m old → drop n ys ≡ drop n (drop m xs) → drop (m + n) (put_mid m (length xs - m) xs ys) ≡ drop (m + n) old
+  drop_refilled old here more =
+      ap (drop (m + n)) refilled ∙ drop_front ∙ more ∙ ap (drop n) here ∙ drop-drop n m old

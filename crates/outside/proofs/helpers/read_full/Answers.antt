@@ -1,0 +1,26 @@
+use Rattle.std.proofs.Common.{◌≡◌, ◌-◌, length, take, drop, sym, ◌∙◌, ap, subst, arith, length-drop}
+use Rattle.std.proofs.lemmas.List.{drop-drop}
+use Rattle.outside.specs.Files.{Holds}
+use Rattle.outside.proofs.CountsLaws.{only_reads_then}
+use Rattle.outside.proofs.Pieces.{part_from, length_refilled, take_refilled, drop_refilled}
+use Rattle.outside.proofs.helpers.read_full.Goals as goal
+
+pub loop-done-preserved : goal.loop-done-preserved
+loop-done-preserved g c =
+    let m = c.loop-done.done in
+    let n = c.in_ok-got.got in
+    let xs = c.loop-done.into in
+    let ys = c.read.new.into in
+    let invariant = c.loop-done.invariant in
+    let as_many : length ys ≡ length xs - m = (rw part_from at c.read.auto.into) ∙ length-drop m xs in
+    let size = length_refilled m n xs ys invariant.in_range as_many in
+    record {
+      in_range = omega (arith, size, as_many, rw part_from at c.in_ok-got.ensures.bound, length-drop m xs);
+      read = λ bytes holds.
+          take_refilled m n xs ys invariant.in_range as_many (drop c.args.at bytes) (invariant.read bytes holds)
+          (c.in_ok-got.ensures.bytes bytes (subst (λ f. Holds f c.args.name.now bytes) (sym invariant.files) holds) ∙ ap (take n) (sym (drop-drop m c.args.at bytes)));
+      within = λ bytes holds. omega (arith, invariant.within bytes holds, c.in_ok-got.ensures.within bytes (subst (λ f. Holds f c.args.name.now bytes) (sym invariant.files) holds));
+      rest = drop_refilled m n xs ys invariant.in_range as_many c.args.into.now invariant.rest (rw part_from at c.in_ok-got.ensures.rest);
+      files = c.in_ok-got.ensures.files ∙ invariant.files;
+      counts = only_reads_then _ _ _ invariant.counts c.in_ok-got.ensures.counts;
+    }

@@ -1,0 +1,17 @@
+use Rattle.std.proofs.Common.{◌≡◌, ℕ, ◌-◌, ◌≤◌, List, length, take, drop}
+use Rattle.outside.specs.Files.{Holds}
+use Rattle.outside.specs.Counts.{OnlyReads}
+use Rattle.outside.proofs.helpers.read_full.Given as goal
+
+abbrev pub invariant-loop-done : goal.invariant-loop-done
+invariant-loop-done g l = record {
+  in_range : l.done ≤ length l.into;
+  read : (bytes : List ℕ) → Holds (g.D.Folder.files l.initial.folder) l.name bytes → take l.done l.into ≡ take l.done (drop l.at bytes);
+  within : (bytes : List ℕ) → Holds (g.D.Folder.files l.initial.folder) l.name bytes → l.done ≤ length bytes - l.at;
+  rest : drop l.done l.into ≡ drop l.done l.initial.into;
+  files : g.D.Folder.files l.folder ≡ g.D.Folder.files l.initial.folder;
+  counts : OnlyReads (g.D.Folder.counts l.initial.folder) (g.D.Folder.counts l.folder);
+}
+
+abbrev pub decreases-loop-done : goal.decreases-loop-done
+decreases-loop-done g l = length l.into - l.done

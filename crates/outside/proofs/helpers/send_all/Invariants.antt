@@ -1,0 +1,13 @@
+use Rattle.std.proofs.Common.{◌≡◌, ◌-◌, ◌≤◌, length, take}
+use Rattle.outside.specs.Files.{sent_more}
+use Rattle.outside.proofs.helpers.send_all.Given as goal
+
+abbrev pub invariant-loop-done : goal.invariant-loop-done
+invariant-loop-done g l = record {
+  in_range : l.done ≤ length l.bytes;
+  sent : g.T.Sink.sent l.sink ≡ sent_more (g.T.Sink.sent l.initial.sink) (take l.done l.bytes);
+  later : g.T.Sink.faults l.initial.sink ≤ g.T.Sink.faults l.sink;
+}
+
+abbrev pub decreases-loop-done : goal.decreases-loop-done
+decreases-loop-done g l = length l.bytes - l.done

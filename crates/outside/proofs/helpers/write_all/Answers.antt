@@ -1,0 +1,28 @@
+use Rattle.std.proofs.Common.{◌≡◌, ◌+◌, take, sym, subst, arith, length-drop}
+use Rattle.outside.specs.Files.{appended, IsThere}
+use Rattle.outside.proofs.FilesLaws.{appended-nil, appended_there}
+use Rattle.outside.proofs.CountsLaws.{only_writes_same, only_writes_then}
+use Rattle.outside.proofs.Pieces.{part_from, appended_then}
+use Rattle.outside.proofs.helpers.write_all.Goals as goal
+
+pub loop-done-init : goal.loop-done-init
+loop-done-init g c = record {
+  in_range = omega arith;
+  written = sym (appended-nil _ c.args.name.now c.requires);
+  there = c.requires;
+  counts = only_writes_same _;
+}
+
+pub loop-done-preserved : goal.loop-done-preserved
+loop-done-preserved g c =
+    let files = g.D.Folder.files in
+    let bytes = c.args.bytes.now in
+    let name = c.args.name.now in
+    let written : files c.write.new.self ≡ appended (files c.args.folder.now) name (take (c.loop-done.done + c.in_ok-done.field-0) bytes) =
+    appended_then _ _ _ name bytes _ _ c.loop-done.invariant.written (rw part_from at c.in_ok-done.ensures.written) in
+    record {
+      in_range = omega (arith, rw part_from at c.in_ok-done.ensures.bound, length-drop c.loop-done.done bytes);
+      written = written;
+      there = subst (λ f. IsThere f name) (sym written) (appended_there _ name _);
+      counts = only_writes_then _ _ _ c.loop-done.invariant.counts c.in_ok-done.ensures.counts;
+    }
