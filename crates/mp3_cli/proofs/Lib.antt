@@ -1,3 +1,4 @@
 pub mod Sizes
 pub mod Follow
 pub mod Reading
+pub mod Lines

@@ -4,9 +4,11 @@
 mod fault;
 mod jobs;
 mod shift;
+mod texts;
 mod words;
 
 pub use fault::EditFault;
 pub use jobs::Job;
 pub use shift::{Channels, Shift};
+pub use texts::{send_bad_word, send_fault, status};
 pub use words::job;
