@@ -1,7 +1,7 @@
 -- Laws of what a folder tells of its files, and of what a sink tells of its bytes.
-use Rattle.std.proofs.Common.{◌≡◌, ◌≢◌, ℕ, List, [], ◌++◌, refl, sym, ◌∙◌, ap, append_assoc}
+use Rattle.std.proofs.Common.{◌≡◌, ◌≢◌, ℕ, List, [], ◌++◌, length, take, refl, sym, ◌∙◌, ap, append_assoc, arith}
 use Rattle.std.proofs.lemmas.Bool.{false_from_ne_true}
-use Rattle.std.proofs.lemmas.List.{append-nil}
+use Rattle.std.proofs.lemmas.List.{append-nil, take_all}
 use Rattle.std.proofs.lemmas.Map.{update_same, update_other, update-update}
 use Rattle.std.proofs.lemmas.Slice.Eq.{bytes_eq-Decides}
 use Rattle.std.specs.Prelude.{Bool, true, false, cond, Option, Some, None, unwrap_or, IsSome, is_some, bytes_eq}
@@ -31,14 +31,17 @@ pub with_file-with_file : (f : Contents) (name bytes more : List ℕ) → with_f
 unfolding with_file
 with_file-with_file f name bytes more = same_contents _ _ (update-update bytes_eq f name (Some bytes) (Some more))
 
--- what a name holds already, written again, changes nothing
+-- what a name has already, given again, changes nothing
+pub update_held : {X : Type 0} (f : List ℕ → Option X) (name : List ℕ) (w : Option X) → f name ≡ w → update bytes_eq f name w ≡ f
+update_held f name w is = λ i q. at q (bytes_eq name q) refl i
+  where
+    at : (q : List ℕ) (b : Bool) → bytes_eq name q ≡ b → update bytes_eq f name w q ≡ f q
+    at q true e = update_same bytes_eq f name w q e ∙ sym is ∙ ap f ((bytes_eq-Decides name q).0 e)
+    at q false e = update_other bytes_eq f name w q e
+
 pub with_file_same : (f : Contents) (name bytes : List ℕ) → f name ≡ Some bytes → with_file f name bytes ≡ f
 unfolding with_file
-with_file_same f name bytes is = same_contents _ _ (λ q. at q (bytes_eq name q) refl)
-  where
-    at : (q : List ℕ) (b : Bool) → bytes_eq name q ≡ b → update bytes_eq f name (Some bytes) q ≡ f q
-    at q true e = update_same bytes_eq f name (Some bytes) q e ∙ sym is ∙ ap f ((bytes_eq-Decides name q).0 e)
-    at q false e = update_other bytes_eq f name (Some bytes) q e
+with_file_same f name bytes is = update_held f name (Some bytes) is
 
 pub is_some_with_file : (f : Contents) (name bytes other : List ℕ) → IsSome (f other) → IsSome (with_file f name bytes other)
 unfolding with_file
@@ -66,6 +69,15 @@ appended-nil (Some f) name there = ap Some (ap (with_file f name) (append-nil _)
     held : (o : Option (List ℕ)) → IsSome o → o ≡ Some (unwrap_or o [])
     held None there = cc
     held (Some bytes) there = refl
+
+-- contents that are told, emptied and appended to
+pub emptied_is : (f new : Contents) (name : List ℕ) → new ≡ with_file f name [] → Some new ≡ emptied (Some f) name
+unfolding emptied
+emptied_is f new name is = ap Some is
+
+pub appended_is : (f new : Contents) (name bytes : List ℕ) → new ≡ with_file f name (unwrap_or (f name) [] ++ bytes) → Some new ≡ appended (Some f) name (take (length bytes) bytes)
+unfolding appended
+appended_is f new name bytes is = ap Some is ∙ ap (λ more. Some (with_file f name (unwrap_or (f name) [] ++ more))) (sym (take_all (length bytes) bytes (omega arith)))
 
 -- emptied and then appended to, the name holds exactly these bytes
 pub emptied-appended-holds : (files : Files) (name bytes : List ℕ) → IsSome files → Holds (appended (emptied files name) name bytes) name bytes
@@ -166,6 +178,11 @@ pub sent_more-nil : (sent : Sent) → sent_more sent [] ≡ sent
 unfolding sent_more
 sent_more-nil None = refl
 sent_more-nil (Some s) = ap Some (append-nil s)
+
+-- bytes that are told, and more behind them
+pub sent_is : (s new bytes : List ℕ) → new ≡ s ++ bytes → Some new ≡ sent_more (Some s) (take (length bytes) bytes)
+unfolding sent_more
+sent_is s new bytes is = ap Some is ∙ ap (λ more. Some (s ++ more)) (sym (take_all (length bytes) bytes (omega arith)))
 
 pub sent_more_told : (sent : Sent) (more : List ℕ) → is_some (sent_more sent more) ≡ is_some sent
 unfolding sent_more

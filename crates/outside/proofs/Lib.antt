@@ -1,3 +1,4 @@
 pub mod FilesLaws
 pub mod CountsLaws
 pub mod Pieces
+mod SlotsLaws

@@ -41,3 +41,23 @@ pub record OnlyWrites (old new : Counts) : Type 0 where
 pub record HasCause {T E : Type 0} (before now : ℕ) (result : Result T E) : Type 0 where
   pub later : before ≤ now
   pub failed : OnErr result (Rose before now)
+
+-- a count one higher, which stands at the greatest value of a u64
+abbrev pub one_more : ℕ → ℕ
+one_more n = min (n + 1) (2 ^ 64 - 1)
+
+-- the counts before anything happened
+abbrev pub none_counted : Counts
+none_counted = record { misses = 0; ends = 0; read_faults = 0; write_faults = 0 }
+
+abbrev pub with_miss : Counts → Counts
+with_miss counts = record counts { misses = one_more counts.misses }
+
+abbrev pub with_end : Counts → Counts
+with_end counts = record counts { ends = one_more counts.ends }
+
+abbrev pub with_read_fault : Counts → Counts
+with_read_fault counts = record counts { read_faults = one_more counts.read_faults }
+
+abbrev pub with_write_fault : Counts → Counts
+with_write_fault counts = record counts { write_faults = one_more counts.write_faults }

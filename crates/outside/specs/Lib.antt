@@ -1,2 +1,6 @@
 pub mod Files
 pub mod Counts
+pub mod Held
+pub mod Plan
+pub mod Slots
+pub mod Memory

@@ -2,10 +2,18 @@
 //! in memory for tests, and over real files and streams.
 #![tactic(auto)]
 
+mod buffer;
 mod folder;
 mod helpers;
+mod memory_folder;
+mod memory_sink;
+mod schedule;
 mod sink;
+mod slots;
+mod tally;
 
 pub use folder::{Failed, FindFault, Folder};
 pub use helpers::{read_full, send_all, write_all};
+pub use memory_folder::{Call, MemFolder};
+pub use memory_sink::MemSink;
 pub use sink::Sink;

@@ -1,0 +1,7 @@
+-- Bytes in memory, with room for more.
+use Rattle.std.specs.Prelude.{ℕ, List}
+
+pub record Held : Type 0 where
+  pub bytes : List ℕ
+  -- how many bytes there may be
+  pub room : ℕ

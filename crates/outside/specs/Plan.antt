@@ -1,0 +1,18 @@
+-- Which calls of a kind are to fail.
+use Rattle.std.specs.Prelude.{ℕ, List, Bool, ◌==◌}
+use Rattle.std.specs.List.{list_any}
+use Rattle.outside.specs.Counts.{one_more}
+
+pub record Plan : Type 0 where
+  -- the calls so far
+  pub made : ℕ
+  -- the numbers of the calls that are to fail, counted from 1
+  pub failing : List ℕ
+
+-- the next call is to fail
+abbrev pub is_next_to_fail : Plan → Bool
+is_next_to_fail plan = list_any (λ number. number == one_more plan.made) plan.failing
+
+-- one call later
+abbrev pub after_call : Plan → Plan
+after_call plan = record plan { made = one_more plan.made }
