@@ -1,2 +1,8 @@
+mod Follow
+mod Lines
+mod Reading
+mod Sizes
 pub mod PlainLaws
 pub mod WalkLaws
+pub mod EditLaws
+pub mod GainLaws

@@ -9,7 +9,7 @@ use Rattle.frame_header.specs.Tables.{class_of, length_of, side_size_of}
 use Rattle.frame_header.specs.Reading.{header_at}
 use Rattle.frame_header.proofs.Lengths.{area_some}
 use Rattle.frame_header.proofs.HeaderLaws.{IsHeader-header_at}
-use Rattle.mp3_cli.specs.Plain.{good, header_front, same_version, same_class, is_plain, plain_length, plain_front}
+use Rattle.mp3_cli.specs.Plain.{good, header_front, same_version, same_class, is_plain_header, is_plain, plain_length, plain_front}
 
 -- what a test that passed says of its two parts
 pub both : (a b : Bool) → (a && b) ≡ true → (a ≡ true) × (b ≡ true)
@@ -56,19 +56,19 @@ class_in_range h fields = (fields.frequency_index, channels (eqb h.mode 3), chan
 
 -- ---- the length of a plain frame
 
--- the tests of a plain frame that its length needs
-record IsPlain (c : ClassFields) (h : HeaderFields) (bytes : List ℕ) : Type 0 where
+-- what the tests of a plain header say
+pub record IsPlainHeader (c : ClassFields) (h : HeaderFields) (bytes : List ℕ) : Type 0 where
+  pub version : h.version ≡ One
   pub class : class_of h ≡ c
   pub whole : length_of c h.slot ≤ length bytes
 
-plain_tests : (c : ClassFields) (h : HeaderFields) (bytes : List ℕ) → is_plain c h bytes ≡ true → IsPlain c h bytes
-unfolding is_plain
-plain_tests c h bytes e =
-    let payload = both _ _ e in
-    let begin = both _ _ payload.0 in
-    let whole = both _ _ begin.0 in
+pub plain_header : (c : ClassFields) (h : HeaderFields) (bytes : List ℕ) → is_plain_header c h bytes ≡ true → IsPlainHeader c h bytes
+unfolding is_plain_header
+plain_header c h bytes e =
+    let whole = both _ _ e in
     let class = both _ _ whole.0 in
-    record { class = same_class-eq _ _ class.1; whole = leb-true _ _ whole.1 }
+    let unprotected = both _ _ class.0 in
+    record { version = same_version-eq _ _ unprotected.0; class = same_class-eq _ _ class.1; whole = leb-true _ _ whole.1 }
 
 -- a length of a plain frame at the front leaves room for an area, and the frame is whole
 pub record IsFront (c : ClassFields) (bytes : List ℕ) (len : ℕ) : Type 0 where
@@ -83,7 +83,7 @@ front_of : (c : ClassFields) (bytes : List ℕ) (len : ℕ) (o : Option HeaderFi
 front_of c bytes len None is e = absurd cc
 front_of c bytes len (Some h) is e =
     let parts = front_cases (is_plain c h bytes) (length_of c h.slot) len e in
-    let tests = plain_tests c h bytes parts.0 in
+    let tests = plain_header c h bytes (both _ _ parts.0).0 in
     let fields = header_front-in_range bytes h is in
     let class : IsClass c = subst IsClass tests.class (class_in_range h fields) in
     subst (IsFront c bytes) parts.1 (record { room = area_some c h.slot class fields.slot; within = tests.whole })

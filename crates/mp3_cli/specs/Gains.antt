@@ -1,6 +1,6 @@
 -- Moved gains (global_gain of ISO/IEC 11172-3, 2.4.1.7). The rules for moving it are this project's: a silent channel of a
 -- granule is left alone, and without wrap a sum that would leave the range refuses the whole file.
-use Rattle.std.specs.Prelude.{ℕ, ◌==◌, ◌&&◌, not, nat_lt, if◌then◌else◌, Bool, true, false, List, [], ◌∷◌, map, Option, Some, None, ℤ, pos, negsuc, ◌+ℤ◌, unsigned_abs}
+use Rattle.std.specs.Prelude.{ℕ, ◌==◌, ◌&&◌, not, nat_lt, if◌then◌else◌, Bool, true, false, List, [], ◌∷◌, Option, Some, None, ℤ, pos, negsuc, ◌+ℤ◌, unsigned_abs}
 use Rattle.std.specs.Int.{int_rem_euclid}
 use Rattle.side_info.specs.declared.granule.Granule.{Granule}
 use Rattle.side_info.specs.declared.side.Side.{Side}
@@ -38,14 +38,14 @@ moved_gain steps gain = unsigned_abs (int_rem_euclid (pos gain +ℤ steps) (pos 
 abbrev pub moved : ℤ → Granule → Granule
 moved steps g = if is_silent g then g else record g { global_gain = moved_gain steps g.global_gain }
 
--- the channels of one granule: the first by the steps of channel 0, each other by those of channel 1
-abbrev pub moved_channels : ℤ → ℤ → List Granule → List Granule
-moved_channels left right [] = []
-moved_channels left right (g ∷ rest) = moved left g ∷ map (moved right) rest
+-- a granule with channel 0 moved by the steps of the left and channel 1 by those of the right
+abbrev pub moved_channels : Shift → Side → ℕ → List Granule
+moved_channels shift s granule =
+  moved (left_steps shift) (granule_in s granule 0) ∷ moved (right_steps shift) (granule_in s granule 1) ∷ []
 
 -- all other side fields stay
 unfoldable pub moved_side : Shift → Side → Side
-moved_side shift s = record s { granules = map (moved_channels (left_steps shift) (right_steps shift)) s.granules }
+moved_side shift s = record s { granules = moved_channels shift s 0 ∷ moved_channels shift s 1 ∷ [] }
 
 -- ---- the range
 

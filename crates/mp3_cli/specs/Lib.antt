@@ -1,3 +1,7 @@
+pub mod Words
+pub mod Table
+pub mod Texts
 pub mod Plain
 pub mod Gains
 pub mod Edited
+pub mod Gain

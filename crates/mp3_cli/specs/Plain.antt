@@ -36,14 +36,18 @@ same_version Two Two = true
 abbrev pub same_class : ClassFields → ClassFields → Bool
 same_class c d = same_version c.version d.version && (c.frequency_index == d.frequency_index) && (c.channels == d.channels)
 
--- A plain frame of the class begins with this header, and is whole in these bytes: MPEG-1, without a check word, and its
--- main data begin with its own area and end in it.
-unfoldable pub is_plain : ClassFields → HeaderFields → List ℕ → Bool
-is_plain c h bytes =
-  same_version h.version One && not h.protected && same_class (class_of h) c
-  && nat_le (length_of c h.slot) (length bytes)
-  && ((side_of c bytes).main_data_begin == 0)
-  && nat_le (payload_bytes (side_of c bytes)) (area_of c h.slot false)
+-- the header of a plain frame of the class: MPEG-1, without a check word, and the frame is whole in these bytes
+unfoldable pub is_plain_header : ClassFields → HeaderFields → List ℕ → Bool
+is_plain_header c h bytes =
+  same_version h.version One && not h.protected && same_class (class_of h) c && nat_le (length_of c h.slot) (length bytes)
+
+-- the main data begin with the frame's own area and end in it
+unfoldable pub is_self_contained : ClassFields → HeaderFields → Side → Bool
+is_self_contained c h s = (s.main_data_begin == 0) && nat_le (payload_bytes s) (area_of c h.slot false)
+
+-- a plain frame of the class with this header stands at the front of these bytes
+abbrev pub is_plain : ClassFields → HeaderFields → List ℕ → Bool
+is_plain c h bytes = is_plain_header c h bytes && is_self_contained c h (side_of c bytes)
 
 -- the length in bytes of the frame with this header, where it is plain
 abbrev pub plain_length : ClassFields → List ℕ → Option HeaderFields → Option ℕ

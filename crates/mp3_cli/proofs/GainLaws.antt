@@ -1,0 +1,128 @@
+-- Steps of the gain command over what a folder tells.
+use Rattle.std.proofs.Common.{◌≡◌, ◌⊎◌, ℕ, ◌<◌, ◌≤◌, Bool, true, false, cond, ◌||◌, eqb, ltb, List, [], ◌++◌, length, take, Option, Some, None, refl, sym, ◌∙◌, ap, subst, eq-eqb, unwrap_or, bytes_eq, Result, Ok, Err, inl, inr}
+use Rattle.std.proofs.lemmas.Bool.{false≢true, lt-ltb}
+use Rattle.outside.specs.Files.{Contents, Files, emptied, appended, with_file, Holds, IsThere, IsMissing}
+use Rattle.outside.proofs.FilesLaws.{there_holds, with_file_here, with_file-with_file}
+use Rattle.mp3_cli.specs.Plain.{not_plain_at, longest_input}
+use Rattle.mp3_cli.specs.declared.fault.EditFault.{EditFault}
+use Rattle.mp3_cli.specs.declared.fault.EditFault.TheVariants.{EqualNames, Absent, Read, NotYet, GainRange, Write, Memory}
+use Rattle.mp3_cli.specs.declared.shift.Shift.{Shift}
+use Rattle.mp3_cli.specs.Edited.{gained, gained_where, gain_result}
+use Rattle.mp3_cli.specs.Gain.{holding, Gives, RefusesBytes, IsInputFault, IsDefinedAt, IsStreamFault, IsFindFault, HoldsFront, IsWritten, IsWrittenInPart}
+
+abbrev told : Contents → Files
+told f = Some f
+
+or_left : (a b : Bool) → a ≡ true → (a || b) ≡ true
+or_left true b e = refl
+or_left false b e = absurd (false≢true e)
+
+or_right : (a b : Bool) → b ≡ true → (a || b) ≡ true
+or_right true b e = refl
+or_right false b e = e
+
+-- emptied and then appended to, the output holds these bytes
+pub appended-emptied : (files : Files) (name bytes : List ℕ) → appended (emptied files name) name bytes ≡ holding files name bytes
+unfolding appended emptied holding
+appended-emptied None name bytes = refl
+appended-emptied (Some f) name bytes =
+    ap (λ (held : Option (List ℕ)). told (with_file (with_file f name []) name (unwrap_or held [] ++ bytes))) (with_file_here f name [])
+    ∙ ap told (with_file-with_file f name [] bytes)
+
+-- created and not written to, the output holds nothing of these bytes
+pub emptied-front : (files : Files) (name bytes : List ℕ) → emptied files name ≡ holding files name (take 0 bytes)
+unfolding emptied holding
+emptied-front None name bytes = refl
+emptied-front (Some f) name bytes = refl
+
+outside_sizes : (n : ℕ) → (n ≡ 0) ⊎ (longest_input < n) → (eqb n 0 || ltb longest_input n) ≡ true
+outside_sizes n (inl none) = or_left _ _ (eq-eqb n 0 none)
+outside_sizes n (inr more) = or_right _ _ (lt-ltb longest_input n more)
+
+-- too short or too long
+pub not_plain-length : (bytes : List ℕ) → (length bytes ≡ 0) ⊎ (longest_input < length bytes) → not_plain_at bytes ≡ Some 0
+unfolding not_plain_at
+not_plain-length bytes out = let test = outside_sizes (length bytes) out in rw test refl
+
+-- ---- created and written
+
+pub written_whole : (old created new : Files) (name bytes : List ℕ) → created ≡ emptied old name → new ≡ appended created name bytes → new ≡ holding old name bytes
+written_whole old created new name bytes made written = written ∙ ap (λ f. appended f name bytes) made ∙ appended-emptied old name bytes
+
+-- ---- what the told files make of the command
+
+gain_result-equal : (shift : Shift) (input output : List ℕ) (f : Contents) → bytes_eq input output ≡ true → gain_result shift input output f ≡ Err (EqualNames 0)
+unfolding gain_result
+gain_result-equal shift input output f same = rw same refl
+
+gain_result-other : (shift : Shift) (input output : List ℕ) (f : Contents) (o : Option (List ℕ)) → bytes_eq input output ≡ false → f input ≡ o → gain_result shift input output f ≡ gained_where shift o
+unfolding gain_result
+gain_result-other shift input output f o differ is = rw (differ, is) refl
+
+pub gives_equal : (shift : Shift) (input output : List ℕ) (files : Files) → bytes_eq input output ≡ true → Gives shift input output files (Err (EqualNames 0))
+gives_equal shift input output None same = tt
+gives_equal shift input output (Some f) same = gain_result-equal shift input output f same
+
+gives_absent : (shift : Shift) (input output : List ℕ) (files : Files) → bytes_eq input output ≡ false → IsMissing files input → Gives shift input output files (Err Absent)
+gives_absent shift input output None differ missing = tt
+gives_absent shift input output (Some f) differ missing = gain_result-other shift input output f None differ missing
+
+pub gives_bytes : (shift : Shift) (input output : List ℕ) (files : Files) (r : Result (List ℕ) EditFault) → bytes_eq input output ≡ false → IsThere files input
+    → ((bytes : List ℕ) → Holds files input bytes → gained shift bytes ≡ r) → Gives shift input output files r
+gives_bytes shift input output None r differ there is = tt
+gives_bytes shift input output (Some f) r differ there is =
+    let held = there_holds f input there in
+    gain_result-other shift input output f (Some held.0) differ held.1 ∙ is held.0 held.1
+
+-- a fault of the input is the one that is defined
+pub input_fault-defined : (shift : Shift) (input output : List ℕ) (files : Files) (fault : EditFault) → bytes_eq input output ≡ false → IsInputFault shift input files fault → IsDefinedAt shift input output files fault
+input_fault-defined shift input output files (EqualNames place) differ h = absurd h
+input_fault-defined shift input output files Absent differ h = gives_absent shift input output files differ h
+input_fault-defined shift input output files Read differ h = tt
+input_fault-defined shift input output files (NotYet offset) differ h = gives_bytes shift input output files (Err (NotYet offset)) differ h.0 h.1
+input_fault-defined shift input output files (GainRange offset granule channel gain) differ h = gives_bytes shift input output files (Err (GainRange offset granule channel gain)) differ h.0 h.1
+input_fault-defined shift input output files (Write place) differ h = absurd h
+input_fault-defined shift input output files Memory differ h = tt
+
+-- a fault of the stream is one of the input
+pub stream_fault : (shift : Shift) (name : List ℕ) (files : Files) (fault : EditFault) → IsStreamFault fault → RefusesBytes shift name files fault → IsInputFault shift name files fault
+stream_fault shift name files (EqualNames place) is h = absurd is
+stream_fault shift name files Absent is h = absurd is
+stream_fault shift name files Read is h = absurd is
+stream_fault shift name files (NotYet offset) is h = h
+stream_fault shift name files (GainRange offset granule channel gain) is h = h
+stream_fault shift name files (Write place) is h = absurd is
+stream_fault shift name files Memory is h = absurd is
+
+-- a file that is not plain at once is refused there
+pub gained-not_plain : (shift : Shift) (bytes : List ℕ) (at : ℕ) → not_plain_at bytes ≡ Some at → gained shift bytes ≡ Err (NotYet at)
+unfolding gained
+gained-not_plain shift bytes at is = rw is refl
+
+-- what was met while the input was looked for is a fault of it
+pub find_fault : (shift : Shift) (name : List ℕ) (files : Files) (fault : EditFault) → IsFindFault name files fault → IsInputFault shift name files fault
+find_fault shift name files (EqualNames place) h = absurd h
+find_fault shift name files Absent h = h
+find_fault shift name files Read h = tt
+find_fault shift name files (NotYet offset) h = (h.0, λ bytes holds. gained-not_plain shift bytes offset (h.1 bytes holds))
+find_fault shift name files (GainRange offset granule channel gain) h = absurd h
+find_fault shift name files (Write place) h = absurd h
+find_fault shift name files Memory h = absurd h
+
+-- the output was written whole, over files that the reading left as they were
+pub is_written : (shift : Shift) (input output bytes given : List ℕ) (old read new : Files) → read ≡ old → given ≡ bytes → Gives shift input output old (Ok bytes)
+    → new ≡ holding read output given → IsWritten shift input output old new
+is_written shift input output bytes given old read new same is defined written = record {
+  bytes = bytes;
+  defined = defined;
+  files = written ∙ ap (λ f. holding f output given) same ∙ ap (holding old output) is;
+}
+
+-- the output was written in part, over files that the reading left as they were
+pub written_in_part : (shift : Shift) (input output bytes given : List ℕ) (old read new : Files) → read ≡ old → given ≡ bytes → Gives shift input output old (Ok bytes)
+    → (new ≡ read) ⊎ HoldsFront output given read new → IsWrittenInPart shift input output old new
+written_in_part shift input output bytes given old read new same is defined left = record {
+  bytes = bytes;
+  defined = defined;
+  left = subst (λ f. (new ≡ f) ⊎ HoldsFront output bytes f new) same (subst (λ b. (new ≡ read) ⊎ HoldsFront output b read new) is left);
+}

@@ -1,0 +1,96 @@
+-- The forms that the program's words have, and what words of a form ask for.
+use Rattle.std.specs.Prelude.{ℕ, suc, ◌+◌, ◌-◌, max, Bool, true, false, not, ◌&&◌, ◌==◌, nat_le, if◌then◌else◌, List, [], ◌∷◌, length, map, find, fold, slice_index_or, Option, Some, None, unwrap_or, option_map, is_some, Result, Ok, Err, ℤ, pos, neg_ℤ, codes, bytes_eq}
+use Rattle.std.specs.List.{common_prefix_len}
+use Rattle.std.specs.Cmp.Lexicographic.{pointwise}
+use Rattle.std.specs.Str.{all_ascii_digits}
+use Rattle.std.specs.Str.Parse.{digits_value}
+use Rattle.mp3_cli.specs.declared.shift.Channels.TheVariants.{Both}
+use Rattle.mp3_cli.specs.declared.jobs.Job.{Job}
+use Rattle.mp3_cli.specs.declared.jobs.Job.TheVariants.{Gain}
+
+-- ---- words
+
+-- what a word of a form is
+pub data Kind : Type 0 where
+  -- this word
+  Fixed : List ℕ → Kind
+  -- the name of a file
+  Name : Kind
+  -- a number of steps
+  Steps : Kind
+
+-- a name isn't empty, and doesn't begin with `-`
+abbrev pub is_name : List ℕ → Bool
+is_name [] = false
+is_name (first ∷ rest) = not (first == 45)
+
+-- one to three digits, of a number up to 255
+abbrev pub size_of : List ℕ → Option ℕ
+size_of digits =
+    if nat_le 1 (length digits) && nat_le (length digits) 3 && all_ascii_digits digits && nat_le (digits_value 10 digits) 255
+    then Some (digits_value 10 digits) else None
+
+-- such digits behind `+` or `-` or alone
+abbrev pub steps_of : List ℕ → Option ℤ
+steps_of [] = None
+steps_of (first ∷ rest) =
+    if first == 43 then option_map pos (size_of rest)
+    else if first == 45 then option_map (λ size. neg_ℤ (pos size)) (size_of rest)
+    else option_map pos (size_of (first ∷ rest))
+
+-- the word is of the kind
+abbrev pub fits_kind : Kind → List ℕ → Bool
+fits_kind (Fixed text) word = bytes_eq word text
+fits_kind Name word = is_name word
+fits_kind Steps word = is_some (steps_of word)
+
+-- ---- forms
+
+-- the kinds of a form's words, and what words of these kinds ask for
+pub record Form : Type 0 where
+  pub kinds : List Kind
+  pub reads : List (List ℕ) → Job
+
+-- the word at a place, counted from 1
+abbrev pub word_at : List (List ℕ) → ℕ → List ℕ
+word_at words place = slice_index_or words (place - 1) []
+
+-- `gain -s s -g N IN OUT`
+abbrev pub gain_without_tags : Form
+gain_without_tags = record {
+  kinds = Fixed (codes "gain") ∷ Fixed (codes "-s") ∷ Fixed (codes "s") ∷ Fixed (codes "-g") ∷ Steps ∷ Name ∷ Name ∷ [];
+  reads = λ words. Gain (record { channels = Both; steps = unwrap_or (steps_of (word_at words 5)) (pos 0); wrap = false }) 6 7;
+}
+
+-- all of them
+abbrev pub forms : List Form
+forms = gain_without_tags ∷ []
+
+-- ---- the reading
+
+-- the words have the kinds, one for one
+abbrev pub have_kinds : List Kind → List (List ℕ) → Bool
+have_kinds kinds words = pointwise fits_kind kinds words
+
+-- how many words there are in front that have the form's first kinds
+abbrev pub followed : List (List ℕ) → Form → ℕ
+followed words form = common_prefix_len fits_kind form.kinds words
+
+-- the greatest such number over a table of forms
+abbrev pub furthest : List Form → List (List ℕ) → ℕ
+furthest table words = fold max 0 (map (followed words) table)
+
+-- the form of the table whose kinds the words have
+abbrev pub form_of : List Form → List (List ℕ) → Option Form
+form_of table words = find (λ form. have_kinds form.kinds words) table
+
+-- what the words ask for by the form whose kinds they have, and where there is none, the place of the bad word
+abbrev pub reading : List Form → List (List ℕ) → Result Job ℕ
+reading table words = read_as (form_of table words)
+  where
+    read_as : Option Form → Result Job ℕ
+    read_as (Some form) = Ok (form.reads words)
+    read_as None = Err (1 + furthest table words)
+
+unfoldable pub job_of : List (List ℕ) → Result Job ℕ
+job_of words = reading forms words

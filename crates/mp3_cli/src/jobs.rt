@@ -1,0 +1,14 @@
+//! What the program is asked to do.
+
+use crate::shift::Shift;
+
+/// What a list of words asks for. Names are places of words, counted from 1.
+#[derive(Clone, Copy, Debug, PartialEq, Eq)]
+pub enum Job {
+    /// Change the loudness of the file `input`, and write the result to `output`.
+    Gain {
+        shift: Shift,
+        input: u32,
+        output: u32,
+    },
+}

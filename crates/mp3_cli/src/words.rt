@@ -1,0 +1,140 @@
+//! The program's words.
+ghost use Rattle.std.specs.Prelude.{◌≡◌, ◌≤◌, List, length, map, string_bytes, option_map, pos};
+ghost use Rattle.std.specs.List.{common_prefix_len};
+ghost use Rattle.mp3_cli.specs.Words.{is_name, size_of, steps_of, fits_kind, followed, job_of};
+ghost use Rattle.mp3_cli.specs.Table.{kind_of, form_named};
+
+use crate::jobs::Job;
+use crate::shift::{Channels, Shift};
+
+/// What a word of a form is.
+#[derive(Clone, Copy)]
+enum WordKind {
+    /// This word.
+    Fixed(&'static str),
+    /// The name of a file.
+    Name,
+    /// A number of steps.
+    Steps,
+}
+
+/// The forms.
+#[derive(Clone, Copy)]
+enum FormName {
+    GainWithoutTags,
+}
+
+const FORMS: [FormName; 1] = [FormName::GainWithoutTags];
+
+static GAIN_WITHOUT_TAGS: [WordKind; 7] = [
+    WordKind::Fixed("gain"),
+    WordKind::Fixed("-s"),
+    WordKind::Fixed("s"),
+    WordKind::Fixed("-g"),
+    WordKind::Steps,
+    WordKind::Name,
+    WordKind::Name,
+];
+
+// A name isn't empty, and doesn't begin with `-`.
+fn is_name(word: &str) -> bool
+    ensures { result ≡ is_name word.now }
+{
+    !matches!(word.as_bytes(), [] | [b'-', ..])
+}
+
+// One to three digits, of a number up to 255.
+fn read_size(digits: &[u8]) -> Option<i16>
+    ensures { result ≡ option_map pos (size_of digits.now) }
+{
+    if digits.is_empty() || digits.len() > 3 {
+        return None;
+    }
+    let mut size: u16 = 0;
+    for digit in digits {
+        if !digit.is_ascii_digit() {
+            return None;
+        }
+        size = size * 10 + u16::from(*digit - b'0');
+    }
+    if size <= 255 { Some(size as i16) } else { None }
+}
+
+// Such digits behind `+` or `-` or alone.
+fn read_steps(word: &str) -> Option<i16>
+    ensures { result ≡ steps_of word.now }
+{
+    match word.as_bytes() {
+        [b'+', digits @ ..] => read_size(digits),
+        [b'-', digits @ ..] => read_size(digits).map(|size| -size),
+        digits => read_size(digits),
+    }
+}
+
+fn fits(word: &str, kind: &WordKind) -> bool
+    ensures { result ≡ fits_kind (kind_of kind.now) word.now }
+{
+    match kind {
+        WordKind::Fixed(text) => word == *text,
+        WordKind::Name => is_name(word),
+        WordKind::Steps => read_steps(word).is_some(),
+    }
+}
+
+// How many words there are in front that have the first of these kinds.
+fn follow(words: &[String], kinds: &[WordKind]) -> usize
+    ensures { result ≡ common_prefix_len fits_kind (map kind_of kinds.now) (map string_bytes words.now) }
+{
+    let mut count = 0;
+    while count < kinds.len() && count < words.len() && fits(words[count].as_str(), &kinds[count]) {
+        count += 1;
+    }
+    count
+}
+
+impl FormName {
+    fn kinds(self) -> &'static [WordKind]
+        ensures { map kind_of result.now ≡ (form_named self).kinds }
+    {
+        match self {
+            FormName::GainWithoutTags => &GAIN_WITHOUT_TAGS,
+        }
+    }
+
+    // What words of the form ask for.
+    fn read(self, words: &[String]) -> Job
+        requires { length words.now ≡ length (form_named self).kinds }
+        ensures { result ≡ (form_named self).reads (map string_bytes words.now) }
+    {
+        match self {
+            FormName::GainWithoutTags => Job::Gain {
+                shift: Shift {
+                    channels: Channels::Both,
+                    steps: read_steps(&words[4]).unwrap_or(0),
+                    wrap: false,
+                },
+                input: 6,
+                output: 7,
+            },
+        }
+    }
+}
+
+/// What the words ask for. Where they have no form, it is refused with the place, counted from 1, of the
+/// first word that no form takes, or the number of words plus 1 where a word is missing.
+/// The form is `gain -s s -g N IN OUT`: N is an optional `+` or `-` and one to three digits, from -255 to
+/// 255, and a name isn't empty and doesn't begin with `-`.
+pub fn job(words: &[String]) -> Result<Job, u32>
+    ensures { result ≡ job_of (map string_bytes words.now) }
+{
+    let mut furthest = 0;
+    for form in FORMS {
+        let kinds = form.kinds();
+        let count = follow(words, kinds);
+        if count == words.len() && count == kinds.len() {
+            return Ok(form.read(words));
+        }
+        furthest = furthest.max(count);
+    }
+    Err(furthest as u32 + 1)
+}
