@@ -1,0 +1,154 @@
+-- The laws of a granule's side information: fields and bits give each other back.
+use Rattle.std.proofs.Common.{◌≡◌, ℕ, zero, suc, ◌+◌, ◌*◌, ◌^◌, ◌<◌, ◌≤◌, Bool, true, false, cond, List, [], ◌∷◌, ◌++◌, length, get_or, take, drop, refl, sym, ap, ap₂, ◌∙◌, arith, sum, one-add, length-append, length-take, length-drop, append_assoc}
+use Rattle.std.specs.List.{flat_map}
+use Rattle.std.proofs.Math.Nat.{add_comm, add_assoc, add-mul, suc-mul, zero-mul, one-mul}
+use Rattle.std.proofs.Math.Seq.{take-add, drop-append-add}
+use Rattle.std.proofs.lemmas.List.{drop-drop}
+use Rattle.bit_fields.specs.Bits.{AreBits}
+use Rattle.bit_fields.specs.Groups.{numbers_at, spelled, Fits}
+use Rattle.bit_fields.proofs.BitsLaws.{AreBits-append, AreBits-drop}
+use Rattle.bit_fields.proofs.GroupsLaws.{length-Fits, length-spelled, AreBits-spelled, Fits-numbers_at, numbers_at-spelled_more, spelled-numbers_at_front}
+use Rattle.frame_header.specs.declared.version.Version.{Version}
+use Rattle.frame_header.specs.declared.version.Version.TheVariants.{One, Two}
+use Rattle.side_info.specs.declared.granule.Granule.{Granule}
+use Rattle.side_info.specs.Granule.{granule_widths, granule_size, is_set, bit_of, no_granule, granule_of, granule_numbers, granule_at, granule_bits, GranuleFits}
+use Rattle.side_info.specs.Side.{nth_granule}
+
+-- ---- one bit as a truth
+pub is_set-bit_of : (flag : Bool) → is_set (bit_of flag) ≡ flag
+is_set-bit_of true = refl
+is_set-bit_of false = refl
+
+pub bit_of-is_set : (bit : ℕ) → bit < 2 → bit_of (is_set bit) ≡ bit
+bit_of-is_set zero h = refl
+bit_of-is_set (suc zero) h = refl
+bit_of-is_set (suc (suc bit)) h = absurd (omega arith)
+
+pub bit_of-below : (flag : Bool) → bit_of flag < 2
+bit_of-below true = omega arith
+bit_of-below false = omega arith
+
+-- ---- fields and the numbers of the groups
+pub Fits-granule : (version : Version) (g : Granule) → GranuleFits version g → Fits (granule_widths version) (granule_numbers version g)
+unfolding granule_numbers
+Fits-granule One g h = (h.part2_3_length, (h.big_values, (h.global_gain, (h.scalefac_compress, (bit_of-below g.window_switching, (h.detail, (bit_of-below g.preflag, (bit_of-below g.scalefac_scale, (bit_of-below g.count1table_select, tt)))))))))
+Fits-granule Two g h = (h.part2_3_length, (h.big_values, (h.global_gain, (h.scalefac_compress, (bit_of-below g.window_switching, (h.detail, (bit_of-below g.scalefac_scale, (bit_of-below g.count1table_select, tt))))))))
+
+pub granule_of-numbers : (version : Version) (g : Granule) → GranuleFits version g → granule_of version (granule_numbers version g) ≡ g
+unfolding granule_of granule_numbers
+granule_of-numbers One g h = λ i. record {
+  part2_3_length = g.part2_3_length; big_values = g.big_values; global_gain = g.global_gain; scalefac_compress = g.scalefac_compress;
+  window_switching = is_set-bit_of g.window_switching i; detail = g.detail;
+  preflag = is_set-bit_of g.preflag i; scalefac_scale = is_set-bit_of g.scalefac_scale i; count1table_select = is_set-bit_of g.count1table_select i;
+}
+granule_of-numbers Two g h = λ i. record {
+  part2_3_length = g.part2_3_length; big_values = g.big_values; global_gain = g.global_gain; scalefac_compress = g.scalefac_compress;
+  window_switching = is_set-bit_of g.window_switching i; detail = g.detail;
+  preflag = sym h.preflag i; scalefac_scale = is_set-bit_of g.scalefac_scale i; count1table_select = is_set-bit_of g.count1table_select i;
+}
+
+numbers_same : (version : Version) (ns : List ℕ) → Fits (granule_widths version) ns → length ns ≡ length (granule_widths version) → granule_numbers version (granule_of version ns) ≡ ns
+unfolding granule_of granule_numbers
+numbers_same One (a ∷ b ∷ c ∷ d ∷ e ∷ f ∷ g ∷ h ∷ k ∷ []) fit l =
+    λ i. a ∷ b ∷ c ∷ d ∷ bit_of-is_set e fit.1.1.1.1.0 i ∷ f ∷ bit_of-is_set g fit.1.1.1.1.1.1.0 i ∷ bit_of-is_set h fit.1.1.1.1.1.1.1.0 i ∷ bit_of-is_set k fit.1.1.1.1.1.1.1.1.0 i ∷ []
+numbers_same Two (a ∷ b ∷ c ∷ d ∷ e ∷ f ∷ g ∷ h ∷ []) fit l =
+    λ i. a ∷ b ∷ c ∷ d ∷ bit_of-is_set e fit.1.1.1.1.0 i ∷ f ∷ bit_of-is_set g fit.1.1.1.1.1.1.0 i ∷ bit_of-is_set h fit.1.1.1.1.1.1.1.0 i ∷ []
+numbers_same version ns fit l = absurd (omega arith)
+
+pub numbers-granule_of : (version : Version) (ns : List ℕ) → Fits (granule_widths version) ns → granule_numbers version (granule_of version ns) ≡ ns
+numbers-granule_of version ns fit = numbers_same version ns fit (length-Fits (granule_widths version) ns fit)
+
+fields_fit : (version : Version) (ns : List ℕ) → Fits (granule_widths version) ns → length ns ≡ length (granule_widths version) → GranuleFits version (granule_of version ns)
+unfolding granule_of
+fields_fit One (a ∷ b ∷ c ∷ d ∷ e ∷ f ∷ g ∷ h ∷ k ∷ []) fit l = record {
+  part2_3_length = fit.0; big_values = fit.1.0; global_gain = fit.1.1.0; scalefac_compress = fit.1.1.1.0; detail = fit.1.1.1.1.1.0; preflag = tt;
+}
+fields_fit Two (a ∷ b ∷ c ∷ d ∷ e ∷ f ∷ g ∷ h ∷ []) fit l = record {
+  part2_3_length = fit.0; big_values = fit.1.0; global_gain = fit.1.1.0; scalefac_compress = fit.1.1.1.0; detail = fit.1.1.1.1.1.0; preflag = refl;
+}
+fields_fit version ns fit l = absurd (omega arith)
+
+pub GranuleFits-granule_of : (version : Version) (ns : List ℕ) → Fits (granule_widths version) ns → GranuleFits version (granule_of version ns)
+GranuleFits-granule_of version ns fit = fields_fit version ns fit (length-Fits (granule_widths version) ns fit)
+
+-- ---- fields and bits
+pub length-granule_numbers : (version : Version) (g : Granule) → length (granule_numbers version g) ≡ length (granule_widths version)
+unfolding granule_numbers
+length-granule_numbers One g = refl
+length-granule_numbers Two g = refl
+
+pub length-granule_bits : (version : Version) (g : Granule) → length (granule_bits version g) ≡ granule_size version
+unfolding granule_bits
+length-granule_bits version g = length-spelled (granule_widths version) (granule_numbers version g) (length-granule_numbers version g)
+
+pub AreBits-granule_bits : (version : Version) (g : Granule) → AreBits (granule_bits version g)
+unfolding granule_bits
+AreBits-granule_bits version g = AreBits-spelled (granule_widths version) (granule_numbers version g)
+
+pub GranuleFits-granule_at : (version : Version) (bs : List ℕ) → AreBits bs → GranuleFits version (granule_at version bs)
+unfolding granule_at
+GranuleFits-granule_at version bs h =
+    GranuleFits-granule_of version (numbers_at (granule_widths version) bs) (Fits-numbers_at (granule_widths version) bs h)
+
+pub granule_at-granule_bits : (version : Version) (g : Granule) (more : List ℕ) → GranuleFits version g → granule_at version (granule_bits version g ++ more) ≡ g
+unfolding granule_at granule_bits
+granule_at-granule_bits version g more h =
+    ap (granule_of version) (numbers_at-spelled_more (granule_widths version) (granule_numbers version g) more (Fits-granule version g h))
+    ∙ granule_of-numbers version g h
+
+pub granule_bits-granule_at : (version : Version) (bs : List ℕ) → AreBits bs → granule_size version ≤ length bs → granule_bits version (granule_at version bs) ≡ take (granule_size version) bs
+unfolding granule_at granule_bits
+granule_bits-granule_at version bs all h =
+    ap (spelled (granule_widths version)) (numbers-granule_of version (numbers_at (granule_widths version) bs) (Fits-numbers_at (granule_widths version) bs all))
+    ∙ spelled-numbers_at_front (granule_widths version) bs all h
+
+-- ---- granules one after another
+-- so many granules, from the nth on
+unfoldable pub granules_from : Version → ℕ → ℕ → List ℕ → List Granule
+granules_from version n zero bs = []
+granules_from version n (suc count) bs = nth_granule version n bs ∷ granules_from version (n + 1) count bs
+
+pub AllFit : Version → List Granule → Type 0
+AllFit version gs = (n : ℕ) → n < length gs → GranuleFits version (get_or gs n no_granule)
+
+pub length-flat : (version : Version) (gs : List Granule) → length (flat_map (granule_bits version) gs) ≡ length gs * granule_size version
+length-flat version [] = omega arith
+length-flat version (g ∷ gs) =
+    let e : length (granule_bits version g) ≡ granule_size version = length-granule_bits version g in
+    rw (length-append (granule_bits version g) (flat_map (granule_bits version) gs), e, length-flat version gs, suc-mul) (add_comm (granule_size version) (length gs * granule_size version))
+
+pub AreBits-flat : (version : Version) (gs : List Granule) → AreBits (flat_map (granule_bits version) gs)
+AreBits-flat version [] = tt
+AreBits-flat version (g ∷ gs) = AreBits-append (granule_bits version g) (flat_map (granule_bits version) gs) (AreBits-granule_bits version g) (AreBits-flat version gs)
+
+-- the granules of bits that granules spell are these
+pub nth_granule-flat : (version : Version) (gs : List Granule) (n : ℕ) (more : List ℕ) → n < length gs → GranuleFits version (get_or gs n no_granule) → nth_granule version n (flat_map (granule_bits version) gs ++ more) ≡ get_or gs n no_granule
+nth_granule-flat version [] n more h fits = absurd (omega arith)
+nth_granule-flat version (g ∷ gs) zero more h fits =
+    ap (λ k. granule_at version (drop k ((granule_bits version g ++ flat_map (granule_bits version) gs) ++ more))) (zero-mul (granule_size version))
+    ∙ ap (granule_at version) (append_assoc (granule_bits version g) (flat_map (granule_bits version) gs) more)
+    ∙ granule_at-granule_bits version g (flat_map (granule_bits version) gs ++ more) fits
+nth_granule-flat version (g ∷ gs) (suc n) more h fits =
+    let e : suc n * granule_size version ≡ length (granule_bits version g) + n * granule_size version = suc-mul n (granule_size version) ∙ add_comm (n * granule_size version) (granule_size version) ∙ ap (λ k. k + n * granule_size version) (sym (length-granule_bits version g)) in
+    ap (λ k. granule_at version (drop k ((granule_bits version g ++ flat_map (granule_bits version) gs) ++ more))) e
+    ∙ ap (λ bs. granule_at version (drop (length (granule_bits version g) + n * granule_size version) bs)) (append_assoc (granule_bits version g) (flat_map (granule_bits version) gs) more)
+    ∙ ap (granule_at version) (drop-append-add (granule_bits version g) (flat_map (granule_bits version) gs ++ more) (n * granule_size version))
+    ∙ nth_granule-flat version gs n more (omega arith) fits
+
+-- the bits of granules that bits hold are these
+pub flat-granules_from : (version : Version) (n count : ℕ) (bs : List ℕ) → AreBits bs → (n + count) * granule_size version ≤ length bs → flat_map (granule_bits version) (granules_from version n count bs) ≡ take (count * granule_size version) (drop (n * granule_size version) bs)
+unfolding granules_from
+flat-granules_from version n zero bs all h = ap (λ k. take k (drop (n * granule_size version) bs)) (sym (zero-mul (granule_size version)))
+flat-granules_from version n (suc count) bs all h =
+    let size : ℕ = granule_size version in
+    let whole : (n + suc count) * size ≡ n * size + suc count * size = add-mul n (suc count) size in
+    let more : suc count * size ≡ count * size + size = suc-mul count size in
+    let next : (n + 1) * size ≡ n * size + size = add-mul n 1 size ∙ ap (λ k. n * size + k) (one-mul size) in
+    let one : granule_bits version (granule_at version (drop (n * size) bs)) ≡ take size (drop (n * size) bs) = granule_bits-granule_at version (drop (n * size) bs) (AreBits-drop (n * size) bs all) (simp length-drop (omega arith)) in
+    let others : flat_map (granule_bits version) (granules_from version (n + 1) count bs) ≡ take (count * size) (drop size (drop (n * size) bs)) =
+        flat-granules_from version (n + 1) count bs all (rw (add_assoc n 1 count, one-add count) h)
+        ∙ ap (λ k. take (count * size) (drop k bs)) next
+        ∙ ap (take (count * size)) (sym (drop-drop size (n * size) bs)) in
+    ap₂ (λ cs ds. cs ++ ds) one others
+    ∙ sym (take-add size (count * size) (drop (n * size) bs))
+    ∙ ap (λ k. take k (drop (n * size) bs)) (add_comm size (count * size) ∙ sym more)

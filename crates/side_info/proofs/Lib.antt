@@ -1,0 +1,2 @@
+pub mod GranuleLaws
+pub mod SideLaws

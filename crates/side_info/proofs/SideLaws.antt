@@ -1,0 +1,1 @@
+-- The laws of the side information: fields and bits give each other back.
