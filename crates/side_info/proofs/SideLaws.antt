@@ -1,1 +1,145 @@
 -- The laws of the side information: fields and bits give each other back.
+use Rattle.std.proofs.Common.{◌≡◌, ℕ, zero, suc, ◌+◌, ◌*◌, ◌^◌, ◌<◌, ◌≤◌, Bool, true, false, cond, eqb, List, [], ◌∷◌, ◌++◌, length, get_or, take, drop, refl, sym, ap, ap₂, ◌∙◌, arith, sum, append-nil, length-append, length-take, length-drop, append_assoc, take-append-drop, take_all}
+use Rattle.std.specs.List.{flat_map}
+use Rattle.std.specs.Bool.{MatchBool}
+use Rattle.std.proofs.Math.Nat.{zero-add, zero-mul}
+use Rattle.std.proofs.lemmas.Nat.{pow_pos}
+use Rattle.std.proofs.lemmas.List.{take_at, drop_at}
+use Rattle.bit_fields.specs.Bits.{bits, AreBits}
+use Rattle.bit_fields.specs.Groups.{numbers_at, spelled, Fits}
+use Rattle.bit_fields.proofs.BitsLaws.{AreBits-append, AreBits-drop}
+use Rattle.bit_fields.proofs.GroupsLaws.{length-spelled, AreBits-spelled, Fits-numbers_at, numbers_at-spelled_more, spelled-numbers_at_front}
+use Rattle.frame_header.specs.declared.version.Version.{Version}
+use Rattle.frame_header.specs.declared.version.Version.TheVariants.{One, Two}
+use Rattle.frame_header.specs.Fields.{ClassFields, IsClass}
+use Rattle.frame_header.specs.Tables.{side_size_of, granules_of}
+use Rattle.side_info.specs.declared.granule.Granule.{Granule}
+use Rattle.side_info.specs.declared.side.Side.{Side}
+use Rattle.side_info.specs.Granule.{granule_size, granule_bits, granule_at, no_granule, GranuleFits}
+use Rattle.side_info.specs.Side.{front_widths, nth_granule, channels_at, granules_at, side_at, granules_in, side_bits, granule_in, has_granule, SideFits}
+use Rattle.side_info.proofs.GranuleLaws.{granules_from, length-flat, AreBits-flat, nth_granule-flat, flat-granules_from, GranuleFits-granule_at}
+
+-- ---- the four combinations of version and channels
+abbrev pub class_with : Version → ℕ → ℕ → ClassFields
+class_with version frequency_index channels = record { version = version; frequency_index = frequency_index; channels = channels }
+
+module _ (P : ClassFields → Type 0) (one_mono : (f : ℕ) → P (class_with One f 1)) (one_stereo : (f : ℕ) → P (class_with One f 2)) (two_mono : (f : ℕ) → P (class_with Two f 1)) (two_stereo : (f : ℕ) → P (class_with Two f 2)) where
+  by_channels : (version : Version) (f channels : ℕ) → 1 ≤ channels → channels ≤ 2 → P (class_with version f channels)
+  by_channels version f zero low high = absurd (omega arith)
+  by_channels One f (suc zero) low high = one_mono f
+  by_channels Two f (suc zero) low high = two_mono f
+  by_channels One f (suc (suc zero)) low high = one_stereo f
+  by_channels Two f (suc (suc zero)) low high = two_stereo f
+  by_channels version f (suc (suc (suc channels))) low high = absurd (omega arith)
+
+  -- what holds of each combination holds of every class
+  pub each_class : (c : ClassFields) → IsClass c → P c
+  each_class c class = by_channels c.version c.frequency_index c.channels class.1 class.2
+
+-- ---- how many bits
+-- the granules and channels of a frame
+abbrev pub granule_count : ClassFields → ℕ
+granule_count c = granules_of c.version * c.channels
+
+pub widths_sum : (c : ClassFields) → IsClass c → sum (front_widths c) + granule_count c * granule_size c.version ≡ 8 * side_size_of c
+unfolding side_size_of
+widths_sum = each_class (λ c. sum (front_widths c) + granule_count c * granule_size c.version ≡ 8 * side_size_of c) (λ f. refl) (λ f. refl) (λ f. refl) (λ f. refl)
+
+-- ---- bits to fields and back
+granules_in-side_at : (c : ClassFields) → IsClass c → (bs : List ℕ) → granules_in c (side_at c bs) ≡ granules_from c.version 0 (granule_count c) (drop (sum (front_widths c)) bs)
+unfolding granules_in side_at granules_from
+granules_in-side_at = each_class (λ c. (bs : List ℕ) → granules_in c (side_at c bs) ≡ granules_from c.version 0 (granule_count c) (drop (sum (front_widths c)) bs)) (λ f bs. refl) (λ f bs. refl) (λ f bs. refl) (λ f bs. refl)
+
+front-side_at : (c : ClassFields) → IsClass c → (bs : List ℕ) → spelled (front_widths c) ((side_at c bs).main_data_begin ∷ (side_at c bs).private_bits ∷ (side_at c bs).scfsi) ≡ spelled (front_widths c) (numbers_at (front_widths c) bs)
+unfolding side_at spelled numbers_at
+front-side_at = each_class (λ c. (bs : List ℕ) → spelled (front_widths c) ((side_at c bs).main_data_begin ∷ (side_at c bs).private_bits ∷ (side_at c bs).scfsi) ≡ spelled (front_widths c) (numbers_at (front_widths c) bs)) (λ f bs. refl) (λ f bs. refl) (λ f bs. refl) (λ f bs. refl)
+
+pub side_bits-side_at : (c : ClassFields) → IsClass c → (bs : List ℕ) → AreBits bs → length bs ≡ 8 * side_size_of c → side_bits c (side_at c bs) ≡ bs
+unfolding side_bits
+side_bits-side_at c class bs all h =
+    let front : ℕ = sum (front_widths c) in
+    let rest : List ℕ = drop (sum (front_widths c)) bs in
+    let whole : front + granule_count c * granule_size c.version ≡ length bs = widths_sum c class ∙ sym h in
+    let l : length rest ≡ granule_count c * granule_size c.version = simp length-drop (omega arith) in
+    let most : (0 + granule_count c) * granule_size c.version ≤ length rest = rw zero-add (omega arith) in
+    ap₂ (λ cs ds. cs ++ ds)
+      (front-side_at c class bs ∙ spelled-numbers_at_front (front_widths c) bs all (omega arith))
+      (ap (flat_map (granule_bits c.version)) (granules_in-side_at c class bs)
+       ∙ flat-granules_from c.version 0 (granule_count c) rest (AreBits-drop front bs all) most
+       ∙ ap (λ k. take (granule_count c * granule_size c.version) (drop k rest)) (zero-mul (granule_size c.version))
+       ∙ take_all (granule_count c * granule_size c.version) rest (omega arith))
+    ∙ take-append-drop front bs
+
+-- ---- fields to bits and back
+-- the lists of a side information are as long as its arrays
+pub record IsShaped (s : Side) : Type 0 where
+  pub scfsi : length s.scfsi ≡ 2
+  pub granules : length s.granules ≡ 2
+  pub first : length (get_or s.granules 0 []) ≡ 2
+  pub second : length (get_or s.granules 1 []) ≡ 2
+
+abbrev pub side_with : ℕ → ℕ → ℕ → ℕ → Granule → Granule → Granule → Granule → Side
+side_with m p a b g h k l = record { main_data_begin = m; private_bits = p; scfsi = a ∷ b ∷ []; granules = (g ∷ h ∷ []) ∷ (k ∷ l ∷ []) ∷ [] }
+
+module _ (P : Side → Type 0) (each : (m p a b : ℕ) (g h k l : Granule) → P (side_with m p a b g h k l)) where
+  by_second : (m p a b : ℕ) (g h : Granule) (ks : List Granule) → length ks ≡ 2 → P (record { main_data_begin = m; private_bits = p; scfsi = a ∷ b ∷ []; granules = (g ∷ h ∷ []) ∷ ks ∷ [] })
+  by_second m p a b g h (k ∷ l ∷ []) e = each m p a b g h k l
+  by_second m p a b g h ks e = absurd (omega arith)
+
+  by_first : (m p a b : ℕ) (gs ks : List Granule) → length gs ≡ 2 → length ks ≡ 2 → P (record { main_data_begin = m; private_bits = p; scfsi = a ∷ b ∷ []; granules = gs ∷ ks ∷ [] })
+  by_first m p a b (g ∷ h ∷ []) ks d e = by_second m p a b g h ks e
+  by_first m p a b gs ks d e = absurd (omega arith)
+
+  by_granules : (m p a b : ℕ) (gs : List (List Granule)) → length gs ≡ 2 → length (get_or gs 0 []) ≡ 2 → length (get_or gs 1 []) ≡ 2 → P (record { main_data_begin = m; private_bits = p; scfsi = a ∷ b ∷ []; granules = gs })
+  by_granules m p a b (gs ∷ ks ∷ []) l d e = by_first m p a b gs ks d e
+  by_granules m p a b gs l d e = absurd (omega arith)
+
+  by_scfsi : (m p : ℕ) (cs : List ℕ) (gs : List (List Granule)) → length cs ≡ 2 → length gs ≡ 2 → length (get_or gs 0 []) ≡ 2 → length (get_or gs 1 []) ≡ 2 → P (record { main_data_begin = m; private_bits = p; scfsi = cs; granules = gs })
+  by_scfsi m p (a ∷ b ∷ []) gs n l d e = by_granules m p a b gs l d e
+  by_scfsi m p cs gs n l d e = absurd (omega arith)
+
+  -- what holds of each side information with two of each holds of every one
+  pub each_shaped : (s : Side) → IsShaped s → P s
+  each_shaped s shaped = by_scfsi s.main_data_begin s.private_bits s.scfsi s.granules shaped.scfsi shaped.granules shaped.first shaped.second
+
+-- the side information of these front numbers and granules
+unfoldable built : ClassFields → List ℕ → List ℕ → Side
+built c front bs = record {
+  main_data_begin = get_or front 0 0;
+  private_bits = get_or front 1 0;
+  scfsi = get_or front 2 0 ∷ get_or front 3 0 ∷ [];
+  granules = granules_at c bs;
+}
+
+side_at-built : (c : ClassFields) (bs : List ℕ) → side_at c bs ≡ built c (numbers_at (front_widths c) bs) (drop (sum (front_widths c)) bs)
+unfolding side_at built
+side_at-built c bs = refl
+
+-- a front and granules behind it
+back : (c : ClassFields) (ns : List ℕ) (gs : List Granule) → Fits (front_widths c) ns → length ns ≡ length (front_widths c) → side_at c (spelled (front_widths c) ns ++ flat_map (granule_bits c.version) gs) ≡ built c ns (flat_map (granule_bits c.version) gs)
+back c ns gs fits l =
+    side_at-built c (spelled (front_widths c) ns ++ flat_map (granule_bits c.version) gs)
+    ∙ ap₂ (built c)
+      (numbers_at-spelled_more (front_widths c) ns (flat_map (granule_bits c.version) gs) fits)
+      (drop_at (spelled (front_widths c) ns) (flat_map (granule_bits c.version) gs) (sum (front_widths c)) (length-spelled (front_widths c) ns l))
+
+nth : (version : Version) (gs : List Granule) (n : ℕ) → n < length gs → GranuleFits version (get_or gs n no_granule) → nth_granule version n (flat_map (granule_bits version) gs) ≡ get_or gs n no_granule
+nth version gs n h fits =
+    ap (nth_granule version n) (sym (append-nil (flat_map (granule_bits version) gs))) ∙ nth_granule-flat version gs n [] h fits
+
+zero_alone : (n : ℕ) → n < 2 ^ 0 → 0 ≡ n
+zero_alone n h = omega arith
+
+GivesBack : ClassFields → Side → Type 0
+GivesBack c s = SideFits c s → side_at c (side_bits c s) ≡ s
+
+back_one_stereo : (f m p a b : ℕ) (g h k l : Granule) → SideFits (class_with One f 2) (side_with m p a b g h k l) → side_at (class_with One f 2) (side_bits (class_with One f 2) (side_with m p a b g h k l)) ≡ side_with m p a b g h k l
+unfolding side_bits granules_in built
+back_one_stereo f m p a b g h k l fits =
+    let gs : List Granule = g ∷ h ∷ k ∷ l ∷ [] in
+    let q0 : nth_granule One 0 (flat_map (granule_bits One) gs) ≡ g = nth One gs 0 (omega arith) (fits.granules 0 0) in
+    let q1 : nth_granule One 1 (flat_map (granule_bits One) gs) ≡ h = nth One gs 1 (omega arith) (fits.granules 0 1) in
+    let q2 : nth_granule One 2 (flat_map (granule_bits One) gs) ≡ k = nth One gs 2 (omega arith) (fits.granules 1 0) in
+    let q3 : nth_granule One 3 (flat_map (granule_bits One) gs) ≡ l = nth One gs 3 (omega arith) (fits.granules 1 1) in
+    back (class_with One f 2) (m ∷ p ∷ a ∷ b ∷ []) gs (fits.main_data_begin, (fits.private_bits, (fits.scfsi 0, (fits.scfsi 1, tt)))) refl
+    ∙ (λ i. record { main_data_begin = m; private_bits = p; scfsi = a ∷ b ∷ []; granules = (q0 i ∷ q1 i ∷ []) ∷ (q2 i ∷ q3 i ∷ []) ∷ [] })
