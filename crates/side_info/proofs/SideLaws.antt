@@ -1,5 +1,5 @@
 -- The laws of the side information: fields and bits give each other back.
-use Rattle.std.proofs.Common.{◌≡◌, ℕ, zero, suc, ◌+◌, ◌*◌, ◌^◌, ◌<◌, ◌≤◌, Bool, true, false, cond, eqb, List, [], ◌∷◌, ◌++◌, length, get_or, take, drop, refl, sym, ap, ap₂, ◌∙◌, arith, sum, append-nil, length-append, length-take, length-drop, append_assoc, take-append-drop, take_all}
+use Rattle.std.proofs.Common.{◌≡◌, ℕ, zero, suc, ◌+◌, ◌*◌, ◌^◌, ◌<◌, ◌≤◌, Bool, true, false, cond, eqb, List, [], ◌∷◌, ◌++◌, length, get_or, take, drop, refl, sym, ap, ap₂, ◌∙◌, arith, sum, append-nil, length-append, length-take, length-drop, append_assoc, take-append-drop, take_all, lit<}
 use Rattle.std.specs.List.{flat_map}
 use Rattle.std.specs.Bool.{MatchBool}
 use Rattle.std.proofs.Math.Nat.{zero-add, zero-mul}
@@ -16,7 +16,7 @@ use Rattle.frame_header.specs.Tables.{side_size_of, granules_of}
 use Rattle.side_info.specs.declared.granule.Granule.{Granule}
 use Rattle.side_info.specs.declared.side.Side.{Side}
 use Rattle.side_info.specs.Granule.{granule_size, granule_bits, granule_at, no_granule, GranuleFits}
-use Rattle.side_info.specs.Side.{front_widths, nth_granule, channels_at, granules_at, side_at, granules_in, side_bits, granule_in, has_granule, SideFits}
+use Rattle.side_info.specs.Side.{front_widths, front_width, nth_granule, channels_at, granules_at, side_at, granules_in, side_bits, granule_in, has_granule, SideFits}
 use Rattle.side_info.proofs.GranuleLaws.{granules_from, length-flat, AreBits-flat, nth_granule-flat, flat-granules_from, GranuleFits-granule_at}
 
 -- ---- the four combinations of version and channels
@@ -130,10 +130,19 @@ nth version gs n h fits =
 zero_alone : (n : ℕ) → n < 2 ^ 0 → 0 ≡ n
 zero_alone n h = omega arith
 
-GivesBack : ClassFields → Side → Type 0
+abbrev GivesBack : ClassFields → Side → Type 0
 GivesBack c s = SideFits c s → side_at c (side_bits c s) ≡ s
 
-back_one_stereo : (f m p a b : ℕ) (g h k l : Granule) → SideFits (class_with One f 2) (side_with m p a b g h k l) → side_at (class_with One f 2) (side_bits (class_with One f 2) (side_with m p a b g h k l)) ≡ side_with m p a b g h k l
+back_one_mono : (f m p a b : ℕ) (g h k l : Granule) → GivesBack (class_with One f 1) (side_with m p a b g h k l)
+unfolding side_bits granules_in spelled built
+back_one_mono f m p a b g h k l fits =
+    let gs : List Granule = g ∷ k ∷ [] in
+    let q0 : nth_granule One 0 (flat_map (granule_bits One) gs) ≡ g = nth One gs 0 (omega arith) (fits.granules 0 0) in
+    let q1 : nth_granule One 1 (flat_map (granule_bits One) gs) ≡ k = nth One gs 1 (omega arith) (fits.granules 1 0) in
+    back (class_with One f 1) (m ∷ p ∷ a ∷ []) gs (fits.main_data_begin, (fits.private_bits, (fits.scfsi 0, tt))) refl
+    ∙ (λ i. side_with m p a (zero_alone b (fits.scfsi 1) i) (q0 i) (sym (fits.granules 0 1) i) (q1 i) (sym (fits.granules 1 1) i))
+
+back_one_stereo : (f m p a b : ℕ) (g h k l : Granule) → GivesBack (class_with One f 2) (side_with m p a b g h k l)
 unfolding side_bits granules_in built
 back_one_stereo f m p a b g h k l fits =
     let gs : List Granule = g ∷ h ∷ k ∷ l ∷ [] in
@@ -142,4 +151,154 @@ back_one_stereo f m p a b g h k l fits =
     let q2 : nth_granule One 2 (flat_map (granule_bits One) gs) ≡ k = nth One gs 2 (omega arith) (fits.granules 1 0) in
     let q3 : nth_granule One 3 (flat_map (granule_bits One) gs) ≡ l = nth One gs 3 (omega arith) (fits.granules 1 1) in
     back (class_with One f 2) (m ∷ p ∷ a ∷ b ∷ []) gs (fits.main_data_begin, (fits.private_bits, (fits.scfsi 0, (fits.scfsi 1, tt)))) refl
-    ∙ (λ i. record { main_data_begin = m; private_bits = p; scfsi = a ∷ b ∷ []; granules = (q0 i ∷ q1 i ∷ []) ∷ (q2 i ∷ q3 i ∷ []) ∷ [] })
+    ∙ (λ i. side_with m p a b (q0 i) (q1 i) (q2 i) (q3 i))
+
+back_two_mono : (f m p a b : ℕ) (g h k l : Granule) → GivesBack (class_with Two f 1) (side_with m p a b g h k l)
+unfolding side_bits granules_in spelled built
+back_two_mono f m p a b g h k l fits =
+    let gs : List Granule = g ∷ [] in
+    let q0 : nth_granule Two 0 (flat_map (granule_bits Two) gs) ≡ g = nth Two gs 0 (omega arith) (fits.granules 0 0) in
+    back (class_with Two f 1) (m ∷ p ∷ []) gs (fits.main_data_begin, (fits.private_bits, tt)) refl
+    ∙ (λ i. side_with m p (zero_alone a (fits.scfsi 0) i) (zero_alone b (fits.scfsi 1) i) (q0 i) (sym (fits.granules 0 1) i) (sym (fits.granules 1 0) i) (sym (fits.granules 1 1) i))
+
+back_two_stereo : (f m p a b : ℕ) (g h k l : Granule) → GivesBack (class_with Two f 2) (side_with m p a b g h k l)
+unfolding side_bits granules_in spelled built
+back_two_stereo f m p a b g h k l fits =
+    let gs : List Granule = g ∷ h ∷ [] in
+    let q0 : nth_granule Two 0 (flat_map (granule_bits Two) gs) ≡ g = nth Two gs 0 (omega arith) (fits.granules 0 0) in
+    let q1 : nth_granule Two 1 (flat_map (granule_bits Two) gs) ≡ h = nth Two gs 1 (omega arith) (fits.granules 0 1) in
+    back (class_with Two f 2) (m ∷ p ∷ []) gs (fits.main_data_begin, (fits.private_bits, tt)) refl
+    ∙ (λ i. side_with m p (zero_alone a (fits.scfsi 0) i) (zero_alone b (fits.scfsi 1) i) (q0 i) (q1 i) (sym (fits.granules 1 0) i) (sym (fits.granules 1 1) i))
+
+pub side_at-side_bits : (c : ClassFields) → IsClass c → (s : Side) → IsShaped s → SideFits c s → side_at c (side_bits c s) ≡ s
+side_at-side_bits c class s shaped =
+    each_shaped (GivesBack c)
+    (each_class (λ d. (m p a b : ℕ) (g h k l : Granule) → GivesBack d (side_with m p a b g h k l)) back_one_mono back_one_stereo back_two_mono back_two_stereo c class)
+    s shaped
+
+-- ---- what side information and bits are
+pub AreBits-side_bits : (c : ClassFields) (s : Side) → AreBits (side_bits c s)
+unfolding side_bits
+AreBits-side_bits c s =
+    AreBits-append (spelled (front_widths c) (s.main_data_begin ∷ s.private_bits ∷ s.scfsi)) (flat_map (granule_bits c.version) (granules_in c s))
+    (AreBits-spelled (front_widths c) (s.main_data_begin ∷ s.private_bits ∷ s.scfsi)) (AreBits-flat c.version (granules_in c s))
+
+abbrev Long : ClassFields → Side → Type 0
+Long c s = length (side_bits c s) ≡ 8 * side_size_of c
+
+-- the front numbers that the class has, and the granules
+long : (c : ClassFields) (ns : List ℕ) (gs : List Granule) → length ns ≡ length (front_widths c) → length (spelled (front_widths c) ns ++ flat_map (granule_bits c.version) gs) ≡ sum (front_widths c) + length gs * granule_size c.version
+long c ns gs l =
+    length-append (spelled (front_widths c) ns) (flat_map (granule_bits c.version) gs)
+    ∙ ap₂ (λ m n. m + n) (length-spelled (front_widths c) ns l) (length-flat c.version gs)
+
+long_one_mono : (f m p a b : ℕ) (g h k l : Granule) → Long (class_with One f 1) (side_with m p a b g h k l)
+unfolding side_bits granules_in spelled side_size_of
+long_one_mono f m p a b g h k l = long (class_with One f 1) (m ∷ p ∷ a ∷ []) (g ∷ k ∷ []) refl
+
+long_one_stereo : (f m p a b : ℕ) (g h k l : Granule) → Long (class_with One f 2) (side_with m p a b g h k l)
+unfolding side_bits granules_in side_size_of
+long_one_stereo f m p a b g h k l = long (class_with One f 2) (m ∷ p ∷ a ∷ b ∷ []) (g ∷ h ∷ k ∷ l ∷ []) refl
+
+long_two_mono : (f m p a b : ℕ) (g h k l : Granule) → Long (class_with Two f 1) (side_with m p a b g h k l)
+unfolding side_bits granules_in spelled side_size_of
+long_two_mono f m p a b g h k l = long (class_with Two f 1) (m ∷ p ∷ []) (g ∷ []) refl
+
+long_two_stereo : (f m p a b : ℕ) (g h k l : Granule) → Long (class_with Two f 2) (side_with m p a b g h k l)
+unfolding side_bits granules_in spelled side_size_of
+long_two_stereo f m p a b g h k l = long (class_with Two f 2) (m ∷ p ∷ []) (g ∷ h ∷ []) refl
+
+pub length-side_bits : (c : ClassFields) → IsClass c → (s : Side) → IsShaped s → length (side_bits c s) ≡ 8 * side_size_of c
+length-side_bits c class s shaped =
+    each_shaped (Long c)
+    (each_class (λ d. (m p a b : ℕ) (g h k l : Granule) → Long d (side_with m p a b g h k l)) long_one_mono long_one_stereo long_two_mono long_two_stereo c class)
+    s shaped
+
+pub IsShaped-side_at : (c : ClassFields) (bs : List ℕ) → IsShaped (side_at c bs)
+unfolding side_at
+IsShaped-side_at c bs = record {
+  scfsi = refl;
+  granules = refl;
+  first = refl;
+  second = elim (eqb (granules_of c.version) 1) as (λ b. length (cond b (no_granule ∷ no_granule ∷ []) (channels_at c c.channels (drop (sum (front_widths c)) bs))) ≡ 2) [ true ↦ refl | false ↦ refl ];
+}
+
+no_granule-fits : (version : Version) → GranuleFits version no_granule
+no_granule-fits One = record { part2_3_length = lit< tt; big_values = lit< tt; global_gain = lit< tt; scalefac_compress = lit< tt; detail = lit< tt; preflag = tt }
+no_granule-fits Two = record { part2_3_length = lit< tt; big_values = lit< tt; global_gain = lit< tt; scalefac_compress = lit< tt; detail = lit< tt; preflag = refl }
+
+none_fits : (version : Version) (has : Bool) → MatchBool has (GranuleFits version no_granule) (◌≡◌ {A = Granule} no_granule no_granule)
+none_fits version true = no_granule-fits version
+none_fits version false = refl
+
+some_fits : (version : Version) (bs : List ℕ) (n : ℕ) → AreBits bs → GranuleFits version (nth_granule version n bs)
+some_fits version bs n all = GranuleFits-granule_at version (drop (n * granule_size version) bs) (AreBits-drop (n * granule_size version) bs all)
+
+abbrev FitsAt : ClassFields → Side → ℕ → ℕ → Type 0
+FitsAt c s granule channel = MatchBool (has_granule c granule channel) (GranuleFits c.version (granule_in s granule channel)) (granule_in s granule channel ≡ no_granule)
+
+-- each granule and channel fits where those of the arrays do
+pub granules_fit : (c : ClassFields) (m p a b : ℕ) (g h k l : Granule) → FitsAt c (side_with m p a b g h k l) 0 0 → FitsAt c (side_with m p a b g h k l) 0 1 → FitsAt c (side_with m p a b g h k l) 1 0 → FitsAt c (side_with m p a b g h k l) 1 1 → (granule channel : ℕ) → FitsAt c (side_with m p a b g h k l) granule channel
+granules_fit c m p a b g h k l x0 x1 x2 x3 zero zero = x0
+granules_fit c m p a b g h k l x0 x1 x2 x3 zero (suc zero) = x1
+granules_fit c m p a b g h k l x0 x1 x2 x3 zero (suc (suc channel)) = none_fits c.version (has_granule c zero (suc (suc channel)))
+granules_fit c m p a b g h k l x0 x1 x2 x3 (suc zero) zero = x2
+granules_fit c m p a b g h k l x0 x1 x2 x3 (suc zero) (suc zero) = x3
+granules_fit c m p a b g h k l x0 x1 x2 x3 (suc zero) (suc (suc channel)) = none_fits c.version (has_granule c (suc zero) (suc (suc channel)))
+granules_fit c m p a b g h k l x0 x1 x2 x3 (suc (suc granule)) channel = none_fits c.version (has_granule c (suc (suc granule)) channel)
+
+pub scfsi_fit : (c : ClassFields) (a b : ℕ) → a < 2 ^ front_width c 2 → b < 2 ^ front_width c 3 → (channel : ℕ) → get_or (a ∷ b ∷ []) channel 0 < 2 ^ front_width c (2 + channel)
+scfsi_fit c a b ha hb zero = ha
+scfsi_fit c a b ha hb (suc zero) = hb
+scfsi_fit c a b ha hb (suc (suc channel)) = pow_pos (front_width c (2 + suc (suc channel)))
+
+fits_one_mono : (f : ℕ) (bs : List ℕ) → AreBits bs → SideFits (class_with One f 1) (side_at (class_with One f 1) bs)
+unfolding side_at numbers_at
+fits_one_mono f bs all =
+    let front : Fits (front_widths (class_with One f 1)) (numbers_at (front_widths (class_with One f 1)) bs) = Fits-numbers_at (front_widths (class_with One f 1)) bs all in
+    let rest : AreBits (drop 18 bs) = AreBits-drop 18 bs all in
+    record {
+      main_data_begin = front.0;
+      private_bits = front.1.0;
+      scfsi = scfsi_fit (class_with One f 1) _ 0 front.1.1.0 (lit< tt);
+      granules = granules_fit (class_with One f 1) 0 0 0 0 _ no_granule _ no_granule (some_fits One (drop 18 bs) 0 rest) refl (some_fits One (drop 18 bs) 1 rest) refl;
+    }
+
+fits_one_stereo : (f : ℕ) (bs : List ℕ) → AreBits bs → SideFits (class_with One f 2) (side_at (class_with One f 2) bs)
+unfolding side_at numbers_at
+fits_one_stereo f bs all =
+    let front : Fits (front_widths (class_with One f 2)) (numbers_at (front_widths (class_with One f 2)) bs) = Fits-numbers_at (front_widths (class_with One f 2)) bs all in
+    let rest : AreBits (drop 20 bs) = AreBits-drop 20 bs all in
+    record {
+      main_data_begin = front.0;
+      private_bits = front.1.0;
+      scfsi = scfsi_fit (class_with One f 2) _ _ front.1.1.0 front.1.1.1.0;
+      granules = granules_fit (class_with One f 2) 0 0 0 0 _ _ _ _ (some_fits One (drop 20 bs) 0 rest) (some_fits One (drop 20 bs) 1 rest) (some_fits One (drop 20 bs) 2 rest) (some_fits One (drop 20 bs) 3 rest);
+    }
+
+fits_two_mono : (f : ℕ) (bs : List ℕ) → AreBits bs → SideFits (class_with Two f 1) (side_at (class_with Two f 1) bs)
+unfolding side_at numbers_at
+fits_two_mono f bs all =
+    let front : Fits (front_widths (class_with Two f 1)) (numbers_at (front_widths (class_with Two f 1)) bs) = Fits-numbers_at (front_widths (class_with Two f 1)) bs all in
+    let rest : AreBits (drop 9 bs) = AreBits-drop 9 bs all in
+    record {
+      main_data_begin = front.0;
+      private_bits = front.1.0;
+      scfsi = scfsi_fit (class_with Two f 1) 0 0 (lit< tt) (lit< tt);
+      granules = granules_fit (class_with Two f 1) 0 0 0 0 _ no_granule no_granule no_granule (some_fits Two (drop 9 bs) 0 rest) refl refl refl;
+    }
+
+fits_two_stereo : (f : ℕ) (bs : List ℕ) → AreBits bs → SideFits (class_with Two f 2) (side_at (class_with Two f 2) bs)
+unfolding side_at numbers_at
+fits_two_stereo f bs all =
+    let front : Fits (front_widths (class_with Two f 2)) (numbers_at (front_widths (class_with Two f 2)) bs) = Fits-numbers_at (front_widths (class_with Two f 2)) bs all in
+    let rest : AreBits (drop 10 bs) = AreBits-drop 10 bs all in
+    record {
+      main_data_begin = front.0;
+      private_bits = front.1.0;
+      scfsi = scfsi_fit (class_with Two f 2) 0 0 (lit< tt) (lit< tt);
+      granules = granules_fit (class_with Two f 2) 0 0 0 0 _ _ no_granule no_granule (some_fits Two (drop 10 bs) 0 rest) (some_fits Two (drop 10 bs) 1 rest) refl refl;
+    }
+
+pub SideFits-side_at : (c : ClassFields) → IsClass c → (bs : List ℕ) → AreBits bs → SideFits c (side_at c bs)
+SideFits-side_at = each_class (λ c. (bs : List ℕ) → AreBits bs → SideFits c (side_at c bs)) fits_one_mono fits_one_stereo fits_two_mono fits_two_stereo
