@@ -1,3 +1,4 @@
 pub mod BitsLaws
 pub mod GroupsLaws
+pub mod CursorLaws
 mod WindowLaws

@@ -4,10 +4,10 @@ ghost use Rattle.bit_fields.specs.Bits.{number, AreBits};
 ghost use Rattle.bit_fields.specs.Cursor.{advanced};
 ghost use Rattle.frame_header.specs.declared.version.Version.TheVariants.{One};
 ghost use Rattle.side_info.specs.Granule.{granule_at, granule_size, no_granule};
-ghost use Rattle.side_info.specs.Front.{front_at, front_size};
+ghost use Rattle.side_info.specs.Parts.{front_at, front_size, pair_at};
 
 use crate::front::Front;
-use crate::granule::Granule;
+use crate::granule::{Granule, NO_GRANULE};
 use bit_fields::Bits;
 
 /// The number of the next n bits, which are there.
@@ -83,4 +83,21 @@ fn read_granule(source: &mut Bits) -> Granule
         scalefac_scale: (rest >> 1) % 2 == 1,
         count1table_select: rest % 2 == 1,
     }
+}
+
+/// The channels of one granule of an MPEG-1 frame.
+pub(crate) fn read_pair(source: &mut Bits, channels: u8) -> [Granule; 2]
+    requires some { 1 ≤ channels }
+    requires few { channels ≤ 2 }
+    requires bits { AreBits source.old.left }
+    requires enough { channels * granule_size One ≤ length source.old.left }
+    ensures pair { result ≡ pair_at One channels source.old.left }
+    ensures moves { source.new ≡ advanced source.old (channels * granule_size One) }
+{
+    let first = read_granule(source);
+    if channels == 1 {
+        return [first, NO_GRANULE];
+    }
+    let second = read_granule(source);
+    [first, second]
 }
