@@ -1,2 +1,3 @@
 pub mod GranuleLaws
 pub mod SideLaws
+mod ReadLaws

@@ -1,5 +1,6 @@
 pub mod Granule
 pub mod Side
+pub mod Parts
 pub use Rattle.frame_header.specs.Fields
 pub use Rattle.frame_header.specs.Tables
 pub use Rattle.frame_header.specs.Reading

@@ -20,3 +20,16 @@ pub struct Granule {
     pub scalefac_scale: bool,
     pub count1table_select: bool,
 }
+
+/// All fields 0.
+pub(crate) const NO_GRANULE: Granule = Granule {
+    part2_3_length: 0,
+    big_values: 0,
+    global_gain: 0,
+    scalefac_compress: 0,
+    window_switching: false,
+    detail: 0,
+    preflag: false,
+    scalefac_scale: false,
+    count1table_select: false,
+};

@@ -6,6 +6,8 @@ ghost use Rattle.frame_header.specs.Tables.{side_size_of};
 ghost use Rattle.side_info.specs.Side.{side_at, side_bits, payload_bits, payload_bytes, SideFits};
 
 use crate::granule::Granule;
+use crate::reading::{read_front, read_pair};
+use bit_fields::Bits;
 use frame_header::Class;
 
 /// The side fields of a frame. What the class of the frame lacks is 0.
@@ -28,6 +30,18 @@ impl Side {
         ensures side { result ≡ side_at class (bits bytes.now) }
         ensures fits { SideFits class result }
     {
+        let mut source = Bits::new(bytes);
+        let front = read_front(&mut source, class.channels);
+        let first = read_pair(&mut source, class.channels);
+        let second = read_pair(&mut source, class.channels);
+        let scfsi = front.scfsi;
+        let granules = [first, second];
+        Side {
+            main_data_begin: front.main_data_begin,
+            private_bits: front.private_bits,
+            scfsi,
+            granules,
+        }
     }
 
     /// Writes the side information of an MPEG-1 frame over all the bytes.
