@@ -23,3 +23,6 @@ pub use memory_folder::{Call, MemFolder};
 pub use memory_sink::MemSink;
 pub use sink::Sink;
 pub use stream::StdSink;
+
+#[cfg(test)]
+mod tests;
