@@ -2,3 +2,5 @@ pub mod Sizes
 pub mod Follow
 pub mod Reading
 pub mod Lines
+pub mod Places
+pub mod Sound
