@@ -1,13 +1,13 @@
 -- The reading of words as relations: the form that they have, and the place of the bad word.
-use Rattle.std.proofs.Common.{◌≡◌, ℕ, zero, suc, ◌+◌, ◌-◌, ◌<◌, ◌≤◌, ◌⊎◌, ◌&&◌, Bool, true, false, cond, List, [], ◌∷◌, length, get_or, take, map, max, Option, Some, None, Result, Ok, Err, refl, ap, sym, ◌∙◌, subst, inl, inr, ⊎_elim, arith}
-use Rattle.std.specs.Prelude.{find, fold, IsTrue, Contains}
+use Rattle.std.proofs.Common.{◌≡◌, ℕ, zero, suc, ◌+◌, ◌-◌, ◌<◌, ◌≤◌, ◌⊎◌, ◌&&◌, Bool, true, false, cond, List, [], ◌∷◌, length, get_or, take, map, max, Some, None, Ok, Err, refl, sym, ◌∙◌, subst, inl, inr, arith}
+use Rattle.std.specs.Prelude.{find, fold, Contains}
 use Rattle.std.specs.List.{common_prefix_len}
 use Rattle.std.specs.Cmp.Lexicographic.{pointwise}
 use Rattle.std.proofs.lemmas.Bool.{cases_lt}
 use Rattle.std.proofs.lemmas.List.{get_or-map, length-map, get_or_default}
 use Rattle.std.proofs.lemmas.List.Sums.{common_prefix_len-le}
 use Rattle.mp3_cli.specs.declared.jobs.Job.{Job}
-use Rattle.mp3_cli.specs.Words.{Kind, Form, fits_kind, forms, gain_without_tags, followed, furthest, form_of, have_kinds, read_as, reading, job_of, Begins, IsReading, IsBadWord}
+use Rattle.mp3_cli.specs.Words.{Form, fits_kind, forms, gain_without_tags, followed, furthest, form_of, have_kinds, read_as, reading, job_of, Begins, IsReading, IsBadWord}
 
 -- what a search finds
 found : {X : Type 0} (p : X → Bool) (xs : List X) (x : X) → find p xs ≡ Some x → Contains xs x × (p x ≡ true)

@@ -1,13 +1,12 @@
 -- What a job names and asks for is in range.
-use Rattle.std.proofs.Common.{◌≡◌, ℕ, zero, suc, ◌+◌, ◌-◌, ◌<◌, ◌≤◌, ◌&&◌, ◌==◌, Bool, true, false, cond, List, [], ◌∷◌, length, get_or, Option, Some, None, Ok, refl, ap, sym, ◌∙◌, subst, leb, ℤ, pos, negsuc, neg_ℤ, ◌≤ℤ◌, arith, rules}
-use Rattle.std.specs.Prelude.{IfSome, is_some, unwrap_or, option_map, Contains}
-use Rattle.std.specs.Cmp.Lexicographic.{pointwise}
+use Rattle.std.proofs.Common.{◌≡◌, ℕ, zero, suc, ◌<◌, ◌≤◌, ◌&&◌, ◌==◌, Bool, true, false, cond, List, [], ◌∷◌, length, get_or, Option, Some, None, Ok, refl, sym, subst, leb, pos, neg_ℤ, arith, rules}
+use Rattle.std.specs.Prelude.{IfSome, unwrap_or, option_map}
 use Rattle.std.specs.Str.{all_ascii_digits}
 use Rattle.std.specs.Str.Parse.{digits_value}
 use Rattle.std.proofs.lemmas.Int.{ints}
 use Rattle.std.proofs.lemmas.Bool.{leb-true}
 use Rattle.mp3_cli.specs.declared.jobs.Job.{Job}
-use Rattle.mp3_cli.specs.Words.{Kind, Name, Form, fits_kind, forms, gain_without_tags, have_kinds, reading, job_of, size_of, steps_of, is_name, word_at, IsStepCount, IsNamePlace, IsSound}
+use Rattle.mp3_cli.specs.Words.{Kind, Name, Form, fits_kind, forms, gain_without_tags, have_kinds, job_of, size_of, steps_of, word_at, IsStepCount, IsSound}
 use Rattle.mp3_cli.proofs.Places.{reading_ok}
 
 and_last : (x d : Bool) → (x && d) ≡ true → d ≡ true
@@ -37,9 +36,9 @@ steps_in_range (first ∷ rest) =
     elim (first == 43) as (λ b. IsStepCount (unwrap_or (cond b (option_map pos (size_of rest)) (cond (first == 45) (option_map (λ size. neg_ℤ (pos size)) (size_of rest)) (option_map pos (size_of (first ∷ rest))))) (pos 0))) [
       | true ↦ sized (size_of rest) (size_small rest)
       | false ↦ elim (first == 45) as (λ b. IsStepCount (unwrap_or (cond b (option_map (λ size. neg_ℤ (pos size)) (size_of rest)) (option_map pos (size_of (first ∷ rest)))) (pos 0))) [
-          | true ↦ sized_down (size_of rest) (size_small rest)
-          | false ↦ sized (size_of (first ∷ rest)) (size_small (first ∷ rest))
-        ]
+        | true ↦ sized_down (size_of rest) (size_small rest)
+        | false ↦ sized (size_of (first ∷ rest)) (size_small (first ∷ rest))
+      ]
     ]
 
 -- words that have kinds are as many, and each has its own
@@ -63,8 +62,7 @@ each_fits (kind ∷ kinds) (word ∷ words) (suc k) c h lt = each_fits kinds wor
 
 gain_is_sound : (words : List (List ℕ)) → have_kinds gain_without_tags.kinds words ≡ true → IsSound words (gain_without_tags.reads words)
 gain_is_sound words h =
-    let seven : length words ≡ 7 = as_many gain_without_tags.kinds words h in
-    (
+    let seven : length words ≡ 7 = as_many gain_without_tags.kinds words h in (
       record { counted = omega arith; in_range = omega arith; name = each_fits gain_without_tags.kinds words 5 Name h (omega arith) },
       record { counted = omega arith; in_range = omega arith; name = each_fits gain_without_tags.kinds words 6 Name h (omega arith) },
       steps_in_range (word_at words 5),

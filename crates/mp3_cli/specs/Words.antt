@@ -1,5 +1,5 @@
 -- The forms that the program's words have, and what words of a form ask for.
-use Rattle.std.specs.Prelude.{◌≡◌, ◌≤◌, ◌<◌, ◌≤ℤ◌, take, IsTrue, Contains, ℕ, suc, ◌+◌, ◌-◌, max, Bool, true, false, not, ◌&&◌, ◌==◌, nat_le, if◌then◌else◌, List, [], ◌∷◌, length, map, find, fold, slice_index_or, Option, Some, None, unwrap_or, option_map, is_some, Result, Ok, Err, ℤ, pos, neg_ℤ, codes, bytes_eq}
+use Rattle.std.specs.Prelude.{◌≡◌, ◌≤◌, ◌<◌, ◌≤ℤ◌, take, IsTrue, Contains, ℕ, ◌+◌, ◌-◌, max, Bool, false, not, ◌&&◌, ◌==◌, nat_le, if◌then◌else◌, List, [], ◌∷◌, length, map, find, fold, slice_index_or, Option, Some, None, unwrap_or, option_map, is_some, Result, Ok, Err, ℤ, pos, neg_ℤ, codes, bytes_eq}
 use Rattle.std.specs.List.{common_prefix_len}
 use Rattle.std.specs.Cmp.Lexicographic.{pointwise}
 use Rattle.std.specs.Str.{all_ascii_digits}

@@ -1,4 +1,4 @@
-use Rattle.std.proofs.Common.{◌≡◌, ◌<◌, get_or, string_bytes, true, false, inl, inr, sym, ap, ◌∙◌, arith}
+use Rattle.std.proofs.Common.{string_bytes, inr, sym, ap, ◌∙◌, arith}
 use Rattle.mp3_cli.specs.Words.{fits_kind}
 use Rattle.mp3_cli.specs.Table.{kind_of}
 use Rattle.mp3_cli.proofs.Follow.{goes_on, stops, ends}

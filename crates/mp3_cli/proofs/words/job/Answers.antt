@@ -1,4 +1,4 @@
-use Rattle.std.proofs.Common.{◌≡◌, ◌+◌, ◌≤◌, Ok, Err, length, map, max, string_bytes, refl, sym, ap, ◌∙◌, arith}
+use Rattle.std.proofs.Common.{◌≡◌, ◌+◌, Ok, Err, length, map, string_bytes, ◌∙◌, arith}
 use Rattle.std.proofs.lemmas.List.{length-map}
 use Rattle.mp3_cli.specs.declared.words.FormName.TheVariants.{GainWithoutTags}
 use Rattle.mp3_cli.specs.Words.{forms, job_of}
