@@ -1,3 +1,4 @@
+-- The lemmas of this crate.
 pub mod Sizes
 pub mod Follow
 pub mod Reading

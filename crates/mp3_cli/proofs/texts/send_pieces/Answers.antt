@@ -1,3 +1,4 @@
+-- A piece that was sent, and one that failed.
 use Rattle.std.proofs.Common.{[], sym, ◌∙◌, arith}
 use Rattle.outside.proofs.FilesLaws.{sent_more-nil}
 use Rattle.mp3_cli.proofs.Lines.{line_failed, line_more}

@@ -1,3 +1,4 @@
+-- The count goes up by a pair that fits, and stops at one that does not or at an end.
 use Rattle.std.proofs.Common.{string_bytes, inr, sym, ap, ◌∙◌, arith}
 use Rattle.mp3_cli.specs.Words.{fits_kind}
 use Rattle.mp3_cli.specs.Table.{kind_of}

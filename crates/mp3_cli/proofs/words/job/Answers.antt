@@ -1,3 +1,4 @@
+-- A form that the words have ends the loop; else it goes on, and the furthest front stays known.
 use Rattle.std.proofs.Common.{◌≡◌, ◌+◌, Ok, Err, length, map, string_bytes, ◌∙◌, arith}
 use Rattle.std.proofs.lemmas.List.{length-map}
 use Rattle.mp3_cli.specs.declared.words.FormName.TheVariants.{GainWithoutTags}
@@ -32,7 +33,7 @@ loop-form-preserved c =
       followed = c.follow-count.ensures;
     } in
     let not_all : c.follow-count.result ≡ length (map string_bytes c.args.words.now) → c.follow-count.result ≡ length (map kind_of c.kinds-kinds.result.now) → ⊥ =
-    rw (length-map, length-map) (λ all_words all_kinds. omega (arith, c.else-count-words.either)) in
+    simp length-map (λ all_words all_kinds. omega (arith, c.else-count-words.either)) in
     let on = furthest_on form_names forms c.loop-form.form-index GainWithoutTags (map string_bytes c.args.words.now) (map kind_of c.kinds-kinds.result.now) c.follow-count.result c.loop-form.furthest turn c.loop-form.invariant.2 c.loop-form.invariant.3 in
     let max-is = c.max-furthest.ensures ∙ ord_max_is c.loop-form.furthest c.follow-count.result in
     (c.loop-form.invariant.0, goes_on form_names forms c.loop-form.form-index GainWithoutTags (map string_bytes c.args.words.now) (map kind_of c.kinds-kinds.result.now) c.follow-count.result turn not_all, max-is ∙ on.0, omega (arith, max-is, on.1))
