@@ -10,9 +10,16 @@ Contents = List ℕ → Option (List ℕ)
 abbrev pub Files : Type 0
 Files = Option Contents
 
+-- nothing is told
+abbrev pub untold : Files
+untold = None
+
 -- the bytes of a sink, where they are told
 abbrev pub Sent : Type 0
 Sent = Option (List ℕ)
+
+abbrev pub untold_bytes : Sent
+untold_bytes = None
 
 -- the same files, but that the name holds these bytes
 unfoldable pub with_file : Contents → List ℕ → List ℕ → Contents

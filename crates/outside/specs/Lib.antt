@@ -4,3 +4,4 @@ pub mod Held
 pub mod Plan
 pub mod Slots
 pub mod Memory
+pub mod Real

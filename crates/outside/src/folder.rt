@@ -3,6 +3,10 @@ ghost use Rattle.std.specs.Prelude.{◌≡◌, ◌⊎◌, ◌-◌, ◌<◌, ◌�
 ghost use Rattle.outside.specs.Files.{Files, emptied, appended, Holds, IsThere, IsMissing};
 ghost use Rattle.outside.specs.Counts.{Counts, OnlyReads, OnlyWrites, Rose};
 
+use std::alloc::AllocError;
+use std::io;
+use std::io::ErrorKind;
+
 /// A call on the outside failed.
 #[derive(Clone, Copy, Debug, PartialEq, Eq)]
 pub struct Failed;
@@ -14,6 +18,40 @@ pub enum FindFault {
     Absent,
     /// The call failed.
     Failed,
+}
+
+impl From<io::Error> for Failed {
+    fn from(_: io::Error) -> Self {
+        Failed
+    }
+}
+
+impl From<AllocError> for Failed {
+    fn from(_: AllocError) -> Self {
+        Failed
+    }
+}
+
+impl From<FindFault> for Failed {
+    fn from(_: FindFault) -> Self {
+        Failed
+    }
+}
+
+impl From<io::Error> for FindFault {
+    fn from(error: io::Error) -> Self {
+        if error.kind() == ErrorKind::NotFound {
+            FindFault::Absent
+        } else {
+            FindFault::Failed
+        }
+    }
+}
+
+impl From<AllocError> for FindFault {
+    fn from(_: AllocError) -> Self {
+        FindFault::Failed
+    }
 }
 
 /// A folder of files, each of a name. What it tells of them, contracts see as a map from names to bytes.

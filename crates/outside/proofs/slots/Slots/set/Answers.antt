@@ -1,6 +1,5 @@
 use Rattle.std.proofs.Common.{◌≡◌, string_bytes}
 use Rattle.std.proofs.lemmas.Result.{IfOk-at_ok}
-use Rattle.outside.specs.Slots.{contents_in, rooms_in}
 use Rattle.outside.proofs.SlotsLaws.{contents_set, rooms_set}
 use Rattle.outside.proofs.slots.Slots.set.Goals as goal
 
