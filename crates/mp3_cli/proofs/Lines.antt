@@ -1,5 +1,5 @@
 -- A line that is sent piece by piece.
-use Rattle.std.proofs.Common.{◌≡◌, ℕ, ◌+◌, ◌<◌, ◌≤◌, List, [], ◌∷◌, ◌++◌, length, get_or, take, drop, flat_map, refl, ap, sym, ◌∙◌, subst, inl, inr, arith, length-append}
+use Rattle.std.proofs.Common.{◌≡◌, ℕ, ◌+◌, ◌<◌, ◌≤◌, List, [], ◌∷◌, ◌++◌, length, get_or, take, drop, flat_map, ap, sym, ◌∙◌, subst, inr, arith, length-append}
 use Rattle.std.proofs.lemmas.List.{take_more, take-append-drop, take-append-le, append-nil}
 use Rattle.std.proofs.lemmas.Grind.{flat_map-append}
 use Rattle.std.proofs.lemmas.List.Folds.{length-flat_map-take}
@@ -9,7 +9,7 @@ use Rattle.outside.specs.Files.{Sent, sent_more}
 use Rattle.outside.specs.Counts.{Rose, HasCause}
 use Rattle.outside.proofs.FilesLaws.{sent_more-sent_more}
 use Rattle.outside.proofs.CountsLaws.{later_rose}
-use Rattle.mp3_cli.specs.Texts.{GotLine, GotFront}
+use Rattle.mp3_cli.specs.Texts.{GotLine}
 
 -- the pieces with one more
 pub piece_more : {X : Type 0} (f : X → List ℕ) (xs : List X) (i : ℕ) (d : X) → i < length xs → flat_map f (take (i + 1) xs) ≡ flat_map f (take i xs) ++ f (get_or xs i d)

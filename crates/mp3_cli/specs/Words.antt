@@ -1,5 +1,5 @@
 -- The forms that the program's words have, and what words of a form ask for.
-use Rattle.std.specs.Prelude.{ℕ, suc, ◌+◌, ◌-◌, max, Bool, true, false, not, ◌&&◌, ◌==◌, nat_le, if◌then◌else◌, List, [], ◌∷◌, length, map, find, fold, slice_index_or, Option, Some, None, unwrap_or, option_map, is_some, Result, Ok, Err, ℤ, pos, neg_ℤ, codes, bytes_eq}
+use Rattle.std.specs.Prelude.{◌≡◌, ◌≤◌, ◌<◌, ◌≤ℤ◌, take, IsTrue, Contains, ℕ, ◌+◌, ◌-◌, max, Bool, false, not, ◌&&◌, ◌==◌, nat_le, if◌then◌else◌, List, [], ◌∷◌, length, map, find, fold, slice_index_or, Option, Some, None, unwrap_or, option_map, is_some, Result, Ok, Err, ℤ, pos, neg_ℤ, codes, bytes_eq}
 use Rattle.std.specs.List.{common_prefix_len}
 use Rattle.std.specs.Cmp.Lexicographic.{pointwise}
 use Rattle.std.specs.Str.{all_ascii_digits}
@@ -84,13 +84,54 @@ furthest table words = fold max 0 (map (followed words) table)
 abbrev pub form_of : List Form → List (List ℕ) → Option Form
 form_of table words = find (λ form. have_kinds form.kinds words) table
 
--- what the words ask for by the form whose kinds they have, and where there is none, the place of the bad word
+-- what the words ask for by a form, and where there is none, the place of the bad word
+abbrev pub read_as : Option Form → List (List ℕ) → ℕ → Result Job ℕ
+read_as (Some form) words longest = Ok (form.reads words)
+read_as None words longest = Err (1 + longest)
+
+-- the reading by the form of the table whose kinds the words have
 abbrev pub reading : List Form → List (List ℕ) → Result Job ℕ
-reading table words = read_as (form_of table words)
-  where
-    read_as : Option Form → Result Job ℕ
-    read_as (Some form) = Ok (form.reads words)
-    read_as None = Err (1 + furthest table words)
+reading table words = read_as (form_of table words) words (furthest table words)
 
 unfoldable pub job_of : List (List ℕ) → Result Job ℕ
 job_of words = reading forms words
+
+-- ---- the same as relations
+
+-- the first n words have the first n kinds of the form
+pub record Begins (n : ℕ) (form : Form) (words : List (List ℕ)) : Type 0 where
+  pub enough_words : n ≤ length words
+  pub enough_kinds : n ≤ length form.kinds
+  pub fit : IsTrue (have_kinds (take n form.kinds) (take n words))
+
+-- the words have the kinds of a form, and ask for what it says
+pub record IsReading (words : List (List ℕ)) (job : Job) : Type 0 where
+  pub form : Form
+  pub listed : Contains forms form
+  pub kinds : IsTrue (have_kinds form.kinds words)
+  pub read : job ≡ form.reads words
+
+-- The words have the kinds of no form. Those before this place have the first kinds of some form, and no
+-- longer front of the words has.
+pub record IsBadWord (words : List (List ℕ)) (place : ℕ) : Type 0 where
+  pub none : (form : Form) → Contains forms form → ¬ IsTrue (have_kinds form.kinds words)
+  pub counted : 1 ≤ place
+  pub nearest : Form
+  pub listed : Contains forms nearest
+  pub before : Begins (place - 1) nearest words
+  pub longest : (n : ℕ) (form : Form) → Contains forms form → Begins n form words → n < place
+
+-- a place, counted from 1, of a word that can be a file's name
+pub record IsNamePlace (words : List (List ℕ)) (place : ℕ) : Type 0 where
+  pub counted : 1 ≤ place
+  pub in_range : place ≤ length words
+  pub name : IsTrue (is_name (word_at words place))
+
+-- a number of steps that can be asked for
+pub record IsStepCount (steps : ℤ) : Type 0 where
+  pub low : neg_ℤ (pos 255) ≤ℤ steps
+  pub high : steps ≤ℤ pos 255
+
+-- the names of a job are words, and its numbers are in range
+abbrev pub IsSound : List (List ℕ) → Job → Type 0
+IsSound words (Gain shift input output) = IsNamePlace words input × IsNamePlace words output × IsStepCount shift.steps

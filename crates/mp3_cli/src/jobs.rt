@@ -7,8 +7,11 @@ use crate::shift::Shift;
 pub enum Job {
     /// Change the loudness of the file `input`, and write the result to `output`.
     Gain {
+        /// The change.
         shift: Shift,
+        /// The place of the word that names the file to read.
         input: u32,
+        /// The place of the word that names the file to write.
         output: u32,
     },
 }

@@ -16,3 +16,6 @@ pub use jobs::Job;
 pub use shift::{Channels, Shift};
 pub use texts::{send_bad_word, send_fault, status};
 pub use words::job;
+
+#[cfg(test)]
+mod tests;

@@ -3,8 +3,11 @@
 /// The channels whose loudness changes.
 #[derive(Clone, Copy, Debug, PartialEq, Eq)]
 pub enum Channels {
+    /// Every channel there is.
     Both,
+    /// The left channel alone.
     Left,
+    /// The right channel alone.
     Right,
 }
 

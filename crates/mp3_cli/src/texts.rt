@@ -49,7 +49,19 @@ fn send_gain_range<E: Sink>(err: &mut E, offset: u64, granule: u8, channel: u8, 
 }
 
 /// Sends the line of a fault, by the names of the input and the output, without taking memory.
-/// It stops at the first piece that fails, and a failure changes nothing else.
+/// It stops at the first write that fails, and such a failure is not answered.
+///
+/// NAME is the input's but for Write, where it is the output's. O is an offset in bytes.
+///
+/// | fault | line |
+/// |---|---|
+/// | EqualNames | `NAME: input is an output` |
+/// | Absent | `NAME: absent` |
+/// | Read | `NAME: read fault` |
+/// | NotYet(O) | `NAME: not yet at O` |
+/// | GainRange(O, G, C, V) | `gain V out of range at O, granule G, channel C` |
+/// | Write | `NAME: write fault` |
+/// | Memory | `out of memory` |
 pub fn send_fault<E: Sink>(err: &mut E, fault: &EditFault, input: &str, output: &str)
     ensures { GotLine (E.sent err.old) (E.sent err.new) (E.faults err.old) (E.faults err.new) (fault_line fault.now input.now output.now) }
 {
@@ -69,8 +81,8 @@ pub fn send_fault<E: Sink>(err: &mut E, fault: &EditFault, input: &str, output: 
     }
 }
 
-/// Sends the line of a bad word, by its place counted from 1, without taking memory.
-/// It stops at the first piece that fails, and a failure changes nothing else.
+/// Sends the line `bad word K`, K the place of the word counted from 1, without taking memory.
+/// It stops at the first write that fails, and such a failure is not answered.
 pub fn send_bad_word<E: Sink>(err: &mut E, word: u32)
     ensures { GotLine (E.sent err.old) (E.sent err.new) (E.faults err.old) (E.faults err.new) (bad_word_line word) }
 {

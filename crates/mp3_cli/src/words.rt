@@ -1,7 +1,7 @@
 //! The program's words.
-ghost use Rattle.std.specs.Prelude.{◌≡◌, ◌≤◌, List, length, map, string_bytes, option_map, pos};
+ghost use Rattle.std.specs.Prelude.{◌≡◌, ◌≤◌, List, length, map, string_bytes, option_map, pos, IfOk, IfErr};
 ghost use Rattle.std.specs.List.{common_prefix_len};
-ghost use Rattle.mp3_cli.specs.Words.{is_name, size_of, steps_of, fits_kind, followed, job_of};
+ghost use Rattle.mp3_cli.specs.Words.{is_name, size_of, steps_of, fits_kind, job_of, IsReading, IsBadWord, IsSound};
 ghost use Rattle.mp3_cli.specs.Table.{kind_of, form_named};
 
 use crate::jobs::Job;
@@ -125,7 +125,14 @@ impl FormName {
 /// The form is `gain -s s -g N IN OUT`: N is an optional `+` or `-` and one to three digits, from -255 to
 /// 255, and a name isn't empty and doesn't begin with `-`.
 pub fn job(words: &[String]) -> Result<Job, u32>
-    ensures { result ≡ job_of (map string_bytes words.now) }
+    ensures exact { result ≡ job_of (map string_bytes words.now) }
+
+    // The same as relations: the form that the words have, and the front of the words that comes furthest.
+    ensures read { IfOk result (IsReading (map string_bytes words.now)) }
+    ensures bad { IfErr result (IsBadWord (map string_bytes words.now)) }
+
+    // What a caller may do with the answer.
+    ensures sound { IfOk result (IsSound (map string_bytes words.now)) }
 {
     let mut furthest = 0;
     for form in FORMS {

@@ -1,3 +1,4 @@
+-- The pieces are the line.
 use Rattle.std.proofs.Common.{refl}
 use Rattle.mp3_cli.specs.Texts.{bad_word_line}
 use Rattle.mp3_cli.proofs.Lines.{line_is}

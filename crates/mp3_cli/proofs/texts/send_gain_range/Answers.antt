@@ -1,3 +1,4 @@
+-- The pieces are the line.
 use Rattle.std.proofs.Common.{refl, append_assoc}
 use Rattle.mp3_cli.specs.Texts.{fault_line}
 use Rattle.mp3_cli.proofs.Lines.{line_is}

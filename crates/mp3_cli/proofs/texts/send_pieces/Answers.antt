@@ -1,6 +1,7 @@
-use Rattle.std.proofs.Common.{◌≡◌, ◌≤◌, [], flat_map, sym, ◌∙◌, arith}
+-- A piece that was sent, and one that failed.
+use Rattle.std.proofs.Common.{[], sym, ◌∙◌, arith}
 use Rattle.outside.proofs.FilesLaws.{sent_more-nil}
-use Rattle.mp3_cli.proofs.Lines.{Before, line_failed, line_more}
+use Rattle.mp3_cli.proofs.Lines.{line_failed, line_more}
 use Rattle.mp3_cli.proofs.texts.send_pieces.Goals as goal
 
 pub loop-piece-init : goal.loop-piece-init

@@ -1,3 +1,4 @@
+-- The pieces so far were sent.
 use Rattle.std.proofs.Common.{◌≡◌, ◌≤◌, take, flat_map}
 use Rattle.outside.specs.Files.{sent_more}
 use Rattle.mp3_cli.proofs.texts.send_pieces.Given as goal

@@ -1,4 +1,5 @@
-use Rattle.std.proofs.Common.{◌≡◌, ◌<◌, get_or, string_bytes, true, false, inl, inr, sym, ap, ◌∙◌, arith}
+-- The count goes up by a pair that fits, and stops at one that does not or at an end.
+use Rattle.std.proofs.Common.{string_bytes, inr, sym, ap, ◌∙◌, arith}
 use Rattle.mp3_cli.specs.Words.{fits_kind}
 use Rattle.mp3_cli.specs.Table.{kind_of}
 use Rattle.mp3_cli.proofs.Follow.{goes_on, stops, ends}

@@ -1,3 +1,4 @@
+-- The pairs that fit so far, and those from there on.
 use Rattle.std.proofs.Common.{◌≡◌, ◌+◌, ◌-◌, ◌≤◌, length, drop, map, string_bytes}
 use Rattle.std.specs.List.{common_prefix_len}
 use Rattle.mp3_cli.specs.Words.{fits_kind}

@@ -1,15 +1,18 @@
-use Rattle.std.proofs.Common.{◌≡◌, ◌+◌, ◌≤◌, Err, length, map, max, string_bytes, refl, sym, ap, ◌∙◌, arith}
+-- A form that the words have ends the loop; else it goes on, and the furthest front stays known.
+use Rattle.std.proofs.Common.{◌≡◌, ◌+◌, Ok, Err, length, map, string_bytes, ◌∙◌, arith}
 use Rattle.std.proofs.lemmas.List.{length-map}
 use Rattle.mp3_cli.specs.declared.words.FormName.TheVariants.{GainWithoutTags}
 use Rattle.mp3_cli.specs.Words.{forms, job_of}
 use Rattle.mp3_cli.specs.Table.{kind_of, form_names}
 use Rattle.mp3_cli.proofs.Reading.{Turn, accepts, goes_on, furthest_on, refuses, ord_max_is}
+use Rattle.mp3_cli.proofs.Places.{is_reading, is_bad_word}
+use Rattle.mp3_cli.proofs.Sound.{is_sound}
 use Rattle.mp3_cli.proofs.words.job.Goals as goal
 use Rattle.mp3_cli.proofs.words.job.Goals.{else-count-words-via-then-count-words+else-count-kinds, else-count-words-via-else-count-words}
 
-pub returns-then-count-kinds : goal.returns-then-count-kinds
+accepted : (c : goal.After-read) → Ok c.read.result ≡ job_of (map string_bytes c.args.words.now)
 unfolding job_of
-returns-then-count-kinds c =
+accepted c =
     let turn : Turn form_names forms c.loop-form.form-index GainWithoutTags (map string_bytes c.args.words.now) (map kind_of c.kinds-kinds.result.now) c.follow-count.result = record {
       all = c.loop-form.invariant.0;
       index = c.loop-form-test.true;
@@ -30,11 +33,27 @@ loop-form-preserved c =
       followed = c.follow-count.ensures;
     } in
     let not_all : c.follow-count.result ≡ length (map string_bytes c.args.words.now) → c.follow-count.result ≡ length (map kind_of c.kinds-kinds.result.now) → ⊥ =
-    rw (length-map, length-map) (λ all_words all_kinds. omega (arith, c.else-count-words.either)) in
+    simp length-map (λ all_words all_kinds. omega (arith, c.else-count-words.either)) in
     let on = furthest_on form_names forms c.loop-form.form-index GainWithoutTags (map string_bytes c.args.words.now) (map kind_of c.kinds-kinds.result.now) c.follow-count.result c.loop-form.furthest turn c.loop-form.invariant.2 c.loop-form.invariant.3 in
     let max-is = c.max-furthest.ensures ∙ ord_max_is c.loop-form.furthest c.follow-count.result in
     (c.loop-form.invariant.0, goes_on form_names forms c.loop-form.form-index GainWithoutTags (map string_bytes c.args.words.now) (map kind_of c.kinds-kinds.result.now) c.follow-count.result turn not_all, max-is ∙ on.0, omega (arith, max-is, on.1))
 
-pub returns : goal.returns
+refused : (c : goal.After-loop-form) → Err (c.loop-form.furthest + 1) ≡ job_of (map string_bytes c.args.words.now)
 unfolding job_of
-returns c = refuses form_names forms c.loop-form.form-index (map string_bytes c.args.words.now) c.loop-form.furthest c.loop-form.invariant.0 c.loop-form-test.false c.loop-form.invariant.1 c.loop-form.invariant.2
+refused c = refuses form_names forms c.loop-form.form-index (map string_bytes c.args.words.now) c.loop-form.furthest c.loop-form.invariant.0 c.loop-form-test.false c.loop-form.invariant.1 c.loop-form.invariant.2
+
+pub returns-then-count-kinds : goal.returns-then-count-kinds
+returns-then-count-kinds c = record {
+  exact = accepted c;
+  read = is_reading (map string_bytes c.args.words.now) c.read.result (accepted c);
+  bad = tt;
+  sound = is_sound (map string_bytes c.args.words.now) c.read.result (accepted c);
+}
+
+pub returns : goal.returns
+returns c = record {
+  exact = refused c;
+  read = tt;
+  bad = is_bad_word (map string_bytes c.args.words.now) (c.loop-form.furthest + 1) (refused c);
+  sound = tt;
+}

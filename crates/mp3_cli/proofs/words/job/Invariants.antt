@@ -1,3 +1,4 @@
+-- No form so far is that of the words, and how far they follow those forms.
 use Rattle.std.proofs.Common.{◌≡◌, ◌≤◌, take, map, string_bytes, None}
 use Rattle.mp3_cli.specs.Words.{forms, furthest, form_of}
 use Rattle.mp3_cli.specs.Table.{form_named}

@@ -1,3 +1,4 @@
+-- All bytes so far are digits, and the number that they write.
 use Rattle.std.proofs.Common.{◌≡◌, ◌≤◌, length, take}
 use Rattle.std.specs.Str.Parse.{AllDigits, digits_value}
 use Rattle.mp3_cli.proofs.words.read_size.Given as goal
