@@ -1,11 +1,11 @@
-mod Follow
-mod Lines
-mod Reading
-mod Sizes
-pub mod PlainLaws
-pub mod WalkLaws
-pub mod EditLaws
-pub mod GainLaws
 -- The lemmas of this crate.
+pub mod EditLaws
+pub mod Follow
+pub mod GainLaws
+pub mod Lines
 pub mod Places
+pub mod PlainLaws
+pub mod Reading
+pub mod Sizes
 pub mod Sound
+pub mod WalkLaws

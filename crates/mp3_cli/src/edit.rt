@@ -1,16 +1,107 @@
-//! A stand-in.
-ghost use Rattle.std.specs.Prelude.{◌≡◌, ◌⊎◌, ◌≤◌, length, MatchResult};
-ghost use Rattle.mp3_cli.specs.Plain.{longest_input};
-ghost use Rattle.mp3_cli.specs.Edited.{gained};
+//! A file with moved gains, edited where it lies.
+ghost use Rattle.std.specs.Prelude.{◌≡◌, ◌+◌, ◌<◌, ◌≤◌, ◌++◌, length, take, drop, option_map, IfSome, IfNone, IfErr, MatchResult};
+ghost use Rattle.mp3_cli.specs.Plain.{side_of, plain_front as plain_front_lem, walk, has_head as has_head_lem, longest_input};
+ghost use Rattle.mp3_cli.specs.Gains.{stuck_in as stuck_in_lem};
+ghost use Rattle.mp3_cli.specs.Edited.{moved_frame, edited, stuck_fault, range_fault, gained};
+ghost use Rattle.mp3_cli.specs.Gain.{IsStreamFault};
 
 use crate::fault::EditFault;
+use crate::gains::{Stuck, moved_side, stuck_in};
+use crate::plain::{HEADER_SIZE, header_front, plain_front};
 use crate::shift::Shift;
+use frame_header::Class;
 
+/// What was edited at the front: the length of the frame in bytes, and the first of its gains that
+/// would leave the range.
+struct Front {
+    length: usize,
+    stuck: Option<Stuck>,
+}
+
+/// How many bytes of plain frames were edited, and the first of their gains that would leave the range.
+struct Edited {
+    end: usize,
+    fault: Option<EditFault>,
+}
+
+/// Moves the gains of the plain frame of the class at the front of the bytes.
+fn edit_front(class: Class, shift: &Shift, bytes: &mut [u8]) -> Option<Front>
+    ensures front { option_map (λ f. f.length) result ≡ plain_front_lem class bytes.old }
+    ensures stuck { IfSome result (λ f. f.stuck ≡ stuck_in_lem shift.now (side_of class bytes.old)) }
+    ensures moved { IfSome result (λ f. bytes.new ≡ moved_frame shift.now class (take f.length bytes.old) ++ drop f.length bytes.old) }
+    ensures some { IfSome result (λ f. 0 < f.length) }
+    ensures within { IfSome result (λ f. f.length ≤ length bytes.old) }
+    ensures none { IfNone result (bytes.new ≡ bytes.old) }
+{
+    let frame = plain_front(class, bytes)?;
+    let stuck = stuck_in(shift, &frame.side);
+    let end = HEADER_SIZE + class.side_size() as usize;
+    moved_side(shift, &frame.side).write(class, &mut bytes[HEADER_SIZE..end]);
+    Some(Front {
+        length: frame.length,
+        stuck,
+    })
+}
+
+/// The gain as a fault of the file, where its frame stands.
+fn fault_at(offset: usize, stuck: Option<Stuck>) -> Option<EditFault>
+    ensures { result ≡ stuck_fault offset stuck None }
+{
+    let stuck = stuck?;
+    Some(EditFault::GainRange(
+        offset as u64,
+        stuck.granule,
+        stuck.channel,
+        stuck.gain,
+    ))
+}
+
+/// Moves the gains of the plain frames of the class that stand end to end from the front.
+fn edit_frames(class: Class, shift: &Shift, bytes: &mut [u8]) -> Edited
+    ensures edited { bytes.new ≡ edited shift.now class (walk class bytes.old) }
+    ensures end { result.end + length (walk class bytes.old).left ≡ length bytes.old }
+    ensures fault { result.fault ≡ range_fault shift.now class 0 (walk class bytes.old).frames }
+{
+    let mut end = 0;
+    let mut fault = None;
+    while let Some(front) = edit_front(class, shift, &mut bytes[end..]) {
+        fault = fault.or(fault_at(end, front.stuck));
+        end += front.length;
+    }
+    Edited { end, fault }
+}
+
+/// Whether an Info head begins with this class: its text stands behind the side information.
+fn has_head(class: Class, bytes: &[u8]) -> bool
+    ensures { result ≡ has_head_lem class bytes.now }
+{
+    let at = HEADER_SIZE + class.side_size() as usize;
+    match bytes.get(at..at + 4) {
+        Some(text) => text == b"Xing" || text == b"Info",
+        None => false,
+    }
+}
+
+/// Moves the gains of a plain file. `NotYet` exactly at the least offset where no plain frame stands,
+/// else `GainRange` exactly for the first gain that would leave the range; of the bytes nothing is said then.
 pub(crate) fn edit(shift: &Shift, bytes: &mut [u8]) -> Result<(), EditFault>
     requires { length bytes.old ≤ longest_input }
-    ensures { MatchResult result (λ _. gained shift.now bytes.old ≡ Ok bytes.new) (λ fault. gained shift.now bytes.old ≡ Err fault) }
+    ensures exact { MatchResult result (λ _. gained shift.now bytes.old ≡ Ok bytes.new) (λ fault. gained shift.now bytes.old ≡ Err fault) }
+    ensures refused { IfErr result IsStreamFault }
 {
-    let _ = shift.wrap;
-    if bytes.len() < 5 { return Err(EditFault::Memory); }
-    Err(EditFault::Memory)
+    let Some(header) = header_front(bytes) else {
+        return Err(EditFault::NotYet(0));
+    };
+    let class = header.class();
+    if has_head(class, bytes) {
+        return Err(EditFault::NotYet(0));
+    }
+    let edited = edit_frames(class, shift, bytes);
+    if edited.end < bytes.len() {
+        return Err(EditFault::NotYet(edited.end as u64));
+    }
+    match edited.fault {
+        Some(fault) => Err(fault),
+        None => Ok(()),
+    }
 }
