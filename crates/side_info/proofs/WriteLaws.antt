@@ -3,7 +3,7 @@ use Rattle.std.proofs.Common.{◌≡◌, ℕ, ◌+◌, ◌*◌, ◌^◌, ◌<◌
 use Rattle.std.specs.List.{flat_map}
 use Rattle.std.proofs.Math.Nat.{zero-add}
 use Rattle.std.proofs.lemmas.Bool.{ne_eqb}
-use Rattle.std.proofs.lemmas.List.{take_at}
+use Rattle.std.proofs.lemmas.List.{take_at, take_all}
 use Rattle.std.proofs.lemmas.Grind.{flat_map-append}
 use Rattle.bit_fields.specs.Bits.{bits_of}
 use Rattle.bit_fields.specs.Groups.{spelled, Fits}
@@ -14,10 +14,13 @@ use Rattle.frame_header.specs.declared.version.Version.{Version}
 use Rattle.frame_header.specs.declared.version.Version.TheVariants.{One, Two}
 use Rattle.side_info.proofs.SideLaws.{class_with}
 use Rattle.side_info.specs.declared.granule.Granule.{Granule}
-use Rattle.frame_header.specs.Fields.{ClassFields}
+use Rattle.frame_header.specs.Fields.{ClassFields, IsClass}
+use Rattle.frame_header.specs.Tables.{side_size_of}
+use Rattle.side_info.specs.Parts.{front_size}
+use Rattle.side_info.proofs.ReadLaws.{room}
 use Rattle.side_info.specs.declared.side.Side.{Side}
 use Rattle.side_info.specs.Side.{front_widths_of, side_bits, granules_in}
-use Rattle.side_info.specs.Granule.{bit_of, no_granule, granule_numbers, granule_bits, GranuleFits}
+use Rattle.side_info.specs.Granule.{bit_of, no_granule, granule_size, granule_numbers, granule_bits, GranuleFits}
 use Rattle.side_info.proofs.GranuleLaws.{bit_of-below}
 
 -- a `bool` as a number
@@ -128,3 +131,19 @@ parts_of Two f channels m p cs gs e l = absurd cc
 
 pub side_bits-parts : (c : ClassFields) → c.version ≡ One → (s : Side) → length s.granules ≡ 2 → side_bits c s ≡ spelled (front_widths_of One c.channels) (s.main_data_begin ∷ s.private_bits ∷ s.scfsi) ++ flat_map (granule_bits One) (take c.channels (get_or s.granules 0 [])) ++ flat_map (granule_bits One) (take c.channels (get_or s.granules 1 []))
 side_bits-parts c e s l = parts_of c.version c.frequency_index c.channels s.main_data_begin s.private_bits s.scfsi s.granules e l
+
+pub all_put : (c d : ClassFields) → c ≡ d → IsClass c → d.version ≡ One → (s : Side) → length s.granules ≡ 2 → (b1 b2 b3 : List ℕ) (front k : ℕ) → front ≡ front_size One c.channels → k ≡ c.channels → length b3 ≡ 8 * side_size_of d
+    → take (front_size One c.channels) b1 ≡ spelled (front_widths_of One c.channels) (s.main_data_begin ∷ s.private_bits ∷ s.scfsi)
+    → take (front + c.channels * granule_size One) b2 ≡ take front b1 ++ flat_map (granule_bits One) (take c.channels (get_or s.granules 0 []))
+    → take (front + 59 * k + c.channels * granule_size One) b3 ≡ take (front + 59 * k) b2 ++ flat_map (granule_bits One) (take c.channels (get_or s.granules 1 []))
+    → b3 ≡ side_bits d s
+all_put c d same class version s two b1 b2 b3 front k front_is k_is size e1 e2 e3 =
+    let one : c.version ≡ One = ap (λ e. e.version) same ∙ version in
+    let whole : front_size One c.channels + (c.channels * granule_size One + c.channels * granule_size One) ≡ 8 * side_size_of d = room c class one ∙ ap (λ e. 8 * side_size_of e) same in
+    let first : front + 59 * k ≡ front + c.channels * granule_size One = omega arith in
+    sym (take_all (front + 59 * k + c.channels * granule_size One) b3 (omega arith))
+    ∙ e3
+    ∙ ap (λ bs. bs ++ flat_map (granule_bits One) (take c.channels (get_or s.granules 1 [])))
+      (ap (λ n. take n b2) first ∙ e2 ∙ ap (λ bs. bs ++ flat_map (granule_bits One) (take c.channels (get_or s.granules 0 []))) (ap (λ n. take n b1) front_is ∙ e1))
+    ∙ sym (side_bits-parts c one s two)
+    ∙ ap (λ e. side_bits e s) same
