@@ -1,5 +1,5 @@
 -- The parts are all that has to fit.
-use Rattle.std.proofs.Common.{◌≡◌, true, false, arith, sym, ◌∙◌}
+use Rattle.std.proofs.Common.{arith, sym, ◌∙◌}
 use Rattle.std.specs.Bool.{IsTrue}
 use Rattle.side_info.proofs.SideLaws.{SideFits-from_parts}
 use Rattle.side_info.proofs.side.Side.fits.Goals as goal
