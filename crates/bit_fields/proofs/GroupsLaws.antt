@@ -211,6 +211,12 @@ module _ (bs : List ℕ) (at width value : ℕ) (room : at + width ≤ length bs
       (AreBits-append (take at bs) (bits_of width value) (AreBits-take at bs h) (AreBits-bits_of width value))
       (AreBits-drop (at + width) bs h)
 
+  -- what stands before it stays, and the value follows
+  pub take-put : take (at + width) (take at bs ++ bits_of width value ++ drop (at + width) bs) ≡ take at bs ++ bits_of width value
+  take-put =
+      take_at (take at bs ++ bits_of width value) (drop (at + width) bs) (at + width)
+      (length-append (take at bs) (bits_of width value) ∙ ap₂ (λ m n. m + n) (length-take-le at bs (omega arith)) (length-bits_of width value))
+
   -- it holds the value
   pub group-put_same : value < 2 ^ width → group at width (take at bs ++ bits_of width value ++ drop (at + width) bs) ≡ value
   unfolding group

@@ -1,3 +1,4 @@
 pub mod GranuleLaws
 pub mod SideLaws
 mod ReadLaws
+mod WriteLaws

@@ -104,6 +104,9 @@ module _ (c d : ClassFields) (same : c ≡ d) (class : IsClass c) (version : d.v
   parts : front_size One c.channels + (c.channels * granule_size One + c.channels * granule_size One) ≡ length (bits xs)
   parts = room c class (ap (λ k. k.version) same ∙ version) ∙ ap (λ k. 8 * side_size_of k) same ∙ ap (λ n. 8 * n) (sym size) ∙ sym (length-bits xs)
 
+  pub parts_room : front_size One c.channels + (c.channels * granule_size One + c.channels * granule_size One) ≡ 8 * length xs
+  parts_room = parts ∙ length-bits xs
+
   pub enough_front : front_size One c.channels ≤ length (bits xs)
   enough_front = omega (arith, parts)
 

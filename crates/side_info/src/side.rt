@@ -7,6 +7,7 @@ ghost use Rattle.side_info.specs.Side.{side_at, side_bits, payload_bits, payload
 
 use crate::granule::Granule;
 use crate::reading::{read_front, read_pair};
+use crate::writing::{front_bits, write_front, write_pair};
 use bit_fields::Bits;
 use frame_header::Class;
 
@@ -51,6 +52,11 @@ impl Side {
         requires version { class.version ≡ One }
         ensures { bits bytes.new ≡ side_bits class self.now }
     {
+        let first = front_bits(class.channels);
+        let second = first + 59 * usize::from(class.channels);
+        write_front(self, class.channels, bytes);
+        write_pair(&self.granules[0], class.channels, bytes, first);
+        write_pair(&self.granules[1], class.channels, bytes, second);
     }
 
     /// The main data of the frame in bits: the sum of the part2_3_length.
