@@ -1,5 +1,5 @@
 -- The laws of a granule's side information: fields and bits give each other back.
-use Rattle.std.proofs.Common.{◌≡◌, ℕ, zero, suc, ◌+◌, ◌*◌, ◌^◌, ◌<◌, ◌≤◌, Bool, true, false, cond, List, [], ◌∷◌, ◌++◌, length, get_or, take, drop, refl, sym, ap, ap₂, ◌∙◌, arith, sum, one-add, length-append, length-take, length-drop, append_assoc}
+use Rattle.std.proofs.Common.{◌≡◌, ℕ, zero, suc, ◌+◌, ◌*◌, ◌<◌, ◌≤◌, Bool, true, false, List, [], ◌∷◌, ◌++◌, length, get_or, take, drop, refl, sym, ap, ap₂, ◌∙◌, arith, one-add, length-append, length-drop, append_assoc}
 use Rattle.std.specs.List.{flat_map}
 use Rattle.std.proofs.Math.Nat.{add_comm, add_assoc, add-mul, suc-mul, zero-mul, one-mul}
 use Rattle.std.proofs.Math.Seq.{take-add, drop-append-add}
@@ -37,14 +37,26 @@ Fits-granule Two g h = (h.part2_3_length, (h.big_values, (h.global_gain, (h.scal
 pub granule_of-numbers : (version : Version) (g : Granule) → GranuleFits version g → granule_of version (granule_numbers version g) ≡ g
 unfolding granule_of granule_numbers
 granule_of-numbers One g h = λ i. record {
-  part2_3_length = g.part2_3_length; big_values = g.big_values; global_gain = g.global_gain; scalefac_compress = g.scalefac_compress;
-  window_switching = is_set-bit_of g.window_switching i; detail = g.detail;
-  preflag = is_set-bit_of g.preflag i; scalefac_scale = is_set-bit_of g.scalefac_scale i; count1table_select = is_set-bit_of g.count1table_select i;
+  part2_3_length = g.part2_3_length;
+  big_values = g.big_values;
+  global_gain = g.global_gain;
+  scalefac_compress = g.scalefac_compress;
+  window_switching = is_set-bit_of g.window_switching i;
+  detail = g.detail;
+  preflag = is_set-bit_of g.preflag i;
+  scalefac_scale = is_set-bit_of g.scalefac_scale i;
+  count1table_select = is_set-bit_of g.count1table_select i;
 }
 granule_of-numbers Two g h = λ i. record {
-  part2_3_length = g.part2_3_length; big_values = g.big_values; global_gain = g.global_gain; scalefac_compress = g.scalefac_compress;
-  window_switching = is_set-bit_of g.window_switching i; detail = g.detail;
-  preflag = sym h.preflag i; scalefac_scale = is_set-bit_of g.scalefac_scale i; count1table_select = is_set-bit_of g.count1table_select i;
+  part2_3_length = g.part2_3_length;
+  big_values = g.big_values;
+  global_gain = g.global_gain;
+  scalefac_compress = g.scalefac_compress;
+  window_switching = is_set-bit_of g.window_switching i;
+  detail = g.detail;
+  preflag = sym h.preflag i;
+  scalefac_scale = is_set-bit_of g.scalefac_scale i;
+  count1table_select = is_set-bit_of g.count1table_select i;
 }
 
 numbers_same : (version : Version) (ns : List ℕ) → Fits (granule_widths version) ns → length ns ≡ length (granule_widths version) → granule_numbers version (granule_of version ns) ≡ ns
@@ -61,10 +73,20 @@ numbers-granule_of version ns fit = numbers_same version ns fit (length-Fits (gr
 fields_fit : (version : Version) (ns : List ℕ) → Fits (granule_widths version) ns → length ns ≡ length (granule_widths version) → GranuleFits version (granule_of version ns)
 unfolding granule_of
 fields_fit One (a ∷ b ∷ c ∷ d ∷ e ∷ f ∷ g ∷ h ∷ k ∷ []) fit l = record {
-  part2_3_length = fit.0; big_values = fit.1.0; global_gain = fit.1.1.0; scalefac_compress = fit.1.1.1.0; detail = fit.1.1.1.1.1.0; preflag = tt;
+  part2_3_length = fit.0;
+  big_values = fit.1.0;
+  global_gain = fit.1.1.0;
+  scalefac_compress = fit.1.1.1.0;
+  detail = fit.1.1.1.1.1.0;
+  preflag = tt;
 }
 fields_fit Two (a ∷ b ∷ c ∷ d ∷ e ∷ f ∷ g ∷ h ∷ []) fit l = record {
-  part2_3_length = fit.0; big_values = fit.1.0; global_gain = fit.1.1.0; scalefac_compress = fit.1.1.1.0; detail = fit.1.1.1.1.1.0; preflag = refl;
+  part2_3_length = fit.0;
+  big_values = fit.1.0;
+  global_gain = fit.1.1.0;
+  scalefac_compress = fit.1.1.1.0;
+  detail = fit.1.1.1.1.1.0;
+  preflag = refl;
 }
 fields_fit version ns fit l = absurd (omega arith)
 
@@ -146,9 +168,9 @@ flat-granules_from version n (suc count) bs all h =
     let next : (n + 1) * size ≡ n * size + size = add-mul n 1 size ∙ ap (λ k. n * size + k) (one-mul size) in
     let one : granule_bits version (granule_at version (drop (n * size) bs)) ≡ take size (drop (n * size) bs) = granule_bits-granule_at version (drop (n * size) bs) (AreBits-drop (n * size) bs all) (simp length-drop (omega arith)) in
     let others : flat_map (granule_bits version) (granules_from version (n + 1) count bs) ≡ take (count * size) (drop size (drop (n * size) bs)) =
-        flat-granules_from version (n + 1) count bs all (rw (add_assoc n 1 count, one-add count) h)
-        ∙ ap (λ k. take (count * size) (drop k bs)) next
-        ∙ ap (take (count * size)) (sym (drop-drop size (n * size) bs)) in
+    flat-granules_from version (n + 1) count bs all (rw (add_assoc n 1 count, one-add count) h)
+    ∙ ap (λ k. take (count * size) (drop k bs)) next
+    ∙ ap (take (count * size)) (sym (drop-drop size (n * size) bs)) in
     ap₂ (λ cs ds. cs ++ ds) one others
     ∙ sym (take-add size (count * size) (drop (n * size) bs))
     ∙ ap (λ k. take k (drop (n * size) bs)) (add_comm size (count * size) ∙ sym more)

@@ -1,5 +1,5 @@
 -- Side fields as parts of the numbers that are taken from the bits.
-use Rattle.std.proofs.Common.{◌≡◌, ℕ, ◌+◌, ◌*◌, ◌/◌, ◌%◌, ◌^◌, ◌<◌, ◌≤◌, eqb, true, false, cond, lit≤, List, [], ◌∷◌, ◌++◌, length, get_or, take, drop, refl, sym, ap, ap₂, ◌∙◌, arith, length-drop}
+use Rattle.std.proofs.Common.{◌≡◌, ℕ, ◌+◌, ◌*◌, ◌/◌, ◌%◌, ◌≤◌, eqb, true, false, cond, lit≤, List, [], ◌∷◌, ◌++◌, length, get_or, take, drop, refl, sym, ap, ap₂, ◌∙◌, arith, length-drop}
 use Rattle.std.proofs.Math.Nat.{div-one}
 use Rattle.std.proofs.lemmas.List.{drop-drop}
 use Rattle.std.proofs.lemmas.Bool.{ne_eqb}
@@ -14,7 +14,7 @@ use Rattle.side_info.specs.declared.front.Front.{Front}
 use Rattle.frame_header.specs.Fields.{ClassFields, IsClass}
 use Rattle.frame_header.specs.Tables.{side_size_of, side_bytes_of}
 use Rattle.side_info.specs.declared.side.Side.{Side}
-use Rattle.side_info.specs.Granule.{granule_widths, granule_size, granule_of, granule_at}
+use Rattle.side_info.specs.Granule.{granule_size, granule_of, granule_at}
 use Rattle.side_info.specs.Side.{side_at}
 use Rattle.side_info.proofs.SideLaws.{class_with, each_class}
 use Rattle.side_info.specs.Parts.{front_at, front_size, pair_at}
@@ -43,9 +43,15 @@ front_of_others channels bs h = let test : eqb channels 1 ≡ false = ne_eqb cha
 
 -- ---- a granule, from its first 29 bits and the rest
 pub granule_from : (bs : List ℕ) (first rest : ℕ) → AreBits bs → 59 ≤ length bs → first ≡ number (take 29 bs) → rest ≡ number (take 30 (drop 29 bs)) → ◌≡◌ {A = Granule} (record {
-  part2_3_length = first / 131072 % 4096; big_values = first / 256 % 512; global_gain = first % 256; scalefac_compress = rest / 67108864 % 16;
-  window_switching = eqb (rest / 33554432 % 2) 1; detail = rest / 8 % 4194304;
-  preflag = eqb (rest / 4 % 2) 1; scalefac_scale = eqb (rest / 2 % 2) 1; count1table_select = eqb (rest % 2) 1;
+  part2_3_length = first / 131072 % 4096;
+  big_values = first / 256 % 512;
+  global_gain = first % 256;
+  scalefac_compress = rest / 67108864 % 16;
+  window_switching = eqb (rest / 33554432 % 2) 1;
+  detail = rest / 8 % 4194304;
+  preflag = eqb (rest / 4 % 2) 1;
+  scalefac_scale = eqb (rest / 2 % 2) 1;
+  count1table_select = eqb (rest % 2) 1;
 }) (granule_at One bs)
 unfolding granule_at granule_of sliced
 granule_from bs first rest all h e d =
@@ -55,9 +61,15 @@ granule_from bs first rest all h e d =
     let front : sliced (12 ∷ 9 ∷ 8 ∷ []) first ≡ numbers_at (12 ∷ 9 ∷ 8 ∷ []) bs = ap (sliced (12 ∷ 9 ∷ 8 ∷ [])) e ∙ sym (numbers_at-number_front (12 ∷ 9 ∷ 8 ∷ []) bs all (omega arith)) in
     let behind : sliced (4 ∷ 1 ∷ 22 ∷ 1 ∷ 1 ∷ 1 ∷ []) rest ≡ numbers_at (4 ∷ 1 ∷ 22 ∷ 1 ∷ 1 ∷ 1 ∷ []) (drop 29 bs) = ap (sliced (4 ∷ 1 ∷ 22 ∷ 1 ∷ 1 ∷ 1 ∷ [])) d ∙ sym (numbers_at-number_front (4 ∷ 1 ∷ 22 ∷ 1 ∷ 1 ∷ 1 ∷ []) (drop 29 bs) (AreBits-drop 29 bs all) more) in
     (λ i. record {
-      part2_3_length = first / 131072 % 4096; big_values = first / 256 % 512; global_gain = gain i; scalefac_compress = rest / 67108864 % 16;
-      window_switching = eqb (rest / 33554432 % 2) 1; detail = rest / 8 % 4194304;
-      preflag = eqb (rest / 4 % 2) 1; scalefac_scale = eqb (rest / 2 % 2) 1; count1table_select = eqb (last i) 1;
+      part2_3_length = first / 131072 % 4096;
+      big_values = first / 256 % 512;
+      global_gain = gain i;
+      scalefac_compress = rest / 67108864 % 16;
+      window_switching = eqb (rest / 33554432 % 2) 1;
+      detail = rest / 8 % 4194304;
+      preflag = eqb (rest / 4 % 2) 1;
+      scalefac_scale = eqb (rest / 2 % 2) 1;
+      count1table_select = eqb (last i) 1;
     })
     ∙ ap (granule_of One) (ap₂ (λ xs ys. xs ++ ys) front behind ∙ sym (numbers_at-append (12 ∷ 9 ∷ 8 ∷ []) (4 ∷ 1 ∷ 22 ∷ 1 ∷ 1 ∷ 1 ∷ []) bs))
 
@@ -75,7 +87,9 @@ whole_one_stereo f version bs front first second e0 e1 e2 =
     let last : granule_at One (drop 59 (drop 118 (drop 20 bs))) ≡ granule_at One (drop 177 (drop 20 bs)) = ap (granule_at One) (drop-drop 59 118 (drop 20 bs)) in
     (λ i. record { main_data_begin = (e0 i).main_data_begin; private_bits = (e0 i).private_bits; scfsi = (e0 i).scfsi; granules = e1 i ∷ e2 i ∷ [] })
     ∙ (λ i. record {
-      main_data_begin = (front_at One 2 bs).main_data_begin; private_bits = (front_at One 2 bs).private_bits; scfsi = (front_at One 2 bs).scfsi;
+      main_data_begin = (front_at One 2 bs).main_data_begin;
+      private_bits = (front_at One 2 bs).private_bits;
+      scfsi = (front_at One 2 bs).scfsi;
       granules = pair_at One 2 (drop 20 bs) ∷ (granule_at One (drop 118 (drop 20 bs)) ∷ last i ∷ []) ∷ [];
     })
 

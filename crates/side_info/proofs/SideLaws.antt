@@ -1,11 +1,12 @@
 -- The laws of the side information: fields and bits give each other back.
-use Rattle.std.proofs.Common.{◌≡◌, ℕ, zero, suc, ◌+◌, ◌*◌, ◌^◌, ◌<◌, ◌≤◌, Bool, true, false, cond, eqb, List, [], ◌∷◌, ◌++◌, length, get_or, take, drop, refl, sym, ap, ap₂, ◌∙◌, arith, sum, append-nil, length-append, length-take, length-drop, append_assoc, take-append-drop, take_all, lit<}
-use Rattle.std.specs.List.{flat_map}
+use Rattle.std.proofs.Common.{◌≡◌, ℕ, zero, suc, ◌+◌, ◌*◌, ◌/◌, ◌^◌, ◌<◌, ◌≤◌, Bool, true, false, cond, eqb, List, [], ◌∷◌, ◌++◌, length, get_or, take, drop, refl, sym, ap, ap₂, ◌∙◌, arith, sum, append-nil, length-append, length-drop, take-append-drop, take_all, lit<}
+use Rattle.std.specs.List.{flat_map, sum_by}
 use Rattle.std.specs.Bool.{MatchBool}
+use Rattle.std.specs.Int.{div_ceil}
 use Rattle.std.proofs.Math.Nat.{zero-add, zero-mul}
 use Rattle.std.proofs.lemmas.Nat.{pow_pos}
-use Rattle.std.proofs.lemmas.List.{take_at, drop_at}
-use Rattle.bit_fields.specs.Bits.{bits, AreBits}
+use Rattle.std.proofs.lemmas.List.{drop_at}
+use Rattle.bit_fields.specs.Bits.{AreBits}
 use Rattle.bit_fields.specs.Groups.{numbers_at, spelled, Fits}
 use Rattle.bit_fields.proofs.BitsLaws.{AreBits-append, AreBits-drop}
 use Rattle.bit_fields.proofs.GroupsLaws.{length-spelled, AreBits-spelled, Fits-numbers_at, numbers_at-spelled_more, spelled-numbers_at_front}
@@ -15,8 +16,8 @@ use Rattle.frame_header.specs.Fields.{ClassFields, IsClass}
 use Rattle.frame_header.specs.Tables.{side_size_of, granules_of}
 use Rattle.side_info.specs.declared.granule.Granule.{Granule}
 use Rattle.side_info.specs.declared.side.Side.{Side}
-use Rattle.side_info.specs.Granule.{granule_size, granule_bits, granule_at, no_granule, GranuleFits}
-use Rattle.side_info.specs.Side.{front_widths, front_width, nth_granule, channels_at, granules_at, side_at, granules_in, side_bits, granule_in, has_granule, SideFits}
+use Rattle.side_info.specs.Granule.{granule_size, granule_bits, no_granule, GranuleFits}
+use Rattle.side_info.specs.Side.{front_widths, front_width, nth_granule, channels_at, granules_at, side_at, granules_in, side_bits, no_side, payload_bits, granule_in, has_granule, SideFits}
 use Rattle.side_info.proofs.GranuleLaws.{granules_from, length-flat, AreBits-flat, nth_granule-flat, flat-granules_from, GranuleFits-granule_at}
 
 -- ---- the four combinations of version and channels
@@ -63,11 +64,11 @@ side_bits-side_at c class bs all h =
     let l : length rest ≡ granule_count c * granule_size c.version = simp length-drop (omega arith) in
     let most : (0 + granule_count c) * granule_size c.version ≤ length rest = rw zero-add (omega arith) in
     ap₂ (λ cs ds. cs ++ ds)
-      (front-side_at c class bs ∙ spelled-numbers_at_front (front_widths c) bs all (omega arith))
-      (ap (flat_map (granule_bits c.version)) (granules_in-side_at c class bs)
-       ∙ flat-granules_from c.version 0 (granule_count c) rest (AreBits-drop front bs all) most
-       ∙ ap (λ k. take (granule_count c * granule_size c.version) (drop k rest)) (zero-mul (granule_size c.version))
-       ∙ take_all (granule_count c * granule_size c.version) rest (omega arith))
+    (front-side_at c class bs ∙ spelled-numbers_at_front (front_widths c) bs all (omega arith))
+    (ap (flat_map (granule_bits c.version)) (granules_in-side_at c class bs)
+    ∙ flat-granules_from c.version 0 (granule_count c) rest (AreBits-drop front bs all) most
+    ∙ ap (λ k. take (granule_count c * granule_size c.version) (drop k rest)) (zero-mul (granule_size c.version))
+    ∙ take_all (granule_count c * granule_size c.version) rest (omega arith))
     ∙ take-append-drop front bs
 
 -- ---- fields to bits and back
@@ -120,8 +121,8 @@ back : (c : ClassFields) (ns : List ℕ) (gs : List Granule) → Fits (front_wid
 back c ns gs fits l =
     side_at-built c (spelled (front_widths c) ns ++ flat_map (granule_bits c.version) gs)
     ∙ ap₂ (built c)
-      (numbers_at-spelled_more (front_widths c) ns (flat_map (granule_bits c.version) gs) fits)
-      (drop_at (spelled (front_widths c) ns) (flat_map (granule_bits c.version) gs) (sum (front_widths c)) (length-spelled (front_widths c) ns l))
+    (numbers_at-spelled_more (front_widths c) ns (flat_map (granule_bits c.version) gs) fits)
+    (drop_at (spelled (front_widths c) ns) (flat_map (granule_bits c.version) gs) (sum (front_widths c)) (length-spelled (front_widths c) ns l))
 
 nth : (version : Version) (gs : List Granule) (n : ℕ) → n < length gs → GranuleFits version (get_or gs n no_granule) → nth_granule version n (flat_map (granule_bits version) gs) ≡ get_or gs n no_granule
 nth version gs n h fits =
@@ -302,3 +303,28 @@ fits_two_stereo f bs all =
 
 pub SideFits-side_at : (c : ClassFields) → IsClass c → (bs : List ℕ) → AreBits bs → SideFits c (side_at c bs)
 SideFits-side_at = each_class (λ c. (bs : List ℕ) → AreBits bs → SideFits c (side_at c bs)) fits_one_mono fits_one_stereo fits_two_mono fits_two_stereo
+
+-- nothing in it is out of its bits
+pub SideFits-no_side : (c : ClassFields) → SideFits c no_side
+SideFits-no_side c = record {
+  main_data_begin = pow_pos (front_width c 0);
+  private_bits = pow_pos (front_width c 1);
+  scfsi = scfsi_fit c 0 0 (pow_pos (front_width c 2)) (pow_pos (front_width c 3));
+  granules = granules_fit c 0 0 0 0 no_granule no_granule no_granule no_granule (none_fits c.version (has_granule c 0 0)) (none_fits c.version (has_granule c 0 1)) (none_fits c.version (has_granule c 1 0)) (none_fits c.version (has_granule c 1 1));
+}
+
+-- ---- the main data
+pub pair_sum : (gs : List Granule) → length gs ≡ 2 → (get_or gs 0 no_granule).part2_3_length + (get_or gs 1 no_granule).part2_3_length ≡ sum_by (λ (g : Granule). g.part2_3_length) gs
+pair_sum (g ∷ h ∷ []) l = omega arith
+pair_sum gs l = absurd (omega arith)
+
+lists_sum : (gs : List (List Granule)) → length gs ≡ 2 → sum_by (λ (g : Granule). g.part2_3_length) (get_or gs 0 []) + sum_by (λ (g : Granule). g.part2_3_length) (get_or gs 1 []) ≡ sum_by (λ (hs : List Granule). sum_by (λ (g : Granule). g.part2_3_length) hs) gs
+lists_sum (g ∷ h ∷ []) l = omega arith
+lists_sum gs l = absurd (omega arith)
+
+pub payload_bits-sum : (s : Side) → length s.granules ≡ 2 → sum_by (λ (g : Granule). g.part2_3_length) (get_or s.granules 0 []) + sum_by (λ (g : Granule). g.part2_3_length) (get_or s.granules 1 []) ≡ payload_bits s
+unfolding payload_bits
+payload_bits-sum s l = lists_sum s.granules l
+
+pub div_ceil-eight : (n : ℕ) → div_ceil n 8 ≡ (n + 7) / 8
+div_ceil-eight n = grind arith

@@ -1,7 +1,6 @@
 -- Side fields joined to the numbers that are put in place of the bits.
-use Rattle.std.proofs.Common.{◌≡◌, ℕ, ◌+◌, ◌*◌, ◌^◌, ◌<◌, ◌≤◌, eqb, Bool, true, false, List, [], ◌∷◌, ◌++◌, length, get_or, take, drop, refl, sym, ap, ap₂, subst, ◌∙◌, arith, sum, append-nil, append_assoc, length-append}
+use Rattle.std.proofs.Common.{◌≡◌, ℕ, ◌+◌, ◌*◌, ◌^◌, ◌<◌, ◌≤◌, eqb, Bool, true, false, List, [], ◌∷◌, ◌++◌, length, get_or, take, drop, refl, sym, ap, ap₂, subst, ◌∙◌, arith, sum, append-nil, append_assoc}
 use Rattle.std.specs.List.{flat_map}
-use Rattle.std.proofs.Math.Nat.{zero-add}
 use Rattle.std.proofs.lemmas.Bool.{ne_eqb}
 use Rattle.std.proofs.lemmas.List.{take_at, take_all}
 use Rattle.std.proofs.lemmas.Grind.{flat_map-append}
@@ -123,8 +122,8 @@ parts_of : (version : Version) (f channels m p : ℕ) (cs : List ℕ) (gs : List
 unfolding side_bits granules_in
 parts_of One f channels m p cs (g ∷ h ∷ []) e l =
     ap (λ bs. spelled (front_widths_of One channels) (m ∷ p ∷ cs) ++ bs)
-      (flat_map-append (granule_bits One) (take channels g) (take channels h ++ [])
-       ∙ ap (λ gs. flat_map (granule_bits One) (take channels g) ++ flat_map (granule_bits One) gs) (append-nil (take channels h)))
+    (flat_map-append (granule_bits One) (take channels g) (take channels h ++ [])
+    ∙ ap (λ gs. flat_map (granule_bits One) (take channels g) ++ flat_map (granule_bits One) gs) (append-nil (take channels h)))
     ∙ sym (append_assoc (spelled (front_widths_of One channels) (m ∷ p ∷ cs)) (flat_map (granule_bits One) (take channels g)) (flat_map (granule_bits One) (take channels h)))
 parts_of One f channels m p cs gs e l = absurd (omega arith)
 parts_of Two f channels m p cs gs e l = absurd cc
@@ -144,6 +143,6 @@ all_put c d same class version s two b1 b2 b3 front k front_is k_is size e1 e2 e
     sym (take_all (front + 59 * k + c.channels * granule_size One) b3 (omega arith))
     ∙ e3
     ∙ ap (λ bs. bs ++ flat_map (granule_bits One) (take c.channels (get_or s.granules 1 [])))
-      (ap (λ n. take n b2) first ∙ e2 ∙ ap (λ bs. bs ++ flat_map (granule_bits One) (take c.channels (get_or s.granules 0 []))) (ap (λ n. take n b1) front_is ∙ e1))
+    (ap (λ n. take n b2) first ∙ e2 ∙ ap (λ bs. bs ++ flat_map (granule_bits One) (take c.channels (get_or s.granules 0 []))) (ap (λ n. take n b1) front_is ∙ e1))
     ∙ sym (side_bits-parts c one s two)
     ∙ ap (λ e. side_bits e s) same

@@ -25,31 +25,50 @@ bit_of flag = if flag then 1 else 0
 -- all fields 0, as for a granule or channel that the class lacks
 abbrev pub no_granule : Granule
 no_granule = record {
-  part2_3_length = 0; big_values = 0; global_gain = 0; scalefac_compress = 0; window_switching = false; detail = 0;
-  preflag = false; scalefac_scale = false; count1table_select = false;
+  part2_3_length = 0;
+  big_values = 0;
+  global_gain = 0;
+  scalefac_compress = 0;
+  window_switching = false;
+  detail = 0;
+  preflag = false;
+  scalefac_scale = false;
+  count1table_select = false;
 }
 
 -- the fields that the numbers of the groups are; MPEG-2 has no preflag
 unfoldable pub granule_of : Version → List ℕ → Granule
 granule_of One ns = record {
-  part2_3_length = slice_index ns 0; big_values = slice_index ns 1; global_gain = slice_index ns 2; scalefac_compress = slice_index ns 3;
-  window_switching = is_set (slice_index ns 4); detail = slice_index ns 5;
-  preflag = is_set (slice_index ns 6); scalefac_scale = is_set (slice_index ns 7); count1table_select = is_set (slice_index ns 8);
+  part2_3_length = slice_index ns 0;
+  big_values = slice_index ns 1;
+  global_gain = slice_index ns 2;
+  scalefac_compress = slice_index ns 3;
+  window_switching = is_set (slice_index ns 4);
+  detail = slice_index ns 5;
+  preflag = is_set (slice_index ns 6);
+  scalefac_scale = is_set (slice_index ns 7);
+  count1table_select = is_set (slice_index ns 8);
 }
 granule_of Two ns = record {
-  part2_3_length = slice_index ns 0; big_values = slice_index ns 1; global_gain = slice_index ns 2; scalefac_compress = slice_index ns 3;
-  window_switching = is_set (slice_index ns 4); detail = slice_index ns 5;
-  preflag = false; scalefac_scale = is_set (slice_index ns 6); count1table_select = is_set (slice_index ns 7);
+  part2_3_length = slice_index ns 0;
+  big_values = slice_index ns 1;
+  global_gain = slice_index ns 2;
+  scalefac_compress = slice_index ns 3;
+  window_switching = is_set (slice_index ns 4);
+  detail = slice_index ns 5;
+  preflag = false;
+  scalefac_scale = is_set (slice_index ns 6);
+  count1table_select = is_set (slice_index ns 7);
 }
 
 -- the numbers of the groups that the fields are
 unfoldable pub granule_numbers : Version → Granule → List ℕ
 granule_numbers One g =
-  g.part2_3_length ∷ g.big_values ∷ g.global_gain ∷ g.scalefac_compress ∷ bit_of g.window_switching ∷ g.detail ∷
-  bit_of g.preflag ∷ bit_of g.scalefac_scale ∷ bit_of g.count1table_select ∷ []
+    g.part2_3_length ∷ g.big_values ∷ g.global_gain ∷ g.scalefac_compress ∷ bit_of g.window_switching ∷ g.detail ∷
+    bit_of g.preflag ∷ bit_of g.scalefac_scale ∷ bit_of g.count1table_select ∷ []
 granule_numbers Two g =
-  g.part2_3_length ∷ g.big_values ∷ g.global_gain ∷ g.scalefac_compress ∷ bit_of g.window_switching ∷ g.detail ∷
-  bit_of g.scalefac_scale ∷ bit_of g.count1table_select ∷ []
+    g.part2_3_length ∷ g.big_values ∷ g.global_gain ∷ g.scalefac_compress ∷ bit_of g.window_switching ∷ g.detail ∷
+    bit_of g.scalefac_scale ∷ bit_of g.count1table_select ∷ []
 
 -- the granule at the front of these bits, and its bits
 unfoldable pub granule_at : Version → List ℕ → Granule

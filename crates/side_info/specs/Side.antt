@@ -1,5 +1,5 @@
 -- The side information of a frame (ISO/IEC 11172-3 and 13818-3, 2.4.1.7).
-use Rattle.std.specs.Prelude.{◌≡◌, ℕ, ◌+◌, ◌*◌, ◌/◌, ◌^◌, ◌<◌, ◌==◌, ◌&&◌, nat_lt, if◌then◌else◌, Bool, List, [], ◌∷◌, ◌++◌, map, take, drop, slice_index, slice_index_or, sum, sum_by, flat_map, MatchBool}
+use Rattle.std.specs.Prelude.{◌≡◌, ℕ, ◌+◌, ◌*◌, ◌/◌, ◌^◌, ◌<◌, ◌==◌, ◌&&◌, nat_lt, if◌then◌else◌, Bool, List, [], ◌∷◌, ◌++◌, take, drop, slice_index, slice_index_or, sum, sum_by, flat_map, MatchBool}
 use Rattle.bit_fields.specs.Groups.{numbers_at, spelled}
 use Rattle.frame_header.specs.declared.version.Version.{Version}
 use Rattle.frame_header.specs.declared.version.Version.TheVariants.{One, Two}
@@ -16,6 +16,10 @@ front_widths_of Two channels = if channels == 1 then 8 ∷ 1 ∷ [] else 8 ∷ 2
 
 abbrev pub front_widths : ClassFields → List ℕ
 front_widths c = front_widths_of c.version c.channels
+
+-- all fields 0
+abbrev pub no_side : Side
+no_side = record { main_data_begin = 0; private_bits = 0; scfsi = 0 ∷ 0 ∷ []; granules = (no_granule ∷ no_granule ∷ []) ∷ (no_granule ∷ no_granule ∷ []) ∷ [] }
 
 -- the granule and channel behind so many others
 abbrev pub nth_granule : Version → ℕ → List ℕ → Granule
@@ -45,7 +49,7 @@ granules_in c s = flat_map (take c.channels) (take (granules_of c.version) s.gra
 -- the bits of the side fields
 unfoldable pub side_bits : ClassFields → Side → List ℕ
 side_bits c s =
-  spelled (front_widths c) (s.main_data_begin ∷ s.private_bits ∷ s.scfsi) ++ flat_map (granule_bits c.version) (granules_in c s)
+    spelled (front_widths c) (s.main_data_begin ∷ s.private_bits ∷ s.scfsi) ++ flat_map (granule_bits c.version) (granules_in c s)
 
 -- a granule's channel; all 0 past the two of each
 abbrev pub granule_in : Side → ℕ → ℕ → Granule

@@ -1,5 +1,7 @@
 //! The side information of one granule and channel.
 
+use frame_header::Version;
+
 /// The fields of one granule and channel (ISO/IEC 11172-3 and 13818-3, 2.4.1.7). All 0 where the
 /// class lacks the granule or the channel.
 #[derive(Clone, Copy, Debug, PartialEq, Eq)]
@@ -19,6 +21,25 @@ pub struct Granule {
     pub preflag: bool,
     pub scalefac_scale: bool,
     pub count1table_select: bool,
+}
+
+impl Granule {
+    ghost use Rattle.std.specs.Prelude.{◌↔◌, IsTrue};
+    ghost use Rattle.side_info.specs.Granule.{GranuleFits};
+
+    /// Whether each field is within its bits, and preflag is false in MPEG-2, which lacks it.
+    pub fn fits(&self, version: Version) -> bool
+        ensures { IsTrue result ↔ GranuleFits version self.now }
+    {
+        let _gain = self.global_gain;
+        if self.part2_3_length >= 1 << 12 || self.big_values >= 1 << 9 || self.detail >= 1 << 22 {
+            return false;
+        }
+        match version {
+            Version::One => self.scalefac_compress < 1 << 4,
+            Version::Two => self.scalefac_compress < 1 << 9 && !self.preflag,
+        }
+    }
 }
 
 /// All fields 0.

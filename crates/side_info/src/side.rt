@@ -1,11 +1,11 @@
 //! The side information of a frame.
-ghost use Rattle.std.specs.Prelude.{◌≡◌, length};
+ghost use Rattle.std.specs.Prelude.{◌≡◌, ◌^◌, ◌<◌, length, sum_by};
 ghost use Rattle.frame_header.specs.declared.version.Version.TheVariants.{One};
 ghost use Rattle.bit_fields.specs.Bits.{bits};
 ghost use Rattle.frame_header.specs.Tables.{side_size_of};
-ghost use Rattle.side_info.specs.Side.{side_at, side_bits, payload_bits, payload_bytes, SideFits};
+ghost use Rattle.side_info.specs.Side.{no_side, side_at, side_bits, payload_bits, payload_bytes, SideFits};
 
-use crate::granule::Granule;
+use crate::granule::{Granule, NO_GRANULE};
 use crate::reading::{read_front, read_pair};
 use crate::writing::{front_bits, write_front, write_pair};
 use bit_fields::Bits;
@@ -23,7 +23,42 @@ pub struct Side {
     pub granules: [[Granule; 2]; 2],
 }
 
+/// The main data of a granule's channels in bits.
+fn pair_bits(pair: &[Granule; 2]) -> u32
+    ensures two { length pair.now ≡ 2 }
+    ensures sum { result ≡ sum_by (λ (g : Granule). g.part2_3_length) pair.now }
+    ensures most { result < 2 ^ 17 }
+{
+    let first = pair[0].part2_3_length;
+    let second = pair[1].part2_3_length;
+    u32::from(first) + u32::from(second)
+}
+
 impl Side {
+    /// All fields 0.
+    pub fn empty() -> Side
+        ensures { result ≡ no_side }
+    {
+        let scfsi = [0, 0];
+        let pair = [NO_GRANULE, NO_GRANULE];
+        let granules = [pair, pair];
+        Side {
+            main_data_begin: 0,
+            private_bits: 0,
+            scfsi,
+            granules,
+        }
+    }
+
+    /// The same with another main_data_begin.
+    pub fn with_begin(&self, begin: u16) -> Side
+        ensures { result ≡ record self.now { main_data_begin = begin } }
+    {
+        let mut side = *self;
+        side.main_data_begin = begin;
+        side
+    }
+
     /// Reads the side information of an MPEG-1 frame, all its bytes.
     pub fn read(class: Class, bytes: &[u8]) -> Side
         requires size { length bytes.now ≡ side_size_of class }
@@ -50,7 +85,9 @@ impl Side {
         requires fits { SideFits class self.now }
         requires size { length bytes.old ≡ side_size_of class }
         requires version { class.version ≡ One }
-        ensures { bits bytes.new ≡ side_bits class self.now }
+        ensures written { bits bytes.new ≡ side_bits class self.now }
+        // What is read back is what was written.
+        ensures back { side_at class (bits bytes.new) ≡ self.now }
     {
         let first = front_bits(class.channels);
         let second = first + 59 * usize::from(class.channels);
@@ -63,7 +100,7 @@ impl Side {
     pub fn bits(&self) -> u32
         ensures { result ≡ payload_bits self.now }
     {
-        0
+        pair_bits(&self.granules[0]) + pair_bits(&self.granules[1])
     }
 
     /// The main data of the frame in bytes, rounded up.

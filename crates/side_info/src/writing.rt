@@ -35,7 +35,12 @@ pub(crate) fn write_front(side: &Side, channels: u8, bytes: &mut [u8])
         return;
     }
     let second = u32::from(side.scfsi[1]);
-    put(bytes, 0, 20, begin * 2048 + private_bits * 256 + first * 16 + second);
+    put(
+        bytes,
+        0,
+        20,
+        begin * 2048 + private_bits * 256 + first * 16 + second,
+    );
 }
 
 /// Writes the channels of one granule of an MPEG-1 frame; the bits before them stay.

@@ -1,5 +1,5 @@
 -- The fields are parts of two numbers.
-use Rattle.std.proofs.Common.{◌≡◌, ◌-◌, ◌≤◌, length, drop, arith, ap, ◌∙◌, rules}
+use Rattle.std.proofs.Common.{arith, ap, ◌∙◌}
 use Rattle.std.proofs.lemmas.List.{length-drop}
 use Rattle.bit_fields.specs.Cursor.{advanced}
 use Rattle.bit_fields.proofs.CursorLaws.{advanced-advanced}
@@ -12,7 +12,7 @@ next-rest-requires-clause-enough c = rw c.next-first.ensures.moves (simp length-
 pub returns-clause-granule : goal.returns-clause-granule
 returns-clause-granule c =
     granule_from c.args.source.now.left c.next-first.result c.next-rest.result c.requires.bits c.requires.enough c.next-first.ensures.value
-      (rw c.next-first.ensures.moves at c.next-rest.ensures.value)
+    (rw c.next-first.ensures.moves at c.next-rest.ensures.value)
 
 pub returns-clause-moves : goal.returns-clause-moves
 returns-clause-moves c = c.next-rest.ensures.moves ∙ ap (λ s. advanced s 30) c.next-first.ensures.moves ∙ advanced-advanced c.args.source.now 29 30

@@ -1,5 +1,5 @@
 -- The second channel stands behind the first.
-use Rattle.std.proofs.Common.{◌≡◌, ◌+◌, ◌*◌, ◌-◌, ◌≤◌, length, drop, arith, ap, ◌∙◌}
+use Rattle.std.proofs.Common.{◌≡◌, ◌+◌, ◌*◌, arith, ap, ◌∙◌}
 use Rattle.std.proofs.lemmas.List.{length-drop}
 use Rattle.bit_fields.specs.Cursor.{advanced}
 use Rattle.bit_fields.proofs.BitsLaws.{AreBits-drop}

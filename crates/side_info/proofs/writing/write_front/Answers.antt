@@ -1,5 +1,5 @@
 -- One number is put at the front.
-use Rattle.std.proofs.Common.{◌≡◌, ℕ, ◌+◌, ◌*◌, length, arith}
+use Rattle.std.proofs.Common.{◌+◌, ◌*◌, arith}
 use Rattle.bit_fields.specs.Bits.{bits}
 use Rattle.side_info.proofs.WriteLaws.{front_one, front_two}
 use Rattle.side_info.proofs.writing.write_front.Goals as goal

@@ -2,7 +2,6 @@
 use Rattle.std.proofs.Common.{◌≡◌, ◌+◌, ◌*◌, ◌≤◌, ◌++◌, length, take, ap, ◌∙◌, arith}
 use Rattle.bit_fields.specs.Bits.{bits}
 use Rattle.bit_fields.proofs.BitsLaws.{length-bits}
-use Rattle.side_info.specs.Granule.{bit_of}
 use Rattle.side_info.proofs.WriteLaws.{bool_byte-is, two_puts, granule_put}
 use Rattle.side_info.proofs.writing.write_granule.Goals as goal
 
@@ -15,6 +14,6 @@ returns c =
     ap (λ k. take k (bits c.put-2.new.bytes)) place
     ∙ two_puts (bits c.args.bytes.now) (bits c.put.new.bytes) (bits c.put-2.new.bytes) c.args.at 29 30 first rest room c.put.ensures c.put-2.ensures
     ∙ ap (λ bs. take c.args.at (bits c.args.bytes.now) ++ bs)
-      (granule_put c.args.granule.now c.requires.fits first rest
-        (omega (arith, c.from.ensures, c.from-2.ensures, c.from-3.ensures))
-        (omega (arith, c.from-4.ensures, c.from-5.ensures, c.from-6.ensures, c.from-7.ensures, c.from-8.ensures, bool_byte-is c.args.granule.now.window_switching, bool_byte-is c.args.granule.now.preflag, bool_byte-is c.args.granule.now.scalefac_scale, bool_byte-is c.args.granule.now.count1table_select)))
+    (granule_put c.args.granule.now c.requires.fits first rest
+    (omega (arith, c.from.ensures, c.from-2.ensures, c.from-3.ensures))
+    (omega (arith, c.from-4.ensures, c.from-5.ensures, c.from-6.ensures, c.from-7.ensures, c.from-8.ensures, bool_byte-is c.args.granule.now.window_switching, bool_byte-is c.args.granule.now.preflag, bool_byte-is c.args.granule.now.scalefac_scale, bool_byte-is c.args.granule.now.count1table_select)))

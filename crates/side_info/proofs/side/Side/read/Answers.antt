@@ -1,13 +1,12 @@
 -- The parts take all the bits in turn.
-use Rattle.std.proofs.Common.{◌≡◌, [], ◌∷◌, ◌*◌, ◌≤◌, length, drop, ap, sym, ◌∙◌, subst, arith}
-use Rattle.bit_fields.specs.Bits.{bits, AreBits}
-use Rattle.bit_fields.specs.Cursor.{advanced}
+use Rattle.std.proofs.Common.{◌≡◌, [], ◌∷◌, ◌*◌, drop, ap, ◌∙◌, subst, arith}
+use Rattle.bit_fields.specs.Bits.{bits}
 use Rattle.bit_fields.proofs.BitsLaws.{AreBits-bits, AreBits-drop}
 use Rattle.frame_header.specs.declared.version.Version.TheVariants.{One}
 use Rattle.frame_header.specs.Fields.{IsClass}
 use Rattle.side_info.specs.Granule.{granule_size}
 use Rattle.side_info.specs.Parts.{front_size, front_at, pair_at}
-use Rattle.side_info.specs.Side.{SideFits, side_at}
+use Rattle.side_info.specs.Side.{side_at}
 use Rattle.side_info.proofs.SideLaws.{class_with, SideFits-side_at}
 use Rattle.side_info.proofs.ReadLaws.{side_size-small, enough_front, enough_first, enough_second, side_is}
 use Rattle.side_info.proofs.side.Side.read.Goals as goal
