@@ -116,3 +116,8 @@ IsHeader-read h fields bits is =
 pub IsHeader-header_at : (four : List ℕ) (fields : HeaderFields) → header_at four ≡ good fields → IsHeader fields
 unfolding header_at
 IsHeader-header_at four fields is = IsHeader-read (bits four) fields (AreBits-bits four) is
+
+-- what was read is what the bits say
+pub header_fields-header_at : (four : List ℕ) (fields : HeaderFields) → header_at four ≡ good fields → header_fields (bits four) ≡ fields
+unfolding header_at
+header_fields-header_at four fields is = (header_in-ok (bits four) fields is).2

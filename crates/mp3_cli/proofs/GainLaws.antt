@@ -126,3 +126,9 @@ written_in_part shift input output bytes given old read new same is defined left
   defined = defined;
   left = subst (λ f. (new ≡ f) ⊎ HoldsFront output bytes f new) same (subst (λ b. (new ≡ read) ⊎ HoldsFront output b read new) is left);
 }
+
+-- the bytes that were loaded are the input's, so that their fault is its own
+pub refused_bytes : (shift : Shift) (name loaded given : List ℕ) (old found : Files) (fault : EditFault) → found ≡ old → given ≡ loaded → IsThere old name
+    → ((bytes : List ℕ) → Holds found name bytes → loaded ≡ bytes) → gained shift given ≡ Err fault → RefusesBytes shift name old fault
+refused_bytes shift name loaded given old found fault same is there load refused =
+    (there, λ bytes holds. subst (λ b. gained shift b ≡ Err fault) (is ∙ load bytes (subst (λ f. Holds f name bytes) (sym same) holds)) refused)

@@ -1,7 +1,9 @@
 -- The lemmas of this crate.
 pub mod EditLaws
+pub mod FileLaws
 pub mod Follow
 pub mod GainLaws
+pub mod GainsLaws
 pub mod Lines
 pub mod Places
 pub mod PlainLaws

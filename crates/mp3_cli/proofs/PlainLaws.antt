@@ -1,5 +1,7 @@
 -- What the tests of a plain frame say of its length.
-use Rattle.std.proofs.Common.{◌≡◌, ◌≢◌, ℕ, ◌+◌, ◌-◌, ◌<◌, ◌≤◌, Bool, true, false, cond, not, ◌&&◌, eqb, leb, List, length, take, drop, Option, Some, None, Result, Ok, Err, refl, sym, ◌∙◌, ap, subst, arith}
+use Rattle.std.proofs.Common.{◌≡◌, ◌≢◌, ℕ, ◌+◌, ◌-◌, ◌<◌, ◌≤◌, Bool, true, false, cond, not, ◌&&◌, eqb, leb, List, length, take, drop, Option, Some, None, Result, Ok, Err, refl, sym, ◌∙◌, ap, subst, codes, bytes_eq, arith, length-drop}
+use Rattle.std.proofs.lemmas.List.{length-take}
+use Rattle.outside.proofs.FilesLaws.{bytes_eq-other}
 use Rattle.std.proofs.lemmas.Bool.{true≢false, false≢true, eqb-true, leb-true}
 use Rattle.frame_header.specs.declared.version.Version.{Version}
 use Rattle.frame_header.specs.declared.version.Version.TheVariants.{One, Two}
@@ -9,7 +11,7 @@ use Rattle.frame_header.specs.Tables.{class_of, length_of, side_size_of}
 use Rattle.frame_header.specs.Reading.{header_at}
 use Rattle.frame_header.proofs.Lengths.{area_some}
 use Rattle.frame_header.proofs.HeaderLaws.{IsHeader-header_at}
-use Rattle.mp3_cli.specs.Plain.{good, header_front, same_version, same_class, is_plain_header, is_plain, plain_length, plain_front}
+use Rattle.mp3_cli.specs.Plain.{good, header_front, same_version, same_class, is_plain_header, is_plain, plain_length, plain_front, has_head}
 
 -- what a test that passed says of its two parts
 pub both : (a b : Bool) → (a && b) ≡ true → (a ≡ true) × (b ≡ true)
@@ -17,11 +19,11 @@ both true b h = (refl, h)
 both false b h = absurd (false≢true h)
 
 -- the header that was found has its fields in range
-good_header : (r : Result HeaderFields NotHeader) (h : HeaderFields) → good r ≡ Some h → r ≡ Ok h
+pub good_header : (r : Result HeaderFields NotHeader) (h : HeaderFields) → good r ≡ Some h → r ≡ Ok h
 good_header (Ok f) h e = cc
 good_header (Err why) h e = absurd cc
 
-header_cases : (b : Bool) (o : Option HeaderFields) (h : HeaderFields) → cond b o None ≡ Some h → o ≡ Some h
+pub header_cases : (b : Bool) (o : Option HeaderFields) (h : HeaderFields) → cond b o None ≡ Some h → o ≡ Some h
 header_cases true o h e = e
 header_cases false o h e = absurd cc
 
@@ -50,6 +52,7 @@ class_in_range h fields = (fields.frequency_index, channels (eqb h.mode 3), chan
     channels : (b : Bool) → 1 ≤ cond b 1 2
     channels true = omega arith
     channels false = omega arith
+
     channels_most : (b : Bool) → cond b 1 2 ≤ 2
     channels_most true = omega arith
     channels_most false = omega arith
@@ -91,3 +94,24 @@ front_of c bytes len (Some h) is e =
 pub front : (c : ClassFields) (bytes : List ℕ) (len : ℕ) → plain_front c bytes ≡ Some len → IsFront c bytes len
 unfolding plain_front
 front c bytes len e = front_of c bytes len (header_front bytes) refl e
+
+-- ---- heads
+
+-- no head's text stands past the end
+pub has_head-short : (c : ClassFields) (bytes : List ℕ) → length bytes < 4 + side_size_of c + 4 → has_head c bytes ≡ false
+unfolding has_head
+has_head-short c bytes short =
+    let text = take 4 (drop (4 + side_size_of c) bytes) in
+    let few : length text < 4 = omega (arith, length-take 4 (drop (4 + side_size_of c) bytes), length-drop (4 + side_size_of c) bytes) in
+    let not_xing = bytes_eq-other text (codes "Xing") (λ e. let same : length text ≡ 4 = ap length (sym e) in omega (arith, few, same)) in
+    let not_info = bytes_eq-other text (codes "Info") (λ e. let same : length text ≡ 4 = ap length (sym e) in omega (arith, few, same)) in
+    rw (not_xing, not_info) refl
+
+long_cases : (b : Bool) (o : Option HeaderFields) (h : HeaderFields) → cond b o None ≡ Some h → b ≡ true
+long_cases true o h e = refl
+long_cases false o h e = absurd cc
+
+-- a header has four bytes
+pub header_front-long : (bytes : List ℕ) (h : HeaderFields) → header_front bytes ≡ Some h → 4 ≤ length bytes
+unfolding header_front
+header_front-long bytes h e = leb-true 4 (length bytes) (long_cases _ _ h e)

@@ -28,8 +28,8 @@ enough zero (suc n) c bytes le le' = sym (onward-none bytes (λ rest. walk_up_to
 enough (suc m) zero c bytes le le' = onward-none bytes (λ rest. walk_up_to m c rest) (plain_front c bytes) (no_front c bytes _ refl (omega arith))
 enough (suc m) (suc n) c bytes le le' =
     onward-same bytes (λ rest. walk_up_to m c rest) (λ rest. walk_up_to n c rest) (plain_front c bytes) (λ len is.
-      let here = front c bytes len is in
-      enough m n c (drop len bytes) (omega (arith, here.room, here.within, length-drop len bytes)) (omega (arith, here.room, here.within, length-drop len bytes)))
+    let here = front c bytes len is in
+    enough m n c (drop len bytes) (omega (arith, here.room, here.within, length-drop len bytes)) (omega (arith, here.room, here.within, length-drop len bytes)))
 
 one_more : (n : ℕ) (c : ClassFields) (bytes : List ℕ) → walk_up_to (suc n) c bytes ≡ onward bytes (λ rest. walk_up_to n c rest) (plain_front c bytes)
 unfolding walk_up_to
@@ -42,8 +42,8 @@ walk-step c bytes =
     enough (length bytes) (suc (length bytes)) c bytes (omega arith) (omega arith)
     ∙ one_more (length bytes) c bytes
     ∙ onward-same bytes (λ rest. walk_up_to (length bytes) c rest) (λ rest. walk_up_to (length rest) c rest) (plain_front c bytes) (λ len is.
-      let here = front c bytes len is in
-      enough (length bytes) (length (drop len bytes)) c (drop len bytes) (omega (arith, length-drop len bytes)) (omega arith))
+    let here = front c bytes len is in
+    enough (length bytes) (length (drop len bytes)) c (drop len bytes) (omega (arith, length-drop len bytes)) (omega arith))
 
 -- a plain frame stands at the front
 pub walk-front : (c : ClassFields) (bytes : List ℕ) (len : ℕ) → plain_front c bytes ≡ Some len → walk c bytes ≡ behind (take len bytes) (walk c (drop len bytes))

@@ -41,7 +41,7 @@ unless_not_plain None next = next
 -- what a file becomes, or why it is refused: it isn't plain, or else a gain would leave the range
 unfoldable pub gained : Shift → List ℕ → Result (List ℕ) EditFault
 gained shift file =
-  unless_not_plain (not_plain_at file)
+    unless_not_plain (not_plain_at file)
     (unless (range_fault shift (file_class file) 0 (file_walk file).frames) (edited shift (file_class file) (file_walk file)))
 
 abbrev pub gained_where : Shift → Option (List ℕ) → Result (List ℕ) EditFault
@@ -52,4 +52,4 @@ gained_where shift (Some file) = gained shift file
 -- else it is refused itself
 unfoldable pub gain_result : Shift → List ℕ → List ℕ → Contents → Result (List ℕ) EditFault
 gain_result shift input output files =
-  if bytes_eq input output then Err (EqualNames 0) else gained_where shift (files input)
+    if bytes_eq input output then Err (EqualNames 0) else gained_where shift (files input)

@@ -2,6 +2,7 @@
 -- granule is left alone, and without wrap a sum that would leave the range refuses the whole file.
 use Rattle.std.specs.Prelude.{ℕ, ◌==◌, ◌&&◌, not, nat_lt, if◌then◌else◌, Bool, true, false, List, [], ◌∷◌, Option, Some, None, ℤ, pos, negsuc, ◌+ℤ◌, unsigned_abs}
 use Rattle.std.specs.Int.{int_rem_euclid}
+use Rattle.std.specs.Option.{option_or}
 use Rattle.side_info.specs.declared.granule.Granule.{Granule}
 use Rattle.side_info.specs.declared.side.Side.{Side}
 use Rattle.side_info.specs.Side.{granule_in}
@@ -41,7 +42,7 @@ moved steps g = if is_silent g then g else record g { global_gain = moved_gain s
 -- a granule with channel 0 moved by the steps of the left and channel 1 by those of the right
 abbrev pub moved_channels : Shift → Side → ℕ → List Granule
 moved_channels shift s granule =
-  moved (left_steps shift) (granule_in s granule 0) ∷ moved (right_steps shift) (granule_in s granule 1) ∷ []
+    moved (left_steps shift) (granule_in s granule 0) ∷ moved (right_steps shift) (granule_in s granule 1) ∷ []
 
 -- all other side fields stay
 unfoldable pub moved_side : Shift → Side → Side
@@ -56,16 +57,12 @@ is_outside (negsuc n) = true
 -- the gain of this granule and channel would leave the range
 abbrev pub stuck_at : ℤ → Side → ℕ → ℕ → Option Stuck
 stuck_at steps s granule channel = let g = granule_in s granule channel in
-  if not (is_silent g) && is_outside (pos g.global_gain +ℤ steps)
-  then Some (record { granule = granule; channel = channel; gain = g.global_gain }) else None
-
-abbrev pub or_else : {A : Type 0} → Option A → Option A → Option A
-or_else (Some a) other = Some a
-or_else None other = other
+    if not (is_silent g) && is_outside (pos g.global_gain +ℤ steps)
+    then Some (record { granule = granule; channel = channel; gain = g.global_gain }) else None
 
 -- the first gain of a frame that would leave the range, in order of granules and channels; none with wrap
 unfoldable pub stuck_in : Shift → Side → Option Stuck
 stuck_in shift s =
-  if shift.wrap then None
-  else or_else (stuck_at (left_steps shift) s 0 0) (or_else (stuck_at (right_steps shift) s 0 1)
-    (or_else (stuck_at (left_steps shift) s 1 0) (stuck_at (right_steps shift) s 1 1)))
+    if shift.wrap then None
+    else option_or (stuck_at (left_steps shift) s 0 0) (option_or (stuck_at (right_steps shift) s 0 1)
+    (option_or (stuck_at (left_steps shift) s 1 0) (stuck_at (right_steps shift) s 1 1)))

@@ -39,7 +39,7 @@ same_class c d = same_version c.version d.version && (c.frequency_index == d.fre
 -- the header of a plain frame of the class: MPEG-1, without a check word, and the frame is whole in these bytes
 unfoldable pub is_plain_header : ClassFields → HeaderFields → List ℕ → Bool
 is_plain_header c h bytes =
-  same_version h.version One && not h.protected && same_class (class_of h) c && nat_le (length_of c h.slot) (length bytes)
+    same_version h.version One && not h.protected && same_class (class_of h) c && nat_le (length_of c h.slot) (length bytes)
 
 -- the main data begin with the frame's own area and end in it
 unfoldable pub is_self_contained : ClassFields → HeaderFields → Side → Bool
@@ -106,5 +106,5 @@ file_walk bytes = if has_head (file_class bytes) bytes then stopped bytes else w
 -- the least offset where no plain frame stands, 0 for an empty and for too long a file; none for a plain file
 unfoldable pub not_plain_at : List ℕ → Option ℕ
 not_plain_at bytes =
-  if (length bytes == 0) || nat_lt longest_input (length bytes) then Some 0
-  else if length (file_walk bytes).left == 0 then None else Some (length bytes - length (file_walk bytes).left)
+    if (length bytes == 0) || nat_lt longest_input (length bytes) then Some 0
+    else if length (file_walk bytes).left == 0 then None else Some (length bytes - length (file_walk bytes).left)

@@ -13,12 +13,14 @@ use frame_header::Class;
 
 /// What was edited at the front: the length of the frame in bytes, and the first of its gains that
 /// would leave the range.
+#[derive(Drop)]
 struct Front {
     length: usize,
     stuck: Option<Stuck>,
 }
 
 /// How many bytes of plain frames were edited, and the first of their gains that would leave the range.
+#[derive(Drop)]
 struct Edited {
     end: usize,
     fault: Option<EditFault>,
@@ -48,12 +50,7 @@ fn fault_at(offset: usize, stuck: Option<Stuck>) -> Option<EditFault>
     ensures { result ≡ stuck_fault offset stuck None }
 {
     let stuck = stuck?;
-    Some(EditFault::GainRange(
-        offset as u64,
-        stuck.granule,
-        stuck.channel,
-        stuck.gain,
-    ))
+    Some(EditFault::GainRange(offset as u64, stuck.granule, stuck.channel, stuck.gain))
 }
 
 /// Moves the gains of the plain frames of the class that stand end to end from the front.
@@ -72,12 +69,13 @@ fn edit_frames(class: Class, shift: &Shift, bytes: &mut [u8]) -> Edited
 }
 
 /// Whether an Info head begins with this class: its text stands behind the side information.
+#[tactic(auto, unfolding(crate::specs::Plain::has_head))]
 fn has_head(class: Class, bytes: &[u8]) -> bool
     ensures { result ≡ has_head_lem class bytes.now }
 {
     let at = HEADER_SIZE + class.side_size() as usize;
     match bytes.get(at..at + 4) {
-        Some(text) => text == b"Xing" || text == b"Info",
+        Some(text) => text == b"Xing".as_slice() || text == b"Info".as_slice(),
         None => false,
     }
 }

@@ -36,7 +36,12 @@ fn find_input<D: Folder>(folder: &mut D, name: &str) -> Result<usize, EditFault>
 
 /// The bytes of the input, as many as it has; where a folder that tells nothing gives fewer than that,
 /// those that came.
-fn load<D: Folder>(alloc: Global, folder: &mut D, name: &str, size: usize) -> Result<Vec<u8>, EditFault>
+fn load<D: Folder>(
+    alloc: Global,
+    folder: &mut D,
+    name: &str,
+    size: usize,
+) -> Result<Vec<u8>, EditFault>
     requires there { IsThere (D.files folder.old) name.now }
     requires whole { (bytes : List ℕ) → Holds (D.files folder.old) name.now bytes → size ≡ length bytes }
     requires bound { size ≤ longest_input }
@@ -58,7 +63,12 @@ fn load<D: Folder>(alloc: Global, folder: &mut D, name: &str, size: usize) -> Re
 }
 
 /// The bytes of the output: those of the input with its gains moved.
-fn edited_input<D: Folder>(alloc: Global, folder: &mut D, name: &str, shift: &Shift) -> Result<Vec<u8>, EditFault>
+fn edited_input<D: Folder>(
+    alloc: Global,
+    folder: &mut D,
+    name: &str,
+    shift: &Shift,
+) -> Result<Vec<u8>, EditFault>
     ensures there { OnOk result (IsThere (D.files folder.old) name.now) }
     ensures gained { IfOk result (λ v. (bytes : List ℕ) → Holds (D.files folder.old) name.now bytes → gained shift.now bytes ≡ Ok v.items) }
     ensures refused { IfErr result (IsInputFault shift.now name.now (D.files folder.old)) }
@@ -92,7 +102,13 @@ fn save<D: Folder>(folder: &mut D, name: &str, bytes: &[u8]) -> Result<(), Faile
 /// without wrap. Then nothing was created. `Read` and `Write(0)` come only where a call of that kind failed;
 /// after `Write(0)` the output is as it was or holds a front of its bytes. `Memory` may come before the
 /// output is created, and not from then on.
-pub fn gain<D: Folder>(alloc: Global, folder: &mut D, input: &str, output: &str, shift: &Shift) -> Result<(), EditFault>
+pub fn gain<D: Folder>(
+    alloc: Global,
+    folder: &mut D,
+    input: &str,
+    output: &str,
+    shift: &Shift,
+) -> Result<(), EditFault>
     ensures written { OnOk result (IsWritten shift.now input.now output.now (D.files folder.old) (D.files folder.new)) }
     ensures defined { IfErr result (λ fault. IsDefinedAt shift.now input.now output.now (D.files folder.old) fault) }
     ensures left { IfErr result (λ fault. LeavesAt shift.now input.now output.now (D.files folder.old) (D.files folder.new) fault) }

@@ -1,7 +1,7 @@
 //! Plain frames: MPEG-1, without a check word, their main data in their own area.
 ghost use Rattle.std.specs.Prelude.{◌≡◌, ◌+◌, ◌<◌, ◌≤◌, length, option_map, IsTrue, IfSome};
 ghost use Rattle.frame_header.specs.declared.version.Version.TheVariants.{One};
-ghost use Rattle.frame_header.specs.Tables.{side_size_of};
+ghost use Rattle.frame_header.specs.Tables.{length_of, side_size_of};
 ghost use Rattle.side_info.specs.Side.{SideFits};
 ghost use Rattle.mp3_cli.specs.Plain.{header_front as header_front_lem, same_class, is_plain_header as is_plain_header_lem, is_self_contained as is_self_contained_lem, side_of, plain_front as plain_front_lem};
 
@@ -19,6 +19,7 @@ pub(crate) struct PlainFrame {
 }
 
 /// The header at the front of the bytes.
+#[tactic(auto, unfolding(crate::specs::Plain::header_front))]
 pub(crate) fn header_front(bytes: &[u8]) -> Option<Header>
     ensures { result ≡ header_front_lem bytes.now }
 {
@@ -34,10 +35,12 @@ fn is_same_class(a: Class, b: Class) -> bool
     a.version == b.version && a.frequency_index == b.frequency_index && a.channels == b.channels
 }
 
+#[tactic(auto, unfolding(crate::specs::Plain::is_plain_header))]
 fn is_plain_header(class: Class, header: &Header, bytes: &[u8]) -> bool
     ensures plain { result ≡ is_plain_header_lem class header.now bytes.now }
     ensures version { IsTrue result → class.version ≡ One }
-    ensures whole { IsTrue result → 6 + side_size_of class < length bytes.now }
+    ensures whole { IsTrue result → length_of class header.now.slot ≤ length bytes.now }
+    ensures room { IsTrue result → 6 + side_size_of class < length bytes.now }
 {
     header.version == Version::One
         && !header.protected
@@ -45,6 +48,7 @@ fn is_plain_header(class: Class, header: &Header, bytes: &[u8]) -> bool
         && class.length_of(header.slot) as usize <= bytes.len()
 }
 
+#[tactic(auto, unfolding(crate::specs::Plain::is_self_contained))]
 fn is_self_contained(class: Class, header: &Header, side: &Side) -> bool
     ensures { result ≡ is_self_contained_lem class header.now side.now }
 {
@@ -52,6 +56,7 @@ fn is_self_contained(class: Class, header: &Header, side: &Side) -> bool
 }
 
 /// The side information of an unprotected frame of the class at the front of the bytes.
+#[tactic(auto, unfolding(crate::specs::Plain::side_of, crate::specs::Plain::side_part))]
 fn side_at_front(class: Class, bytes: &[u8]) -> Side
     requires version { class.version ≡ One }
     requires whole { 4 + side_size_of class ≤ length bytes.now }
@@ -63,6 +68,7 @@ fn side_at_front(class: Class, bytes: &[u8]) -> Side
 }
 
 /// The plain frame of the class at the front of the bytes.
+#[tactic(auto, unfolding(crate::specs::Plain::plain_front))]
 pub(crate) fn plain_front(class: Class, bytes: &[u8]) -> Option<PlainFrame>
     ensures front { option_map (λ f. f.length) result ≡ plain_front_lem class bytes.now }
     ensures side { IfSome result (λ f. f.side ≡ side_of class bytes.now) }

@@ -32,11 +32,13 @@ pub fn run<D: Folder, T: Sink, E: Sink>(
             send_bad_word(err, word);
             2
         }
-        Ok(Job::Gain {
-            shift,
-            input,
-            output,
-        }) => {
+        Ok(
+            Job::Gain {
+                shift,
+                input,
+                output,
+            },
+        ) => {
             let input = words[input as usize - 1].as_str();
             let output = words[output as usize - 1].as_str();
             let done = gain(alloc, folder, input, output, &shift);

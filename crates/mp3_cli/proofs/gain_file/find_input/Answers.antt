@@ -5,7 +5,9 @@ use Rattle.mp3_cli.proofs.GainLaws.{not_plain-length}
 use Rattle.mp3_cli.proofs.gain_file.find_input.Goals as goal
 
 pub returns-in-Ok-clause-refused : goal.returns-in-Ok-clause-refused
-returns-in-Ok-clause-refused g c =
-    (c.in-Ok.ensures.there, λ bytes holds.
+returns-in-Ok-clause-refused g c = (
+  c.in-Ok.ensures.there,
+  λ bytes holds.
       let same = c.in-Ok.ensures.found bytes holds in
-      not_plain-length bytes (⊎_elim (λ none. inl (sym same ∙ none)) (λ more. inr (subst (λ n. longest_input < n) same more.1)) c.if-length-gt-LONGEST_INPUT.either))
+      not_plain-length bytes (⊎_elim (λ none. inl (sym same ∙ none)) (λ more. inr (subst (λ n. longest_input < n) same more.1)) c.if-length-gt-LONGEST_INPUT.either),
+)

@@ -1,0 +1,15 @@
+-- Past the end there is no text.
+use Rattle.std.proofs.Common.{◌≡◌, ◌⊎◌, ℕ, ◌+◌, ◌<◌, length, false, sym, inl, inr, arith}
+use Rattle.frame_header.specs.Tables.{side_size_of}
+use Rattle.mp3_cli.specs.Plain.{has_head}
+use Rattle.mp3_cli.proofs.PlainLaws.{has_head-short}
+use Rattle.mp3_cli.proofs.edit.has_head.Goals as goal
+
+past : (at end : ℕ) → (at + 4 < at) ⊎ (end < at + 4) → end < at + 4
+past at end (inl none) = absurd (omega arith)
+past at end (inr short) = short
+
+pub returns-in-None : goal.returns-in-None
+returns-in-None c =
+    let short = past (4 + c.side_size.result) (length c.args.bytes.now) c.in-None.ensures.lookup.0 in
+    sym (has_head-short c.args.class c.args.bytes.now (omega (arith, short, c.side_size.ensures.size)))
