@@ -31,6 +31,23 @@ least : (version : Version) (i : ℕ) → i < 14 → least_rate version ≤ get_
 least One i lt = leb-true 32 (get_or (rates One) i 0) (all_pass (λ r. leb 32 r) (rates One) i refl lt)
 least Two i lt = leb-true 8 (get_or (rates Two) i 0) (all_pass (λ r. leb 8 r) (rates Two) i refl lt)
 
+greatest : (version : Version) (i : ℕ) → i < 14 → get_or (rates version) i 0 ≤ 320
+greatest One i lt = leb-true (get_or (rates One) i 0) 320 (all_pass (λ r. leb r 320) (rates One) i refl lt)
+greatest Two i lt = leb-true (get_or (rates Two) i 0) 320 (all_pass (λ r. leb r 320) (rates Two) i refl lt)
+
+lowest : (version : Version) → 8 ≤ least_rate version
+lowest One = lit< tt
+lowest Two = lit< tt
+
+-- the bit rates of both versions are between 8 and 320 kbit/s
+pub rate-least : (c : ClassFields) (s : SlotFields) → IsSlot s → 8 ≤ rate_of c s
+unfolding rate_of
+rate-least c s slot = omega (arith, lowest c.version, least c.version (s.rate_index - 1) (omega (arith, slot.0, slot.1)))
+
+pub rate-most : (c : ClassFields) (s : SlotFields) → IsSlot s → rate_of c s ≤ 320
+unfolding rate_of
+rate-most c s slot = greatest c.version (s.rate_index - 1) (omega (arith, slot.0, slot.1))
+
 highest : (version : Version) (i : ℕ) → i < 3 → (get_or (frequencies version) i 0 ≤ highest_frequency version) × (16000 ≤ get_or (frequencies version) i 0)
 highest One i lt = (leb-true _ _ (all_pass (λ f. leb f 48000) (frequencies One) i refl lt), leb-true 16000 _ (all_pass (λ f. leb 16000 f) (frequencies One) i refl lt))
 highest Two i lt = (leb-true _ _ (all_pass (λ f. leb f 24000) (frequencies Two) i refl lt), leb-true 16000 _ (all_pass (λ f. leb 16000 f) (frequencies Two) i refl lt))

@@ -1,6 +1,6 @@
 //! What all frames of one stream share.
 ghost use Rattle.std.specs.Prelude.{◌≡◌, ◌+◌, ◌<◌, ◌≤◌};
-ghost use Rattle.frame_header.specs.Tables.{rate_of, frequency_of, samples_of, side_size_of, window_of, length_of, area_of};
+ghost use Rattle.frame_header.specs.Tables.{rate_of, frequency_of, samples_of, side_size_of, window_of, length_of, overhead_of, area_of};
 
 use crate::slot::Slot;
 use crate::version::Version;
@@ -28,10 +28,11 @@ impl Model for Class {
 
 #[tactic(auto, unfolding(crate::specs::Tables::frequency_of, crate::specs::Tables::rate_of, crate::specs::Tables::side_size_of, crate::specs::Tables::length_of, crate::specs::Tables::area_of, crate::specs::Tables::overhead_of))]
 impl Class {
-    /// The sampling frequency in Hz.
+    /// The sampling frequency in Hz, from 16,000 to 48,000 (ISO/IEC 11172-3 and 13818-3, 2.4.2.3).
     pub fn frequency(&self) -> u32
         ensures frequency { result ≡ frequency_of self.now }
         ensures some { 0 < result }
+        ensures most { result ≤ 48000 }
     {
         match (self.version, self.frequency_index) {
             (Version::One, 0) => 44_100,
@@ -53,9 +54,12 @@ impl Class {
         }
     }
 
-    /// The length of the side information in bytes.
+    /// The length of the side information in bytes: 32 or 17, and 17 or 9 in MPEG-2 (ISO/IEC 11172-3 and
+    /// 13818-3, 2.4.1.7).
     pub fn side_size(&self) -> u32
         ensures size { result ≡ side_size_of self.now }
+        ensures least { 9 ≤ result }
+        ensures most { result ≤ 32 }
     {
         match (self.version, self.channels) {
             (Version::One, 1) => 17,
@@ -65,7 +69,8 @@ impl Class {
         }
     }
 
-    /// How many bytes back main data may begin.
+    /// How many bytes back main data may begin, the greatest main_data_begin: 511, and 255 in MPEG-2
+    /// (ISO/IEC 11172-3 and 13818-3, 2.4.2.7).
     pub fn window(&self) -> u32
         ensures { result ≡ window_of self.now.version }
     {
@@ -75,9 +80,11 @@ impl Class {
         }
     }
 
-    /// The bit rate in kbit/s.
+    /// The bit rate in kbit/s, from 8 to 320 (ISO/IEC 11172-3 and 13818-3, 2.4.2.3).
     pub fn rate(&self, slot: Slot) -> u32
-        ensures { result ≡ rate_of self.now slot }
+        ensures rate { result ≡ rate_of self.now slot }
+        ensures least { 8 ≤ result }
+        ensures most { result ≤ 320 }
     {
         let index = slot.rate_index as usize - 1;
         let rate = match self.version {
@@ -87,7 +94,7 @@ impl Class {
         u32::from(rate)
     }
 
-    /// The length of a frame in bytes, at most 1,441.
+    /// The length of a frame in bytes, at most 1,441 (ISO/IEC 11172-3 and 13818-3, 2.4.3.1).
     pub fn length_of(&self, slot: Slot) -> u32
         ensures length { result ≡ length_of self.now slot }
         ensures most { result ≤ 1441 }
@@ -107,6 +114,8 @@ impl Class {
     pub fn area_of(&self, slot: Slot, protected: bool) -> u32
         ensures area { result ≡ area_of self.now slot protected }
         ensures some { 1 ≤ result }
+        // With what stands before it, it is the frame.
+        ensures whole { overhead_of self.now protected + result ≡ length_of self.now slot }
     {
         let check_word = if protected { 2 } else { 0 };
         self.length_of(slot) - 4 - check_word - self.side_size()

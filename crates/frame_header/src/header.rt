@@ -2,7 +2,7 @@
 ghost use Rattle.std.specs.Prelude.{◌≡◌, ◌+◌, ◌^◌, ◌<◌, ◌≤◌, ◌==◌, length};
 ghost use Rattle.bit_fields.specs.Bits.{bits, bits_of};
 ghost use Rattle.bit_fields.specs.Groups.{group};
-ghost use Rattle.frame_header.specs.Tables.{class_of, length_of, area_of};
+ghost use Rattle.frame_header.specs.Tables.{class_of, length_of, overhead_of, area_of};
 ghost use Rattle.frame_header.specs.Reading.{header_at, header_in, is_readable as is_readable_lem, version_of as version_of_lem};
 
 use crate::class::Class;
@@ -157,6 +157,7 @@ impl Header {
     pub fn area(&self) -> u32
         ensures area { result ≡ area_of (class_of self.now) self.now.slot self.now.protected }
         ensures some { 1 ≤ result }
+        ensures whole { overhead_of (class_of self.now) self.now.protected + result ≡ length_of (class_of self.now) self.now.slot }
     {
         self.class().area_of(self.slot, self.protected)
     }

@@ -10,3 +10,6 @@ pub use class::Class;
 pub use header::{Header, NotHeader};
 pub use slot::Slot;
 pub use version::Version;
+
+#[cfg(test)]
+mod tests;

@@ -1,0 +1,84 @@
+//! Commands in words, over a folder in memory.
+
+use crate::frames::{Frame, file_of};
+use mp3_cli::run;
+use outside::{MemFolder, MemSink};
+use std::alloc::{AllocError, Global};
+use std::process::Abort;
+
+/// More than any line of these tests takes.
+const TEXT_ROOM: u64 = 100;
+
+/// How a command ended: its status, and what it wrote.
+#[derive(Drop)]
+pub struct Ended {
+    pub status: u8,
+    pub out: MemSink,
+    pub err: MemSink,
+}
+
+/// A folder with one file, and with room for the file `o`.
+pub fn folder_of(
+    alloc: Global,
+    name: &str,
+    bytes: &[u8],
+    room: usize,
+) -> Result<MemFolder, AllocError> {
+    let mut folder = MemFolder::new(alloc);
+    folder.put(name, bytes)?;
+    folder.reserve("o", room as u64)?;
+    Ok(folder)
+}
+
+/// Such a folder with these frames end to end, and with room for as many bytes.
+pub fn folder_of_frames(
+    alloc: Global,
+    name: &str,
+    frames: &[Frame],
+) -> Result<MemFolder, AllocError> {
+    let bytes = file_of(alloc, frames)?;
+    folder_of(alloc, name, &bytes, bytes.len())
+}
+
+/// A sink with room for a line.
+pub fn sink(alloc: Global) -> Result<MemSink, AllocError> {
+    let mut sink = MemSink::new(alloc);
+    sink.reserve(TEXT_ROOM)?;
+    Ok(sink)
+}
+
+fn words_of(alloc: Global, text: &str) -> Result<Vec<String>, AllocError> {
+    text.split_ascii_whitespace()
+        .map(|word| String::from_str(alloc, word))
+        .try_collect(alloc)
+}
+
+/// Runs the words, which blanks part, with this sink as standard error.
+pub fn run_over(
+    alloc: Global,
+    folder: &mut MemFolder,
+    words: &str,
+    mut err: MemSink,
+) -> Result<Ended, AllocError> {
+    let words = words_of(alloc, words)?;
+    let mut out = sink(alloc)?;
+    let status = run(alloc, &words, folder, &mut out, &mut err);
+    Ok(Ended { status, out, err })
+}
+
+/// Runs the words, and asserts the status, the text on standard error, and that none went to standard
+/// output.
+pub fn expect<R: Abort + AllocGlobal>(
+    rt: &R,
+    folder: &mut MemFolder,
+    words: &str,
+    status: u8,
+    text: &str,
+) -> Result<(), AllocError> {
+    let err = sink(rt.alloc())?;
+    let ended = run_over(rt.alloc(), folder, words, err)?;
+    assert_eq!(rt; ended.err.sent(), text.as_bytes(), "{words}, for {text}");
+    assert_eq!(rt; ended.status, status, "{words}, for {text}");
+    assert_eq!(rt; ended.out.sent(), b"".as_slice(), "{words}");
+    Ok(())
+}

@@ -1,0 +1,13 @@
+//! Tests of whole commands, over a folder and sinks in memory.
+#![tactic(auto)]
+
+#[cfg(test)]
+mod commands;
+#[cfg(test)]
+mod faults;
+#[cfg(test)]
+mod frames;
+#[cfg(test)]
+mod gains;
+#[cfg(test)]
+mod refusals;

@@ -1,0 +1,126 @@
+//! Headers and lengths from the tables of the standard.
+
+use super::*;
+use std::test::Fail;
+
+const MPEG_1: Version = Version::One;
+
+const MPEG_2: Version = Version::Two;
+
+#[test]
+fn headers(rt: HostRuntime) -> Result<(), Fail> {
+    // Four bytes, and the version, the channels, the frequency, the length and the area that they say.
+    let cases: [([u8; 4], (Version, u8, u32), u32, u32); 7] = [
+        ([0xff, 0xfb, 0x90, 0x00], (MPEG_1, 2, 44_100), 417, 381),
+        ([0xff, 0xfa, 0x90, 0x40], (MPEG_1, 2, 44_100), 417, 379),
+        ([0xff, 0xfb, 0xe2, 0x00], (MPEG_1, 2, 44_100), 1045, 1009),
+        ([0xff, 0xfb, 0xea, 0x80], (MPEG_1, 2, 32_000), 1441, 1405),
+        ([0xff, 0xfb, 0x14, 0xc0], (MPEG_1, 1, 48_000), 96, 75),
+        ([0xff, 0xf3, 0x14, 0xc0], (MPEG_2, 1, 24_000), 24, 11),
+        ([0xff, 0xf2, 0x14, 0xc0], (MPEG_2, 1, 24_000), 24, 9),
+    ];
+    for (bytes, (version, channels, frequency), length, area) in cases {
+        let header = Header::read(bytes)?;
+        let class = header.class();
+        assert_eq!(rt; class.version, version, "{bytes:?}");
+        assert_eq!(rt; class.channels, channels, "{bytes:?}");
+        assert_eq!(rt; class.frequency(), frequency, "{bytes:?}");
+        assert_eq!(rt; header.length(), length, "{bytes:?}");
+        assert_eq!(rt; header.area(), area, "{bytes:?}");
+    }
+    Ok(())
+}
+
+#[test]
+fn bytes_that_are_no_header(rt: HostRuntime) -> Result<(), Fail> {
+    let cases: [([u8; 4], NotHeader); 8] = [
+        ([0xff, 0xfb, 0x00, 0x00], NotHeader::Free),
+        ([0xff, 0xf2, 0x08, 0xc0], NotHeader::Free),
+        ([0xff, 0xeb, 0x90, 0x00], NotHeader::No),
+        ([0x7f, 0xfb, 0x90, 0x00], NotHeader::No),
+        ([0xff, 0xfd, 0x90, 0x00], NotHeader::No),
+        ([0xff, 0xfb, 0xf0, 0x00], NotHeader::No),
+        ([0xff, 0xfb, 0x9c, 0x00], NotHeader::No),
+        ([0x49, 0x44, 0x33, 0x03], NotHeader::No),
+    ];
+    for (bytes, wanted) in cases {
+        assert_eq!(rt; Header::read(bytes), Err(wanted), "{bytes:?}");
+    }
+    Ok(())
+}
+
+#[test]
+fn lengths(rt: HostRuntime) -> Result<(), Fail> {
+    // Without padding, for the bit rate indexes 1 to 14.
+    let cases: [(Version, u8, u32, [u16; 14]); 6] = [
+        (
+            MPEG_1,
+            0,
+            44_100,
+            [
+                104, 130, 156, 182, 208, 261, 313, 365, 417, 522, 626, 731, 835, 1044,
+            ],
+        ),
+        (
+            MPEG_1,
+            1,
+            48_000,
+            [
+                96, 120, 144, 168, 192, 240, 288, 336, 384, 480, 576, 672, 768, 960,
+            ],
+        ),
+        (
+            MPEG_1,
+            2,
+            32_000,
+            [
+                144, 180, 216, 252, 288, 360, 432, 504, 576, 720, 864, 1008, 1152, 1440,
+            ],
+        ),
+        (
+            MPEG_2,
+            0,
+            22_050,
+            [
+                26, 52, 78, 104, 130, 156, 182, 208, 261, 313, 365, 417, 470, 522,
+            ],
+        ),
+        (
+            MPEG_2,
+            1,
+            24_000,
+            [
+                24, 48, 72, 96, 120, 144, 168, 192, 240, 288, 336, 384, 432, 480,
+            ],
+        ),
+        (
+            MPEG_2,
+            2,
+            16_000,
+            [
+                36, 72, 108, 144, 180, 216, 252, 288, 360, 432, 504, 576, 648, 720,
+            ],
+        ),
+    ];
+    for (version, frequency_index, frequency, lengths) in cases {
+        assert!(rt; frequency_index <= 2);
+        let class = Class {
+            version,
+            frequency_index,
+            channels: 2,
+        };
+        assert_eq!(rt; class.frequency(), frequency);
+        for rate_index in 1..15 {
+            let wanted = lengths[rate_index as usize - 1];
+            for padding in [false, true] {
+                let slot = Slot {
+                    rate_index,
+                    padding,
+                };
+                let wanted = u32::from(wanted) + u32::from(padding);
+                assert_eq!(rt; class.length_of(slot), wanted, "{class:?}, {slot:?}");
+            }
+        }
+    }
+    Ok(())
+}
