@@ -1,5 +1,5 @@
 -- Steps of the gain command over what a folder tells.
-use Rattle.std.proofs.Common.{◌≡◌, ◌⊎◌, ℕ, ◌<◌, ◌≤◌, Bool, true, false, cond, ◌||◌, eqb, ltb, List, [], ◌++◌, length, take, Option, Some, None, refl, sym, ◌∙◌, ap, subst, eq-eqb, unwrap_or, bytes_eq, Result, Ok, Err, inl, inr}
+use Rattle.std.proofs.Common.{◌≡◌, ◌⊎◌, ℕ, ◌<◌, Bool, true, false, ◌||◌, eqb, ltb, List, [], ◌++◌, length, take, Option, Some, None, refl, sym, ◌∙◌, ap, subst, eq-eqb, unwrap_or, bytes_eq, Result, Ok, Err, inl, inr}
 use Rattle.std.proofs.lemmas.Bool.{false≢true, lt-ltb}
 use Rattle.outside.specs.Files.{Contents, Files, emptied, appended, with_file, Holds, IsThere, IsMissing}
 use Rattle.outside.proofs.FilesLaws.{there_holds, with_file_here, with_file_twice}

@@ -1,8 +1,8 @@
 -- What `run` promises, from what the gain command ensures.
-use Rattle.std.proofs.Common.{◌≡◌, ◌≢◌, ◌⊎◌, ◌↔◌, ℕ, ◌≤◌, Bool, true, false, cond, List, [], length, Option, Some, None, Result, Ok, Err, refl, sym, ◌∙◌, ap, subst, bytes_eq, codes, inl, inr, arith}
+use Rattle.std.proofs.Common.{◌≡◌, ◌≢◌, ◌↔◌, ℕ, ◌≤◌, Bool, true, false, cond, List, [], Option, Some, None, Result, Ok, Err, refl, sym, ◌∙◌, ap, subst, bytes_eq, codes, arith}
 use Rattle.std.specs.Prelude.{OnOk, IfErr, IfSome, IsErrOf}
 use Rattle.std.proofs.lemmas.Bool.{true≢false}
-use Rattle.outside.specs.Files.{Contents, Files, Sent, sent_more, with_file}
+use Rattle.outside.specs.Files.{Contents, Files, Sent, with_file}
 use Rattle.outside.specs.Counts.{Counts, Rose}
 use Rattle.outside.proofs.FilesLaws.{sent_nothing, bytes_eq_same, bytes_eq_other}
 use Rattle.mp3_cli.specs.declared.fault.EditFault.{EditFault}
@@ -14,8 +14,8 @@ use Rattle.mp3_cli.specs.Words.{word_at, job_of}
 use Rattle.mp3_cli.specs.Texts.{status_of, fault_line, bad_word_line, GotLine}
 use Rattle.mp3_cli.specs.Plain.{file_class, file_walk, not_plain_at}
 use Rattle.mp3_cli.specs.Edited.{edited, range_fault, unless, unless_not_plain, gained, gained_where, gain_result}
-use Rattle.mp3_cli.specs.Gain.{holding, Gives, IsWritten, IsDefinedAt, LeavesAt}
-use Rattle.mp3_cli.specs.Run.{Outcome, done, refused, gain_outcome, job_outcome, outcome, answer_status, answer_line, IsOutcome, IsAccepted, IsCause, IsStopped}
+use Rattle.mp3_cli.specs.Gain.{holding, IsWritten, IsDefinedAt, LeavesAt}
+use Rattle.mp3_cli.specs.Run.{refused, gain_outcome, job_outcome, outcome, answer_status, answer_line, IsOutcome, IsAccepted, IsCause, IsStopped}
 
 -- ---- bad words
 
@@ -213,3 +213,29 @@ module _ (words : List (List ℕ)) (shift : Shift) (input output : ℕ) (job : j
       ((λ zero. absurd (omega arith)), λ a. absurd (refuses _ (of_accepted a).0 (GainRange offset granule channel gain) (of_accepted a).1 all.defined))
   is_accepted new counts_before counts_after (Err (Write place)) status all is reads writes found = absurd (writes (all.write (ap (λ n. Err (Write n)) all.defined)))
   is_accepted new counts_before counts_after (Err Memory) status all is reads writes found = absurd (found is)
+
+-- ---- the names as they stand in the words
+
+pub named : {T : Type 0} (shift : Shift) (a b input output : List ℕ) (old new : Files) (before after : Counts) (answer : Result T EditFault) → a ≡ input → b ≡ output
+    → Gained shift a b old new before after answer → Gained shift input output old new before after answer
+named shift a b input output old new before after answer first second all =
+    subst (λ n. Gained shift n output old new before after answer) first (subst (λ n. Gained shift a n old new before after answer) second all)
+
+pub named_line : {T : Type 0} (a b input output : List ℕ) (before after : Sent) (faults_before faults_after : ℕ) (answer : Result T EditFault) → a ≡ input → b ≡ output
+    → GotLine before after faults_before faults_after (answer_line answer a b) → GotLine before after faults_before faults_after (answer_line answer input output)
+named_line a b input output before after faults_before faults_after answer first second line =
+    subst (λ n. GotLine before after faults_before faults_after (answer_line answer n output)) first
+    (subst (λ n. GotLine before after faults_before faults_after (answer_line answer a n)) second line)
+
+pub is_accepted_told : {T : Type 0} (words : List (List ℕ)) (shift : Shift) (input output : ℕ) → job_of words ≡ Ok (Gain shift input output) → (f : Contents) (old new : Files) (counts_before counts_after : Counts)
+    (answer : Result T EditFault) (status : ℕ) → old ≡ Some f → Gained shift (word_at words input) (word_at words output) old new counts_before counts_after answer → status ≡ answer_status answer
+    → (Rose counts_before.read_faults counts_after.read_faults → ⊥) → (Rose counts_before.write_faults counts_after.write_faults → ⊥) → status ≢ 4
+    → (status ≡ 0) ↔ IsAccepted words f
+is_accepted_told words shift input output job f old new counts_before counts_after answer status told all is reads writes found =
+    is_accepted words shift input output job f new counts_before counts_after answer status
+    (subst (λ o. Gained shift (word_at words input) (word_at words output) o new counts_before counts_after answer) told all) is reads writes found
+
+-- what holds of told files whatever standard output got
+pub each_text : (old : Files) (P : Contents → Sent → Type 0) → ((text : Sent) → IfSome old (λ f. P f text)) → IfSome old (λ f. (text : Sent) → P f text)
+each_text None P all = tt
+each_text (Some f) P all = all

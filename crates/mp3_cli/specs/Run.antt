@@ -1,5 +1,5 @@
 -- What the program does, from its words and the files that are there.
-use Rattle.std.specs.Prelude.{◌≡◌, ◌≢◌, ℕ, List, [], Option, Some, None, Result, Ok, Err}
+use Rattle.std.specs.Prelude.{◌≡◌, ◌≢◌, ℕ, List, [], Some, None, Result, Ok, Err}
 use Rattle.outside.specs.Files.{Contents, Files, Sent, with_file, sent_more}
 use Rattle.outside.specs.Counts.{Counts, Rose}
 use Rattle.mp3_cli.specs.declared.fault.EditFault.{EditFault}

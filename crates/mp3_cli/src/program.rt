@@ -1,14 +1,16 @@
 //! All that the program does.
 ghost use Rattle.std.specs.Prelude.{◌≡◌, ◌≢◌, ◌↔◌, ◌≤◌, ℕ, Some, length, map, string_bytes, codes, IfSome, IsErr, OnOk};
-ghost use Rattle.outside.specs.Files.{Contents};
+ghost use Rattle.outside.specs.Files.{Contents, Sent};
 ghost use Rattle.outside.specs.Counts.{Rose, NoneFell};
-ghost use Rattle.mp3_cli.specs.Words.{word_at, job_of};
+ghost use Rattle.mp3_cli.specs.declared.jobs.Job.TheVariants.{Gain};
+ghost use Rattle.mp3_cli.specs.Words.{word_at, job_of, IsSound};
 ghost use Rattle.mp3_cli.specs.Texts.{GotLine};
 ghost use Rattle.mp3_cli.specs.Run.{outcome, answer_status, answer_line, IsOutcome, IsAccepted, IsStopped};
 
 use crate::fault::EditFault;
 use crate::gain_file::gain;
 use crate::jobs::Job;
+use crate::shift::Shift;
 use crate::texts::{send_bad_word, send_fault, status};
 use crate::words::job;
 use outside::{Folder, Sink};
@@ -36,6 +38,47 @@ fn report<E: Sink>(err: &mut E, done: Result<(), EditFault>, input: &str, output
             status(&fault)
         }
     }
+}
+
+/// The gain command that the words ask for.
+fn run_gain<D: Folder, E: Sink>(
+    alloc: Global,
+    words: &[String],
+    folder: &mut D,
+    err: &mut E,
+    shift: Shift,
+    input: u32,
+    output: u32,
+) -> u8
+    requires job { job_of (map string_bytes words.now) ≡ Ok (Gain shift input output) }
+    requires sound { IsSound (map string_bytes words.now) (Gain shift input output) }
+    ensures statuses { result ≤ 4 }
+
+    ensures accepted_words { result ≢ 2 }
+    // With status 0, 1 or 2 all is as defined, whether or not a call failed.
+    ensures defined { result ≤ 2 → IfSome (D.files folder.old) (λ files. (text : Sent) → IsOutcome (outcome (map string_bytes words.now) files) result (D.files folder.new)
+        text text (E.sent err.old) (E.sent err.new) (E.faults err.old) (E.faults err.new)) }
+
+    // An absent input, or a failed call of the folder: the count that is named rose.
+    ensures stopped { result ≡ 3 → IsStopped (map string_bytes words.now) (D.files folder.old) (D.files folder.new) (D.counts folder.old) (D.counts folder.new)
+        (E.sent err.old) (E.sent err.new) (E.faults err.old) (E.faults err.new) }
+
+    // A refusal and want of memory leave the files.
+    ensures kept { result ≢ 0 → result ≢ 3 → D.files folder.new ≡ D.files folder.old }
+    ensures memory { result ≡ 4 → GotLine (E.sent err.old) (E.sent err.new) (E.faults err.old) (E.faults err.new) (codes "out of memory\n") }
+
+    // Where no call of the folder failed and memory was found, exactly the legal commands are done.
+    ensures accepted { (files : Contents) → D.files folder.old ≡ Some files → (Rose (D.counts folder.old).read_faults (D.counts folder.new).read_faults → ⊥)
+        → (Rose (D.counts folder.old).write_faults (D.counts folder.new).write_faults → ⊥) → result ≢ 4
+        → ((result ≡ 0) ↔ IsAccepted (map string_bytes words.now) files) }
+
+    ensures quiet { result ≡ 0 → E.sent err.new ≡ E.sent err.old }
+    ensures counts { NoneFell (D.counts folder.old) (D.counts folder.new) }
+{
+    let input = name_at(words, input);
+    let output = name_at(words, output);
+    let done = gain(alloc, folder, input, output, &shift);
+    report(err, done, input, output)
 }
 
 /// Does what the words ask for over the folder, and answers the status: 0 where it was done, 1 for a refused
@@ -89,11 +132,6 @@ pub fn run<D: Folder, T: Sink, E: Sink>(
                 input,
                 output,
             },
-        ) => {
-            let input = name_at(words, input);
-            let output = name_at(words, output);
-            let done = gain(alloc, folder, input, output, &shift);
-            report(err, done, input, output)
-        }
+        ) => run_gain(alloc, words, folder, err, shift, input, output),
     }
 }
