@@ -17,7 +17,7 @@ use Rattle.mp3_cli.specs.Plain.{Walk, stopped, behind, plain_front, walk, side_p
 use Rattle.mp3_cli.specs.Gains.{moved_side, stuck_in}
 use Rattle.std.specs.Option.{option_or}
 use Rattle.mp3_cli.specs.Edited.{moved_frame, edited, stuck_fault, range_fault}
-use Rattle.mp3_cli.proofs.PlainLaws.{IsFront, front}
+use Rattle.mp3_cli.proofs.PlainLaws.{front}
 use Rattle.mp3_cli.proofs.WalkLaws.{walk-front, walk-stopped}
 
 -- ---- the parts of a walk

@@ -1,24 +1,20 @@
 -- Where a whole file stops to be plain, and what becomes of it.
-use Rattle.std.proofs.Common.{◌≡◌, ◌≢◌, ◌⊎◌, ℕ, ◌+◌, ◌-◌, ◌<◌, ◌≤◌, Bool, true, false, cond, ◌||◌, eqb, ltb, leb, List, [], ◌∷◌, length, take, Option, Some, None, Result, Ok, Err, refl, sym, ◌∙◌, ap, subst, inl, inr, arith}
+use Rattle.std.proofs.Common.{◌≡◌, ◌≢◌, ◌⊎◌, ℕ, ◌+◌, ◌-◌, ◌<◌, ◌≤◌, Bool, true, false, cond, eqb, ltb, List, [], ◌∷◌, length, take, Option, Some, None, Ok, Err, refl, ◌∙◌, ap, subst, inl, inr, arith}
 use Rattle.std.proofs.lemmas.Bool.{ne_eqb, le-ltb, cases_eq}
-use Rattle.bit_fields.specs.Bits.{bits}
-use Rattle.frame_header.specs.declared.header.NotHeader.{NotHeader}
 use Rattle.frame_header.specs.Fields.{HeaderFields, ClassFields}
 use Rattle.frame_header.specs.Tables.{class_of}
-use Rattle.frame_header.specs.Reading.{header_at, header_fields}
 use Rattle.frame_header.proofs.HeaderLaws.{header_fields-header_at}
 use Rattle.mp3_cli.specs.declared.fault.EditFault.{EditFault}
-use Rattle.mp3_cli.specs.declared.fault.EditFault.TheVariants.{NotYet, GainRange}
 use Rattle.mp3_cli.specs.declared.gains.Stuck.{Stuck}
 use Rattle.mp3_cli.specs.declared.shift.Shift.{Shift}
-use Rattle.mp3_cli.specs.Plain.{Walk, stopped, good, header_front, plain_front, plain_length, walk, has_head, file_class, file_walk, not_plain_at, longest_input}
+use Rattle.mp3_cli.specs.Plain.{Walk, stopped, header_front, plain_front, plain_length, walk, has_head, file_class, file_walk, not_plain_at, longest_input}
 use Rattle.mp3_cli.specs.Gains.{stuck_in}
 use Rattle.mp3_cli.specs.Plain.{side_of}
 use Rattle.mp3_cli.specs.Edited.{edited, stuck_fault, range_fault, gained}
 use Rattle.mp3_cli.specs.Gain.{IsStreamFault}
 use Rattle.mp3_cli.proofs.PlainLaws.{good_header, header_cases}
 use Rattle.mp3_cli.proofs.WalkLaws.{walk-stopped}
-use Rattle.mp3_cli.proofs.GainLaws.{not_plain-length, gained-not_plain}
+use Rattle.mp3_cli.proofs.GainLaws.{not_plain-length}
 
 -- ---- the class of a file
 

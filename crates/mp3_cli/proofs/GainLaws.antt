@@ -1,8 +1,8 @@
 -- Steps of the gain command over what a folder tells.
-use Rattle.std.proofs.Common.{◌≡◌, ◌⊎◌, ℕ, ◌<◌, ◌≤◌, Bool, true, false, cond, ◌||◌, eqb, ltb, List, [], ◌++◌, length, take, Option, Some, None, refl, sym, ◌∙◌, ap, subst, eq-eqb, unwrap_or, bytes_eq, Result, Ok, Err, inl, inr}
+use Rattle.std.proofs.Common.{◌≡◌, ◌⊎◌, ℕ, ◌<◌, Bool, true, false, ◌||◌, eqb, ltb, List, [], ◌++◌, length, take, Option, Some, None, refl, sym, ◌∙◌, ap, subst, eq-eqb, unwrap_or, bytes_eq, Result, Ok, Err, inl, inr}
 use Rattle.std.proofs.lemmas.Bool.{false≢true, lt-ltb}
 use Rattle.outside.specs.Files.{Contents, Files, emptied, appended, with_file, Holds, IsThere, IsMissing}
-use Rattle.outside.proofs.FilesLaws.{there_holds, with_file_here, with_file-with_file}
+use Rattle.outside.proofs.FilesLaws.{there_holds, with_file_here, with_file_twice}
 use Rattle.mp3_cli.specs.Plain.{not_plain_at, longest_input}
 use Rattle.mp3_cli.specs.declared.fault.EditFault.{EditFault}
 use Rattle.mp3_cli.specs.declared.fault.EditFault.TheVariants.{EqualNames, Absent, Read, NotYet, GainRange, Write, Memory}
@@ -27,7 +27,7 @@ unfolding appended emptied holding
 appended-emptied None name bytes = refl
 appended-emptied (Some f) name bytes =
     ap (λ (held : Option (List ℕ)). told (with_file (with_file f name []) name (unwrap_or held [] ++ bytes))) (with_file_here f name [])
-    ∙ ap told (with_file-with_file f name [] bytes)
+    ∙ ap told (with_file_twice f name [] bytes)
 
 -- created and not written to, the output holds nothing of these bytes
 pub emptied-front : (files : Files) (name bytes : List ℕ) → emptied files name ≡ holding files name (take 0 bytes)

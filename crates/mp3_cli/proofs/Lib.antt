@@ -8,6 +8,7 @@ pub mod Lines
 pub mod Places
 pub mod PlainLaws
 pub mod Reading
+pub mod RunLaws
 pub mod Sizes
 pub mod Sound
 pub mod WalkLaws

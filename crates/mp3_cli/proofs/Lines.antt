@@ -7,7 +7,7 @@ use Rattle.std.proofs.Math.Seq.{take-append-add}
 use Rattle.std.specs.Prelude.{Result, Ok, Err, is_err, OnOk, OnErr, true, false}
 use Rattle.outside.specs.Files.{Sent, sent_more}
 use Rattle.outside.specs.Counts.{Rose, HasCause}
-use Rattle.outside.proofs.FilesLaws.{sent_more-sent_more}
+use Rattle.outside.proofs.FilesLaws.{sent_twice}
 use Rattle.outside.proofs.CountsLaws.{later_rose}
 use Rattle.mp3_cli.specs.Texts.{GotLine}
 
@@ -63,7 +63,7 @@ line_failed f xs i d sent_first sent_before sent_after faults_first faults_befor
       got = inr (record {
         count = count;
         in_range = omega (arith, length-flat_map-take f xs i d before.index, ap length piece-is, front.1);
-        sent = front.2 ∙ ap (λ (s : Sent). sent_more s (take front.0 piece)) before.sent ∙ sent_more-sent_more sent_first (flat_map f (take i xs)) (take front.0 piece) ∙ ap (sent_more sent_first) (sym whole);
+        sent = front.2 ∙ ap (λ (s : Sent). sent_more s (take front.0 piece)) before.sent ∙ sent_twice sent_first (flat_map f (take i xs)) (take front.0 piece) ∙ ap (sent_more sent_first) (sym whole);
         failed = later_rose faults_first faults_before faults_after before.later rose;
       });
     }
@@ -77,7 +77,7 @@ line_more f xs i d sent_first sent_before sent_after faults_first faults_before 
     let more = on_ok_if (sent_after ≡ sent_more sent_before piece) result done written in
     more
     ∙ ap (λ (s : Sent). sent_more s piece) before.sent
-    ∙ sent_more-sent_more sent_first (flat_map f (take i xs)) piece
+    ∙ sent_twice sent_first (flat_map f (take i xs)) piece
     ∙ ap (λ (list : List ℕ). sent_more sent_first (flat_map f (take i xs) ++ list)) piece-is
     ∙ ap (sent_more sent_first) (sym (piece_more f xs i d before.index))
 

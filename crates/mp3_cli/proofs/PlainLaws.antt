@@ -1,14 +1,13 @@
 -- What the tests of a plain frame say of its length.
-use Rattle.std.proofs.Common.{◌≡◌, ◌≢◌, ℕ, ◌+◌, ◌-◌, ◌<◌, ◌≤◌, Bool, true, false, cond, not, ◌&&◌, eqb, leb, List, length, take, drop, Option, Some, None, Result, Ok, Err, refl, sym, ◌∙◌, ap, subst, codes, bytes_eq, arith, length-drop}
+use Rattle.std.proofs.Common.{◌≡◌, ℕ, ◌+◌, ◌<◌, ◌≤◌, Bool, true, false, cond, ◌&&◌, eqb, List, length, take, drop, Option, Some, None, Result, Ok, Err, refl, sym, ap, subst, codes, arith, length-drop}
 use Rattle.std.proofs.lemmas.List.{length-take}
-use Rattle.outside.proofs.FilesLaws.{bytes_eq-other}
-use Rattle.std.proofs.lemmas.Bool.{true≢false, false≢true, eqb-true, leb-true}
+use Rattle.outside.proofs.FilesLaws.{bytes_eq_other}
+use Rattle.std.proofs.lemmas.Bool.{false≢true, eqb-true, leb-true}
 use Rattle.frame_header.specs.declared.version.Version.{Version}
 use Rattle.frame_header.specs.declared.version.Version.TheVariants.{One, Two}
 use Rattle.frame_header.specs.declared.header.NotHeader.{NotHeader}
-use Rattle.frame_header.specs.Fields.{HeaderFields, ClassFields, SlotFields, IsHeader, IsClass}
+use Rattle.frame_header.specs.Fields.{HeaderFields, ClassFields, IsHeader, IsClass}
 use Rattle.frame_header.specs.Tables.{class_of, length_of, side_size_of}
-use Rattle.frame_header.specs.Reading.{header_at}
 use Rattle.frame_header.proofs.Lengths.{area_some}
 use Rattle.frame_header.proofs.HeaderLaws.{IsHeader-header_at}
 use Rattle.mp3_cli.specs.Plain.{good, header_front, same_version, same_class, is_plain_header, is_plain, plain_length, plain_front, has_head}
@@ -103,8 +102,8 @@ unfolding has_head
 has_head-short c bytes short =
     let text = take 4 (drop (4 + side_size_of c) bytes) in
     let few : length text < 4 = omega (arith, length-take 4 (drop (4 + side_size_of c) bytes), length-drop (4 + side_size_of c) bytes) in
-    let not_xing = bytes_eq-other text (codes "Xing") (λ e. let same : length text ≡ 4 = ap length (sym e) in omega (arith, few, same)) in
-    let not_info = bytes_eq-other text (codes "Info") (λ e. let same : length text ≡ 4 = ap length (sym e) in omega (arith, few, same)) in
+    let not_xing = bytes_eq_other text (codes "Xing") (λ e. let same : length text ≡ 4 = ap length (sym e) in omega (arith, few, same)) in
+    let not_info = bytes_eq_other text (codes "Info") (λ e. let same : length text ≡ 4 = ap length (sym e) in omega (arith, few, same)) in
     rw (not_xing, not_info) refl
 
 long_cases : (b : Bool) (o : Option HeaderFields) (h : HeaderFields) → cond b o None ≡ Some h → b ≡ true

@@ -1,8 +1,8 @@
 -- The walk over plain frames: what stands at the front, and what follows.
-use Rattle.std.proofs.Common.{◌≡◌, ℕ, zero, suc, ◌+◌, ◌-◌, ◌<◌, ◌≤◌, List, [], ◌∷◌, ◌++◌, length, take, drop, Option, Some, None, refl, sym, ◌∙◌, ap, arith, length-drop}
+use Rattle.std.proofs.Common.{◌≡◌, ℕ, zero, suc, ◌≤◌, List, length, take, drop, Option, Some, None, refl, sym, ◌∙◌, ap, arith, length-drop}
 use Rattle.frame_header.specs.Fields.{ClassFields}
 use Rattle.mp3_cli.specs.Plain.{Walk, stopped, behind, onward, plain_front, walk_up_to, walk}
-use Rattle.mp3_cli.proofs.PlainLaws.{IsFront, front}
+use Rattle.mp3_cli.proofs.PlainLaws.{front}
 
 -- where the walk goes on is all that a step needs of what follows
 onward-same : (bytes : List ℕ) (next later : List ℕ → Walk) (o : Option ℕ) → ((len : ℕ) → o ≡ Some len → next (drop len bytes) ≡ later (drop len bytes)) → onward bytes next o ≡ onward bytes later o

@@ -1,5 +1,5 @@
 -- What a gain command leaves in its folder, by its answer.
-use Rattle.std.specs.Prelude.{◌≡◌, ◌⊎◌, ℕ, ◌≤◌, List, length, take, Option, Some, None, Result, Ok, Err, option_map, IfSome}
+use Rattle.std.specs.Prelude.{◌≡◌, ◌⊎◌, ℕ, ◌≤◌, List, length, take, Some, Result, Ok, Err, option_map, IfSome}
 use Rattle.outside.specs.Files.{Files, with_file, Holds, IsThere, IsMissing}
 use Rattle.mp3_cli.specs.declared.fault.EditFault.{EditFault}
 use Rattle.mp3_cli.specs.declared.fault.EditFault.TheVariants.{EqualNames, Absent, Read, NotYet, GainRange, Write, Memory}

@@ -6,3 +6,4 @@ pub mod Plain
 pub mod Gains
 pub mod Edited
 pub mod Gain
+pub mod Run

@@ -9,11 +9,11 @@ use Rattle.std.specs.Map.{update}
 use Rattle.outside.specs.Files.{Contents, Files, Sent, with_file, emptied, appended, sent_more, Holds, IsThere}
 
 -- the name of a file is equal to itself, and to no other
-pub bytes_eq-same : (name : List ℕ) → bytes_eq name name ≡ true
-bytes_eq-same name = (bytes_eq-Decides name name).1 refl
+pub bytes_eq_same : (name : List ℕ) → bytes_eq name name ≡ true
+bytes_eq_same name = (bytes_eq-Decides name name).1 refl
 
-pub bytes_eq-other : (name other : List ℕ) → other ≢ name → bytes_eq name other ≡ false
-bytes_eq-other name other apart = false_from_ne_true _ (λ e. apart (sym ((bytes_eq-Decides name other).0 e)))
+pub bytes_eq_other : (name other : List ℕ) → other ≢ name → bytes_eq name other ≡ false
+bytes_eq_other name other apart = false_from_ne_true _ (λ e. apart (sym ((bytes_eq-Decides name other).0 e)))
 
 -- contents that give each name the same are one
 pub same_contents : (f g : Contents) → ((name : List ℕ) → f name ≡ g name) → f ≡ g
@@ -21,15 +21,15 @@ same_contents f g same = λ i name. same name i
 
 pub with_file_here : (f : Contents) (name bytes : List ℕ) → with_file f name bytes name ≡ Some bytes
 unfolding with_file
-with_file_here f name bytes = update_same bytes_eq f name (Some bytes) name (bytes_eq-same name)
+with_file_here f name bytes = update_same bytes_eq f name (Some bytes) name (bytes_eq_same name)
 
 pub with_file_other : (f : Contents) (name bytes other : List ℕ) → other ≢ name → with_file f name bytes other ≡ f other
 unfolding with_file
-with_file_other f name bytes other apart = update_other bytes_eq f name (Some bytes) other (bytes_eq-other name other apart)
+with_file_other f name bytes other apart = update_other bytes_eq f name (Some bytes) other (bytes_eq_other name other apart)
 
-pub with_file-with_file : (f : Contents) (name bytes more : List ℕ) → with_file (with_file f name bytes) name more ≡ with_file f name more
+pub with_file_twice : (f : Contents) (name bytes more : List ℕ) → with_file (with_file f name bytes) name more ≡ with_file f name more
 unfolding with_file
-with_file-with_file f name bytes more = same_contents _ _ (update-update bytes_eq f name (Some bytes) (Some more))
+with_file_twice f name bytes more = same_contents _ _ (update-update bytes_eq f name (Some bytes) (Some more))
 
 -- what a name has already, given again, changes nothing
 pub update_held : {X : Type 0} (f : List ℕ → Option X) (name : List ℕ) (w : Option X) → f name ≡ w → update bytes_eq f name w ≡ f
@@ -52,19 +52,19 @@ is_some_with_file f name bytes other there = at (bytes_eq name other)
     at false = there
 
 -- appending twice is appending the two joined
-pub appended-appended : (files : Files) (name xs ys : List ℕ) → appended (appended files name xs) name ys ≡ appended files name (xs ++ ys)
+pub appended_twice : (files : Files) (name xs ys : List ℕ) → appended (appended files name xs) name ys ≡ appended files name (xs ++ ys)
 unfolding appended
-appended-appended None name xs ys = refl
-appended-appended (Some f) name xs ys =
+appended_twice None name xs ys = refl
+appended_twice (Some f) name xs ys =
     ap Some
-    (with_file-with_file f name _ _
+    (with_file_twice f name _ _
     ∙ ap (with_file f name) (ap (λ o. unwrap_or o [] ++ ys) (with_file_here f name _) ∙ append_assoc (unwrap_or (f name) []) xs ys))
 
 -- appending nothing to a file that is there changes nothing
-pub appended-nil : (files : Files) (name : List ℕ) → IsThere files name → appended files name [] ≡ files
+pub appended_nothing : (files : Files) (name : List ℕ) → IsThere files name → appended files name [] ≡ files
 unfolding appended
-appended-nil None name there = refl
-appended-nil (Some f) name there = ap Some (ap (with_file f name) (append-nil _) ∙ with_file_same f name _ (held (f name) there))
+appended_nothing None name there = refl
+appended_nothing (Some f) name there = ap Some (ap (with_file f name) (append-nil _) ∙ with_file_same f name _ (held (f name) there))
   where
     held : (o : Option (List ℕ)) → IsSome o → o ≡ Some (unwrap_or o [])
     held None there = cc
@@ -80,10 +80,10 @@ unfolding appended
 appended_is f new name bytes is = ap Some is ∙ ap (λ more. Some (with_file f name (unwrap_or (f name) [] ++ more))) (sym (take_all (length bytes) bytes (omega arith)))
 
 -- emptied and then appended to, the name holds exactly these bytes
-pub emptied-appended-holds : (files : Files) (name bytes : List ℕ) → IsSome files → Holds (appended (emptied files name) name bytes) name bytes
+pub written_holds : (files : Files) (name bytes : List ℕ) → IsSome files → Holds (appended (emptied files name) name bytes) name bytes
 unfolding emptied appended
-emptied-appended-holds None name bytes told = cc
-emptied-appended-holds (Some f) name bytes told =
+written_holds None name bytes told = cc
+written_holds (Some f) name bytes told =
     with_file_here (with_file f name []) name _ ∙ ap (λ (o : Option (List ℕ)). Some (unwrap_or o [] ++ bytes)) (with_file_here f name [])
 
 pub emptied_holds : (files : Files) (name : List ℕ) → IsSome files → Holds (emptied files name) name []
@@ -168,16 +168,16 @@ holds_one None name xs ys here there = absurd here
 holds_one (Some f) name xs ys here there = cc
 
 -- sending twice is sending the two joined
-pub sent_more-sent_more : (sent : Sent) (xs ys : List ℕ) → sent_more (sent_more sent xs) ys ≡ sent_more sent (xs ++ ys)
+pub sent_twice : (sent : Sent) (xs ys : List ℕ) → sent_more (sent_more sent xs) ys ≡ sent_more sent (xs ++ ys)
 unfolding sent_more
-sent_more-sent_more None xs ys = refl
-sent_more-sent_more (Some s) xs ys = ap Some (append_assoc s xs ys)
+sent_twice None xs ys = refl
+sent_twice (Some s) xs ys = ap Some (append_assoc s xs ys)
 
 -- sending nothing changes nothing
-pub sent_more-nil : (sent : Sent) → sent_more sent [] ≡ sent
+pub sent_nothing : (sent : Sent) → sent_more sent [] ≡ sent
 unfolding sent_more
-sent_more-nil None = refl
-sent_more-nil (Some s) = ap Some (append-nil s)
+sent_nothing None = refl
+sent_nothing (Some s) = ap Some (append-nil s)
 
 -- bytes that are told, and more behind them
 pub sent_is : (s new bytes : List ℕ) → new ≡ s ++ bytes → Some new ≡ sent_more (Some s) (take (length bytes) bytes)

@@ -4,7 +4,7 @@ use Rattle.std.proofs.lemmas.List.{length-take-le, take-take, drop-take, drop-dr
 use Rattle.std.proofs.Math.Seq.{take-append-add, drop-append-add}
 use borrow.Rule.Slice.PartMut.{put_mid}
 use Rattle.outside.specs.Files.{Files, Sent, appended, sent_more}
-use Rattle.outside.proofs.FilesLaws.{appended-appended, sent_more-sent_more}
+use Rattle.outside.proofs.FilesLaws.{appended_twice, sent_twice}
 
 -- a front and what follows it
 pub take_then : {X : Type 0} (m n : ℕ) (xs : List X) → take (m + n) xs ≡ take m xs ++ take n (drop m xs)
@@ -22,14 +22,14 @@ pub appended_then : (old before now : Files) (name bytes : List ℕ) (m n : ℕ)
 appended_then old before now name bytes m n first then =
     then
     ∙ ap (λ files. appended files name (take n (drop m bytes))) first
-    ∙ appended-appended old name (take m bytes) (take n (drop m bytes))
+    ∙ appended_twice old name (take m bytes) (take n (drop m bytes))
     ∙ ap (appended old name) (sym (take_then m n bytes))
 
 pub sent_then : (old before now : Sent) (bytes : List ℕ) (m n : ℕ) → before ≡ sent_more old (take m bytes) → now ≡ sent_more before (take n (drop m bytes)) → now ≡ sent_more old (take (m + n) bytes)
 sent_then old before now bytes m n first then =
     then
     ∙ ap (λ sent. sent_more sent (take n (drop m bytes))) first
-    ∙ sent_more-sent_more old (take m bytes) (take n (drop m bytes))
+    ∙ sent_twice old (take m bytes) (take n (drop m bytes))
     ∙ ap (sent_more old) (sym (take_then m n bytes))
 
 -- a list with its end, from m on, filled anew

@@ -5,3 +5,4 @@ pub mod Plan
 pub mod Slots
 pub mod Memory
 pub mod Real
+pub mod Faults

@@ -25,10 +25,12 @@ struct Opened<F> {
 ///
 /// Not proved is what the system does: that the files behave as the trait says. They do while nobody
 /// else changes them and two names don't name one file. Against two names `create` helps: it fails where
-/// its name leads to a file that this folder found before, so no file is emptied while it is read.
+/// its name leads to a file that this folder found before, by device and inode, so no file is emptied that
+/// is still to be read. (A runtime that gives all files one device and inode has every `create` fail that
+/// follows a `find`.)
 ///
-/// It keeps two files open, the one last found and the one last created, and opens others anew. A growth
-/// of memory that is refused counts as a fault of the call.
+/// It keeps two files open, the one last found or read and the one last created, and opens others anew. A
+/// growth of memory that is refused counts as a fault of the call.
 #[derive(Drop)]
 pub struct DiskFolder<'a, R: Files> {
     rt: &'a R,
@@ -137,7 +139,7 @@ where
         };
         let there = opened.file.metadata()?.len().saturating_sub(at);
         let count = into.len().min(there as usize);
-        // A read of the whole buffer could write past the bytes that it counts, for all that is promised.
+        // A read isn't promised to leave the buffer behind the bytes that it counts, so it gets no more.
         opened.file.read_exact_at(&mut into[..count], at)?;
         Ok(count)
     }
@@ -166,8 +168,12 @@ where
 
     ghost counts = { λ folder. disk_counts folder };
 
-    /// The length of a regular file. What isn't one is a fault, and nothing blocks on it. So is a file past
-    /// the 65 that the folder notes. The file is kept open for `read`.
+    /// The length of a regular file in bytes. The file is kept open for `read`.
+    ///
+    /// # Errors
+    /// `Absent` where the system says that the name isn't found, and `Failed` for every other error. What
+    /// isn't a regular file, as a directory or a pipe, is a fault, and nothing blocks on it. So is the 66th
+    /// file that the folder finds.
     fn find(&mut self, name: &str) -> Result<u64, FindFault>
         ensures found { IfOk result (λ n. (bytes : List ℕ) → Holds untold name.now bytes → n ≡ length bytes) }
         ensures there { OnOk result (IsThere untold name.now) }
@@ -193,6 +199,10 @@ where
         }
     }
 
+    /// Bytes of the file from the place `at` on, as many as there are and fit.
+    ///
+    /// # Errors
+    /// Where the system gives an error, and where the file is cut short while it is read.
     fn read(&mut self, name: &str, at: u64, into: &mut [u8]) -> Result<usize, Failed>
         ensures bound { IfOk result (λ k. k ≤ length into.old) }
         ensures bytes { IfOk result (λ k. (bytes : List ℕ) → Holds untold name.now bytes → take k into.new ≡ take k (drop at bytes)) }
@@ -234,6 +244,10 @@ where
         Ok(())
     }
 
+    /// Appends a front of the bytes to the file, which has to be there.
+    ///
+    /// # Errors
+    /// Where the system gives an error, and where it takes no byte of a piece that has some.
     #[tactic(auto, unfolding(crate::specs::Files::appended))]
     fn write(&mut self, name: &str, bytes: &[u8]) -> Result<usize, Failed>
         ensures bound { IfOk result (λ k. k ≤ length bytes.now) }

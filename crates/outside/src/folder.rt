@@ -39,16 +39,23 @@ impl From<FindFault> for Failed {
 }
 
 impl From<io::Error> for FindFault {
+    ghost use Rattle.outside.specs.Faults.{IsFaultOf};
+
+    ghost from_gives = { λ error fault. IsFaultOf error fault };
+
     fn from(error: io::Error) -> Self {
-        if error.kind() == ErrorKind::NotFound {
-            FindFault::Absent
-        } else {
-            FindFault::Failed
+        match error.kind() {
+            ErrorKind::NotFound => FindFault::Absent,
+            _ => FindFault::Failed,
         }
     }
 }
 
 impl From<AllocError> for FindFault {
+    ghost use Rattle.outside.specs.declared.folder.FindFault.TheVariants.{Failed as FailedCall};
+
+    ghost from_gives = { λ _ fault. fault ≡ FailedCall };
+
     fn from(_: AllocError) -> Self {
         FindFault::Failed
     }
@@ -63,6 +70,9 @@ pub trait Folder {
     ghost counts: { Self → Counts };
 
     /// The length of the file in bytes.
+    ///
+    /// # Errors
+    /// `Absent` where the name isn't there, `Failed` where the call failed.
     fn find(&mut self, name: &str) -> Result<u64, FindFault>
         ensures found { IfOk result (λ n. (bytes : List ℕ) → Holds (files self.old) name.now bytes → n ≡ length bytes) }
         ensures there { OnOk result (IsThere (files self.old) name.now) }
@@ -72,8 +82,11 @@ pub trait Folder {
         ensures files { files self.new ≡ files self.old }
         ensures counts { OnlyReads (counts self.old) (counts self.new) };
 
-    /// Puts bytes of the file, from the place `at` on, at the front of `into`, and answers how many.
-    /// The rest of `into` stays.
+    /// Puts bytes of the file, from the place `at` on, at the front of `into`, and answers how many: none
+    /// only where `into` is empty or `at` is at the end or past it. The rest of `into` stays.
+    ///
+    /// # Errors
+    /// Where the call failed.
     fn read(&mut self, name: &str, at: u64, into: &mut [u8]) -> Result<usize, Failed>
         requires { IsThere (files self.old) name.now }
         ensures bound { IfOk result (λ k. k ≤ length into.old) }
@@ -86,14 +99,21 @@ pub trait Folder {
         ensures files { files self.new ≡ files self.old }
         ensures counts { OnlyReads (counts self.old) (counts self.new) };
 
-    /// Makes the name hold no bytes.
+    /// Makes the name hold no bytes. Every other name stays.
+    ///
+    /// # Errors
+    /// Where the call failed. Then told files stay.
     fn create(&mut self, name: &str) -> Result<(), Failed>
         ensures created { OnOk result (files self.new ≡ emptied (files self.old) name.now) }
         ensures kept { OnErr result (files self.new ≡ files self.old) }
         ensures failed { OnErr result (Rose (counts self.old).write_faults (counts self.new).write_faults) }
         ensures counts { OnlyWrites (counts self.old) (counts self.new) };
 
-    /// Appends a front of the bytes to the file, and answers how many.
+    /// Appends a front of the bytes to the file, and answers how many: at least one where there are any.
+    /// Every other name stays.
+    ///
+    /// # Errors
+    /// Where the call failed. Then told files stay.
     fn write(&mut self, name: &str, bytes: &[u8]) -> Result<usize, Failed>
         requires { IsThere (files self.old) name.now }
         ensures bound { IfOk result (λ k. k ≤ length bytes.now) }

@@ -6,7 +6,10 @@ ghost use Rattle.outside.specs.Counts.{OnlyReads, OnlyWrites, HasCause, Rose};
 use crate::folder::{Failed, Folder};
 use crate::sink::Sink;
 
-/// Appends all the bytes to the file, or fails with a front of them appended.
+/// Appends all the bytes to the file.
+///
+/// # Errors
+/// Where a write failed. Then a front of the bytes, none to all of them, was appended.
 pub fn write_all<D: Folder>(folder: &mut D, name: &str, bytes: &[u8]) -> Result<(), Failed>
     requires { IsThere (D.files folder.old) name.now }
     ensures written { OnOk result (D.files folder.new ≡ appended (D.files folder.old) name.now bytes.now) }
@@ -21,7 +24,10 @@ pub fn write_all<D: Folder>(folder: &mut D, name: &str, bytes: &[u8]) -> Result<
     Ok(())
 }
 
-/// Sends all the bytes, or fails with a front of them sent.
+/// Sends all the bytes.
+///
+/// # Errors
+/// Where a write failed. Then a front of the bytes, none to all of them, was sent.
 pub fn send_all<T: Sink>(sink: &mut T, bytes: &[u8]) -> Result<(), Failed>
     ensures written { OnOk result (T.sent sink.new ≡ sent_more (T.sent sink.old) bytes.now) }
     ensures front { OnErr result ((k : ℕ) × (k ≤ length bytes.now) × (T.sent sink.new ≡ sent_more (T.sent sink.old) (take k bytes.now))) }
@@ -35,7 +41,10 @@ pub fn send_all<T: Sink>(sink: &mut T, bytes: &[u8]) -> Result<(), Failed>
 }
 
 /// Reads the file from the place `at` on until `into` is full or a read gives no byte, and answers how
-/// many bytes were read.
+/// many bytes were read. Where the folder gives what it has, one call of it reads all.
+///
+/// # Errors
+/// Where a read failed.
 pub fn read_full<D: Folder>(
     folder: &mut D,
     name: &str,

@@ -99,7 +99,7 @@ impl MemFolder {
     }
 
     /// Makes the call of this kind with this number fail. Calls are counted from 1 over the folder's
-    /// whole life.
+    /// whole life, up to `u64::MAX`.
     ///
     /// # Errors
     /// Where there is no memory. Then the list of calls that are to fail stays.

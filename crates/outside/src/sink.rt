@@ -13,7 +13,10 @@ pub trait Sink {
     /// How often a write failed.
     ghost faults: { Self → ℕ };
 
-    /// Takes a front of the bytes, and answers how many.
+    /// Takes a front of the bytes, and answers how many: at least one where there are any.
+    ///
+    /// # Errors
+    /// Where the call failed. Then told bytes stay.
     fn write(&mut self, bytes: &[u8]) -> Result<usize, Failed>
         ensures bound { IfOk result (λ k. k ≤ length bytes.now) }
         ensures some { IfOk result (λ k. 0 < length bytes.now → 0 < k) }

@@ -328,3 +328,21 @@ payload_bits-sum s l = lists_sum s.granules l
 
 pub div_ceil-eight : (n : ℕ) → div_ceil n 8 ≡ (n + 7) / 8
 div_ceil-eight n = grind arith
+
+-- ---- what fits, by parts
+abbrev pub FrontFits : ClassFields → Side → Type 0
+FrontFits c s = (s.main_data_begin < 2 ^ front_width c 0) × (s.private_bits < 2 ^ front_width c 1) × (get_or s.scfsi 0 0 < 2 ^ front_width c 2) × (get_or s.scfsi 1 0 < 2 ^ front_width c 3)
+
+abbrev pub PairFits : ClassFields → Side → ℕ → Type 0
+PairFits c s granule = FitsAt c s granule 0 × FitsAt c s granule 1
+
+fits_with : (c : ClassFields) (m p a b : ℕ) (g h k l : Granule) → FrontFits c (side_with m p a b g h k l) → PairFits c (side_with m p a b g h k l) 0 → PairFits c (side_with m p a b g h k l) 1 → SideFits c (side_with m p a b g h k l)
+fits_with c m p a b g h k l front first second = record {
+  main_data_begin = front.0;
+  private_bits = front.1;
+  scfsi = scfsi_fit c a b front.2 front.3;
+  granules = granules_fit c m p a b g h k l first.0 first.1 second.0 second.1;
+}
+
+pub SideFits-from_parts : (c : ClassFields) (s : Side) → IsShaped s → FrontFits c s → PairFits c s 0 → PairFits c s 1 → SideFits c s
+SideFits-from_parts c = each_shaped (λ s. FrontFits c s → PairFits c s 0 → PairFits c s 1 → SideFits c s) (fits_with c)

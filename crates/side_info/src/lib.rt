@@ -1,6 +1,7 @@
 //! The side information of Layer III frames, read and written bit for bit.
 #![tactic(auto)]
 
+mod fitting;
 mod front;
 mod granule;
 mod reading;
@@ -9,3 +10,76 @@ mod writing;
 
 pub use granule::Granule;
 pub use side::Side;
+
+#[cfg(test)]
+mod tests {
+    use super::{Granule, Side};
+    use frame_header::{Class, Version};
+
+    // The side bytes of an MPEG-1 frame of two channels: four granules of 8 bits, with the gains 100, 101, 255 and 90.
+    const BEFORE: [u8; 32] = [
+        0x00, 0x00, 0x00, 0x08, 0x00, 0x32, 0x00, 0x00, 0x00, 0x00, 0x01, 0x00, 0x06, 0x50, 0x00,
+        0x00, 0x00, 0x00, 0x20, 0x01, 0xfe, 0x00, 0x00, 0x00, 0x00, 0x04, 0x00, 0x16, 0x80, 0x00,
+        0x00, 0x00,
+    ];
+
+    // The same with the gains 101, 102, 0 and 91.
+    const AFTER: [u8; 32] = [
+        0x00, 0x00, 0x00, 0x08, 0x00, 0x32, 0x80, 0x00, 0x00, 0x00, 0x01, 0x00, 0x06, 0x60, 0x00,
+        0x00, 0x00, 0x00, 0x20, 0x00, 0x00, 0x00, 0x00, 0x00, 0x00, 0x04, 0x00, 0x16, 0xc0, 0x00,
+        0x00, 0x00,
+    ];
+
+    const STEREO: Class = Class {
+        version: Version::One,
+        frequency_index: 0,
+        channels: 2,
+    };
+
+    // A granule of 8 bits of main data with this gain.
+    fn granule(global_gain: u8) -> Granule {
+        Granule {
+            part2_3_length: 8,
+            big_values: 0,
+            global_gain,
+            scalefac_compress: 0,
+            window_switching: false,
+            detail: 0,
+            preflag: false,
+            scalefac_scale: false,
+            count1table_select: false,
+        }
+    }
+
+    fn side(gains: [u8; 4]) -> Side {
+        let scfsi = [0, 0];
+        let first = [granule(gains[0]), granule(gains[1])];
+        let second = [granule(gains[2]), granule(gains[3])];
+        let granules = [first, second];
+        Side {
+            main_data_begin: 0,
+            private_bits: 0,
+            scfsi,
+            granules,
+        }
+    }
+
+    #[test]
+    #[tactic(auto, unfolding(frame_header::specs::Tables::side_size_of))]
+    fn reads_two_channels(rt: HostRuntime) {
+        let read = Side::read(STEREO, &BEFORE);
+        assert_eq!(rt; read, side([100, 101, 255, 90]));
+        assert_eq!(rt; read.bits(), 32);
+        assert_eq!(rt; read.payload_bytes(), 4);
+    }
+
+    #[test]
+    #[tactic(auto, unfolding(frame_header::specs::Tables::side_size_of))]
+    fn writes_other_gains(rt: HostRuntime) {
+        let changed = side([101, 102, 0, 91]);
+        assert!(rt; changed.fits(STEREO));
+        let mut bytes = BEFORE;
+        changed.write(STEREO, &mut bytes);
+        assert_eq!(rt; bytes, AFTER);
+    }
+}

@@ -1,10 +1,11 @@
 //! The side information of a frame.
-ghost use Rattle.std.specs.Prelude.{◌≡◌, ◌^◌, ◌<◌, length, sum_by};
+ghost use Rattle.std.specs.Prelude.{◌≡◌, ◌↔◌, IsTrue, ◌^◌, ◌<◌, length, sum_by};
 ghost use Rattle.frame_header.specs.declared.version.Version.TheVariants.{One};
 ghost use Rattle.bit_fields.specs.Bits.{bits};
 ghost use Rattle.frame_header.specs.Tables.{side_size_of};
 ghost use Rattle.side_info.specs.Side.{no_side, side_at, side_bits, payload_bits, payload_bytes, SideFits};
 
+use crate::fitting::{front_fits, pair_fits};
 use crate::granule::{Granule, NO_GRANULE};
 use crate::reading::{read_front, read_pair};
 use crate::writing::{front_bits, write_front, write_pair};
@@ -48,6 +49,15 @@ impl Side {
             scfsi,
             granules,
         }
+    }
+
+    /// Whether each field is within its bits for the class, and each that the class lacks is 0.
+    pub fn fits(&self, class: Class) -> bool
+        ensures { IsTrue result ↔ SideFits class self.now }
+    {
+        front_fits(self, class)
+            && pair_fits(&self.granules[0], class, 0)
+            && pair_fits(&self.granules[1], class, 1)
     }
 
     /// The same with another main_data_begin.

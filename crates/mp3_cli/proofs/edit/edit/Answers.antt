@@ -1,8 +1,6 @@
 -- Each refusal is the one that is defined.
-use Rattle.std.proofs.Common.{◌≡◌, ◌+◌, ◌<◌, ◌≤◌, length, Ok, Some, None, true, false, sym, ◌∙◌, ap, subst, arith}
-use Rattle.frame_header.specs.Tables.{class_of}
-use Rattle.mp3_cli.specs.Plain.{header_front, file_class, has_head, file_walk, walk, not_plain_at}
-use Rattle.mp3_cli.specs.Edited.{range_fault}
+use Rattle.std.proofs.Common.{◌≡◌, ◌+◌, ◌<◌, length, Ok, Some, None, true, false, sym, ◌∙◌, ap, arith}
+use Rattle.mp3_cli.specs.Plain.{header_front, file_class, has_head, file_walk, walk}
 use Rattle.mp3_cli.proofs.PlainLaws.{header_front-long}
 use Rattle.mp3_cli.proofs.GainLaws.{gained-not_plain}
 use Rattle.mp3_cli.proofs.FileLaws.{file_class-header, file_walk-no_header, file_walk-head, file_walk-frames, not_plain-at, plain-whole, not_plain-stopped, gained-range, gained-ok, range_is_stream}

@@ -1,8 +1,7 @@
 -- Each turn edits one frame more.
-use Rattle.std.proofs.Common.{◌≡◌, sym, ◌∙◌, ap}
+use Rattle.std.proofs.Common.{◌∙◌, ap}
 use Rattle.std.specs.Option.{option_or}
-use Rattle.mp3_cli.specs.Plain.{walk}
-use Rattle.mp3_cli.proofs.EditLaws.{IsWholeEdit, goes_on_part, ends_part, put_rest_length}
+use Rattle.mp3_cli.proofs.EditLaws.{goes_on_part, ends_part, put_rest_length}
 use Rattle.mp3_cli.proofs.edit.edit_frames.Goals as goal
 
 pub loop-front-preserved : goal.loop-front-preserved

@@ -1,5 +1,5 @@
 -- The side information is written over, and all else stays.
-use Rattle.std.proofs.Common.{◌≡◌, ◌+◌, ◌≤◌, length, subst, sym, ◌∙◌, ap, arith}
+use Rattle.std.proofs.Common.{◌+◌, ◌≤◌, length, subst, sym, ◌∙◌, ap, arith}
 use Rattle.side_info.specs.Side.{SideFits, side_bits}
 use Rattle.mp3_cli.specs.Gains.{moved_side}
 use Rattle.mp3_cli.proofs.EditLaws.{part_length, written_part}

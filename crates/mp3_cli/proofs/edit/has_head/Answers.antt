@@ -1,7 +1,5 @@
 -- Past the end there is no text.
-use Rattle.std.proofs.Common.{◌≡◌, ◌⊎◌, ℕ, ◌+◌, ◌<◌, length, false, sym, inl, inr, arith}
-use Rattle.frame_header.specs.Tables.{side_size_of}
-use Rattle.mp3_cli.specs.Plain.{has_head}
+use Rattle.std.proofs.Common.{◌⊎◌, ℕ, ◌+◌, ◌<◌, length, sym, inl, inr, arith}
 use Rattle.mp3_cli.proofs.PlainLaws.{has_head-short}
 use Rattle.mp3_cli.proofs.edit.has_head.Goals as goal
 

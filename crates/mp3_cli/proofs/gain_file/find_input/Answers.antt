@@ -1,5 +1,5 @@
 -- An empty input and one that is too long are refused at 0.
-use Rattle.std.proofs.Common.{◌≡◌, ◌<◌, subst, inl, inr, ⊎_elim, sym, ◌∙◌}
+use Rattle.std.proofs.Common.{◌<◌, subst, inl, inr, ⊎_elim, sym, ◌∙◌}
 use Rattle.mp3_cli.specs.Plain.{longest_input}
 use Rattle.mp3_cli.proofs.GainLaws.{not_plain-length}
 use Rattle.mp3_cli.proofs.gain_file.find_input.Goals as goal

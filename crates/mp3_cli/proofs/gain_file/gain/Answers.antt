@@ -1,7 +1,6 @@
 -- The command's answer is the defined one.
-use Rattle.std.proofs.Common.{◌≡◌, Ok, refl, sym, ◌∙◌, ap, subst, inl, inr, rules, true, false, bytes_eq}
+use Rattle.std.proofs.Common.{◌≡◌, Ok, rules, true, false, bytes_eq}
 use Rattle.std.proofs.lemmas.Result.{err_from_is_err_and}
-use Rattle.mp3_cli.specs.Gain.{Gives}
 use Rattle.mp3_cli.proofs.GainLaws.{gives_equal, gives_bytes, input_fault-defined, is_written, written_in_part}
 use Rattle.mp3_cli.proofs.gain_file.gain.Goals as goal
 

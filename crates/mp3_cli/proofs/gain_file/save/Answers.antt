@@ -1,5 +1,5 @@
 -- Created and written, the output holds the bytes or a front of them.
-use Rattle.std.proofs.Common.{◌≡◌, sym, ◌∙◌, ap, subst, inl, inr}
+use Rattle.std.proofs.Common.{sym, subst, inr}
 use Rattle.std.proofs.lemmas.Result.{on_ok_weaker, on_err_weaker}
 use Rattle.outside.specs.Files.{IsThere}
 use Rattle.outside.proofs.FilesLaws.{emptied_there}

@@ -1,11 +1,11 @@
 -- A piece that was sent, and one that failed.
 use Rattle.std.proofs.Common.{[], sym, ◌∙◌, arith}
-use Rattle.outside.proofs.FilesLaws.{sent_more-nil}
+use Rattle.outside.proofs.FilesLaws.{sent_nothing}
 use Rattle.mp3_cli.proofs.Lines.{line_failed, line_more}
 use Rattle.mp3_cli.proofs.texts.send_pieces.Goals as goal
 
 pub loop-piece-init : goal.loop-piece-init
-loop-piece-init g c = record { later = omega arith; sent = sym (sent_more-nil _) }
+loop-piece-init g c = record { later = omega arith; sent = sym (sent_nothing _) }
 
 pub returns-then-is_err : goal.returns-then-is_err
 returns-then-is_err g c =

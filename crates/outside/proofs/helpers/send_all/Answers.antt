@@ -1,10 +1,10 @@
 use Rattle.std.proofs.Common.{sym, arith, length-drop}
-use Rattle.outside.proofs.FilesLaws.{sent_more-nil}
+use Rattle.outside.proofs.FilesLaws.{sent_nothing}
 use Rattle.outside.proofs.Pieces.{part_from, sent_then}
 use Rattle.outside.proofs.helpers.send_all.Goals as goal
 
 pub loop-done-init : goal.loop-done-init
-loop-done-init g c = record { in_range = omega arith; sent = sym (sent_more-nil _); later = omega arith }
+loop-done-init g c = record { in_range = omega arith; sent = sym (sent_nothing _); later = omega arith }
 
 pub loop-done-preserved : goal.loop-done-preserved
 loop-done-preserved g c =

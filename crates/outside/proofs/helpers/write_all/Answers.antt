@@ -1,6 +1,6 @@
 use Rattle.std.proofs.Common.{◌≡◌, ◌+◌, take, sym, subst, arith, length-drop}
 use Rattle.outside.specs.Files.{appended, IsThere}
-use Rattle.outside.proofs.FilesLaws.{appended-nil, appended_there}
+use Rattle.outside.proofs.FilesLaws.{appended_nothing, appended_there}
 use Rattle.outside.proofs.CountsLaws.{only_writes_same, only_writes_then}
 use Rattle.outside.proofs.Pieces.{part_from, appended_then}
 use Rattle.outside.proofs.helpers.write_all.Goals as goal
@@ -8,7 +8,7 @@ use Rattle.outside.proofs.helpers.write_all.Goals as goal
 pub loop-done-init : goal.loop-done-init
 loop-done-init g c = record {
   in_range = omega arith;
-  written = sym (appended-nil _ c.args.name.now c.requires);
+  written = sym (appended_nothing _ c.args.name.now c.requires);
   there = c.requires;
   counts = only_writes_same _;
 }

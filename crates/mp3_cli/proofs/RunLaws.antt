@@ -1,0 +1,241 @@
+-- What `run` promises, from what the gain command ensures.
+use Rattle.std.proofs.Common.{◌≡◌, ◌≢◌, ◌↔◌, ℕ, ◌≤◌, Bool, true, false, cond, List, [], Option, Some, None, Result, Ok, Err, refl, sym, ◌∙◌, ap, subst, bytes_eq, codes, arith}
+use Rattle.std.specs.Prelude.{OnOk, IfErr, IfSome, IsErrOf}
+use Rattle.std.proofs.lemmas.Bool.{true≢false}
+use Rattle.outside.specs.Files.{Contents, Files, Sent, with_file}
+use Rattle.outside.specs.Counts.{Counts, Rose}
+use Rattle.outside.proofs.FilesLaws.{sent_nothing, bytes_eq_same, bytes_eq_other}
+use Rattle.mp3_cli.specs.declared.fault.EditFault.{EditFault}
+use Rattle.mp3_cli.specs.declared.fault.EditFault.TheVariants.{EqualNames, Absent, Read, NotYet, GainRange, Write, Memory}
+use Rattle.mp3_cli.specs.declared.jobs.Job.{Job}
+use Rattle.mp3_cli.specs.declared.jobs.Job.TheVariants.{Gain}
+use Rattle.mp3_cli.specs.declared.shift.Shift.{Shift}
+use Rattle.mp3_cli.specs.Words.{word_at, job_of}
+use Rattle.mp3_cli.specs.Texts.{status_of, fault_line, bad_word_line, GotLine}
+use Rattle.mp3_cli.specs.Plain.{file_class, file_walk, not_plain_at}
+use Rattle.mp3_cli.specs.Edited.{edited, range_fault, unless, unless_not_plain, gained, gained_where, gain_result}
+use Rattle.mp3_cli.specs.Gain.{holding, IsWritten, IsDefinedAt, LeavesAt}
+use Rattle.mp3_cli.specs.Run.{refused, gain_outcome, job_outcome, outcome, answer_status, answer_line, IsOutcome, IsAccepted, IsCause, IsStopped}
+
+-- ---- bad words
+
+outcome-bad_word : (words : List (List ℕ)) (f : Contents) (place : ℕ) → job_of words ≡ Err place → outcome words f ≡ refused f 2 (bad_word_line place)
+unfolding outcome
+outcome-bad_word words f place is = ap (job_outcome words f) is
+
+pub bad_word_defined : (words : List (List ℕ)) (old : Files) (place : ℕ) (text before after : Sent) (faults_before faults_after : ℕ) → job_of words ≡ Err place
+    → GotLine before after faults_before faults_after (bad_word_line place)
+    → IfSome old (λ f. IsOutcome (outcome words f) 2 old text text before after faults_before faults_after)
+bad_word_defined words None place text before after faults_before faults_after is line = tt
+bad_word_defined words (Some f) place text before after faults_before faults_after is line =
+    subst (λ o. IsOutcome o 2 (Some f) text text before after faults_before faults_after) (sym (outcome-bad_word words f place is))
+    (record { status_is = refl; files_are = refl; text_is = sym (sent_nothing text); line_is = line })
+
+-- ---- what the command ensures
+
+pub record Gained {T : Type 0} (shift : Shift) (input output : List ℕ) (old new : Files) (before after : Counts) (answer : Result T EditFault) : Type 0 where
+  pub written : OnOk answer (IsWritten shift input output old new)
+  pub defined : IfErr answer (IsDefinedAt shift input output old)
+  pub left : IfErr answer (LeavesAt shift input output old new)
+  pub absent : IsErrOf answer Absent → Rose before.misses after.misses
+  pub read : IsErrOf answer Read → Rose before.read_faults after.read_faults
+  pub write : IsErrOf answer (Write 0) → Rose before.write_faults after.write_faults
+
+outcome-gain : (words : List (List ℕ)) (f : Contents) (shift : Shift) (input output : ℕ) (r : Result (List ℕ) EditFault) → job_of words ≡ Ok (Gain shift input output)
+    → gain_result shift (word_at words input) (word_at words output) f ≡ r → outcome words f ≡ gain_outcome (word_at words input) (word_at words output) f r
+unfolding outcome
+outcome-gain words f shift input output r job is = ap (job_outcome words f) job ∙ ap (gain_outcome (word_at words input) (word_at words output) f) is
+
+module _ (words : List (List ℕ)) (shift : Shift) (input output : ℕ) (job : job_of words ≡ Ok (Gain shift input output)) where
+  abbrev source : List ℕ
+  source = word_at words input
+
+  abbrev target : List ℕ
+  target = word_at words output
+
+  module _ (text before after : Sent) (faults_before faults_after : ℕ) where
+    -- a refusal that is defined, with the files as they were
+    refused_defined : (f : Contents) (new : Files) (fault : EditFault) (status : ℕ) → status ≡ status_of fault → gain_result shift source target f ≡ Err fault → new ≡ Some f
+        → GotLine before after faults_before faults_after (fault_line fault source target)
+        → IsOutcome (outcome words f) status new text text before after faults_before faults_after
+    refused_defined f new fault status is defined kept line =
+        subst (λ o. IsOutcome o status new text text before after faults_before faults_after) (sym (outcome-gain words f shift input output (Err fault) job defined))
+        (record { status_is = is; files_are = kept; text_is = sym (sent_nothing text); line_is = line })
+
+    held : (f : Contents) (bytes : List ℕ) → holding (Some f) target bytes ≡ Some (with_file f target bytes)
+    unfolding holding
+    held f bytes = refl
+
+    done_defined : (f : Contents) (new : Files) (status : ℕ) → status ≡ 0 → IsWritten shift source target (Some f) new → GotLine before after faults_before faults_after []
+        → IsOutcome (outcome words f) status new text text before after faults_before faults_after
+    done_defined f new status is written line =
+        subst (λ o. IsOutcome o status new text text before after faults_before faults_after) (sym (outcome-gain words f shift input output (Ok written.bytes) job written.defined))
+        (record { status_is = is; files_are = written.files ∙ held f written.bytes; text_is = sym (sent_nothing text); line_is = line })
+
+    pub is_defined : {T : Type 0} (old new : Files) (counts_before counts_after : Counts) (answer : Result T EditFault) (status : ℕ) → Gained shift source target old new counts_before counts_after answer
+        → status ≡ answer_status answer → GotLine before after faults_before faults_after (answer_line answer source target) → status ≤ 2
+        → IfSome old (λ f. IsOutcome (outcome words f) status new text text before after faults_before faults_after)
+    is_defined None new counts_before counts_after answer status all is line low = tt
+    is_defined (Some f) new counts_before counts_after (Ok x) status all is line low = done_defined f new status is all.written line
+    is_defined (Some f) new counts_before counts_after (Err (EqualNames place)) status all is line low = refused_defined f new (EqualNames place) status is all.defined all.left line
+    is_defined (Some f) new counts_before counts_after (Err Absent) status all is line low = absurd (omega arith)
+    is_defined (Some f) new counts_before counts_after (Err Read) status all is line low = absurd (omega arith)
+    is_defined (Some f) new counts_before counts_after (Err (NotYet offset)) status all is line low = refused_defined f new (NotYet offset) status is all.defined all.left line
+    is_defined (Some f) new counts_before counts_after (Err (GainRange offset granule channel gain)) status all is line low = refused_defined f new (GainRange offset granule channel gain) status is all.defined all.left line
+    is_defined (Some f) new counts_before counts_after (Err (Write place)) status all is line low = absurd (omega arith)
+    is_defined (Some f) new counts_before counts_after (Err Memory) status all is line low = absurd (omega arith)
+
+    -- ---- status 3
+
+    stops : (old new : Files) (counts_before counts_after : Counts) (fault : EditFault) → IsCause shift source target old new counts_before counts_after fault
+        → GotLine before after faults_before faults_after (fault_line fault source target) → IsStopped words old new counts_before counts_after before after faults_before faults_after
+    stops old new counts_before counts_after fault cause line = record { shift = shift; input = input; output = output; job = job; fault = fault; cause = cause; line = line }
+
+    pub is_stopped : {T : Type 0} (old new : Files) (counts_before counts_after : Counts) (answer : Result T EditFault) (status : ℕ) → Gained shift source target old new counts_before counts_after answer
+        → status ≡ answer_status answer → GotLine before after faults_before faults_after (answer_line answer source target) → status ≡ 3
+        → IsStopped words old new counts_before counts_after before after faults_before faults_after
+    is_stopped old new counts_before counts_after (Ok x) status all is line three = absurd (omega arith)
+    is_stopped old new counts_before counts_after (Err (EqualNames place)) status all is line three = absurd (omega arith)
+    is_stopped old new counts_before counts_after (Err Absent) status all is line three = stops old new counts_before counts_after Absent (all.absent refl, all.left, all.defined) line
+    is_stopped old new counts_before counts_after (Err Read) status all is line three = stops old new counts_before counts_after Read (all.read refl, all.left) line
+    is_stopped old new counts_before counts_after (Err (NotYet offset)) status all is line three = absurd (omega arith)
+    is_stopped old new counts_before counts_after (Err (GainRange offset granule channel gain)) status all is line three = absurd (omega arith)
+    is_stopped old new counts_before counts_after (Err (Write place)) status all is line three =
+        stops old new counts_before counts_after (Write place) (all.write (ap (λ n. Err (Write n)) all.defined), all.left) line
+    is_stopped old new counts_before counts_after (Err Memory) status all is line three = absurd (omega arith)
+
+    -- ---- status 4
+
+    memory_line : fault_line Memory source target ≡ codes "out of memory\n"
+    unfolding fault_line
+    memory_line = refl
+
+    pub is_out_of_memory : {T : Type 0} (answer : Result T EditFault) (status : ℕ) → status ≡ answer_status answer → GotLine before after faults_before faults_after (answer_line answer source target)
+        → status ≡ 4 → GotLine before after faults_before faults_after (codes "out of memory\n")
+    is_out_of_memory (Ok x) status is line four = absurd (omega arith)
+    is_out_of_memory (Err (EqualNames place)) status is line four = absurd (omega arith)
+    is_out_of_memory (Err Absent) status is line four = absurd (omega arith)
+    is_out_of_memory (Err Read) status is line four = absurd (omega arith)
+    is_out_of_memory (Err (NotYet offset)) status is line four = absurd (omega arith)
+    is_out_of_memory (Err (GainRange offset granule channel gain)) status is line four = absurd (omega arith)
+    is_out_of_memory (Err (Write place)) status is line four = absurd (omega arith)
+    is_out_of_memory (Err Memory) status is line four = subst (GotLine before after faults_before faults_after) memory_line line
+
+-- ---- what is accepted
+
+-- a file that becomes something is plain, and none of its gains would leave its range
+record IsFit (shift : Shift) (file : List ℕ) : Type 0 where
+  pub plain : not_plain_at file ≡ None
+  pub range : range_fault shift (file_class file) 0 (file_walk file).frames ≡ None
+
+range_none : (o : Option EditFault) (a bytes : List ℕ) → unless o a ≡ Ok bytes → o ≡ None
+range_none (Some fault) a bytes e = absurd cc
+range_none None a bytes e = refl
+
+fit_cases : (shift : Shift) (file bytes : List ℕ) (o : Option ℕ) → not_plain_at file ≡ o
+    → unless_not_plain o (unless (range_fault shift (file_class file) 0 (file_walk file).frames) (edited shift (file_class file) (file_walk file))) ≡ Ok bytes → IsFit shift file
+fit_cases shift file bytes (Some at) is e = absurd cc
+fit_cases shift file bytes None is e = record { plain = is; range = range_none _ _ bytes e }
+
+fit : (shift : Shift) (file bytes : List ℕ) → gained shift file ≡ Ok bytes → IsFit shift file
+unfolding gained
+fit shift file bytes e = fit_cases shift file bytes (not_plain_at file) refl e
+
+gained-fit : (shift : Shift) (file : List ℕ) → IsFit shift file → gained shift file ≡ Ok (edited shift (file_class file) (file_walk file))
+unfolding gained
+gained-fit shift file is = let plain = is.plain in let range = is.range in rw (plain, range) refl
+
+-- what the command asks of its input
+record IsFitInput (shift : Shift) (input output : List ℕ) (f : Contents) : Type 0 where
+  pub names : input ≢ output
+  pub file : List ℕ
+  pub there : f input ≡ Some file
+  pub fits : IsFit shift file
+
+there_cases : (shift : Shift) (input output : List ℕ) (f : Contents) (bytes : List ℕ) (o : Option (List ℕ)) → f input ≡ o → input ≢ output → gained_where shift o ≡ Ok bytes → IsFitInput shift input output f
+there_cases shift input output f bytes None is differ e = absurd cc
+there_cases shift input output f bytes (Some file) is differ e = record { names = differ; file = file; there = is; fits = fit shift file bytes e }
+
+name_cases : (shift : Shift) (input output : List ℕ) (f : Contents) (bytes : List ℕ) (same : Bool) → bytes_eq input output ≡ same → cond same (Err (EqualNames 0)) (gained_where shift (f input)) ≡ Ok bytes → IsFitInput shift input output f
+name_cases shift input output f bytes true is e = absurd cc
+name_cases shift input output f bytes false is e =
+    there_cases shift input output f bytes (f input) refl (λ equal. true≢false (sym (bytes_eq_same input) ∙ ap (bytes_eq input) equal ∙ is)) e
+
+fit_input : (shift : Shift) (input output : List ℕ) (f : Contents) (bytes : List ℕ) → gain_result shift input output f ≡ Ok bytes → IsFitInput shift input output f
+unfolding gain_result
+fit_input shift input output f bytes e = name_cases shift input output f bytes (bytes_eq input output) refl e
+
+gain_result-fit : (shift : Shift) (input output : List ℕ) (f : Contents) (file : List ℕ) → input ≢ output → f input ≡ Some file → IsFit shift file
+    → gain_result shift input output f ≡ Ok (edited shift (file_class file) (file_walk file))
+unfolding gain_result
+gain_result-fit shift input output f file differ there is =
+    let names : bytes_eq input output ≡ false = bytes_eq_other input output (λ e. differ (sym e)) in
+    rw (names, there) (gained-fit shift file is)
+
+abbrev gain_of : Shift → ℕ → ℕ → Result Job ℕ
+gain_of shift input output = Ok (Gain shift input output)
+
+record SameGain (s t : Shift) (i j o p : ℕ) : Type 0 where
+  pub shift : s ≡ t
+  pub input : i ≡ j
+  pub output : o ≡ p
+
+same_gain : (s t : Shift) (i j o p : ℕ) → gain_of s i o ≡ gain_of t j p → SameGain s t i j o p
+same_gain s t i j o p e = record { shift = cc; input = cc; output = cc }
+
+refuses : (r : Result (List ℕ) EditFault) (bytes : List ℕ) (fault : EditFault) → r ≡ Ok bytes → r ≡ Err fault → ⊥
+refuses r bytes fault ok err = cc
+
+module _ (words : List (List ℕ)) (shift : Shift) (input output : ℕ) (job : job_of words ≡ Ok (Gain shift input output)) (f : Contents) where
+  accepted_of : (bytes : List ℕ) → gain_result shift (word_at words input) (word_at words output) f ≡ Ok bytes → IsAccepted words f
+  accepted_of bytes is =
+      let fits = fit_input shift (word_at words input) (word_at words output) f bytes is in
+      record { shift = shift; input = input; output = output; job = job; names = fits.names; file = fits.file; there = fits.there; plain = fits.fits.plain; range = fits.fits.range }
+
+  of_accepted : IsAccepted words f → (bytes : List ℕ) × (gain_result shift (word_at words input) (word_at words output) f ≡ Ok bytes)
+  of_accepted a =
+      let same = same_gain a.shift shift a.input input a.output output (sym a.job ∙ job) in
+      let bytes = edited a.shift (file_class a.file) (file_walk a.file) in
+      let is = gain_result-fit a.shift (word_at words a.input) (word_at words a.output) f a.file a.names a.there (record { plain = a.plain; range = a.range }) in
+      (bytes, sym (λ i. gain_result (same.shift i) (word_at words (same.input i)) (word_at words (same.output i)) f) ∙ is)
+
+  -- where no call of the folder failed and memory was found, exactly the legal commands are done
+  pub is_accepted : {T : Type 0} (new : Files) (counts_before counts_after : Counts) (answer : Result T EditFault) (status : ℕ)
+      → Gained shift (word_at words input) (word_at words output) (Some f) new counts_before counts_after answer → status ≡ answer_status answer
+      → (Rose counts_before.read_faults counts_after.read_faults → ⊥) → (Rose counts_before.write_faults counts_after.write_faults → ⊥) → status ≢ 4
+      → (status ≡ 0) ↔ IsAccepted words f
+  is_accepted new counts_before counts_after (Ok x) status all is reads writes found = ((λ zero. accepted_of all.written.bytes all.written.defined), λ a. is)
+  is_accepted new counts_before counts_after (Err (EqualNames place)) status all is reads writes found = ((λ zero. absurd (omega arith)), λ a. absurd (refuses _ (of_accepted a).0 (EqualNames place) (of_accepted a).1 all.defined))
+  is_accepted new counts_before counts_after (Err Absent) status all is reads writes found = ((λ zero. absurd (omega arith)), λ a. absurd (refuses _ (of_accepted a).0 Absent (of_accepted a).1 all.defined))
+  is_accepted new counts_before counts_after (Err Read) status all is reads writes found = absurd (reads (all.read refl))
+  is_accepted new counts_before counts_after (Err (NotYet offset)) status all is reads writes found = ((λ zero. absurd (omega arith)), λ a. absurd (refuses _ (of_accepted a).0 (NotYet offset) (of_accepted a).1 all.defined))
+  is_accepted new counts_before counts_after (Err (GainRange offset granule channel gain)) status all is reads writes found =
+      ((λ zero. absurd (omega arith)), λ a. absurd (refuses _ (of_accepted a).0 (GainRange offset granule channel gain) (of_accepted a).1 all.defined))
+  is_accepted new counts_before counts_after (Err (Write place)) status all is reads writes found = absurd (writes (all.write (ap (λ n. Err (Write n)) all.defined)))
+  is_accepted new counts_before counts_after (Err Memory) status all is reads writes found = absurd (found is)
+
+-- ---- the names as they stand in the words
+
+pub named : {T : Type 0} (shift : Shift) (a b input output : List ℕ) (old new : Files) (before after : Counts) (answer : Result T EditFault) → a ≡ input → b ≡ output
+    → Gained shift a b old new before after answer → Gained shift input output old new before after answer
+named shift a b input output old new before after answer first second all =
+    subst (λ n. Gained shift n output old new before after answer) first (subst (λ n. Gained shift a n old new before after answer) second all)
+
+pub named_line : {T : Type 0} (a b input output : List ℕ) (before after : Sent) (faults_before faults_after : ℕ) (answer : Result T EditFault) → a ≡ input → b ≡ output
+    → GotLine before after faults_before faults_after (answer_line answer a b) → GotLine before after faults_before faults_after (answer_line answer input output)
+named_line a b input output before after faults_before faults_after answer first second line =
+    subst (λ n. GotLine before after faults_before faults_after (answer_line answer n output)) first
+    (subst (λ n. GotLine before after faults_before faults_after (answer_line answer a n)) second line)
+
+pub is_accepted_told : {T : Type 0} (words : List (List ℕ)) (shift : Shift) (input output : ℕ) → job_of words ≡ Ok (Gain shift input output) → (f : Contents) (old new : Files) (counts_before counts_after : Counts)
+    (answer : Result T EditFault) (status : ℕ) → old ≡ Some f → Gained shift (word_at words input) (word_at words output) old new counts_before counts_after answer → status ≡ answer_status answer
+    → (Rose counts_before.read_faults counts_after.read_faults → ⊥) → (Rose counts_before.write_faults counts_after.write_faults → ⊥) → status ≢ 4
+    → (status ≡ 0) ↔ IsAccepted words f
+is_accepted_told words shift input output job f old new counts_before counts_after answer status told all is reads writes found =
+    is_accepted words shift input output job f new counts_before counts_after answer status
+    (subst (λ o. Gained shift (word_at words input) (word_at words output) o new counts_before counts_after answer) told all) is reads writes found
+
+-- what holds of told files whatever standard output got
+pub each_text : (old : Files) (P : Contents → Sent → Type 0) → ((text : Sent) → IfSome old (λ f. P f text)) → IfSome old (λ f. (text : Sent) → P f text)
+each_text None P all = tt
+each_text (Some f) P all = all

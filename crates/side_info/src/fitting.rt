@@ -1,0 +1,62 @@
+//! Whether side fields are within the bits that a class has for them.
+ghost use Rattle.std.specs.Prelude.{◌≡◌, ℕ, ◌+◌, ◌^◌, ◌<◌, ◌↔◌, IsTrue, MatchBool, length, slice_index, slice_index_or};
+ghost use Rattle.side_info.specs.Granule.{no_granule, GranuleFits};
+ghost use Rattle.side_info.specs.Side.{front_width, has_granule as has_granule_lem};
+
+use crate::granule::{Granule, NO_GRANULE};
+use crate::side::Side;
+use frame_header::{Class, Version};
+
+/// What the fields before the granules are below, 1 for one that the class lacks.
+fn front_limits(class: Class) -> [u16; 4]
+    ensures { (field : ℕ) → field < 4 → slice_index result field ≡ 2 ^ front_width class field }
+{
+    match (class.version, class.channels == 1) {
+        (Version::One, true) => [512, 32, 16, 1],
+        (Version::One, false) => [512, 8, 16, 16],
+        (Version::Two, true) => [256, 2, 1, 1],
+        (Version::Two, false) => [256, 4, 1, 1],
+    }
+}
+
+/// Whether the fields before the granules are within their bits.
+pub(crate) fn front_fits(side: &Side, class: Class) -> bool
+    ensures { IsTrue result ↔ (side.now.main_data_begin < 2 ^ front_width class 0) × (side.now.private_bits < 2 ^ front_width class 1) × (slice_index side.now.scfsi 0 < 2 ^ front_width class 2) × (slice_index side.now.scfsi 1 < 2 ^ front_width class 3) }
+{
+    let limits = front_limits(class);
+    side.main_data_begin < limits[0]
+        && u16::from(side.private_bits) < limits[1]
+        && u16::from(side.scfsi[0]) < limits[2]
+        && u16::from(side.scfsi[1]) < limits[3]
+}
+
+/// Whether the class has this granule and channel.
+fn has_granule(class: Class, granule: u8, channel: u8) -> bool
+    ensures { result ≡ has_granule_lem class granule channel }
+{
+    let granules = match class.version {
+        Version::One => 2,
+        Version::Two => 1,
+    };
+    granule < granules && channel < class.channels
+}
+
+/// Whether a granule's fields are within their bits, or all 0 where the class lacks it.
+fn granule_fits(granule: &Granule, version: Version, has: bool) -> bool
+    ensures { IsTrue result ↔ MatchBool has (GranuleFits version granule.now) (granule.now ≡ no_granule) }
+{
+    if has {
+        granule.fits(version)
+    } else {
+        *granule == NO_GRANULE
+    }
+}
+
+/// The same for the channels of one granule.
+pub(crate) fn pair_fits(pair: &[Granule; 2], class: Class, granule: u8) -> bool
+    ensures two { length pair.now ≡ 2 }
+    ensures fits { IsTrue result ↔ (MatchBool (has_granule_lem class granule 0) (GranuleFits class.version (slice_index_or pair.now 0 no_granule)) (slice_index_or pair.now 0 no_granule ≡ no_granule)) × (MatchBool (has_granule_lem class granule 1) (GranuleFits class.version (slice_index_or pair.now 1 no_granule)) (slice_index_or pair.now 1 no_granule ≡ no_granule)) }
+{
+    granule_fits(&pair[0], class.version, has_granule(class, granule, 0))
+        && granule_fits(&pair[1], class.version, has_granule(class, granule, 1))
+}
