@@ -82,3 +82,20 @@ pub fn expect<R: Abort + AllocGlobal>(
     assert_eq!(rt; ended.out.sent(), b"".as_slice(), "{words}");
     Ok(())
 }
+
+/// Asserts that the file is these frames end to end.
+pub fn expect_frames<R: Abort + AllocGlobal>(
+    rt: &R,
+    folder: &MemFolder,
+    name: &str,
+    frames: &[Frame],
+    what: &str,
+) -> Result<(), AllocError> {
+    let wanted = file_of(rt.alloc(), frames)?;
+    assert_eq!(rt;
+        folder.get(name).unwrap_or(&[]),
+        wanted.as_slice(),
+        "{name}: {what}"
+    );
+    Ok(())
+}

@@ -1,4 +1,5 @@
 //! Frames as bytes, each worked out by hand from the standard's tables.
+ghost use Rattle.std.specs.Prelude.{◌≤◌};
 
 use std::alloc::{AllocError, Global};
 
@@ -46,23 +47,25 @@ pub const G_LOWER: Frame = Frame {
     ..G
 };
 
-/// G with the gains 10, 20, 30, 40.
+/// G with the gains 10, 20, 30, 40, and with a text that only in the first frame is a head's.
 pub const QUIET: Frame = Frame {
     side: &[
         0x00, 0x00, 0x00, 0x08, 0x00, 0x05, 0x00, 0x00, 0x00, 0x00, 0x01, 0x00, 0x01, 0x40, 0x00,
         0x00, 0x00, 0x00, 0x20, 0x00, 0x3c, 0x00, 0x00, 0x00, 0x00, 0x04, 0x00, 0x0a, 0x00, 0x00,
         0x00, 0x00,
     ],
+    area: b"Xing",
     ..G
 };
 
-/// G with the gains 5, 15, 25, 35.
+/// The same with the gains 5, 15, 25, 35.
 pub const QUIETER: Frame = Frame {
     side: &[
         0x00, 0x00, 0x00, 0x08, 0x00, 0x02, 0x80, 0x00, 0x00, 0x00, 0x01, 0x00, 0x00, 0xf0, 0x00,
         0x00, 0x00, 0x00, 0x20, 0x00, 0x32, 0x00, 0x00, 0x00, 0x00, 0x04, 0x00, 0x08, 0xc0, 0x00,
         0x00, 0x00,
     ],
+    area: b"Xing",
     ..G
 };
 
@@ -185,6 +188,113 @@ pub const BACK_POINTER: Frame = Frame {
     ..Z
 };
 
+/// Z, padded.
+pub const Z_PADDED: Frame = Frame {
+    header: [0xff, 0xfb, 0x92, 0x00],
+    length: 418,
+    ..Z
+};
+
+/// G at 48 kHz.
+pub const G_AT_48_KHZ: Frame = Frame {
+    header: [0xff, 0xfb, 0x94, 0x00],
+    length: 384,
+    ..G
+};
+
+/// The same with the gains 95, 96, 250, 85.
+pub const G_AT_48_KHZ_LOWER: Frame = Frame {
+    header: [0xff, 0xfb, 0x94, 0x00],
+    length: 384,
+    ..G_LOWER
+};
+
+/// G at 32 kHz.
+pub const G_AT_32_KHZ: Frame = Frame {
+    header: [0xff, 0xfb, 0x98, 0x00],
+    length: 576,
+    ..G
+};
+
+/// The same with the gains 95, 96, 250, 85.
+pub const G_AT_32_KHZ_LOWER: Frame = Frame {
+    header: [0xff, 0xfb, 0x98, 0x00],
+    length: 576,
+    ..G_LOWER
+};
+
+/// G at 160 kbit/s, with a text one byte behind the place of a head's.
+pub const LONG: Frame = Frame {
+    header: [0xff, 0xfb, 0xa0, 0x00],
+    area: b"-Info",
+    length: 522,
+    ..G
+};
+
+/// The same with the gains 95, 96, 250, 85.
+pub const LONG_LOWER: Frame = Frame {
+    header: [0xff, 0xfb, 0xa0, 0x00],
+    area: b"-Info",
+    length: 522,
+    ..G_LOWER
+};
+
+/// Z with the text of a head.
+pub const HEAD: Frame = Frame { area: b"Info", ..Z };
+
+/// Z with the text of a head of changing rates.
+pub const HEAD_OF_RATES: Frame = Frame { area: b"Xing", ..Z };
+
+/// MONO with the text of a head.
+pub const MONO_HEAD: Frame = Frame {
+    area: b"Info",
+    ..MONO
+};
+
+/// Z with a check word.
+pub const PROTECTED: Frame = Frame {
+    header: [0xff, 0xfa, 0x90, 0x00],
+    ..Z
+};
+
+/// MPEG-2, 22,050 Hz, 64 kbit/s, all bytes behind the header 0.
+pub const MPEG_2: Frame = Frame {
+    header: [0xff, 0xf3, 0x80, 0x00],
+    length: 208,
+    ..Z
+};
+
+/// The same with the sync bits of MPEG-2.5.
+pub const MPEG_2_5: Frame = Frame {
+    header: [0xff, 0xe3, 0x80, 0x00],
+    length: 208,
+    ..Z
+};
+
+/// Z with the bits of layer II.
+pub const LAYER_2: Frame = Frame {
+    header: [0xff, 0xfd, 0x90, 0x00],
+    ..Z
+};
+
+/// Z in free format.
+pub const FREE: Frame = Frame {
+    header: [0xff, 0xfb, 0x00, 0x00],
+    ..Z
+};
+
+/// Z with the forbidden bit rate.
+pub const FORBIDDEN_RATE: Frame = Frame {
+    header: [0xff, 0xfb, 0xf0, 0x00],
+    ..Z
+};
+
+/// Z with the reserved frequency.
+pub const RESERVED_FREQUENCY: Frame = Frame {
+    header: [0xff, 0xfb, 0x9c, 0x00],
+    ..Z
+};
+
 /// The frames end to end.
 pub fn file_of(alloc: Global, frames: &[Frame]) -> Result<Vec<u8>, AllocError> {
     let mut bytes = Vec::new(alloc);
@@ -194,7 +304,9 @@ pub fn file_of(alloc: Global, frames: &[Frame]) -> Result<Vec<u8>, AllocError> {
     Ok(bytes)
 }
 
-fn side_size(header: [u8; 4]) -> usize {
+fn side_size(header: [u8; 4]) -> usize
+    ensures { result ≤ 32 }
+{
     if header[3] == 0xc0 { 17 } else { 32 }
 }
 
