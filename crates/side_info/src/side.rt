@@ -150,7 +150,7 @@ impl Side {
 
     /// Reads the side information of a frame, all its bytes (ISO/IEC 11172-3 and 13818-3, 2.4.1.7).
     pub fn read(class: Class, bytes: &[u8]) -> Side
-        requires { length bytes.now ≡ side_size_of class }
+        requires size { length bytes.now ≡ side_size_of class }
         ensures side { result ≡ side_at class (bits bytes.now) }
         ensures fits { SideFits class result }
     {
