@@ -2,3 +2,4 @@ pub mod GranuleLaws
 pub mod SideLaws
 mod ReadLaws
 mod WriteLaws
+mod LowerLaws

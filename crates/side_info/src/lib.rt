@@ -4,6 +4,7 @@
 mod fitting;
 mod front;
 mod granule;
+mod lower;
 mod reading;
 mod side;
 mod writing;

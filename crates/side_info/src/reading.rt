@@ -11,7 +11,7 @@ use crate::granule::{Granule, NO_GRANULE};
 use bit_fields::Bits;
 
 /// The number of the next n bits, which are there.
-fn next(source: &mut Bits, n: u32) -> u32
+pub(crate) fn next(source: &mut Bits, n: u32) -> u32
     requires few { n ≤ 32 }
     requires enough { n ≤ length source.old.left }
     ensures value { result ≡ number (take n source.old.left) }

@@ -9,8 +9,8 @@ use Rattle.side_info.specs.Parts.{front_size, front_at, pair_at}
 use Rattle.side_info.specs.Side.{side_at}
 use Rattle.side_info.proofs.SideLaws.{class_with, SideFits-side_at}
 use Rattle.side_info.proofs.ReadLaws.{side_size-small, enough_front, enough_first, enough_second, side_is}
-use Rattle.side_info.proofs.side.Side.read.Goals as goal
-use Rattle.side_info.proofs.side.Side.read.Goals.{After-new-source, After-read_front-front, After-read_pair-first, After-read_pair-second}
+use Rattle.side_info.proofs.side.read_two_granules.Goals as goal
+use Rattle.side_info.proofs.side.read_two_granules.Goals.{After-new-source, After-read_front-front, After-read_pair-first, After-read_pair-second}
 
 pub new-source-requires : goal.new-source-requires
 new-source-requires c = omega (arith, c.requires.size, side_size-small c.args.class)
