@@ -1,4 +1,5 @@
--- The tables of the standard, and the rule of the frame length (ISO/IEC 11172-3 and 13818-3, 2.4.2.3 and 2.4.3.1).
+-- The tables of the standard (ISO/IEC 11172-3 and 13818-3): rates and frequencies (2.4.2.3), the rule of the frame length (2.4.3.1),
+-- the size of the side information (2.4.1.7) and how far back main data may begin (2.4.2.7).
 use Rattle.std.specs.Prelude.{ℕ, ◌+◌, ◌-◌, ◌*◌, ◌/◌, ◌==◌, if◌then◌else◌, Bool, List, [], ◌∷◌, slice_index}
 use Rattle.frame_header.specs.declared.version.Version.{Version}
 use Rattle.frame_header.specs.declared.version.Version.TheVariants.{One, Two}

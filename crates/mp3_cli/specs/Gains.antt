@@ -1,4 +1,4 @@
--- Moved gains (global_gain of ISO/IEC 11172-3, 2.4.1.7). The rules for moving it are this project's: a silent channel of a
+-- Moved gains (global_gain of ISO/IEC 11172-3, 2.4.2.7, in steps of 1.5 dB). The rules for moving it are this project's: a silent channel of a
 -- granule is left alone, and without wrap a sum that would leave the range refuses the whole file.
 use Rattle.std.specs.Prelude.{ℕ, ◌==◌, ◌&&◌, not, nat_lt, if◌then◌else◌, Bool, true, List, [], ◌∷◌, Option, Some, None, ℤ, pos, negsuc, ◌+ℤ◌, unsigned_abs}
 use Rattle.std.specs.Int.{int_rem_euclid}

@@ -1,4 +1,5 @@
--- Plain frames, and the walk over them: the streams that are edited today.
+-- Plain frames, and the walk over them: the streams that are edited today. Main data may begin before their frame
+-- (main_data_begin, ISO/IEC 11172-3, 2.4.2.7); those of a plain frame do not.
 use Rattle.std.specs.Prelude.{ℕ, zero, suc, ◌+◌, ◌-◌, ◌==◌, ◌&&◌, ◌||◌, not, nat_le, nat_lt, if◌then◌else◌, Bool, true, false, List, [], ◌∷◌, length, take, drop, Option, Some, None, Result, Ok, Err, codes, bytes_eq}
 use Rattle.bit_fields.specs.Bits.{bits}
 use Rattle.frame_header.specs.declared.version.Version.{Version}

@@ -1,6 +1,5 @@
 //! Plain frames: MPEG-1, without a check word, their main data in their own area.
 ghost use Rattle.std.specs.Prelude.{◌≡◌, ◌+◌, ◌<◌, ◌≤◌, length, option_map, IsTrue, IfSome};
-ghost use Rattle.frame_header.specs.declared.version.Version.TheVariants.{One};
 ghost use Rattle.frame_header.specs.Tables.{length_of, side_size_of};
 ghost use Rattle.side_info.specs.Side.{SideFits};
 ghost use Rattle.mp3_cli.specs.Plain.{header_front as header_front_lem, same_class, is_plain_header as is_plain_header_lem, is_self_contained as is_self_contained_lem, side_of, plain_front as plain_front_lem};
@@ -38,7 +37,6 @@ fn is_same_class(a: Class, b: Class) -> bool
 #[tactic(auto, unfolding(crate::specs::Plain::is_plain_header))]
 fn is_plain_header(class: Class, header: &Header, bytes: &[u8]) -> bool
     ensures plain { result ≡ is_plain_header_lem class header.now bytes.now }
-    ensures version { IsTrue result → class.version ≡ One }
     ensures whole { IsTrue result → length_of class header.now.slot ≤ length bytes.now }
     ensures room { IsTrue result → 6 + side_size_of class < length bytes.now }
 {
@@ -58,8 +56,7 @@ fn is_self_contained(class: Class, header: &Header, side: &Side) -> bool
 /// The side information of an unprotected frame of the class at the front of the bytes.
 #[tactic(auto, unfolding(crate::specs::Plain::side_of, crate::specs::Plain::side_part))]
 fn side_at_front(class: Class, bytes: &[u8]) -> Side
-    requires version { class.version ≡ One }
-    requires whole { 4 + side_size_of class ≤ length bytes.now }
+    requires { 4 + side_size_of class ≤ length bytes.now }
     ensures side { result ≡ side_of class bytes.now }
     ensures fits { SideFits class result }
 {
@@ -73,7 +70,6 @@ pub(crate) fn plain_front(class: Class, bytes: &[u8]) -> Option<PlainFrame>
     ensures front { option_map (λ f. f.length) result ≡ plain_front_lem class bytes.now }
     ensures side { IfSome result (λ f. f.side ≡ side_of class bytes.now) }
     ensures fits { IfSome result (λ f. SideFits class f.side) }
-    ensures version { IfSome result (λ f. class.version ≡ One) }
     ensures room { IfSome result (λ f. 6 + side_size_of class < f.length) }
     ensures within { IfSome result (λ f. f.length ≤ length bytes.now) }
 {

@@ -16,7 +16,7 @@ pub enum Channels {
 pub struct Shift {
     /// The channels that change.
     pub channels: Channels,
-    /// Steps of 1.5 dB, from -255 to 255: louder above 0, quieter below.
+    /// Steps of 1.5 dB: louder above 0, quieter below. The words give -255 to 255.
     pub steps: i16,
     /// Whether a gain that leaves the range from 0 to 255 comes in again at its other end.
     /// Without it such a gain is refused.

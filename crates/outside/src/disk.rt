@@ -172,8 +172,8 @@ where
     ///
     /// # Errors
     /// `Absent` where the system says that the name isn't found, and `Failed` for every other error. What
-    /// isn't a regular file, as a directory or a pipe, is a fault, and nothing blocks on it. So is the 66th
-    /// file that the folder finds.
+    /// isn't a regular file, as a directory or a pipe, is a fault, and nothing blocks on it. So is a
+    /// file that this folder finds after 65 others.
     fn find(&mut self, name: &str) -> Result<u64, FindFault>
         ensures found { IfOk result (λ n. (bytes : List ℕ) → Holds untold name.now bytes → n ≡ length bytes) }
         ensures there { OnOk result (IsThere untold name.now) }

@@ -1,4 +1,4 @@
--- The side information of one granule and channel, as successive groups of bits (ISO/IEC 11172-3 and 13818-3, 2.4.1.7).
+-- The side information of one granule and channel, as successive groups of bits (ISO/IEC 11172-3 and 13818-3, 2.4.1.7 and 2.4.2.7).
 use Rattle.std.specs.Prelude.{◌≡◌, ℕ, ◌^◌, ◌<◌, ◌==◌, if◌then◌else◌, Bool, false, List, [], ◌∷◌, slice_index, sum}
 use Rattle.bit_fields.specs.Groups.{numbers_at, spelled}
 use Rattle.frame_header.specs.declared.version.Version.{Version}

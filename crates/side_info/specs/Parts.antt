@@ -1,4 +1,4 @@
--- The parts of the side information that are read and written in turn (ISO/IEC 11172-3 and 13818-3, 2.4.1.7).
+-- The parts of the side information that are read and written in turn (ISO/IEC 11172-3 and 13818-3, 2.4.1.7 and 2.4.2.7).
 use Rattle.std.specs.Prelude.{ℕ, ◌==◌, if◌then◌else◌, List, [], ◌∷◌, drop, slice_index, sum}
 use Rattle.bit_fields.specs.Groups.{numbers_at}
 use Rattle.frame_header.specs.declared.version.Version.{Version}

@@ -1,4 +1,4 @@
--- The side information of a frame (ISO/IEC 11172-3 and 13818-3, 2.4.1.7).
+-- The side information of a frame (ISO/IEC 11172-3 and 13818-3, 2.4.1.7 and 2.4.2.7).
 use Rattle.std.specs.Prelude.{◌≡◌, ℕ, ◌+◌, ◌*◌, ◌/◌, ◌^◌, ◌<◌, ◌==◌, ◌&&◌, nat_lt, if◌then◌else◌, Bool, List, [], ◌∷◌, ◌++◌, take, drop, slice_index, slice_index_or, sum, sum_by, flat_map, MatchBool}
 use Rattle.bit_fields.specs.Groups.{numbers_at, spelled}
 use Rattle.frame_header.specs.declared.version.Version.{Version}

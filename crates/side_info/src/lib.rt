@@ -83,4 +83,28 @@ mod tests {
         changed.write(STEREO, &mut bytes);
         assert_eq!(rt; bytes, AFTER);
     }
+
+    const MPEG_2_MONO: Class = Class {
+        version: Version::Two,
+        frequency_index: 1,
+        channels: 1,
+    };
+
+    // One granule of 8 bits in one channel, with the gains 100 and 101.
+    const MONO_BEFORE: [u8; 9] = [0x00, 0x00, 0x40, 0x01, 0x90, 0x00, 0x00, 0x00, 0x00];
+
+    const MONO_AFTER: [u8; 9] = [0x00, 0x00, 0x40, 0x01, 0x94, 0x00, 0x00, 0x00, 0x00];
+
+    #[test]
+    #[tactic(auto, unfolding(frame_header::specs::Tables::side_size_of))]
+    fn reads_and_writes_mpeg_2(rt: HostRuntime) {
+        let mut side = Side::read(MPEG_2_MONO, &MONO_BEFORE);
+        assert_eq!(rt; side.granules[0][0], granule(100));
+        assert_eq!(rt; side.bits(), 8);
+        side.granules[0][0] = granule(101);
+        assert!(rt; side.fits(MPEG_2_MONO));
+        let mut bytes = MONO_BEFORE;
+        side.write(MPEG_2_MONO, &mut bytes);
+        assert_eq!(rt; bytes, MONO_AFTER);
+    }
 }
