@@ -22,26 +22,26 @@ use Rattle.mp3_cli.proofs.WalkLaws.{walk-front, walk-stopped}
 
 -- ---- the parts of a walk
 
-edited-behind : (shift : Shift) (c : ClassFields) (frame : List ℕ) (w : Walk) → edited shift c (behind frame w) ≡ moved_frame shift c frame ++ edited shift c w
+pub edited-behind : (shift : Shift) (c : ClassFields) (frame : List ℕ) (w : Walk) → edited shift c (behind frame w) ≡ moved_frame shift c frame ++ edited shift c w
 unfolding edited
 edited-behind shift c frame w =
     ap (λ (l : List ℕ). l ++ w.left) (flat_map-cons (moved_frame shift c) frame w.frames) ∙ append_assoc (moved_frame shift c frame) (flat_map (moved_frame shift c) w.frames) w.left
 
-edited-stopped : (shift : Shift) (c : ClassFields) (rest : List ℕ) → edited shift c (stopped rest) ≡ rest
+pub edited-stopped : (shift : Shift) (c : ClassFields) (rest : List ℕ) → edited shift c (stopped rest) ≡ rest
 unfolding edited
 edited-stopped shift c rest = refl
 
-range_fault-behind : (shift : Shift) (c : ClassFields) (at : ℕ) (frame : List ℕ) (w : Walk) → range_fault shift c at (behind frame w).frames ≡ stuck_fault at (stuck_in shift (side_of c frame)) (range_fault shift c (at + length frame) w.frames)
+pub range_fault-behind : (shift : Shift) (c : ClassFields) (at : ℕ) (frame : List ℕ) (w : Walk) → range_fault shift c at (behind frame w).frames ≡ stuck_fault at (stuck_in shift (side_of c frame)) (range_fault shift c (at + length frame) w.frames)
 unfolding range_fault
 range_fault-behind shift c at frame w = refl
 
-range_fault-stopped : (shift : Shift) (c : ClassFields) (at : ℕ) (rest : List ℕ) → range_fault shift c at (stopped rest).frames ≡ None
+pub range_fault-stopped : (shift : Shift) (c : ClassFields) (at : ℕ) (rest : List ℕ) → range_fault shift c at (stopped rest).frames ≡ None
 unfolding range_fault
 range_fault-stopped shift c at rest = refl
 
 -- ---- the side information is all of a frame that its gains need
 
-take-take : (m n : ℕ) (xs : List ℕ) → m ≤ n → take m (take n xs) ≡ take m xs
+pub take-take : (m n : ℕ) (xs : List ℕ) → m ≤ n → take m (take n xs) ≡ take m xs
 take-take zero n xs le = refl
 take-take (suc m) zero xs le = absurd (omega arith)
 take-take (suc m) (suc n) [] le = refl
@@ -135,7 +135,7 @@ ends shift c file now end fault so_far none =
 
 -- ---- one frame
 
-drop-take-append : (m n : ℕ) (xs : List ℕ) → m ≤ n → drop m (take n xs) ++ drop n xs ≡ drop m xs
+pub drop-take-append : (m n : ℕ) (xs : List ℕ) → m ≤ n → drop m (take n xs) ++ drop n xs ≡ drop m xs
 drop-take-append zero n xs le = take-append-drop n xs
 drop-take-append (suc m) zero xs le = absurd (omega arith)
 drop-take-append (suc m) (suc n) [] le = refl

@@ -3,6 +3,7 @@ pub mod EditLaws
 pub mod FileLaws
 pub mod Follow
 pub mod GainLaws
+pub mod GainsBack
 pub mod GainsLaws
 pub mod Lines
 pub mod Places
@@ -11,4 +12,5 @@ pub mod Reading
 pub mod RunLaws
 pub mod Sizes
 pub mod Sound
+pub mod Undone
 pub mod WalkLaws

@@ -90,6 +90,17 @@ front_of c bytes len (Some h) is e =
     let class : IsClass c = subst IsClass tests.class (class_in_range h fields) in
     subst (IsFront c bytes) parts.1 (record { room = area_some c h.slot class fields.slot; within = tests.whole })
 
+class_from : (c : ClassFields) (bytes : List ℕ) (len : ℕ) (o : Option HeaderFields) → header_front bytes ≡ o → plain_length c bytes o ≡ Some len → IsClass c
+class_from c bytes len None is e = absurd cc
+class_from c bytes len (Some h) is e =
+    let parts = front_cases (is_plain c h bytes) (length_of c h.slot) len e in
+    subst IsClass (plain_header c h bytes (both _ _ parts.0).0).class (class_in_range h (header_front-in_range bytes h is))
+
+-- the class of a plain frame is one of the standard's
+pub plain_class : (c : ClassFields) (bytes : List ℕ) (len : ℕ) → plain_front c bytes ≡ Some len → IsClass c
+unfolding plain_front
+plain_class c bytes len e = class_from c bytes len (header_front bytes) refl e
+
 pub front : (c : ClassFields) (bytes : List ℕ) (len : ℕ) → plain_front c bytes ≡ Some len → IsFront c bytes len
 unfolding plain_front
 front c bytes len e = front_of c bytes len (header_front bytes) refl e

@@ -16,7 +16,7 @@ onward-some bytes next o len e = ap (onward bytes next) e
 onward-none : (bytes : List ℕ) (next : List ℕ → Walk) (o : Option ℕ) → o ≡ None → onward bytes next o ≡ stopped bytes
 onward-none bytes next o e = ap (onward bytes next) e
 
-no_front : (c : ClassFields) (bytes : List ℕ) (o : Option ℕ) → plain_front c bytes ≡ o → length bytes ≡ 0 → o ≡ None
+pub no_front : (c : ClassFields) (bytes : List ℕ) (o : Option ℕ) → plain_front c bytes ≡ o → length bytes ≡ 0 → o ≡ None
 no_front c bytes None is empty = refl
 no_front c bytes (Some len) is empty = let here = front c bytes len is in absurd (omega (arith, here.room, here.within))
 
