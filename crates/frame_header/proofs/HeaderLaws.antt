@@ -1,15 +1,21 @@
--- A header's fields are within their bits.
-use Rattle.std.proofs.Common.{◌≡◌, ◌≢◌, ℕ, ◌+◌, ◌-◌, ◌/◌, ◌%◌, ◌^◌, ◌≤◌, Bool, true, false, cond, not, ◌&&◌, eqb, List, Result, Ok, Err, refl, sym, ◌∙◌, subst, eq-eqb, arith}
-use Rattle.bit_fields.specs.Bits.{bits, bits_of, AreBits}
-use Rattle.bit_fields.specs.Groups.{group}
-use Rattle.std.proofs.lemmas.Bool.{ne_eqb, true≢false, false≢true, eqb-false}
-use Rattle.bit_fields.proofs.BitsLaws.{number-middle_of, AreBits-bits}
-use Rattle.bit_fields.proofs.GroupsLaws.{group-below}
+-- The laws of a header: its fields are within their bits, and fields and bits give each other back.
+use Rattle.std.proofs.Common.{◌≡◌, ◌≢◌, ℕ, zero, suc, ◌+◌, ◌-◌, ◌*◌, ◌/◌, ◌%◌, ◌^◌, ◌<◌, ◌≤◌, Bool, true, false, cond, not, ◌&&◌, eqb, List, [], ◌∷◌, length, get_or, take, drop, Result, Ok, Err, refl, sym, ap, ◌∙◌, subst, eq-eqb, arith, lit<}
+use Rattle.std.proofs.lemmas.List.{drop-drop}
+use Rattle.std.proofs.lemmas.Nat.{mod_below, from_be_bytes-to_be_bytes_4}
+use Rattle.std.specs.Int.{to_be_bytes, w32}
+use mir.Val.{bool_byte}
+use Rattle.bit_fields.specs.Bits.{bits, bits_of, number, AreBits, AreBytes}
+use Rattle.bit_fields.specs.Groups.{group, numbers_at, spelled, Fits}
+use Rattle.std.proofs.lemmas.Bool.{ne_eqb, eqb-true, true≢false, false≢true, eqb-false}
+use Rattle.bit_fields.proofs.BitsLaws.{number-middle_of, AreBits-bits, length-bits, bits-injective, bits-be_bytes}
+use Rattle.bit_fields.proofs.GroupsLaws.{group-below, joined, spelled-joined, length-spelled, AreBits-spelled, numbers_at-spelled, spelled-numbers_at}
 use Rattle.frame_header.specs.declared.header.NotHeader.{NotHeader}
 use Rattle.frame_header.specs.declared.header.NotHeader.TheVariants.{Free, No}
 use Rattle.frame_header.specs.Reading.{is_readable, version_of, protection_bit, rate_bits, frequency_bits, header_in, header_at, header_fields}
 use Rattle.frame_header.specs.Fields.{HeaderFields, IsHeader}
 use Rattle.frame_header.specs.declared.version.Version.{Version}
+use Rattle.frame_header.specs.declared.version.Version.TheVariants.{One, Two}
+use Rattle.frame_header.specs.HeaderBits.{header_widths, version_bit_of, flag_of, protection_of, header_numbers, header_bits}
 
 abbrev pub good : HeaderFields → Result HeaderFields NotHeader
 good fields = Ok fields
@@ -81,12 +87,14 @@ unfolding header_in
 header_in-ok h fields is = by_cases (is_readable h) (eqb (rate_bits h) 0) refl refl is
   where
     by_cases : (r z : Bool) → is_readable h ≡ r → eqb (rate_bits h) 0 ≡ z → cond r (cond z (Err Free) (good (header_fields h))) (Err No) ≡ good fields → (is_readable h ≡ true) × (rate_bits h ≢ 0) × (header_fields h ≡ fields)
-    by_cases false z readable zero e = absurd cc
-    by_cases true true readable zero e = absurd cc
-    by_cases true false readable zero e = (readable, (λ none. true≢false (sym (eq-eqb _ _ none) ∙ zero)), ok_is _ _ e)
+    by_cases false z readable none e = absurd cc
+    by_cases true true readable none e = absurd cc
+    by_cases true false readable some e = (readable, (λ none. true≢false (sym (eq-eqb _ _ none) ∙ some)), ok_is _ _ e)
 
 -- the tests of a readable header, as facts
 record IsReadable (h : List ℕ) : Type 0 where
+  pub sync : group 0 12 h ≡ 4095
+  pub layer : group 13 2 h ≡ 1
   pub rate : rate_bits h ≢ 15
   pub frequency : frequency_bits h ≢ 3
 
@@ -95,7 +103,8 @@ unfolding is_readable
 readable h passes =
     let parts = both _ _ passes in
     let first = both _ _ parts.0 in
-    record { rate = eqb-false _ _ (is_not _ first.1); frequency = eqb-false _ _ (is_not _ parts.1) }
+    let front = both _ _ first.0 in
+    record { sync = eqb-true _ _ front.0; layer = eqb-true _ _ front.1; rate = eqb-false _ _ (is_not _ first.1); frequency = eqb-false _ _ (is_not _ parts.1) }
 
 fields_in_range : (h : List ℕ) → AreBits h → IsReadable h → rate_bits h ≢ 0 → IsHeader (header_fields h)
 unfolding header_fields
@@ -121,3 +130,182 @@ IsHeader-header_at four fields is = IsHeader-read (bits four) fields (AreBits-bi
 pub header_fields-header_at : (four : List ℕ) (fields : HeaderFields) → header_at four ≡ good fields → header_fields (bits four) ≡ fields
 unfolding header_at
 header_fields-header_at four fields is = (header_in-ok (bits four) fields is).2
+
+-- ---- the bits that a header is written as
+-- the numbers of groups one behind the other, from a bit on
+abbrev groups_from : ℕ → List ℕ → List ℕ → List ℕ
+groups_from at [] bs = []
+groups_from at (width ∷ widths) bs = group at width bs ∷ groups_from (at + width) widths bs
+
+numbers_at-groups : (at : ℕ) (widths bs : List ℕ) → numbers_at widths (drop at bs) ≡ groups_from at widths bs
+unfolding numbers_at group
+numbers_at-groups at [] bs = refl
+numbers_at-groups at (width ∷ widths) bs =
+    ap (λ ns. number (take width (drop at bs)) ∷ ns) (ap (numbers_at widths) (drop-drop width at bs) ∙ numbers_at-groups (at + width) widths bs)
+
+version_bit-below : (v : Version) → version_bit_of v < 2
+version_bit-below One = lit< tt
+version_bit-below Two = lit< tt
+
+flag-below : (flag : Bool) → flag_of flag < 2
+flag-below true = lit< tt
+flag-below false = lit< tt
+
+protection-below : (protected : Bool) → protection_of protected < 2
+protection-below true = lit< tt
+protection-below false = lit< tt
+
+-- each number is within its bits
+pub Fits-header_numbers : (h : HeaderFields) → IsHeader h → Fits header_widths (header_numbers h)
+unfolding header_numbers
+Fits-header_numbers h is = (
+  lit< tt,
+  (
+    version_bit-below h.version,
+    (
+      lit< tt,
+      (
+        protection-below h.protected,
+        (
+          omega (arith, is.slot.1),
+          (
+            omega (arith, is.frequency_index),
+            (
+              flag-below h.slot.padding,
+              (
+                flag-below h.private_bit,
+                (omega (arith, is.mode), (omega (arith, is.mode_extension), (flag-below h.copyright, (flag-below h.original, (omega (arith, is.emphasis), tt))))),
+              ),
+            ),
+          ),
+        ),
+      ),
+    ),
+  ),
+)
+
+pub AreBits-header_bits : (h : HeaderFields) → AreBits (header_bits h)
+unfolding header_bits
+AreBits-header_bits h = AreBits-spelled header_widths (header_numbers h)
+
+pub length-header_bits : (h : HeaderFields) → length (header_bits h) ≡ 32
+unfolding header_bits header_numbers
+length-header_bits h = length-spelled header_widths (header_numbers h) refl
+
+protection-not : (protected : Bool) → protection_of protected ≡ bool_byte (not protected)
+protection-not true = refl
+protection-not false = refl
+
+flag-byte : (flag : Bool) → flag_of flag ≡ bool_byte flag
+flag-byte true = refl
+flag-byte false = refl
+
+-- the number that has the header's numbers in its groups
+abbrev pub header_number : HeaderFields → ℕ
+header_number h =
+    4293918720 + version_bit_of h.version * 524288 + 131072 + bool_byte (not h.protected) * 65536 + h.slot.rate_index * 4096 + h.frequency_index * 1024 + bool_byte h.slot.padding * 512
+    + bool_byte h.private_bit * 256 + h.mode * 64 + h.mode_extension * 16 + bool_byte h.copyright * 8 + bool_byte h.original * 4 + h.emphasis
+
+header_number-joined : (h : HeaderFields) → header_number h ≡ joined header_widths (header_numbers h)
+unfolding joined header_numbers
+header_number-joined h = omega (arith, protection-not h.protected, flag-byte h.slot.padding, flag-byte h.private_bit, flag-byte h.copyright, flag-byte h.original)
+
+pub bits_of-header_number : (h : HeaderFields) → IsHeader h → bits_of 32 (header_number h) ≡ header_bits h
+unfolding header_bits
+bits_of-header_number h is = ap (bits_of 32) (header_number-joined h) ∙ sym (spelled-joined header_widths (header_numbers h) (Fits-header_numbers h is))
+
+groups_written : (h : HeaderFields) → IsHeader h → groups_from 0 header_widths (header_bits h) ≡ header_numbers h
+unfolding header_bits
+groups_written h is = sym (numbers_at-groups 0 header_widths (header_bits h)) ∙ numbers_at-spelled header_widths (header_numbers h) (Fits-header_numbers h is)
+
+version_back : (v : Version) → v ≡ cond (eqb (version_bit_of v) 1) One Two
+version_back One = refl
+version_back Two = refl
+
+flag_back : (flag : Bool) → flag ≡ eqb (flag_of flag) 1
+flag_back true = refl
+flag_back false = refl
+
+protection_back : (protected : Bool) → protected ≡ eqb (protection_of protected) 0
+protection_back true = refl
+protection_back false = refl
+
+-- the bits of a header read as the header
+pub header_in-header_bits : (h : HeaderFields) → IsHeader h → header_in (header_bits h) ≡ good h
+unfolding is_readable header_numbers
+header_in-header_bits h is =
+    let bs : List ℕ = header_bits h in
+    let g = λ (k : ℕ). ap (λ ns. get_or ns k 0) (groups_written h is) in
+    let sync : group 0 12 bs ≡ 4095 = g 0 in
+    let layer : group 13 2 bs ≡ 1 = g 2 in
+    let rate : group 16 4 bs ≡ h.slot.rate_index = g 4 in
+    let frequency : group 20 2 bs ≡ h.frequency_index = g 5 in
+    let not_15 : eqb h.slot.rate_index 15 ≡ false = ne_eqb _ _ (omega (arith, is.slot.1)) in
+    let not_3 : eqb h.frequency_index 3 ≡ false = ne_eqb _ _ (omega (arith, is.frequency_index)) in
+    let readable : is_readable bs ≡ true = rw (sync, layer, rate, frequency, not_15, not_3) refl in
+    header_in-good bs readable (omega (arith, is.slot.0))
+    ∙ ap good (sym (header_fields-groups bs h.version h.protected h.slot.rate_index h.slot.padding h.frequency_index h.private_bit h.mode h.mode_extension h.copyright h.original h.emphasis
+    (version_back h.version ∙ ap (λ n. cond (eqb n 1) One Two) (sym (g 1)))
+    (protection_back h.protected ∙ ap (λ n. eqb n 0) (sym (g 3)))
+    (sym rate)
+    (flag_back h.slot.padding ∙ ap (λ n. eqb n 1) (sym (g 6)))
+    (sym frequency)
+    (flag_back h.private_bit ∙ ap (λ n. eqb n 1) (sym (g 7)))
+    (sym (g 8))
+    (sym (g 9))
+    (flag_back h.copyright ∙ ap (λ n. eqb n 1) (sym (g 10)))
+    (flag_back h.original ∙ ap (λ n. eqb n 1) (sym (g 11)))
+    (sym (g 12))))
+
+flag_again : (bit : ℕ) → bit < 2 → flag_of (eqb bit 1) ≡ bit
+flag_again zero h = refl
+flag_again (suc zero) h = refl
+flag_again (suc (suc bit)) h = absurd (omega arith)
+
+version_again : (bit : ℕ) → bit < 2 → version_bit_of (cond (eqb bit 1) One Two) ≡ bit
+version_again zero h = refl
+version_again (suc zero) h = refl
+version_again (suc (suc bit)) h = absurd (omega arith)
+
+protection_again : (bit : ℕ) → bit < 2 → protection_of (eqb bit 0) ≡ bit
+protection_again zero h = refl
+protection_again (suc zero) h = refl
+protection_again (suc (suc bit)) h = absurd (omega arith)
+
+numbers_read : (bs : List ℕ) → AreBits bs → IsReadable bs → header_numbers (header_fields bs) ≡ groups_from 0 header_widths bs
+unfolding header_numbers header_fields
+numbers_read bs all is =
+    let below = λ (from : ℕ). group-below from 1 bs all in
+    λ i. sym is.sync i ∷ version_again _ (below 12) i ∷ sym is.layer i ∷ protection_again _ (below 15) i ∷ group 16 4 bs ∷ group 20 2 bs ∷ flag_again _ (below 22) i ∷ flag_again _ (below 23) i ∷
+    group 24 2 bs ∷ group 26 2 bs ∷ flag_again _ (below 28) i ∷ flag_again _ (below 29) i ∷ group 30 2 bs ∷ []
+
+-- a header that was read is written as the bits that it was read from
+pub header_bits-header_in : (bs : List ℕ) (fields : HeaderFields) → AreBits bs → length bs ≡ 32 → header_in bs ≡ good fields → header_bits fields ≡ bs
+unfolding header_bits
+header_bits-header_in bs fields all l is =
+    let ok = header_in-ok bs fields is in
+    ap header_bits (sym ok.2)
+    ∙ ap (spelled header_widths) (numbers_read bs all (readable bs ok.0) ∙ sym (numbers_at-groups 0 header_widths bs))
+    ∙ spelled-numbers_at header_widths bs all l
+
+-- ---- the four bytes
+-- the bytes of a header read as the header
+pub header_at-bytes : (four : List ℕ) (h : HeaderFields) → IsHeader h → bits four ≡ header_bits h → header_at four ≡ good h
+unfolding header_at
+header_at-bytes four h is e = ap header_in e ∙ header_in-header_bits h is
+
+-- a header that was read has the bits of the bytes that it was read from
+pub header_bits-header_at : (four : List ℕ) (h : HeaderFields) → length four ≡ 4 → header_at four ≡ good h → header_bits h ≡ bits four
+unfolding header_at
+header_bits-header_at four h l is = header_bits-header_in (bits four) h (AreBits-bits four) (omega (arith, length-bits four)) is
+
+-- and the bytes with these bits are those
+pub header_bytes-same : (xs four : List ℕ) (h : HeaderFields) → bits xs ≡ header_bits h → AreBytes xs → AreBytes four → length four ≡ 4 → header_at four ≡ good h → xs ≡ four
+header_bytes-same xs four h e hx hy l is = bits-injective xs four hx hy (e ∙ header_bits-header_at four h l is)
+
+-- ---- a number as four bytes
+pub AreBytes-to_be_bytes : (n : ℕ) → AreBytes (to_be_bytes w32 n)
+AreBytes-to_be_bytes n = (mod_below _ 256 (lit< tt), (mod_below _ 256 (lit< tt), (mod_below _ 256 (lit< tt), (mod_below _ 256 (lit< tt), tt))))
+
+pub bits-to_be_bytes : (n : ℕ) → n < 2 ^ 32 → bits (to_be_bytes w32 n) ≡ bits_of 32 n
+bits-to_be_bytes n h = bits-be_bytes (to_be_bytes w32 n) refl (AreBytes-to_be_bytes n) ∙ ap (bits_of 32) (from_be_bytes-to_be_bytes_4 n h)

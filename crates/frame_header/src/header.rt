@@ -1,9 +1,10 @@
 //! The 32 bits at the front of a frame.
-ghost use Rattle.std.specs.Prelude.{◌≡◌, ◌+◌, ◌^◌, ◌<◌, ◌≤◌, ◌==◌, length};
-ghost use Rattle.bit_fields.specs.Bits.{bits, bits_of};
+ghost use Rattle.std.specs.Prelude.{◌≡◌, ℕ, ◌+◌, ◌^◌, ◌<◌, ◌≤◌, ◌==◌, List, length};
+ghost use Rattle.bit_fields.specs.Bits.{bits, bits_of, AreBytes};
 ghost use Rattle.bit_fields.specs.Groups.{group};
 ghost use Rattle.frame_header.specs.Tables.{class_of, length_of, overhead_of, area_of};
 ghost use Rattle.frame_header.specs.Reading.{header_at, header_in, is_readable as is_readable_lem, version_of as version_of_lem};
+ghost use Rattle.frame_header.specs.HeaderBits.{header_bits, version_bit_of};
 
 use crate::class::Class;
 use crate::slot::Slot;
@@ -125,6 +126,37 @@ fn read_word(word: u32) -> Result<Header, NotHeader>
     })
 }
 
+/// The bit ID, 1 for MPEG-1.
+fn version_bit(version: Version) -> u32
+    ensures { result ≡ version_bit_of version }
+{
+    match version {
+        Version::One => 1,
+        Version::Two => 0,
+    }
+}
+
+/// The 32 bits of a header as one number, the sync word and the layer as the standard wants them.
+fn word_of(header: &Header) -> u32
+    ensures bits { bits_of 32 result ≡ header_bits header.now }
+    ensures back { header_in (bits_of 32 result) ≡ Ok header.now }
+{
+    let slot = header.slot;
+    0xfff * (1 << 20)
+        + version_bit(header.version) * (1 << 19)
+        + (1 << 17)
+        + u32::from(!header.protected) * (1 << 16)
+        + u32::from(slot.rate_index) * (1 << 12)
+        + u32::from(header.frequency_index) * (1 << 10)
+        + u32::from(slot.padding) * (1 << 9)
+        + u32::from(header.private_bit) * (1 << 8)
+        + u32::from(header.mode) * (1 << 6)
+        + u32::from(header.mode_extension) * (1 << 4)
+        + u32::from(header.copyright) * (1 << 3)
+        + u32::from(header.original) * (1 << 2)
+        + u32::from(header.emphasis)
+}
+
 impl Header {
     /// Reads four bytes. `Free` exactly where they are readable with bit rate index 0, `No` exactly
     /// where they aren't readable.
@@ -132,6 +164,16 @@ impl Header {
         ensures { result ≡ header_at bytes }
     {
         read_word(word_at(&bytes))
+    }
+
+    /// The four bytes of the header (ISO/IEC 11172-3 and 13818-3, 2.4.1.3). Reading them gives the
+    /// header back, and where the header was read they are the bytes that it was read from.
+    pub fn bytes(&self) -> [u8; 4]
+        ensures bits { bits result ≡ header_bits self.now }
+        ensures back { header_at result ≡ Ok self.now }
+        ensures same { (four : List ℕ) → AreBytes four → length four ≡ 4 → header_at four ≡ Ok self.now → result ≡ four }
+    {
+        word_of(self).to_be_bytes()
     }
 
     /// Version, frequency and number of channels.

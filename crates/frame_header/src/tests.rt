@@ -32,6 +32,29 @@ fn headers(rt: HostRuntime) -> Result<(), Fail> {
 }
 
 #[test]
+fn written_headers(rt: HostRuntime) -> Result<(), Fail> {
+    let cases = [
+        [0xff, 0xfb, 0x90, 0x00],
+        [0xff, 0xf3, 0x14, 0xc0],
+        [0xff, 0xfb, 0xe2, 0x64],
+    ];
+    for bytes in cases {
+        assert_eq!(rt; Header::read(bytes)?.bytes(), bytes);
+    }
+    // Joint stereo at 320 kbit/s and 44,100 Hz, padded, an original.
+    let mut header = Header::read([0xff, 0xfb, 0x90, 0x00])?;
+    header.slot = Slot {
+        rate_index: 14,
+        padding: true,
+    };
+    header.mode = 1;
+    header.mode_extension = 2;
+    header.original = true;
+    assert_eq!(rt; header.bytes(), [0xff, 0xfb, 0xe2, 0x64]);
+    Ok(())
+}
+
+#[test]
 fn bytes_that_are_no_header(rt: HostRuntime) -> Result<(), Fail> {
     let cases: [([u8; 4], NotHeader); 8] = [
         ([0xff, 0xfb, 0x00, 0x00], NotHeader::Free),

@@ -1,6 +1,7 @@
 //! The side information of Layer III frames, read and written bit for bit.
 #![tactic(auto)]
 
+mod division;
 mod fitting;
 mod front;
 mod granule;
@@ -9,13 +10,15 @@ mod reading;
 mod side;
 mod writing;
 
+pub use division::{check_word, check_word_of_bytes, word_of_bytes};
 pub use granule::Granule;
 pub use side::Side;
 
 #[cfg(test)]
 mod tests {
-    use super::{Granule, Side};
-    use frame_header::{Class, Version};
+    use super::{Granule, Side, check_word, check_word_of_bytes, word_of_bytes};
+    use frame_header::{Class, Header, Version};
+    use std::test::Fail;
 
     // The side bytes of an MPEG-1 frame of two channels: four granules of 8 bits, with the gains 100, 101, 255 and 90.
     const BEFORE: [u8; 32] = [
@@ -106,5 +109,31 @@ mod tests {
         let mut bytes = MONO_BEFORE;
         side.write(MPEG_2_MONO, &mut bytes);
         assert_eq!(rt; bytes, MONO_AFTER);
+    }
+
+    // A protected MPEG-2 header of one channel at 24,000 Hz.
+    const MONO_HEADER: [u8; 4] = [0xff, 0xf2, 0x14, 0xc0];
+
+    #[test]
+    #[tactic(auto, unfolding(frame_header::specs::Tables::side_size_of))]
+    fn check_words(rt: HostRuntime) -> Result<(), Fail> {
+        assert_eq!(rt; word_of_bytes(b"123456789"), 0xaee7);
+        let header = Header::read(MONO_HEADER)?;
+        let cases: [([u8; 9], u16); 3] = [
+            ([0; 9], 0xeed2),
+            (MONO_BEFORE, 0xe952),
+            (MONO_AFTER, 0x68b1),
+        ];
+        for (bytes, word) in cases {
+            let side = Side::read(MPEG_2_MONO, &bytes);
+            assert!(rt; side.fits(header.class()));
+            assert_eq!(rt; check_word(&header, &side), word, "{bytes:?}");
+            assert_eq!(rt;
+                check_word_of_bytes(&MONO_HEADER, &bytes),
+                word,
+                "{bytes:?}"
+            );
+        }
+        Ok(())
     }
 }

@@ -1,0 +1,29 @@
+-- The check word (ISO/IEC 11172-3, 2.4.3.1): the remainder of the bits that it covers in a division by x^16 + x^15 + x^2 + 1.
+use Rattle.std.specs.Prelude.{ℕ, ◌*◌, ◌%◌, ◌==◌, if◌then◌else◌, List, [], ◌∷◌, ◌++◌, drop, bit_xor}
+use Rattle.std.specs.Int.{bit_at}
+use Rattle.frame_header.specs.Fields.{HeaderFields}
+use Rattle.frame_header.specs.Tables.{class_of}
+use Rattle.frame_header.specs.HeaderBits.{header_bits}
+use Rattle.side_info.specs.declared.side.Side.{Side}
+use Rattle.side_info.specs.Side.{side_bits}
+
+-- x^15 + x^2 + 1, the divisor below its highest power
+abbrev pub polynomial : ℕ
+polynomial = 0x8005
+
+-- the word one bit further on: shifted by one, and less the divisor where the bit that went out isn't the bit that comes in
+unfoldable pub bit_step : ℕ → ℕ → ℕ
+bit_step word bit = let shifted = word * 2 % 65536 in if bit_at word 15 == bit then shifted else bit_xor shifted polynomial
+
+-- the word after these bits, the first of them first
+unfoldable pub remainder : ℕ → List ℕ → ℕ
+remainder word [] = word
+remainder word (bit ∷ rest) = remainder (bit_step word bit) rest
+
+-- all ones, from which the division starts
+abbrev pub start_word : ℕ
+start_word = 0xffff
+
+-- the check word of a frame: over the last 16 bits of the header and the side bits
+unfoldable pub check_word_of : HeaderFields → Side → ℕ
+check_word_of h s = remainder start_word (drop 16 (header_bits h) ++ side_bits (class_of h) s)
