@@ -1,14 +1,16 @@
 -- Steps of the gain command over what a folder tells.
-use Rattle.std.proofs.Common.{◌≡◌, ◌⊎◌, ℕ, ◌<◌, Bool, true, false, ◌||◌, eqb, ltb, List, [], ◌++◌, length, take, Option, Some, None, refl, sym, ◌∙◌, ap, subst, eq-eqb, unwrap_or, bytes_eq, Result, Ok, Err, inl, inr}
+use Rattle.std.proofs.Common.{◌≡◌, ◌⊎◌, ℕ, ◌<◌, ◌≤◌, Bool, true, false, ◌||◌, eqb, ltb, List, [], ◌++◌, length, take, Option, Some, None, refl, sym, ◌∙◌, ap, subst, eq-eqb, unwrap_or, bytes_eq, Result, Ok, Err, inl, inr, arith}
 use Rattle.std.proofs.lemmas.Bool.{false≢true, lt-ltb}
 use Rattle.outside.specs.Files.{Contents, Files, emptied, appended, with_file, Holds, IsThere, IsMissing}
+use Rattle.outside.specs.Counts.{Counts, NothingFailed}
+use Rattle.outside.proofs.CountsLaws.{nothing_failed_then}
 use Rattle.outside.proofs.FilesLaws.{there_holds, with_file_here, with_file_twice}
 use Rattle.mp3_cli.specs.Plain.{not_plain_at, longest_input}
 use Rattle.mp3_cli.specs.declared.fault.EditFault.{EditFault}
 use Rattle.mp3_cli.specs.declared.fault.EditFault.TheVariants.{EqualNames, Absent, Read, NotYet, GainRange, Write, Memory}
 use Rattle.mp3_cli.specs.declared.shift.Shift.{Shift}
 use Rattle.mp3_cli.specs.Edited.{gained, gained_where, gain_result}
-use Rattle.mp3_cli.specs.Gain.{holding, Gives, RefusesBytes, IsInputFault, IsDefinedAt, IsStreamFault, IsFindFault, HoldsFront, IsWritten, IsWrittenInPart}
+use Rattle.mp3_cli.specs.Gain.{holding, Gives, RefusesBytes, NeedsMemory, IsInputFault, IsDefinedAt, IsStreamFault, IsFindFault, IsCounted, HoldsFront, IsWritten, IsWrittenInPart}
 
 abbrev told : Contents → Files
 told f = Some f
@@ -82,7 +84,7 @@ input_fault-defined shift input output files Read differ h = tt
 input_fault-defined shift input output files (NotYet offset) differ h = gives_bytes shift input output files (Err (NotYet offset)) differ h.0 h.1
 input_fault-defined shift input output files (GainRange offset granule channel gain) differ h = gives_bytes shift input output files (Err (GainRange offset granule channel gain)) differ h.0 h.1
 input_fault-defined shift input output files (Write place) differ h = absurd h
-input_fault-defined shift input output files Memory differ h = tt
+input_fault-defined shift input output files Memory differ h = h
 
 -- a fault of the stream is one of the input
 pub stream_fault : (shift : Shift) (name : List ℕ) (files : Files) (fault : EditFault) → IsStreamFault fault → RefusesBytes shift name files fault → IsInputFault shift name files fault
@@ -132,3 +134,38 @@ pub refused_bytes : (shift : Shift) (name loaded given : List ℕ) (old found : 
     → ((bytes : List ℕ) → Holds found name bytes → loaded ≡ bytes) → gained shift given ≡ Err fault → RefusesBytes shift name old fault
 refused_bytes shift name loaded given old found fault same is there load refused =
     (there, λ bytes holds. subst (λ b. gained shift b ≡ Err fault) (is ∙ load bytes (subst (λ f. Holds f name bytes) (sym same) holds)) refused)
+
+-- a fault met while the input was read is one of the input
+pub load_fault : (shift : Shift) (name : List ℕ) (files : Files) (fault : EditFault) → (fault ≡ Read) ⊎ (fault ≡ Memory) → NeedsMemory name files → IsInputFault shift name files fault
+load_fault shift name files fault (inl read) needs = subst (IsInputFault shift name files) (sym read) tt
+load_fault shift name files fault (inr memory) needs = subst (IsInputFault shift name files) (sym memory) needs
+
+-- an input of this size that is there
+pub needs_memory : (name : List ℕ) (files : Files) (size : ℕ) → IsThere files name → ((bytes : List ℕ) → Holds files name bytes → size ≡ length bytes) → 0 < size → size ≤ longest_input → NeedsMemory name files
+needs_memory name files size there is some few = record {
+  there = there;
+  some = λ bytes holds. omega (arith, is bytes holds);
+  few = λ bytes holds. omega (arith, is bytes holds);
+}
+
+-- ---- what was counted
+
+-- a fault after calls of which none failed
+pub counted_then : (a b c : Counts) (fault : EditFault) → NothingFailed a b → IsCounted b c fault → IsCounted a c fault
+counted_then a b c (EqualNames place) p q = nothing_failed_then a b c p q
+counted_then a b c Absent p q = omega (arith, p.misses)
+counted_then a b c Read p q = omega (arith, p.read_faults)
+counted_then a b c (NotYet offset) p q = nothing_failed_then a b c p q
+counted_then a b c (GainRange offset granule channel gain) p q = nothing_failed_then a b c p q
+counted_then a b c (Write place) p q = omega (arith, p.write_faults)
+counted_then a b c Memory p q = nothing_failed_then a b c p q
+
+-- a fault of the stream comes where no call failed
+pub stream_counted : (a b : Counts) (fault : EditFault) → IsStreamFault fault → NothingFailed a b → IsCounted a b fault
+stream_counted a b (EqualNames place) is p = absurd is
+stream_counted a b Absent is p = absurd is
+stream_counted a b Read is p = absurd is
+stream_counted a b (NotYet offset) is p = p
+stream_counted a b (GainRange offset granule channel gain) is p = p
+stream_counted a b (Write place) is p = absurd is
+stream_counted a b Memory is p = absurd is

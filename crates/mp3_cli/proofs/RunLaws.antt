@@ -3,7 +3,7 @@ use Rattle.std.proofs.Common.{◌≡◌, ◌≢◌, ◌↔◌, ℕ, ◌≤◌, B
 use Rattle.std.specs.Prelude.{OnOk, IfErr, IfSome, IsErrOf}
 use Rattle.std.proofs.lemmas.Bool.{true≢false}
 use Rattle.outside.specs.Files.{Contents, Files, Sent, with_file}
-use Rattle.outside.specs.Counts.{Counts, Rose}
+use Rattle.outside.specs.Counts.{Counts, Rose, NothingFailed}
 use Rattle.outside.proofs.FilesLaws.{sent_nothing, bytes_eq_same, bytes_eq_other}
 use Rattle.mp3_cli.specs.declared.fault.EditFault.{EditFault}
 use Rattle.mp3_cli.specs.declared.fault.EditFault.TheVariants.{EqualNames, Absent, Read, NotYet, GainRange, Write, Memory}
@@ -14,8 +14,8 @@ use Rattle.mp3_cli.specs.Words.{word_at, job_of}
 use Rattle.mp3_cli.specs.Texts.{status_of, fault_line, bad_word_line, GotLine}
 use Rattle.mp3_cli.specs.Plain.{file_class, file_walk, not_plain_at}
 use Rattle.mp3_cli.specs.Edited.{edited, range_fault, unless, unless_not_plain, gained, gained_where, gain_result}
-use Rattle.mp3_cli.specs.Gain.{holding, IsWritten, IsDefinedAt, LeavesAt}
-use Rattle.mp3_cli.specs.Run.{refused, gain_outcome, job_outcome, outcome, answer_status, answer_line, IsOutcome, IsAccepted, IsCause, IsStopped}
+use Rattle.mp3_cli.specs.Gain.{holding, IsWritten, IsDefinedAt, IsCounted, LeavesAt}
+use Rattle.mp3_cli.specs.Run.{refused, gain_outcome, job_outcome, outcome, answer_status, answer_line, IsOutcome, IsAccepted, IsCause, IsStopped, AsksForMemory}
 
 -- ---- bad words
 
@@ -37,6 +37,7 @@ pub record Gained {T : Type 0} (shift : Shift) (input output : List ℕ) (old ne
   pub written : OnOk answer (IsWritten shift input output old new)
   pub defined : IfErr answer (IsDefinedAt shift input output old)
   pub left : IfErr answer (LeavesAt shift input output old new)
+  pub names : input ≡ output → IsErrOf answer (EqualNames 0)
   pub absent : IsErrOf answer Absent → Rose before.misses after.misses
   pub read : IsErrOf answer Read → Rose before.read_faults after.read_faults
   pub write : IsErrOf answer (Write 0) → Rose before.write_faults after.write_faults
@@ -52,6 +53,23 @@ module _ (words : List (List ℕ)) (shift : Shift) (input output : ℕ) (job : j
 
   abbrev target : List ℕ
   target = word_at words output
+
+  -- where another fault was met, the names differ
+  differ : {T : Type 0} {old new : Files} {counts_before counts_after : Counts} {answer : Result T EditFault} → Gained shift source target old new counts_before counts_after answer
+      → (IsErrOf answer (EqualNames 0) → ⊥) → source ≢ target
+  differ all other same = other (all.names same)
+
+  pub asks_for_memory : {T : Type 0} (old new : Files) (counts_before counts_after : Counts) (answer : Result T EditFault) (status : ℕ)
+      → Gained shift source target old new counts_before counts_after answer → status ≡ answer_status answer → status ≡ 4 → AsksForMemory words old
+  asks_for_memory old new counts_before counts_after (Ok x) status all is four = absurd (omega arith)
+  asks_for_memory old new counts_before counts_after (Err (EqualNames place)) status all is four = absurd (omega arith)
+  asks_for_memory old new counts_before counts_after (Err Absent) status all is four = absurd (omega arith)
+  asks_for_memory old new counts_before counts_after (Err Read) status all is four = absurd (omega arith)
+  asks_for_memory old new counts_before counts_after (Err (NotYet offset)) status all is four = absurd (omega arith)
+  asks_for_memory old new counts_before counts_after (Err (GainRange offset granule channel gain)) status all is four = absurd (omega arith)
+  asks_for_memory old new counts_before counts_after (Err (Write place)) status all is four = absurd (omega arith)
+  asks_for_memory old new counts_before counts_after (Err Memory) status all is four =
+      record { shift = shift; input = input; output = output; job = job; names = differ all (λ e. cc); needs = all.defined }
 
   module _ (text before after : Sent) (faults_before faults_after : ℕ) where
     -- a refusal that is defined, with the files as they were
@@ -87,21 +105,21 @@ module _ (words : List (List ℕ)) (shift : Shift) (input output : ℕ) (job : j
 
     -- ---- status 3
 
-    stops : (old new : Files) (counts_before counts_after : Counts) (fault : EditFault) → IsCause shift source target old new counts_before counts_after fault
+    stops : (old new : Files) (counts_before counts_after : Counts) (fault : EditFault) → source ≢ target → IsCause shift source target old new counts_before counts_after fault
         → GotLine before after faults_before faults_after (fault_line fault source target) → IsStopped words old new counts_before counts_after before after faults_before faults_after
-    stops old new counts_before counts_after fault cause line = record { shift = shift; input = input; output = output; job = job; fault = fault; cause = cause; line = line }
+    stops old new counts_before counts_after fault differ cause line = record { shift = shift; input = input; output = output; job = job; names = differ; fault = fault; cause = cause; line = line }
 
     pub is_stopped : {T : Type 0} (old new : Files) (counts_before counts_after : Counts) (answer : Result T EditFault) (status : ℕ) → Gained shift source target old new counts_before counts_after answer
         → status ≡ answer_status answer → GotLine before after faults_before faults_after (answer_line answer source target) → status ≡ 3
         → IsStopped words old new counts_before counts_after before after faults_before faults_after
     is_stopped old new counts_before counts_after (Ok x) status all is line three = absurd (omega arith)
     is_stopped old new counts_before counts_after (Err (EqualNames place)) status all is line three = absurd (omega arith)
-    is_stopped old new counts_before counts_after (Err Absent) status all is line three = stops old new counts_before counts_after Absent (all.absent refl, all.left, all.defined) line
-    is_stopped old new counts_before counts_after (Err Read) status all is line three = stops old new counts_before counts_after Read (all.read refl, all.left) line
+    is_stopped old new counts_before counts_after (Err Absent) status all is line three = stops old new counts_before counts_after Absent (differ all (λ e. cc)) (all.absent refl, all.left, all.defined) line
+    is_stopped old new counts_before counts_after (Err Read) status all is line three = stops old new counts_before counts_after Read (differ all (λ e. cc)) (all.read refl, all.left) line
     is_stopped old new counts_before counts_after (Err (NotYet offset)) status all is line three = absurd (omega arith)
     is_stopped old new counts_before counts_after (Err (GainRange offset granule channel gain)) status all is line three = absurd (omega arith)
     is_stopped old new counts_before counts_after (Err (Write place)) status all is line three =
-        stops old new counts_before counts_after (Write place) (all.write (ap (λ n. Err (Write n)) all.defined), all.left) line
+        stops old new counts_before counts_after (Write place) (differ all (λ e. cc)) (all.write (ap (λ n. Err (Write n)) all.defined), all.left) line
     is_stopped old new counts_before counts_after (Err Memory) status all is line three = absurd (omega arith)
 
     -- ---- status 4
@@ -120,6 +138,19 @@ module _ (words : List (List ℕ)) (shift : Shift) (input output : ℕ) (job : j
     is_out_of_memory (Err (GainRange offset granule channel gain)) status is line four = absurd (omega arith)
     is_out_of_memory (Err (Write place)) status is line four = absurd (omega arith)
     is_out_of_memory (Err Memory) status is line four = subst (GotLine before after faults_before faults_after) memory_line line
+
+-- ---- what was counted
+
+pub nothing_failed : {T : Type 0} (before after : Counts) (answer : Result T EditFault) (status : ℕ) → OnOk answer (NothingFailed before after) → IfErr answer (IsCounted before after)
+    → status ≡ answer_status answer → status ≢ 3 → NothingFailed before after
+nothing_failed before after (Ok x) status done counted is other = done
+nothing_failed before after (Err (EqualNames place)) status done counted is other = counted
+nothing_failed before after (Err Absent) status done counted is other = absurd (other is)
+nothing_failed before after (Err Read) status done counted is other = absurd (other is)
+nothing_failed before after (Err (NotYet offset)) status done counted is other = counted
+nothing_failed before after (Err (GainRange offset granule channel gain)) status done counted is other = counted
+nothing_failed before after (Err (Write place)) status done counted is other = absurd (other is)
+nothing_failed before after (Err Memory) status done counted is other = counted
 
 -- ---- what is accepted
 

@@ -1,10 +1,11 @@
 -- What a gain command leaves in its folder, by its answer.
-use Rattle.std.specs.Prelude.{◌≡◌, ◌⊎◌, ℕ, ◌≤◌, List, length, take, Some, Result, Ok, Err, option_map, IfSome}
+use Rattle.std.specs.Prelude.{◌≡◌, ◌⊎◌, ℕ, ◌<◌, ◌≤◌, List, length, take, Some, Result, Ok, Err, option_map, IfSome}
 use Rattle.outside.specs.Files.{Files, with_file, Holds, IsThere, IsMissing}
+use Rattle.outside.specs.Counts.{Counts, Rose, NothingFailed}
 use Rattle.mp3_cli.specs.declared.fault.EditFault.{EditFault}
 use Rattle.mp3_cli.specs.declared.fault.EditFault.TheVariants.{EqualNames, Absent, Read, NotYet, GainRange, Write, Memory}
 use Rattle.mp3_cli.specs.declared.shift.Shift.{Shift}
-use Rattle.mp3_cli.specs.Plain.{not_plain_at}
+use Rattle.mp3_cli.specs.Plain.{longest_input, not_plain_at}
 use Rattle.mp3_cli.specs.Edited.{gained, gain_result}
 
 -- the same files, where they are told, but that the name holds these bytes
@@ -43,7 +44,13 @@ LeavesAt shift input output old new (GainRange offset granule channel gain) = ne
 LeavesAt shift input output old new (Write place) = IsWrittenInPart shift input output old new
 LeavesAt shift input output old new Memory = new ≡ old
 
--- a refusal is the one that is defined; a fault of reading or writing and want of memory are none
+-- the input is there, and is neither empty nor too long, so that memory for its bytes is taken
+pub record NeedsMemory (name : List ℕ) (files : Files) : Type 0 where
+  pub there : IsThere files name
+  pub some : (bytes : List ℕ) → Holds files name bytes → 0 < length bytes
+  pub few : (bytes : List ℕ) → Holds files name bytes → length bytes ≤ longest_input
+
+-- a refusal is the one that is defined; a fault of reading or writing is none, and want of memory comes only where memory is taken
 abbrev pub IsDefinedAt : Shift → List ℕ → List ℕ → Files → EditFault → Type 0
 IsDefinedAt shift input output old (EqualNames place) = Gives shift input output old (Err (EqualNames place))
 IsDefinedAt shift input output old Absent = Gives shift input output old (Err Absent)
@@ -51,7 +58,17 @@ IsDefinedAt shift input output old Read = Unit {0}
 IsDefinedAt shift input output old (NotYet offset) = Gives shift input output old (Err (NotYet offset))
 IsDefinedAt shift input output old (GainRange offset granule channel gain) = Gives shift input output old (Err (GainRange offset granule channel gain))
 IsDefinedAt shift input output old (Write place) = place ≡ 0
-IsDefinedAt shift input output old Memory = Unit {0}
+IsDefinedAt shift input output old Memory = NeedsMemory input old
+
+-- the cause of a fault: the count that is named rose, and where none is named, no file was missing and no call failed
+abbrev pub IsCounted : Counts → Counts → EditFault → Type 0
+IsCounted before after (EqualNames place) = NothingFailed before after
+IsCounted before after Absent = Rose before.misses after.misses
+IsCounted before after Read = Rose before.read_faults after.read_faults
+IsCounted before after (NotYet offset) = NothingFailed before after
+IsCounted before after (GainRange offset granule channel gain) = NothingFailed before after
+IsCounted before after (Write place) = Rose before.write_faults after.write_faults
+IsCounted before after Memory = NothingFailed before after
 
 -- the input is there, and its bytes are refused
 abbrev pub RefusesBytes : Shift → List ℕ → Files → EditFault → Type 0
@@ -65,7 +82,7 @@ IsInputFault shift name files Read = Unit {0}
 IsInputFault shift name files (NotYet offset) = RefusesBytes shift name files (NotYet offset)
 IsInputFault shift name files (GainRange offset granule channel gain) = RefusesBytes shift name files (GainRange offset granule channel gain)
 IsInputFault shift name files (Write place) = ⊥
-IsInputFault shift name files Memory = Unit {0}
+IsInputFault shift name files Memory = NeedsMemory name files
 
 -- what a fault met while the input was looked for says of the files
 abbrev pub IsFindFault : List ℕ → Files → EditFault → Type 0

@@ -11,7 +11,7 @@ use Rattle.mp3_cli.specs.Words.{word_at, job_of}
 use Rattle.mp3_cli.specs.Texts.{status_of, fault_line, bad_word_line, GotLine}
 use Rattle.mp3_cli.specs.Plain.{file_class, file_walk, not_plain_at}
 use Rattle.mp3_cli.specs.Edited.{range_fault, gain_result}
-use Rattle.mp3_cli.specs.Gain.{Gives, IsWrittenInPart}
+use Rattle.mp3_cli.specs.Gain.{Gives, IsWrittenInPart, NeedsMemory}
 
 -- ---- the result
 
@@ -85,9 +85,20 @@ pub record IsStopped (words : List (List ℕ)) (old new : Files) (before after :
   pub input : ℕ
   pub output : ℕ
   pub job : job_of words ≡ Ok (Gain shift input output)
+  pub names : word_at words input ≢ word_at words output
   pub fault : EditFault
   pub cause : IsCause shift (word_at words input) (word_at words output) old new before after fault
   pub line : GotLine sent_before sent_after faults_before faults_after (fault_line fault (word_at words input) (word_at words output))
+
+-- the words ask for a gain command whose input is there under another name than the output, and is neither empty nor too
+-- long, so that memory for its bytes is taken
+pub record AsksForMemory (words : List (List ℕ)) (files : Files) : Type 0 where
+  pub shift : Shift
+  pub input : ℕ
+  pub output : ℕ
+  pub job : job_of words ≡ Ok (Gain shift input output)
+  pub names : word_at words input ≢ word_at words output
+  pub needs : NeedsMemory (word_at words input) files
 
 -- ---- what a command answers
 

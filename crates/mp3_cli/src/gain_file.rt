@@ -1,10 +1,10 @@
 //! The gain command over a folder.
 ghost use Rattle.std.specs.Prelude.{◌≡◌, ◌⊎◌, ◌↔◌, ◌+◌, ◌<◌, ◌≤◌, ◌^◌, List, ℕ, length, take, vec_len, IfOk, IfErr, OnOk, OnErr, IsErrOf, MatchResult};
 ghost use Rattle.outside.specs.Files.{Holds, IsThere, IsMissing};
-ghost use Rattle.outside.specs.Counts.{Rose, NoneFell, OnlyReads, OnlyWrites};
+ghost use Rattle.outside.specs.Counts.{Rose, NoneFell, OnlyReads, OnlyWrites, NothingFailed};
 ghost use Rattle.mp3_cli.specs.Plain.{longest_input};
 ghost use Rattle.mp3_cli.specs.Edited.{gained};
-ghost use Rattle.mp3_cli.specs.Gain.{holding, HoldsFront, IsFindFault, IsInputFault, IsWritten, IsDefinedAt, LeavesAt};
+ghost use Rattle.mp3_cli.specs.Gain.{holding, HoldsFront, IsFindFault, IsInputFault, IsWritten, IsDefinedAt, IsCounted, LeavesAt};
 
 use crate::edit::edit;
 use crate::fault::EditFault;
@@ -19,8 +19,11 @@ const LONGEST_INPUT: u64 = 16_777_216;
 fn find_input<D: Folder>(folder: &mut D, name: &str) -> Result<usize, EditFault>
     ensures found { IfOk result (λ n. (bytes : List ℕ) → Holds (D.files folder.old) name.now bytes → n ≡ length bytes) }
     ensures there { OnOk result (IsThere (D.files folder.old) name.now) }
+    ensures some { IfOk result (λ n. 0 < n) }
     ensures bound { IfOk result (λ n. n ≤ longest_input) }
     ensures refused { IfErr result (IsFindFault name.now (D.files folder.old)) }
+    ensures done { OnOk result (NothingFailed (D.counts folder.old) (D.counts folder.new)) }
+    ensures counted { IfErr result (IsCounted (D.counts folder.old) (D.counts folder.new)) }
     ensures absent { IsErrOf result EditFault.Absent → Rose (D.counts folder.old).misses (D.counts folder.new).misses }
     ensures failed { IsErrOf result EditFault.Read → Rose (D.counts folder.old).read_faults (D.counts folder.new).read_faults }
     ensures files { D.files folder.new ≡ D.files folder.old }
@@ -48,6 +51,8 @@ fn load<D: Folder>(
     ensures bytes { IfOk result (λ v. (bytes : List ℕ) → Holds (D.files folder.old) name.now bytes → v.items ≡ bytes) }
     ensures bound { IfOk result (λ v. vec_len v ≤ longest_input) }
     ensures refused { IfErr result (λ fault. (fault ≡ EditFault.Read) ⊎ (fault ≡ EditFault.Memory)) }
+    ensures done { OnOk result (NothingFailed (D.counts folder.old) (D.counts folder.new)) }
+    ensures counted { IfErr result (IsCounted (D.counts folder.old) (D.counts folder.new)) }
     ensures failed { IsErrOf result EditFault.Read → Rose (D.counts folder.old).read_faults (D.counts folder.new).read_faults }
     ensures files { D.files folder.new ≡ D.files folder.old }
     ensures counts { OnlyReads (D.counts folder.old) (D.counts folder.new) }
@@ -72,6 +77,8 @@ fn edited_input<D: Folder>(
     ensures there { OnOk result (IsThere (D.files folder.old) name.now) }
     ensures gained { IfOk result (λ v. (bytes : List ℕ) → Holds (D.files folder.old) name.now bytes → gained shift.now bytes ≡ Ok v.items) }
     ensures refused { IfErr result (IsInputFault shift.now name.now (D.files folder.old)) }
+    ensures done { OnOk result (NothingFailed (D.counts folder.old) (D.counts folder.new)) }
+    ensures counted { IfErr result (IsCounted (D.counts folder.old) (D.counts folder.new)) }
     ensures absent { IsErrOf result EditFault.Absent → Rose (D.counts folder.old).misses (D.counts folder.new).misses }
     ensures failed { IsErrOf result EditFault.Read → Rose (D.counts folder.old).read_faults (D.counts folder.new).read_faults }
     ensures files { D.files folder.new ≡ D.files folder.old }
@@ -87,6 +94,7 @@ fn edited_input<D: Folder>(
 fn save<D: Folder>(folder: &mut D, name: &str, bytes: &[u8]) -> Result<(), Failed>
     ensures written { OnOk result (D.files folder.new ≡ holding (D.files folder.old) name.now bytes.now) }
     ensures front { OnErr result ((D.files folder.new ≡ D.files folder.old) ⊎ HoldsFront name.now bytes.now (D.files folder.old) (D.files folder.new)) }
+    ensures done { OnOk result (NothingFailed (D.counts folder.old) (D.counts folder.new)) }
     ensures failed { OnErr result (Rose (D.counts folder.old).write_faults (D.counts folder.new).write_faults) }
     ensures counts { OnlyWrites (D.counts folder.old) (D.counts folder.new) }
 {
@@ -100,8 +108,9 @@ fn save<D: Folder>(folder: &mut D, name: &str, bytes: &[u8]) -> Result<(), Faile
 /// input isn't there; `NotYet(0)` for an empty input and for one of more than 16,777,216 bytes; `NotYet` at
 /// the least offset in bytes where no plain frame stands; `GainRange` for the first gain that would leave the
 /// range without wrap. Then nothing was created. `Read` and `Write(0)` come only where a call of that kind
-/// failed; after `Write(0)` the output is as it was or holds a front of its bytes. `Memory` may come once the
-/// input was found, before the output is created, and not from then on.
+/// failed, and every other answer only where none failed; after `Write(0)` the output is as it was or holds a
+/// front of its bytes. `Memory` may come once the input was found with a length that it may have, before the
+/// output is created, and not from then on.
 pub fn gain<D: Folder>(
     alloc: Global,
     folder: &mut D,
@@ -116,6 +125,9 @@ pub fn gain<D: Folder>(
     ensures absent { IsErrOf result EditFault.Absent → Rose (D.counts folder.old).misses (D.counts folder.new).misses }
     ensures read { IsErrOf result EditFault.Read → Rose (D.counts folder.old).read_faults (D.counts folder.new).read_faults }
     ensures write { IsErrOf result (EditFault.Write 0) → Rose (D.counts folder.old).write_faults (D.counts folder.new).write_faults }
+    // Where no count is named, no file was missing and no call failed.
+    ensures done { OnOk result (NothingFailed (D.counts folder.old) (D.counts folder.new)) }
+    ensures counted { IfErr result (IsCounted (D.counts folder.old) (D.counts folder.new)) }
     ensures counts { NoneFell (D.counts folder.old) (D.counts folder.new) }
 {
     if input == output {

@@ -1,11 +1,11 @@
 //! All that the program does.
 ghost use Rattle.std.specs.Prelude.{◌≡◌, ◌≢◌, ◌↔◌, ◌≤◌, ℕ, Some, length, map, string_bytes, codes, IfSome, IsErr, OnOk};
 ghost use Rattle.outside.specs.Files.{Contents, Sent};
-ghost use Rattle.outside.specs.Counts.{Rose, NoneFell};
+ghost use Rattle.outside.specs.Counts.{Rose, NoneFell, NothingFailed};
 ghost use Rattle.mp3_cli.specs.declared.jobs.Job.TheVariants.{Gain};
 ghost use Rattle.mp3_cli.specs.Words.{word_at, job_of, IsSound};
 ghost use Rattle.mp3_cli.specs.Texts.{GotLine};
-ghost use Rattle.mp3_cli.specs.Run.{outcome, answer_status, answer_line, IsOutcome, IsAccepted, IsStopped};
+ghost use Rattle.mp3_cli.specs.Run.{outcome, answer_status, answer_line, IsOutcome, IsAccepted, IsStopped, AsksForMemory};
 
 use crate::fault::EditFault;
 use crate::gain_file::gain;
@@ -66,6 +66,10 @@ fn run_gain<D: Folder, E: Sink>(
     // A refusal and want of memory leave the files.
     ensures kept { result ≢ 0 → result ≢ 3 → D.files folder.new ≡ D.files folder.old }
     ensures memory { result ≡ 4 → GotLine (E.sent err.old) (E.sent err.new) (E.faults err.old) (E.faults err.new) (codes "out of memory\n") }
+    ensures needed { result ≡ 4 → AsksForMemory (map string_bytes words.now) (D.files folder.old) }
+
+    // No other status hides an absent input or a failed call of the folder.
+    ensures failed { result ≢ 3 → NothingFailed (D.counts folder.old) (D.counts folder.new) }
 
     // Where no call of the folder failed and memory was found, exactly the legal commands are done.
     ensures accepted { (files : Contents) → D.files folder.old ≡ Some files → (Rose (D.counts folder.old).read_faults (D.counts folder.new).read_faults → ⊥)
@@ -110,6 +114,10 @@ pub fn run<D: Folder, T: Sink, E: Sink>(
     // A refusal and want of memory leave the files.
     ensures kept { result ≢ 0 → result ≢ 3 → D.files folder.new ≡ D.files folder.old }
     ensures memory { result ≡ 4 → GotLine (E.sent err.old) (E.sent err.new) (E.faults err.old) (E.faults err.new) (codes "out of memory\n") }
+    ensures needed { result ≡ 4 → AsksForMemory (map string_bytes words.now) (D.files folder.old) }
+
+    // No other status hides an absent input or a failed call of the folder.
+    ensures failed { result ≢ 3 → NothingFailed (D.counts folder.old) (D.counts folder.new) }
 
     // Where no call of the folder failed and memory was found, exactly the legal commands are done.
     ensures accepted { (files : Contents) → D.files folder.old ≡ Some files → (Rose (D.counts folder.old).read_faults (D.counts folder.new).read_faults → ⊥)

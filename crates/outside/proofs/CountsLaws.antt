@@ -1,6 +1,6 @@
 -- Laws of counts that rise and of calls that only read or only write.
 use Rattle.std.proofs.Common.{ℕ, ◌≤◌, refl, ◌∙◌, arith}
-use Rattle.outside.specs.Counts.{Rose, Counts, NoneFell, OnlyReads, OnlyWrites}
+use Rattle.outside.specs.Counts.{Rose, Counts, NoneFell, OnlyReads, OnlyWrites, NothingFailed}
 
 -- a count that rose and then didn't fall has risen
 pub rose_later : (a b c : ℕ) → Rose a b → b ≤ c → Rose a c
@@ -33,3 +33,9 @@ none_fell_by_reads a b p = record { misses = p.misses; ends = p.ends; read_fault
 
 pub none_fell_by_writes : (a b : Counts) → OnlyWrites a b → NoneFell a b
 none_fell_by_writes a b p = record { misses = p.misses; ends = p.ends; read_faults = omega arith; write_faults = p.write_faults }
+
+pub nothing_failed_same : (a : Counts) → NothingFailed a a
+nothing_failed_same a = record { misses = refl; read_faults = refl; write_faults = refl }
+
+pub nothing_failed_then : (a b c : Counts) → NothingFailed a b → NothingFailed b c → NothingFailed a c
+nothing_failed_then a b c p q = record { misses = q.misses ∙ p.misses; read_faults = q.read_faults ∙ p.read_faults; write_faults = q.write_faults ∙ p.write_faults }

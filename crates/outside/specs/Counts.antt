@@ -37,6 +37,12 @@ pub record OnlyWrites (old new : Counts) : Type 0 where
   pub read_faults : new.read_faults ≡ old.read_faults
   pub write_faults : old.write_faults ≤ new.write_faults
 
+-- no file was missing, and no call failed
+pub record NothingFailed (old new : Counts) : Type 0 where
+  pub misses : new.misses ≡ old.misses
+  pub read_faults : new.read_faults ≡ old.read_faults
+  pub write_faults : new.write_faults ≡ old.write_faults
+
 -- a sink's count never falls, and it fails only where the count rose
 pub record HasCause {T E : Type 0} (before now : ℕ) (result : Result T E) : Type 0 where
   pub later : before ≤ now

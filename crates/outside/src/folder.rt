@@ -1,7 +1,7 @@
 //! A folder of files.
 ghost use Rattle.std.specs.Prelude.{◌≡◌, ◌⊎◌, ◌-◌, ◌<◌, ◌≤◌, List, ℕ, length, take, drop, string_bytes, IfOk, OnOk, OnErr, IsErrOf};
 ghost use Rattle.outside.specs.Files.{Files, emptied, appended, Holds, IsThere, IsMissing};
-ghost use Rattle.outside.specs.Counts.{Counts, OnlyReads, OnlyWrites, Rose};
+ghost use Rattle.outside.specs.Counts.{Counts, OnlyReads, OnlyWrites, NothingFailed, Rose};
 
 use std::alloc::AllocError;
 use std::io;
@@ -62,6 +62,7 @@ impl From<AllocError> for FindFault {
 }
 
 /// A folder of files, each of a name. What it tells of them, contracts see as a map from names to bytes.
+/// A call that succeeds counts no missing file and no failure.
 pub trait Folder {
     /// The files, where they are told. Whether they are told never changes.
     ghost files: { Self → Files };
@@ -80,6 +81,7 @@ pub trait Folder {
         ensures absent { IsErrOf result FindFault.Absent → Rose (counts self.old).misses (counts self.new).misses }
         ensures failed { IsErrOf result FindFault.Failed → Rose (counts self.old).read_faults (counts self.new).read_faults }
         ensures files { files self.new ≡ files self.old }
+        ensures done { OnOk result (NothingFailed (counts self.old) (counts self.new)) }
         ensures counts { OnlyReads (counts self.old) (counts self.new) };
 
     /// Puts bytes of the file, from the place `at` on, at the front of `into`, and answers how many: none
@@ -97,6 +99,7 @@ pub trait Folder {
         ensures ended { IfOk result (λ k. k ≡ 0 → 0 < length into.old → Rose (counts self.old).ends (counts self.new).ends) }
         ensures failed { OnErr result (Rose (counts self.old).read_faults (counts self.new).read_faults) }
         ensures files { files self.new ≡ files self.old }
+        ensures done { OnOk result (NothingFailed (counts self.old) (counts self.new)) }
         ensures counts { OnlyReads (counts self.old) (counts self.new) };
 
     /// Makes the name hold no bytes. Every other name stays.
@@ -107,6 +110,7 @@ pub trait Folder {
         ensures created { OnOk result (files self.new ≡ emptied (files self.old) name.now) }
         ensures kept { OnErr result (files self.new ≡ files self.old) }
         ensures failed { OnErr result (Rose (counts self.old).write_faults (counts self.new).write_faults) }
+        ensures done { OnOk result (NothingFailed (counts self.old) (counts self.new)) }
         ensures counts { OnlyWrites (counts self.old) (counts self.new) };
 
     /// Appends a front of the bytes to the file, and answers how many: at least one where there are any.
@@ -121,5 +125,6 @@ pub trait Folder {
         ensures written { IfOk result (λ k. files self.new ≡ appended (files self.old) name.now (take k bytes.now)) }
         ensures kept { OnErr result (files self.new ≡ files self.old) }
         ensures failed { OnErr result (Rose (counts self.old).write_faults (counts self.new).write_faults) }
+        ensures done { OnOk result (NothingFailed (counts self.old) (counts self.new)) }
         ensures counts { OnlyWrites (counts self.old) (counts self.new) };
 }

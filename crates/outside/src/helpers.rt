@@ -1,7 +1,7 @@
 //! Whole pieces read, written and sent.
 ghost use Rattle.std.specs.Prelude.{◌≡◌, ◌+◌, ◌-◌, ◌^◌, ◌<◌, ◌≤◌, List, ℕ, length, take, drop, IfOk, OnOk, OnErr};
 ghost use Rattle.outside.specs.Files.{appended, sent_more, Holds, IsThere};
-ghost use Rattle.outside.specs.Counts.{OnlyReads, OnlyWrites, HasCause, Rose};
+ghost use Rattle.outside.specs.Counts.{OnlyReads, OnlyWrites, NothingFailed, HasCause, Rose};
 
 use crate::folder::{Failed, Folder};
 use crate::sink::Sink;
@@ -15,6 +15,7 @@ pub fn write_all<D: Folder>(folder: &mut D, name: &str, bytes: &[u8]) -> Result<
     ensures written { OnOk result (D.files folder.new ≡ appended (D.files folder.old) name.now bytes.now) }
     ensures front { OnErr result ((k : ℕ) × (k ≤ length bytes.now) × (D.files folder.new ≡ appended (D.files folder.old) name.now (take k bytes.now))) }
     ensures failed { OnErr result (Rose (D.counts folder.old).write_faults (D.counts folder.new).write_faults) }
+    ensures done { OnOk result (NothingFailed (D.counts folder.old) (D.counts folder.new)) }
     ensures counts { OnlyWrites (D.counts folder.old) (D.counts folder.new) }
 {
     let mut done = 0;
@@ -60,6 +61,7 @@ pub fn read_full<D: Folder>(
     ensures ended { IfOk result (λ k. k < length into.old → Rose (D.counts folder.old).ends (D.counts folder.new).ends) }
     ensures failed { OnErr result (Rose (D.counts folder.old).read_faults (D.counts folder.new).read_faults) }
     ensures files { D.files folder.new ≡ D.files folder.old }
+    ensures done { OnOk result (NothingFailed (D.counts folder.old) (D.counts folder.new)) }
     ensures counts { OnlyReads (D.counts folder.old) (D.counts folder.new) }
 {
     let mut done = 0;

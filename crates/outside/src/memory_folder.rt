@@ -1,7 +1,7 @@
 //! A folder in memory, for tests.
 ghost use Rattle.std.specs.Prelude.{◌≡◌, ◌≢◌, ℕ, ◌+◌, ◌-◌, ◌<◌, ◌≤◌, [], ◌∷◌, ◌++◌, List, None, Some, Ok, Err, length, take, drop, min, IfOk, OnOk, OnErr, IsErrOf, is_err, option_copied, if◌then◌else◌, ◌==◌, ◌&&◌, ◌⊎◌, nat_lt};
 ghost use Rattle.outside.specs.Files.{with_file, emptied, appended, Holds, IsThere, IsMissing};
-ghost use Rattle.outside.specs.Counts.{none_counted, with_miss, with_end, with_read_fault, with_write_fault, OnlyReads, OnlyWrites, Rose};
+ghost use Rattle.outside.specs.Counts.{none_counted, with_miss, with_end, with_read_fault, with_write_fault, OnlyReads, OnlyWrites, NothingFailed, Rose};
 
 use crate::folder::{Failed, FindFault, Folder};
 use crate::schedule::Schedule;
@@ -135,6 +135,7 @@ impl Folder for MemFolder {
         ensures absent { IsErrOf result FindFault.Absent → Rose (counts_of self.old).misses (counts_of self.new).misses }
         ensures failed { IsErrOf result FindFault.Failed → Rose (counts_of self.old).read_faults (counts_of self.new).read_faults }
         ensures files { Some (contents_of self.new) ≡ Some (contents_of self.old) }
+        ensures done { OnOk result (NothingFailed (counts_of self.old) (counts_of self.new)) }
         ensures counts { OnlyReads (counts_of self.old) (counts_of self.new) }
         ensures exact { result ≡ find_answer self.old name.now }
         ensures called { Called self.old self.new Call.Find }
@@ -165,6 +166,7 @@ impl Folder for MemFolder {
         ensures ended { IfOk result (λ k. k ≡ 0 → 0 < length into.old → Rose (counts_of self.old).ends (counts_of self.new).ends) }
         ensures failed { OnErr result (Rose (counts_of self.old).read_faults (counts_of self.new).read_faults) }
         ensures files { Some (contents_of self.new) ≡ Some (contents_of self.old) }
+        ensures done { OnOk result (NothingFailed (counts_of self.old) (counts_of self.new)) }
         ensures counts { OnlyReads (counts_of self.old) (counts_of self.new) }
         ensures fails { is_err result ≡ is_to_fail self.old Call.Read }
         ensures whole { IfOk result (λ k. k ≡ min (length into.old) (length (bytes_of self.old name.now) - at)) }
@@ -189,6 +191,7 @@ impl Folder for MemFolder {
         ensures created { OnOk result (Some (contents_of self.new) ≡ emptied (Some (contents_of self.old)) name.now) }
         ensures kept { OnErr result (Some (contents_of self.new) ≡ Some (contents_of self.old)) }
         ensures failed { OnErr result (Rose (counts_of self.old).write_faults (counts_of self.new).write_faults) }
+        ensures done { OnOk result (NothingFailed (counts_of self.old) (counts_of self.new)) }
         ensures counts { OnlyWrites (counts_of self.old) (counts_of self.new) }
         ensures fails { is_err result ≡ create_fails self.old name.now }
         ensures called { Called self.old self.new Call.Create }
@@ -209,6 +212,7 @@ impl Folder for MemFolder {
         ensures written { IfOk result (λ k. Some (contents_of self.new) ≡ appended (Some (contents_of self.old)) name.now (take k bytes.now)) }
         ensures kept { OnErr result (Some (contents_of self.new) ≡ Some (contents_of self.old)) }
         ensures failed { OnErr result (Rose (counts_of self.old).write_faults (counts_of self.new).write_faults) }
+        ensures done { OnOk result (NothingFailed (counts_of self.old) (counts_of self.new)) }
         ensures counts { OnlyWrites (counts_of self.old) (counts_of self.new) }
         ensures fails { is_err result ≡ write_fails self.old name.now bytes.now }
         ensures whole { IfOk result (λ k. k ≡ length bytes.now) }

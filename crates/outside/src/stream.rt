@@ -2,6 +2,7 @@
 ghost use Rattle.std.specs.Prelude.{◌≡◌, ◌<◌, ◌≤◌, length, take, IfOk, OnOk, OnErr};
 ghost use Rattle.outside.specs.Files.{untold_bytes, sent_more};
 ghost use Rattle.outside.specs.Counts.{HasCause, one_more};
+ghost use Rattle.std.specs.Io.KnownBytes.{Appends};
 
 use crate::folder::Failed;
 use crate::sink::Sink;
@@ -29,6 +30,7 @@ impl<W: Write + Drop> StdSink<W> {
 
     fn pass_on(&mut self, bytes: &[u8]) -> io::Result<usize>
         ensures bound { IfOk result (λ k. k ≤ length bytes.now) }
+        ensures passed { IfOk result (λ k. Appends (W.contents self.old.writer) (W.contents self.new.writer) (take k bytes.now)) }
         ensures faults { stream_faults self.new ≡ stream_faults self.old }
     {
         let count = write_once(&mut self.writer, bytes)?;
@@ -52,6 +54,8 @@ impl<W: Write + Drop> Sink for StdSink<W> {
         ensures written { IfOk result (λ k. untold_bytes ≡ sent_more untold_bytes (take k bytes.now)) }
         ensures kept { OnErr result (untold_bytes ≡ untold_bytes) }
         ensures cause { HasCause (stream_faults self.old) (stream_faults self.new) result }
+        // Where the library knows what the writer holds, exactly these bytes came to it.
+        ensures passed { IfOk result (λ k. Appends (W.contents self.old.writer) (W.contents self.new.writer) (take k bytes.now)) }
         ensures written_faults { OnOk result (stream_faults self.new ≡ stream_faults self.old) }
         ensures failed_faults { OnErr result (stream_faults self.new ≡ one_more (stream_faults self.old)) }
     {

@@ -1,6 +1,6 @@
 -- Each clause from what the command ensures.
 use Rattle.std.proofs.Common.{map, string_bytes}
-use Rattle.mp3_cli.proofs.RunLaws.{Gained, named, named_line, is_defined, is_out_of_memory, is_accepted_told, each_text}
+use Rattle.mp3_cli.proofs.RunLaws.{Gained, named, named_line, is_defined, is_out_of_memory, asks_for_memory, is_accepted_told, each_text}
 use Rattle.mp3_cli.specs.Run.{outcome, IsOutcome}
 use Rattle.mp3_cli.proofs.program.run_gain.Goals as goal
 
@@ -10,7 +10,7 @@ returns-clause-defined g c low =
     let all = c.gain-done.ensures in
     let here : Gained c.args.shift c.name_at-input.result.now c.name_at-output.result.now (g.D.Folder.files c.args.folder.now) (g.D.Folder.files c.gain-done.new.folder)
     (g.D.Folder.counts c.args.folder.now) (g.D.Folder.counts c.gain-done.new.folder) c.gain-done.result =
-    record { written = all.written; defined = all.defined; left = all.left; absent = all.absent; read = all.read; write = all.write } in
+    record { written = all.written; defined = all.defined; left = all.left; names = all.equal_names.1; absent = all.absent; read = all.read; write = all.write } in
     let there = named _ _ _ _ _ _ _ _ _ _ c.name_at-input.ensures c.name_at-output.ensures here in
     let line = named_line _ _ _ _ _ _ _ _ c.gain-done.result c.name_at-input.ensures c.name_at-output.ensures c.report.ensures.line in
     each_text (g.D.Folder.files c.args.folder.now) (λ f text. IsOutcome (outcome words f) c.report.result (g.D.Folder.files c.gain-done.new.folder) text text
@@ -32,7 +32,18 @@ returns-clause-accepted g c f told reads writes found =
     let all = c.gain-done.ensures in
     let here : Gained c.args.shift c.name_at-input.result.now c.name_at-output.result.now (g.D.Folder.files c.args.folder.now) (g.D.Folder.files c.gain-done.new.folder)
     (g.D.Folder.counts c.args.folder.now) (g.D.Folder.counts c.gain-done.new.folder) c.gain-done.result =
-    record { written = all.written; defined = all.defined; left = all.left; absent = all.absent; read = all.read; write = all.write } in
+    record { written = all.written; defined = all.defined; left = all.left; names = all.equal_names.1; absent = all.absent; read = all.read; write = all.write } in
     let there = named _ _ _ _ _ _ _ _ _ _ c.name_at-input.ensures c.name_at-output.ensures here in
     is_accepted_told words c.args.shift c.args.input c.args.output c.requires.job f (g.D.Folder.files c.args.folder.now) (g.D.Folder.files c.gain-done.new.folder)
     (g.D.Folder.counts c.args.folder.now) (g.D.Folder.counts c.gain-done.new.folder) c.gain-done.result c.report.result told there c.report.ensures.status reads writes found
+
+pub returns-clause-needed : goal.returns-clause-needed
+returns-clause-needed g c four =
+    let words = map string_bytes c.args.words.now in
+    let all = c.gain-done.ensures in
+    let here : Gained c.args.shift c.name_at-input.result.now c.name_at-output.result.now (g.D.Folder.files c.args.folder.now) (g.D.Folder.files c.gain-done.new.folder)
+    (g.D.Folder.counts c.args.folder.now) (g.D.Folder.counts c.gain-done.new.folder) c.gain-done.result =
+    record { written = all.written; defined = all.defined; left = all.left; names = all.equal_names.1; absent = all.absent; read = all.read; write = all.write } in
+    let there = named _ _ _ _ _ _ _ _ _ _ c.name_at-input.ensures c.name_at-output.ensures here in
+    asks_for_memory words c.args.shift c.args.input c.args.output c.requires.job (g.D.Folder.files c.args.folder.now) (g.D.Folder.files c.gain-done.new.folder)
+    (g.D.Folder.counts c.args.folder.now) (g.D.Folder.counts c.gain-done.new.folder) c.gain-done.result c.report.result there c.report.ensures.status four
