@@ -1,5 +1,5 @@
 -- The laws of a header: its fields are within their bits, and fields and bits give each other back.
-use Rattle.std.proofs.Common.{◌≡◌, ◌≢◌, ℕ, zero, suc, ◌+◌, ◌-◌, ◌*◌, ◌/◌, ◌%◌, ◌^◌, ◌<◌, ◌≤◌, Bool, true, false, cond, not, ◌&&◌, eqb, List, [], ◌∷◌, length, get_or, take, drop, Result, Ok, Err, refl, sym, ap, ◌∙◌, subst, eq-eqb, arith, lit<}
+use Rattle.std.proofs.Common.{◌≡◌, ◌≢◌, ℕ, zero, suc, ◌+◌, ◌-◌, ◌*◌, ◌/◌, ◌%◌, ◌^◌, ◌<◌, ◌≤◌, Bool, true, false, cond, not, ◌&&◌, eqb, List, [], ◌∷◌, length, get_or, take, drop, Result, Ok, Err, refl, sym, ap, ◌∙◌, subst, eq-eqb, arith, lit<, lit≤}
 use Rattle.std.proofs.lemmas.List.{drop-drop}
 use Rattle.std.proofs.lemmas.Nat.{mod_below, from_be_bytes-to_be_bytes_4}
 use Rattle.std.specs.Int.{to_be_bytes, w32}
@@ -12,7 +12,8 @@ use Rattle.bit_fields.proofs.GroupsLaws.{group-below, joined, spelled-joined, le
 use Rattle.frame_header.specs.declared.header.NotHeader.{NotHeader}
 use Rattle.frame_header.specs.declared.header.NotHeader.TheVariants.{Free, No}
 use Rattle.frame_header.specs.Reading.{is_readable, version_of, protection_bit, rate_bits, frequency_bits, header_in, header_at, header_fields}
-use Rattle.frame_header.specs.Fields.{HeaderFields, IsHeader}
+use Rattle.frame_header.specs.Fields.{HeaderFields, IsHeader, IsClass}
+use Rattle.frame_header.specs.Tables.{class_of}
 use Rattle.frame_header.specs.declared.version.Version.{Version}
 use Rattle.frame_header.specs.declared.version.Version.TheVariants.{One, Two}
 use Rattle.frame_header.specs.HeaderBits.{header_widths, version_bit_of, flag_of, protection_of, header_numbers, header_bits}
@@ -130,6 +131,14 @@ IsHeader-header_at four fields is = IsHeader-read (bits four) fields (AreBits-bi
 pub header_fields-header_at : (four : List ℕ) (fields : HeaderFields) → header_at four ≡ good fields → header_fields (bits four) ≡ fields
 unfolding header_at
 header_fields-header_at four fields is = (header_in-ok (bits four) fields is).2
+
+channels_in_range : (mono : Bool) → (1 ≤ cond mono 1 2) × (cond mono 1 2 ≤ 2)
+channels_in_range true = (lit≤ tt, lit≤ tt)
+channels_in_range false = (lit≤ tt, lit≤ tt)
+
+-- the class of a header is one
+pub IsClass-class_of : (h : HeaderFields) → IsHeader h → IsClass (class_of h)
+IsClass-class_of h is = let channels = channels_in_range (eqb h.mode 3) in (is.frequency_index, channels.0, channels.1)
 
 -- ---- the bits that a header is written as
 -- the numbers of groups one behind the other, from a bit on

@@ -1,23 +1,16 @@
 -- The check word of a frame from its bytes.
-use Rattle.std.proofs.Common.{◌≡◌, ℕ, ◌*◌, ◌≤◌, Bool, true, false, cond, eqb, List, ◌++◌, length, drop, sym, ap, ap₂, ◌∙◌, lit≤}
+use Rattle.std.proofs.Common.{◌≡◌, ◌*◌, ℕ, List, ◌++◌, length, drop, sym, ap, ap₂, ◌∙◌}
 use Rattle.bit_fields.specs.Bits.{bits}
 use Rattle.bit_fields.proofs.BitsLaws.{bits-append, drop-bits, length-bits, AreBits-bits}
-use Rattle.frame_header.specs.Fields.{HeaderFields, IsHeader, IsClass}
+use Rattle.frame_header.specs.Fields.{HeaderFields}
 use Rattle.frame_header.specs.Tables.{class_of, side_size_of}
 use Rattle.frame_header.specs.Reading.{header_at}
 use Rattle.frame_header.specs.HeaderBits.{header_bits}
-use Rattle.frame_header.proofs.HeaderLaws.{good, IsHeader-header_at, header_bits-header_at}
+use Rattle.frame_header.proofs.HeaderLaws.{good, IsHeader-header_at, IsClass-class_of, header_bits-header_at}
 use Rattle.side_info.specs.declared.side.Side.{Side}
 use Rattle.side_info.specs.Side.{side_at, side_bits}
 use Rattle.side_info.specs.CheckWord.{remainder, start_word, check_word_of}
 use Rattle.side_info.proofs.SideLaws.{side_bits-side_at}
-
-channels_in_range : (mono : Bool) → (1 ≤ cond mono 1 2) × (cond mono 1 2 ≤ 2)
-channels_in_range true = (lit≤ tt, lit≤ tt)
-channels_in_range false = (lit≤ tt, lit≤ tt)
-
-pub IsClass-class_of : (h : HeaderFields) → IsHeader h → IsClass (class_of h)
-IsClass-class_of h is = let channels = channels_in_range (eqb h.mode 3) in (is.frequency_index, channels.0, channels.1)
 
 -- of bytes that a header and side fields are written as, the word is theirs
 pub check_word-written : (four side : List ℕ) (h : HeaderFields) (s : Side) → bits four ≡ header_bits h → bits side ≡ side_bits (class_of h) s → remainder start_word (bits (drop 2 four ++ side)) ≡ check_word_of h s

@@ -1,4 +1,4 @@
-//! The check word of a frame (ISO/IEC 11172-3, 2.4.3.1).
+//! The check word of a frame (ISO/IEC 11172-3 and 13818-3, 2.4.3.1).
 ghost use Rattle.std.specs.Prelude.{◌≡◌, ℕ, ◌++◌, length, drop};
 ghost use Rattle.bit_fields.specs.Bits.{bits, bits_of};
 ghost use Rattle.frame_header.specs.Fields.{HeaderFields};
@@ -59,7 +59,7 @@ fn word_behind(word: u16, bytes: &[u8]) -> u16
 }
 
 /// The check word of these bytes: the remainder of their bits, the most significant first, divided by
-/// x^16 + x^15 + x^2 + 1 with all ones before them, and not inverted (ISO/IEC 11172-3, 2.4.3.1).
+/// x^16 + x^15 + x^2 + 1 with all ones before them, and not inverted (ISO/IEC 11172-3 and 13818-3, 2.4.3.1).
 pub fn word_of_bytes(bytes: &[u8]) -> u16
     ensures { result ≡ remainder start_word (bits bytes.now) }
 {
@@ -67,7 +67,7 @@ pub fn word_of_bytes(bytes: &[u8]) -> u16
 }
 
 /// The check word of a frame by the four bytes of its header and its side bytes, as they stand: over
-/// the last two bytes of the header and then the side bytes (ISO/IEC 11172-3, 2.4.3.1).
+/// the last two bytes of the header and then the side bytes (ISO/IEC 11172-3 and 13818-3, 2.4.3.1).
 pub fn check_word_of_bytes(header: &[u8], side: &[u8]) -> u16
     requires { length header.now ≡ 4 }
     ensures bytes { result ≡ remainder start_word (bits (drop 2 header.now ++ side.now)) }
@@ -78,7 +78,7 @@ pub fn check_word_of_bytes(header: &[u8], side: &[u8]) -> u16
 }
 
 /// The check word of a frame with this header and this side information: over the last 16 bits of the
-/// header and the side bits (ISO/IEC 11172-3, 2.4.3.1).
+/// header and the side bits (ISO/IEC 11172-3 and 13818-3, 2.4.3.1).
 pub fn check_word(header: &Header, side: &Side) -> u16
     requires { SideFits (class_of header.now) side.now }
     ensures { result ≡ check_word_of header.now side.now }
