@@ -30,6 +30,7 @@ fn real_files(rt: HostRuntime) -> Result<(), Fail> {
     let mut folder = DiskFolder::new(&rt, rt.alloc());
     assert_eq!(rt; folder.find(TO), Err(FindFault::Absent));
     assert_eq!(rt; folder.find(DIRECTORY), Err(FindFault::Failed));
+    fs::write(&rt, TO, "longer than what comes")?;
     assert_eq!(rt; copied(&mut folder, FROM, TO), Ok(10));
     assert_eq!(rt; folder.find(TO), Ok(10));
     let mut into = [b'-'; 4];
