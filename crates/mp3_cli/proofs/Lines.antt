@@ -68,6 +68,10 @@ line_failed f xs i d sent_first sent_before sent_after faults_first faults_befor
       });
     }
 
+-- no write failed so far, nor in a piece that was sent
+pub none_failed : {T E : Type 0} (first before after : ℕ) (result : Result T E) → before ≡ first → is_err result ≡ false → HasCause before after result → after ≡ first
+none_failed first before after result so_far done cause = on_ok_if (after ≡ before) result done cause.done ∙ so_far
+
 -- a piece that was sent
 pub line_more : {X T E : Type 0} (f : X → List ℕ) (xs : List X) (i : ℕ) (d : X) (sent_first sent_before sent_after : Sent) (faults_first faults_before : ℕ) (piece : List ℕ) (result : Result T E)
     → Before f xs i sent_first sent_before faults_first faults_before → piece ≡ f (get_or xs i d) → is_err result ≡ false

@@ -31,6 +31,11 @@ fault_line Memory input output = codes "out of memory\n"
 unfoldable pub bad_word_line : ℕ → List ℕ
 bad_word_line place = codes "bad word " ++ decimal place ++ codes "\n"
 
+-- the line was sent, and no write failed
+pub record GotWhole (sent_before sent_after : Sent) (faults_before faults_after : ℕ) (line : List ℕ) : Type 0 where
+  pub sent : sent_after ≡ sent_more sent_before line
+  pub done : faults_after ≡ faults_before
+
 -- a front of the line was sent, and a write failed
 pub record GotFront (sent_before sent_after : Sent) (faults_before faults_after : ℕ) (line : List ℕ) : Type 0 where
   pub count : ℕ
@@ -38,7 +43,7 @@ pub record GotFront (sent_before sent_after : Sent) (faults_before faults_after 
   pub sent : sent_after ≡ sent_more sent_before (take count line)
   pub failed : Rose faults_before faults_after
 
--- the line was sent, or a front of it and a write failed; the count of failures never falls
+-- the line was sent and no write failed, or a front of it and a write failed; the count of failures never falls
 pub record GotLine (sent_before sent_after : Sent) (faults_before faults_after : ℕ) (line : List ℕ) : Type 0 where
   pub later : faults_before ≤ faults_after
-  pub got : (sent_after ≡ sent_more sent_before line) ⊎ GotFront sent_before sent_after faults_before faults_after line
+  pub got : GotWhole sent_before sent_after faults_before faults_after line ⊎ GotFront sent_before sent_after faults_before faults_after line

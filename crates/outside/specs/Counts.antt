@@ -1,5 +1,5 @@
 -- How often a folder or a sink has failed, and when that may be told.
-use Rattle.std.specs.Prelude.{◌≡◌, ℕ, ◌+◌, ◌-◌, ◌^◌, ◌≤◌, min, Result, OnErr}
+use Rattle.std.specs.Prelude.{◌≡◌, ℕ, ◌+◌, ◌-◌, ◌^◌, ◌≤◌, min, Result, OnOk, OnErr}
 
 -- a count has grown, or stands at the greatest value of a u64
 abbrev pub Rose : ℕ → ℕ → Type 0
@@ -43,9 +43,10 @@ pub record NothingFailed (old new : Counts) : Type 0 where
   pub read_faults : new.read_faults ≡ old.read_faults
   pub write_faults : new.write_faults ≡ old.write_faults
 
--- a sink's count never falls, and it fails only where the count rose
+-- a sink's count never falls: it stays where the call succeeds, and the call fails only where it rose
 pub record HasCause {T E : Type 0} (before now : ℕ) (result : Result T E) : Type 0 where
   pub later : before ≤ now
+  pub done : OnOk result (now ≡ before)
   pub failed : OnErr result (Rose before now)
 
 -- a count one higher, which stands at the greatest value of a u64

@@ -1,10 +1,10 @@
-use Rattle.std.proofs.Common.{sym, arith, length-drop}
+use Rattle.std.proofs.Common.{refl, sym, ◌∙◌, arith, length-drop}
 use Rattle.outside.proofs.FilesLaws.{sent_nothing}
 use Rattle.outside.proofs.Pieces.{part_from, sent_then}
 use Rattle.outside.proofs.helpers.send_all.Goals as goal
 
 pub loop-done-init : goal.loop-done-init
-loop-done-init g c = record { in_range = omega arith; sent = sym (sent_nothing _); later = omega arith }
+loop-done-init g c = record { in_range = omega arith; sent = sym (sent_nothing _); later = omega arith; done = refl }
 
 pub loop-done-preserved : goal.loop-done-preserved
 loop-done-preserved g c =
@@ -13,4 +13,5 @@ loop-done-preserved g c =
       in_range = omega (arith, rw part_from at c.in_ok-done.ensures.bound, length-drop c.loop-done.done bytes);
       sent = sent_then _ _ _ bytes _ _ c.loop-done.invariant.sent (rw part_from at c.in_ok-done.ensures.written);
       later = omega (arith, c.loop-done.invariant.later, c.in_ok-done.ensures.cause.later);
+      done = c.in_ok-done.ensures.cause.done ∙ c.loop-done.invariant.done;
     }

@@ -7,6 +7,7 @@ invariant-loop-done g l = record {
   in_range : l.done ≤ length l.bytes;
   sent : g.T.Sink.sent l.sink ≡ sent_more (g.T.Sink.sent l.initial.sink) (take l.done l.bytes);
   later : g.T.Sink.faults l.initial.sink ≤ g.T.Sink.faults l.sink;
+  done : g.T.Sink.faults l.sink ≡ g.T.Sink.faults l.initial.sink;
 }
 
 abbrev pub decreases-loop-done : goal.decreases-loop-done
