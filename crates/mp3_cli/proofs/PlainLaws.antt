@@ -1,5 +1,5 @@
 -- What the tests of a plain frame say of its length.
-use Rattle.std.proofs.Common.{◌≡◌, ℕ, ◌+◌, ◌<◌, ◌≤◌, Bool, true, false, cond, ◌&&◌, eqb, List, length, take, drop, Option, Some, None, Result, Ok, Err, refl, sym, ap, subst, codes, arith, length-drop}
+use Rattle.std.proofs.Common.{◌≡◌, ℕ, ◌+◌, ◌<◌, ◌≤◌, Bool, true, false, cond, ◌&&◌, List, length, take, drop, Option, Some, None, Result, Ok, Err, refl, sym, ap, subst, codes, arith, length-drop}
 use Rattle.std.proofs.lemmas.List.{length-take}
 use Rattle.outside.proofs.FilesLaws.{bytes_eq_other}
 use Rattle.std.proofs.lemmas.Bool.{false≢true, eqb-true, leb-true}
@@ -9,7 +9,7 @@ use Rattle.frame_header.specs.declared.header.NotHeader.{NotHeader}
 use Rattle.frame_header.specs.Fields.{HeaderFields, ClassFields, IsHeader, IsClass}
 use Rattle.frame_header.specs.Tables.{class_of, length_of, side_size_of}
 use Rattle.frame_header.proofs.Lengths.{area_some}
-use Rattle.frame_header.proofs.HeaderLaws.{IsHeader-header_at}
+use Rattle.frame_header.proofs.HeaderLaws.{IsHeader-header_at, IsClass-class_of}
 use Rattle.mp3_cli.specs.Plain.{good, header_front, same_version, same_class, is_plain_header, is_plain, plain_length, plain_front, has_head}
 
 -- what a test that passed says of its two parts
@@ -45,17 +45,6 @@ same_class-eq c d e =
     let channels = eqb-true _ _ outer.1 in
     λ i. record { version = version i; frequency_index = frequency i; channels = channels i }
 
-class_in_range : (h : HeaderFields) → IsHeader h → IsClass (class_of h)
-class_in_range h fields = (fields.frequency_index, channels (eqb h.mode 3), channels_most (eqb h.mode 3))
-  where
-    channels : (b : Bool) → 1 ≤ cond b 1 2
-    channels true = omega arith
-    channels false = omega arith
-
-    channels_most : (b : Bool) → cond b 1 2 ≤ 2
-    channels_most true = omega arith
-    channels_most false = omega arith
-
 -- ---- the length of a plain frame
 
 -- what the tests of a plain header say
@@ -87,14 +76,14 @@ front_of c bytes len (Some h) is e =
     let parts = front_cases (is_plain c h bytes) (length_of c h.slot) len e in
     let tests = plain_header c h bytes (both _ _ parts.0).0 in
     let fields = header_front-in_range bytes h is in
-    let class : IsClass c = subst IsClass tests.class (class_in_range h fields) in
+    let class : IsClass c = subst IsClass tests.class (IsClass-class_of h fields) in
     subst (IsFront c bytes) parts.1 (record { room = area_some c h.slot class fields.slot; within = tests.whole })
 
 class_from : (c : ClassFields) (bytes : List ℕ) (len : ℕ) (o : Option HeaderFields) → header_front bytes ≡ o → plain_length c bytes o ≡ Some len → IsClass c
 class_from c bytes len None is e = absurd cc
 class_from c bytes len (Some h) is e =
     let parts = front_cases (is_plain c h bytes) (length_of c h.slot) len e in
-    subst IsClass (plain_header c h bytes (both _ _ parts.0).0).class (class_in_range h (header_front-in_range bytes h is))
+    subst IsClass (plain_header c h bytes (both _ _ parts.0).0).class (IsClass-class_of h (header_front-in_range bytes h is))
 
 -- the class of a plain frame is one of the standard's
 pub plain_class : (c : ClassFields) (bytes : List ℕ) (len : ℕ) → plain_front c bytes ≡ Some len → IsClass c
