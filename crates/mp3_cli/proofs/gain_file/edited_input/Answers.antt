@@ -1,6 +1,6 @@
 -- A fault of a step is a fault of the input.
 use Rattle.std.proofs.lemmas.Result.{err_from_is_err_and}
-use Rattle.mp3_cli.proofs.GainLaws.{find_fault, load_fault, needs_memory, stream_fault, stream_counted, counted_then, refused_bytes}
+use Rattle.mp3_cli.proofs.GainLaws.{find_fault, load_fault, needs_memory, stream_fault, refused_bytes}
 use Rattle.mp3_cli.proofs.gain_file.edited_input.Goals as goal
 
 pub returns-in_err-size-clause-refused : goal.returns-in_err-size-clause-refused
