@@ -1,0 +1,3 @@
+//! Texts at exact places of frames.
+
+use super::*;
