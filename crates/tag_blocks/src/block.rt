@@ -1,8 +1,9 @@
 //! Where a block begins, and how long it is.
-ghost use Rattle.std.specs.Prelude.{◌≡◌, ◌==◌, ◌<◌, ◌≤◌, length};
+ghost use Rattle.std.specs.Prelude.{◌≡◌, ◌+◌, ◌^◌, ◌==◌, ◌<◌, ◌≤◌, nat_lt, IsTrue, length, IfSome};
+ghost use Rattle.std.specs.List.{list_all};
 ghost use Rattle.std.specs.Int.{bit_at};
 ghost use Rattle.tag_blocks.specs.declared.block.Kind.TheVariants.{Id3v2, Id3v1, Ape};
-ghost use Rattle.tag_blocks.specs.Blocks.{seven_bit_number as seven_bit_number_lem, front_as, block_front};
+ghost use Rattle.tag_blocks.specs.Blocks.{seven_bit_number as seven_bit_number_lem, is_id3v2 as is_id3v2_lem, ape_number as ape_number_lem, is_ape as is_ape_lem, front_as, block_front};
 
 use byteorder::{ByteOrder, LittleEndian};
 
@@ -41,10 +42,18 @@ fn is_set(flags: u32, bit: u32) -> bool
     (flags >> bit) % 2 == 1
 }
 
+/// Whether each byte has 7 bits.
+fn have_seven_bits(bytes: &[u8]) -> bool
+    ensures { result ≡ list_all (λ b. nat_lt b 128) bytes.now }
+{
+    bytes.iter().all(|byte| *byte < 0x80)
+}
+
 /// The number of four bytes of 7 bits, the first the most significant.
 fn seven_bit_number(four: &[u8]) -> u64
     requires { length four.now ≡ 4 }
-    ensures { result ≡ seven_bit_number_lem four.now }
+    ensures number { result ≡ seven_bit_number_lem four.now }
+    ensures below { result < 2 ^ 30 }
 {
     u64::from(four[0]) * (1 << 21)
         + u64::from(four[1]) * (1 << 14)
@@ -52,21 +61,32 @@ fn seven_bit_number(four: &[u8]) -> u64
         + u64::from(four[3])
 }
 
+/// Whether an ID3v2 block begins at the front of the bytes.
+#[tactic(auto, unfolding(crate::specs::Blocks::is_id3v2))]
+fn is_id3v2(front: &[u8]) -> bool
+    ensures begins { result ≡ is_id3v2_lem front.now }
+    ensures header { IsTrue result → 10 ≤ length front.now }
+{
+    front.len() >= ID3V2_HEADER
+        && front.starts_with(b"ID3")
+        && front[3] != 0xff
+        && front[4] != 0xff
+        && have_seven_bits(&front[6..10])
+}
+
 /// The ID3v2 block at the front of the bytes.
-#[tactic(auto, unfolding(crate::specs::Blocks::is_id3v2, crate::specs::Blocks::id3v2_length))]
+#[tactic(auto, unfolding(crate::specs::Blocks::id3v2_length))]
 fn id3v2_at(front: &[u8]) -> Option<Block>
     ensures { result ≡ front_as Id3v2 front.now }
 {
-    let header = front.get(..ID3V2_HEADER)?;
-    let size = &header[6..];
-    let has_version = header[3] != 0xff && header[4] != 0xff;
-    if !header.starts_with(b"ID3") || !has_version || !size.iter().all(|byte| *byte < 0x80) {
+    if !is_id3v2(front) {
         return None;
     }
-    let footer = if is_set(u32::from(header[5]), 4) { ID3V2_HEADER } else { 0 };
+    let has_footer = is_set(u32::from(front[5]), 4);
+    let footer = if has_footer { ID3V2_HEADER } else { 0 };
     Some(Block {
         kind: Kind::Id3v2,
-        length: (ID3V2_HEADER + footer) as u64 + seven_bit_number(size),
+        length: (ID3V2_HEADER + footer) as u64 + seven_bit_number(&front[6..10]),
     })
 }
 
@@ -84,22 +104,39 @@ fn id3v1_at(front: &[u8]) -> Option<Block>
     })
 }
 
+/// A number in the header of APEv2.
+fn ape_number(front: &[u8], at: usize) -> u32
+    requires { at + 4 ≤ length front.now }
+    ensures { result ≡ ape_number_lem at front.now }
+{
+    LittleEndian::read_u32(&front[at..at + 4])
+}
+
+/// Whether an APEv2 block begins at the front of the bytes.
+#[tactic(auto, unfolding(crate::specs::Blocks::is_ape))]
+fn is_ape(front: &[u8]) -> bool
+    ensures begins { result ≡ is_ape_lem front.now }
+    ensures header { IsTrue result → 32 ≤ length front.now }
+{
+    front.len() >= APE_HEADER
+        && front.starts_with(b"APETAGEX")
+        && ape_number(front, 8) == 2000
+        && ape_number(front, 12) >= 32
+        && is_set(ape_number(front, 20), 31)
+        && is_set(ape_number(front, 20), 29)
+}
+
 /// The APEv2 block at the front of the bytes.
-#[tactic(auto, unfolding(crate::specs::Blocks::is_ape, crate::specs::Blocks::ape_length))]
+#[tactic(auto, unfolding(crate::specs::Blocks::ape_length))]
 fn ape_at(front: &[u8]) -> Option<Block>
     ensures { result ≡ front_as Ape front.now }
 {
-    let header = front.get(..APE_HEADER)?;
-    let version = LittleEndian::read_u32(&header[8..12]);
-    let size = LittleEndian::read_u32(&header[12..16]);
-    let flags = LittleEndian::read_u32(&header[20..24]);
-    let is_header = is_set(flags, 31) && is_set(flags, 29);
-    if !header.starts_with(b"APETAGEX") || version != 2000 || size < 32 || !is_header {
+    if !is_ape(front) {
         return None;
     }
     Some(Block {
         kind: Kind::Ape,
-        length: APE_HEADER as u64 + u64::from(size),
+        length: APE_HEADER as u64 + u64::from(ape_number(front, 12)),
     })
 }
 
@@ -115,7 +152,9 @@ fn ape_at(front: &[u8]) -> Option<Block>
 /// The length is in bytes, from 10 to 4,294,967,327. Whether so many bytes are there isn't judged.
 #[tactic(auto, unfolding(crate::specs::Blocks::block_front))]
 pub fn block_at(front: &[u8]) -> Option<Block>
-    ensures { result ≡ block_front front.now }
+    ensures block { result ≡ block_front front.now }
+    ensures least { IfSome result (λ b. 10 ≤ b.length) }
+    ensures most { IfSome result (λ b. b.length ≤ 4294967327) }
 {
     id3v2_at(front).or(id3v1_at(front).or(ape_at(front)))
 }

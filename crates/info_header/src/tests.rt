@@ -1,3 +1,0 @@
-//! Texts at exact places of frames.
-
-use super::*;
