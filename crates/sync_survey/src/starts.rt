@@ -1,0 +1,90 @@
+//! Where the stream of frames begins.
+ghost use Rattle.std.specs.Prelude.{◌≡◌, ◌+◌, ◌≤◌, ◌<◌, length, MatchOption};
+ghost use Rattle.sync_survey.specs.Items.{item_at as item_at_lem};
+ghost use Rattle.sync_survey.specs.Start.{is_anchor as is_anchor_lem, is_anchored as is_anchored_lem, first_anchored, longest_junk, start_of, start_behind, IsLeast};
+
+use crate::items::{Item, fits, is_same_class, item_at};
+use crate::places::{PlacedFrame, Start, WalkFault};
+use crate::runs::{Part, run_stop};
+use frame_header::{Class, Header};
+
+/// So many bytes of junk may stand before the first frame.
+const LONGEST_JUNK: usize = 65_536;
+
+/// Whether the item may stand at the end of an anchored frame of the class.
+fn is_anchor(class: Class, item: &Item) -> bool
+    ensures { result ≡ is_anchor_lem class item.now }
+{
+    match item {
+        Item::Frame(header) => is_same_class(header.class(), class),
+        Item::Block(_) | Item::End => true,
+        Item::Free | Item::Zero | Item::Nothing => false,
+    }
+}
+
+/// Whether an anchored frame stands at the offset: it is whole, and at its end stands a header of its
+/// class, the beginning of a block, or the end of the file.
+#[tactic(auto, unfolding(crate::specs::Start::is_anchored))]
+fn is_anchored(file: &[u8], at: usize) -> bool
+    ensures { result ≡ is_anchored_lem file.now at }
+{
+    let item = item_at(file, at);
+    let Item::Frame(header) = item else {
+        return false;
+    };
+    fits(file, at, &item) && is_anchor(header.class(), &item_at(file, at + header.length() as usize))
+}
+
+/// The first of so many offsets where an anchored frame stands.
+fn find_anchored(count: usize, file: &[u8], from: usize) -> Option<usize>
+    requires { from + count ≤ usize.MAX }
+    ensures { result ≡ first_anchored count file.now from }
+{
+    (from..from + count).find(|at| is_anchored(file, *at))
+}
+
+/// The start behind junk that begins at this offset.
+fn start_behind_junk(file: &[u8], front_end: usize) -> Result<Start, WalkFault>
+    requires { front_end ≤ length file.now }
+    ensures { result ≡ start_behind file.now front_end (first_anchored longest_junk file.now (front_end + 1)) }
+{
+    let no_frame = WalkFault::NoFrame(front_end as u64);
+    let at = find_anchored(LONGEST_JUNK, file, front_end + 1).ok_or(no_frame)?;
+    match item_at(file, at) {
+        Item::Frame(header) => Ok(start(front_end, at, header)),
+        _ => Err(no_frame),
+    }
+}
+
+fn start(front_end: usize, at: usize, header: Header) -> Start
+    ensures { result ≡ record { front_end = front_end; first = record { offset = at; header = header } } }
+{
+    Start {
+        front_end: front_end as u64,
+        first: PlacedFrame {
+            offset: at as u64,
+            header,
+        },
+    }
+}
+
+/// Where the stream of frames begins. Blocks and zero bytes are passed from offset 0. A frame that stands
+/// there is the first one. Else the bytes from there are junk, at most 65,536 of them, and the first frame
+/// is at the least offset from the next byte on where an anchored frame stands.
+///
+/// Refuses with `Truncated` where a block on the way, or the frame that stands there, passes the end of
+/// the file; with `FreeFormat` where a header of free format stands there; and with `NoFrame` where no
+/// anchored frame follows.
+#[tactic(auto, unfolding(crate::specs::Start::start_of, crate::specs::Start::front_end_of))]
+pub fn find_start(file: &[u8]) -> Result<Start, WalkFault>
+    ensures start { result ≡ start_of file.now }
+{
+    let at = run_stop(Part::Front, file, 0);
+    let item = item_at(file, at);
+    match item {
+        Item::Frame(header) if fits(file, at, &item) => Ok(start(at, at, header)),
+        Item::Frame(_) | Item::Block(_) => Err(WalkFault::Truncated(at as u64)),
+        Item::Free => Err(WalkFault::FreeFormat(at as u64)),
+        Item::Zero | Item::End | Item::Nothing => start_behind_junk(file, at),
+    }
+}
