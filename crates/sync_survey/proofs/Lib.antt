@@ -1,1 +1,4 @@
 -- The lemmas of this crate.
+pub mod ItemsLaws
+pub mod RunsLaws
+pub mod StartLaws

@@ -1,5 +1,5 @@
 -- Where the stream of frames begins.
-use Rattle.std.specs.Prelude.{◌≡◌, ℕ, ◌+◌, ◌≤◌, ◌<◌, ◌&&◌, if◌then◌else◌, Bool, true, false, List, Option, Some, None, Result, Ok, Err, find}
+use Rattle.std.specs.Prelude.{◌≡◌, ℕ, ◌+◌, ◌≤◌, ◌<◌, ◌&&◌, if◌then◌else◌, Bool, true, false, List, Option, Some, None, Result, Ok, Err, find, MatchOption, ◌⊎◌}
 use Rattle.std.specs.List.{range_with_len}
 use Rattle.frame_header.specs.Fields.{HeaderFields, ClassFields}
 use Rattle.frame_header.specs.Tables.{class_of, length_of}
@@ -85,3 +85,11 @@ start_of file = start_at file (front_end_of file) (item_at file (front_end_of fi
 -- the least offset of a range where a test holds
 abbrev pub IsLeast : (ℕ → Bool) → ℕ → ℕ → ℕ → Type 0
 IsLeast test from to at = (from ≤ at) × (at < to) × (test at ≡ true) × ((earlier : ℕ) → from ≤ earlier → earlier < at → test earlier ≡ false)
+
+-- the least one, where there is one
+abbrev pub IsFirst : (ℕ → Bool) → ℕ → ℕ → Option ℕ → Type 0
+IsFirst test from to r = MatchOption r ((at : ℕ) → from ≤ at → at < to → test at ≡ false) (IsLeast test from to)
+
+-- no junk stands before the first frame, or it stands at the least offset behind the junk where an anchored frame does
+abbrev pub IsLeastStart : List ℕ → Start → Type 0
+IsLeastStart file s = (s.first.offset ≡ s.front_end) ⊎ IsLeast (is_anchored file) (s.front_end + 1) ((s.front_end + 1) + longest_junk) s.first.offset

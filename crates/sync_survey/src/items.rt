@@ -53,13 +53,20 @@ fn item_front(bytes: &[u8]) -> Item
     }
 }
 
+/// The bytes from an offset on; none past the end.
+fn rest_of(file: &[u8], at: usize) -> &[u8]
+    ensures { result.now ≡ drop at file.now }
+{
+    file.get(at..).unwrap_or(&[])
+}
+
 /// The item at an offset of a file, in bytes. At the end of the file and past it that is `End`.
 #[tactic(auto, unfolding(crate::specs::Items::item_at))]
 pub fn item_at(file: &[u8], at: usize) -> Item
     ensures item { result ≡ item_at_lem file.now at }
     ensures stands { Stands (drop at file.now) result }
 {
-    item_front(file.get(at..).unwrap_or(&[]))
+    item_front(rest_of(file, at))
 }
 
 impl Item {

@@ -44,6 +44,7 @@ pub fn item_of(part: Part, file: &[u8], at: usize) -> Option<Item>
 pub fn run_stop(part: Part, file: &[u8], from: usize) -> usize
     ensures stop { result ≡ (run part file.now from).stop }
     ensures whole { AreEndToEnd file.now from (run part file.now from).items result }
+    ensures within { from ≤ length file.now → result ≤ length file.now }
 {
     let mut at = from;
     while let Some(item) = item_of(part, file, at) {

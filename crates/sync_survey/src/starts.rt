@@ -1,7 +1,7 @@
 //! Where the stream of frames begins.
-ghost use Rattle.std.specs.Prelude.{◌≡◌, ◌+◌, ◌≤◌, ◌<◌, length, MatchOption};
-ghost use Rattle.sync_survey.specs.Items.{item_at as item_at_lem};
-ghost use Rattle.sync_survey.specs.Start.{is_anchor as is_anchor_lem, is_anchored as is_anchored_lem, first_anchored, longest_junk, start_of, start_behind, IsLeast};
+ghost use Rattle.std.specs.Prelude.{◌≡◌, ◌+◌, ◌≤◌, ◌<◌, length, IfOk};
+ghost use Rattle.sync_survey.specs.Items.{item_at as item_at_lem, size_of};
+ghost use Rattle.sync_survey.specs.Start.{is_anchor as is_anchor_lem, is_anchored as is_anchored_lem, first_anchored, longest_junk, start_of, start_behind, IsFirst, IsLeastStart};
 
 use crate::items::{Item, fits, is_same_class, item_at};
 use crate::places::{PlacedFrame, Start, WalkFault};
@@ -38,7 +38,8 @@ fn is_anchored(file: &[u8], at: usize) -> bool
 /// The first of so many offsets where an anchored frame stands.
 fn find_anchored(count: usize, file: &[u8], from: usize) -> Option<usize>
     requires { from + count ≤ usize.MAX }
-    ensures { result ≡ first_anchored count file.now from }
+    ensures first { result ≡ first_anchored count file.now from }
+    ensures least { IsFirst (is_anchored_lem file.now) from (from + count) result }
 {
     (from..from + count).find(|at| is_anchored(file, *at))
 }
@@ -78,6 +79,9 @@ fn start(front_end: usize, at: usize, header: Header) -> Start
 #[tactic(auto, unfolding(crate::specs::Start::start_of, crate::specs::Start::front_end_of))]
 pub fn find_start(file: &[u8]) -> Result<Start, WalkFault>
     ensures start { result ≡ start_of file.now }
+    ensures first { IfOk result (λ s. item_at_lem file.now s.first.offset ≡ Item.Frame s.first.header) }
+    ensures whole { IfOk result (λ s. s.first.offset + size_of (Item.Frame s.first.header) ≤ length file.now) }
+    ensures least { IfOk result (IsLeastStart file.now) }
 {
     let at = run_stop(Part::Front, file, 0);
     let item = item_at(file, at);

@@ -1,0 +1,23 @@
+-- One item more, or none.
+use Rattle.std.proofs.Common.{◌≡◌, ◌+◌, None, Some, sym, ◌∙◌, ap, subst, arith}
+use Rattle.sync_survey.specs.Items.{size_of}
+use Rattle.sync_survey.specs.Runs.{run, item_of, AreEndToEnd}
+use Rattle.sync_survey.proofs.RunsLaws.{run-next, run-stopped, run-ends}
+use Rattle.sync_survey.proofs.runs.run_stop.Goals as goal
+
+pub loop-item-preserved : goal.loop-item-preserved
+loop-item-preserved c =
+    let next = run-next c.args.part c.args.file.now c.loop-item.at c.in-Some.item (sym c.item_of.ensures.item ∙ c.in-Some.is) in
+    (ap (λ size. (run c.args.part c.args.file.now (c.loop-item.at + size)).stop) c.size.ensures ∙ sym (ap (λ r. r.stop) next) ∙ c.loop-item.invariant.0,
+    (λ from. omega (arith, c.in-Some.ensures.within, c.size.ensures)))
+
+stop_is : (c : goal.In_default) → c.loop-item.at ≡ (run c.args.part c.args.file.now c.args.from).stop
+stop_is c = sym (ap (λ r. r.stop) (run-stopped c.args.part c.args.file.now c.loop-item.at (sym c.item_of.ensures.item ∙ c.in_default.is))) ∙ c.loop-item.invariant.0
+
+pub returns-clause-stop : goal.returns-clause-stop
+returns-clause-stop c = stop_is c
+
+pub returns-clause-whole : goal.returns-clause-whole
+returns-clause-whole c =
+    let r = run c.args.part c.args.file.now c.args.from in
+    subst (AreEndToEnd c.args.file.now c.args.from r.items) (sym (stop_is c)) (run-ends c.args.part c.args.file.now c.args.from)
