@@ -4,4 +4,3 @@
 mod text;
 
 pub use text::head_text;
-
