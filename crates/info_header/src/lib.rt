@@ -4,3 +4,6 @@
 mod text;
 
 pub use text::head_text;
+
+#[cfg(test)]
+mod tests;
