@@ -1,8 +1,8 @@
 -- Where a head's text stands: within the frame, and at one of two places.
-use Rattle.std.proofs.Common.{◌≡◌, ◌⊎◌, ℕ, ◌+◌, ◌-◌, ◌<◌, ◌≤◌, Bool, true, false, cond, ◌&&◌, ◌||◌, List, length, take, drop, Some, None, refl, sym, ap, ◌∙◌, codes, arith, inl, inr}
+use Rattle.std.proofs.Common.{◌≡◌, ◌⊎◌, ℕ, ◌+◌, ◌-◌, ◌<◌, ◌≤◌, Bool, true, false, cond, ◌&&◌, ◌||◌, List, length, take, drop, Some, None, refl, sym, ap, ◌∙◌, get_or, codes, arith, lit<, inl, inr}
 use Rattle.std.specs.Str.{bytes_eq}
 use Rattle.std.proofs.lemmas.Bool.{false≢true}
-use Rattle.std.proofs.lemmas.List.{length-take, length-drop, take-take, drop-take}
+use Rattle.std.proofs.lemmas.List.{length-take, length-drop, take-take, drop-take, get_or-take, get_or-drop}
 use Rattle.std.proofs.lemmas.Slice.Eq.{bytes_eq-Decides}
 use Rattle.frame_header.specs.Fields.{HeaderFields}
 use Rattle.frame_header.specs.Tables.{class_of, side_size_of}
@@ -35,6 +35,33 @@ short_cases at frame short false is = refl
 -- past the end there is no text
 pub has_text-short : (at : ℕ) (frame : List ℕ) → length frame < at + 4 → has_text at frame ≡ false
 has_text-short at frame short = short_cases at frame short (has_text at frame) refl
+
+-- ---- a text stands at one of two places that are two bytes apart
+
+byte_of : (at i place : ℕ) (frame text : List ℕ) → place ≡ at + i → i < 4 → bytes_eq (take 4 (drop at frame)) text ≡ true → get_or frame place 0 ≡ get_or text i 0
+byte_of at i place frame text there within is =
+    let same : take 4 (drop at frame) ≡ text = (bytes_eq-Decides (take 4 (drop at frame)) text).0 is in
+    ap (λ k. get_or frame k 0) there ∙ sym (get_or-drop at frame i 0) ∙ sym (get_or-take 4 (drop at frame) i 0 within) ∙ ap (λ t. get_or t i 0) same
+
+text_byte : (at i place : ℕ) (frame : List ℕ) → place ≡ at + i → i < 4 → (bytes_eq (take 4 (drop at frame)) (codes "Xing") ≡ true) ⊎ (bytes_eq (take 4 (drop at frame)) (codes "Info") ≡ true) → (get_or frame place 0 ≡ get_or (codes "Xing") i 0) ⊎ (get_or frame place 0 ≡ get_or (codes "Info") i 0)
+text_byte at i place frame there within (inl xing) = inl (byte_of at i place frame (codes "Xing") there within xing)
+text_byte at i place frame there within (inr info) = inr (byte_of at i place frame (codes "Info") there within info)
+
+-- a byte of the text is that of `Xing` or of `Info`
+has_text-byte : (at i place : ℕ) (frame : List ℕ) → place ≡ at + i → i < 4 → has_text at frame ≡ true → (get_or frame place 0 ≡ get_or (codes "Xing") i 0) ⊎ (get_or frame place 0 ≡ get_or (codes "Info") i 0)
+unfolding has_text
+has_text-byte at i place frame there within is = text_byte at i place frame there within (either _ _ is)
+
+apart : (n : ℕ) → (n ≡ 110) ⊎ (n ≡ 102) → (n ≡ 88) ⊎ (n ≡ 73) → ⊥
+apart n (inl a) (inl b) = omega arith
+apart n (inl a) (inr b) = omega arith
+apart n (inr a) (inl b) = omega arith
+apart n (inr a) (inr b) = omega arith
+
+-- two texts can't stand two bytes apart, so it doesn't matter which place is looked at first
+pub one_place : (at : ℕ) (frame : List ℕ) → has_text at frame ≡ true → has_text (at + 2) frame ≡ true → ⊥
+one_place at frame here there =
+    apart (get_or frame (at + 2) 0) (has_text-byte at 2 (at + 2) frame (omega arith) (lit< tt) here) (has_text-byte (at + 2) 0 (at + 2) frame (omega arith) (lit< tt) there)
 
 -- ---- only the bytes up to the end of the text matter
 
