@@ -5,7 +5,7 @@ use Rattle.frame_header.specs.Fields.{HeaderFields}
 use Rattle.frame_header.specs.Tables.{class_of, side_size_of}
 
 -- `Xing` or `Info` stands at this place of the frame; a text that the frame's end cuts short is none
-abbrev pub has_text : ℕ → List ℕ → Bool
+unfoldable pub has_text : ℕ → List ℕ → Bool
 has_text at frame = let text = take 4 (drop at frame) in bytes_eq text (codes "Xing") || bytes_eq text (codes "Info")
 
 -- behind the header and the side information, as if there were no check word

@@ -5,3 +5,5 @@ mod text;
 
 pub use text::head_text;
 
+#[cfg(test)]
+mod tests;

@@ -1,5 +1,5 @@
 //! Where the text of a head stands.
-ghost use Rattle.std.specs.Prelude.{◌≡◌, ◌+◌, ◌≤◌, length, IfSome};
+ghost use Rattle.std.specs.Prelude.{◌≡◌, ◌+◌, ◌≤◌, length, IsTrue, IfSome};
 ghost use Rattle.info_header.specs.HeadText.{has_text as has_text_lem, head_text_of};
 
 use frame_header::Header;
@@ -11,8 +11,10 @@ const HEADER_SIZE: u32 = 4;
 const CHECK_WORD_SIZE: u32 = 2;
 
 /// Whether `Xing` or `Info` stands at this place.
+#[tactic(auto, unfolding(crate::specs::HeadText::has_text))]
 fn has_text(at: u32, frame: &[u8]) -> bool
-    ensures { result ≡ has_text_lem at frame.now }
+    ensures text { result ≡ has_text_lem at frame.now }
+    ensures within { IsTrue result → at + 4 ≤ length frame.now }
 {
     let at = at as usize;
     match frame.get(at..at + 4) {

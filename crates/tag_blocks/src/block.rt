@@ -77,7 +77,8 @@ fn is_id3v2(front: &[u8]) -> bool
 /// The ID3v2 block at the front of the bytes.
 #[tactic(auto, unfolding(crate::specs::Blocks::id3v2_length))]
 fn id3v2_at(front: &[u8]) -> Option<Block>
-    ensures { result ≡ front_as Id3v2 front.now }
+    ensures block { result ≡ front_as Id3v2 front.now }
+    ensures most { IfSome result (λ b. b.length ≤ 4294967327) }
 {
     if !is_id3v2(front) {
         return None;
@@ -93,7 +94,8 @@ fn id3v2_at(front: &[u8]) -> Option<Block>
 /// The ID3v1 block at the front of the bytes.
 #[tactic(auto, unfolding(crate::specs::Blocks::is_id3v1))]
 fn id3v1_at(front: &[u8]) -> Option<Block>
-    ensures { result ≡ front_as Id3v1 front.now }
+    ensures block { result ≡ front_as Id3v1 front.now }
+    ensures most { IfSome result (λ b. b.length ≤ 4294967327) }
 {
     if !front.starts_with(b"TAG") {
         return None;
@@ -129,7 +131,8 @@ fn is_ape(front: &[u8]) -> bool
 /// The APEv2 block at the front of the bytes.
 #[tactic(auto, unfolding(crate::specs::Blocks::ape_length))]
 fn ape_at(front: &[u8]) -> Option<Block>
-    ensures { result ≡ front_as Ape front.now }
+    ensures block { result ≡ front_as Ape front.now }
+    ensures most { IfSome result (λ b. b.length ≤ 4294967327) }
 {
     if !is_ape(front) {
         return None;

@@ -4,3 +4,6 @@
 mod block;
 
 pub use block::{Block, Kind, block_at};
+
+#[cfg(test)]
+mod tests;
