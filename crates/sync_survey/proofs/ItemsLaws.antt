@@ -1,7 +1,6 @@
 -- What stands at the front of bytes: one item, and no other.
 use Rattle.std.proofs.Common.{◌≡◌, ◌≢◌, ℕ, ◌+◌, ◌<◌, ◌≤◌, ◌==◌, Bool, true, false, cond, ◌&&◌, List, [], ◌∷◌, length, take, drop, Option, Some, None, Result, Ok, Err, refl, sym, ◌∙◌, ap, subst, arith}
 use Rattle.std.proofs.lemmas.Bool.{false≢true, eqb-true, leb-true}
-use Rattle.std.specs.Option.{option_or}
 use Rattle.frame_header.specs.declared.header.NotHeader.{NotHeader}
 use Rattle.frame_header.specs.declared.header.NotHeader.TheVariants.{Free as FreeHeader, No}
 use Rattle.frame_header.specs.Fields.{HeaderFields, IsHeader}
@@ -10,7 +9,8 @@ use Rattle.frame_header.specs.Reading.{header_at}
 use Rattle.frame_header.proofs.Lengths.{area_some}
 use Rattle.frame_header.proofs.HeaderLaws.{IsHeader-header_at, IsClass-class_of}
 use Rattle.tag_blocks.specs.declared.block.Block.{Block as TagBlock}
-use Rattle.tag_blocks.specs.Blocks.{block_front, id3v2_length, ape_length, is_id3v2, is_id3v1, is_ape}
+use Rattle.tag_blocks.specs.Blocks.{block_front}
+use Rattle.tag_blocks.proofs.BlocksLaws.{block_front-least}
 use Rattle.sync_survey.specs.declared.items.Item.{Item}
 use Rattle.sync_survey.specs.declared.items.Item.TheVariants.{Frame, Free, Block, Zero, End, Nothing}
 use Rattle.sync_survey.specs.declared.runs.Part.{Part}
@@ -51,20 +51,10 @@ header_front-in_range bytes h e = IsHeader-header_at (take 4 bytes) h (header_ca
 frame_some : (h : HeaderFields) → IsHeader h → 0 < length_of (class_of h) h.slot
 frame_some h fields = omega (arith, area_some (class_of h) h.slot (IsClass-class_of h fields) fields.slot)
 
-block_cases : (a b c : Bool) (x y z block : TagBlock) → 0 < x.length → 0 < y.length → 0 < z.length → option_or (cond a (Some x) None) (option_or (cond b (Some y) None) (cond c (Some z) None)) ≡ Some block → 0 < block.length
-block_cases true b c x y z block p q r e = let same : x ≡ block = cc in subst (λ w. 0 < w.length) same p
-block_cases false true c x y z block p q r e = let same : y ≡ block = cc in subst (λ w. 0 < w.length) same q
-block_cases false false true x y z block p q r e = let same : z ≡ block = cc in subst (λ w. 0 < w.length) same r
-block_cases false false false x y z block p q r e = absurd cc
-
-block_some : (bytes : List ℕ) (b : TagBlock) → block_front bytes ≡ Some b → 0 < b.length
-unfolding block_front id3v2_length ape_length
-block_some bytes b is = block_cases (is_id3v2 bytes) (is_id3v1 bytes) (is_ape bytes) _ _ _ b (omega arith) (omega arith) (omega arith) is
-
 some_by : (bytes : List ℕ) (part : Part) (item : Item) → Stands bytes item → belongs part item ≡ true → 0 < size_of item
 some_by bytes part (Frame h) here is = frame_some h (header_front-in_range bytes h here)
 some_by bytes part Free here is = absurd (false≢true is)
-some_by bytes part (Block b) here is = block_some bytes b here
+some_by bytes part (Block b) here is = omega (arith, block_front-least bytes b here)
 some_by bytes part Zero here is = omega arith
 some_by bytes part End here is = absurd (false≢true is)
 some_by bytes part Nothing here is = absurd (false≢true is)

@@ -1,12 +1,15 @@
 -- Items that stand end to end: one item more, and what they are together.
 use Rattle.std.proofs.Common.{◌≡◌, ℕ, zero, suc, ◌+◌, ◌-◌, ◌<◌, ◌≤◌, Bool, true, false, cond, ◌&&◌, List, [], ◌∷◌, ◌++◌, length, take, drop, Option, Some, None, refl, sym, ◌∙◌, ap, subst, arith, append_assoc, length-drop}
-use Rattle.std.specs.Prelude.{flat_map, nat_le}
+use Rattle.std.specs.Prelude.{flat_map, filter_map, nat_le, option_to_list}
+use Rattle.std.specs.List.{cons_option}
 use Rattle.std.proofs.lemmas.Bool.{false≢true, leb-true}
 use Rattle.std.proofs.lemmas.List.{take-append-drop, drop-drop}
 use Rattle.sync_survey.specs.declared.items.Item.{Item}
+use Rattle.sync_survey.specs.declared.items.Item.TheVariants.{Frame, Free, Block, Zero, End, Nothing}
 use Rattle.sync_survey.specs.declared.runs.Part.{Part}
+use Rattle.sync_survey.specs.declared.runs.Part.TheVariants.{Front, Stream}
 use Rattle.sync_survey.specs.Items.{item_at, size_of, fits}
-use Rattle.sync_survey.specs.Runs.{Placed, belongs, whole, item_of, Run, stopped, behind, onward, run_up_to, run, AreEndToEnd, bytes_in, bytes_of}
+use Rattle.sync_survey.specs.Runs.{Placed, belongs, whole, item_of, Run, stopped, behind, onward, run_up_to, run, AreEndToEnd, bytes_in, bytes_of, frame_as, block_as, frames_of, blocks_of}
 use Rattle.sync_survey.proofs.ItemsLaws.{size-some}
 
 -- what a test that passed says of its two parts
@@ -117,3 +120,46 @@ bytes-ends file from (p ∷ ps) to ends =
     ∙ ap (λ rest. bytes_in file p ++ rest) (bytes-ends file (p.offset + size) ps to ends.3 ∙ sym (drop-drop size p.offset file))
     ∙ take-append-drop size (drop p.offset file)
     ∙ ap (λ at. drop at file) ends.0
+
+-- ---- frames and blocks among the items of a run
+
+cons_list : {X : Type 0} (o : Option X) (xs : List X) → cons_option o xs ≡ option_to_list o ++ xs
+cons_list None xs = refl
+cons_list (Some x) xs = refl
+
+no_frame : (at : ℕ) (item : Item) → belongs Front item ≡ true → frame_as at item ≡ None
+no_frame at (Frame h) is = absurd (false≢true is)
+no_frame at Free is = refl
+no_frame at (Block b) is = refl
+no_frame at Zero is = refl
+no_frame at End is = refl
+no_frame at Nothing is = refl
+
+front_onward : (file : List ℕ) (at : ℕ) (next : ℕ → Run) (o : Option Item) → item_of Front file at ≡ o → ((later : ℕ) → frames_of (next later).items ≡ []) → frames_of (onward at next o).items ≡ []
+front_onward file at next None is none = refl
+front_onward file at next (Some item) is none =
+    let here = item_of-is Front file at item is in
+    ap (λ o. cons_option o (frames_of (next (at + size_of item)).items)) (no_frame at item here.belongs) ∙ none (at + size_of item)
+
+front_up_to : (n : ℕ) (file : List ℕ) (at : ℕ) → frames_of (run_up_to n Front file at).items ≡ []
+unfolding run_up_to
+front_up_to zero file at = refl
+front_up_to (suc n) file at = front_onward file at (λ later. run_up_to n Front file later) (item_of Front file at) refl (λ later. front_up_to n file later)
+
+-- before the first frame there are none
+pub front-frames : (file : List ℕ) (from : ℕ) → frames_of (run Front file from).items ≡ []
+unfolding run
+front-frames file from = front_up_to (length file) file from
+
+-- what a frame, or a block, adds
+pub frames-next : (part : Part) (file : List ℕ) (at : ℕ) (item : Item) → item_of part file at ≡ Some item →
+    frames_of (run part file at).items ≡ option_to_list (frame_as at item) ++ frames_of (run part file (at + size_of item)).items
+frames-next part file at item is = ap (λ r. frames_of r.items) (run-next part file at item is) ∙ cons_list (frame_as at item) (frames_of (run part file (at + size_of item)).items)
+
+pub blocks-next : (part : Part) (file : List ℕ) (at : ℕ) (item : Item) → item_of part file at ≡ Some item →
+    blocks_of (run part file at).items ≡ option_to_list (block_as at item) ++ blocks_of (run part file (at + size_of item)).items
+blocks-next part file at item is = ap (λ r. blocks_of r.items) (run-next part file at item is) ∙ cons_list (block_as at item) (blocks_of (run part file (at + size_of item)).items)
+
+-- one item more was kept
+pub kept_more : {X : Type 0} (old here kept rest later whole : List X) → kept ≡ old ++ here → rest ≡ here ++ later → old ++ rest ≡ whole → kept ++ later ≡ whole
+kept_more old here kept rest later whole e e' e'' = ap (λ k. k ++ later) e ∙ append_assoc old here later ∙ ap (λ r. old ++ r) (sym e') ∙ e''

@@ -38,6 +38,15 @@ abbrev pub numbered : Option Head → List PlacedFrame → List PlacedFrame
 numbered None frames = frames
 numbered (Some head) frames = drop 1 frames
 
+-- where the numbered frames begin: at the first frame, or behind the head
+abbrev pub numbered_at : PlacedFrame → Option Head → ℕ
+numbered_at first None = first.offset
+numbered_at first (Some head) = first.offset + length_of (class_of first.header) first.header.slot
+
+-- the blocks at the front of the file, and those from the first frame on
+abbrev pub all_blocks : List ℕ → Start → List Piece
+all_blocks file start = blocks_of (run Front file 0).items ++ blocks_of (stream_of file start).items
+
 -- ---- where the walk ends
 
 -- why the walk stops at an offset with this item, which is not whole where it is a frame or a block; at the end of the file all is well
@@ -74,7 +83,7 @@ walk_from file start =
   start = start;
   head = head;
   frames = frames;
-  blocks = blocks_of (run Front file 0).items ++ blocks_of stream.items;
+  blocks = all_blocks file start;
   fault = end_fault file frames (fault_at stream.stop (item_at file stream.stop));
 }
 

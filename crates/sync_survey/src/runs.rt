@@ -1,7 +1,7 @@
 //! Items that stand end to end.
-ghost use Rattle.std.specs.Prelude.{◌≡◌, ◌+◌, ◌≤◌, ◌<◌, length, IfSome};
+ghost use Rattle.std.specs.Prelude.{◌≡◌, ◌+◌, ◌++◌, ◌≤◌, ◌<◌, drop, length, IfSome};
 ghost use Rattle.sync_survey.specs.Items.{size_of};
-ghost use Rattle.sync_survey.specs.Runs.{belongs as belongs_lem, item_of as item_of_lem, run, AreEndToEnd};
+ghost use Rattle.sync_survey.specs.Runs.{belongs as belongs_lem, item_of as item_of_lem, run, AreEndToEnd, bytes_of};
 
 use crate::items::{Item, fits, item_at};
 
@@ -43,7 +43,8 @@ pub fn item_of(part: Part, file: &[u8], at: usize) -> Option<Item>
 /// The offset in bytes where the items of the part that stand end to end from an offset on stop.
 pub fn run_stop(part: Part, file: &[u8], from: usize) -> usize
     ensures stop { result ≡ (run part file.now from).stop }
-    ensures whole { AreEndToEnd file.now from (run part file.now from).items result }
+    ensures items { AreEndToEnd file.now from (run part file.now from).items result }
+    ensures bytes { bytes_of file.now (run part file.now from).items ++ drop result file.now ≡ drop from file.now }
     ensures within { from ≤ length file.now → result ≤ length file.now }
 {
     let mut at = from;

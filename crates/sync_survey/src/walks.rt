@@ -1,8 +1,8 @@
 //! The walk over a whole file.
-ghost use Rattle.std.specs.Prelude.{◌≡◌, ◌+◌, ◌++◌, ◌≤◌, length, IfOk, OnOk, MatchResult, option_to_list};
+ghost use Rattle.std.specs.Prelude.{◌≡◌, ◌+◌, [], ◌++◌, ◌≤◌, length, drop, IfOk, OnOk, MatchResult, option_to_list};
 ghost use Rattle.sync_survey.specs.Items.{item_at as item_at_lem, size_of};
-ghost use Rattle.sync_survey.specs.Runs.{run, frames_of, blocks_of, frame_as, block_as};
-ghost use Rattle.sync_survey.specs.Walk.{head_of as head_of_lem, fault_at as fault_at_lem, walk_of, shown, IsRefusal};
+ghost use Rattle.sync_survey.specs.Runs.{run, frames_of, blocks_of, frame_as, block_as, bytes_of};
+ghost use Rattle.sync_survey.specs.Walk.{head_of as head_of_lem, fault_at as fault_at_lem, end_fault, numbered, numbered_at, stream_of, all_blocks, walk_of, shown, IsRefusal};
 ghost use Rattle.sync_survey.specs.declared.walks.WalkRefusal.TheVariants.{Fault, Memory};
 
 use crate::items::{Item, item_at};
@@ -75,14 +75,26 @@ fn fault_at(file: &[u8], at: usize) -> Option<WalkFault>
     }
 }
 
-/// Frames and blocks as they were met.
+/// Frames and blocks as they were met, and the offset where the walk over them stopped.
 #[derive(Drop)]
 struct Found {
     frames: Vec<PlacedFrame>,
     blocks: Vec<Piece>,
+    stop: usize,
 }
 
 impl Found {
+    fn new(alloc: Global) -> Found
+        ensures frames { result.frames.items ≡ [] }
+        ensures blocks { result.blocks.items ≡ [] }
+    {
+        Found {
+            frames: Vec::new(alloc),
+            blocks: Vec::new(alloc),
+            stop: 0,
+        }
+    }
+
     /// Keeps the item, where it is a frame or a block.
     fn note(&mut self, offset: usize, item: Item) -> Result<(), AllocError>
         ensures frames { OnOk result (self.new.frames.items ≡ self.old.frames.items ++ option_to_list (frame_as offset item)) }
@@ -97,10 +109,9 @@ impl Found {
         Ok(())
     }
 
-    /// Keeps the frames and blocks of the part that stand end to end from an offset on. Answers the
-    /// offset where they stop.
-    fn collect(&mut self, part: Part, file: &[u8], from: usize) -> Result<usize, AllocError>
-        ensures stop { IfOk result (λ stop. stop ≡ (run part file.now from).stop) }
+    /// Keeps the frames and blocks of the part that stand end to end from an offset on.
+    fn collect(&mut self, part: Part, file: &[u8], from: usize) -> Result<(), AllocError>
+        ensures stop { OnOk result (self.new.stop ≡ (run part file.now from).stop) }
         ensures frames { OnOk result (self.new.frames.items ≡ self.old.frames.items ++ frames_of (run part file.now from).items) }
         ensures blocks { OnOk result (self.new.blocks.items ≡ self.old.blocks.items ++ blocks_of (run part file.now from).items) }
     {
@@ -109,8 +120,51 @@ impl Found {
             self.note(at, item)?;
             at += item.size() as usize;
         }
-        Ok(at)
+        self.stop = at;
+        Ok(())
     }
+
+    /// Why the walk is none, where it stopped before the end of the file or met no frame.
+    fn fault(&self, file: &[u8]) -> Option<WalkFault>
+        ensures { result ≡ end_fault file.now self.now.frames.items (fault_at_lem self.now.stop (item_at_lem file.now self.now.stop)) }
+    {
+        match fault_at(file, self.stop) {
+            Some(fault) => Some(fault),
+            None if self.frames.is_empty() => Some(WalkFault::NoFrame(file.len() as u64)),
+            None => None,
+        }
+    }
+}
+
+/// Where the numbered frames begin: at the first frame, or behind it where that is the head.
+fn numbered_from(first: &PlacedFrame, head: &Option<Head>) -> usize
+    requires { first.now.offset + size_of (Item.Frame first.now.header) ≤ usize.MAX }
+    ensures { result ≡ numbered_at first.now head.now }
+{
+    let at = first.offset as usize;
+    match head {
+        Some(_) => at + first.header.length() as usize,
+        None => at,
+    }
+}
+
+/// The blocks at the front of the file, and the blocks and numbered frames from its start on.
+fn find_all(
+    alloc: Global,
+    file: &[u8],
+    start: &Start,
+    head: &Option<Head>,
+) -> Result<Found, AllocError>
+    requires first { item_at_lem file.now start.now.first.offset ≡ Item.Frame start.now.first.header }
+    requires whole { start.now.first.offset + size_of (Item.Frame start.now.first.header) ≤ length file.now }
+    ensures stop { IfOk result (λ f. f.stop ≡ (stream_of file.now start.now).stop) }
+    ensures frames { IfOk result (λ f. f.frames.items ≡ numbered head.now (frames_of (stream_of file.now start.now).items)) }
+    ensures blocks { IfOk result (λ f. f.blocks.items ≡ all_blocks file.now start.now) }
+{
+    let mut found = Found::new(alloc);
+    found.collect(Part::Front, file, 0)?;
+    found.collect(Part::Stream, file, numbered_from(&start.first, head))?;
+    Ok(found)
 }
 
 /// What stands in a file. Its frames and blocks stand end to end from the first frame on, with single zero
@@ -122,29 +176,18 @@ impl Found {
 /// the only frame is a head. `Memory` may come before a fault is met.
 pub fn walk_file(alloc: Global, file: &[u8]) -> Result<Walk, WalkRefusal>
     ensures exact { MatchResult result (λ w. walk_of file.now ≡ Ok (shown w)) (IsRefusal file.now) }
+    ensures bytes { IfOk result (λ w. bytes_of file.now (stream_of file.now w.start).items ≡ drop w.start.first.offset file.now) }
 {
     let start = find_start(file)?;
     let head = head_of(file, &start.first);
-    let mut found = Found {
-        frames: Vec::new(alloc),
-        blocks: Vec::new(alloc),
-    };
-    found.collect(Part::Front, file, 0)?;
-    let head_length = match head {
-        Some(head) => head.header.length() as usize,
-        None => 0,
-    };
-    let stop = found.collect(Part::Stream, file, start.first.offset as usize + head_length)?;
-    if let Some(fault) = fault_at(file, stop) {
-        return Err(WalkRefusal::Fault(fault));
+    let found = find_all(alloc, file, &start, &head)?;
+    match found.fault(file) {
+        Some(fault) => Err(WalkRefusal::Fault(fault)),
+        None => Ok(Walk {
+            start,
+            head,
+            frames: found.frames,
+            blocks: found.blocks,
+        }),
     }
-    if found.frames.is_empty() {
-        return Err(WalkRefusal::Fault(WalkFault::NoFrame(file.len() as u64)));
-    }
-    Ok(Walk {
-        start,
-        head,
-        frames: found.frames,
-        blocks: found.blocks,
-    })
 }

@@ -1,8 +1,8 @@
 -- One item more, or none.
-use Rattle.std.proofs.Common.{◌≡◌, ◌+◌, None, Some, sym, ◌∙◌, ap, subst, arith}
+use Rattle.std.proofs.Common.{◌≡◌, ◌+◌, ◌++◌, drop, None, Some, sym, ◌∙◌, ap, subst, arith}
 use Rattle.sync_survey.specs.Items.{size_of}
-use Rattle.sync_survey.specs.Runs.{run, item_of, AreEndToEnd}
-use Rattle.sync_survey.proofs.RunsLaws.{run-next, run-stopped, run-ends}
+use Rattle.sync_survey.specs.Runs.{run, item_of, AreEndToEnd, bytes_of}
+use Rattle.sync_survey.proofs.RunsLaws.{run-next, run-stopped, run-ends, bytes-ends}
 use Rattle.sync_survey.proofs.runs.run_stop.Goals as goal
 
 pub loop-item-preserved : goal.loop-item-preserved
@@ -17,7 +17,13 @@ stop_is c = sym (ap (λ r. r.stop) (run-stopped c.args.part c.args.file.now c.lo
 pub returns-clause-stop : goal.returns-clause-stop
 returns-clause-stop c = stop_is c
 
-pub returns-clause-whole : goal.returns-clause-whole
-returns-clause-whole c =
+pub returns-clause-items : goal.returns-clause-items
+returns-clause-items c =
     let r = run c.args.part c.args.file.now c.args.from in
     subst (AreEndToEnd c.args.file.now c.args.from r.items) (sym (stop_is c)) (run-ends c.args.part c.args.file.now c.args.from)
+
+pub returns-clause-bytes : goal.returns-clause-bytes
+returns-clause-bytes c =
+    let r = run c.args.part c.args.file.now c.args.from in
+    let whole = bytes-ends c.args.file.now c.args.from r.items r.stop (run-ends c.args.part c.args.file.now c.args.from) in
+    ap (λ at. bytes_of c.args.file.now r.items ++ drop at c.args.file.now) (stop_is c) ∙ whole
