@@ -1,5 +1,5 @@
 -- Why a whole file is refused, and what becomes of it.
-use Rattle.std.proofs.Common.{◌≡◌, ◌≢◌, ◌⊎◌, ℕ, zero, suc, ◌+◌, ◌-◌, ◌<◌, ◌≤◌, Bool, true, false, cond, ◌||◌, ◌&&◌, not, eqb, ltb, List, [], ◌∷◌, length, take, Option, Some, None, Result, Ok, Err, refl, sym, ◌∙◌, ap, ap₂, subst, inl, inr, arith, eq-eqb}
+use Rattle.std.proofs.Common.{◌≡◌, ◌⊎◌, ℕ, zero, suc, ◌+◌, ◌-◌, ◌<◌, ◌≤◌, Bool, true, false, cond, ◌||◌, ◌&&◌, not, eqb, ltb, List, [], ◌∷◌, length, Option, Some, None, Ok, Err, refl, ◌∙◌, ap, subst, inl, inr, arith, eq-eqb}
 use Rattle.std.proofs.lemmas.Bool.{false≢true, ne_eqb, le-ltb, lt-ltb}
 use Rattle.frame_header.specs.Fields.{HeaderFields, ClassFields}
 use Rattle.frame_header.specs.Tables.{class_of}
@@ -10,7 +10,7 @@ use Rattle.mp3_cli.specs.declared.gains.Stuck.{Stuck}
 use Rattle.mp3_cli.specs.declared.shift.Shift.{Shift}
 use Rattle.mp3_cli.specs.Plain.{Walk, stopped, header_front, header_of, side_of, is_readable_frame, has_right_word, plain_front, plain_length, walk, has_head, why_with, why_stopped, left_fault, file_class, file_walk, file_fault, longest_input}
 use Rattle.mp3_cli.specs.Gains.{stuck_in}
-use Rattle.mp3_cli.specs.Edited.{edited, stuck_fault, range_fault, unless, gained}
+use Rattle.mp3_cli.specs.Edited.{edited, stuck_fault, range_fault, gained}
 use Rattle.mp3_cli.specs.Gain.{IsStreamFault}
 use Rattle.mp3_cli.proofs.PlainLaws.{header_of-front}
 use Rattle.mp3_cli.proofs.WalkLaws.{walk-stopped}

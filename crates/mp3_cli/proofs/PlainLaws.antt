@@ -1,5 +1,5 @@
 -- What the tests of a plain frame say of it.
-use Rattle.std.proofs.Common.{◌≡◌, ℕ, ◌+◌, ◌<◌, ◌≤◌, Bool, true, false, cond, ◌&&◌, List, length, take, drop, Option, Some, None, Result, Ok, Err, refl, sym, ◌∙◌, ap, ap₂, subst, codes, arith, length-drop}
+use Rattle.std.proofs.Common.{◌≡◌, ℕ, ◌+◌, ◌<◌, ◌≤◌, Bool, true, false, cond, ◌&&◌, List, length, take, drop, Option, Some, None, Result, Ok, Err, refl, sym, ◌∙◌, ap, subst, codes, arith, length-drop}
 use Rattle.std.proofs.lemmas.List.{length-take, take-take}
 use Rattle.outside.proofs.FilesLaws.{bytes_eq_other}
 use Rattle.std.proofs.lemmas.Bool.{false≢true, eqb-true, leb-true}

@@ -10,7 +10,6 @@ use Rattle.frame_header.specs.Tables.{class_of, side_size_of, overhead_of}
 use Rattle.side_info.specs.declared.side.Side.{Side}
 use Rattle.side_info.specs.Side.{side_at, side_bits, SideFits}
 use Rattle.std.specs.Prelude.{bit_xor}
-use Rattle.std.specs.Int.{bit_at}
 use Rattle.side_info.specs.CheckWord.{polynomial, bit_step, remainder, start_word, check_word_of}
 use Rattle.side_info.specs.Frame.{side_place, side_part, side_in, word_said, word_part, frame_with}
 use Rattle.side_info.proofs.SideLaws.{IsShaped, IsShaped-side_at, SideFits-side_at, side_at-side_bits, side_bits-side_at, AreBits-side_bits, length-side_bits}

@@ -1,5 +1,5 @@
 -- A frame of the class is long enough for what stands before its area.
-use Rattle.std.proofs.Common.{◌≡◌, ◌≤◌, true, length, sym, ◌∙◌, ap, subst, arith}
+use Rattle.std.proofs.Common.{◌≡◌, ◌≤◌, length, sym, ◌∙◌, ap, subst, arith}
 use Rattle.std.proofs.lemmas.Bool.{leb-true}
 use Rattle.frame_header.specs.Tables.{class_of, overhead_of}
 use Rattle.side_info.proofs.FrameLaws.{overhead-most}

@@ -1,6 +1,6 @@
 -- A frame of the class is long enough for what stands before its area.
 use Rattle.std.proofs.Common.{◌≤◌, refl, sym, subst, arith}
-use Rattle.frame_header.specs.Tables.{class_of, overhead_of}
+use Rattle.frame_header.specs.Tables.{overhead_of}
 use Rattle.side_info.proofs.FrameLaws.{overhead-most}
 use Rattle.mp3_cli.proofs.plain.plain_front.Goals as goal
 

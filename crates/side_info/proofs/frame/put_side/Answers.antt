@@ -1,6 +1,6 @@
 -- The check word, and then the side information behind it.
 use Rattle.std.proofs.Common.{ap, sym, ◌∙◌, ◌++◌, ◌+◌, take, drop}
-use Rattle.frame_header.specs.Tables.{side_size_of, class_of, overhead_of}
+use Rattle.frame_header.specs.Tables.{side_size_of}
 use Rattle.bit_fields.specs.Bits.{bytes, bits_of}
 use Rattle.side_info.specs.Side.{side_bits}
 use Rattle.side_info.proofs.FrameLaws.{put_protected}

@@ -1,5 +1,5 @@
 -- The part is the side information.
-use Rattle.std.proofs.Common.{◌≡◌, ap, ap₂, ◌∙◌, ◌++◌, take, drop, sym, arith, ◌+◌, ◌-◌}
+use Rattle.std.proofs.Common.{ap, ap₂, ◌∙◌, ◌++◌, take, drop, sym, arith, ◌+◌, ◌-◌}
 use borrow.Rule.Slice.PartMut.{post_of, Post-is}
 use Rattle.bit_fields.specs.Bits.{bytes}
 use Rattle.bit_fields.proofs.BitsLaws.{bytes-bits}

@@ -1,5 +1,5 @@
 -- Two bytes are written over.
-use Rattle.std.proofs.Common.{ap₂, ◌∙◌, ◌++◌, take, drop, arith}
+use Rattle.std.proofs.Common.{ap₂, ◌∙◌, ◌++◌, take, arith}
 use borrow.Rule.Slice.PartMut.{Post-is}
 use Rattle.side_info.proofs.FrameLaws.{bytes-word}
 use Rattle.side_info.proofs.frame.put_word.Goals as goal
