@@ -3,3 +3,5 @@ pub mod Items
 pub mod Runs
 pub mod Start
 pub mod Walk
+pub mod MainData
+pub mod Faults

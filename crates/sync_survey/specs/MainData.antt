@@ -1,0 +1,102 @@
+-- Where the main data of the frames stand in the file (main_data_begin, ISO/IEC 11172-3 and 13818-3, 2.4.2.7). The areas of the head and
+-- of all frames, one behind the other, are the main data of the file; a frame's own begin so many bytes before its own area as its
+-- main_data_begin says, counted in areas alone.
+use Rattle.std.specs.Prelude.{ℕ, ◌+◌, ◌-◌, ◌*◌, ◌==◌, if◌then◌else◌, Bool, List, [], ◌∷◌, ◌++◌, take, drop, map, reverse, sum_by, flat_map, Option, Some, None}
+use Rattle.bit_fields.specs.Bits.{bits}
+use Rattle.frame_header.specs.Fields.{HeaderFields, SlotFields}
+use Rattle.frame_header.specs.Tables.{class_of, length_of, area_of, overhead_of}
+use Rattle.side_info.specs.declared.granule.Granule.{Granule}
+use Rattle.side_info.specs.declared.side.Side.{Side}
+use Rattle.side_info.specs.Side.{payload_bits, payload_bytes, granules_in}
+use Rattle.side_info.specs.Frame.{side_in}
+use Rattle.sync_survey.specs.declared.places.PlacedFrame.{PlacedFrame}
+use Rattle.sync_survey.specs.declared.places.Head.{Head}
+use Rattle.sync_survey.specs.declared.rows.Row.{Row}
+
+-- ---- frames with their side information
+
+-- a frame of the file with the side information that stands in it
+abbrev pub row_of : List ℕ → PlacedFrame → Row
+row_of file p = record { offset = p.offset; header = p.header; side = side_in p.header (drop p.offset file) }
+
+abbrev pub rows_of : List ℕ → List PlacedFrame → List Row
+rows_of file ps = map (row_of file) ps
+
+-- ---- places
+
+-- the bytes of a frame with this header that hold main data
+abbrev pub own_area : HeaderFields → ℕ
+own_area h = area_of (class_of h) h.slot h.protected
+
+-- the head's area counts
+abbrev pub head_area : Option Head → ℕ
+head_area None = 0
+head_area (Some head) = own_area head.header
+
+-- the place among the main data where the own area of a frame begins that has these frames before it
+unfoldable pub place_behind : Option Head → List Row → ℕ
+place_behind head earlier = head_area head + sum_by (λ (r : Row). own_area r.header) earlier
+
+-- the place where its main data begin
+abbrev pub start_of_data : Option Head → List Row → Row → ℕ
+start_of_data head earlier r = place_behind head earlier - r.side.main_data_begin
+
+-- it has no main data
+abbrev pub is_silent : Row → Bool
+is_silent r = payload_bits r.side == 0
+
+-- the place where the main data end that stand before a frame, the frame right before it first: those of the last frame that isn't silent
+unfoldable pub end_behind : Option Head → List Row → ℕ
+end_behind head [] = 0
+end_behind head (r ∷ earlier) = if is_silent r then end_behind head earlier else start_of_data head earlier r + payload_bytes r.side
+
+-- ---- the main data themselves
+
+-- the area of the frame that begins at an offset
+abbrev pub area_bytes : List ℕ → ℕ → HeaderFields → List ℕ
+area_bytes file offset h = take (own_area h) (drop (overhead_of (class_of h) h.protected) (drop offset file))
+
+abbrev pub head_bytes : List ℕ → Option Head → List ℕ
+head_bytes file None = []
+head_bytes file (Some head) = area_bytes file head.offset head.header
+
+-- all areas, one behind the other
+unfoldable pub main_bytes : List ℕ → Option Head → List Row → List ℕ
+main_bytes file head rows = head_bytes file head ++ flat_map (λ (r : Row). area_bytes file r.offset r.header) rows
+
+-- the bits of a frame's main data, which begin at this place
+abbrev pub payload_at : List ℕ → ℕ → Side → List ℕ
+payload_at main start s = take (payload_bits s) (drop (8 * start) (bits main))
+
+-- bits in parts of these lengths, one behind the other
+unfoldable pub parts_of : List ℕ → List ℕ → List (List ℕ)
+parts_of [] bs = []
+parts_of (n ∷ ns) bs = take n bs ∷ parts_of ns (drop n bs)
+
+-- ---- the stream
+
+-- What a frame of a stream is, wherever it stands: the header but its bit rate index and padding, the side information but
+-- main_data_begin, and the main data of each granule and channel.
+pub record StreamFrame : Type 0 where
+  pub header : HeaderFields
+  pub side : Side
+  pub payload : List (List ℕ)
+
+abbrev pub no_slot : SlotFields
+no_slot = record { rate_index = 0; padding = false }
+
+-- the lengths in bits of the main data of each granule and channel, in their order
+abbrev pub part_lengths : HeaderFields → Side → List ℕ
+part_lengths h s = map (λ (g : Granule). g.part2_3_length) (granules_in (class_of h) s)
+
+abbrev pub stream_frame : List ℕ → Option Head → List Row → Row → StreamFrame
+stream_frame main head earlier r = record {
+  header = record r.header { slot = no_slot };
+  side = record r.side { main_data_begin = 0 };
+  payload = parts_of (part_lengths r.header r.side) (payload_at main (start_of_data head earlier r) r.side);
+}
+
+-- these frames, the frames before them being given, the last first
+unfoldable pub stream_behind : List ℕ → Option Head → List Row → List Row → List StreamFrame
+stream_behind main head earlier [] = []
+stream_behind main head earlier (r ∷ rows) = stream_frame main head earlier r ∷ stream_behind main head (r ∷ earlier) rows

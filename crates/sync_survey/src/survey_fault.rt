@@ -1,0 +1,75 @@
+//! Why there is no survey of a file. Offsets and lengths are in bytes.
+ghost use Rattle.std.specs.Prelude.{◌≡◌};
+ghost use Rattle.sync_survey.specs.declared.survey_fault.SurveyFault.TheVariants.{Memory};
+ghost use Rattle.sync_survey.specs.Faults.{as_survey};
+
+use crate::places::WalkFault;
+use std::alloc::{AllocError, AllocFailed};
+
+/// Why there is no survey of a file.
+#[derive(Clone, Copy, Debug, PartialEq, Eq)]
+pub enum SurveyFault {
+    /// The file isn't there.
+    Absent,
+    /// The file is longer than 1,073,741,824 bytes: its length.
+    TooLong(u64),
+    /// No frame begins where the blocks and zero bytes at the front of the file end, nor behind junk; or,
+    /// with the file's length, the only frame is a head.
+    NoFrame(u64),
+    /// Neither a frame nor a block nor a zero byte stands here.
+    LostSync(u64),
+    /// The frame or block that begins here passes the end of the file.
+    Truncated(u64),
+    /// A header of free format stands here.
+    FreeFormat(u64),
+    /// The frame here is of another class than the first frame: version, sampling frequency or number of
+    /// channels differ.
+    Mixed(u64),
+    /// The check word of the frame here is wrong: the word that stands there, and the one that is right.
+    CheckWord(u64, u16, u16),
+    /// The main data of the frame here begin before all main data of the file: its main_data_begin, and how
+    /// many bytes of main data stand before it.
+    BackPointer(u64, u32, u64),
+    /// The main data of the frame here begin before those of an earlier frame end.
+    Overlap(u64),
+    /// The main data of the frame here pass the end of its own area: their bits, and the bits that are
+    /// there for them.
+    Overrun(u64, u32, u32),
+    /// The frame here is the first past the number that is allowed.
+    TooManyFrames(u64),
+    /// The file was of the first length when it was found, and ended at the second when it was read.
+    Shrunk(u64, u64),
+    /// The file could not be read.
+    Read,
+    /// There was no memory left.
+    Memory,
+}
+
+impl From<AllocError> for SurveyFault {
+    ghost from_gives = { λ _ e. e ≡ Memory };
+
+    fn from(_: AllocError) -> SurveyFault {
+        SurveyFault::Memory
+    }
+}
+
+impl<T: Drop> From<AllocFailed<T>> for SurveyFault {
+    ghost from_gives = { λ _ e. e ≡ Memory };
+
+    fn from(_: AllocFailed<T>) -> SurveyFault {
+        SurveyFault::Memory
+    }
+}
+
+impl From<WalkFault> for SurveyFault {
+    ghost from_gives = { λ fault e. e ≡ as_survey fault };
+
+    fn from(fault: WalkFault) -> SurveyFault {
+        match fault {
+            WalkFault::NoFrame(at) => SurveyFault::NoFrame(at),
+            WalkFault::LostSync(at) => SurveyFault::LostSync(at),
+            WalkFault::Truncated(at) => SurveyFault::Truncated(at),
+            WalkFault::FreeFormat(at) => SurveyFault::FreeFormat(at),
+        }
+    }
+}
