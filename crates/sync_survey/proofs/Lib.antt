@@ -2,3 +2,4 @@
 pub mod ItemsLaws
 pub mod RunsLaws
 pub mod StartLaws
+pub mod WalkLaws

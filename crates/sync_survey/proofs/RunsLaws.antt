@@ -1,5 +1,5 @@
 -- Items that stand end to end: one item more, and what they are together.
-use Rattle.std.proofs.Common.{◌≡◌, ℕ, zero, suc, ◌+◌, ◌-◌, ◌<◌, ◌≤◌, Bool, true, false, cond, ◌&&◌, List, [], ◌∷◌, ◌++◌, length, take, drop, Option, Some, None, refl, sym, ◌∙◌, ap, subst, arith, append_assoc, length-drop}
+use Rattle.std.proofs.Common.{◌≡◌, ℕ, zero, suc, ◌+◌, ◌-◌, ◌<◌, ◌≤◌, Bool, true, false, cond, ◌&&◌, List, [], ◌∷◌, ◌++◌, length, take, drop, Option, Some, None, refl, sym, ◌∙◌, ap, subst, arith, append_assoc, append-nil}
 use Rattle.std.specs.Prelude.{flat_map, filter_map, nat_le, option_to_list}
 use Rattle.std.specs.List.{cons_option}
 use Rattle.std.proofs.lemmas.Bool.{false≢true, leb-true}
@@ -163,3 +163,7 @@ blocks-next part file at item is = ap (λ r. blocks_of r.items) (run-next part f
 -- one item more was kept
 pub kept_more : {X : Type 0} (old here kept rest later whole : List X) → kept ≡ old ++ here → rest ≡ here ++ later → old ++ rest ≡ whole → kept ++ later ≡ whole
 kept_more old here kept rest later whole e e' e'' = ap (λ k. k ++ later) e ∙ append_assoc old here later ∙ ap (λ r. old ++ r) (sym e') ∙ e''
+
+-- nothing more was left to keep
+pub kept_whole : {X : Type 0} (kept rest whole : List X) → rest ≡ [] → kept ++ rest ≡ whole → kept ≡ whole
+kept_whole kept rest whole nothing e = sym (append-nil kept) ∙ ap (λ r. kept ++ r) (sym nothing) ∙ e
