@@ -114,6 +114,7 @@ impl Class {
     pub fn area_of(&self, slot: Slot, protected: bool) -> u32
         ensures area { result ≡ area_of self.now slot protected }
         ensures some { 1 ≤ result }
+        ensures most { result ≤ 1441 }
         // With what stands before it, it is the frame.
         ensures whole { overhead_of self.now protected + result ≡ length_of self.now slot }
     {

@@ -199,6 +199,7 @@ impl Header {
     pub fn area(&self) -> u32
         ensures area { result ≡ area_of (class_of self.now) self.now.slot self.now.protected }
         ensures some { 1 ≤ result }
+        ensures most { result ≤ 1441 }
         ensures whole { overhead_of (class_of self.now) self.now.protected + result ≡ length_of (class_of self.now) self.now.slot }
     {
         self.class().area_of(self.slot, self.protected)

@@ -77,7 +77,7 @@ overhead-most c protected = omega (arith, overhead-is c protected, place-most pr
 pub room-least : (h : HeaderFields) (frame : List ℕ) → HasRoom h frame → 4 + side_size_of (class_of h) ≤ length frame
 room-least h frame room = omega (arith, room, overhead-is (class_of h) h.protected, place-least h.protected)
 
-room-protected : (h : HeaderFields) (frame : List ℕ) → h.protected ≡ true → HasRoom h frame → 6 ≤ length frame
+pub room-protected : (h : HeaderFields) (frame : List ℕ) → h.protected ≡ true → HasRoom h frame → 6 ≤ length frame
 room-protected h frame is room = omega (arith, room, overhead-is (class_of h) h.protected, ap side_place is)
 
 -- ---- a frame with other side information, by its parts

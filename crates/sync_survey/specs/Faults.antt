@@ -44,15 +44,20 @@ overruns place r = nat_lt (place + own_area r.header) (place - r.side.main_data_
 abbrev pub room_of : Row → ℕ
 room_of r = 8 * (r.side.main_data_begin + own_area r.header)
 
+-- the faults of a frame's main data, in their order
+abbrev pub data_faults : ℕ → ℕ → Row → List SurveyFault
+data_faults place ended r =
+    where_true (points_too_far place r) (BackPointer r.offset r.side.main_data_begin place)
+    ++ where_true (overlaps place ended r) (Overlap r.offset)
+    ++ where_true (overruns place r) (Overrun r.offset (payload_bits r.side) (room_of r))
+
 -- The faults of a frame, in their order: the place of its own area among the main data, the end of the main data before it, and how
 -- many frames stand before it are given, and of how many frames the file may be.
 unfoldable pub faults_at : List ℕ → ClassFields → ℕ → ℕ → ℕ → ℕ → Row → List SurveyFault
 faults_at file class allowed place ended count r =
     where_true (not (same_class (class_of r.header) class)) (Mixed r.offset)
     ++ where_true (has_wrong_word file r) (CheckWord r.offset (word_said (drop r.offset file)) (check_word_of r.header r.side))
-    ++ where_true (points_too_far place r) (BackPointer r.offset r.side.main_data_begin place)
-    ++ where_true (overlaps place ended r) (Overlap r.offset)
-    ++ where_true (overruns place r) (Overrun r.offset (payload_bits r.side) (room_of r))
+    ++ data_faults place ended r
     ++ where_true (count == allowed) (TooManyFrames r.offset)
 
 -- the same, by the frames before it, the last first

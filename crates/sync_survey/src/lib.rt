@@ -3,14 +3,18 @@
 
 mod items;
 mod places;
+mod rows;
 mod runs;
 mod starts;
+mod survey_fault;
 mod walks;
 
 pub use items::{Item, item_at};
 pub use places::{Head, Piece, PlacedFrame, Start, WalkFault};
+pub use rows::Row;
 pub use runs::{Part, item_of, run_stop};
 pub use starts::find_start;
+pub use survey_fault::SurveyFault;
 pub use walks::{Walk, WalkRefusal, walk_file};
 
 #[cfg(test)]

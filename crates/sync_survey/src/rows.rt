@@ -1,9 +1,11 @@
 //! The frames of a stream with their side information, and the faults of their main data.
-ghost use Rattle.std.specs.Prelude.{◌≡◌, ◌+◌, ◌*◌, ◌^◌, ◌≤◌, ◌<◌, [], length, drop};
-ghost use Rattle.frame_header.specs.Tables.{class_of, length_of, overhead_of};
-ghost use Rattle.side_info.specs.Side.{SideFits};
-ghost use Rattle.sync_survey.specs.MainData.{row_of, own_area, is_silent as is_silent_lem, place_behind, end_behind};
-ghost use Rattle.sync_survey.specs.Faults.{faults_at, has_wrong_word, first_of};
+ghost use Rattle.std.specs.Prelude.{◌≡◌, ◌+◌, ◌-◌, ◌^◌, ◌==◌, ◌≤◌, length, drop, if◌then◌else◌};
+ghost use Rattle.frame_header.specs.Tables.{class_of, overhead_of};
+ghost use Rattle.side_info.specs.Side.{SideFits, payload_bytes};
+ghost use Rattle.side_info.specs.CheckWord.{check_word_of};
+ghost use Rattle.side_info.specs.Frame.{word_said as word_said_lem};
+ghost use Rattle.sync_survey.specs.MainData.{row_of, own_area, is_silent};
+ghost use Rattle.sync_survey.specs.Faults.{where_true, has_wrong_word, data_faults, faults_at, first_of};
 
 use crate::items::is_same_class;
 use crate::places::PlacedFrame;
@@ -29,7 +31,7 @@ fn bytes_from(file: &[u8], offset: u64) -> &[u8]
 
 /// The frame with its side information.
 pub(crate) fn row_at(file: &[u8], frame: &PlacedFrame) -> Row
-    requires { frame.now.offset + length_of (class_of frame.now.header) frame.now.header.slot ≤ length file.now }
+    requires { frame.now.offset + overhead_of (class_of frame.now.header) frame.now.header.protected ≤ length file.now }
     ensures row { result ≡ row_of file.now frame.now }
     ensures fits { SideFits (class_of result.header) result.side }
 {
@@ -49,8 +51,11 @@ pub(crate) struct Before {
     pub(crate) ended: u64,
 }
 
-/// Whether the check word of the frame isn't the right one.
+/// The fault of the frame's check word, where it has one and it isn't the right one.
 fn word_fault(file: &[u8], row: &Row) -> Option<SurveyFault>
+    requires room { row.now.offset + overhead_of (class_of row.now.header) row.now.header.protected ≤ length file.now }
+    requires fits { SideFits (class_of row.now.header) row.now.side }
+    ensures { result ≡ first_of (where_true (has_wrong_word file.now row.now) (SurveyFault.CheckWord row.now.offset (word_said_lem (drop row.now.offset file.now)) (check_word_of row.now.header row.now.side))) }
 {
     if !row.header.protected {
         return None;
@@ -63,27 +68,45 @@ fn word_fault(file: &[u8], row: &Row) -> Option<SurveyFault>
     Some(SurveyFault::CheckWord(row.offset, said, right))
 }
 
+/// The fault of a frame that as many frames stand before as are allowed.
+fn count_fault(row: &Row, count: u32, allowed: u32) -> Option<SurveyFault>
+    ensures { result ≡ first_of (where_true (count == allowed) (SurveyFault.TooManyFrames row.now.offset)) }
+{
+    if count == allowed {
+        Some(SurveyFault::TooManyFrames(row.offset))
+    } else {
+        None
+    }
+}
+
 impl Before {
-    /// Why the main data of the frame can't stand where they would.
-    fn data_fault(&self, row: &Row) -> Option<SurveyFault> {
-        let begin = u64::from(row.side.main_data_begin);
-        let area = u64::from(row.header.area());
-        if self.place < begin {
-            return Some(SurveyFault::BackPointer(row.offset, begin as u32, self.place));
+    /// The first fault of the frame's main data.
+    fn data_fault(&self, row: &Row) -> Option<SurveyFault>
+        requires { self.now.place ≤ 2 ^ 62 }
+        ensures { result ≡ first_of (data_faults self.now.place self.now.ended row.now) }
+    {
+        let begin = row.side.main_data_begin;
+        let area = row.header.area();
+        if self.place < u64::from(begin) {
+            return Some(SurveyFault::BackPointer(row.offset, u32::from(begin), self.place));
         }
-        let start = self.place - begin;
+        let start = self.place - u64::from(begin);
         if start < self.ended {
             return Some(SurveyFault::Overlap(row.offset));
         }
-        if self.place + area < start + u64::from(row.side.payload_bytes()) {
-            let room = 8 * (begin + area);
-            return Some(SurveyFault::Overrun(row.offset, row.side.bits(), room as u32));
+        if self.place + u64::from(area) < start + u64::from(row.side.payload_bytes()) {
+            let room = 8 * (u32::from(begin) + area);
+            return Some(SurveyFault::Overrun(row.offset, row.side.bits(), room));
         }
         None
     }
 
     /// The main data before the next frame.
-    pub(crate) fn behind(&self, row: &Row) -> Before {
+    pub(crate) fn behind(&self, row: &Row) -> Before
+        requires { self.now.place ≤ 2 ^ 62 }
+        ensures place { result.place ≡ self.now.place + own_area row.now.header }
+        ensures ended { result.ended ≡ (if is_silent row.now then self.now.ended else self.now.place - row.now.side.main_data_begin + payload_bytes row.now.side) }
+    {
         let place = self.place + u64::from(row.header.area());
         if row.side.bits() == 0 {
             return Before { place, ended: self.ended };
@@ -96,15 +119,18 @@ impl Before {
     }
 
     /// The first fault of a frame that so many frames stand before.
-    pub(crate) fn fault(&self, file: &[u8], row: &Row, class: Class, count: u32, allowed: u32) -> Option<SurveyFault> {
+    #[tactic(auto, unfolding(crate::specs::Faults::faults_at))]
+    pub(crate) fn fault(&self, file: &[u8], row: &Row, class: Class, count: u32, allowed: u32) -> Option<SurveyFault>
+        requires room { row.now.offset + overhead_of (class_of row.now.header) row.now.header.protected ≤ length file.now }
+        requires fits { SideFits (class_of row.now.header) row.now.side }
+        requires bound { self.now.place ≤ 2 ^ 62 }
+        ensures { result ≡ first_of (faults_at file.now class allowed self.now.place self.now.ended count row.now) }
+    {
         if !is_same_class(row.header.class(), class) {
             return Some(SurveyFault::Mixed(row.offset));
         }
-        let too_many = if count == allowed {
-            Some(SurveyFault::TooManyFrames(row.offset))
-        } else {
-            None
-        };
-        word_fault(file, row).or(self.data_fault(row)).or(too_many)
+        word_fault(file, row)
+            .or(self.data_fault(row))
+            .or(count_fault(row, count, allowed))
     }
 }

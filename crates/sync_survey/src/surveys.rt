@@ -1,0 +1,1 @@
+//! The survey of a file's bytes.
