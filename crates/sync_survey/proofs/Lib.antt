@@ -3,3 +3,4 @@ pub mod ItemsLaws
 pub mod RunsLaws
 pub mod StartLaws
 pub mod WalkLaws
+pub mod OneItem

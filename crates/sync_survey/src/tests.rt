@@ -43,7 +43,8 @@ const OTHER_CLASS: &[u8] = &[0xff, 0xfb, 0x94, 0x00];
 const ID3V2: &[u8] = &[b'I', b'D', b'3', 4, 0, 0x10, 0, 0, 0, 20];
 
 /// APEv2 with the item `Title`, `x`: 79 bytes.
-const APE: &[u8] = b"APETAGEX\xd0\x07\0\0\x2f\0\0\0\x01\0\0\0\0\0\0\xa0\0\0\0\0\0\0\0\0\x01\0\0\0\0\0\0\0Title\0xAPETAGEX\xd0\x07\0\0\x2f\0\0\0\x01\0\0\0\0\0\0\x80\0\0\0\0\0\0\0\0";
+const APE: &[u8] =
+    b"APETAGEX\xd0\x07\0\0\x2f\0\0\0\x01\0\0\0\0\0\0\xa0\0\0\0\0\0\0\0\0\x01\0\0\0\0\0\0\0Title\0xAPETAGEX\xd0\x07\0\0\x2f\0\0\0\x01\0\0\0\0\0\0\x80\0\0\0\0\0\0\0\0";
 
 static CASES: [Case; 3] = [
     Case {
@@ -75,9 +76,27 @@ static CASES: [Case; 3] = [
             text_at: None,
             frames: &[342, 759],
             blocks: &[
-                Piece { offset: 0, block: Block { kind: Kind::Id3v2, length: 40 } },
-                Piece { offset: 1176, block: Block { kind: Kind::Ape, length: 79 } },
-                Piece { offset: 1255, block: Block { kind: Kind::Id3v1, length: 128 } },
+                Piece {
+                    offset: 0,
+                    block: Block {
+                        kind: Kind::Id3v2,
+                        length: 40,
+                    },
+                },
+                Piece {
+                    offset: 1176,
+                    block: Block {
+                        kind: Kind::Ape,
+                        length: 79,
+                    },
+                },
+                Piece {
+                    offset: 1255,
+                    block: Block {
+                        kind: Kind::Id3v1,
+                        length: 128,
+                    },
+                },
             ],
         }),
     },

@@ -159,7 +159,7 @@ fn find_all(
     requires whole { start.now.first.offset + size_of (Item.Frame start.now.first.header) ≤ length file.now }
     ensures stop { IfOk result (λ f. f.stop ≡ (stream_of file.now start.now).stop) }
     ensures frames { IfOk result (λ f. f.frames.items ≡ numbered head.now (frames_of (stream_of file.now start.now).items)) }
-    ensures blocks { IfOk result (λ f. f.blocks.items ≡ all_blocks file.now start.now) }
+    ensures pieces { IfOk result (λ f. f.blocks.items ≡ all_blocks file.now start.now) }
 {
     let mut found = Found::new(alloc);
     found.collect(Part::Front, file, 0)?;
