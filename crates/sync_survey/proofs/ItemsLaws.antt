@@ -1,11 +1,10 @@
 -- What stands at the front of bytes: one item, and no other.
-use Rattle.std.proofs.Common.{◌≡◌, ◌≢◌, ℕ, ◌+◌, ◌<◌, ◌≤◌, ◌==◌, Bool, true, false, cond, ◌&&◌, List, [], ◌∷◌, length, take, drop, Option, Some, None, Result, Ok, Err, refl, sym, ◌∙◌, ap, subst, arith}
-use Rattle.std.proofs.lemmas.Bool.{false≢true, eqb-true, leb-true}
+use Rattle.std.proofs.Common.{◌≡◌, ℕ, ◌<◌, ◌==◌, Bool, true, false, cond, List, [], ◌∷◌, take, drop, Option, Some, None, Result, Ok, Err, refl, sym, ◌∙◌, ap, subst, arith}
+use Rattle.std.proofs.lemmas.Bool.{false≢true, eqb-true}
 use Rattle.frame_header.specs.declared.header.NotHeader.{NotHeader}
 use Rattle.frame_header.specs.declared.header.NotHeader.TheVariants.{Free as FreeHeader, No}
 use Rattle.frame_header.specs.Fields.{HeaderFields, IsHeader}
 use Rattle.frame_header.specs.Tables.{class_of, length_of}
-use Rattle.frame_header.specs.Reading.{header_at}
 use Rattle.frame_header.proofs.Lengths.{area_some}
 use Rattle.frame_header.proofs.HeaderLaws.{IsHeader-header_at, IsClass-class_of}
 use Rattle.tag_blocks.specs.declared.block.Block.{Block as TagBlock}

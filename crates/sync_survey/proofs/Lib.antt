@@ -4,3 +4,4 @@ pub mod RunsLaws
 pub mod StartLaws
 pub mod WalkLaws
 pub mod FaultsLaws
+pub mod OneItem

@@ -1,15 +1,15 @@
 -- Items that stand end to end: one item more, and what they are together.
-use Rattle.std.proofs.Common.{◌≡◌, ℕ, zero, suc, ◌+◌, ◌-◌, ◌<◌, ◌≤◌, Bool, true, false, cond, ◌&&◌, List, [], ◌∷◌, ◌++◌, length, take, drop, Option, Some, None, refl, sym, ◌∙◌, ap, subst, arith, append_assoc, append-nil}
-use Rattle.std.specs.Prelude.{flat_map, filter_map, nat_le, option_to_list}
+use Rattle.std.proofs.Common.{◌≡◌, ℕ, zero, suc, ◌+◌, ◌-◌, ◌<◌, ◌≤◌, Bool, true, false, cond, ◌&&◌, List, [], ◌∷◌, ◌++◌, length, drop, Option, Some, None, refl, sym, ◌∙◌, ap, subst, arith, append_assoc, append-nil}
+use Rattle.std.specs.Prelude.{option_to_list}
 use Rattle.std.specs.List.{cons_option}
-use Rattle.std.proofs.lemmas.Bool.{false≢true, leb-true}
+use Rattle.std.proofs.lemmas.Bool.{false≢true, leb-true, le-leb}
 use Rattle.std.proofs.lemmas.List.{take-append-drop, drop-drop}
 use Rattle.sync_survey.specs.declared.items.Item.{Item}
 use Rattle.sync_survey.specs.declared.items.Item.TheVariants.{Frame, Free, Block, Zero, End, Nothing}
 use Rattle.sync_survey.specs.declared.runs.Part.{Part}
-use Rattle.sync_survey.specs.declared.runs.Part.TheVariants.{Front, Stream}
+use Rattle.sync_survey.specs.declared.runs.Part.TheVariants.{Front}
 use Rattle.sync_survey.specs.Items.{item_at, size_of, fits}
-use Rattle.sync_survey.specs.Runs.{Placed, belongs, whole, item_of, Run, stopped, behind, onward, run_up_to, run, AreEndToEnd, bytes_in, bytes_of, frame_as, block_as, frames_of, blocks_of}
+use Rattle.sync_survey.specs.Runs.{Placed, belongs, whole, item_of, Run, stopped, behind, onward, run_up_to, run, AreEndToEnd, AreOf, bytes_in, bytes_of, frame_as, block_as, frames_of, blocks_of}
 use Rattle.sync_survey.proofs.ItemsLaws.{size-some}
 
 -- what a test that passed says of its two parts
@@ -42,6 +42,13 @@ item_of-is part file at item e =
     let cases = whole_cases _ _ item e in
     let tests = both _ _ cases.0 in
     subst (IsItemOf part file at) cases.1 (within_file part file at (item_at file at) refl tests.0 tests.1)
+
+whole_item : (part : Part) (file : List ℕ) (at : ℕ) (item found : Item) → found ≡ item → belongs part item ≡ true → fits file at item ≡ true → whole part file at found ≡ Some item
+whole_item part file at item found is belongs fits = ap (whole part file at) is ∙ rw (belongs, fits) refl
+
+pub item_of-whole : (part : Part) (file : List ℕ) (at : ℕ) (item : Item) → item_at file at ≡ item → belongs part item ≡ true → at + size_of item ≤ length file → item_of part file at ≡ Some item
+unfolding item_of
+item_of-whole part file at item is belongs within = whole_item part file at item (item_at file at) is belongs (le-leb _ _ (omega (arith, within)))
 
 none_behind : (part : Part) (file : List ℕ) (at : ℕ) (o : Option Item) → item_of part file at ≡ o → length file ≤ at → o ≡ None
 none_behind part file at None is past = refl
@@ -110,6 +117,13 @@ ends_up_to (suc n) part file at = onward_ends part file at (λ later. run_up_to 
 pub run-ends : (part : Part) (file : List ℕ) (from : ℕ) → AreEndToEnd file from (run part file from).items (run part file from).stop
 unfolding run
 run-ends part file from = ends_up_to (length file) part file from
+
+-- items of the part that stand end to end, where no further one stands, are the run
+pub run-only : (part : Part) (file : List ℕ) (from : ℕ) (ps : List Placed) (to : ℕ) → AreEndToEnd file from ps to → AreOf part ps → item_of part file to ≡ None → run part file from ≡ record { items = ps; stop = to }
+run-only part file from [] to ends of none = run-stopped part file from (ap (item_of part file) ends ∙ none) ∙ ap stopped ends
+run-only part file from (p ∷ ps) to ends of none =
+    let here : item_of part file p.offset ≡ Some p.item = item_of-whole part file p.offset p.item ends.1 of.0 ends.2 in
+    ap (run part file) (sym ends.0) ∙ run-next part file p.offset p.item here ∙ ap (behind p.offset p.item) (run-only part file (p.offset + size_of p.item) ps to ends.3 of.1 none)
 
 -- items that stand end to end are, with the bytes behind them, the file's bytes from their beginning on
 pub bytes-ends : (file : List ℕ) (from : ℕ) (ps : List Placed) (to : ℕ) → AreEndToEnd file from ps to → bytes_of file ps ++ drop to file ≡ drop from file

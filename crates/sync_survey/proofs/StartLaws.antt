@@ -1,5 +1,5 @@
 -- The least offset where a test holds, and the start of the stream.
-use Rattle.std.proofs.Common.{◌≡◌, ℕ, zero, suc, ◌+◌, ◌<◌, ◌≤◌, Bool, true, false, cond, List, [], ◌∷◌, Option, Some, None, Result, Ok, Err, inl, inr, refl, sym, ◌∙◌, ap, subst, arith}
+use Rattle.std.proofs.Common.{◌≡◌, ℕ, zero, suc, ◌+◌, ◌<◌, ◌≤◌, Bool, true, false, cond, List, Option, Some, None, Result, Ok, Err, inl, inr, refl, sym, ◌∙◌, ap, subst, arith}
 use Rattle.std.specs.Prelude.{find, IfOk}
 use Rattle.std.specs.List.{range_with_len}
 use Rattle.std.proofs.lemmas.Bool.{false≢true}
@@ -8,9 +8,8 @@ use Rattle.sync_survey.specs.declared.items.Item.{Item}
 use Rattle.sync_survey.specs.declared.items.Item.TheVariants.{Frame, Free, Block, Zero, End, Nothing}
 use Rattle.sync_survey.specs.declared.places.WalkFault.{WalkFault}
 use Rattle.sync_survey.specs.declared.places.Start.{Start}
-use Rattle.sync_survey.specs.declared.runs.Part.TheVariants.{Front, Stream}
-use Rattle.sync_survey.specs.Items.{item_at, size_of, fits}
-use Rattle.sync_survey.specs.Runs.{run}
+use Rattle.sync_survey.specs.declared.runs.Part.TheVariants.{Stream}
+use Rattle.sync_survey.specs.Items.{item_at, fits}
 use Rattle.sync_survey.specs.Start.{anchored, IsLeast, IsFirst, is_anchored, first_anchored, longest_junk, start_with, start_behind, start_at, front_end_of, start_of, IsLeastStart}
 use Rattle.sync_survey.proofs.RunsLaws.{IsItemOf, within_file, both}
 

@@ -1,35 +1,25 @@
 -- The walk over a whole file, from what the parts of the code find.
-use Rattle.std.proofs.Common.{◌≡◌, ℕ, ◌+◌, ◌-◌, ◌<◌, ◌≤◌, Bool, true, false, cond, ◌&&◌, List, [], ◌∷◌, ◌++◌, length, take, drop, Option, Some, None, Result, Ok, Err, refl, sym, ◌∙◌, ap, subst, arith, append-nil}
-use Rattle.std.proofs.lemmas.Bool.{le-leb}
-use Rattle.frame_header.specs.Fields.{HeaderFields}
+use Rattle.std.proofs.Common.{◌≡◌, ℕ, ◌+◌, ◌≤◌, List, [], ◌∷◌, ◌++◌, length, drop, Option, Some, None, Result, Ok, Err, refl, sym, ◌∙◌, ap, subst, append-nil}
 use Rattle.sync_survey.specs.declared.items.Item.{Item}
 use Rattle.sync_survey.specs.declared.items.Item.TheVariants.{Frame, Free, Block, Zero, End, Nothing}
-use Rattle.sync_survey.specs.declared.runs.Part.{Part}
-use Rattle.sync_survey.specs.declared.runs.Part.TheVariants.{Front, Stream}
+use Rattle.sync_survey.specs.declared.runs.Part.TheVariants.{Stream}
 use Rattle.sync_survey.specs.declared.places.WalkFault.{WalkFault}
 use Rattle.sync_survey.specs.declared.walks.Walk.{Walk}
 use Rattle.sync_survey.specs.declared.walks.WalkRefusal.{WalkRefusal}
-use Rattle.sync_survey.specs.declared.walks.WalkRefusal.TheVariants.{Fault, Memory}
+use Rattle.sync_survey.specs.declared.walks.WalkRefusal.TheVariants.{Fault}
 use Rattle.std.specs.Prelude.{IsErrAnd, MatchResult}
 use Rattle.sync_survey.specs.declared.places.PlacedFrame.{PlacedFrame}
 use Rattle.sync_survey.specs.declared.places.Piece.{Piece}
 use Rattle.sync_survey.specs.declared.places.Head.{Head}
 use Rattle.sync_survey.specs.declared.places.Start.{Start}
-use Rattle.sync_survey.specs.Items.{Stands, item_at, size_of, fits}
-use Rattle.sync_survey.specs.Runs.{belongs, whole, item_of, run, frames_of, blocks_of, bytes_of, AreEndToEnd}
+use Rattle.sync_survey.specs.Items.{Stands, item_at, size_of}
+use Rattle.sync_survey.specs.Runs.{item_of, run, frames_of, blocks_of, bytes_of}
 use Rattle.sync_survey.specs.Start.{start_of}
 use Rattle.sync_survey.specs.Walk.{stream_of, head_of, numbered, numbered_at, all_blocks, fault_at, end_fault, WalkFields, walk_from, without_fault, walk_by, walk_of, shown, IsRefusal}
 use Rattle.sync_survey.proofs.ItemsLaws.{stands-at}
-use Rattle.sync_survey.proofs.RunsLaws.{run-next, frames-next, blocks-next, run-ends, bytes-ends}
+use Rattle.sync_survey.proofs.RunsLaws.{item_of-whole, run-next, frames-next, blocks-next, run-ends, bytes-ends}
 
 -- ---- behind the head
-
-whole_item : (part : Part) (file : List ℕ) (at : ℕ) (item found : Item) → found ≡ item → belongs part item ≡ true → fits file at item ≡ true → whole part file at found ≡ Some item
-whole_item part file at item found is belongs fits = ap (whole part file at) is ∙ rw (belongs, fits) refl
-
-item_of-whole : (part : Part) (file : List ℕ) (at : ℕ) (item : Item) → item_at file at ≡ item → belongs part item ≡ true → at + size_of item ≤ length file → item_of part file at ≡ Some item
-unfolding item_of
-item_of-whole part file at item is belongs within = whole_item part file at item (item_at file at) is belongs (le-leb _ _ (omega (arith, within)))
 
 -- the first frame of the stream is a whole item of it
 pub first_item : (file : List ℕ) (first : PlacedFrame) → item_at file first.offset ≡ Frame first.header → first.offset + size_of (Frame first.header) ≤ length file → item_of Stream file first.offset ≡ Some (Frame first.header)

@@ -1,5 +1,5 @@
 -- What is at fault in a file, and what a survey of a file without fault tells.
-use Rattle.std.specs.Prelude.{◌≡◌, ◌≢◌, ℕ, ◌+◌, ◌-◌, ◌*◌, ◌==◌, ◌&&◌, not, nat_lt, if◌then◌else◌, Bool, List, [], ◌∷◌, ◌++◌, length, drop, Option, Some, None, option_map, Result, Ok, Err, option_to_list}
+use Rattle.std.specs.Prelude.{◌≡◌, ◌⊎◌, ℕ, ◌+◌, ◌-◌, ◌*◌, ◌==◌, ◌&&◌, not, nat_lt, if◌then◌else◌, Bool, List, [], ◌∷◌, ◌++◌, length, drop, Option, Some, None, option_map, Result, Ok, Err, option_to_list}
 use Rattle.frame_header.specs.Fields.{HeaderFields, ClassFields}
 use Rattle.frame_header.specs.Tables.{class_of}
 use Rattle.side_info.specs.Side.{payload_bits, payload_bytes}
@@ -11,8 +11,9 @@ use Rattle.sync_survey.specs.declared.places.Piece.{Piece}
 use Rattle.sync_survey.specs.declared.places.Head.{Head}
 use Rattle.sync_survey.specs.declared.places.Start.{Start}
 use Rattle.sync_survey.specs.declared.rows.Row.{Row}
+use Rattle.sync_survey.specs.declared.surveys.Survey.{Survey}
 use Rattle.sync_survey.specs.declared.survey_fault.SurveyFault.{SurveyFault}
-use Rattle.sync_survey.specs.declared.survey_fault.SurveyFault.TheVariants.{TooLong, NoFrame, LostSync, Truncated, FreeFormat, Mixed, CheckWord, BackPointer, Overlap, Overrun, TooManyFrames}
+use Rattle.sync_survey.specs.declared.survey_fault.SurveyFault.TheVariants.{TooLong, NoFrame, LostSync, Truncated, FreeFormat, Mixed, CheckWord, BackPointer, Overlap, Overrun, TooManyFrames, Memory}
 use Rattle.sync_survey.specs.Items.{same_class}
 use Rattle.sync_survey.specs.Start.{start_of}
 use Rattle.sync_survey.specs.Walk.{WalkFields, walk_from}
@@ -126,6 +127,22 @@ survey_by file allowed (Ok start) = unless_fault (first_of (faults_from file all
 -- the survey of a file that may have so many frames, or its first fault
 unfoldable pub surveyed : List ℕ → ℕ → Result SurveyFields SurveyFault
 surveyed file allowed = survey_by file allowed (start_of file)
+
+-- what a survey of the code tells
+abbrev pub tells : Survey → SurveyFields
+tells s = record {
+  frames = s.frames.items;
+  blocks = s.blocks.items;
+  head = s.head;
+  junk = s.start.front_end;
+  first = s.start.first.offset;
+  class = class_from s.start;
+  length = s.length;
+}
+
+-- why there is no survey of these bytes: their first fault, or want of memory
+abbrev pub IsSurveyRefusal : List ℕ → ℕ → SurveyFault → Type 0
+IsSurveyRefusal file allowed fault = (fault ≡ Memory) ⊎ (surveyed file allowed ≡ Err fault)
 
 -- an input may have so many bytes
 abbrev pub longest_file : ℕ

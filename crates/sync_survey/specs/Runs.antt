@@ -1,5 +1,6 @@
 -- Items that stand end to end.
-use Rattle.std.specs.Prelude.{◌≡◌, ℕ, zero, suc, ◌+◌, ◌-◌, ◌&&◌, ◌≤◌, if◌then◌else◌, Bool, true, false, List, [], ◌∷◌, ◌++◌, length, take, drop, flat_map, filter_map, Option, Some, None}
+use Rattle.std.specs.Prelude.{◌≡◌, ℕ, zero, suc, ◌+◌, ◌&&◌, ◌≤◌, if◌then◌else◌, Bool, true, false, List, [], ◌∷◌, length, take, drop, flat_map, filter_map, Option, Some, None}
+use Rattle.frame_header.specs.Tables.{class_of, overhead_of}
 use Rattle.sync_survey.specs.declared.items.Item.{Item}
 use Rattle.sync_survey.specs.declared.items.Item.TheVariants.{Frame, Free, Block, Zero, End, Nothing}
 use Rattle.sync_survey.specs.declared.places.PlacedFrame.{PlacedFrame}
@@ -63,6 +64,11 @@ abbrev pub AreEndToEnd : List ℕ → ℕ → List Placed → ℕ → Type 0
 AreEndToEnd file from [] to = from ≡ to
 AreEndToEnd file from (p ∷ ps) to = (p.offset ≡ from) × (item_at file p.offset ≡ p.item) × (p.offset + size_of p.item ≤ length file) × AreEndToEnd file (p.offset + size_of p.item) ps to
 
+-- these items are of the part
+abbrev pub AreOf : Part → List Placed → Type 0
+AreOf part [] = Unit {0}
+AreOf part (p ∷ ps) = (belongs part p.item ≡ true) × AreOf part ps
+
 -- the bytes of an item of the file
 abbrev pub bytes_in : List ℕ → Placed → List ℕ
 bytes_in file p = take (size_of p.item) (drop p.offset file)
@@ -96,3 +102,8 @@ frames_of ps = filter_map (λ p. frame_as p.offset p.item) ps
 -- the blocks among them
 abbrev pub blocks_of : List Placed → List Piece
 blocks_of ps = filter_map (λ p. block_as p.offset p.item) ps
+
+-- each of these frames is in the file, up to its area at least
+abbrev pub AreInFile : List ℕ → List PlacedFrame → Type 0
+AreInFile file [] = Unit {0}
+AreInFile file (p ∷ ps) = (p.offset + overhead_of (class_of p.header) p.header.protected ≤ length file) × AreInFile file ps

@@ -6,8 +6,7 @@ use Rattle.frame_header.specs.Tables.{class_of, length_of}
 use Rattle.sync_survey.specs.declared.items.Item.{Item}
 use Rattle.sync_survey.specs.declared.items.Item.TheVariants.{Frame, Free, Block, Zero, End, Nothing}
 use Rattle.sync_survey.specs.declared.places.WalkFault.{WalkFault}
-use Rattle.sync_survey.specs.declared.places.WalkFault.TheVariants.{NoFrame, LostSync, Truncated, FreeFormat}
-use Rattle.sync_survey.specs.declared.places.PlacedFrame.{PlacedFrame}
+use Rattle.sync_survey.specs.declared.places.WalkFault.TheVariants.{NoFrame, Truncated, FreeFormat}
 use Rattle.sync_survey.specs.declared.places.Start.{Start}
 use Rattle.sync_survey.specs.declared.runs.Part.TheVariants.{Front}
 use Rattle.sync_survey.specs.Items.{item_at, fits, same_class}

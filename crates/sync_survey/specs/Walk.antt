@@ -1,6 +1,5 @@
 -- The walk over a whole file: the frames and blocks from the start on, and where it stops.
-use Rattle.std.specs.Prelude.{◌≡◌, ℕ, ◌+◌, Bool, List, [], ◌∷◌, ◌++◌, length, take, drop, Option, Some, None, option_map, Result, Ok, Err}
-use Rattle.frame_header.specs.Fields.{HeaderFields}
+use Rattle.std.specs.Prelude.{◌≡◌, ℕ, ◌+◌, List, [], ◌∷◌, ◌++◌, length, take, drop, Option, Some, None, option_map, Result, Ok, Err}
 use Rattle.frame_header.specs.Tables.{class_of, length_of}
 use Rattle.info_header.specs.HeadText.{head_text_of}
 use Rattle.sync_survey.specs.declared.items.Item.{Item}
@@ -80,12 +79,12 @@ walk_from file start =
     let stream = stream_of file start in
     let head = head_of file start.first in
     let frames = numbered head (frames_of stream.items) in record {
-  start = start;
-  head = head;
-  frames = frames;
-  blocks = all_blocks file start;
-  fault = end_fault file frames (fault_at stream.stop (item_at file stream.stop));
-}
+      start = start;
+      head = head;
+      frames = frames;
+      blocks = all_blocks file start;
+      fault = end_fault file frames (fault_at stream.stop (item_at file stream.stop));
+    }
 
 -- the walk, where nothing stops it before the end of the file
 abbrev pub without_fault : WalkFields → Option WalkFault → Result WalkFields WalkFault

@@ -65,6 +65,7 @@ fn rest_of(file: &[u8], at: usize) -> &[u8]
 pub fn item_at(file: &[u8], at: usize) -> Item
     ensures item { result ≡ item_at_lem file.now at }
     ensures stands { Stands (drop at file.now) result }
+    ensures only { (other : Item) → Stands (drop at file.now) other → other ≡ result }
 {
     item_front(rest_of(file, at))
 }

@@ -7,6 +7,7 @@ mod rows;
 mod runs;
 mod starts;
 mod survey_fault;
+mod surveys;
 mod walks;
 
 pub use items::{Item, item_at};
@@ -15,6 +16,7 @@ pub use rows::Row;
 pub use runs::{Part, item_of, run_stop};
 pub use starts::find_start;
 pub use survey_fault::SurveyFault;
+pub use surveys::{Survey, survey_bytes};
 pub use walks::{Walk, WalkRefusal, walk_file};
 
 #[cfg(test)]

@@ -69,7 +69,7 @@ fn word_fault(file: &[u8], row: &Row) -> Option<SurveyFault>
 }
 
 /// The fault of a frame that as many frames stand before as are allowed.
-fn count_fault(row: &Row, count: u32, allowed: u32) -> Option<SurveyFault>
+fn count_fault(row: &Row, count: u64, allowed: u64) -> Option<SurveyFault>
     ensures { result ≡ first_of (where_true (count == allowed) (SurveyFault.TooManyFrames row.now.offset)) }
 {
     if count == allowed {
@@ -120,7 +120,7 @@ impl Before {
 
     /// The first fault of a frame that so many frames stand before.
     #[tactic(auto, unfolding(crate::specs::Faults::faults_at))]
-    pub(crate) fn fault(&self, file: &[u8], row: &Row, class: Class, count: u32, allowed: u32) -> Option<SurveyFault>
+    pub(crate) fn fault(&self, file: &[u8], row: &Row, class: Class, count: u64, allowed: u64) -> Option<SurveyFault>
         requires room { row.now.offset + overhead_of (class_of row.now.header) row.now.header.protected ≤ length file.now }
         requires fits { SideFits (class_of row.now.header) row.now.side }
         requires bound { self.now.place ≤ 2 ^ 62 }

@@ -1,7 +1,7 @@
 //! Items that stand end to end.
-ghost use Rattle.std.specs.Prelude.{◌≡◌, ◌+◌, ◌++◌, ◌≤◌, ◌<◌, drop, length, IfSome};
+ghost use Rattle.std.specs.Prelude.{◌≡◌, ℕ, List, ◌+◌, ◌++◌, ◌≤◌, ◌<◌, drop, length, IfSome};
 ghost use Rattle.sync_survey.specs.Items.{size_of};
-ghost use Rattle.sync_survey.specs.Runs.{belongs as belongs_lem, item_of as item_of_lem, run, AreEndToEnd, bytes_of};
+ghost use Rattle.sync_survey.specs.Runs.{belongs as belongs_lem, item_of as item_of_lem, Placed, run, AreEndToEnd, AreOf, bytes_of};
 
 use crate::items::{Item, fits, item_at};
 
@@ -45,6 +45,8 @@ pub fn run_stop(part: Part, file: &[u8], from: usize) -> usize
     ensures stop { result ≡ (run part file.now from).stop }
     ensures items { AreEndToEnd file.now from (run part file.now from).items result }
     ensures bytes { bytes_of file.now (run part file.now from).items ++ drop result file.now ≡ drop from file.now }
+    // No other items of the part stand so and go as far.
+    ensures only { (items : List Placed) (stop : ℕ) → AreEndToEnd file.now from items stop → AreOf part items → item_of_lem part file.now stop ≡ None → stop ≡ result }
     ensures within { from ≤ length file.now → result ≤ length file.now }
 {
     let mut at = from;

@@ -48,7 +48,7 @@ impl From<WalkFault> for WalkRefusal {
 
 /// The head that the frame is, where it is one.
 #[tactic(auto, unfolding(crate::specs::Walk::head_of))]
-fn head_of(file: &[u8], frame: &PlacedFrame) -> Option<Head>
+pub(crate) fn head_of(file: &[u8], frame: &PlacedFrame) -> Option<Head>
     requires { frame.now.offset + size_of (Item.Frame frame.now.header) ≤ length file.now }
     ensures { result ≡ head_of_lem file.now frame.now }
 {
@@ -77,9 +77,9 @@ fn fault_at(file: &[u8], at: usize) -> Option<WalkFault>
 
 /// Frames and blocks as they were met, and the offset where the walk over them stopped.
 #[derive(Drop)]
-struct Found {
-    frames: Vec<PlacedFrame>,
-    blocks: Vec<Piece>,
+pub(crate) struct Found {
+    pub(crate) frames: Vec<PlacedFrame>,
+    pub(crate) blocks: Vec<Piece>,
     stop: usize,
 }
 
@@ -125,7 +125,7 @@ impl Found {
     }
 
     /// Why the walk is none, where it stopped before the end of the file or met no frame.
-    fn fault(&self, file: &[u8]) -> Option<WalkFault>
+    pub(crate) fn fault(&self, file: &[u8]) -> Option<WalkFault>
         ensures { result ≡ end_fault file.now self.now.frames.items (fault_at_lem self.now.stop (item_at_lem file.now self.now.stop)) }
     {
         match fault_at(file, self.stop) {
@@ -149,7 +149,7 @@ fn numbered_from(first: &PlacedFrame, head: &Option<Head>) -> usize
 }
 
 /// The blocks at the front of the file, and the blocks and numbered frames from its start on.
-fn find_all(
+pub(crate) fn find_all(
     alloc: Global,
     file: &[u8],
     start: &Start,
@@ -159,7 +159,7 @@ fn find_all(
     requires whole { start.now.first.offset + size_of (Item.Frame start.now.first.header) ≤ length file.now }
     ensures stop { IfOk result (λ f. f.stop ≡ (stream_of file.now start.now).stop) }
     ensures frames { IfOk result (λ f. f.frames.items ≡ numbered head.now (frames_of (stream_of file.now start.now).items)) }
-    ensures blocks { IfOk result (λ f. f.blocks.items ≡ all_blocks file.now start.now) }
+    ensures pieces { IfOk result (λ f. f.blocks.items ≡ all_blocks file.now start.now) }
 {
     let mut found = Found::new(alloc);
     found.collect(Part::Front, file, 0)?;

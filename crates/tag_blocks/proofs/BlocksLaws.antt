@@ -82,7 +82,7 @@ front_as-kind kind bytes b is = cond_some (begins kind bytes) _ b is
 front_as-own : (kind : Kind) (bytes : List ℕ) (b : Block) → front_as kind bytes ≡ Some b → front_as b.kind bytes ≡ Some b
 front_as-own kind bytes b is = subst (λ k. front_as k bytes ≡ Some b) (ap (λ (x : Block). x.kind) (front_as-kind kind bytes b is).1) is
 
-some_cases : (bytes : List ℕ) (b : Block) (x y z : Option Block) → front_as Id3v2 bytes ≡ x → front_as Id3v1 bytes ≡ y → front_as Ape bytes ≡ z → option_or x (option_or y z) ≡ Some b → front_as b.kind bytes ≡ Some b
+some_cases : (bytes : List ℕ) (b : Block) (x y z : Option Block) → front_as Id3v2 bytes ≡ x → front_as Id3v1 bytes ≡ y → front_as Ape bytes ≡ z → option_or (option_or x y) z ≡ Some b → front_as b.kind bytes ≡ Some b
 some_cases bytes b (Some x) y z first second third is = front_as-own Id3v2 bytes b (first ∙ is)
 some_cases bytes b None (Some y) z first second third is = front_as-own Id3v1 bytes b (second ∙ is)
 some_cases bytes b None None z first second third is = front_as-own Ape bytes b (third ∙ is)
@@ -97,7 +97,7 @@ block_front-begins bytes b is =
     let parts = front_as-kind b.kind bytes b (block_front-own bytes b is) in
     (parts.0, ap (λ (x : Block). x.length) parts.1)
 
-none_cases : (x y z : Option Block) → option_or x (option_or y z) ≡ None → (x ≡ None) × (y ≡ None) × (z ≡ None)
+none_cases : (x y z : Option Block) → option_or (option_or x y) z ≡ None → (x ≡ None) × (y ≡ None) × (z ≡ None)
 none_cases (Some b) y z e = absurd cc
 none_cases None (Some b) z e = absurd cc
 none_cases None None z e = (refl, refl, e)

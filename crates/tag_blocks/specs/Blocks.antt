@@ -85,4 +85,4 @@ front_as kind bytes = if begins kind bytes then Some (record { kind = kind; leng
 
 -- the block at the front of the bytes; at most one kind begins there
 unfoldable pub block_front : List ℕ → Option Block
-block_front bytes = option_or (front_as Id3v2 bytes) (option_or (front_as Id3v1 bytes) (front_as Ape bytes))
+block_front bytes = option_or (option_or (front_as Id3v2 bytes) (front_as Id3v1 bytes)) (front_as Ape bytes)

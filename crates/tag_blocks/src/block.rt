@@ -28,11 +28,26 @@ pub struct Block {
 /// The length of the header of ID3v2, and of its footer where there is one, in bytes.
 const ID3V2_HEADER: usize = 10;
 
+/// The bit of the flags of ID3v2 that says that there is a footer.
+const ID3V2_HAS_FOOTER: u32 = 4;
+
 /// The length of every ID3v1 block in bytes.
 const ID3V1_LENGTH: u64 = 128;
 
 /// The length of the header of APEv2, and of its footer, in bytes.
 const APE_HEADER: usize = 32;
+
+/// Where the version stands in the header of APEv2, the size of items and footer, and the flags.
+const APE_VERSION_AT: usize = 8;
+
+const APE_SIZE_AT: usize = 12;
+
+const APE_FLAGS_AT: usize = 20;
+
+/// The bits of the flags of APEv2 that say that the tag has a header, and that this is the header.
+const APE_HAS_HEADER: u32 = 31;
+
+const APE_IS_HEADER: u32 = 29;
 
 /// Whether a bit is set, counted from the least significant.
 fn is_set(flags: u32, bit: u32) -> bool
@@ -83,7 +98,7 @@ fn id3v2_at(front: &[u8]) -> Option<Block>
     if !is_id3v2(front) {
         return None;
     }
-    let has_footer = is_set(u32::from(front[5]), 4);
+    let has_footer = is_set(u32::from(front[5]), ID3V2_HAS_FOOTER);
     let footer = if has_footer { ID3V2_HEADER } else { 0 };
     Some(Block {
         kind: Kind::Id3v2,
@@ -122,10 +137,10 @@ fn is_ape(front: &[u8]) -> bool
 {
     front.len() >= APE_HEADER
         && front.starts_with(b"APETAGEX")
-        && ape_number(front, 8) == 2000
-        && ape_number(front, 12) >= 32
-        && is_set(ape_number(front, 20), 31)
-        && is_set(ape_number(front, 20), 29)
+        && ape_number(front, APE_VERSION_AT) == 2000
+        && ape_number(front, APE_SIZE_AT) >= 32
+        && is_set(ape_number(front, APE_FLAGS_AT), APE_HAS_HEADER)
+        && is_set(ape_number(front, APE_FLAGS_AT), APE_IS_HEADER)
 }
 
 /// The APEv2 block at the front of the bytes.
@@ -139,7 +154,7 @@ fn ape_at(front: &[u8]) -> Option<Block>
     }
     Some(Block {
         kind: Kind::Ape,
-        length: APE_HEADER as u64 + u64::from(ape_number(front, 12)),
+        length: APE_HEADER as u64 + u64::from(ape_number(front, APE_SIZE_AT)),
     })
 }
 
@@ -159,5 +174,5 @@ pub fn block_at(front: &[u8]) -> Option<Block>
     ensures least { IfSome result (λ b. 10 ≤ b.length) }
     ensures most { IfSome result (λ b. b.length ≤ 4294967327) }
 {
-    id3v2_at(front).or(id3v1_at(front).or(ape_at(front)))
+    id3v2_at(front).or(id3v1_at(front)).or(ape_at(front))
 }

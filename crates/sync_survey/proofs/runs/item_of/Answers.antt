@@ -1,7 +1,5 @@
 -- A whole item is within the file, and has bytes.
-use Rattle.std.proofs.Common.{◌≡◌, true, sym, ◌∙◌}
-use Rattle.sync_survey.specs.Items.{item_at, fits}
-use Rattle.sync_survey.specs.Runs.{belongs}
+use Rattle.std.proofs.Common.{sym, ◌∙◌}
 use Rattle.sync_survey.proofs.RunsLaws.{within_file}
 use Rattle.sync_survey.proofs.runs.item_of.Goals as goal
 

@@ -1,5 +1,5 @@
 -- The first anchored frame, by the tests of the closure.
-use Rattle.std.proofs.Common.{◌≡◌, ◌+◌, Bool, true, false, sym, ◌∙◌, ap, rules}
+use Rattle.std.proofs.Common.{◌≡◌, ◌+◌, true, false, rules}
 use Rattle.std.proofs.lemmas.Iterator.{first_from_Range}
 use Rattle.sync_survey.specs.Start.{is_anchored, first_anchored, IsFirst}
 use Rattle.sync_survey.proofs.StartLaws.{first-find}

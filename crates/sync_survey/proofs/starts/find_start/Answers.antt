@@ -1,5 +1,5 @@
 -- The first frame behind junk is whole, and stands at the least offset.
-use Rattle.std.proofs.Common.{◌≡◌, ◌+◌, ◌≤◌, length, sym, ◌∙◌}
+use Rattle.std.proofs.Common.{◌+◌, ◌≤◌, length, sym, ◌∙◌}
 use Rattle.sync_survey.specs.Items.{size_of}
 use Rattle.sync_survey.specs.declared.items.Item.TheVariants.{Frame}
 use Rattle.sync_survey.specs.Start.{IsLeastStart}

@@ -1,8 +1,6 @@
 -- The walk and its faults are those of the definition.
-use Rattle.std.proofs.Common.{◌≡◌, Ok, Err, Some, None, sym, ◌∙◌, ap}
-use Rattle.sync_survey.specs.declared.places.WalkFault.{WalkFault}
-use Rattle.sync_survey.specs.Start.{start_of}
-use Rattle.sync_survey.proofs.WalkLaws.{IsFound, refused, walk-no_start, walk-fault, walk-whole, walk-bytes}
+use Rattle.std.proofs.Common.{sym, ◌∙◌}
+use Rattle.sync_survey.proofs.WalkLaws.{refused, walk-no_start, walk-fault, walk-whole, walk-bytes}
 use Rattle.sync_survey.proofs.walks.walk_file.Goals as goal
 
 pub returns-in_err-start-clause-exact : goal.returns-in_err-start-clause-exact
@@ -14,14 +12,14 @@ pub returns-in-Some-clause-exact : goal.returns-in-Some-clause-exact
 returns-in-Some-clause-exact c =
     let found = c.in_ok-found.found in
     walk-fault c.args.file.now c.in_ok-start.start c.head_of-head.result found.frames.items _ found.stop c.in-Some.fault
-    (record { start_is = sym c.in_ok-start.ensures.start; head_is = c.head_of-head.ensures; frames_are = c.in_ok-found.ensures.frames; blocks_are = c.in_ok-found.ensures.blocks; stop_is = c.in_ok-found.ensures.stop })
+    (record { start_is = sym c.in_ok-start.ensures.start; head_is = c.head_of-head.ensures; frames_are = c.in_ok-found.ensures.frames; blocks_are = c.in_ok-found.ensures.pieces; stop_is = c.in_ok-found.ensures.stop })
     (sym c.fault.ensures ∙ c.in-Some.is)
 
 pub returns-in-None-clause-exact : goal.returns-in-None-clause-exact
 returns-in-None-clause-exact c =
     let found = c.in_ok-found.found in
     walk-whole c.args.file.now c.in_ok-start.start c.head_of-head.result found.frames.items _ found.stop
-    (record { start_is = sym c.in_ok-start.ensures.start; head_is = c.head_of-head.ensures; frames_are = c.in_ok-found.ensures.frames; blocks_are = c.in_ok-found.ensures.blocks; stop_is = c.in_ok-found.ensures.stop })
+    (record { start_is = sym c.in_ok-start.ensures.start; head_is = c.head_of-head.ensures; frames_are = c.in_ok-found.ensures.frames; blocks_are = c.in_ok-found.ensures.pieces; stop_is = c.in_ok-found.ensures.stop })
     (sym c.fault.ensures ∙ c.in-None.is)
 
 pub returns-in-None-clause-bytes : goal.returns-in-None-clause-bytes

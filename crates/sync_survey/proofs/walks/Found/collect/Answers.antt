@@ -1,5 +1,5 @@
 -- One item more is kept, or none is left.
-use Rattle.std.proofs.Common.{◌≡◌, ◌+◌, ◌++◌, Some, None, sym, ◌∙◌, ap}
+use Rattle.std.proofs.Common.{◌≡◌, ◌+◌, ◌++◌, Some, sym, ◌∙◌, ap}
 use Rattle.std.specs.Prelude.{option_to_list}
 use Rattle.sync_survey.specs.Items.{size_of}
 use Rattle.sync_survey.specs.Runs.{run, item_of, frame_as, block_as, frames_of, blocks_of}
@@ -13,12 +13,13 @@ loop-item-preserved c =
     let at = c.loop-item.at in
     let item = c.in-Some.item in
     let is : item_of part file at ≡ Some item = sym c.item_of.ensures.item ∙ c.in-Some.is in
-    let size : size_of item ≡ c.size.result = sym c.size.ensures in
-    (ap (λ n. (run part file (at + n)).stop) (sym size) ∙ sym (ap (λ r. r.stop) (run-next part file at item is)) ∙ c.loop-item.invariant.0,
-    kept_more c.loop-item.self.frames.items (option_to_list (frame_as at item)) c.note.new.self.frames.items (frames_of (run part file at).items) (frames_of (run part file (at + c.size.result)).items) _
-    c.in_ok-note.ensures.frames (frames-next part file at item is ∙ ap (λ n. option_to_list (frame_as at item) ++ frames_of (run part file (at + n)).items) size) c.loop-item.invariant.1,
-    kept_more c.loop-item.self.blocks.items (option_to_list (block_as at item)) c.note.new.self.blocks.items (blocks_of (run part file at).items) (blocks_of (run part file (at + c.size.result)).items) _
-    c.in_ok-note.ensures.blocks (blocks-next part file at item is ∙ ap (λ n. option_to_list (block_as at item) ++ blocks_of (run part file (at + n)).items) size) c.loop-item.invariant.2)
+    let size : size_of item ≡ c.size.result = sym c.size.ensures in (
+      ap (λ n. (run part file (at + n)).stop) (sym size) ∙ sym (ap (λ r. r.stop) (run-next part file at item is)) ∙ c.loop-item.invariant.0,
+      kept_more c.loop-item.self.frames.items (option_to_list (frame_as at item)) c.note.new.self.frames.items (frames_of (run part file at).items) (frames_of (run part file (at + c.size.result)).items) _
+          c.in_ok-note.ensures.frames (frames-next part file at item is ∙ ap (λ n. option_to_list (frame_as at item) ++ frames_of (run part file (at + n)).items) size) c.loop-item.invariant.1,
+      kept_more c.loop-item.self.blocks.items (option_to_list (block_as at item)) c.note.new.self.blocks.items (blocks_of (run part file at).items) (blocks_of (run part file (at + c.size.result)).items) _
+          c.in_ok-note.ensures.blocks (blocks-next part file at item is ∙ ap (λ n. option_to_list (block_as at item) ++ blocks_of (run part file (at + n)).items) size) c.loop-item.invariant.2,
+    )
 
 pub returns-clause-stop : goal.returns-clause-stop
 returns-clause-stop c =
