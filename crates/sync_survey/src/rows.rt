@@ -105,6 +105,7 @@ impl Before {
     pub(crate) fn behind(&self, row: &Row) -> Before
         requires { self.now.place ≤ 2 ^ 62 }
         ensures place { result.place ≡ self.now.place + own_area row.now.header }
+        ensures most { result.place ≤ self.now.place + 1441 }
         ensures ended { result.ended ≡ (if is_silent row.now then self.now.ended else self.now.place - row.now.side.main_data_begin + payload_bytes row.now.side) }
     {
         let place = self.place + u64::from(row.header.area());

@@ -1,5 +1,5 @@
 //! The survey of a file's bytes.
-ghost use Rattle.std.specs.Prelude.{◌≡◌, ◌⊎◌, ◌-◌, [], ◌∷◌, ℕ, length, IfOk, MatchResult};
+ghost use Rattle.std.specs.Prelude.{◌≡◌, ◌⊎◌, ◌-◌, ◌≤◌, [], IfOk, MatchResult};
 ghost use Rattle.sync_survey.specs.Runs.{AreInFile};
 ghost use Rattle.sync_survey.specs.MainData.{head_area as head_area_lem, rows_of};
 ghost use Rattle.sync_survey.specs.Faults.{all_faults, first_of, surveyed, tells};
