@@ -32,11 +32,11 @@ fn is_anchored(file: &[u8], at: usize) -> bool
     let Item::Frame(header) = item else {
         return false;
     };
-    fits(file, at, &item)
-        && is_anchor(
-            header.class(),
-            &item_at(file, at + header.length() as usize),
-        )
+    if !fits(file, at, &item) {
+        return false;
+    }
+    let end = at + header.length() as usize;
+    is_anchor(header.class(), &item_at(file, end))
 }
 
 /// The first of so many offsets where an anchored frame stands.
