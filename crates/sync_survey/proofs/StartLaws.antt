@@ -1,68 +1,139 @@
--- The least offset where a test holds, and the start of the stream.
+-- The first anchored frame, and the start of the stream.
 use Rattle.std.proofs.Common.{◌≡◌, ℕ, zero, suc, ◌+◌, ◌<◌, ◌≤◌, Bool, true, false, cond, List, Option, Some, None, Result, Ok, Err, inl, inr, refl, sym, ◌∙◌, ap, subst, arith}
-use Rattle.std.specs.Prelude.{find, IfOk}
-use Rattle.std.specs.List.{range_with_len}
-use Rattle.std.proofs.lemmas.Bool.{false≢true}
+use Rattle.std.specs.Prelude.{filter_map, slice_get, is_some, IfOk}
+use Rattle.std.specs.List.{range_with_len, cons_option}
 use Rattle.frame_header.specs.Fields.{HeaderFields}
 use Rattle.sync_survey.specs.declared.items.Item.{Item}
 use Rattle.sync_survey.specs.declared.items.Item.TheVariants.{Frame, Free, Block, Zero, End, Nothing}
+use Rattle.sync_survey.specs.declared.places.PlacedFrame.{PlacedFrame}
 use Rattle.sync_survey.specs.declared.places.WalkFault.{WalkFault}
 use Rattle.sync_survey.specs.declared.places.Start.{Start}
 use Rattle.sync_survey.specs.declared.runs.Part.TheVariants.{Stream}
 use Rattle.sync_survey.specs.Items.{item_at, fits}
-use Rattle.sync_survey.specs.Start.{anchored, IsLeast, IsFirst, is_anchored, first_anchored, longest_junk, start_with, start_behind, start_at, front_end_of, start_of, IsLeastStart}
+use Rattle.sync_survey.specs.Start.{has_anchor, anchored, anchored_frame, is_anchored, IsLeast, IsFirstAnchored, first_anchored, longest_junk, start_behind, start_at, front_end_of, start_of, IsLeastStart}
 use Rattle.sync_survey.proofs.RunsLaws.{IsItemOf, within_file, both}
 
-found_first : (test : ℕ → Bool) (b : Bool) (x : ℕ) (o p : Option ℕ) → b ≡ false → o ≡ p → cond b (Some x) o ≡ p
-found_first test true x o p isnt e = absurd (false≢true (sym isnt))
-found_first test false x o p isnt e = e
+-- ---- the first of so many offsets
 
-pub find-none : (test : ℕ → Bool) (count from : ℕ) → ((at : ℕ) → from ≤ at → at < from + count → test at ≡ false) → find test (range_with_len from count) ≡ None
-find-none test zero from none = refl
-find-none test (suc n) from none =
-    found_first test (test from) from (find test (range_with_len (from + 1) n)) None (none from (omega arith) (omega arith))
-    (find-none test n (from + 1) (λ at low high. none at (omega (arith, low)) (omega (arith, high))))
+-- what stands at the first of so many offsets, from one on, where something does
+abbrev first_of : (ℕ → Option PlacedFrame) → ℕ → ℕ → Option PlacedFrame
+first_of stands count from = slice_get (filter_map stands (range_with_len from count)) 0
 
-not_later : (test : ℕ → Bool) (from to at : ℕ) → IsLeast test from to at → test from ≡ true → from < at → ⊥
-not_later test from to at least is later = false≢true (sym (least.3 from (omega arith) later) ∙ is)
+-- nothing stands at the first offset
+nothing_here : (o : Option PlacedFrame) (rest : List PlacedFrame) → o ≡ None → slice_get (cons_option o rest) 0 ≡ slice_get rest 0
+nothing_here o rest none = ap (λ x. slice_get (cons_option x rest) 0) none
 
-not_here : (test : ℕ → Bool) (from at : ℕ) → test at ≡ true → test from ≡ false → at ≡ from → ⊥
-not_here test from at is isnt same = false≢true (sym isnt ∙ ap test (sym same) ∙ is)
+first_of-none : (stands : ℕ → Option PlacedFrame) (count from : ℕ) → ((at : ℕ) → from ≤ at → at < from + count → stands at ≡ None) → first_of stands count from ≡ None
+first_of-none stands zero from none = refl
+first_of-none stands (suc n) from none =
+    nothing_here (stands from) (filter_map stands (range_with_len (from + 1) n)) (none from (omega arith) (omega arith))
+    ∙ first_of-none stands n (from + 1) (λ at low high. none at (omega (arith, low)) (omega (arith, high)))
 
-find_here : (test : ℕ → Bool) (n from at : ℕ) (b : Bool) → test from ≡ b → IsLeast test from (from + suc n) at →
-    (IsLeast test (from + 1) ((from + 1) + n) at → find test (range_with_len (from + 1) n) ≡ Some at) → cond b (Some from) (find test (range_with_len (from + 1) n)) ≡ Some at
-find_here test n from at true is least behind = let same : from ≡ at = omega (arith, least.0, not_later test from (from + suc n) at least is) in ap (λ k. Some k) same
-find_here test n from at false is least behind =
-    let other : from + 1 ≤ at = omega (arith, least.0, not_here test from at least.2 is) in
-    behind (other, omega (arith, least.1), least.2, (λ earlier low high. least.3 earlier (omega (arith, low)) high))
+-- this stands at an offset, and nothing at an earlier one
+record IsFirstAt (stands : ℕ → Option PlacedFrame) (from to at : ℕ) (p : PlacedFrame) : Type 0 where
+  low : from ≤ at
+  high : at < to
+  here : stands at ≡ Some p
+  none : (earlier : ℕ) → from ≤ earlier → earlier < at → stands earlier ≡ None
 
-pub find-least : (test : ℕ → Bool) (count from at : ℕ) → IsLeast test from (from + count) at → find test (range_with_len from count) ≡ Some at
-find-least test zero from at least = absurd (omega (arith, least.0, least.1))
-find-least test (suc n) from at least = find_here test n from at (test from) refl least (find-least test n (from + 1) at)
+first_cases : (stands : ℕ → Option PlacedFrame) (n from at : ℕ) (p : PlacedFrame) (o : Option PlacedFrame) → stands from ≡ o → IsFirstAt stands from (from + suc n) at p →
+    (IsFirstAt stands (from + 1) ((from + 1) + n) at p → first_of stands n (from + 1) ≡ Some p) → slice_get (cons_option o (filter_map stands (range_with_len (from + 1) n))) 0 ≡ Some p
+first_cases stands n from at p (Some q) is first behind =
+    let contra : from < at → ⊥ = λ later. let no : stands from ≡ None = first.none from (omega arith) later in absurd cc in
+    let same : from ≡ at = omega (arith, first.low, contra) in
+    sym is ∙ ap stands same ∙ first.here
+first_cases stands n from at p None is first behind =
+    let contra : at ≡ from → ⊥ = λ same. let here : stands from ≡ Some p = ap stands (sym same) ∙ first.here in absurd cc in
+    let later : from + 1 ≤ at = omega (arith, first.low, contra) in
+    behind (record { low = later; high = omega (arith, first.high); here = first.here; none = λ earlier low high. first.none earlier (omega (arith, low)) high })
 
--- what was found first is what the list of offsets finds first
-pub first-find : (test : ℕ → Bool) (count from : ℕ) (r : Option ℕ) → IsFirst test from (from + count) r → r ≡ find test (range_with_len from count)
-first-find test count from None is = sym (find-none test count from is)
-first-find test count from (Some at) is = sym (find-least test count from at is)
+first_of-some : (stands : ℕ → Option PlacedFrame) (count from at : ℕ) (p : PlacedFrame) → IsFirstAt stands from (from + count) at p → first_of stands count from ≡ Some p
+first_of-some stands zero from at p first = absurd (omega (arith, first.low, first.high))
+first_of-some stands (suc n) from at p first = first_cases stands n from at p (stands from) refl first (first_of-some stands n (from + 1) at p)
 
--- what is found has the property, and nothing before it has
-none_earlier : (test : ℕ → Bool) (from at earlier : ℕ) (b : Bool) → test from ≡ false → ((k : ℕ) → from + 1 ≤ k → k < at → test k ≡ false) → from ≤ earlier → earlier < at → test earlier ≡ b → test earlier ≡ false
-none_earlier test from at earlier false isnt none low high is = is
-none_earlier test from at earlier true isnt none low high is =
-    let contra : from + 1 ≤ earlier → ⊥ = λ later. false≢true (sym (none earlier later high) ∙ is) in
-    let same : earlier ≡ from = omega (arith, low, contra) in
-    absurd (false≢true (sym isnt ∙ ap test (sym same) ∙ is))
+-- where nothing was found, nothing stands
+is_nothing : (stands : ℕ → Option PlacedFrame) (n from at : ℕ) (o : Option PlacedFrame) → stands from ≡ o → slice_get (cons_option o (filter_map stands (range_with_len (from + 1) n))) 0 ≡ None →
+    (first_of stands n (from + 1) ≡ None → from + 1 ≤ at → at < (from + 1) + n → stands at ≡ None) → (x : Option PlacedFrame) → stands at ≡ x → from ≤ at → at < from + suc n → stands at ≡ None
+is_nothing stands n from at (Some q) is found behind x here low high = absurd cc
+is_nothing stands n from at None is found behind None here low high = here
+is_nothing stands n from at None is found behind (Some p) here low high =
+    let contra : at ≡ from → ⊥ = λ same. let some : stands from ≡ Some p = ap stands (sym same) ∙ here in absurd cc in
+    behind found (omega (arith, low, contra)) (omega (arith, high))
 
-find_cases : (test : ℕ → Bool) (n from at : ℕ) (b : Bool) → test from ≡ b → cond b (Some from) (find test (range_with_len (from + 1) n)) ≡ Some at →
-    (find test (range_with_len (from + 1) n) ≡ Some at → IsLeast test (from + 1) ((from + 1) + n) at) → IsLeast test from (from + suc n) at
-find_cases test n from at true is found behind = let same : from ≡ at = cc in subst (λ k. IsLeast test from (from + suc n) k) same (omega arith, omega arith, is, (λ earlier low high. absurd (omega (arith, low, high))))
-find_cases test n from at false is found behind =
+first_of-nothing : (stands : ℕ → Option PlacedFrame) (count from : ℕ) → first_of stands count from ≡ None → (at : ℕ) → from ≤ at → at < from + count → stands at ≡ None
+first_of-nothing stands zero from found at low high = absurd (omega (arith, low, high))
+first_of-nothing stands (suc n) from found at low high = is_nothing stands n from at (stands from) refl found (λ later. first_of-nothing stands n (from + 1) later at) (stands at) refl low high
+
+-- what was found stands at the first offset
+none_before : (stands : ℕ → Option PlacedFrame) (from at earlier : ℕ) (x : Option PlacedFrame) → stands from ≡ None → ((k : ℕ) → from + 1 ≤ k → k < at → stands k ≡ None) → from ≤ earlier → earlier < at → stands earlier ≡ x →
+    stands earlier ≡ None
+none_before stands from at earlier None isnt none low high is = is
+none_before stands from at earlier (Some p) isnt none low high is =
+    let contra : earlier ≡ from → ⊥ = λ same. let some : stands from ≡ Some p = ap stands (sym same) ∙ is in absurd cc in
+    none earlier (omega (arith, low, contra)) high
+
+is_found : (stands : ℕ → Option PlacedFrame) (n from : ℕ) (p : PlacedFrame) (o : Option PlacedFrame) → stands from ≡ o → slice_get (cons_option o (filter_map stands (range_with_len (from + 1) n))) 0 ≡ Some p →
+    (first_of stands n (from + 1) ≡ Some p → (at : ℕ) × IsFirstAt stands (from + 1) ((from + 1) + n) at p) → (at : ℕ) × IsFirstAt stands from (from + suc n) at p
+is_found stands n from p (Some q) is found behind = (from, record { low = omega arith; high = omega arith; here = is ∙ found; none = λ earlier low high. absurd (omega (arith, low, high)) })
+is_found stands n from p None is found behind =
     let later = behind found in
-    (omega (arith, later.0), omega (arith, later.1), later.2, (λ earlier low high. none_earlier test from at earlier (test earlier) is later.3 low high refl))
+    (later.0, record { low = omega (arith, later.1.low); high = omega (arith, later.1.high); here = later.1.here; none = λ earlier low high. none_before stands from later.0 earlier (stands earlier) is later.1.none low high refl })
 
-pub find-is_least : (test : ℕ → Bool) (count from at : ℕ) → find test (range_with_len from count) ≡ Some at → IsLeast test from (from + count) at
-find-is_least test zero from at found = absurd cc
-find-is_least test (suc n) from at found = find_cases test n from at (test from) refl found (find-is_least test n (from + 1) at)
+first_of-is : (stands : ℕ → Option PlacedFrame) (count from : ℕ) (p : PlacedFrame) → first_of stands count from ≡ Some p → (at : ℕ) × IsFirstAt stands from (from + count) at p
+first_of-is stands zero from p found = absurd cc
+first_of-is stands (suc n) from p found = is_found stands n from p (stands from) refl found (first_of-is stands n (from + 1) p)
+
+-- ---- anchored frames
+
+-- an anchored frame stands at the offset
+pub record IsAnchoredAt (file : List ℕ) (at : ℕ) (p : PlacedFrame) : Type 0 where
+  pub offset : p.offset ≡ at
+  pub frame : IsItemOf Stream file p.offset (Frame p.header)
+
+anchor_cases : (file : List ℕ) (at : ℕ) (h : HeaderFields) (b : Bool) (p : PlacedFrame) → item_at file at ≡ Frame h → has_anchor file at h ≡ b → cond b (Some (record { offset = at; header = h })) None ≡ Some p → IsAnchoredAt file at p
+anchor_cases file at h true p is anchor e =
+    let same : record { offset = at; header = h } ≡ p = cc in
+    subst (IsAnchoredAt file at) same (record { offset = refl; frame = within_file Stream file at (Frame h) is refl (both _ _ anchor).0 })
+anchor_cases file at h false p is anchor e = absurd cc
+
+anchored_cases : (file : List ℕ) (at : ℕ) (item : Item) (p : PlacedFrame) → item_at file at ≡ item → anchored file at item ≡ Some p → IsAnchoredAt file at p
+anchored_cases file at (Frame h) p is e = anchor_cases file at h _ p is refl e
+anchored_cases file at Free p is e = absurd cc
+anchored_cases file at (Block b) p is e = absurd cc
+anchored_cases file at Zero p is e = absurd cc
+anchored_cases file at End p is e = absurd cc
+anchored_cases file at Nothing p is e = absurd cc
+
+pub anchored_frame-is : (file : List ℕ) (at : ℕ) (p : PlacedFrame) → anchored_frame file at ≡ Some p → IsAnchoredAt file at p
+unfolding anchored_frame
+anchored_frame-is file at p e = anchored_cases file at (item_at file at) p refl e
+
+-- the anchored frame that the code meets first is the one that is defined
+pub first_anchored-some : (count : ℕ) (file : List ℕ) (from at : ℕ) (p : PlacedFrame) → from ≤ at → at < from + count → anchored_frame file at ≡ Some p → ((earlier : ℕ) → from ≤ earlier → earlier < at → anchored_frame file earlier ≡ None) →
+    first_anchored count file from ≡ Some p
+unfolding first_anchored
+first_anchored-some count file from at p low high here none = first_of-some (anchored_frame file) count from at p (record { low = low; high = high; here = here; none = none })
+
+pub first_anchored-none : (count : ℕ) (file : List ℕ) (from : ℕ) → ((at : ℕ) → from ≤ at → at < from + count → anchored_frame file at ≡ None) → first_anchored count file from ≡ None
+unfolding first_anchored
+first_anchored-none count file from none = first_of-none (anchored_frame file) count from none
+
+-- and it stands at the least offset
+least_at : (file : List ℕ) (from to at : ℕ) (p : PlacedFrame) → IsFirstAt (anchored_frame file) from to at p → IsLeast (is_anchored file) from to at
+least_at file from to at p first = (first.low, first.high, ap is_some first.here, (λ earlier low high. ap is_some (first.none earlier low high)))
+
+pub first_anchored-least : (count : ℕ) (file : List ℕ) (from : ℕ) (r : Option PlacedFrame) → first_anchored count file from ≡ r → IsFirstAnchored file from (from + count) r
+unfolding first_anchored
+first_anchored-least count file from None found = λ at low high. ap is_some (first_of-nothing (anchored_frame file) count from found at low high)
+first_anchored-least count file from (Some p) found =
+    let first = first_of-is (anchored_frame file) count from p found in
+    subst (IsLeast (is_anchored file) from (from + count)) (sym (anchored_frame-is file first.0 p first.1.here).offset) (least_at file from (from + count) first.0 p first.1)
+
+pub first_anchored-frame : (count : ℕ) (file : List ℕ) (from : ℕ) (p : PlacedFrame) → first_anchored count file from ≡ Some p → IsItemOf Stream file p.offset (Frame p.header)
+unfolding first_anchored
+first_anchored-frame count file from p found =
+    let first = first_of-is (anchored_frame file) count from p found in
+    (anchored_frame-is file first.0 p first.1.here).frame
 
 -- ---- the first frame
 
@@ -73,35 +144,18 @@ pub record IsFirstFrame (file : List ℕ) (s : Start) : Type 0 where
 
 fits_cases : (file : List ℕ) (at : ℕ) (h : HeaderFields) (b : Bool) (fault : WalkFault) (s : Start) → item_at file at ≡ Frame h → fits file at (Frame h) ≡ b →
     cond b (Ok (record { front_end = at; first = record { offset = at; header = h } })) (Err fault) ≡ Ok s → IsFirstFrame file s
-fits_cases file at h true fault s is fit e = let same : record { front_end = at; first = record { offset = at; header = h } } ≡ s = cc in subst (IsFirstFrame file) same (record { frame = within_file Stream file at (Frame h) is refl fit; least = inl refl })
+fits_cases file at h true fault s is fit e =
+    let same : record { front_end = at; first = record { offset = at; header = h } } ≡ s = cc in
+    subst (IsFirstFrame file) same (record { frame = within_file Stream file at (Frame h) is refl fit; least = inl refl })
 fits_cases file at h false fault s is fit e = absurd cc
 
-with_cases : (file : List ℕ) (front_end at : ℕ) (item : Item) (s : Start) → item_at file at ≡ item → anchored file at item ≡ true → IsLeast (is_anchored file) (front_end + 1) ((front_end + 1) + longest_junk) at →
-    start_with front_end at item ≡ Ok s → IsFirstFrame file s
-with_cases file front_end at (Frame h) s is anchor least e =
-    let same : record { front_end = front_end; first = record { offset = at; header = h } } ≡ s = cc in
-    subst (IsFirstFrame file) same (record { frame = within_file Stream file at (Frame h) is refl (both _ _ anchor).0; least = inr least })
-with_cases file front_end at Free s is anchor least e = absurd cc
-with_cases file front_end at (Block b) s is anchor least e = absurd cc
-with_cases file front_end at Zero s is anchor least e = absurd cc
-with_cases file front_end at End s is anchor least e = absurd cc
-with_cases file front_end at Nothing s is anchor least e = absurd cc
-
-anchored_at : (file : List ℕ) (at : ℕ) → is_anchored file at ≡ true → anchored file at (item_at file at) ≡ true
-unfolding is_anchored
-anchored_at file at is = is
-
-found_least : (count : ℕ) (file : List ℕ) (from at : ℕ) → first_anchored count file from ≡ Some at → IsLeast (is_anchored file) from (from + count) at
-unfolding first_anchored
-found_least count file from at found = find-is_least (is_anchored file) count from at found
-
-behind_cases : (file : List ℕ) (front_end : ℕ) (o : Option ℕ) (s : Start) → first_anchored longest_junk file (front_end + 1) ≡ o → start_behind file front_end o ≡ Ok s → IsFirstFrame file s
+behind_cases : (file : List ℕ) (front_end : ℕ) (o : Option PlacedFrame) (s : Start) → first_anchored longest_junk file (front_end + 1) ≡ o → start_behind front_end o ≡ Ok s → IsFirstFrame file s
 behind_cases file front_end None s is e = absurd cc
-behind_cases file front_end (Some at) s is e =
-    let least = found_least longest_junk file (front_end + 1) at is in
-    with_cases file front_end at (item_at file at) s refl (anchored_at file at least.2) least e
+behind_cases file front_end (Some p) s is e =
+    let same : record { front_end = front_end; first = p } ≡ s = cc in
+    subst (IsFirstFrame file) same (record { frame = first_anchored-frame longest_junk file (front_end + 1) p is; least = inr (first_anchored-least longest_junk file (front_end + 1) (Some p) is) })
 
-pub start_behind-first : (file : List ℕ) (front_end : ℕ) (s : Start) → start_behind file front_end (first_anchored longest_junk file (front_end + 1)) ≡ Ok s → IsFirstFrame file s
+pub start_behind-first : (file : List ℕ) (front_end : ℕ) (s : Start) → start_behind front_end (first_anchored longest_junk file (front_end + 1)) ≡ Ok s → IsFirstFrame file s
 start_behind-first file front_end s e = behind_cases file front_end _ s refl e
 
 start_cases : (file : List ℕ) (at : ℕ) (item : Item) (s : Start) → item_at file at ≡ item → start_at file at item ≡ Ok s → IsFirstFrame file s

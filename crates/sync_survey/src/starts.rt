@@ -1,12 +1,12 @@
 //! Where the stream of frames begins.
 ghost use Rattle.std.specs.Prelude.{◌≡◌, ◌+◌, ◌≤◌, ◌<◌, length, IfOk};
 ghost use Rattle.sync_survey.specs.Items.{item_at as item_at_lem, size_of};
-ghost use Rattle.sync_survey.specs.Start.{is_anchor as is_anchor_lem, is_anchored as is_anchored_lem, first_anchored, longest_junk, start_of, start_behind, IsFirst, IsLeastStart};
+ghost use Rattle.sync_survey.specs.Start.{is_anchor as is_anchor_lem, anchored_frame as anchored_frame_lem, first_anchored as first_anchored_lem, longest_junk, start_of, start_behind as start_behind_lem, IsFirstAnchored, IsLeastStart};
 
 use crate::items::{Item, fits, is_same_class, item_at};
 use crate::places::{PlacedFrame, Start, WalkFault};
 use crate::runs::{Part, run_stop};
-use frame_header::{Class, Header};
+use frame_header::Class;
 
 /// So many bytes of junk may stand before the first frame.
 const LONGEST_JUNK: usize = 65_536;
@@ -22,54 +22,55 @@ fn is_anchor(class: Class, item: &Item) -> bool
     }
 }
 
-/// Whether an anchored frame stands at the offset: it is whole, and at its end stands a header of its
-/// class, the beginning of a block, or the end of the file.
-#[tactic(auto, unfolding(crate::specs::Start::is_anchored))]
-fn is_anchored(file: &[u8], at: usize) -> bool
-    ensures { result ≡ is_anchored_lem file.now at }
+/// The anchored frame at the offset: it is whole, and at its end stands a header of its class, the
+/// beginning of a block, or the end of the file.
+#[tactic(auto, unfolding(crate::specs::Start::anchored_frame))]
+fn anchored_frame(file: &[u8], at: usize) -> Option<PlacedFrame>
+    ensures { result ≡ anchored_frame_lem file.now at }
 {
     let item = item_at(file, at);
     let Item::Frame(header) = item else {
-        return false;
+        return None;
     };
-    fits(file, at, &item)
-        && is_anchor(
-            header.class(),
-            &item_at(file, at + header.length() as usize),
-        )
+    if !fits(file, at, &item) {
+        return None;
+    }
+    let end = at + header.length() as usize;
+    if !is_anchor(header.class(), &item_at(file, end)) {
+        return None;
+    }
+    Some(PlacedFrame {
+        offset: at as u64,
+        header,
+    })
 }
 
-/// The first of so many offsets where an anchored frame stands.
-fn find_anchored(count: usize, file: &[u8], from: usize) -> Option<usize>
+/// The anchored frame at the first of so many offsets where one stands.
+fn first_anchored(count: usize, file: &[u8], from: usize) -> Option<PlacedFrame>
     requires { from + count ≤ usize.MAX }
-    ensures first { result ≡ first_anchored count file.now from }
-    ensures least { IsFirst (is_anchored_lem file.now) from (from + count) result }
+    ensures first { result ≡ first_anchored_lem count file.now from }
+    ensures least { IsFirstAnchored file.now from (from + count) result }
 {
-    (from..from + count).find(|at| is_anchored(file, *at))
+    for at in from..from + count {
+        if let Some(frame) = anchored_frame(file, at) {
+            return Some(frame);
+        }
+    }
+    None
 }
 
 /// The start behind junk that begins at this offset.
-fn start_behind_junk(file: &[u8], front_end: usize) -> Result<Start, WalkFault>
+fn start_behind(file: &[u8], front_end: usize) -> Result<Start, WalkFault>
     requires { front_end ≤ length file.now }
-    ensures { result ≡ start_behind file.now front_end (first_anchored longest_junk file.now (front_end + 1)) }
+    ensures { result ≡ start_behind_lem front_end (first_anchored_lem longest_junk file.now (front_end + 1)) }
 {
-    let no_frame = WalkFault::NoFrame(front_end as u64);
-    let at = find_anchored(LONGEST_JUNK, file, front_end + 1).ok_or(no_frame)?;
-    match item_at(file, at) {
-        Item::Frame(header) => Ok(start(front_end, at, header)),
-        _ => Err(no_frame),
-    }
-}
-
-fn start(front_end: usize, at: usize, header: Header) -> Start
-    ensures { result ≡ record { front_end = front_end; first = record { offset = at; header = header } } }
-{
-    Start {
-        front_end: front_end as u64,
-        first: PlacedFrame {
-            offset: at as u64,
-            header,
-        },
+    let front_end_offset = front_end as u64;
+    match first_anchored(LONGEST_JUNK, file, front_end + 1) {
+        Some(first) => Ok(Start {
+            front_end: front_end_offset,
+            first,
+        }),
+        None => Err(WalkFault::NoFrame(front_end_offset)),
     }
 }
 
@@ -88,11 +89,15 @@ pub fn find_start(file: &[u8]) -> Result<Start, WalkFault>
     ensures least { IfOk result (IsLeastStart file.now) }
 {
     let at = run_stop(Part::Front, file, 0);
+    let offset = at as u64;
     let item = item_at(file, at);
     match item {
-        Item::Frame(header) if fits(file, at, &item) => Ok(start(at, at, header)),
-        Item::Frame(_) | Item::Block(_) => Err(WalkFault::Truncated(at as u64)),
-        Item::Free => Err(WalkFault::FreeFormat(at as u64)),
-        Item::Zero | Item::End | Item::Nothing => start_behind_junk(file, at),
+        Item::Frame(header) if fits(file, at, &item) => Ok(Start {
+            front_end: offset,
+            first: PlacedFrame { offset, header },
+        }),
+        Item::Frame(_) | Item::Block(_) => Err(WalkFault::Truncated(offset)),
+        Item::Free => Err(WalkFault::FreeFormat(offset)),
+        Item::Zero | Item::End | Item::Nothing => start_behind(file, at),
     }
 }
