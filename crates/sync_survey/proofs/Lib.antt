@@ -5,3 +5,4 @@ pub mod StartLaws
 pub mod WalkLaws
 pub mod FaultsLaws
 pub mod OneItem
+pub mod SurveyLaws

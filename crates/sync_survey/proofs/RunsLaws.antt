@@ -137,7 +137,7 @@ bytes-ends file from (p ∷ ps) to ends =
 
 -- ---- frames and blocks among the items of a run
 
-cons_list : {X : Type 0} (o : Option X) (xs : List X) → cons_option o xs ≡ option_to_list o ++ xs
+pub cons_list : {X : Type 0} (o : Option X) (xs : List X) → cons_option o xs ≡ option_to_list o ++ xs
 cons_list None xs = refl
 cons_list (Some x) xs = refl
 

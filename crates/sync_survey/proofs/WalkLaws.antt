@@ -51,7 +51,7 @@ pub record IsFound (file : List ℕ) (start : Start) (head : Option Head) (frame
   pub blocks_are : blocks ≡ all_blocks file start
   pub stop_is : stop ≡ (stream_of file start).stop
 
-walk-is : (file : List ℕ) (start : Start) (head : Option Head) (frames : List PlacedFrame) (blocks : List Piece) (stop : ℕ) → IsFound file start head frames blocks stop →
+pub walk-is : (file : List ℕ) (start : Start) (head : Option Head) (frames : List PlacedFrame) (blocks : List Piece) (stop : ℕ) → IsFound file start head frames blocks stop →
     walk_from file start ≡ record { start = start; head = head; frames = frames; blocks = blocks; fault = end_fault file frames (fault_at stop (item_at file stop)) }
 unfolding walk_from
 walk-is file start head frames blocks stop found =

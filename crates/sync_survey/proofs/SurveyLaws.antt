@@ -1,0 +1,121 @@
+-- The survey of a file's bytes, from what the parts of the code find.
+use Rattle.std.proofs.Common.{◌≡◌, ◌⊎◌, ℕ, ◌+◌, ◌≤◌, List, [], ◌∷◌, ◌++◌, length, drop, Option, Some, None, option_map, Result, Ok, Err, refl, sym, ◌∙◌, ap, ap₂, subst, inr, arith}
+use Rattle.std.specs.Prelude.{option_to_list}
+use Rattle.frame_header.specs.Fields.{HeaderFields, IsHeader}
+use Rattle.frame_header.specs.Tables.{class_of, length_of, overhead_of}
+use Rattle.frame_header.proofs.Lengths.{area_some}
+use Rattle.frame_header.proofs.HeaderLaws.{IsClass-class_of}
+use Rattle.side_info.proofs.FrameLaws.{overhead-most}
+use Rattle.sync_survey.specs.declared.items.Item.{Item}
+use Rattle.sync_survey.specs.declared.items.Item.TheVariants.{Frame, Free, Block, Zero, End, Nothing}
+use Rattle.sync_survey.specs.declared.places.PlacedFrame.{PlacedFrame}
+use Rattle.sync_survey.specs.declared.places.Piece.{Piece}
+use Rattle.sync_survey.specs.declared.places.Head.{Head}
+use Rattle.sync_survey.specs.declared.places.Start.{Start}
+use Rattle.sync_survey.specs.declared.places.WalkFault.{WalkFault}
+use Rattle.sync_survey.specs.declared.rows.Row.{Row}
+use Rattle.sync_survey.specs.declared.survey_fault.SurveyFault.{SurveyFault}
+use Rattle.sync_survey.specs.declared.runs.Part.TheVariants.{Stream}
+use Rattle.sync_survey.specs.Items.{item_at, size_of}
+use Rattle.sync_survey.specs.Runs.{Placed, AreEndToEnd, AreInFile, run, frame_as, frames_of}
+use Rattle.sync_survey.specs.Start.{start_of}
+use Rattle.sync_survey.specs.Walk.{stream_of, numbered, fault_at, end_fault, walk_from}
+use Rattle.sync_survey.specs.MainData.{rows_of}
+use Rattle.sync_survey.specs.Faults.{all_faults, as_survey, first_of, class_from, faults_from, SurveyFields, fields_from, unless_fault, survey_by, surveyed}
+use Rattle.sync_survey.proofs.ItemsLaws.{stands-at, header_front-in_range}
+use Rattle.sync_survey.proofs.RunsLaws.{cons_list, run-ends}
+use Rattle.sync_survey.proofs.WalkLaws.{IsFound, walk-is}
+use Rattle.sync_survey.proofs.FaultsLaws.{first-append, some-append, none-of}
+
+-- ---- the frames that were met are in the file
+
+overhead-within : (h : HeaderFields) → IsHeader h → overhead_of (class_of h) h.protected ≤ length_of (class_of h) h.slot
+overhead-within h fields = omega (arith, overhead-most (class_of h) h.protected, area_some (class_of h) h.slot (IsClass-class_of h fields) fields.slot)
+
+inside_more : (file : List ℕ) (at : ℕ) (item : Item) (frames : List PlacedFrame) → item_at file at ≡ item → at + size_of item ≤ length file → AreInFile file frames
+    → AreInFile file (option_to_list (frame_as at item) ++ frames)
+inside_more file at (Frame h) frames is within rest = (omega (arith, within, overhead-within h (header_front-in_range (drop at file) h (stands-at file at (Frame h) is))), rest)
+inside_more file at Free frames is within rest = rest
+inside_more file at (Block b) frames is within rest = rest
+inside_more file at Zero frames is within rest = rest
+inside_more file at End frames is within rest = rest
+inside_more file at Nothing frames is within rest = rest
+
+frames_inside : (file : List ℕ) (from : ℕ) (ps : List Placed) (to : ℕ) → AreEndToEnd file from ps to → AreInFile file (frames_of ps)
+frames_inside file from [] to e = tt
+frames_inside file from (p ∷ ps) to e =
+    subst (AreInFile file) (sym (cons_list (frame_as p.offset p.item) (frames_of ps)))
+    (inside_more file p.offset p.item (frames_of ps) e.1 e.2 (frames_inside file (p.offset + size_of p.item) ps to e.3))
+
+inside_behind : (file : List ℕ) (frames : List PlacedFrame) → AreInFile file frames → AreInFile file (drop 1 frames)
+inside_behind file [] all = tt
+inside_behind file (p ∷ ps) all = all.1
+
+numbered_inside : (file : List ℕ) (head : Option Head) (frames : List PlacedFrame) → AreInFile file frames → AreInFile file (numbered head frames)
+numbered_inside file None frames all = all
+numbered_inside file (Some head) frames all = inside_behind file frames all
+
+pub found_inside : (file : List ℕ) (start : Start) (head : Option Head) (frames : List PlacedFrame) → frames ≡ numbered head (frames_of (stream_of file start).items) → AreInFile file frames
+found_inside file start head frames is =
+    subst (AreInFile file) (sym is) (numbered_inside file head _ (frames_inside file start.first.offset _ _ (run-ends Stream file start.first.offset)))
+
+-- ---- the survey
+
+-- what a survey tells that found these frames and blocks
+abbrev pub told_by : List ℕ → Start → Option Head → List Row → List Piece → SurveyFields
+told_by file start head rows blocks = record {
+  frames = rows;
+  blocks = blocks;
+  head = head;
+  junk = start.front_end;
+  first = start.first.offset;
+  class = class_from start;
+  length = length file;
+}
+
+survey-by : (file : List ℕ) (allowed : ℕ) (r : Result Start WalkFault) → start_of file ≡ r → surveyed file allowed ≡ survey_by file allowed r
+unfolding surveyed
+survey-by file allowed r is = ap (survey_by file allowed) is
+
+-- no stream begins
+pub survey-no_start : (file : List ℕ) (allowed : ℕ) (fault : WalkFault) → start_of file ≡ Err fault → surveyed file allowed ≡ Err (as_survey fault)
+survey-no_start file allowed fault is = survey-by file allowed (Err fault) is
+
+module _ (file : List ℕ) (allowed : ℕ) (start : Start) (head : Option Head) (frames : List PlacedFrame) (blocks : List Piece) (stop : ℕ) (found : IsFound file start head frames blocks stop) where
+  abbrev end : Option WalkFault
+  end = end_fault file frames (fault_at stop (item_at file stop))
+
+  abbrev of_frames : List SurveyFault
+  of_frames = all_faults file head (class_from start) allowed [] (rows_of file frames)
+
+  faults-are : faults_from file allowed start ≡ of_frames ++ option_to_list (option_map as_survey end)
+  unfolding faults_from
+  faults-are = ap (λ w. all_faults file w.head (class_from start) allowed [] (rows_of file w.frames) ++ option_to_list (option_map as_survey w.fault)) (walk-is file start head frames blocks stop found)
+
+  abbrev fields : SurveyFields
+  fields = told_by file start head (rows_of file frames) blocks
+
+  fields-are : fields_from file start ≡ fields
+  unfolding fields_from
+  fields-are = ap (λ w. told_by file start w.head (rows_of file w.frames) w.blocks) (walk-is file start head frames blocks stop found)
+
+  -- a frame is at fault
+  pub survey-frame : (fault : SurveyFault) → first_of of_frames ≡ Some fault → surveyed file allowed ≡ Err fault
+  survey-frame fault is =
+      survey-by file allowed (Ok start) found.start_is
+      ∙ ap (λ o. unless_fault o (fields_from file start)) (ap first_of faults-are ∙ some-append of_frames (option_to_list (option_map as_survey end)) fault is)
+
+  last-fault : first_of of_frames ≡ None → (o : Option WalkFault) → end ≡ o → first_of (faults_from file allowed start) ≡ first_of (option_to_list (option_map as_survey o))
+  last-fault none o is =
+      ap first_of (faults-are ∙ ap₂ (λ (xs : List SurveyFault) (e : Option WalkFault). xs ++ option_to_list (option_map as_survey e)) (none-of of_frames none) is)
+
+  -- the walk stops before the end, or has no frame
+  pub survey-stopped : (fault : WalkFault) → first_of of_frames ≡ None → end ≡ Some fault → surveyed file allowed ≡ Err (as_survey fault)
+  survey-stopped fault none is =
+      survey-by file allowed (Ok start) found.start_is ∙ ap (λ o. unless_fault o (fields_from file start)) (last-fault none (Some fault) is)
+
+  -- nothing is at fault
+  pub survey-whole : first_of of_frames ≡ None → end ≡ None → surveyed file allowed ≡ Ok fields
+  survey-whole none is =
+      survey-by file allowed (Ok start) found.start_is
+      ∙ ap₂ unless_fault (last-fault none None is) fields-are
