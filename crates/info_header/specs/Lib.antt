@@ -1,0 +1,3 @@
+pub mod HeadText
+pub use Rattle.frame_header.specs.Fields
+pub use Rattle.frame_header.specs.Tables

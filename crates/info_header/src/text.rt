@@ -1,0 +1,45 @@
+//! Where the text of a head stands.
+ghost use Rattle.std.specs.Prelude.{◌≡◌, ◌+◌, ◌≤◌, length, IsTrue, IfSome};
+ghost use Rattle.info_header.specs.HeadText.{has_text as has_text_lem, head_text_of};
+
+use frame_header::Header;
+
+/// The length of a header in bytes.
+const HEADER_SIZE: u32 = 4;
+
+/// The length of a check word in bytes.
+const CHECK_WORD_SIZE: u32 = 2;
+
+/// Whether `Xing` or `Info` stands at this place.
+#[tactic(auto, unfolding(crate::specs::HeadText::has_text))]
+fn has_text(at: u32, frame: &[u8]) -> bool
+    ensures text { result ≡ has_text_lem at frame.now }
+    ensures within { IsTrue result → at + 4 ≤ length frame.now }
+{
+    let at = at as usize;
+    match frame.get(at..at + 4) {
+        Some(text) => text == b"Xing".as_slice() || text == b"Info".as_slice(),
+        None => false,
+    }
+}
+
+/// The place of `Xing` or `Info` in a frame, in bytes from its first byte. `frame` is the frame's whole
+/// bytes. The text is looked for behind the header and the side information (`4 + side_size`), and in a
+/// protected frame then also two bytes later, behind the check word. `None` exactly where it stands at
+/// neither place.
+#[tactic(auto, unfolding(crate::specs::HeadText::head_text_of, crate::specs::HeadText::low_place, crate::specs::HeadText::high_place))]
+pub fn head_text(header: &Header, frame: &[u8]) -> Option<u32>
+    ensures place { result ≡ head_text_of header.now frame.now }
+    // The whole text is in the frame.
+    ensures within { IfSome result (λ at. at + 4 ≤ length frame.now) }
+{
+    let low = HEADER_SIZE + header.class().side_size();
+    if has_text(low, frame) {
+        return Some(low);
+    }
+    let high = low + CHECK_WORD_SIZE;
+    if header.protected && has_text(high, frame) {
+        return Some(high);
+    }
+    None
+}
