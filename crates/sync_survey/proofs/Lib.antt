@@ -1,0 +1,6 @@
+-- The lemmas of this crate.
+pub mod ItemsLaws
+pub mod RunsLaws
+pub mod StartLaws
+pub mod WalkLaws
+pub mod OneItem

@@ -1,0 +1,112 @@
+-- At most one item stands at the front of bytes.
+use Rattle.std.proofs.Common.{◌≡◌, ◌≢◌, ℕ, ◌+◌, ◌*◌, ◌^◌, ◌<◌, ◌≤◌, ◌==◌, Bool, true, false, cond, List, [], ◌∷◌, ◌++◌, length, take, drop, get_or, Option, Some, None, Result, Ok, Err, refl, sym, ◌∙◌, ap, subst, arith}
+use Rattle.std.proofs.lemmas.Bool.{eqb-true, leb-true}
+use Rattle.std.proofs.lemmas.List.{length-take}
+use Rattle.std.proofs.Math.Seq.{take-append-add}
+use Rattle.bit_fields.specs.Bits.{bits, bits_of, number, AreBytes}
+use Rattle.bit_fields.specs.Groups.{group}
+use Rattle.bit_fields.proofs.BitsLaws.{length-bits_of, length-bits, bits-cons, number-append, number-below, number-bits_of-below, AreBits-take, AreBits-bits}
+use Rattle.frame_header.specs.declared.header.NotHeader.{NotHeader}
+use Rattle.frame_header.specs.declared.header.NotHeader.TheVariants.{Free as FreeHeader, No}
+use Rattle.frame_header.specs.Fields.{HeaderFields}
+use Rattle.frame_header.specs.Reading.{is_readable, header_in, header_at}
+use Rattle.frame_header.proofs.HeaderLaws.{header_in-no}
+use Rattle.tag_blocks.specs.declared.block.Block.{Block as TagBlock}
+use Rattle.tag_blocks.specs.Blocks.{block_front}
+use Rattle.tag_blocks.proofs.BlocksLaws.{block_front-not_zero, block_front-not_sync}
+use Rattle.sync_survey.specs.declared.items.Item.{Item}
+use Rattle.sync_survey.specs.declared.items.Item.TheVariants.{Frame, Free, Block, Zero, End, Nothing}
+use Rattle.sync_survey.specs.Items.{header_front, Stands, by_header, by_block, by_byte, item_front, item_at}
+use Rattle.sync_survey.proofs.RunsLaws.{both}
+
+-- ---- the first byte of a header
+
+-- twelve ones begin with a byte of ones
+sync_byte : (byte next : ℕ) (rest : List ℕ) → byte < 256 → group 0 12 (bits (byte ∷ next ∷ rest)) ≡ 4095 → byte ≡ 255
+unfolding group
+sync_byte byte next rest below sync =
+    let eight : length (bits_of 8 byte) ≡ 8 = length-bits_of 8 byte in
+    let behind = bits (next ∷ rest) in
+    let front : take 12 (bits (byte ∷ next ∷ rest)) ≡ bits_of 8 byte ++ take 4 behind =
+    ap (take 12) (bits-cons byte (next ∷ rest)) ∙ ap (λ n. take (n + 4) (bits_of 8 byte ++ behind)) (sym eight) ∙ take-append-add (bits_of 8 byte) behind 4 in
+    let four : length (take 4 behind) ≡ 4 = omega (arith, length-take 4 behind, length-bits (next ∷ rest)) in
+    let whole : number (take 12 (bits (byte ∷ next ∷ rest))) ≡ byte * 16 + number (take 4 behind) =
+    ap number front ∙ number-append (bits_of 8 byte) (take 4 behind) ∙ (λ i. number-bits_of-below 8 byte below i * 2 ^ four i + number (take 4 behind)) in
+    let few : number (take 4 behind) < 16 = subst (λ n. number (take 4 behind) < 2 ^ n) four (number-below (take 4 behind) (AreBits-take 4 behind (AreBits-bits (next ∷ rest)))) in
+    omega (arith, few, sym whole ∙ sync)
+
+readable_sync : (h : List ℕ) → is_readable h ≡ true → group 0 12 h ≡ 4095
+unfolding is_readable
+readable_sync h is = eqb-true _ _ (both _ _ (both _ _ (both _ _ is).0).0).0
+
+readable_cases : (h : List ℕ) (b : Bool) → is_readable h ≡ b → header_in h ≢ Err No → is_readable h ≡ true
+readable_cases h true is header = is
+readable_cases h false is header = absurd (header (header_in-no h is))
+
+-- bytes that don't begin with ff are no header
+no_header_by : (b : Bool) (r : Result HeaderFields NotHeader) → (b ≡ true → r ≡ Err No) → cond b r (Err No) ≡ Err No
+no_header_by true r none = none refl
+no_header_by false r none = refl
+
+result_cases : (r : Result HeaderFields NotHeader) → (r ≢ Err No → ⊥) → r ≡ Err No
+result_cases (Ok h) not = absurd (not (λ e. cc))
+result_cases (Err FreeHeader) not = absurd (not (λ e. cc))
+result_cases (Err No) not = refl
+
+four_bytes : (bytes : List ℕ) → AreBytes bytes → get_or bytes 0 0 ≢ 255 → 4 ≤ length bytes → header_at (take 4 bytes) ≡ Err No
+unfolding header_at
+four_bytes [] are other long = absurd (omega (arith, long))
+four_bytes (a ∷ []) are other long = absurd (omega (arith, long))
+four_bytes (a ∷ b ∷ rest) are other long = result_cases _ (λ header. other (sync_byte a b (take 2 rest) are.0 (readable_sync _ (readable_cases _ _ refl header))))
+
+no_header : (bytes : List ℕ) → AreBytes bytes → get_or bytes 0 0 ≢ 255 → header_front bytes ≡ Err No
+unfolding header_front
+no_header bytes are other = no_header_by _ _ (λ long. four_bytes bytes are other (leb-true 4 (length bytes) long))
+
+-- ---- the first byte of a block
+
+option_cases : (o : Option TagBlock) → ((b : TagBlock) → o ≡ Some b → ⊥) → o ≡ None
+option_cases None not = refl
+option_cases (Some b) not = absurd (not b refl)
+
+no_block : (bytes : List ℕ) → get_or bytes 0 0 ≡ 0 → block_front bytes ≡ None
+no_block bytes first = option_cases (block_front bytes) (λ b is. block_front-not_zero bytes b is first)
+
+-- ---- one item
+
+byte_cases : (b : ℕ) (zero : Bool) → (b == 0) ≡ zero → (b ∷ [] ≢ 0 ∷ []) → cond zero Zero Nothing ≡ Nothing
+byte_cases b true is other = absurd (other (ap (λ x. x ∷ []) (eqb-true b 0 is)))
+byte_cases b false is other = refl
+
+by_byte-nothing : (bytes : List ℕ) → bytes ≢ [] → take 1 bytes ≢ 0 ∷ [] → by_byte bytes ≡ Nothing
+by_byte-nothing [] some other = absurd (some refl)
+by_byte-nothing (b ∷ bs) some other = byte_cases b (b == 0) refl other
+
+by_byte-zero : (bytes : List ℕ) → take 1 bytes ≡ 0 ∷ [] → (get_or bytes 0 0 ≡ 0) × (by_byte bytes ≡ Zero)
+by_byte-zero [] first = absurd cc
+by_byte-zero (b ∷ bs) first = let same : b ≡ 0 = cc in (same, ap (λ x. by_byte (x ∷ bs)) same)
+
+-- where an item stands, it is the one that the definition finds
+pub stands-only : (bytes : List ℕ) (item : Item) → AreBytes bytes → Stands bytes item → item ≡ item_front bytes
+unfolding item_front
+stands-only bytes (Frame h) are here = ap (λ r. by_header r (by_block (block_front bytes) (by_byte bytes))) (sym here)
+stands-only bytes Free are here = ap (λ r. by_header r (by_block (block_front bytes) (by_byte bytes))) (sym here)
+stands-only bytes (Block b) are here =
+    let header = no_header bytes are (block_front-not_sync bytes b here) in
+    sym (λ i. by_header (header i) (by_block (here i) (by_byte bytes)))
+stands-only bytes Zero are here =
+    let first = by_byte-zero bytes here in
+    let header = no_header bytes are (λ e. let wrong : 0 ≡ 255 = sym first.0 ∙ e in absurd (omega (arith, wrong))) in
+    let block = no_block bytes first.0 in
+    sym ((λ i. by_header (header i) (by_block (block i) (by_byte bytes))) ∙ first.1)
+stands-only bytes End are here =
+    let first : get_or bytes 0 0 ≡ 0 = ap (λ xs. get_or xs 0 0) here in
+    let header = no_header bytes are (λ e. let wrong : 0 ≡ 255 = sym first ∙ e in absurd (omega (arith, wrong))) in
+    let block = no_block bytes first in
+    sym (λ i. by_header (header i) (by_block (block i) (by_byte (here i))))
+stands-only bytes Nothing are here = sym ((λ i. by_header (here.0 i) (by_block (here.1 i) (by_byte bytes))) ∙ by_byte-nothing bytes here.2 here.3)
+
+-- at an offset of a file
+pub stands-only_at : (file : List ℕ) (at : ℕ) (item : Item) → AreBytes (drop at file) → Stands (drop at file) item → item ≡ item_at file at
+unfolding item_at
+stands-only_at file at item are here = stands-only (drop at file) item are here

@@ -1,0 +1,176 @@
+-- The first anchored frame, and the start of the stream.
+use Rattle.std.proofs.Common.{◌≡◌, ℕ, zero, suc, ◌+◌, ◌<◌, ◌≤◌, Bool, true, false, cond, List, Option, Some, None, Result, Ok, Err, inl, inr, refl, sym, ◌∙◌, ap, subst, arith}
+use Rattle.std.specs.Prelude.{filter_map, slice_get, is_some, IfOk}
+use Rattle.std.specs.List.{range_with_len, cons_option}
+use Rattle.frame_header.specs.Fields.{HeaderFields}
+use Rattle.sync_survey.specs.declared.items.Item.{Item}
+use Rattle.sync_survey.specs.declared.items.Item.TheVariants.{Frame, Free, Block, Zero, End, Nothing}
+use Rattle.sync_survey.specs.declared.places.PlacedFrame.{PlacedFrame}
+use Rattle.sync_survey.specs.declared.places.WalkFault.{WalkFault}
+use Rattle.sync_survey.specs.declared.places.Start.{Start}
+use Rattle.sync_survey.specs.declared.runs.Part.TheVariants.{Stream}
+use Rattle.sync_survey.specs.Items.{item_at, fits}
+use Rattle.sync_survey.specs.Start.{has_anchor, anchored, anchored_frame, is_anchored, IsLeast, IsFirstAnchored, first_anchored, longest_junk, start_behind, start_at, front_end_of, start_of, IsLeastStart}
+use Rattle.sync_survey.proofs.RunsLaws.{IsItemOf, within_file, both}
+
+-- ---- the first of so many offsets
+
+-- what stands at the first of so many offsets, from one on, where something does
+abbrev first_of : (ℕ → Option PlacedFrame) → ℕ → ℕ → Option PlacedFrame
+first_of stands count from = slice_get (filter_map stands (range_with_len from count)) 0
+
+-- nothing stands at the first offset
+nothing_here : (o : Option PlacedFrame) (rest : List PlacedFrame) → o ≡ None → slice_get (cons_option o rest) 0 ≡ slice_get rest 0
+nothing_here o rest none = ap (λ x. slice_get (cons_option x rest) 0) none
+
+first_of-none : (stands : ℕ → Option PlacedFrame) (count from : ℕ) → ((at : ℕ) → from ≤ at → at < from + count → stands at ≡ None) → first_of stands count from ≡ None
+first_of-none stands zero from none = refl
+first_of-none stands (suc n) from none =
+    nothing_here (stands from) (filter_map stands (range_with_len (from + 1) n)) (none from (omega arith) (omega arith))
+    ∙ first_of-none stands n (from + 1) (λ at low high. none at (omega (arith, low)) (omega (arith, high)))
+
+-- this stands at an offset, and nothing at an earlier one
+record IsFirstAt (stands : ℕ → Option PlacedFrame) (from to at : ℕ) (p : PlacedFrame) : Type 0 where
+  low : from ≤ at
+  high : at < to
+  here : stands at ≡ Some p
+  none : (earlier : ℕ) → from ≤ earlier → earlier < at → stands earlier ≡ None
+
+first_cases : (stands : ℕ → Option PlacedFrame) (n from at : ℕ) (p : PlacedFrame) (o : Option PlacedFrame) → stands from ≡ o → IsFirstAt stands from (from + suc n) at p →
+    (IsFirstAt stands (from + 1) ((from + 1) + n) at p → first_of stands n (from + 1) ≡ Some p) → slice_get (cons_option o (filter_map stands (range_with_len (from + 1) n))) 0 ≡ Some p
+first_cases stands n from at p (Some q) is first behind =
+    let contra : from < at → ⊥ = λ later. let no : stands from ≡ None = first.none from (omega arith) later in absurd cc in
+    let same : from ≡ at = omega (arith, first.low, contra) in
+    sym is ∙ ap stands same ∙ first.here
+first_cases stands n from at p None is first behind =
+    let contra : at ≡ from → ⊥ = λ same. let here : stands from ≡ Some p = ap stands (sym same) ∙ first.here in absurd cc in
+    let later : from + 1 ≤ at = omega (arith, first.low, contra) in
+    behind (record { low = later; high = omega (arith, first.high); here = first.here; none = λ earlier low high. first.none earlier (omega (arith, low)) high })
+
+first_of-some : (stands : ℕ → Option PlacedFrame) (count from at : ℕ) (p : PlacedFrame) → IsFirstAt stands from (from + count) at p → first_of stands count from ≡ Some p
+first_of-some stands zero from at p first = absurd (omega (arith, first.low, first.high))
+first_of-some stands (suc n) from at p first = first_cases stands n from at p (stands from) refl first (first_of-some stands n (from + 1) at p)
+
+-- where nothing was found, nothing stands
+is_nothing : (stands : ℕ → Option PlacedFrame) (n from at : ℕ) (o : Option PlacedFrame) → stands from ≡ o → slice_get (cons_option o (filter_map stands (range_with_len (from + 1) n))) 0 ≡ None →
+    (first_of stands n (from + 1) ≡ None → from + 1 ≤ at → at < (from + 1) + n → stands at ≡ None) → (x : Option PlacedFrame) → stands at ≡ x → from ≤ at → at < from + suc n → stands at ≡ None
+is_nothing stands n from at (Some q) is found behind x here low high = absurd cc
+is_nothing stands n from at None is found behind None here low high = here
+is_nothing stands n from at None is found behind (Some p) here low high =
+    let contra : at ≡ from → ⊥ = λ same. let some : stands from ≡ Some p = ap stands (sym same) ∙ here in absurd cc in
+    behind found (omega (arith, low, contra)) (omega (arith, high))
+
+first_of-nothing : (stands : ℕ → Option PlacedFrame) (count from : ℕ) → first_of stands count from ≡ None → (at : ℕ) → from ≤ at → at < from + count → stands at ≡ None
+first_of-nothing stands zero from found at low high = absurd (omega (arith, low, high))
+first_of-nothing stands (suc n) from found at low high = is_nothing stands n from at (stands from) refl found (λ later. first_of-nothing stands n (from + 1) later at) (stands at) refl low high
+
+-- what was found stands at the first offset
+none_before : (stands : ℕ → Option PlacedFrame) (from at earlier : ℕ) (x : Option PlacedFrame) → stands from ≡ None → ((k : ℕ) → from + 1 ≤ k → k < at → stands k ≡ None) → from ≤ earlier → earlier < at → stands earlier ≡ x →
+    stands earlier ≡ None
+none_before stands from at earlier None isnt none low high is = is
+none_before stands from at earlier (Some p) isnt none low high is =
+    let contra : earlier ≡ from → ⊥ = λ same. let some : stands from ≡ Some p = ap stands (sym same) ∙ is in absurd cc in
+    none earlier (omega (arith, low, contra)) high
+
+is_found : (stands : ℕ → Option PlacedFrame) (n from : ℕ) (p : PlacedFrame) (o : Option PlacedFrame) → stands from ≡ o → slice_get (cons_option o (filter_map stands (range_with_len (from + 1) n))) 0 ≡ Some p →
+    (first_of stands n (from + 1) ≡ Some p → (at : ℕ) × IsFirstAt stands (from + 1) ((from + 1) + n) at p) → (at : ℕ) × IsFirstAt stands from (from + suc n) at p
+is_found stands n from p (Some q) is found behind = (from, record { low = omega arith; high = omega arith; here = is ∙ found; none = λ earlier low high. absurd (omega (arith, low, high)) })
+is_found stands n from p None is found behind =
+    let later = behind found in
+    (later.0, record { low = omega (arith, later.1.low); high = omega (arith, later.1.high); here = later.1.here; none = λ earlier low high. none_before stands from later.0 earlier (stands earlier) is later.1.none low high refl })
+
+first_of-is : (stands : ℕ → Option PlacedFrame) (count from : ℕ) (p : PlacedFrame) → first_of stands count from ≡ Some p → (at : ℕ) × IsFirstAt stands from (from + count) at p
+first_of-is stands zero from p found = absurd cc
+first_of-is stands (suc n) from p found = is_found stands n from p (stands from) refl found (first_of-is stands n (from + 1) p)
+
+-- ---- anchored frames
+
+-- an anchored frame stands at the offset
+pub record IsAnchoredAt (file : List ℕ) (at : ℕ) (p : PlacedFrame) : Type 0 where
+  pub offset : p.offset ≡ at
+  pub frame : IsItemOf Stream file p.offset (Frame p.header)
+
+anchor_cases : (file : List ℕ) (at : ℕ) (h : HeaderFields) (b : Bool) (p : PlacedFrame) → item_at file at ≡ Frame h → has_anchor file at h ≡ b → cond b (Some (record { offset = at; header = h })) None ≡ Some p → IsAnchoredAt file at p
+anchor_cases file at h true p is anchor e =
+    let same : record { offset = at; header = h } ≡ p = cc in
+    subst (IsAnchoredAt file at) same (record { offset = refl; frame = within_file Stream file at (Frame h) is refl (both _ _ anchor).0 })
+anchor_cases file at h false p is anchor e = absurd cc
+
+anchored_cases : (file : List ℕ) (at : ℕ) (item : Item) (p : PlacedFrame) → item_at file at ≡ item → anchored file at item ≡ Some p → IsAnchoredAt file at p
+anchored_cases file at (Frame h) p is e = anchor_cases file at h _ p is refl e
+anchored_cases file at Free p is e = absurd cc
+anchored_cases file at (Block b) p is e = absurd cc
+anchored_cases file at Zero p is e = absurd cc
+anchored_cases file at End p is e = absurd cc
+anchored_cases file at Nothing p is e = absurd cc
+
+pub anchored_frame-is : (file : List ℕ) (at : ℕ) (p : PlacedFrame) → anchored_frame file at ≡ Some p → IsAnchoredAt file at p
+unfolding anchored_frame
+anchored_frame-is file at p e = anchored_cases file at (item_at file at) p refl e
+
+-- the anchored frame that the code meets first is the one that is defined
+pub first_anchored-some : (count : ℕ) (file : List ℕ) (from at : ℕ) (p : PlacedFrame) → from ≤ at → at < from + count → anchored_frame file at ≡ Some p → ((earlier : ℕ) → from ≤ earlier → earlier < at → anchored_frame file earlier ≡ None) →
+    first_anchored count file from ≡ Some p
+unfolding first_anchored
+first_anchored-some count file from at p low high here none = first_of-some (anchored_frame file) count from at p (record { low = low; high = high; here = here; none = none })
+
+pub first_anchored-none : (count : ℕ) (file : List ℕ) (from : ℕ) → ((at : ℕ) → from ≤ at → at < from + count → anchored_frame file at ≡ None) → first_anchored count file from ≡ None
+unfolding first_anchored
+first_anchored-none count file from none = first_of-none (anchored_frame file) count from none
+
+-- and it stands at the least offset
+least_at : (file : List ℕ) (from to at : ℕ) (p : PlacedFrame) → IsFirstAt (anchored_frame file) from to at p → IsLeast (is_anchored file) from to at
+least_at file from to at p first = (first.low, first.high, ap is_some first.here, (λ earlier low high. ap is_some (first.none earlier low high)))
+
+pub first_anchored-least : (count : ℕ) (file : List ℕ) (from : ℕ) (r : Option PlacedFrame) → first_anchored count file from ≡ r → IsFirstAnchored file from (from + count) r
+unfolding first_anchored
+first_anchored-least count file from None found = λ at low high. ap is_some (first_of-nothing (anchored_frame file) count from found at low high)
+first_anchored-least count file from (Some p) found =
+    let first = first_of-is (anchored_frame file) count from p found in
+    subst (IsLeast (is_anchored file) from (from + count)) (sym (anchored_frame-is file first.0 p first.1.here).offset) (least_at file from (from + count) first.0 p first.1)
+
+pub first_anchored-frame : (count : ℕ) (file : List ℕ) (from : ℕ) (p : PlacedFrame) → first_anchored count file from ≡ Some p → IsItemOf Stream file p.offset (Frame p.header)
+unfolding first_anchored
+first_anchored-frame count file from p found =
+    let first = first_of-is (anchored_frame file) count from p found in
+    (anchored_frame-is file first.0 p first.1.here).frame
+
+-- ---- the first frame
+
+-- the start of a stream: its frame is whole, and none stands before it
+pub record IsFirstFrame (file : List ℕ) (s : Start) : Type 0 where
+  pub frame : IsItemOf Stream file s.first.offset (Frame s.first.header)
+  pub least : IsLeastStart file s
+
+fits_cases : (file : List ℕ) (at : ℕ) (h : HeaderFields) (b : Bool) (fault : WalkFault) (s : Start) → item_at file at ≡ Frame h → fits file at (Frame h) ≡ b →
+    cond b (Ok (record { front_end = at; first = record { offset = at; header = h } })) (Err fault) ≡ Ok s → IsFirstFrame file s
+fits_cases file at h true fault s is fit e =
+    let same : record { front_end = at; first = record { offset = at; header = h } } ≡ s = cc in
+    subst (IsFirstFrame file) same (record { frame = within_file Stream file at (Frame h) is refl fit; least = inl refl })
+fits_cases file at h false fault s is fit e = absurd cc
+
+behind_cases : (file : List ℕ) (front_end : ℕ) (o : Option PlacedFrame) (s : Start) → first_anchored longest_junk file (front_end + 1) ≡ o → start_behind front_end o ≡ Ok s → IsFirstFrame file s
+behind_cases file front_end None s is e = absurd cc
+behind_cases file front_end (Some p) s is e =
+    let same : record { front_end = front_end; first = p } ≡ s = cc in
+    subst (IsFirstFrame file) same (record { frame = first_anchored-frame longest_junk file (front_end + 1) p is; least = inr (first_anchored-least longest_junk file (front_end + 1) (Some p) is) })
+
+pub start_behind-first : (file : List ℕ) (front_end : ℕ) (s : Start) → start_behind front_end (first_anchored longest_junk file (front_end + 1)) ≡ Ok s → IsFirstFrame file s
+start_behind-first file front_end s e = behind_cases file front_end _ s refl e
+
+start_cases : (file : List ℕ) (at : ℕ) (item : Item) (s : Start) → item_at file at ≡ item → start_at file at item ≡ Ok s → IsFirstFrame file s
+start_cases file at (Frame h) s is e = fits_cases file at h _ _ s is refl e
+start_cases file at Free s is e = absurd cc
+start_cases file at (Block b) s is e = absurd cc
+start_cases file at Zero s is e = behind_cases file at _ s refl e
+start_cases file at End s is e = behind_cases file at _ s refl e
+start_cases file at Nothing s is e = behind_cases file at _ s refl e
+
+pub start-first : (file : List ℕ) (s : Start) → start_of file ≡ Ok s → IsFirstFrame file s
+unfolding start_of
+start-first file s e = start_cases file (front_end_of file) (item_at file (front_end_of file)) s refl e
+
+-- what holds of each value of an Ok
+pub if_ok : (r : Result Start WalkFault) (P : Start → Type 0) → ((s : Start) → r ≡ Ok s → P s) → IfOk r P
+if_ok (Ok s) P holds = holds s refl
+if_ok (Err fault) P holds = tt

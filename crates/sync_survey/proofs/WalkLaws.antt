@@ -1,0 +1,116 @@
+-- The walk over a whole file, from what the parts of the code find.
+use Rattle.std.proofs.Common.{◌≡◌, ℕ, ◌+◌, ◌≤◌, List, [], ◌∷◌, ◌++◌, length, drop, Option, Some, None, Result, Ok, Err, refl, sym, ◌∙◌, ap, subst, append-nil}
+use Rattle.sync_survey.specs.declared.items.Item.{Item}
+use Rattle.sync_survey.specs.declared.items.Item.TheVariants.{Frame, Free, Block, Zero, End, Nothing}
+use Rattle.sync_survey.specs.declared.runs.Part.TheVariants.{Stream}
+use Rattle.sync_survey.specs.declared.places.WalkFault.{WalkFault}
+use Rattle.sync_survey.specs.declared.walks.Walk.{Walk}
+use Rattle.sync_survey.specs.declared.walks.WalkRefusal.{WalkRefusal}
+use Rattle.sync_survey.specs.declared.walks.WalkRefusal.TheVariants.{Fault}
+use Rattle.std.specs.Prelude.{IsErrAnd, MatchResult}
+use Rattle.sync_survey.specs.declared.places.PlacedFrame.{PlacedFrame}
+use Rattle.sync_survey.specs.declared.places.Piece.{Piece}
+use Rattle.sync_survey.specs.declared.places.Head.{Head}
+use Rattle.sync_survey.specs.declared.places.Start.{Start}
+use Rattle.sync_survey.specs.Items.{Stands, item_at, size_of}
+use Rattle.sync_survey.specs.Runs.{item_of, run, frames_of, blocks_of, bytes_of}
+use Rattle.sync_survey.specs.Start.{start_of}
+use Rattle.sync_survey.specs.Walk.{stream_of, head_of, numbered, numbered_at, all_blocks, fault_at, end_fault, WalkFields, walk_from, without_fault, walk_by, walk_of, shown, IsRefusal}
+use Rattle.sync_survey.proofs.ItemsLaws.{stands-at}
+use Rattle.sync_survey.proofs.RunsLaws.{item_of-whole, run-next, frames-next, blocks-next, run-ends, bytes-ends}
+
+-- ---- behind the head
+
+-- the first frame of the stream is a whole item of it
+pub first_item : (file : List ℕ) (first : PlacedFrame) → item_at file first.offset ≡ Frame first.header → first.offset + size_of (Frame first.header) ≤ length file → item_of Stream file first.offset ≡ Some (Frame first.header)
+first_item file first is within = item_of-whole Stream file first.offset (Frame first.header) is refl within
+
+-- the frames, the blocks and the stop of the stream, from where its numbered frames begin
+pub numbered-frames : (file : List ℕ) (start : Start) (head : Option Head) → item_of Stream file start.first.offset ≡ Some (Frame start.first.header) →
+    frames_of (run Stream file (numbered_at start.first head)).items ≡ numbered head (frames_of (stream_of file start).items)
+numbered-frames file start None first = refl
+numbered-frames file start (Some head) first = sym (ap (drop 1) (frames-next Stream file start.first.offset (Frame start.first.header) first))
+
+pub numbered-blocks : (file : List ℕ) (start : Start) (head : Option Head) → item_of Stream file start.first.offset ≡ Some (Frame start.first.header) →
+    blocks_of (run Stream file (numbered_at start.first head)).items ≡ blocks_of (stream_of file start).items
+numbered-blocks file start None first = refl
+numbered-blocks file start (Some head) first = sym (blocks-next Stream file start.first.offset (Frame start.first.header) first)
+
+pub numbered-stop : (file : List ℕ) (start : Start) (head : Option Head) → item_of Stream file start.first.offset ≡ Some (Frame start.first.header) →
+    (run Stream file (numbered_at start.first head)).stop ≡ (stream_of file start).stop
+numbered-stop file start None first = refl
+numbered-stop file start (Some head) first = sym (ap (λ r. r.stop) (run-next Stream file start.first.offset (Frame start.first.header) first))
+
+-- ---- the whole walk
+
+-- what was found in a file with this start
+pub record IsFound (file : List ℕ) (start : Start) (head : Option Head) (frames : List PlacedFrame) (blocks : List Piece) (stop : ℕ) : Type 0 where
+  pub start_is : start_of file ≡ Ok start
+  pub head_is : head ≡ head_of file start.first
+  pub frames_are : frames ≡ numbered head (frames_of (stream_of file start).items)
+  pub blocks_are : blocks ≡ all_blocks file start
+  pub stop_is : stop ≡ (stream_of file start).stop
+
+walk-is : (file : List ℕ) (start : Start) (head : Option Head) (frames : List PlacedFrame) (blocks : List Piece) (stop : ℕ) → IsFound file start head frames blocks stop →
+    walk_from file start ≡ record { start = start; head = head; frames = frames; blocks = blocks; fault = end_fault file frames (fault_at stop (item_at file stop)) }
+unfolding walk_from
+walk-is file start head frames blocks stop found =
+    let numbers : frames ≡ numbered (head_of file start.first) (frames_of (stream_of file start).items) = found.frames_are ∙ ap (λ h. numbered h (frames_of (stream_of file start).items)) found.head_is in
+    sym (λ i. record {
+      start = start;
+      head = found.head_is i;
+      frames = numbers i;
+      blocks = found.blocks_are i;
+      fault = end_fault file (numbers i) (fault_at (found.stop_is i) (item_at file (found.stop_is i)));
+    })
+
+walk_of-by : (file : List ℕ) (start : Start) (walk : WalkFields) → start_of file ≡ Ok start → walk_from file start ≡ walk → walk_of file ≡ without_fault walk walk.fault
+unfolding walk_of
+walk_of-by file start walk is walked = ap (walk_by file) is ∙ ap (λ w. without_fault w w.fault) walked
+
+-- there is no stream
+pub walk-no_start : (file : List ℕ) (fault : WalkFault) → start_of file ≡ Err fault → walk_of file ≡ Err fault
+unfolding walk_of
+walk-no_start file fault is = ap (walk_by file) is
+
+-- the refusal that a fault becomes is that of the file
+pub refused : (file : List ℕ) (fault : WalkFault) (r : Result Walk WalkRefusal) → IsErrAnd r (λ refusal. refusal ≡ Fault fault) → walk_of file ≡ Err fault → MatchResult r (λ w. walk_of file ≡ Ok (shown w)) (IsRefusal file)
+refused file fault (Ok w) is e = absurd is
+refused file fault (Err refusal) is e = subst (IsRefusal file) (sym is) e
+
+-- something is at fault where the walk stops
+pub walk-fault : (file : List ℕ) (start : Start) (head : Option Head) (frames : List PlacedFrame) (blocks : List Piece) (stop : ℕ) (fault : WalkFault) → IsFound file start head frames blocks stop →
+    end_fault file frames (fault_at stop (item_at file stop)) ≡ Some fault → walk_of file ≡ Err fault
+walk-fault file start head frames blocks stop fault found is =
+    walk_of-by file start _ found.start_is (walk-is file start head frames blocks stop found)
+    ∙ ap (without_fault (record { start = start; head = head; frames = frames; blocks = blocks; fault = end_fault file frames (fault_at stop (item_at file stop)) })) is
+
+-- nothing is
+pub walk-whole : (file : List ℕ) (start : Start) (head : Option Head) (frames : List PlacedFrame) (blocks : List Piece) (stop : ℕ) → IsFound file start head frames blocks stop →
+    end_fault file frames (fault_at stop (item_at file stop)) ≡ None → walk_of file ≡ Ok (record { start = start; head = head; frames = frames; blocks = blocks; fault = None })
+walk-whole file start head frames blocks stop found is =
+    walk_of-by file start _ found.start_is (walk-is file start head frames blocks stop found)
+    ∙ (λ i. without_fault (record { start = start; head = head; frames = frames; blocks = blocks; fault = is i }) (is i))
+
+-- ---- a walk with no fault reaches the end of the file
+
+no_fault_cases : (file : List ℕ) (frames : List PlacedFrame) (o : Option WalkFault) → end_fault file frames o ≡ None → o ≡ None
+no_fault_cases file frames None e = refl
+no_fault_cases file [] (Some fault) e = absurd cc
+no_fault_cases file (p ∷ ps) (Some fault) e = absurd cc
+
+at_end : (rest : List ℕ) (at : ℕ) (item : Item) → Stands rest item → fault_at at item ≡ None → rest ≡ []
+at_end rest at (Frame h) here e = absurd cc
+at_end rest at Free here e = absurd cc
+at_end rest at (Block b) here e = absurd cc
+at_end rest at Zero here e = absurd cc
+at_end rest at End here e = here
+at_end rest at Nothing here e = absurd cc
+
+pub walk-bytes : (file : List ℕ) (start : Start) (frames : List PlacedFrame) (stop : ℕ) → stop ≡ (stream_of file start).stop → end_fault file frames (fault_at stop (item_at file stop)) ≡ None →
+    bytes_of file (stream_of file start).items ≡ drop start.first.offset file
+walk-bytes file start frames stop is none =
+    let r = stream_of file start in
+    let ended : drop stop file ≡ [] = at_end (drop stop file) stop (item_at file stop) (stands-at file stop (item_at file stop) refl) (no_fault_cases file frames _ none) in
+    let nothing : drop r.stop file ≡ [] = ap (λ at. drop at file) (sym is) ∙ ended in
+    sym (append-nil (bytes_of file r.items)) ∙ ap (λ rest. bytes_of file r.items ++ rest) (sym nothing) ∙ bytes-ends file start.first.offset r.items r.stop (run-ends Stream file start.first.offset)

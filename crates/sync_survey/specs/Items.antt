@@ -1,0 +1,73 @@
+-- What stands at an offset of a file: frames (ISO/IEC 11172-3 and 13818-3, 2.4.1), blocks of tags, single zero bytes.
+use Rattle.std.specs.Prelude.{◌≡◌, ◌≢◌, ℕ, ◌-◌, ◌==◌, ◌&&◌, nat_le, if◌then◌else◌, Bool, true, false, List, [], ◌∷◌, length, take, drop, Option, Some, None, Result, Ok, Err}
+use Rattle.frame_header.specs.declared.version.Version.{Version}
+use Rattle.frame_header.specs.declared.version.Version.TheVariants.{One, Two}
+use Rattle.frame_header.specs.declared.header.NotHeader.{NotHeader}
+use Rattle.frame_header.specs.declared.header.NotHeader.TheVariants.{Free as FreeHeader, No}
+use Rattle.frame_header.specs.Fields.{HeaderFields, ClassFields}
+use Rattle.frame_header.specs.Tables.{class_of, length_of}
+use Rattle.frame_header.specs.Reading.{header_at}
+use Rattle.tag_blocks.specs.declared.block.Block.{Block as TagBlock}
+use Rattle.tag_blocks.specs.Blocks.{block_front}
+use Rattle.sync_survey.specs.declared.items.Item.{Item}
+use Rattle.sync_survey.specs.declared.items.Item.TheVariants.{Frame, Free, Block, Zero, End, Nothing}
+
+-- the header at the front of these bytes; where fewer than four are left, none stands there
+unfoldable pub header_front : List ℕ → Result HeaderFields NotHeader
+header_front bytes = if nat_le 4 (length bytes) then header_at (take 4 bytes) else Err No
+
+-- this item stands at the front of these bytes
+abbrev pub Stands : List ℕ → Item → Type 0
+Stands bytes (Frame h) = header_front bytes ≡ Ok h
+Stands bytes Free = header_front bytes ≡ Err FreeHeader
+Stands bytes (Block b) = block_front bytes ≡ Some b
+Stands bytes Zero = take 1 bytes ≡ 0 ∷ []
+Stands bytes End = bytes ≡ []
+Stands bytes Nothing = (header_front bytes ≡ Err No) × (block_front bytes ≡ None) × (bytes ≢ []) × (take 1 bytes ≢ 0 ∷ [])
+
+-- a header, else what stands there otherwise
+abbrev pub by_header : Result HeaderFields NotHeader → Item → Item
+by_header (Ok h) other = Frame h
+by_header (Err FreeHeader) other = Free
+by_header (Err No) other = other
+
+-- a block, else what stands there otherwise
+abbrev pub by_block : Option TagBlock → Item → Item
+by_block (Some b) other = Block b
+by_block None other = other
+
+-- by the first byte alone
+abbrev pub by_byte : List ℕ → Item
+by_byte [] = End
+by_byte (b ∷ bs) = if b == 0 then Zero else Nothing
+
+-- the item at the front of these bytes; at most one kind stands there, so the order of these questions decides nothing
+unfoldable pub item_front : List ℕ → Item
+item_front bytes = by_header (header_front bytes) (by_block (block_front bytes) (by_byte bytes))
+
+-- the item at an offset of the file
+unfoldable pub item_at : List ℕ → ℕ → Item
+item_at file at = item_front (drop at file)
+
+-- the length in bytes of a frame by its header, of a block by its front, of a zero byte; what is no part of a file has none
+abbrev pub size_of : Item → ℕ
+size_of (Frame h) = length_of (class_of h) h.slot
+size_of Free = 0
+size_of (Block b) = b.length
+size_of Zero = 1
+size_of End = 0
+size_of Nothing = 0
+
+-- the item at the offset doesn't pass the end of the file
+abbrev pub fits : List ℕ → ℕ → Item → Bool
+fits file at item = nat_le (size_of item) (length file - at)
+
+abbrev pub same_version : Version → Version → Bool
+same_version One One = true
+same_version One Two = false
+same_version Two One = false
+same_version Two Two = true
+
+-- version, sampling frequency and number of channels are the same
+unfoldable pub same_class : ClassFields → ClassFields → Bool
+same_class c d = same_version c.version d.version && (c.frequency_index == d.frequency_index) && (c.channels == d.channels)

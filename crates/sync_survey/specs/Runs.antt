@@ -1,0 +1,103 @@
+-- Items that stand end to end.
+use Rattle.std.specs.Prelude.{◌≡◌, ℕ, zero, suc, ◌+◌, ◌&&◌, ◌≤◌, if◌then◌else◌, Bool, true, false, List, [], ◌∷◌, length, take, drop, flat_map, filter_map, Option, Some, None}
+use Rattle.sync_survey.specs.declared.items.Item.{Item}
+use Rattle.sync_survey.specs.declared.items.Item.TheVariants.{Frame, Free, Block, Zero, End, Nothing}
+use Rattle.sync_survey.specs.declared.places.PlacedFrame.{PlacedFrame}
+use Rattle.sync_survey.specs.declared.places.Piece.{Piece}
+use Rattle.sync_survey.specs.declared.runs.Part.{Part}
+use Rattle.sync_survey.specs.declared.runs.Part.TheVariants.{Front, Stream}
+use Rattle.sync_survey.specs.Items.{item_at, size_of, fits}
+
+-- an item and the offset where it stands
+pub record Placed : Type 0 where
+  pub offset : ℕ
+  pub item : Item
+
+-- before the first frame stand blocks and zero bytes, from it on frames too
+abbrev pub belongs : Part → Item → Bool
+belongs part (Block b) = true
+belongs part Zero = true
+belongs Stream (Frame h) = true
+belongs Front (Frame h) = false
+belongs part Free = false
+belongs part End = false
+belongs part Nothing = false
+
+-- the item, where it belongs to the part and is whole
+abbrev pub whole : Part → List ℕ → ℕ → Item → Option Item
+whole part file at item = if belongs part item && fits file at item then Some item else None
+
+-- the whole item of the part that stands at the offset
+unfoldable pub item_of : Part → List ℕ → ℕ → Option Item
+item_of part file at = whole part file at (item_at file at)
+
+-- the items of the part that stand end to end from an offset on, and the offset where no further one stands
+pub record Run : Type 0 where
+  pub items : List Placed
+  pub stop : ℕ
+
+abbrev pub stopped : ℕ → Run
+stopped at = record { items = []; stop = at }
+
+abbrev pub behind : ℕ → Item → Run → Run
+behind at item run = record { items = record { offset = at; item = item } ∷ run.items; stop = run.stop }
+
+-- the item, and the run from its end on; where there is none, the run stops
+abbrev pub onward : ℕ → (ℕ → Run) → Option Item → Run
+onward at next None = stopped at
+onward at next (Some item) = behind at item (next (at + size_of item))
+
+-- a run of at most so many items
+unfoldable pub run_up_to : ℕ → Part → List ℕ → ℕ → Run
+run_up_to zero part file at = stopped at
+run_up_to (suc most) part file at = onward at (λ later. run_up_to most part file later) (item_of part file at)
+
+-- a run of all of them: there are no more items than bytes
+unfoldable pub run : Part → List ℕ → ℕ → Run
+run part file from = run_up_to (length file) part file from
+
+-- ---- what a run says, without its recursion
+
+-- these items stand end to end in the file, from one offset to another
+abbrev pub AreEndToEnd : List ℕ → ℕ → List Placed → ℕ → Type 0
+AreEndToEnd file from [] to = from ≡ to
+AreEndToEnd file from (p ∷ ps) to = (p.offset ≡ from) × (item_at file p.offset ≡ p.item) × (p.offset + size_of p.item ≤ length file) × AreEndToEnd file (p.offset + size_of p.item) ps to
+
+-- these items are of the part
+abbrev pub AreOf : Part → List Placed → Type 0
+AreOf part [] = Unit {0}
+AreOf part (p ∷ ps) = (belongs part p.item ≡ true) × AreOf part ps
+
+-- the bytes of an item of the file
+abbrev pub bytes_in : List ℕ → Placed → List ℕ
+bytes_in file p = take (size_of p.item) (drop p.offset file)
+
+-- the bytes of these items, one behind the other
+abbrev pub bytes_of : List ℕ → List Placed → List ℕ
+bytes_of file ps = flat_map (bytes_in file) ps
+
+-- ---- frames and blocks among the items
+
+abbrev pub frame_as : ℕ → Item → Option PlacedFrame
+frame_as at (Frame h) = Some (record { offset = at; header = h })
+frame_as at Free = None
+frame_as at (Block b) = None
+frame_as at Zero = None
+frame_as at End = None
+frame_as at Nothing = None
+
+abbrev pub block_as : ℕ → Item → Option Piece
+block_as at (Block b) = Some (record { offset = at; block = b })
+block_as at (Frame h) = None
+block_as at Free = None
+block_as at Zero = None
+block_as at End = None
+block_as at Nothing = None
+
+-- the frames among these items, in their order
+abbrev pub frames_of : List Placed → List PlacedFrame
+frames_of ps = filter_map (λ p. frame_as p.offset p.item) ps
+
+-- the blocks among them
+abbrev pub blocks_of : List Placed → List Piece
+blocks_of ps = filter_map (λ p. block_as p.offset p.item) ps

@@ -1,0 +1,91 @@
+-- Where the stream of frames begins.
+use Rattle.std.specs.Prelude.{◌≡◌, ℕ, ◌+◌, ◌≤◌, ◌<◌, ◌&&◌, if◌then◌else◌, Bool, true, false, List, Option, Some, None, is_some, Result, Ok, Err, filter_map, slice_get, MatchOption, ◌⊎◌}
+use Rattle.std.specs.List.{range_with_len}
+use Rattle.frame_header.specs.Fields.{HeaderFields, ClassFields}
+use Rattle.frame_header.specs.Tables.{class_of, length_of}
+use Rattle.sync_survey.specs.declared.items.Item.{Item}
+use Rattle.sync_survey.specs.declared.items.Item.TheVariants.{Frame, Free, Block, Zero, End, Nothing}
+use Rattle.sync_survey.specs.declared.places.WalkFault.{WalkFault}
+use Rattle.sync_survey.specs.declared.places.WalkFault.TheVariants.{NoFrame, Truncated, FreeFormat}
+use Rattle.sync_survey.specs.declared.places.PlacedFrame.{PlacedFrame}
+use Rattle.sync_survey.specs.declared.places.Start.{Start}
+use Rattle.sync_survey.specs.declared.runs.Part.TheVariants.{Front}
+use Rattle.sync_survey.specs.Items.{item_at, fits, same_class}
+use Rattle.sync_survey.specs.Runs.{run}
+
+-- ---- anchored frames
+
+-- what stands at the end of an anchored frame of the class: a header of the class or the beginning of a block, whether or not the
+-- file holds them whole, or the end of the file; a zero byte is no anchor
+abbrev pub is_anchor : ClassFields → Item → Bool
+is_anchor c (Frame h) = same_class (class_of h) c
+is_anchor c Free = false
+is_anchor c (Block b) = true
+is_anchor c Zero = false
+is_anchor c End = true
+is_anchor c Nothing = false
+
+-- the frame with this header is whole, and an anchor stands at its end
+abbrev pub has_anchor : List ℕ → ℕ → HeaderFields → Bool
+has_anchor file at h = fits file at (Frame h) && is_anchor (class_of h) (item_at file (at + length_of (class_of h) h.slot))
+
+abbrev pub anchored : List ℕ → ℕ → Item → Option PlacedFrame
+anchored file at (Frame h) = if has_anchor file at h then Some (record { offset = at; header = h }) else None
+anchored file at Free = None
+anchored file at (Block b) = None
+anchored file at Zero = None
+anchored file at End = None
+anchored file at Nothing = None
+
+-- the anchored frame at the offset
+unfoldable pub anchored_frame : List ℕ → ℕ → Option PlacedFrame
+anchored_frame file at = anchored file at (item_at file at)
+
+abbrev pub is_anchored : List ℕ → ℕ → Bool
+is_anchored file at = is_some (anchored_frame file at)
+
+-- ---- the first frame
+
+-- so many bytes of junk may stand before the first frame
+abbrev pub longest_junk : ℕ
+longest_junk = 65536
+
+-- the anchored frame at the first of so many offsets, from one on, where one stands
+unfoldable pub first_anchored : ℕ → List ℕ → ℕ → Option PlacedFrame
+first_anchored count file from = slice_get (filter_map (anchored_frame file) (range_with_len from count)) 0
+
+-- the bytes from here on are junk up to the first frame, where there is one
+abbrev pub start_behind : ℕ → Option PlacedFrame → Result Start WalkFault
+start_behind front_end (Some frame) = Ok (record { front_end = front_end; first = frame })
+start_behind front_end None = Err (NoFrame front_end)
+
+-- the start by what stands where the blocks and zero bytes at the front end; a header there needs no anchor
+abbrev pub start_at : List ℕ → ℕ → Item → Result Start WalkFault
+start_at file at (Frame h) = if fits file at (Frame h) then Ok (record { front_end = at; first = record { offset = at; header = h } }) else Err (Truncated at)
+start_at file at Free = Err (FreeFormat at)
+start_at file at (Block b) = Err (Truncated at)
+start_at file at Zero = start_behind at (first_anchored longest_junk file (at + 1))
+start_at file at End = start_behind at (first_anchored longest_junk file (at + 1))
+start_at file at Nothing = start_behind at (first_anchored longest_junk file (at + 1))
+
+-- the offset that is reached from 0 by passing whole blocks and zero bytes, where neither stands
+unfoldable pub front_end_of : List ℕ → ℕ
+front_end_of file = (run Front file 0).stop
+
+-- the start of the stream, or why there is none
+unfoldable pub start_of : List ℕ → Result Start WalkFault
+start_of file = start_at file (front_end_of file) (item_at file (front_end_of file))
+
+-- ---- what a start says, without the list of offsets
+
+-- the least offset of a range where a test holds
+abbrev pub IsLeast : (ℕ → Bool) → ℕ → ℕ → ℕ → Type 0
+IsLeast test from to at = (from ≤ at) × (at < to) × (test at ≡ true) × ((earlier : ℕ) → from ≤ earlier → earlier < at → test earlier ≡ false)
+
+-- the frame at the least offset of the range where an anchored one stands; none where none does
+abbrev pub IsFirstAnchored : List ℕ → ℕ → ℕ → Option PlacedFrame → Type 0
+IsFirstAnchored file from to r = MatchOption r ((at : ℕ) → from ≤ at → at < to → is_anchored file at ≡ false) (λ p. IsLeast (is_anchored file) from to p.offset)
+
+-- no junk stands before the first frame, or it stands at the least offset behind the junk where an anchored frame does
+abbrev pub IsLeastStart : List ℕ → Start → Type 0
+IsLeastStart file s = (s.first.offset ≡ s.front_end) ⊎ IsLeast (is_anchored file) (s.front_end + 1) ((s.front_end + 1) + longest_junk) s.first.offset

@@ -1,0 +1,109 @@
+-- The walk over a whole file: the frames and blocks from the start on, and where it stops.
+use Rattle.std.specs.Prelude.{◌≡◌, ℕ, ◌+◌, List, [], ◌∷◌, ◌++◌, length, take, drop, Option, Some, None, option_map, Result, Ok, Err}
+use Rattle.frame_header.specs.Tables.{class_of, length_of}
+use Rattle.info_header.specs.HeadText.{head_text_of}
+use Rattle.sync_survey.specs.declared.items.Item.{Item}
+use Rattle.sync_survey.specs.declared.items.Item.TheVariants.{Frame, Free, Block, Zero, End, Nothing}
+use Rattle.sync_survey.specs.declared.places.WalkFault.{WalkFault}
+use Rattle.sync_survey.specs.declared.places.WalkFault.TheVariants.{NoFrame, LostSync, Truncated, FreeFormat}
+use Rattle.sync_survey.specs.declared.places.PlacedFrame.{PlacedFrame}
+use Rattle.sync_survey.specs.declared.places.Piece.{Piece}
+use Rattle.sync_survey.specs.declared.places.Head.{Head}
+use Rattle.sync_survey.specs.declared.places.Start.{Start}
+use Rattle.sync_survey.specs.declared.walks.Walk.{Walk}
+use Rattle.sync_survey.specs.declared.walks.WalkRefusal.{WalkRefusal}
+use Rattle.sync_survey.specs.declared.walks.WalkRefusal.TheVariants.{Fault, Memory}
+use Rattle.sync_survey.specs.declared.runs.Part.TheVariants.{Front, Stream}
+use Rattle.sync_survey.specs.Items.{item_at}
+use Rattle.sync_survey.specs.Runs.{Run, run, frames_of, blocks_of}
+use Rattle.sync_survey.specs.Start.{start_of}
+
+-- the items from the first frame on
+abbrev pub stream_of : List ℕ → Start → Run
+stream_of file start = run Stream file start.first.offset
+
+-- ---- the head
+
+-- the bytes of a frame of the file
+abbrev pub frame_bytes : List ℕ → PlacedFrame → List ℕ
+frame_bytes file p = take (length_of (class_of p.header) p.header.slot) (drop p.offset file)
+
+-- the frame is a head where `Xing` or `Info` stands in it
+unfoldable pub head_of : List ℕ → PlacedFrame → Option Head
+head_of file p = option_map (λ at. record { offset = p.offset; header = p.header; text_at = at }) (head_text_of p.header (frame_bytes file p))
+
+-- only the first frame can be a head, and it isn't counted: all others are numbered from 0, in their order
+abbrev pub numbered : Option Head → List PlacedFrame → List PlacedFrame
+numbered None frames = frames
+numbered (Some head) frames = drop 1 frames
+
+-- where the numbered frames begin: at the first frame, or behind the head
+abbrev pub numbered_at : PlacedFrame → Option Head → ℕ
+numbered_at first None = first.offset
+numbered_at first (Some head) = first.offset + length_of (class_of first.header) first.header.slot
+
+-- the blocks at the front of the file, and those from the first frame on
+abbrev pub all_blocks : List ℕ → Start → List Piece
+all_blocks file start = blocks_of (run Front file 0).items ++ blocks_of (stream_of file start).items
+
+-- ---- where the walk ends
+
+-- why the walk stops at an offset with this item, which is not whole where it is a frame or a block; at the end of the file all is well
+abbrev pub fault_at : ℕ → Item → Option WalkFault
+fault_at at (Frame h) = Some (Truncated at)
+fault_at at Free = Some (FreeFormat at)
+fault_at at (Block b) = Some (Truncated at)
+fault_at at Zero = Some (LostSync at)
+fault_at at End = None
+fault_at at Nothing = Some (LostSync at)
+
+-- a walk that reaches the end of the file has to have a frame
+abbrev pub end_fault : List ℕ → List PlacedFrame → Option WalkFault → Option WalkFault
+end_fault file frames (Some fault) = Some fault
+end_fault file (p ∷ ps) None = None
+end_fault file [] None = Some (NoFrame (length file))
+
+-- ---- the walk
+
+-- what stands in a file with this start: the head, the frames of the stream, all blocks by their offsets, and why the walk stops
+-- before the end of the file or has no frame
+pub record WalkFields : Type 0 where
+  pub start : Start
+  pub head : Option Head
+  pub frames : List PlacedFrame
+  pub blocks : List Piece
+  pub fault : Option WalkFault
+
+unfoldable pub walk_from : List ℕ → Start → WalkFields
+walk_from file start =
+    let stream = stream_of file start in
+    let head = head_of file start.first in
+    let frames = numbered head (frames_of stream.items) in record {
+      start = start;
+      head = head;
+      frames = frames;
+      blocks = all_blocks file start;
+      fault = end_fault file frames (fault_at stream.stop (item_at file stream.stop));
+    }
+
+-- the walk, where nothing stops it before the end of the file
+abbrev pub without_fault : WalkFields → Option WalkFault → Result WalkFields WalkFault
+without_fault walk (Some fault) = Err fault
+without_fault walk None = Ok walk
+
+abbrev pub walk_by : List ℕ → Result Start WalkFault → Result WalkFields WalkFault
+walk_by file (Ok start) = without_fault (walk_from file start) (walk_from file start).fault
+walk_by file (Err fault) = Err fault
+
+-- the walk over a whole file, or its fault
+unfoldable pub walk_of : List ℕ → Result WalkFields WalkFault
+walk_of file = walk_by file (start_of file)
+
+-- a walk of the code, as the definition has it
+abbrev pub shown : Walk → WalkFields
+shown w = record { start = w.start; head = w.head; frames = w.frames.items; blocks = w.blocks.items; fault = None }
+
+-- why there is no walk: the fault of the file, or memory
+abbrev pub IsRefusal : List ℕ → WalkRefusal → Type 0
+IsRefusal file (Fault fault) = walk_of file ≡ Err fault
+IsRefusal file Memory = Unit {0}

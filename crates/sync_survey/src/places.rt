@@ -1,0 +1,51 @@
+//! Where things stand in a file, and what is at fault there. Offsets and lengths are in bytes.
+
+use frame_header::Header;
+use tag_blocks::Block;
+
+/// A frame, and the offset of its header.
+#[derive(Clone, Copy, Debug, PartialEq, Eq)]
+pub struct PlacedFrame {
+    pub offset: u64,
+    pub header: Header,
+}
+
+/// A block, and the offset where it begins.
+#[derive(Clone, Copy, Debug, PartialEq, Eq)]
+pub struct Piece {
+    pub offset: u64,
+    pub block: Block,
+}
+
+/// A head: a first frame that has counts and a table of the file in place of main data.
+#[derive(Clone, Copy, Debug, PartialEq, Eq)]
+pub struct Head {
+    pub offset: u64,
+    pub header: Header,
+    /// The place of `Xing` or `Info`, from the frame's first byte.
+    pub text_at: u32,
+}
+
+/// Where the stream begins.
+#[derive(Clone, Copy, Debug, PartialEq, Eq)]
+pub struct Start {
+    /// Where the blocks and zero bytes at the front of the file end. The bytes from here to the first
+    /// frame, of which there may be none, are junk.
+    pub front_end: u64,
+    /// The first frame, which may be a head.
+    pub first: PlacedFrame,
+}
+
+/// What is at fault in a file, and at which offset.
+#[derive(Clone, Copy, Debug, PartialEq, Eq)]
+pub enum WalkFault {
+    /// No frame begins where the blocks and zero bytes at the front of the file end, nor behind junk; or,
+    /// with the file's length, the only frame is a head.
+    NoFrame(u64),
+    /// Neither a frame nor a block nor a zero byte stands here.
+    LostSync(u64),
+    /// The frame or block that begins here passes the end of the file.
+    Truncated(u64),
+    /// A header of free format stands here.
+    FreeFormat(u64),
+}
