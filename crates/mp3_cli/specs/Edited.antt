@@ -1,24 +1,22 @@
 -- The file that a gain command writes.
-use Rattle.std.specs.Prelude.{ℕ, ◌+◌, List, [], ◌∷◌, ◌++◌, length, take, drop, Option, Some, None, Result, Ok, Err, bytes_eq, if◌then◌else◌, flat_map}
-use Rattle.bit_fields.specs.Bits.{bytes}
-use Rattle.frame_header.specs.Fields.{ClassFields}
-use Rattle.frame_header.specs.Tables.{side_size_of}
-use Rattle.side_info.specs.Side.{side_bits}
+use Rattle.std.specs.Prelude.{ℕ, ◌+◌, List, [], ◌∷◌, ◌++◌, length, Option, Some, None, Result, Ok, Err, bytes_eq, if◌then◌else◌, flat_map}
+use Rattle.side_info.specs.Frame.{frame_with}
 use Rattle.outside.specs.Files.{Contents}
 use Rattle.mp3_cli.specs.declared.fault.EditFault.{EditFault}
-use Rattle.mp3_cli.specs.declared.fault.EditFault.TheVariants.{EqualNames, Absent, NotYet, GainRange}
+use Rattle.mp3_cli.specs.declared.fault.EditFault.TheVariants.{EqualNames, Absent, GainRange}
 use Rattle.mp3_cli.specs.declared.gains.Stuck.{Stuck}
 use Rattle.mp3_cli.specs.declared.shift.Shift.{Shift}
-use Rattle.mp3_cli.specs.Plain.{Walk, side_of, file_walk, file_class, not_plain_at}
+use Rattle.mp3_cli.specs.Plain.{Walk, header_of, side_of, file_walk, file_fault}
 use Rattle.mp3_cli.specs.Gains.{moved_side, stuck_in}
 
--- a frame of the class with moved gains: its header, the side information with these gains, and all its other bytes
-unfoldable pub moved_frame : Shift → ClassFields → List ℕ → List ℕ
-moved_frame shift c frame = take 4 frame ++ bytes (side_bits c (moved_side shift (side_of c frame))) ++ drop (4 + side_size_of c) frame
+-- a frame with moved gains: its header, the check word of a protected frame, the side information with these gains, and
+-- all its other bytes
+unfoldable pub moved_frame : Shift → List ℕ → List ℕ
+moved_frame shift frame = frame_with (header_of frame) (moved_side shift (side_of frame)) frame
 
 -- all frames of a walk with moved gains, and what is left as it stands
-unfoldable pub edited : Shift → ClassFields → Walk → List ℕ
-edited shift c w = flat_map (moved_frame shift c) w.frames ++ w.left
+unfoldable pub edited : Shift → Walk → List ℕ
+edited shift w = flat_map (moved_frame shift) w.frames ++ w.left
 
 -- where the gain stands in the file
 abbrev pub stuck_fault : ℕ → Option Stuck → Option EditFault → Option EditFault
@@ -26,23 +24,17 @@ stuck_fault offset (Some stuck) later = Some (GainRange offset stuck.granule stu
 stuck_fault offset None later = later
 
 -- the first gain of these frames, the first of which stands at an offset, that would leave the range
-unfoldable pub range_fault : Shift → ClassFields → ℕ → List (List ℕ) → Option EditFault
-range_fault shift c offset [] = None
-range_fault shift c offset (frame ∷ rest) = stuck_fault offset (stuck_in shift (side_of c frame)) (range_fault shift c (offset + length frame) rest)
+unfoldable pub range_fault : Shift → ℕ → List (List ℕ) → Option EditFault
+range_fault shift offset [] = None
+range_fault shift offset (frame ∷ rest) = stuck_fault offset (stuck_in shift (side_of frame)) (range_fault shift (offset + length frame) rest)
 
-abbrev pub unless : {A : Type 0} → Option EditFault → A → Result A EditFault
-unless (Some fault) a = Err fault
-unless None a = Ok a
-
-abbrev pub unless_not_plain : Option ℕ → Result (List ℕ) EditFault → Result (List ℕ) EditFault
-unless_not_plain (Some offset) next = Err (NotYet offset)
-unless_not_plain None next = next
+abbrev pub unless : {A : Type 0} → Option EditFault → Result A EditFault → Result A EditFault
+unless (Some fault) next = Err fault
+unless None next = next
 
 -- what a file becomes, or why it is refused: it isn't plain, or else a gain would leave the range
 unfoldable pub gained : Shift → List ℕ → Result (List ℕ) EditFault
-gained shift file =
-    unless_not_plain (not_plain_at file)
-    (unless (range_fault shift (file_class file) 0 (file_walk file).frames) (edited shift (file_class file) (file_walk file)))
+gained shift file = unless (file_fault file) (unless (range_fault shift 0 (file_walk file).frames) (Ok (edited shift (file_walk file))))
 
 abbrev pub gained_where : Shift → Option (List ℕ) → Result (List ℕ) EditFault
 gained_where shift None = Err Absent

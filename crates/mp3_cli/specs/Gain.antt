@@ -3,9 +3,9 @@ use Rattle.std.specs.Prelude.{◌≡◌, ◌⊎◌, ℕ, ◌<◌, ◌≤◌, Lis
 use Rattle.outside.specs.Files.{Files, with_file, Holds, IsThere, IsMissing}
 use Rattle.outside.specs.Counts.{Counts, Rose, NothingFailed}
 use Rattle.mp3_cli.specs.declared.fault.EditFault.{EditFault}
-use Rattle.mp3_cli.specs.declared.fault.EditFault.TheVariants.{EqualNames, Absent, Read, NotYet, GainRange, Write, Memory}
+use Rattle.mp3_cli.specs.declared.fault.EditFault.TheVariants.{EqualNames, Absent, Read, NotYet, CheckWord, GainRange, Write, Memory}
 use Rattle.mp3_cli.specs.declared.shift.Shift.{Shift}
-use Rattle.mp3_cli.specs.Plain.{longest_input, not_plain_at}
+use Rattle.mp3_cli.specs.Plain.{longest_input, file_fault}
 use Rattle.mp3_cli.specs.Edited.{gained, gain_result}
 
 -- the same files, where they are told, but that the name holds these bytes
@@ -40,6 +40,7 @@ LeavesAt shift input output old new (EqualNames place) = new ≡ old
 LeavesAt shift input output old new Absent = new ≡ old
 LeavesAt shift input output old new Read = new ≡ old
 LeavesAt shift input output old new (NotYet offset) = new ≡ old
+LeavesAt shift input output old new (CheckWord offset said right) = new ≡ old
 LeavesAt shift input output old new (GainRange offset granule channel gain) = new ≡ old
 LeavesAt shift input output old new (Write place) = IsWrittenInPart shift input output old new
 LeavesAt shift input output old new Memory = new ≡ old
@@ -56,6 +57,7 @@ IsDefinedAt shift input output old (EqualNames place) = Gives shift input output
 IsDefinedAt shift input output old Absent = Gives shift input output old (Err Absent)
 IsDefinedAt shift input output old Read = Unit {0}
 IsDefinedAt shift input output old (NotYet offset) = Gives shift input output old (Err (NotYet offset))
+IsDefinedAt shift input output old (CheckWord offset said right) = Gives shift input output old (Err (CheckWord offset said right))
 IsDefinedAt shift input output old (GainRange offset granule channel gain) = Gives shift input output old (Err (GainRange offset granule channel gain))
 IsDefinedAt shift input output old (Write place) = place ≡ 0
 IsDefinedAt shift input output old Memory = NeedsMemory input old
@@ -66,6 +68,7 @@ IsCounted before after (EqualNames place) = NothingFailed before after
 IsCounted before after Absent = Rose before.misses after.misses
 IsCounted before after Read = Rose before.read_faults after.read_faults
 IsCounted before after (NotYet offset) = NothingFailed before after
+IsCounted before after (CheckWord offset said right) = NothingFailed before after
 IsCounted before after (GainRange offset granule channel gain) = NothingFailed before after
 IsCounted before after (Write place) = Rose before.write_faults after.write_faults
 IsCounted before after Memory = NothingFailed before after
@@ -80,6 +83,7 @@ IsInputFault shift name files (EqualNames place) = ⊥
 IsInputFault shift name files Absent = IsMissing files name
 IsInputFault shift name files Read = Unit {0}
 IsInputFault shift name files (NotYet offset) = RefusesBytes shift name files (NotYet offset)
+IsInputFault shift name files (CheckWord offset said right) = RefusesBytes shift name files (CheckWord offset said right)
 IsInputFault shift name files (GainRange offset granule channel gain) = RefusesBytes shift name files (GainRange offset granule channel gain)
 IsInputFault shift name files (Write place) = ⊥
 IsInputFault shift name files Memory = NeedsMemory name files
@@ -89,7 +93,8 @@ abbrev pub IsFindFault : List ℕ → Files → EditFault → Type 0
 IsFindFault name files (EqualNames place) = ⊥
 IsFindFault name files Absent = IsMissing files name
 IsFindFault name files Read = Unit {0}
-IsFindFault name files (NotYet offset) = IsThere files name × ((bytes : List ℕ) → Holds files name bytes → not_plain_at bytes ≡ Some offset)
+IsFindFault name files (NotYet offset) = IsThere files name × ((bytes : List ℕ) → Holds files name bytes → file_fault bytes ≡ Some (NotYet offset))
+IsFindFault name files (CheckWord offset said right) = ⊥
 IsFindFault name files (GainRange offset granule channel gain) = ⊥
 IsFindFault name files (Write place) = ⊥
 IsFindFault name files Memory = ⊥
@@ -100,6 +105,7 @@ IsStreamFault (EqualNames place) = ⊥
 IsStreamFault Absent = ⊥
 IsStreamFault Read = ⊥
 IsStreamFault (NotYet offset) = Unit {0}
+IsStreamFault (CheckWord offset said right) = Unit {0}
 IsStreamFault (GainRange offset granule channel gain) = Unit {0}
 IsStreamFault (Write place) = ⊥
 IsStreamFault Memory = ⊥

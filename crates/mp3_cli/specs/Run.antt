@@ -3,13 +3,13 @@ use Rattle.std.specs.Prelude.{◌≡◌, ◌≢◌, ℕ, List, [], Some, None, R
 use Rattle.outside.specs.Files.{Contents, Files, Sent, with_file, sent_more}
 use Rattle.outside.specs.Counts.{Counts, Rose}
 use Rattle.mp3_cli.specs.declared.fault.EditFault.{EditFault}
-use Rattle.mp3_cli.specs.declared.fault.EditFault.TheVariants.{EqualNames, Absent, Read, NotYet, GainRange, Write, Memory}
+use Rattle.mp3_cli.specs.declared.fault.EditFault.TheVariants.{EqualNames, Absent, Read, NotYet, CheckWord, GainRange, Write, Memory}
 use Rattle.mp3_cli.specs.declared.jobs.Job.{Job}
 use Rattle.mp3_cli.specs.declared.jobs.Job.TheVariants.{Gain}
 use Rattle.mp3_cli.specs.declared.shift.Shift.{Shift}
 use Rattle.mp3_cli.specs.Words.{word_at, job_of}
 use Rattle.mp3_cli.specs.Texts.{status_of, fault_line, bad_word_line, GotLine}
-use Rattle.mp3_cli.specs.Plain.{file_class, file_walk, not_plain_at}
+use Rattle.mp3_cli.specs.Plain.{file_walk, file_fault}
 use Rattle.mp3_cli.specs.Edited.{range_fault, gain_result}
 use Rattle.mp3_cli.specs.Gain.{Gives, IsWrittenInPart, NeedsMemory}
 
@@ -64,8 +64,8 @@ pub record IsAccepted (words : List (List ℕ)) (files : Contents) : Type 0 wher
   pub names : word_at words input ≢ word_at words output
   pub file : List ℕ
   pub there : files (word_at words input) ≡ Some file
-  pub plain : not_plain_at file ≡ None
-  pub range : range_fault shift (file_class file) 0 (file_walk file).frames ≡ None
+  pub plain : file_fault file ≡ None
+  pub range : range_fault shift 0 (file_walk file).frames ≡ None
 
 -- ---- what stops it
 
@@ -75,6 +75,7 @@ IsCause shift input output old new before after (EqualNames place) = ⊥
 IsCause shift input output old new before after Absent = Rose before.misses after.misses × (new ≡ old) × Gives shift input output old (Err Absent)
 IsCause shift input output old new before after Read = Rose before.read_faults after.read_faults × (new ≡ old)
 IsCause shift input output old new before after (NotYet offset) = ⊥
+IsCause shift input output old new before after (CheckWord offset said right) = ⊥
 IsCause shift input output old new before after (GainRange offset granule channel gain) = ⊥
 IsCause shift input output old new before after (Write place) = Rose before.write_faults after.write_faults × IsWrittenInPart shift input output old new
 IsCause shift input output old new before after Memory = ⊥

@@ -1,15 +1,16 @@
 //! A file with moved gains, edited where it lies.
 ghost use Rattle.std.specs.Prelude.{◌≡◌, ◌+◌, ◌<◌, ◌≤◌, ◌++◌, length, take, drop, option_map, IfSome, IfNone, IfErr, MatchResult};
-ghost use Rattle.mp3_cli.specs.Plain.{side_of, plain_front as plain_front_lem, walk, has_head as has_head_lem, longest_input};
+ghost use Rattle.mp3_cli.specs.Plain.{side_of, plain_front as plain_front_lem, walk, has_text as has_text_lem, has_head as has_head_lem, longest_input};
 ghost use Rattle.mp3_cli.specs.Gains.{stuck_in as stuck_in_lem};
 ghost use Rattle.mp3_cli.specs.Edited.{moved_frame, edited, stuck_fault, range_fault, gained};
 ghost use Rattle.mp3_cli.specs.Gain.{IsStreamFault};
 
 use crate::fault::EditFault;
 use crate::gains::{Stuck, moved_side, stuck_in};
-use crate::plain::{HEADER_SIZE, header_front, plain_front};
+use crate::plain::{header_front, plain_front, why_stopped};
 use crate::shift::Shift;
-use frame_header::Class;
+use frame_header::{Class, Header};
+use side_info::put_side;
 
 /// What was edited at the front: the length of the frame in bytes, and the first of its gains that
 /// would leave the range.
@@ -26,19 +27,19 @@ struct Edited {
     fault: Option<EditFault>,
 }
 
-/// Moves the gains of the plain frame of the class at the front of the bytes.
+/// Moves the gains of the plain frame of the class at the front of the bytes. A protected frame gets the
+/// check word that is right for them.
 fn edit_front(class: Class, shift: &Shift, bytes: &mut [u8]) -> Option<Front>
     ensures front { option_map (λ f. f.length) result ≡ plain_front_lem class bytes.old }
-    ensures stuck { IfSome result (λ f. f.stuck ≡ stuck_in_lem shift.now (side_of class bytes.old)) }
-    ensures moved { IfSome result (λ f. bytes.new ≡ moved_frame shift.now class (take f.length bytes.old) ++ drop f.length bytes.old) }
+    ensures stuck { IfSome result (λ f. f.stuck ≡ stuck_in_lem shift.now (side_of bytes.old)) }
+    ensures moved { IfSome result (λ f. bytes.new ≡ moved_frame shift.now (take f.length bytes.old) ++ drop f.length bytes.old) }
     ensures some { IfSome result (λ f. 0 < f.length) }
     ensures within { IfSome result (λ f. f.length ≤ length bytes.old) }
     ensures none { IfNone result (bytes.new ≡ bytes.old) }
 {
     let frame = plain_front(class, bytes)?;
     let stuck = stuck_in(shift, &frame.side);
-    let end = HEADER_SIZE + class.side_size() as usize;
-    moved_side(shift, &frame.side).write(class, &mut bytes[HEADER_SIZE..end]);
+    put_side(&frame.header, &moved_side(shift, &frame.side), bytes);
     Some(Front {
         length: frame.length,
         stuck,
@@ -55,9 +56,9 @@ fn fault_at(offset: usize, stuck: Option<Stuck>) -> Option<EditFault>
 
 /// Moves the gains of the plain frames of the class that stand end to end from the front.
 fn edit_frames(class: Class, shift: &Shift, bytes: &mut [u8]) -> Edited
-    ensures edited { bytes.new ≡ edited shift.now class (walk class bytes.old) }
+    ensures edited { bytes.new ≡ edited shift.now (walk class bytes.old) }
     ensures end { result.end + length (walk class bytes.old).left ≡ length bytes.old }
-    ensures fault { result.fault ≡ range_fault shift.now class 0 (walk class bytes.old).frames }
+    ensures fault { result.fault ≡ range_fault shift.now 0 (walk class bytes.old).frames }
 {
     let mut end = 0;
     let mut fault = None;
@@ -68,20 +69,28 @@ fn edit_frames(class: Class, shift: &Shift, bytes: &mut [u8]) -> Edited
     Edited { end, fault }
 }
 
-/// Whether an Info head begins with this class: its text stands behind the side information.
-#[tactic(auto, unfolding(crate::specs::Plain::has_head))]
-fn has_head(class: Class, bytes: &[u8]) -> bool
-    ensures { result ≡ has_head_lem class bytes.now }
+/// Whether `Xing` or `Info` stands at this place.
+#[tactic(auto, unfolding(crate::specs::Plain::has_text))]
+fn has_text(place: usize, bytes: &[u8]) -> bool
+    ensures { result ≡ has_text_lem place bytes.now }
 {
-    let at = HEADER_SIZE + class.side_size() as usize;
-    match bytes.get(at..at + 4) {
+    match bytes.get(place..place + 4) {
         Some(text) => text == b"Xing".as_slice() || text == b"Info".as_slice(),
         None => false,
     }
 }
 
-/// Moves the gains of a plain file. `NotYet` exactly at the least offset where no plain frame stands,
-/// else `GainRange` exactly for the first gain that would leave the range; of the bytes nothing is said then.
+/// Whether the frame with this header at the front of the bytes is an Info head.
+#[tactic(auto, unfolding(crate::specs::Plain::has_head))]
+fn has_head(header: &Header, bytes: &[u8]) -> bool
+    ensures { result ≡ has_head_lem header.now bytes.now }
+{
+    let size = header.class().side_size() as usize;
+    has_text(4 + size, bytes) || (header.protected && has_text(6 + size, bytes))
+}
+
+/// Moves the gains of a plain file. `NotYet` or `CheckWord` exactly at the least offset where no plain frame
+/// stands, else `GainRange` exactly for the first gain that would leave the range; of the bytes nothing is said then.
 pub(crate) fn edit(shift: &Shift, bytes: &mut [u8]) -> Result<(), EditFault>
     requires { length bytes.old ≤ longest_input }
     ensures exact { MatchResult result (λ _. gained shift.now bytes.old ≡ Ok bytes.new) (λ fault. gained shift.now bytes.old ≡ Err fault) }
@@ -91,12 +100,12 @@ pub(crate) fn edit(shift: &Shift, bytes: &mut [u8]) -> Result<(), EditFault>
         return Err(EditFault::NotYet(0));
     };
     let class = header.class();
-    if has_head(class, bytes) {
+    if has_head(&header, bytes) {
         return Err(EditFault::NotYet(0));
     }
     let edited = edit_frames(class, shift, bytes);
     if edited.end < bytes.len() {
-        return Err(EditFault::NotYet(edited.end as u64));
+        return Err(why_stopped(edited.end as u64, class, &bytes[edited.end..]));
     }
     match edited.fault {
         Some(fault) => Err(fault),

@@ -16,6 +16,9 @@ pub enum EditFault {
     Read,
     /// A form of stream that isn't built yet begins at this byte of the input.
     NotYet(u64),
+    /// The check word of the protected frame at this byte of the input is wrong: the word that stands
+    /// there, and the one that is right.
+    CheckWord(u64, u16, u16),
     /// A gain would leave the range from 0 to 255: the offset of its frame in bytes, its granule, its
     /// channel, and the gain that stands there.
     GainRange(u64, u8, u8, u8),

@@ -105,9 +105,10 @@ fn save<D: Folder>(folder: &mut D, name: &str, bytes: &[u8]) -> Result<(), Faile
 /// Writes the output, which is the input with its gains moved by the shift.
 ///
 /// Refuses, in this order: `EqualNames(0)` where the names are equal, byte for byte; `Absent` where the
-/// input isn't there; `NotYet(0)` for an empty input and for one of more than 16,777,216 bytes; `NotYet` at
-/// the least offset in bytes where no plain frame stands; `GainRange` for the first gain that would leave the
-/// range without wrap. Then nothing was created. `Read` and `Write(0)` come only where a call of that kind
+/// input isn't there; `NotYet(0)` for an empty input and for one of more than 16,777,216 bytes; at the least
+/// offset in bytes where no plain frame stands, `CheckWord` where a readable frame of the file's class with a
+/// wrong check word stands there, else `NotYet`; `GainRange` for the first gain that would leave the range
+/// without wrap. Then nothing was created. `Read` and `Write(0)` come only where a call of that kind
 /// failed, and every other answer only where none failed; after `Write(0)` the output is as it was or holds a
 /// front of its bytes. `Memory` may come once the input was found with a length that it may have, before the
 /// output is created, and not from then on.

@@ -1,18 +1,21 @@
 //! The statuses that the program ends with, and the lines that it writes of faults.
-ghost use Rattle.std.specs.Prelude.{◌≡◌, [], flat_map};
-ghost use Rattle.mp3_cli.specs.Texts.{status_of, fault_line, bad_word_line, GotLine};
+ghost use Rattle.std.specs.Prelude.{◌≡◌, ◌/◌, ◌%◌, ◌^◌, ◌≤◌, [], ◌∷◌, flat_map};
+ghost use Rattle.mp3_cli.specs.Texts.{status_of, hex_digit as hex_digit_lem, fault_line, bad_word_line, GotLine};
 
 use crate::fault::EditFault;
 use itoa::Buffer;
 use outside::{Sink, send_all};
 
-/// The status of a fault: 1 for a refused input (EqualNames, NotYet, GainRange), 3 for a fault of the
+/// The status of a fault: 1 for a refused input (EqualNames, NotYet, CheckWord, GainRange), 3 for a fault of the
 /// outside (Absent, Read, Write), 4 for want of memory (Memory).
 pub fn status(fault: &EditFault) -> u8
     ensures { result ≡ status_of fault.now }
 {
     match fault {
-        EditFault::EqualNames(_) | EditFault::NotYet(_) | EditFault::GainRange(..) => 1,
+        EditFault::EqualNames(_)
+        | EditFault::NotYet(_)
+        | EditFault::CheckWord(..)
+        | EditFault::GainRange(..) => 1,
         EditFault::Absent | EditFault::Read | EditFault::Write(_) => 3,
         EditFault::Memory => 4,
     }
@@ -48,6 +51,43 @@ fn send_gain_range<E: Sink>(err: &mut E, offset: u64, granule: u8, channel: u8, 
     );
 }
 
+/// The digits of hexadecimal numbers.
+const HEX_DIGITS: [&str; 16] = [
+    "0", "1", "2", "3", "4", "5", "6", "7", "8", "9", "a", "b", "c", "d", "e", "f",
+];
+
+/// The hexadecimal digit of a word that stands so many bits up: 12, 8, 4 or 0.
+fn hex_digit(word: u16, bits: u32) -> &'static str
+    requires { bits ≤ 12 }
+    ensures { result.now ≡ hex_digit_lem (word / 2 ^ bits % 16) ∷ [] }
+{
+    HEX_DIGITS[usize::from(word >> bits & 15)]
+}
+
+fn send_check_word<E: Sink>(err: &mut E, input: &str, offset: u64, said: u16, right: u16)
+    ensures { GotLine (E.sent err.old) (E.sent err.new) (E.faults err.old) (E.faults err.new) (fault_line (EditFault.CheckWord offset said right) input.now []) }
+{
+    send_pieces(
+        err,
+        &[
+            input,
+            ": check word at ",
+            Buffer::new().format(offset),
+            " is ",
+            hex_digit(said, 12),
+            hex_digit(said, 8),
+            hex_digit(said, 4),
+            hex_digit(said, 0),
+            ", right is ",
+            hex_digit(right, 12),
+            hex_digit(right, 8),
+            hex_digit(right, 4),
+            hex_digit(right, 0),
+            "\n",
+        ],
+    );
+}
+
 /// Sends the line of a fault, by the names of the input and the output, without taking memory.
 /// It stops at the first write that fails, and such a failure is not answered.
 ///
@@ -59,6 +99,7 @@ fn send_gain_range<E: Sink>(err: &mut E, offset: u64, granule: u8, channel: u8, 
 /// | Absent | `NAME: absent` |
 /// | Read | `NAME: read fault` |
 /// | NotYet(O) | `NAME: not yet at O` |
+/// | CheckWord(O, S, R) | `NAME: check word at O is S, right is R`, S and R as four lower-case hexadecimal digits |
 /// | GainRange(O, G, C, V) | `gain V out of range at O, granule G, channel C` |
 /// | Write | `NAME: write fault` |
 /// | Memory | `out of memory` |
@@ -73,6 +114,9 @@ pub fn send_fault<E: Sink>(err: &mut E, fault: &EditFault, input: &str, output: 
             err,
             &[input, ": not yet at ", Buffer::new().format(offset), "\n"],
         ),
+        EditFault::CheckWord(offset, said, right) => {
+            send_check_word(err, input, offset, said, right);
+        }
         EditFault::GainRange(offset, granule, channel, gain) => {
             send_gain_range(err, offset, granule, channel, gain);
         }

@@ -2,6 +2,7 @@ pub mod Granule
 pub mod Side
 pub mod Parts
 pub mod CheckWord
+pub mod Frame
 pub use Rattle.frame_header.specs.Fields
 pub use Rattle.frame_header.specs.Tables
 pub use Rattle.frame_header.specs.Reading

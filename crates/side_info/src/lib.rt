@@ -3,6 +3,7 @@
 
 mod division;
 mod fitting;
+mod frame;
 mod front;
 mod granule;
 mod lower;
@@ -11,6 +12,7 @@ mod side;
 mod writing;
 
 pub use division::{check_word, check_word_of_bytes, word_of_bytes};
+pub use frame::{put_side, side_of_frame, word_said};
 pub use granule::Granule;
 pub use side::Side;
 
