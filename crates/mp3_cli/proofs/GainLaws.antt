@@ -1,27 +1,19 @@
 -- Steps of the gain command over what a folder tells.
-use Rattle.std.proofs.Common.{◌≡◌, ◌⊎◌, ℕ, ◌<◌, ◌≤◌, Bool, true, false, ◌||◌, eqb, ltb, List, [], ◌++◌, length, take, Option, Some, None, refl, sym, ◌∙◌, ap, subst, eq-eqb, unwrap_or, bytes_eq, Result, Ok, Err, inl, inr, arith}
-use Rattle.std.proofs.lemmas.Bool.{false≢true, lt-ltb}
+use Rattle.std.proofs.Common.{◌≡◌, ◌⊎◌, ℕ, ◌<◌, ◌≤◌, true, false, List, [], ◌++◌, length, take, Option, Some, None, refl, sym, ◌∙◌, ap, subst, unwrap_or, bytes_eq, Result, Ok, Err, inl, inr, arith}
 use Rattle.outside.specs.Files.{Contents, Files, emptied, appended, with_file, Holds, IsThere, IsMissing}
 use Rattle.outside.specs.Counts.{Counts, NothingFailed}
 use Rattle.outside.proofs.CountsLaws.{nothing_failed_then}
 use Rattle.outside.proofs.FilesLaws.{there_holds, with_file_here, with_file_twice}
-use Rattle.mp3_cli.specs.Plain.{not_plain_at, longest_input}
+use Rattle.mp3_cli.specs.Plain.{longest_input}
 use Rattle.mp3_cli.specs.declared.fault.EditFault.{EditFault}
-use Rattle.mp3_cli.specs.declared.fault.EditFault.TheVariants.{EqualNames, Absent, Read, NotYet, GainRange, Write, Memory}
+use Rattle.mp3_cli.specs.declared.fault.EditFault.TheVariants.{EqualNames, Absent, Read, NotYet, CheckWord, GainRange, Write, Memory}
 use Rattle.mp3_cli.specs.declared.shift.Shift.{Shift}
 use Rattle.mp3_cli.specs.Edited.{gained, gained_where, gain_result}
+use Rattle.mp3_cli.proofs.FileLaws.{gained-fault}
 use Rattle.mp3_cli.specs.Gain.{holding, Gives, RefusesBytes, NeedsMemory, IsInputFault, IsDefinedAt, IsStreamFault, IsFindFault, IsCounted, HoldsFront, IsWritten, IsWrittenInPart}
 
 abbrev told : Contents → Files
 told f = Some f
-
-or_left : (a b : Bool) → a ≡ true → (a || b) ≡ true
-or_left true b e = refl
-or_left false b e = absurd (false≢true e)
-
-or_right : (a b : Bool) → b ≡ true → (a || b) ≡ true
-or_right true b e = refl
-or_right false b e = e
 
 -- emptied and then appended to, the output holds these bytes
 pub appended-emptied : (files : Files) (name bytes : List ℕ) → appended (emptied files name) name bytes ≡ holding files name bytes
@@ -36,15 +28,6 @@ pub emptied-front : (files : Files) (name bytes : List ℕ) → emptied files na
 unfolding emptied holding
 emptied-front None name bytes = refl
 emptied-front (Some f) name bytes = refl
-
-outside_sizes : (n : ℕ) → (n ≡ 0) ⊎ (longest_input < n) → (eqb n 0 || ltb longest_input n) ≡ true
-outside_sizes n (inl none) = or_left _ _ (eq-eqb n 0 none)
-outside_sizes n (inr more) = or_right _ _ (lt-ltb longest_input n more)
-
--- too short or too long
-pub not_plain-length : (bytes : List ℕ) → (length bytes ≡ 0) ⊎ (longest_input < length bytes) → not_plain_at bytes ≡ Some 0
-unfolding not_plain_at
-not_plain-length bytes out = let test = outside_sizes (length bytes) out in rw test refl
 
 -- ---- created and written
 
@@ -82,6 +65,7 @@ input_fault-defined shift input output files (EqualNames place) differ h = absur
 input_fault-defined shift input output files Absent differ h = gives_absent shift input output files differ h
 input_fault-defined shift input output files Read differ h = tt
 input_fault-defined shift input output files (NotYet offset) differ h = gives_bytes shift input output files (Err (NotYet offset)) differ h.0 h.1
+input_fault-defined shift input output files (CheckWord offset said right) differ h = gives_bytes shift input output files (Err (CheckWord offset said right)) differ h.0 h.1
 input_fault-defined shift input output files (GainRange offset granule channel gain) differ h = gives_bytes shift input output files (Err (GainRange offset granule channel gain)) differ h.0 h.1
 input_fault-defined shift input output files (Write place) differ h = absurd h
 input_fault-defined shift input output files Memory differ h = h
@@ -92,21 +76,18 @@ stream_fault shift name files (EqualNames place) is h = absurd is
 stream_fault shift name files Absent is h = absurd is
 stream_fault shift name files Read is h = absurd is
 stream_fault shift name files (NotYet offset) is h = h
+stream_fault shift name files (CheckWord offset said right) is h = h
 stream_fault shift name files (GainRange offset granule channel gain) is h = h
 stream_fault shift name files (Write place) is h = absurd is
 stream_fault shift name files Memory is h = absurd is
-
--- a file that is not plain at once is refused there
-pub gained-not_plain : (shift : Shift) (bytes : List ℕ) (at : ℕ) → not_plain_at bytes ≡ Some at → gained shift bytes ≡ Err (NotYet at)
-unfolding gained
-gained-not_plain shift bytes at is = rw is refl
 
 -- what was met while the input was looked for is a fault of it
 pub find_fault : (shift : Shift) (name : List ℕ) (files : Files) (fault : EditFault) → IsFindFault name files fault → IsInputFault shift name files fault
 find_fault shift name files (EqualNames place) h = absurd h
 find_fault shift name files Absent h = h
 find_fault shift name files Read h = tt
-find_fault shift name files (NotYet offset) h = (h.0, λ bytes holds. gained-not_plain shift bytes offset (h.1 bytes holds))
+find_fault shift name files (NotYet offset) h = (h.0, λ bytes holds. gained-fault shift bytes (NotYet offset) (h.1 bytes holds))
+find_fault shift name files (CheckWord offset said right) h = absurd h
 find_fault shift name files (GainRange offset granule channel gain) h = absurd h
 find_fault shift name files (Write place) h = absurd h
 find_fault shift name files Memory h = absurd h
@@ -156,6 +137,7 @@ counted_then a b c (EqualNames place) p q = nothing_failed_then a b c p q
 counted_then a b c Absent p q = omega (arith, p.misses)
 counted_then a b c Read p q = omega (arith, p.read_faults)
 counted_then a b c (NotYet offset) p q = nothing_failed_then a b c p q
+counted_then a b c (CheckWord offset said right) p q = nothing_failed_then a b c p q
 counted_then a b c (GainRange offset granule channel gain) p q = nothing_failed_then a b c p q
 counted_then a b c (Write place) p q = omega (arith, p.write_faults)
 counted_then a b c Memory p q = nothing_failed_then a b c p q
@@ -166,6 +148,7 @@ stream_counted a b (EqualNames place) is p = absurd is
 stream_counted a b Absent is p = absurd is
 stream_counted a b Read is p = absurd is
 stream_counted a b (NotYet offset) is p = p
+stream_counted a b (CheckWord offset said right) is p = p
 stream_counted a b (GainRange offset granule channel gain) is p = p
 stream_counted a b (Write place) is p = absurd is
 stream_counted a b Memory is p = absurd is

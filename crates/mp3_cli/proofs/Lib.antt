@@ -1,9 +1,9 @@
 -- The lemmas of this crate.
 pub mod EditLaws
 pub mod FileLaws
+pub mod GainsBack
 pub mod Follow
 pub mod GainLaws
-pub mod GainsBack
 pub mod GainsLaws
 pub mod Lines
 pub mod Places
@@ -12,5 +12,4 @@ pub mod Reading
 pub mod RunLaws
 pub mod Sizes
 pub mod Sound
-pub mod Undone
 pub mod WalkLaws

@@ -6,14 +6,14 @@ use Rattle.outside.specs.Files.{Contents, Files, Sent, with_file}
 use Rattle.outside.specs.Counts.{Counts, Rose, NothingFailed}
 use Rattle.outside.proofs.FilesLaws.{sent_nothing, bytes_eq_same, bytes_eq_other}
 use Rattle.mp3_cli.specs.declared.fault.EditFault.{EditFault}
-use Rattle.mp3_cli.specs.declared.fault.EditFault.TheVariants.{EqualNames, Absent, Read, NotYet, GainRange, Write, Memory}
+use Rattle.mp3_cli.specs.declared.fault.EditFault.TheVariants.{EqualNames, Absent, Read, NotYet, CheckWord, GainRange, Write, Memory}
 use Rattle.mp3_cli.specs.declared.jobs.Job.{Job}
 use Rattle.mp3_cli.specs.declared.jobs.Job.TheVariants.{Gain}
 use Rattle.mp3_cli.specs.declared.shift.Shift.{Shift}
 use Rattle.mp3_cli.specs.Words.{word_at, job_of}
 use Rattle.mp3_cli.specs.Texts.{status_of, fault_line, bad_word_line, GotLine}
-use Rattle.mp3_cli.specs.Plain.{file_class, file_walk, not_plain_at}
-use Rattle.mp3_cli.specs.Edited.{edited, range_fault, unless, unless_not_plain, gained, gained_where, gain_result}
+use Rattle.mp3_cli.specs.Plain.{file_walk, file_fault}
+use Rattle.mp3_cli.specs.Edited.{edited, range_fault, unless, gained, gained_where, gain_result}
 use Rattle.mp3_cli.specs.Gain.{holding, IsWritten, IsDefinedAt, IsCounted, LeavesAt}
 use Rattle.mp3_cli.specs.Run.{refused, gain_outcome, job_outcome, outcome, answer_status, answer_line, IsOutcome, IsAccepted, IsCause, IsStopped, AsksForMemory}
 
@@ -66,6 +66,7 @@ module _ (words : List (List ℕ)) (shift : Shift) (input output : ℕ) (job : j
   asks_for_memory old new counts_before counts_after (Err Absent) status all is four = absurd (omega arith)
   asks_for_memory old new counts_before counts_after (Err Read) status all is four = absurd (omega arith)
   asks_for_memory old new counts_before counts_after (Err (NotYet offset)) status all is four = absurd (omega arith)
+  asks_for_memory old new counts_before counts_after (Err (CheckWord offset said right)) status all is four = absurd (omega arith)
   asks_for_memory old new counts_before counts_after (Err (GainRange offset granule channel gain)) status all is four = absurd (omega arith)
   asks_for_memory old new counts_before counts_after (Err (Write place)) status all is four = absurd (omega arith)
   asks_for_memory old new counts_before counts_after (Err Memory) status all is four =
@@ -99,6 +100,7 @@ module _ (words : List (List ℕ)) (shift : Shift) (input output : ℕ) (job : j
     is_defined (Some f) new counts_before counts_after (Err Absent) status all is line low = absurd (omega arith)
     is_defined (Some f) new counts_before counts_after (Err Read) status all is line low = absurd (omega arith)
     is_defined (Some f) new counts_before counts_after (Err (NotYet offset)) status all is line low = refused_defined f new (NotYet offset) status is all.defined all.left line
+    is_defined (Some f) new counts_before counts_after (Err (CheckWord offset said right)) status all is line low = refused_defined f new (CheckWord offset said right) status is all.defined all.left line
     is_defined (Some f) new counts_before counts_after (Err (GainRange offset granule channel gain)) status all is line low = refused_defined f new (GainRange offset granule channel gain) status is all.defined all.left line
     is_defined (Some f) new counts_before counts_after (Err (Write place)) status all is line low = absurd (omega arith)
     is_defined (Some f) new counts_before counts_after (Err Memory) status all is line low = absurd (omega arith)
@@ -117,6 +119,7 @@ module _ (words : List (List ℕ)) (shift : Shift) (input output : ℕ) (job : j
     is_stopped old new counts_before counts_after (Err Absent) status all is line three = stops old new counts_before counts_after Absent (differ all (λ e. cc)) (all.absent refl, all.left, all.defined) line
     is_stopped old new counts_before counts_after (Err Read) status all is line three = stops old new counts_before counts_after Read (differ all (λ e. cc)) (all.read refl, all.left) line
     is_stopped old new counts_before counts_after (Err (NotYet offset)) status all is line three = absurd (omega arith)
+    is_stopped old new counts_before counts_after (Err (CheckWord offset said right)) status all is line three = absurd (omega arith)
     is_stopped old new counts_before counts_after (Err (GainRange offset granule channel gain)) status all is line three = absurd (omega arith)
     is_stopped old new counts_before counts_after (Err (Write place)) status all is line three =
         stops old new counts_before counts_after (Write place) (differ all (λ e. cc)) (all.write (ap (λ n. Err (Write n)) all.defined), all.left) line
@@ -135,6 +138,7 @@ module _ (words : List (List ℕ)) (shift : Shift) (input output : ℕ) (job : j
     is_out_of_memory (Err Absent) status is line four = absurd (omega arith)
     is_out_of_memory (Err Read) status is line four = absurd (omega arith)
     is_out_of_memory (Err (NotYet offset)) status is line four = absurd (omega arith)
+    is_out_of_memory (Err (CheckWord offset said right)) status is line four = absurd (omega arith)
     is_out_of_memory (Err (GainRange offset granule channel gain)) status is line four = absurd (omega arith)
     is_out_of_memory (Err (Write place)) status is line four = absurd (omega arith)
     is_out_of_memory (Err Memory) status is line four = subst (GotLine before after faults_before faults_after) memory_line line
@@ -148,6 +152,7 @@ nothing_failed before after (Err (EqualNames place)) status done counted is othe
 nothing_failed before after (Err Absent) status done counted is other = absurd (other is)
 nothing_failed before after (Err Read) status done counted is other = absurd (other is)
 nothing_failed before after (Err (NotYet offset)) status done counted is other = counted
+nothing_failed before after (Err (CheckWord offset said right)) status done counted is other = counted
 nothing_failed before after (Err (GainRange offset granule channel gain)) status done counted is other = counted
 nothing_failed before after (Err (Write place)) status done counted is other = absurd (other is)
 nothing_failed before after (Err Memory) status done counted is other = counted
@@ -156,23 +161,23 @@ nothing_failed before after (Err Memory) status done counted is other = counted
 
 -- a file that becomes something is plain, and none of its gains would leave its range
 record IsFit (shift : Shift) (file : List ℕ) : Type 0 where
-  pub plain : not_plain_at file ≡ None
-  pub range : range_fault shift (file_class file) 0 (file_walk file).frames ≡ None
+  pub plain : file_fault file ≡ None
+  pub range : range_fault shift 0 (file_walk file).frames ≡ None
 
-range_none : (o : Option EditFault) (a bytes : List ℕ) → unless o a ≡ Ok bytes → o ≡ None
+range_none : (o : Option EditFault) (a bytes : List ℕ) → unless o (Ok a) ≡ Ok bytes → o ≡ None
 range_none (Some fault) a bytes e = absurd cc
 range_none None a bytes e = refl
 
-fit_cases : (shift : Shift) (file bytes : List ℕ) (o : Option ℕ) → not_plain_at file ≡ o
-    → unless_not_plain o (unless (range_fault shift (file_class file) 0 (file_walk file).frames) (edited shift (file_class file) (file_walk file))) ≡ Ok bytes → IsFit shift file
-fit_cases shift file bytes (Some at) is e = absurd cc
+fit_cases : (shift : Shift) (file bytes : List ℕ) (o : Option EditFault) → file_fault file ≡ o
+    → unless o (unless (range_fault shift 0 (file_walk file).frames) (Ok (edited shift (file_walk file)))) ≡ Ok bytes → IsFit shift file
+fit_cases shift file bytes (Some fault) is e = absurd cc
 fit_cases shift file bytes None is e = record { plain = is; range = range_none _ _ bytes e }
 
 fit : (shift : Shift) (file bytes : List ℕ) → gained shift file ≡ Ok bytes → IsFit shift file
 unfolding gained
-fit shift file bytes e = fit_cases shift file bytes (not_plain_at file) refl e
+fit shift file bytes e = fit_cases shift file bytes (file_fault file) refl e
 
-gained-fit : (shift : Shift) (file : List ℕ) → IsFit shift file → gained shift file ≡ Ok (edited shift (file_class file) (file_walk file))
+gained-fit : (shift : Shift) (file : List ℕ) → IsFit shift file → gained shift file ≡ Ok (edited shift (file_walk file))
 unfolding gained
 gained-fit shift file is = let plain = is.plain in let range = is.range in rw (plain, range) refl
 
@@ -197,7 +202,7 @@ unfolding gain_result
 fit_input shift input output f bytes e = name_cases shift input output f bytes (bytes_eq input output) refl e
 
 gain_result-fit : (shift : Shift) (input output : List ℕ) (f : Contents) (file : List ℕ) → input ≢ output → f input ≡ Some file → IsFit shift file
-    → gain_result shift input output f ≡ Ok (edited shift (file_class file) (file_walk file))
+    → gain_result shift input output f ≡ Ok (edited shift (file_walk file))
 unfolding gain_result
 gain_result-fit shift input output f file differ there is =
     let names : bytes_eq input output ≡ false = bytes_eq_other input output (λ e. differ (sym e)) in
@@ -226,7 +231,7 @@ module _ (words : List (List ℕ)) (shift : Shift) (input output : ℕ) (job : j
   of_accepted : IsAccepted words f → (bytes : List ℕ) × (gain_result shift (word_at words input) (word_at words output) f ≡ Ok bytes)
   of_accepted a =
       let same = same_gain a.shift shift a.input input a.output output (sym a.job ∙ job) in
-      let bytes = edited a.shift (file_class a.file) (file_walk a.file) in
+      let bytes = edited a.shift (file_walk a.file) in
       let is = gain_result-fit a.shift (word_at words a.input) (word_at words a.output) f a.file a.names a.there (record { plain = a.plain; range = a.range }) in
       (bytes, sym (λ i. gain_result (same.shift i) (word_at words (same.input i)) (word_at words (same.output i)) f) ∙ is)
 
@@ -240,6 +245,7 @@ module _ (words : List (List ℕ)) (shift : Shift) (input output : ℕ) (job : j
   is_accepted new counts_before counts_after (Err Absent) status all is reads writes found = ((λ zero. absurd (omega arith)), λ a. absurd (refuses _ (of_accepted a).0 Absent (of_accepted a).1 all.defined))
   is_accepted new counts_before counts_after (Err Read) status all is reads writes found = absurd (reads (all.read refl))
   is_accepted new counts_before counts_after (Err (NotYet offset)) status all is reads writes found = ((λ zero. absurd (omega arith)), λ a. absurd (refuses _ (of_accepted a).0 (NotYet offset) (of_accepted a).1 all.defined))
+  is_accepted new counts_before counts_after (Err (CheckWord offset said right)) status all is reads writes found = ((λ zero. absurd (omega arith)), λ a. absurd (refuses _ (of_accepted a).0 (CheckWord offset said right) (of_accepted a).1 all.defined))
   is_accepted new counts_before counts_after (Err (GainRange offset granule channel gain)) status all is reads writes found =
       ((λ zero. absurd (omega arith)), λ a. absurd (refuses _ (of_accepted a).0 (GainRange offset granule channel gain) (of_accepted a).1 all.defined))
   is_accepted new counts_before counts_after (Err (Write place)) status all is reads writes found = absurd (writes (all.write (ap (λ n. Err (Write n)) all.defined)))

@@ -10,7 +10,7 @@ use Rattle.frame_header.specs.Tables.{class_of, length_of, area_of, side_size_of
 use Rattle.frame_header.specs.Reading.{header_at, header_fields}
 use Rattle.side_info.specs.declared.side.Side.{Side}
 use Rattle.side_info.specs.Side.{payload_bytes}
-use Rattle.side_info.specs.Frame.{side_place, side_in, word_said, word_right}
+use Rattle.side_info.specs.Frame.{side_in, word_said, word_right}
 use Rattle.mp3_cli.specs.declared.fault.EditFault.{EditFault}
 use Rattle.mp3_cli.specs.declared.fault.EditFault.TheVariants.{NotYet, CheckWord}
 

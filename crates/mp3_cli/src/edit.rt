@@ -58,6 +58,7 @@ fn fault_at(offset: usize, stuck: Option<Stuck>) -> Option<EditFault>
 fn edit_frames(class: Class, shift: &Shift, bytes: &mut [u8]) -> Edited
     ensures edited { bytes.new ≡ edited shift.now (walk class bytes.old) }
     ensures end { result.end + length (walk class bytes.old).left ≡ length bytes.old }
+    ensures rest { drop result.end bytes.new ≡ (walk class bytes.old).left }
     ensures fault { result.fault ≡ range_fault shift.now 0 (walk class bytes.old).frames }
 {
     let mut end = 0;
@@ -72,6 +73,7 @@ fn edit_frames(class: Class, shift: &Shift, bytes: &mut [u8]) -> Edited
 /// Whether `Xing` or `Info` stands at this place.
 #[tactic(auto, unfolding(crate::specs::Plain::has_text))]
 fn has_text(place: usize, bytes: &[u8]) -> bool
+    requires { place ≤ 64 }
     ensures { result ≡ has_text_lem place bytes.now }
 {
     match bytes.get(place..place + 4) {

@@ -41,6 +41,7 @@ fn is_readable_frame(class: Class, header: &Header, bytes: &[u8]) -> bool
     ensures class { IsTrue result → class_of header.now ≡ class }
     ensures whole { IsTrue result → length_of class header.now.slot ≤ length bytes.now }
     ensures room { IsTrue result → 6 + side_size_of class < length bytes.now }
+    ensures overhead { IsTrue result → overhead_of (class_of header.now) header.now.protected ≤ length bytes.now }
 {
     is_same_class(header.class(), class) && class.length_of(header.slot) as usize <= bytes.len()
 }
@@ -73,6 +74,7 @@ pub(crate) fn plain_front(class: Class, bytes: &[u8]) -> Option<PlainFrame>
     ensures side { IfSome result (λ f. f.side ≡ side_in f.header bytes.now) }
     ensures fits { IfSome result (λ f. SideFits class f.side) }
     ensures room { IfSome result (λ f. 6 + side_size_of class < f.length) }
+    ensures overhead { IfSome result (λ f. overhead_of (class_of f.header) f.header.protected ≤ f.length) }
     ensures within { IfSome result (λ f. f.length ≤ length bytes.now) }
 {
     let header = header_front(bytes)?;

@@ -80,11 +80,16 @@ fn bad_words(rt: HostRuntime) -> Result<(), Fail> {
 
 #[test]
 fn lines(rt: HostRuntime) -> Result<(), Fail> {
-    let cases: [(EditFault, u8, &[u8]); 7] = [
+    let cases: [(EditFault, u8, &[u8]); 8] = [
         (EditFault::EqualNames(0), 1, b"a.mp3: input is an output\n"),
         (EditFault::Absent, 3, b"a.mp3: absent\n"),
         (EditFault::Read, 3, b"a.mp3: read fault\n"),
         (EditFault::NotYet(30417), 1, b"a.mp3: not yet at 30417\n"),
+        (
+            EditFault::CheckWord(417, 0x0a0f, 0xe952),
+            1,
+            b"a.mp3: check word at 417 is 0a0f, right is e952\n",
+        ),
         (
             EditFault::GainRange(417, 1, 0, 255),
             1,

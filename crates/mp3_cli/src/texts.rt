@@ -1,5 +1,5 @@
 //! The statuses that the program ends with, and the lines that it writes of faults.
-ghost use Rattle.std.specs.Prelude.{◌≡◌, ◌/◌, ◌%◌, ◌^◌, ◌≤◌, [], ◌∷◌, flat_map};
+ghost use Rattle.std.specs.Prelude.{◌≡◌, ◌%◌, [], ◌∷◌, flat_map};
 ghost use Rattle.mp3_cli.specs.Texts.{status_of, hex_digit as hex_digit_lem, fault_line, bad_word_line, GotLine};
 
 use crate::fault::EditFault;
@@ -52,16 +52,15 @@ fn send_gain_range<E: Sink>(err: &mut E, offset: u64, granule: u8, channel: u8, 
 }
 
 /// The digits of hexadecimal numbers.
-const HEX_DIGITS: [&str; 16] = [
+static HEX_DIGITS: [&str; 16] = [
     "0", "1", "2", "3", "4", "5", "6", "7", "8", "9", "a", "b", "c", "d", "e", "f",
 ];
 
-/// The hexadecimal digit of a word that stands so many bits up: 12, 8, 4 or 0.
-fn hex_digit(word: u16, bits: u32) -> &'static str
-    requires { bits ≤ 12 }
-    ensures { result.now ≡ hex_digit_lem (word / 2 ^ bits % 16) ∷ [] }
+/// The last hexadecimal digit of a number.
+fn hex_digit<'a>(number: u16) -> &'a str
+    ensures { result.now ≡ hex_digit_lem (number % 16) ∷ [] }
 {
-    HEX_DIGITS[usize::from(word >> bits & 15)]
+    HEX_DIGITS[usize::from(number % 16)]
 }
 
 fn send_check_word<E: Sink>(err: &mut E, input: &str, offset: u64, said: u16, right: u16)
@@ -74,15 +73,15 @@ fn send_check_word<E: Sink>(err: &mut E, input: &str, offset: u64, said: u16, ri
             ": check word at ",
             Buffer::new().format(offset),
             " is ",
-            hex_digit(said, 12),
-            hex_digit(said, 8),
-            hex_digit(said, 4),
-            hex_digit(said, 0),
+            hex_digit(said >> 12),
+            hex_digit(said >> 8),
+            hex_digit(said >> 4),
+            hex_digit(said),
             ", right is ",
-            hex_digit(right, 12),
-            hex_digit(right, 8),
-            hex_digit(right, 4),
-            hex_digit(right, 0),
+            hex_digit(right >> 12),
+            hex_digit(right >> 8),
+            hex_digit(right >> 4),
+            hex_digit(right),
             "\n",
         ],
     );

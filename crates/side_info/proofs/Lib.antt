@@ -1,6 +1,7 @@
 pub mod GranuleLaws
 pub mod SideLaws
 pub mod CheckWordLaws
+pub mod FrameLaws
 mod DivisionLaws
 mod ReadLaws
 mod WriteLaws

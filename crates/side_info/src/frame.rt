@@ -1,8 +1,8 @@
 //! The check word and the side information where they stand in a frame.
 ghost use Rattle.std.specs.Prelude.{◌≡◌, ◌+◌, ◌≤◌, ◌++◌, length, take, drop};
-ghost use Rattle.bit_fields.specs.Bits.{bits_of, bytes};
+ghost use Rattle.bit_fields.specs.Bits.{bits, bits_of, bytes};
 ghost use Rattle.frame_header.specs.Tables.{class_of, side_size_of, overhead_of};
-ghost use Rattle.side_info.specs.Side.{side_bits, SideFits};
+ghost use Rattle.side_info.specs.Side.{side_at, side_bits, SideFits};
 ghost use Rattle.side_info.specs.Frame.{side_in, word_said as word_said_lem, frame_with};
 
 use crate::division::check_word;

@@ -21,3 +21,7 @@ returns-clause-end c =
 pub returns-clause-fault : goal.returns-clause-fault
 returns-clause-fault c =
     (ends_part c.args.shift.now c.args.class c.args.bytes.now c.loop-front.bytes c.edit_front.new.bytes c.loop-front.end c.loop-front.fault c.loop-front.invariant c.in_default.ensures.front c.in_default.ensures.none).fault_now
+
+pub returns-clause-rest : goal.returns-clause-rest
+returns-clause-rest c =
+    (ends_part c.args.shift.now c.args.class c.args.bytes.now c.loop-front.bytes c.edit_front.new.bytes c.loop-front.end c.loop-front.fault c.loop-front.invariant c.in_default.ensures.front c.in_default.ensures.none).rest_now

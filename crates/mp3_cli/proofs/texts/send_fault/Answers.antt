@@ -31,3 +31,7 @@ returns-in-Write g c = line_is _ _ _ _ _ _ (rw c.in-Write.is refl) c.send_pieces
 pub returns-in-Memory : goal.returns-in-Memory
 unfolding fault_line
 returns-in-Memory g c = line_is _ _ _ _ _ _ (rw c.in-Memory.is refl) c.send_pieces-in-Memory.ensures
+
+pub returns-in-CheckWord : goal.returns-in-CheckWord
+unfolding fault_line
+returns-in-CheckWord g c = line_is _ _ _ _ _ _ (rw c.in-CheckWord.is refl) c.send_check_word.ensures
