@@ -6,10 +6,12 @@ pub mod Follow
 pub mod GainLaws
 pub mod GainsLaws
 pub mod Lines
+pub mod MovedFrame
 pub mod Places
 pub mod PlainLaws
 pub mod Reading
 pub mod RunLaws
 pub mod Sizes
 pub mod Sound
+pub mod Undone
 pub mod WalkLaws

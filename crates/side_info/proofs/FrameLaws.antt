@@ -56,7 +56,7 @@ word_at frame long all = absurd (omega arith)
 abbrev pub HasRoom : HeaderFields → List ℕ → Type 0
 HasRoom h frame = overhead_of (class_of h) h.protected ≤ length frame
 
-overhead-is : (c : ClassFields) (protected : Bool) → overhead_of c protected ≡ side_place protected + side_size_of c
+pub overhead-is : (c : ClassFields) (protected : Bool) → overhead_of c protected ≡ side_place protected + side_size_of c
 unfolding overhead_of
 overhead-is c protected = refl
 
@@ -146,8 +146,19 @@ length-frame_with h s frame class shaped room =
     let is = made h s frame class shaped room in
     let part = bytes (side_bits (class_of h) s) in
     let rest = drop (overhead_of (class_of h) h.protected) frame in
-    omega (arith, room, is.front, is.word, is.part, ap length is.whole, overhead-is (class_of h) h.protected, length-append ((take 4 frame ++ word_part h s) ++ part) rest,
-    length-append (take 4 frame ++ word_part h s) part, length-append (take 4 frame) (word_part h s), length-drop (overhead_of (class_of h) h.protected) frame)
+    omega (
+      arith,
+      room,
+      is.front,
+      is.word,
+      is.part,
+      ap length is.whole,
+      overhead-is (class_of h) h.protected,
+      length-append ((take 4 frame ++ word_part h s) ++ part) rest,
+      length-append (take 4 frame ++ word_part h s) part,
+      length-append (take 4 frame) (word_part h s),
+      length-drop (overhead_of (class_of h) h.protected) frame,
+    )
 
 pub header-frame_with : (h : HeaderFields) (s : Side) (frame : List ℕ) → HasRoom h frame → take 4 (frame_with h s frame) ≡ take 4 frame
 unfolding frame_with
@@ -249,7 +260,7 @@ word_cases h s frame true is all room right =
     ∙ take-append-drop 2 (drop 4 frame)
 word_cases h s frame false is all room right = refl
 
-side_there : (h : HeaderFields) (frame : List ℕ) → IsClass (class_of h) → AreBytes frame → HasRoom h frame → bytes (side_bits (class_of h) (side_in h frame)) ≡ side_part h frame
+pub side_there : (h : HeaderFields) (frame : List ℕ) → IsClass (class_of h) → AreBytes frame → HasRoom h frame → bytes (side_bits (class_of h) (side_in h frame)) ≡ side_part h frame
 unfolding side_in side_part
 side_there h frame class all room =
     let c = class_of h in
@@ -290,7 +301,7 @@ take-drop-take size (suc from) zero xs le = absurd (omega (arith, le))
 take-drop-take size (suc from) (suc len) [] le = refl
 take-drop-take size (suc from) (suc len) (x ∷ xs) le = take-drop-take size from len xs (omega (arith, le))
 
-drop-take-append : (m n : ℕ) (xs : List ℕ) → m ≤ n → drop m (take n xs) ++ drop n xs ≡ drop m xs
+pub drop-take-append : (m n : ℕ) (xs : List ℕ) → m ≤ n → drop m (take n xs) ++ drop n xs ≡ drop m xs
 drop-take-append zero n xs le = take-append-drop n xs
 drop-take-append (suc m) zero xs le = absurd (omega (arith, le))
 drop-take-append (suc m) (suc n) [] le = refl

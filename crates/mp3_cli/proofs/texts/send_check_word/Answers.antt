@@ -8,6 +8,15 @@ pub returns : goal.returns
 unfolding fault_line
 returns g c =
     line_is _ _ _ _ _ _
-    (simp append_assoc (rw (c.format.ensures.text, c.hex_digit.ensures, c.hex_digit-2.ensures, c.hex_digit-3.ensures, c.hex_digit-4.ensures, c.hex_digit-5.ensures, c.hex_digit-6.ensures, c.hex_digit-7.ensures,
-    c.hex_digit-8.ensures) refl))
+    (simp append_assoc (rw (
+      c.format.ensures.text,
+      c.hex_digit.ensures,
+      c.hex_digit-2.ensures,
+      c.hex_digit-3.ensures,
+      c.hex_digit-4.ensures,
+      c.hex_digit-5.ensures,
+      c.hex_digit-6.ensures,
+      c.hex_digit-7.ensures,
+      c.hex_digit-8.ensures,
+    ) refl))
     c.send_pieces.ensures
