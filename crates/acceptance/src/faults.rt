@@ -1,5 +1,6 @@
 //! Calls of the outside that fail.
 
+use crate::check_words::WRONG_M;
 use crate::commands::{expect, expect_frames, folder_of, folder_of_frames, run_over, sink};
 use crate::frames::{G, G_LOWER, file_of};
 use outside::Call;
@@ -93,7 +94,7 @@ struct Told {
     line: &'static str,
 }
 
-static TOLD: [Told; 4] = [
+static TOLD: [Told; 5] = [
     Told {
         words: "gain -s s",
         status: 2,
@@ -110,19 +111,25 @@ static TOLD: [Told; 4] = [
         line: "a: absent\n",
     },
     Told {
+        words: "gain -s s -g 1 m o",
+        status: 1,
+        line: "m: check word at 0 is e953, right is e952\n",
+    },
+    Told {
         words: "gain -s s -g 0 g p",
         status: 3,
         line: "p: write fault\n",
     },
 ];
 
-// No line is sent in ten pieces: where the tenth would fail the line is whole.
+// No line is sent in fifteen pieces: where the fifteenth would fail the line is whole.
 #[test]
 fn standard_error_fails(rt: HostRuntime) -> Result<(), Fail> {
     for case in &TOLD {
         let line = case.line.as_bytes();
-        for number in 1..11 {
+        for number in 1..16 {
             let mut folder = folder_of_frames(rt.alloc(), "g", &[G])?;
+            folder.put("m", &WRONG_M)?;
             let mut err = sink(rt.alloc())?;
             err.fail(number)?;
             let ended = run_over(rt.alloc(), &mut folder, case.words, err)?;
@@ -130,7 +137,7 @@ fn standard_error_fails(rt: HostRuntime) -> Result<(), Fail> {
             let sent = ended.err.sent();
             assert!(rt; line.starts_with(sent), "{}", case.words);
             assert!(rt; number > 1 || sent.is_empty(), "{}", case.words);
-            assert!(rt; number < 10 || sent == line, "{}", case.words);
+            assert!(rt; number < 15 || sent == line, "{}", case.words);
         }
     }
     Ok(())

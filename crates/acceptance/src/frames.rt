@@ -1,12 +1,15 @@
-//! Frames as bytes, each worked out by hand from the standard's tables.
+//! Frames as bytes, each worked out by hand from the standard's tables. Check words are those that the
+//! program mp3check finds right.
 ghost use Rattle.std.specs.Prelude.{◌≤◌};
 
 use std::alloc::{AllocError, Global};
 
-/// A frame: its header, what stands behind it, and its length in bytes. The rest is zeros.
+/// A frame: its header, its check word where it has one, what stands behind them, and its length in
+/// bytes. The rest is zeros.
 #[derive(Clone, Copy)]
 pub struct Frame {
     pub header: [u8; 4],
+    pub word: Option<u16>,
     pub side: &'static [u8],
     pub area: &'static [u8],
     pub length: usize,
@@ -15,11 +18,15 @@ pub struct Frame {
 /// MPEG-1, 44,100 Hz, 128 kbit/s, stereo, without check word and padding.
 const PLAIN: [u8; 4] = [0xff, 0xfb, 0x90, 0x00];
 
+/// The same with a check word.
+const PROTECTED: [u8; 4] = [0xff, 0xfa, 0x90, 0x00];
+
 const AREA: [u8; 4] = [0x11, 0x22, 0x33, 0x44];
 
 /// All bytes behind the header are 0: its granules are silent.
 pub const Z: Frame = Frame {
     header: PLAIN,
+    word: None,
     side: &[],
     area: &[],
     length: 417,
@@ -28,6 +35,7 @@ pub const Z: Frame = Frame {
 /// Each granule's channel has 8 bits; the gains are 100, 101, 255, 90.
 pub const G: Frame = Frame {
     header: PLAIN,
+    word: None,
     side: &[
         0x00, 0x00, 0x00, 0x08, 0x00, 0x32, 0x00, 0x00, 0x00, 0x00, 0x01, 0x00, 0x06, 0x50, 0x00,
         0x00, 0x00, 0x00, 0x20, 0x01, 0xfe, 0x00, 0x00, 0x00, 0x00, 0x04, 0x00, 0x16, 0x80, 0x00,
@@ -252,9 +260,60 @@ pub const MONO_HEAD: Frame = Frame {
 };
 
 /// Z with a check word.
-pub const PROTECTED: Frame = Frame {
-    header: [0xff, 0xfa, 0x90, 0x00],
+pub const PROTECTED_Z: Frame = Frame {
+    header: PROTECTED,
+    word: Some(0xc05c),
     ..Z
+};
+
+/// G with a check word.
+pub const PROTECTED_G: Frame = Frame {
+    header: PROTECTED,
+    word: Some(0x11a2),
+    ..G
+};
+
+/// The same with the gains 95, 96, 250, 85.
+pub const PROTECTED_G_LOWER: Frame = Frame {
+    header: PROTECTED,
+    word: Some(0x9476),
+    ..G_LOWER
+};
+
+/// MPEG-2, 22,050 Hz, 64 kbit/s, padded, two channels, with 17 bytes of side information. The channels
+/// have 8 and 16 bits and the gains 100 and 200; every other bit but main_data_begin is 1.
+pub const LOWER: Frame = Frame {
+    header: [0xff, 0xf3, 0x82, 0x00],
+    word: None,
+    side: &[
+        0x00, 0xc0, 0x23, 0xfe, 0xc9, 0xff, 0xff, 0xff, 0xff, 0x80, 0x87, 0xff, 0x23, 0xff, 0xff,
+        0xff, 0xff,
+    ],
+    area: &AREA,
+    length: 209,
+};
+
+/// The same with the gains 95 and 195.
+pub const LOWER_QUIETER: Frame = Frame {
+    side: &[
+        0x00, 0xc0, 0x23, 0xfe, 0xbf, 0xff, 0xff, 0xff, 0xff, 0x80, 0x87, 0xff, 0x0f, 0xff, 0xff,
+        0xff, 0xff,
+    ],
+    ..LOWER
+};
+
+/// LOWER with a check word.
+pub const PROTECTED_LOWER: Frame = Frame {
+    header: [0xff, 0xf2, 0x82, 0x00],
+    word: Some(0x4fa8),
+    ..LOWER
+};
+
+/// The same with the gains 95 and 195.
+pub const PROTECTED_LOWER_QUIETER: Frame = Frame {
+    header: [0xff, 0xf2, 0x82, 0x00],
+    word: Some(0x2bff),
+    ..LOWER_QUIETER
 };
 
 /// MPEG-2, 22,050 Hz, 64 kbit/s, all bytes behind the header 0.
@@ -307,14 +366,22 @@ pub fn file_of(alloc: Global, frames: &[Frame]) -> Result<Vec<u8>, AllocError> {
 fn side_size(header: [u8; 4]) -> usize
     ensures { result ≤ 32 }
 {
-    if header[3] == 0xc0 { 17 } else { 32 }
+    match (header[1] & 8 != 0, header[3] == 0xc0) {
+        (true, false) => 32,
+        (true, true) | (false, false) => 17,
+        (false, true) => 9,
+    }
 }
 
 fn bytes_of(alloc: Global, frame: &Frame) -> Result<Vec<u8>, AllocError> {
     let mut bytes = Vec::new(alloc);
     bytes.extend_from_slice(&frame.header)?;
+    if let Some(word) = frame.word {
+        bytes.extend_from_slice(&word.to_be_bytes())?;
+    }
+    let side_end = bytes.len() + side_size(frame.header);
     bytes.extend_from_slice(frame.side)?;
-    bytes.resize(4 + side_size(frame.header), 0)?;
+    bytes.resize(side_end, 0)?;
     bytes.extend_from_slice(frame.area)?;
     bytes.resize(frame.length, 0)?;
     Ok(bytes)

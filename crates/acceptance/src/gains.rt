@@ -3,8 +3,9 @@
 use crate::commands::{expect, expect_frames, folder_of, folder_of_frames};
 use crate::frames::{
     FULL, FULL_LOUDER, Frame, G, G_AT_32_KHZ, G_AT_32_KHZ_LOWER, G_AT_48_KHZ, G_AT_48_KHZ_LOWER,
-    G_LOWER, LEFT_ALONE, LEFT_ALONE_LOUDER, LONG, LONG_LOWER, LOUD, LOW, MONO, MONO_LOWER, PADDED,
-    PADDED_LOWER, QUIET, QUIETER, Z, Z_PADDED, file_of,
+    G_LOWER, LEFT_ALONE, LEFT_ALONE_LOUDER, LONG, LONG_LOWER, LOUD, LOW, LOWER, LOWER_QUIETER,
+    MONO, MONO_LOWER, PADDED, PADDED_LOWER, PROTECTED_G, PROTECTED_G_LOWER, PROTECTED_LOWER,
+    PROTECTED_LOWER_QUIETER, PROTECTED_Z, QUIET, QUIETER, Z, Z_PADDED, file_of,
 };
 use std::alloc::{AllocError, Global};
 use std::test::Fail;
@@ -16,7 +17,7 @@ struct Change {
     after: Frame,
 }
 
-static CHANGES: [Change; 10] = [
+static CHANGES: [Change; 14] = [
     Change {
         words: "gain -s s -g -5 g o",
         before: G,
@@ -67,6 +68,26 @@ static CHANGES: [Change; 10] = [
         before: G_AT_32_KHZ,
         after: G_AT_32_KHZ_LOWER,
     },
+    Change {
+        words: "gain -s s -g -5 g o",
+        before: LOWER,
+        after: LOWER_QUIETER,
+    },
+    Change {
+        words: "gain -s s -g 5 g o",
+        before: PROTECTED_LOWER_QUIETER,
+        after: PROTECTED_LOWER,
+    },
+    Change {
+        words: "gain -s s -g -5 g o",
+        before: PROTECTED_G,
+        after: PROTECTED_G_LOWER,
+    },
+    Change {
+        words: "gain -s s -g 5 g o",
+        before: PROTECTED_Z,
+        after: PROTECTED_Z,
+    },
 ];
 
 #[test]
@@ -83,10 +104,17 @@ fn gains_move_and_all_else_stays(rt: HostRuntime) -> Result<(), Fail> {
 
 #[test]
 fn frames_of_other_lengths_and_gains(rt: HostRuntime) -> Result<(), Fail> {
-    let mut folder = folder_of_frames(rt.alloc(), "g", &[LONG, QUIET, Z, PADDED, G])?;
+    let mut folder = folder_of_frames(rt.alloc(), "g", &[LONG, QUIET, Z, PROTECTED_G, PADDED, G])?;
     expect(&rt, &mut folder, "gain -s s -g -5 g o", 0, "")?;
-    let wanted = [LONG_LOWER, QUIETER, Z, PADDED_LOWER, G_LOWER];
-    expect_frames(&rt, &folder, "o", &wanted, "five frames")?;
+    let wanted = [
+        LONG_LOWER,
+        QUIETER,
+        Z,
+        PROTECTED_G_LOWER,
+        PADDED_LOWER,
+        G_LOWER,
+    ];
+    expect_frames(&rt, &folder, "o", &wanted, "six frames")?;
     Ok(())
 }
 
@@ -97,7 +125,7 @@ struct OutOfRange {
     line: &'static str,
 }
 
-static OUT_OF_RANGE: [OutOfRange; 5] = [
+static OUT_OF_RANGE: [OutOfRange; 6] = [
     OutOfRange {
         words: "gain -s s -g 1 g o",
         frames: &[G, Z],
@@ -122,6 +150,11 @@ static OUT_OF_RANGE: [OutOfRange; 5] = [
         words: "gain -s s -g -255 g o",
         frames: &[Z, G],
         line: "gain 100 out of range at 417, granule 0, channel 0\n",
+    },
+    OutOfRange {
+        words: "gain -s s -g 56 g o",
+        frames: &[LOWER_QUIETER, LOWER],
+        line: "gain 200 out of range at 209, granule 0, channel 1\n",
     },
 ];
 

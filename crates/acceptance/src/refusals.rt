@@ -3,7 +3,7 @@
 use crate::commands::{expect, expect_frames, folder_of, folder_of_frames};
 use crate::frames::{
     BACK_POINTER, FORBIDDEN_RATE, FREE, Frame, G, G_AT_48_KHZ, HEAD, HEAD_OF_RATES, LAYER_2, LOUD,
-    MONO, MONO_HEAD, MPEG_2, MPEG_2_5, OVERFULL, PROTECTED, RESERVED_FREQUENCY, Z, file_of,
+    MONO, MONO_HEAD, MPEG_2, MPEG_2_5, OVERFULL, RESERVED_FREQUENCY, Z, file_of,
 };
 use outside::{Call, MemFolder};
 use std::alloc::{AllocError, Global};
@@ -16,7 +16,7 @@ struct NotPlain {
     line: &'static str,
 }
 
-static NOT_PLAIN: [NotPlain; 20] = [
+static NOT_PLAIN: [NotPlain; 18] = [
     NotPlain {
         what: "main data past the area",
         frames: &[OVERFULL, G],
@@ -53,19 +53,9 @@ static NOT_PLAIN: [NotPlain; 20] = [
         line: "a: not yet at 0\n",
     },
     NotPlain {
-        what: "a check word",
-        frames: &[PROTECTED, Z],
-        line: "a: not yet at 0\n",
-    },
-    NotPlain {
-        what: "a check word, later",
-        frames: &[Z, PROTECTED],
-        line: "a: not yet at 417\n",
-    },
-    NotPlain {
-        what: "MPEG-2",
-        frames: &[MPEG_2, MPEG_2],
-        line: "a: not yet at 0\n",
+        what: "MPEG-1, later",
+        frames: &[MPEG_2, Z],
+        line: "a: not yet at 208\n",
     },
     NotPlain {
         what: "MPEG-2, later",

@@ -1,6 +1,7 @@
 //! Headers and lengths from the tables of the standard.
 
 use super::*;
+use std::process::Abort;
 use std::test::Fail;
 
 const MPEG_1: Version = Version::One;
@@ -142,6 +143,68 @@ fn lengths(rt: HostRuntime) -> Result<(), Fail> {
                 };
                 let wanted = u32::from(wanted) + u32::from(padding);
                 assert_eq!(rt; class.length_of(slot), wanted, "{class:?}, {slot:?}");
+            }
+        }
+    }
+    Ok(())
+}
+
+/// A version, the factor of its frame lengths, its bit rates in kbit/s for the indexes 1 to 14, and its
+/// sampling frequencies in Hz.
+struct Rates {
+    version: Version,
+    factor: u8,
+    rates: [u16; 14],
+    frequencies: [u16; 3],
+}
+
+static RATES: [Rates; 2] = [
+    Rates {
+        version: MPEG_1,
+        factor: 144,
+        rates: [
+            32, 40, 48, 56, 64, 80, 96, 112, 128, 160, 192, 224, 256, 320,
+        ],
+        frequencies: [44_100, 48_000, 32_000],
+    },
+    Rates {
+        version: MPEG_2,
+        factor: 72,
+        rates: [8, 16, 24, 32, 40, 48, 56, 64, 80, 96, 112, 128, 144, 160],
+        frequencies: [22_050, 24_000, 16_000],
+    },
+];
+
+// The factor times the bit rate in bit/s, divided by the frequency and rounded down, and the byte of padding.
+fn expect_lengths<R: Abort + AllocGlobal>(rt: &R, class: Class, table: &Rates) {
+    let frequency = u64::from(table.frequencies[class.frequency_index as usize]);
+    assert!(rt; frequency > 0);
+    for rate_index in 1..15 {
+        let rate = table.rates[rate_index as usize - 1];
+        let bytes = u64::from(table.factor) * 1000 * u64::from(rate) / frequency;
+        for padding in [false, true] {
+            let slot = Slot {
+                rate_index,
+                padding,
+            };
+            let length = u64::from(class.length_of(slot));
+            assert_eq!(rt; class.rate(slot), u32::from(rate), "{class:?}, {slot:?}");
+            assert_eq!(rt; length, bytes + u64::from(padding), "{class:?}, {slot:?}");
+        }
+    }
+}
+
+#[test]
+fn lengths_by_the_formula(rt: HostRuntime) -> Result<(), Fail> {
+    for table in &RATES {
+        for frequency_index in 0..3 {
+            for channels in 1..3 {
+                let class = Class {
+                    version: table.version,
+                    frequency_index,
+                    channels,
+                };
+                expect_lengths(&rt, class, table);
             }
         }
     }
