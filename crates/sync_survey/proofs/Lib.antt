@@ -6,3 +6,4 @@ pub mod WalkLaws
 pub mod FaultsLaws
 pub mod OneItem
 pub mod SurveyLaws
+pub mod FoldersLaws

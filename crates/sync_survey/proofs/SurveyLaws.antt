@@ -1,5 +1,5 @@
 -- The survey of a file's bytes, from what the parts of the code find.
-use Rattle.std.proofs.Common.{◌≡◌, ◌⊎◌, ℕ, ◌+◌, ◌≤◌, List, [], ◌∷◌, ◌++◌, length, drop, Option, Some, None, option_map, Result, Ok, Err, refl, sym, ◌∙◌, ap, ap₂, subst, inr, arith}
+use Rattle.std.proofs.Common.{◌≡◌, ℕ, ◌+◌, ◌≤◌, List, [], ◌∷◌, ◌++◌, length, drop, Option, Some, None, option_map, Result, Ok, Err, sym, ◌∙◌, ap, ap₂, subst, arith}
 use Rattle.std.specs.Prelude.{option_to_list}
 use Rattle.frame_header.specs.Fields.{HeaderFields, IsHeader}
 use Rattle.frame_header.specs.Tables.{class_of, length_of, overhead_of}
@@ -17,15 +17,15 @@ use Rattle.sync_survey.specs.declared.rows.Row.{Row}
 use Rattle.sync_survey.specs.declared.survey_fault.SurveyFault.{SurveyFault}
 use Rattle.sync_survey.specs.declared.runs.Part.TheVariants.{Stream}
 use Rattle.sync_survey.specs.Items.{item_at, size_of}
-use Rattle.sync_survey.specs.Runs.{Placed, AreEndToEnd, AreInFile, run, frame_as, frames_of}
+use Rattle.sync_survey.specs.Runs.{Placed, AreEndToEnd, AreInFile, frame_as, frames_of}
 use Rattle.sync_survey.specs.Start.{start_of}
-use Rattle.sync_survey.specs.Walk.{stream_of, numbered, fault_at, end_fault, walk_from}
+use Rattle.sync_survey.specs.Walk.{stream_of, numbered, fault_at, end_fault}
 use Rattle.sync_survey.specs.MainData.{rows_of}
 use Rattle.sync_survey.specs.Faults.{all_faults, as_survey, first_of, class_from, faults_from, SurveyFields, fields_from, unless_fault, survey_by, surveyed}
 use Rattle.sync_survey.proofs.ItemsLaws.{stands-at, header_front-in_range}
 use Rattle.sync_survey.proofs.RunsLaws.{cons_list, run-ends}
 use Rattle.sync_survey.proofs.WalkLaws.{IsFound, walk-is}
-use Rattle.sync_survey.proofs.FaultsLaws.{first-append, some-append, none-of}
+use Rattle.sync_survey.proofs.FaultsLaws.{some-append, none-of}
 
 -- ---- the frames that were met are in the file
 

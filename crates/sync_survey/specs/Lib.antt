@@ -5,3 +5,4 @@ pub mod Start
 pub mod Walk
 pub mod MainData
 pub mod Faults
+pub mod Survey

@@ -1,10 +1,10 @@
 -- Where the main data of the frames stand in the file (main_data_begin, ISO/IEC 11172-3 and 13818-3, 2.4.2.7). The areas of the head and
 -- of all frames, one behind the other, are the main data of the file; a frame's own begin so many bytes before its own area as its
 -- main_data_begin says, counted in areas alone.
-use Rattle.std.specs.Prelude.{ℕ, ◌+◌, ◌-◌, ◌*◌, ◌==◌, if◌then◌else◌, Bool, false, List, [], ◌∷◌, ◌++◌, take, drop, map, reverse, sum_by, flat_map, Option, Some, None}
+use Rattle.std.specs.Prelude.{ℕ, ◌+◌, ◌-◌, ◌*◌, ◌==◌, if◌then◌else◌, Bool, false, List, [], ◌∷◌, ◌++◌, take, drop, map, sum_by, flat_map, Option, Some, None}
 use Rattle.bit_fields.specs.Bits.{bits}
 use Rattle.frame_header.specs.Fields.{HeaderFields, SlotFields}
-use Rattle.frame_header.specs.Tables.{class_of, length_of, area_of, overhead_of}
+use Rattle.frame_header.specs.Tables.{class_of, area_of, overhead_of}
 use Rattle.side_info.specs.declared.granule.Granule.{Granule}
 use Rattle.side_info.specs.declared.side.Side.{Side}
 use Rattle.side_info.specs.Side.{payload_bits, payload_bytes, granules_in}

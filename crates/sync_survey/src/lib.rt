@@ -1,6 +1,7 @@
 //! What stands where in a file: blocks of tags, junk, a head, and the frames of the stream.
 #![tactic(auto)]
 
+mod folders;
 mod items;
 mod places;
 mod rows;
@@ -10,6 +11,7 @@ mod survey_fault;
 mod surveys;
 mod walks;
 
+pub use folders::{load, survey};
 pub use items::{Item, item_at};
 pub use places::{Head, Piece, PlacedFrame, Start, WalkFault};
 pub use rows::Row;

@@ -1,5 +1,5 @@
 -- The frame is in the file, up to its area.
-use Rattle.std.proofs.Common.{◌≤◌, length, sym, ap, subst, arith, length-drop}
+use Rattle.std.proofs.Common.{length, ap, arith, length-drop}
 use Rattle.sync_survey.proofs.rows.row_at.Goals as goal
 
 pub side_of_frame-requires : goal.side_of_frame-requires

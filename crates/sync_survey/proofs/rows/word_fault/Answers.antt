@@ -1,5 +1,5 @@
 -- A protected frame has room for a check word.
-use Rattle.std.proofs.Common.{◌≡◌, ◌≤◌, length, drop, true, sym, ◌∙◌, ap, arith, length-drop}
+use Rattle.std.proofs.Common.{◌≡◌, length, drop, sym, ◌∙◌, ap, arith, length-drop}
 use Rattle.side_info.proofs.FrameLaws.{HasRoom, room-protected}
 use Rattle.sync_survey.proofs.rows.word_fault.Goals as goal
 

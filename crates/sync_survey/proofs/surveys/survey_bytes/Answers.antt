@@ -1,12 +1,11 @@
 -- The survey and its faults are those of the definition.
-use Rattle.std.proofs.Common.{◌≡◌, Ok, Err, Some, None, [], length, sym, ◌∙◌, ap, ap₂, subst, inl, inr, ⊎_elim}
+use Rattle.std.proofs.Common.{Ok, Err, [], sym, ◌∙◌, ap, ap₂, subst, inl, inr, ⊎_elim}
 use Rattle.std.proofs.lemmas.Result.{err_from_is_err_and}
-use Rattle.frame_header.specs.Tables.{class_of}
 use Rattle.sync_survey.specs.Runs.{AreInFile}
 use Rattle.sync_survey.specs.MainData.{rows_of}
 use Rattle.sync_survey.specs.Faults.{all_faults, first_of}
 use Rattle.sync_survey.proofs.WalkLaws.{IsFound}
-use Rattle.sync_survey.proofs.SurveyLaws.{told_by, found_inside, survey-no_start, survey-frame, survey-stopped, survey-whole}
+use Rattle.sync_survey.proofs.SurveyLaws.{told_by, found_inside, survey-frame, survey-stopped, survey-whole}
 use Rattle.sync_survey.proofs.surveys.survey_bytes.Goals as goal
 
 pub judge-requires : goal.judge-requires

@@ -1,0 +1,24 @@
+-- The survey of the bytes that were loaded is that of the file.
+use Rattle.std.proofs.Common.{sym, subst}
+use Rattle.sync_survey.proofs.FoldersLaws.{IsLoaded, survey_ok, survey_refused}
+use Rattle.sync_survey.proofs.folders.survey.Goals as goal
+
+pub returns-clause-exact : goal.returns-clause-exact
+returns-clause-exact g c =
+    let files = g.D.Folder.files c.args.folder.now in
+    let before = g.D.Folder.counts c.args.folder.now in
+    let after = g.D.Folder.counts c.load.new.folder in
+    let loaded = c.in_ok-bytes.ensures in
+    let all : IsLoaded c.args.name.now files before after c.deref.result.now =
+    subst (IsLoaded c.args.name.now files before after) (sym c.deref.ensures.value) (record { there = loaded.there; bytes = loaded.bytes; few = loaded.bound; counts = loaded.done }) in
+    survey_ok c.args.name.now files c.args.allowed before after c.deref.result.now all c.survey_bytes.result c.survey_bytes.ensures
+
+pub returns-clause-refused : goal.returns-clause-refused
+returns-clause-refused g c =
+    let files = g.D.Folder.files c.args.folder.now in
+    let before = g.D.Folder.counts c.args.folder.now in
+    let after = g.D.Folder.counts c.load.new.folder in
+    let loaded = c.in_ok-bytes.ensures in
+    let all : IsLoaded c.args.name.now files before after c.deref.result.now =
+    subst (IsLoaded c.args.name.now files before after) (sym c.deref.ensures.value) (record { there = loaded.there; bytes = loaded.bytes; few = loaded.bound; counts = loaded.done }) in
+    survey_refused c.args.name.now files c.args.allowed before after c.deref.result.now all c.survey_bytes.result c.survey_bytes.ensures
