@@ -1,8 +1,8 @@
 -- What the contracts of this crate cite.
 pub mod Words
 pub mod Table
+pub mod Kinds
 pub mod Texts
-pub mod Plain
 pub mod Gains
 pub mod Edited
 pub mod Gain

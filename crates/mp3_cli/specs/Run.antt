@@ -1,16 +1,18 @@
 -- What the program does, from its words and the files that are there.
 use Rattle.std.specs.Prelude.{◌≡◌, ◌≢◌, ℕ, List, [], Some, None, Result, Ok, Err}
-use Rattle.outside.specs.Files.{Contents, Files, Sent, with_file, sent_more}
+use Rattle.outside.specs.Files.{Contents, Files, untold, Sent, with_file, sent_more}
 use Rattle.outside.specs.Counts.{Counts, Rose}
+use Rattle.sync_survey.specs.Faults.{SurveyFields}
+use Rattle.sync_survey.specs.Survey.{survey_of}
 use Rattle.mp3_cli.specs.declared.fault.EditFault.{EditFault}
-use Rattle.mp3_cli.specs.declared.fault.EditFault.TheVariants.{EqualNames, Absent, Read, NotYet, CheckWord, GainRange, Write, Memory}
+use Rattle.mp3_cli.specs.declared.fault.EditFault.TheVariants.{EqualNames, Input, GainRange, Write, Memory}
 use Rattle.mp3_cli.specs.declared.jobs.Job.{Job}
 use Rattle.mp3_cli.specs.declared.jobs.Job.TheVariants.{Gain}
 use Rattle.mp3_cli.specs.declared.shift.Shift.{Shift}
 use Rattle.mp3_cli.specs.Words.{word_at, job_of}
 use Rattle.mp3_cli.specs.Texts.{status_of, fault_line, bad_word_line, GotLine}
-use Rattle.mp3_cli.specs.Plain.{file_walk, file_fault}
-use Rattle.mp3_cli.specs.Edited.{range_fault, gain_result}
+use Rattle.mp3_cli.specs.Kinds.{by_kind}
+use Rattle.mp3_cli.specs.Edited.{most_frames, range_fault, gain_result}
 use Rattle.mp3_cli.specs.Gain.{Gives, IsWrittenInPart, NeedsMemory}
 
 -- ---- the result
@@ -54,8 +56,8 @@ pub record IsOutcome (o : Outcome) (status : ℕ) (files : Files) (text_before t
 
 -- ---- what is accepted
 
--- the words ask for a gain command whose input is there under another name than the output, is plain, and has no gain that
--- would leave its range
+-- the words ask for a gain command whose input is there under another name than the output, has no fault, and has no gain
+-- that would leave its range
 pub record IsAccepted (words : List (List ℕ)) (files : Contents) : Type 0 where
   pub shift : Shift
   pub input : ℕ
@@ -64,18 +66,22 @@ pub record IsAccepted (words : List (List ℕ)) (files : Contents) : Type 0 wher
   pub names : word_at words input ≢ word_at words output
   pub file : List ℕ
   pub there : files (word_at words input) ≡ Some file
-  pub plain : file_fault file ≡ None
-  pub range : range_fault shift 0 (file_walk file).frames ≡ None
+  pub survey : SurveyFields
+  pub sound : survey_of file most_frames ≡ Ok survey
+  pub range : range_fault shift survey.frames ≡ None
 
 -- ---- what stops it
 
 -- the cause of a fault of the outside, and what it leaves
 abbrev pub IsCause : Shift → List ℕ → List ℕ → Files → Files → Counts → Counts → EditFault → Type 0
 IsCause shift input output old new before after (EqualNames place) = ⊥
-IsCause shift input output old new before after Absent = Rose before.misses after.misses × (new ≡ old) × Gives shift input output old (Err Absent)
-IsCause shift input output old new before after Read = Rose before.read_faults after.read_faults × (new ≡ old)
-IsCause shift input output old new before after (NotYet offset) = ⊥
-IsCause shift input output old new before after (CheckWord offset said right) = ⊥
+IsCause shift input output old new before after (Input place fault) = by_kind (record {
+  absent = Rose before.misses after.misses × (new ≡ old) × Gives shift input output old (Err (Input place fault));
+  read = Rose before.read_faults after.read_faults × (new ≡ old);
+  shrunk = Rose before.ends after.ends × (new ≡ old) × (old ≡ untold);
+  memory = ⊥;
+  refused = ⊥;
+}) fault
 IsCause shift input output old new before after (GainRange offset granule channel gain) = ⊥
 IsCause shift input output old new before after (Write place) = Rose before.write_faults after.write_faults × IsWrittenInPart shift input output old new
 IsCause shift input output old new before after Memory = ⊥
@@ -91,8 +97,8 @@ pub record IsStopped (words : List (List ℕ)) (old new : Files) (before after :
   pub cause : IsCause shift (word_at words input) (word_at words output) old new before after fault
   pub line : GotLine sent_before sent_after faults_before faults_after (fault_line fault (word_at words input) (word_at words output))
 
--- the words ask for a gain command whose input is there under another name than the output, and is neither empty nor too
--- long, so that memory for its bytes is taken
+-- the words ask for a gain command whose input is there under another name than the output with a length that it may have,
+-- so that memory for its bytes is taken
 pub record AsksForMemory (words : List (List ℕ)) (files : Files) : Type 0 where
   pub shift : Shift
   pub input : ℕ

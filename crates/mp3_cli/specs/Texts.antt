@@ -2,19 +2,19 @@
 use Rattle.std.specs.Prelude.{◌≡◌, ◌⊎◌, ℕ, ◌/◌, ◌%◌, ◌≤◌, List, [], ◌∷◌, ◌++◌, length, take, slice_index, codes, decimal}
 use Rattle.outside.specs.Files.{Sent, sent_more}
 use Rattle.outside.specs.Counts.{Rose}
+use Rattle.mp3_cli.specs.Kinds.{by_kind}
+use Rattle.sync_survey.specs.declared.survey_fault.SurveyFault.{SurveyFault}
+use Rattle.sync_survey.specs.declared.survey_fault.SurveyFault.TheVariants.{Absent, TooLong, NoFrame, LostSync, Truncated, FreeFormat, Mixed, CheckWord, BackPointer, Overlap, Overrun, TooManyFrames, Shrunk, Read, Memory}
 use Rattle.mp3_cli.specs.declared.fault.EditFault.{EditFault}
-use Rattle.mp3_cli.specs.declared.fault.EditFault.TheVariants.{EqualNames, Absent, Read, NotYet, CheckWord, GainRange, Write, Memory}
+use Rattle.mp3_cli.specs.declared.fault.EditFault.TheVariants.{EqualNames, Input, GainRange, Write, Memory as NoMemory}
 
 -- 1 for a refused input, 3 for a fault of the outside, 4 for want of memory
 abbrev pub status_of : EditFault → ℕ
 status_of (EqualNames place) = 1
-status_of Absent = 3
-status_of Read = 3
-status_of (NotYet offset) = 1
-status_of (CheckWord offset said right) = 1
+status_of (Input place fault) = by_kind (record { absent = 3; read = 3; shrunk = 3; memory = 4; refused = 1 }) fault
 status_of (GainRange offset granule channel gain) = 1
 status_of (Write place) = 3
-status_of Memory = 4
+status_of NoMemory = 4
 
 -- a number below 16 as a hexadecimal digit, and a word as four of them
 abbrev pub hex_digit : ℕ → ℕ
@@ -23,19 +23,33 @@ hex_digit n = slice_index (codes "0123456789abcdef") n
 abbrev pub hex_word : ℕ → List ℕ
 hex_word word = hex_digit (word / 4096 % 16) ∷ hex_digit (word / 256 % 16) ∷ hex_digit (word / 16 % 16) ∷ hex_digit (word % 16) ∷ []
 
+-- the line of a fault of the input, behind its name
+abbrev pub input_text : SurveyFault → List ℕ
+input_text Absent = codes ": absent\n"
+input_text (TooLong size) = codes ": too long, " ++ decimal size ++ codes " bytes\n"
+input_text (NoFrame at) = codes ": no frame at " ++ decimal at ++ codes "\n"
+input_text (LostSync at) = codes ": lost synchronisation at " ++ decimal at ++ codes "\n"
+input_text (Truncated at) = codes ": truncated at " ++ decimal at ++ codes "\n"
+input_text (FreeFormat at) = codes ": free format at " ++ decimal at ++ codes "\n"
+input_text (Mixed at) = codes ": mixed class at " ++ decimal at ++ codes "\n"
+input_text (CheckWord at said right) = codes ": check word at " ++ decimal at ++ codes " is " ++ hex_word said ++ codes ", right is " ++ hex_word right ++ codes "\n"
+input_text (BackPointer at begin present) = codes ": back pointer at " ++ decimal at ++ codes " is " ++ decimal begin ++ codes ", present " ++ decimal present ++ codes "\n"
+input_text (Overlap at) = codes ": overlap at " ++ decimal at ++ codes "\n"
+input_text (Overrun at bits room) = codes ": overrun at " ++ decimal at ++ codes ", bits " ++ decimal bits ++ codes ", room " ++ decimal room ++ codes "\n"
+input_text (TooManyFrames at) = codes ": too many frames at " ++ decimal at ++ codes "\n"
+input_text (Shrunk first second) = codes ": shrunk from " ++ decimal first ++ codes " to " ++ decimal second ++ codes "\n"
+input_text Read = codes ": read fault\n"
+input_text Memory = codes ": out of memory\n"
+
 -- the line of a fault, by the names of the input and the output
 unfoldable pub fault_line : EditFault → List ℕ → List ℕ → List ℕ
 fault_line (EqualNames place) input output = input ++ codes ": input is an output\n"
-fault_line Absent input output = input ++ codes ": absent\n"
-fault_line Read input output = input ++ codes ": read fault\n"
-fault_line (NotYet offset) input output = input ++ codes ": not yet at " ++ decimal offset ++ codes "\n"
-fault_line (CheckWord offset said right) input output =
-    input ++ codes ": check word at " ++ decimal offset ++ codes " is " ++ hex_word said ++ codes ", right is " ++ hex_word right ++ codes "\n"
+fault_line (Input place fault) input output = input ++ input_text fault
 fault_line (GainRange offset granule channel gain) input output =
     codes "gain " ++ decimal gain ++ codes " out of range at " ++ decimal offset
     ++ codes ", granule " ++ decimal granule ++ codes ", channel " ++ decimal channel ++ codes "\n"
 fault_line (Write place) input output = output ++ codes ": write fault\n"
-fault_line Memory input output = codes "out of memory\n"
+fault_line NoMemory input output = codes "out of memory\n"
 
 -- the line of a bad word, by its place counted from 1
 unfoldable pub bad_word_line : ℕ → List ℕ

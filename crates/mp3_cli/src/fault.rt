@@ -2,23 +2,18 @@
 
 ghost use Rattle.std.specs.Prelude.{◌≡◌};
 ghost use Rattle.mp3_cli.specs.declared.fault.EditFault.TheVariants.{Memory};
+ghost use Rattle.mp3_cli.specs.Kinds.{of_input};
 
 use std::alloc::{AllocError, AllocFailed};
+use sync_survey::SurveyFault;
 
 /// Why a job was not done.
 #[derive(Clone, Copy, Debug, PartialEq, Eq)]
 pub enum EditFault {
     /// The output's name is that of this input, counted from 0.
     EqualNames(u32),
-    /// The input isn't there.
-    Absent,
-    /// The input could not be read.
-    Read,
-    /// A form of stream that isn't built yet begins at this byte of the input.
-    NotYet(u64),
-    /// The check word of the protected frame at this byte of the input is wrong: the word that stands
-    /// there, and the one that is right.
-    CheckWord(u64, u16, u16),
+    /// This input, counted from 0, isn't there, can't be read, or is at fault. Never `Memory`.
+    Input(u32, SurveyFault),
     /// A gain would leave the range from 0 to 255: the offset of its frame in bytes, its granule, its
     /// channel, and the gain that stands there.
     GainRange(u64, u8, u8, u8),
@@ -41,5 +36,17 @@ impl<T: Drop> From<AllocFailed<T>> for EditFault {
 
     fn from(_: AllocFailed<T>) -> EditFault {
         EditFault::Memory
+    }
+}
+
+/// The fault of the one input of a command; want of memory stands alone.
+impl From<SurveyFault> for EditFault {
+    ghost from_gives = { λ fault e. e ≡ of_input fault };
+
+    fn from(fault: SurveyFault) -> EditFault {
+        match fault {
+            SurveyFault::Memory => EditFault::Memory,
+            _ => EditFault::Input(0, fault),
+        }
     }
 }

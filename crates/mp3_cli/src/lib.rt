@@ -6,7 +6,6 @@ mod fault;
 mod gain_file;
 mod gains;
 mod jobs;
-mod plain;
 mod program;
 mod shift;
 mod texts;

@@ -4,6 +4,7 @@ use super::*;
 use outside::MemSink;
 use std::alloc::{AllocError, Global};
 use std::test::Fail;
+use sync_survey::SurveyFault;
 
 fn read(alloc: Global, words: &[&str]) -> Result<Result<Job, u32>, AllocError> {
     let mut owned = Vec::new(alloc);
@@ -78,32 +79,114 @@ fn bad_words(rt: HostRuntime) -> Result<(), Fail> {
     Ok(())
 }
 
+/// A fault, with its status and its line.
+struct Line {
+    fault: EditFault,
+    status: u8,
+    line: &'static [u8],
+}
+
+static LINES: [Line; 18] = [
+    Line {
+        fault: EditFault::EqualNames(0),
+        status: 1,
+        line: b"a.mp3: input is an output\n",
+    },
+    Line {
+        fault: EditFault::Input(0, SurveyFault::Absent),
+        status: 3,
+        line: b"a.mp3: absent\n",
+    },
+    Line {
+        fault: EditFault::Input(0, SurveyFault::TooLong(1_073_741_825)),
+        status: 1,
+        line: b"a.mp3: too long, 1073741825 bytes\n",
+    },
+    Line {
+        fault: EditFault::Input(0, SurveyFault::NoFrame(0)),
+        status: 1,
+        line: b"a.mp3: no frame at 0\n",
+    },
+    Line {
+        fault: EditFault::Input(0, SurveyFault::LostSync(30417)),
+        status: 1,
+        line: b"a.mp3: lost synchronisation at 30417\n",
+    },
+    Line {
+        fault: EditFault::Input(0, SurveyFault::Truncated(417)),
+        status: 1,
+        line: b"a.mp3: truncated at 417\n",
+    },
+    Line {
+        fault: EditFault::Input(0, SurveyFault::FreeFormat(9)),
+        status: 1,
+        line: b"a.mp3: free format at 9\n",
+    },
+    Line {
+        fault: EditFault::Input(0, SurveyFault::Mixed(834)),
+        status: 1,
+        line: b"a.mp3: mixed class at 834\n",
+    },
+    Line {
+        fault: EditFault::Input(0, SurveyFault::CheckWord(417, 0x0a0f, 0xe952)),
+        status: 1,
+        line: b"a.mp3: check word at 417 is 0a0f, right is e952\n",
+    },
+    Line {
+        fault: EditFault::Input(0, SurveyFault::BackPointer(0, 10, 0)),
+        status: 1,
+        line: b"a.mp3: back pointer at 0 is 10, present 0\n",
+    },
+    Line {
+        fault: EditFault::Input(0, SurveyFault::Overlap(417)),
+        status: 1,
+        line: b"a.mp3: overlap at 417\n",
+    },
+    Line {
+        fault: EditFault::Input(0, SurveyFault::Overrun(0, 3049, 3048)),
+        status: 1,
+        line: b"a.mp3: overrun at 0, bits 3049, room 3048\n",
+    },
+    Line {
+        fault: EditFault::Input(0, SurveyFault::TooManyFrames(7)),
+        status: 1,
+        line: b"a.mp3: too many frames at 7\n",
+    },
+    Line {
+        fault: EditFault::Input(0, SurveyFault::Shrunk(834, 417)),
+        status: 3,
+        line: b"a.mp3: shrunk from 834 to 417\n",
+    },
+    Line {
+        fault: EditFault::Input(0, SurveyFault::Read),
+        status: 3,
+        line: b"a.mp3: read fault\n",
+    },
+    Line {
+        fault: EditFault::GainRange(417, 1, 0, 255),
+        status: 1,
+        line: b"gain 255 out of range at 417, granule 1, channel 0\n",
+    },
+    Line {
+        fault: EditFault::Write(0),
+        status: 3,
+        line: b"b.mp3: write fault\n",
+    },
+    Line {
+        fault: EditFault::Memory,
+        status: 4,
+        line: b"out of memory\n",
+    },
+];
+
 #[test]
 fn lines(rt: HostRuntime) -> Result<(), Fail> {
-    let cases: [(EditFault, u8, &[u8]); 8] = [
-        (EditFault::EqualNames(0), 1, b"a.mp3: input is an output\n"),
-        (EditFault::Absent, 3, b"a.mp3: absent\n"),
-        (EditFault::Read, 3, b"a.mp3: read fault\n"),
-        (EditFault::NotYet(30417), 1, b"a.mp3: not yet at 30417\n"),
-        (
-            EditFault::CheckWord(417, 0x0a0f, 0xe952),
-            1,
-            b"a.mp3: check word at 417 is 0a0f, right is e952\n",
-        ),
-        (
-            EditFault::GainRange(417, 1, 0, 255),
-            1,
-            b"gain 255 out of range at 417, granule 1, channel 0\n",
-        ),
-        (EditFault::Write(0), 3, b"b.mp3: write fault\n"),
-        (EditFault::Memory, 4, b"out of memory\n"),
-    ];
-    for (fault, wanted, line) in cases {
-        assert_eq!(rt; status(&fault), wanted);
+    for case in &LINES {
+        assert_eq!(rt; status(&case.fault), case.status);
         let mut err = MemSink::new(rt.alloc());
         err.reserve(100)?;
-        send_fault(&mut err, &fault, "a.mp3", "b.mp3");
-        assert_eq!(rt; err.sent(), line);
+        send_fault(&mut err, &case.fault, "a.mp3", "b.mp3");
+        assert_eq!(rt; err.sent(), case.line);
     }
     Ok(())
 }
@@ -122,7 +205,8 @@ fn a_line_stops_where_a_write_fails(rt: HostRuntime) -> Result<(), Fail> {
     let mut err = MemSink::new(rt.alloc());
     err.reserve(100)?;
     err.fail(2)?;
-    send_fault(&mut err, &EditFault::NotYet(7), "a.mp3", "b.mp3");
+    let fault = EditFault::Input(0, SurveyFault::Overlap(7));
+    send_fault(&mut err, &fault, "a.mp3", "b.mp3");
     assert_eq!(rt; err.sent(), b"a.mp3".as_slice());
     Ok(())
 }

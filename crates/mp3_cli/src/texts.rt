@@ -1,22 +1,32 @@
 //! The statuses that the program ends with, and the lines that it writes of faults.
-ghost use Rattle.std.specs.Prelude.{◌≡◌, ◌%◌, [], ◌∷◌, flat_map};
-ghost use Rattle.mp3_cli.specs.Texts.{status_of, hex_digit as hex_digit_lem, fault_line, bad_word_line, GotLine};
+ghost use Rattle.std.specs.Prelude.{◌≡◌, ◌%◌, [], ◌∷◌, ◌++◌, decimal, flat_map};
+ghost use Rattle.mp3_cli.specs.Texts.{status_of, hex_digit as hex_digit_lem, input_text, fault_line, bad_word_line, GotLine};
 
 use crate::fault::EditFault;
 use itoa::Buffer;
 use outside::{Sink, send_all};
+use sync_survey::SurveyFault;
 
-/// The status of a fault: 1 for a refused input (EqualNames, NotYet, CheckWord, GainRange), 3 for a fault of the
-/// outside (Absent, Read, Write), 4 for want of memory (Memory).
+/// The status of a fault of the input: 3 where it isn't there, can't be read or became shorter, else 1.
+fn input_status(fault: &SurveyFault) -> u8
+    ensures { result ≡ status_of (EditFault.Input 0 fault.now) }
+{
+    match fault {
+        SurveyFault::Absent | SurveyFault::Read | SurveyFault::Shrunk(..) => 3,
+        SurveyFault::Memory => 4,
+        _ => 1,
+    }
+}
+
+/// The status of a fault: 1 for a refused input (EqualNames, Input, GainRange), 3 for a fault of the outside
+/// (Input with Absent, Read or Shrunk, and Write), 4 for want of memory (Memory).
 pub fn status(fault: &EditFault) -> u8
     ensures { result ≡ status_of fault.now }
 {
     match fault {
-        EditFault::EqualNames(_)
-        | EditFault::NotYet(_)
-        | EditFault::CheckWord(..)
-        | EditFault::GainRange(..) => 1,
-        EditFault::Absent | EditFault::Read | EditFault::Write(_) => 3,
+        EditFault::EqualNames(_) | EditFault::GainRange(..) => 1,
+        EditFault::Input(_, fault) => input_status(fault),
+        EditFault::Write(_) => 3,
         EditFault::Memory => 4,
     }
 }
@@ -63,15 +73,15 @@ fn hex_digit<'a>(number: u16) -> &'a str
     HEX_DIGITS[usize::from(number % 16)]
 }
 
-fn send_check_word<E: Sink>(err: &mut E, input: &str, offset: u64, said: u16, right: u16)
-    ensures { GotLine (E.sent err.old) (E.sent err.new) (E.faults err.old) (E.faults err.new) (fault_line (EditFault.CheckWord offset said right) input.now []) }
+fn send_check_word<E: Sink>(err: &mut E, input: &str, at: u64, said: u16, right: u16)
+    ensures { GotLine (E.sent err.old) (E.sent err.new) (E.faults err.old) (E.faults err.new) (input.now ++ input_text (SurveyFault.CheckWord at said right)) }
 {
     send_pieces(
         err,
         &[
             input,
             ": check word at ",
-            Buffer::new().format(offset),
+            Buffer::new().format(at),
             " is ",
             hex_digit(said >> 12),
             hex_digit(said >> 8),
@@ -87,18 +97,116 @@ fn send_check_word<E: Sink>(err: &mut E, input: &str, offset: u64, said: u16, ri
     );
 }
 
+/// Sends a line with one number.
+fn send_number<E: Sink>(err: &mut E, input: &str, before: &str, number: u64, behind: &str)
+    ensures { GotLine (E.sent err.old) (E.sent err.new) (E.faults err.old) (E.faults err.new) (input.now ++ (before.now ++ (decimal number ++ behind.now))) }
+{
+    send_pieces(err, &[input, before, Buffer::new().format(number), behind]);
+}
+
+fn send_back_pointer<E: Sink>(err: &mut E, input: &str, at: u64, begin: u32, present: u64)
+    ensures { GotLine (E.sent err.old) (E.sent err.new) (E.faults err.old) (E.faults err.new) (input.now ++ input_text (SurveyFault.BackPointer at begin present)) }
+{
+    send_pieces(
+        err,
+        &[
+            input,
+            ": back pointer at ",
+            Buffer::new().format(at),
+            " is ",
+            Buffer::new().format(begin),
+            ", present ",
+            Buffer::new().format(present),
+            "\n",
+        ],
+    );
+}
+
+fn send_overrun<E: Sink>(err: &mut E, input: &str, at: u64, bits: u32, room: u32)
+    ensures { GotLine (E.sent err.old) (E.sent err.new) (E.faults err.old) (E.faults err.new) (input.now ++ input_text (SurveyFault.Overrun at bits room)) }
+{
+    send_pieces(
+        err,
+        &[
+            input,
+            ": overrun at ",
+            Buffer::new().format(at),
+            ", bits ",
+            Buffer::new().format(bits),
+            ", room ",
+            Buffer::new().format(room),
+            "\n",
+        ],
+    );
+}
+
+fn send_shrunk<E: Sink>(err: &mut E, input: &str, first: u64, second: u64)
+    ensures { GotLine (E.sent err.old) (E.sent err.new) (E.faults err.old) (E.faults err.new) (input.now ++ input_text (SurveyFault.Shrunk first second)) }
+{
+    send_pieces(
+        err,
+        &[
+            input,
+            ": shrunk from ",
+            Buffer::new().format(first),
+            " to ",
+            Buffer::new().format(second),
+            "\n",
+        ],
+    );
+}
+
+/// Sends the line of a fault of the input.
+fn send_input_fault<E: Sink>(err: &mut E, fault: &SurveyFault, input: &str)
+    ensures { GotLine (E.sent err.old) (E.sent err.new) (E.faults err.old) (E.faults err.new) (input.now ++ input_text fault.now) }
+{
+    match *fault {
+        SurveyFault::Absent => send_pieces(err, &[input, ": absent\n"]),
+        SurveyFault::Read => send_pieces(err, &[input, ": read fault\n"]),
+        SurveyFault::Memory => send_pieces(err, &[input, ": out of memory\n"]),
+        SurveyFault::TooLong(size) => send_number(err, input, ": too long, ", size, " bytes\n"),
+        SurveyFault::NoFrame(at) => send_number(err, input, ": no frame at ", at, "\n"),
+        SurveyFault::LostSync(at) => {
+            send_number(err, input, ": lost synchronisation at ", at, "\n");
+        }
+        SurveyFault::Truncated(at) => send_number(err, input, ": truncated at ", at, "\n"),
+        SurveyFault::FreeFormat(at) => send_number(err, input, ": free format at ", at, "\n"),
+        SurveyFault::Mixed(at) => send_number(err, input, ": mixed class at ", at, "\n"),
+        SurveyFault::Overlap(at) => send_number(err, input, ": overlap at ", at, "\n"),
+        SurveyFault::TooManyFrames(at) => {
+            send_number(err, input, ": too many frames at ", at, "\n");
+        }
+        SurveyFault::CheckWord(at, said, right) => send_check_word(err, input, at, said, right),
+        SurveyFault::BackPointer(at, begin, present) => {
+            send_back_pointer(err, input, at, begin, present);
+        }
+        SurveyFault::Overrun(at, bits, room) => send_overrun(err, input, at, bits, room),
+        SurveyFault::Shrunk(first, second) => send_shrunk(err, input, first, second),
+    }
+}
+
 /// Sends the line of a fault, by the names of the input and the output, without taking memory.
 /// It stops at the first write that fails, and such a failure is not answered.
 ///
-/// NAME is the input's but for Write, where it is the output's. O is an offset in bytes.
+/// NAME is the input's but for Write, where it is the output's. O is an offset and N a number of bytes.
 ///
 /// | fault | line |
 /// |---|---|
 /// | EqualNames | `NAME: input is an output` |
 /// | Absent | `NAME: absent` |
-/// | Read | `NAME: read fault` |
-/// | NotYet(O) | `NAME: not yet at O` |
+/// | TooLong(N) | `NAME: too long, N bytes` |
+/// | NoFrame(O) | `NAME: no frame at O` |
+/// | LostSync(O) | `NAME: lost synchronisation at O` |
+/// | Truncated(O) | `NAME: truncated at O` |
+/// | FreeFormat(O) | `NAME: free format at O` |
+/// | Mixed(O) | `NAME: mixed class at O` |
 /// | CheckWord(O, S, R) | `NAME: check word at O is S, right is R`, S and R as four lower-case hexadecimal digits |
+/// | BackPointer(O, B, P) | `NAME: back pointer at O is B, present P` |
+/// | Overlap(O) | `NAME: overlap at O` |
+/// | Overrun(O, B, R) | `NAME: overrun at O, bits B, room R` |
+/// | TooManyFrames(O) | `NAME: too many frames at O` |
+/// | Read | `NAME: read fault` |
+/// | Shrunk(F, S) | `NAME: shrunk from F to S` |
 /// | GainRange(O, G, C, V) | `gain V out of range at O, granule G, channel C` |
 /// | Write | `NAME: write fault` |
 /// | Memory | `out of memory` |
@@ -107,15 +215,7 @@ pub fn send_fault<E: Sink>(err: &mut E, fault: &EditFault, input: &str, output: 
 {
     match *fault {
         EditFault::EqualNames(_) => send_pieces(err, &[input, ": input is an output\n"]),
-        EditFault::Absent => send_pieces(err, &[input, ": absent\n"]),
-        EditFault::Read => send_pieces(err, &[input, ": read fault\n"]),
-        EditFault::NotYet(offset) => send_pieces(
-            err,
-            &[input, ": not yet at ", Buffer::new().format(offset), "\n"],
-        ),
-        EditFault::CheckWord(offset, said, right) => {
-            send_check_word(err, input, offset, said, right);
-        }
+        EditFault::Input(_, fault) => send_input_fault(err, &fault, input),
         EditFault::GainRange(offset, granule, channel, gain) => {
             send_gain_range(err, offset, granule, channel, gain);
         }
