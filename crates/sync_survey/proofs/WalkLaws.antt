@@ -8,8 +8,8 @@ use Rattle.sync_survey.specs.declared.places.WalkFault.{WalkFault}
 use Rattle.sync_survey.specs.declared.places.WalkFault.TheVariants.{NoFrame, LostSync, Truncated, FreeFormat}
 use Rattle.sync_survey.specs.declared.walks.Walk.{Walk}
 use Rattle.sync_survey.specs.declared.walks.WalkRefusal.{WalkRefusal}
-use Rattle.sync_survey.specs.declared.walks.WalkRefusal.TheVariants.{Fault}
-use Rattle.std.specs.Prelude.{IsErrAnd, MatchResult}
+use Rattle.sync_survey.specs.declared.walks.WalkRefusal.TheVariants.{Fault, Memory}
+use Rattle.std.specs.Prelude.{IsErrAnd, IsOk, MatchResult}
 use Rattle.sync_survey.specs.declared.places.PlacedFrame.{PlacedFrame}
 use Rattle.sync_survey.specs.declared.places.Piece.{Piece}
 use Rattle.sync_survey.specs.declared.places.Head.{Head}
@@ -79,6 +79,11 @@ walk-no_start file fault is = ap (walk_by file) is
 pub refused : (file : List ℕ) (fault : WalkFault) (r : Result Walk WalkRefusal) → IsErrAnd r (λ refusal. refusal ≡ Fault fault) → walk_of file ≡ Err fault → MatchResult r (λ w. walk_of file ≡ Ok (shown w)) (IsRefusal file)
 refused file fault (Ok w) is e = absurd is
 refused file fault (Err refusal) is e = subst (IsRefusal file) (sym is) e
+
+-- memory was asked for, since a stream begins
+pub no_memory : (file : List ℕ) (start : Start) (r : Result Walk WalkRefusal) → IsErrAnd r (λ refusal. refusal ≡ Memory) → start_of file ≡ Ok start → MatchResult r (λ w. walk_of file ≡ Ok (shown w)) (IsRefusal file)
+no_memory file start (Ok w) is begun = absurd is
+no_memory file start (Err refusal) is begun = subst (IsRefusal file) (sym is) (subst IsOk (sym begun) refl)
 
 -- something is at fault where the walk stops
 pub walk-fault : (file : List ℕ) (start : Start) (head : Option Head) (frames : List PlacedFrame) (blocks : List Piece) (stop : ℕ) (fault : WalkFault) → IsFound file start head frames blocks stop →

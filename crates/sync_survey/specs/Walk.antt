@@ -1,5 +1,5 @@
 -- The walk over a whole file: the frames and blocks from the start on, and where it stops.
-use Rattle.std.specs.Prelude.{◌≡◌, ℕ, ◌+◌, List, [], ◌∷◌, ◌++◌, length, take, drop, Option, Some, None, option_map, Result, Ok, Err}
+use Rattle.std.specs.Prelude.{◌≡◌, ℕ, ◌+◌, List, [], ◌∷◌, ◌++◌, length, take, drop, Option, Some, None, option_map, Result, Ok, Err, IsOk}
 use Rattle.frame_header.specs.Tables.{class_of, length_of}
 use Rattle.info_header.specs.HeadText.{head_text_of}
 use Rattle.sync_survey.specs.declared.items.Item.{Item}
@@ -118,10 +118,10 @@ ReachesTo file start to = bytes_of file (stream_of file start).items ++ drop to 
 abbrev pub shown : Walk → WalkFields
 shown w = record { start = w.start; head = w.head; frames = w.frames.items; blocks = w.blocks.items; fault = None }
 
--- why there is no walk: the fault of the file, or memory
+-- why there is no walk: the fault of the file, or memory, which is asked for only where a stream begins
 abbrev pub IsRefusal : List ℕ → WalkRefusal → Type 0
 IsRefusal file (Fault fault) = walk_of file ≡ Err fault
-IsRefusal file Memory = Unit {0}
+IsRefusal file Memory = IsOk (start_of file)
 
 -- where there is a stream, it reaches to its fault
 abbrev pub ReachesFault : List ℕ → WalkRefusal → Type 0

@@ -173,7 +173,7 @@ fn find_all(
 /// `Fault` is the first fault of the walk: one of `find_start`, or, where the items stop before the end of
 /// the file, `Truncated` at a frame or block that passes the end, `FreeFormat` at a header of free format,
 /// `LostSync` at anything else, fewer than four bytes among them; or `NoFrame` with the file's length where
-/// the only frame is a head. `Memory` may come before a fault is met.
+/// the only frame is a head. `Memory` may come before a fault is met, but not where `find_start` refuses.
 ///
 /// From the first frame on the items are the file's bytes, to its end or to the fault.
 pub fn walk_file(alloc: Global, file: &[u8]) -> Result<Walk, WalkRefusal>

@@ -1,12 +1,16 @@
 -- The walk and its faults are those of the definition.
 use Rattle.std.proofs.Common.{sym, ◌∙◌}
-use Rattle.sync_survey.proofs.WalkLaws.{refused, walk-no_start, walk-fault, walk-whole, reach-nowhere, reach-fault, reach-end}
+use Rattle.sync_survey.proofs.WalkLaws.{refused, no_memory, walk-no_start, walk-fault, walk-whole, reach-nowhere, reach-fault, reach-end}
 use Rattle.sync_survey.proofs.walks.walk_file.Goals as goal
 
 pub returns-in_err-start-clause-exact : goal.returns-in_err-start-clause-exact
 returns-in_err-start-clause-exact c =
     refused c.args.file.now c.in_err-start.field-0.0 c.from_residual.result c.from_residual.ensures.1
     (walk-no_start c.args.file.now c.in_err-start.field-0.0 (sym c.find_start.ensures.start ∙ c.in_err-start.was))
+
+pub returns-in_err-found-clause-exact : goal.returns-in_err-found-clause-exact
+returns-in_err-found-clause-exact c =
+    no_memory c.args.file.now c.in_ok-start.start c.from_residual-in_err-found.result c.from_residual-in_err-found.ensures.1 (sym c.in_ok-start.ensures.start)
 
 pub returns-in-Some-clause-exact : goal.returns-in-Some-clause-exact
 returns-in-Some-clause-exact c =
