@@ -140,7 +140,7 @@ left_by file stop [] fault None is e =
 reach_to : (file : List ℕ) (start : Start) (stop to : ℕ) → stop ≡ (stream_of file start).stop → drop to file ≡ drop stop file → ReachesTo file start to
 reach_to file start stop to is same =
     let r = stream_of file start in
-    ap (λ rest. bytes_of file r.items ++ rest) (same ∙ ap (λ at. drop at file) is) ∙ bytes-ends file start.first.offset r.items r.stop (run-ends Stream file start.first.offset)
+    ap (λ rest. bytes_of file r.items ++ rest) (same ∙ ap (λ at. drop at file) is) ∙ bytes-ends Stream file start.first.offset r.items r.stop (run-ends Stream file start.first.offset)
 
 pub reach-end : (file : List ℕ) (start : Start) (frames : List PlacedFrame) (stop : ℕ) → stop ≡ (stream_of file start).stop → end_fault file frames (fault_at stop (item_at file stop)) ≡ None → ReachesTo file start (length file)
 reach-end file start frames stop is none = reach_to file start stop (length file) is (drop-length file ∙ sym (nothing_left file stop (no_fault file frames _ none)))
