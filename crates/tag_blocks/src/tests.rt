@@ -1,5 +1,5 @@
-//! Exact bytes at the front of blocks, and each way not to be one. The first ID3v2 header and the first
-//! APEv2 header are of real layout: the footer flag of ID3v2.4.0, and a tag with one item of 32 bytes.
+//! Exact bytes at the front of blocks, and each way not to be one. The lengths are worked out by hand from
+//! the layouts.
 
 ghost use Rattle.std.specs.Prelude.{◌≡◌};
 
