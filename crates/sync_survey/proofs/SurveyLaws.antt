@@ -1,5 +1,5 @@
 -- The survey of a file's bytes, from what the parts of the code find.
-use Rattle.std.proofs.Common.{◌≡◌, ℕ, ◌+◌, ◌≤◌, List, [], ◌∷◌, ◌++◌, length, drop, Option, Some, None, option_map, Result, Ok, Err, sym, ◌∙◌, ap, ap₂, subst, arith}
+use Rattle.std.proofs.Common.{◌≡◌, ℕ, ◌+◌, ◌≤◌, List, [], ◌∷◌, ◌++◌, length, drop, Option, Some, None, option_map, Result, Ok, Err, refl, sym, ◌∙◌, ap, ap₂, subst, arith}
 use Rattle.std.specs.Prelude.{option_to_list}
 use Rattle.frame_header.specs.Fields.{HeaderFields, IsHeader}
 use Rattle.frame_header.specs.Tables.{class_of, length_of, overhead_of}
@@ -15,6 +15,7 @@ use Rattle.sync_survey.specs.declared.places.Start.{Start}
 use Rattle.sync_survey.specs.declared.places.WalkFault.{WalkFault}
 use Rattle.sync_survey.specs.declared.rows.Row.{Row}
 use Rattle.sync_survey.specs.declared.survey_fault.SurveyFault.{SurveyFault}
+use Rattle.sync_survey.specs.declared.runs.Part.{Part}
 use Rattle.sync_survey.specs.declared.runs.Part.TheVariants.{Stream}
 use Rattle.sync_survey.specs.Items.{item_at, size_of}
 use Rattle.sync_survey.specs.Runs.{Placed, AreEndToEnd, AreInFile, frame_as, frames_of}
@@ -23,13 +24,13 @@ use Rattle.sync_survey.specs.Walk.{stream_of, numbered, fault_at, end_fault}
 use Rattle.sync_survey.specs.MainData.{rows_of}
 use Rattle.sync_survey.specs.Faults.{all_faults, as_survey, first_of, class_from, faults_from, SurveyFields, fields_from, unless_fault, survey_by, surveyed}
 use Rattle.sync_survey.proofs.ItemsLaws.{stands-at, header_front-in_range}
-use Rattle.sync_survey.proofs.RunsLaws.{cons_list, run-ends}
+use Rattle.sync_survey.proofs.RunsLaws.{cons_list, item_of-is, run-ends}
 use Rattle.sync_survey.proofs.WalkLaws.{IsFound, walk-is}
 use Rattle.sync_survey.proofs.FaultsLaws.{some-append, none-of}
 
 -- ---- the frames that were met are in the file
 
-overhead-within : (h : HeaderFields) → IsHeader h → overhead_of (class_of h) h.protected ≤ length_of (class_of h) h.slot
+pub overhead-within : (h : HeaderFields) → IsHeader h → overhead_of (class_of h) h.protected ≤ length_of (class_of h) h.slot
 overhead-within h fields = omega (arith, overhead-most (class_of h) h.protected, area_some (class_of h) h.slot (IsClass-class_of h fields) fields.slot)
 
 inside_more : (file : List ℕ) (at : ℕ) (item : Item) (frames : List PlacedFrame) → item_at file at ≡ item → at + size_of item ≤ length file → AreInFile file frames
@@ -41,11 +42,12 @@ inside_more file at Zero frames is within rest = rest
 inside_more file at End frames is within rest = rest
 inside_more file at Nothing frames is within rest = rest
 
-frames_inside : (file : List ℕ) (from : ℕ) (ps : List Placed) (to : ℕ) → AreEndToEnd file from ps to → AreInFile file (frames_of ps)
-frames_inside file from [] to e = tt
-frames_inside file from (p ∷ ps) to e =
+frames_inside : (part : Part) (file : List ℕ) (from : ℕ) (ps : List Placed) (to : ℕ) → AreEndToEnd part file from ps to → AreInFile file (frames_of ps)
+frames_inside part file from [] to e = tt
+frames_inside part file from (p ∷ ps) to e =
+    let here = item_of-is part file p.offset p.item e.1 in
     subst (AreInFile file) (sym (cons_list (frame_as p.offset p.item) (frames_of ps)))
-    (inside_more file p.offset p.item (frames_of ps) e.1 e.2 (frames_inside file (p.offset + size_of p.item) ps to e.3))
+    (inside_more file p.offset p.item (frames_of ps) here.is here.within (frames_inside part file (p.offset + size_of p.item) ps to e.2))
 
 inside_behind : (file : List ℕ) (frames : List PlacedFrame) → AreInFile file frames → AreInFile file (drop 1 frames)
 inside_behind file [] all = tt
@@ -57,7 +59,7 @@ numbered_inside file (Some head) frames all = inside_behind file frames all
 
 pub found_inside : (file : List ℕ) (start : Start) (head : Option Head) (frames : List PlacedFrame) → frames ≡ numbered head (frames_of (stream_of file start).items) → AreInFile file frames
 found_inside file start head frames is =
-    subst (AreInFile file) (sym is) (numbered_inside file head _ (frames_inside file start.first.offset _ _ (run-ends Stream file start.first.offset)))
+    subst (AreInFile file) (sym is) (numbered_inside file head _ (frames_inside Stream file start.first.offset _ _ (run-ends Stream file start.first.offset)))
 
 -- ---- the survey
 
@@ -119,3 +121,25 @@ module _ (file : List ℕ) (allowed : ℕ) (start : Start) (head : Option Head) 
   survey-whole none is =
       survey-by file allowed (Ok start) found.start_is
       ∙ ap₂ unless_fault (last-fault none None is) fields-are
+
+-- ---- what a survey says of its file
+
+-- the start of the stream, and that nothing is at fault
+pub record IsSurveyed (file : List ℕ) (allowed : ℕ) (s : SurveyFields) : Type 0 where
+  pub start : Start
+  pub begins : start_of file ≡ Ok start
+  pub fields_are : fields_from file start ≡ s
+  pub none : first_of (faults_from file allowed start) ≡ None
+
+fields_cases : (file : List ℕ) (allowed : ℕ) (start : Start) (s : SurveyFields) (o : Option SurveyFault) → start_of file ≡ Ok start → first_of (faults_from file allowed start) ≡ o
+    → unless_fault o (fields_from file start) ≡ Ok s → IsSurveyed file allowed s
+fields_cases file allowed start s (Some fault) begins is e = absurd cc
+fields_cases file allowed start s None begins is e = record { start = start; begins = begins; fields_are = cc; none = is }
+
+start_cases : (file : List ℕ) (allowed : ℕ) (s : SurveyFields) (r : Result Start WalkFault) → start_of file ≡ r → survey_by file allowed r ≡ Ok s → IsSurveyed file allowed s
+start_cases file allowed s (Err fault) begins e = absurd cc
+start_cases file allowed s (Ok start) begins e = fields_cases file allowed start s (first_of (faults_from file allowed start)) begins refl e
+
+pub surveyed-is : (file : List ℕ) (allowed : ℕ) (s : SurveyFields) → surveyed file allowed ≡ Ok s → IsSurveyed file allowed s
+unfolding surveyed
+surveyed-is file allowed s e = start_cases file allowed s (start_of file) refl e
