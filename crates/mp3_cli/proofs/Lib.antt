@@ -1,6 +1,8 @@
 -- The lemmas of this crate.
 pub mod GainsBack
 pub mod Follow
+pub mod EditLaws
+pub mod WholeEdit
 pub mod GainLaws
 pub mod GainsLaws
 pub mod Lines

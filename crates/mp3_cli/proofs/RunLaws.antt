@@ -2,19 +2,22 @@
 use Rattle.std.proofs.Common.{◌≡◌, ◌≢◌, ◌↔◌, ℕ, ◌≤◌, Bool, true, false, cond, List, [], Option, Some, None, Result, Ok, Err, refl, sym, ◌∙◌, ap, subst, bytes_eq, codes, arith}
 use Rattle.std.specs.Prelude.{OnOk, IfErr, IfSome, IsErrOf}
 use Rattle.std.proofs.lemmas.Bool.{true≢false}
-use Rattle.outside.specs.Files.{Contents, Files, Sent, with_file}
+use Rattle.outside.specs.Files.{Contents, Files, untold, Sent, with_file}
 use Rattle.outside.specs.Counts.{Counts, Rose, NothingFailed}
 use Rattle.outside.proofs.FilesLaws.{sent_nothing, bytes_eq_same, bytes_eq_other}
 use Rattle.mp3_cli.specs.declared.fault.EditFault.{EditFault}
-use Rattle.mp3_cli.specs.declared.fault.EditFault.TheVariants.{EqualNames, Absent, Read, NotYet, CheckWord, GainRange, Write, Memory}
+use Rattle.mp3_cli.specs.declared.fault.EditFault.TheVariants.{EqualNames, Input, GainRange, Write, Memory}
 use Rattle.mp3_cli.specs.declared.jobs.Job.{Job}
 use Rattle.mp3_cli.specs.declared.jobs.Job.TheVariants.{Gain}
 use Rattle.mp3_cli.specs.declared.shift.Shift.{Shift}
 use Rattle.mp3_cli.specs.Words.{word_at, job_of}
 use Rattle.mp3_cli.specs.Texts.{status_of, fault_line, bad_word_line, GotLine}
-use Rattle.mp3_cli.specs.Plain.{file_walk, file_fault}
-use Rattle.mp3_cli.specs.Edited.{edited, range_fault, unless, gained, gained_where, gain_result}
-use Rattle.mp3_cli.specs.Gain.{holding, IsWritten, IsDefinedAt, IsCounted, LeavesAt}
+use Rattle.mp3_cli.specs.Edited.{most_frames, edited, range_fault, unless, gained_by, gained, gained_where, gain_result}
+use Rattle.mp3_cli.specs.Kinds.{InputKind, IsAbsent, IsUnread, IsShorter, IsTooMuch, IsRefused, ByKind, kind_of, by_kind}
+use Rattle.sync_survey.specs.declared.survey_fault.SurveyFault.{SurveyFault}
+use Rattle.sync_survey.specs.Faults.{SurveyFields}
+use Rattle.sync_survey.specs.Survey.{survey_of}
+use Rattle.mp3_cli.specs.Gain.{holding, Gives, IsWritten, IsDefinedAt, IsCounted, LeavesAt}
 use Rattle.mp3_cli.specs.Run.{refused, gain_outcome, job_outcome, outcome, answer_status, answer_line, IsOutcome, IsAccepted, IsCause, IsStopped, AsksForMemory}
 
 -- ---- bad words
@@ -38,9 +41,80 @@ pub record Gained {T : Type 0} (shift : Shift) (input output : List ℕ) (old ne
   pub defined : IfErr answer (IsDefinedAt shift input output old)
   pub left : IfErr answer (LeavesAt shift input output old new)
   pub names : input ≡ output → IsErrOf answer (EqualNames 0)
-  pub absent : IsErrOf answer Absent → Rose before.misses after.misses
-  pub read : IsErrOf answer Read → Rose before.read_faults after.read_faults
-  pub write : IsErrOf answer (Write 0) → Rose before.write_faults after.write_faults
+  pub counted : IfErr answer (IsCounted before after)
+
+-- ---- a fault of the input, by its kind
+
+abbrev kind_status : ByKind ℕ
+kind_status = record { absent = 3; unread = 3; shorter = 3; too_much = 4; refused = 1 }
+
+abbrev kind_defined : Type 0 → Files → ByKind (Type 0)
+kind_defined given old = record { absent = given; unread = Unit {0}; shorter = old ≡ untold; too_much = ⊥; refused = given }
+
+abbrev kind_counted : Counts → Counts → ByKind (Type 0)
+kind_counted before after = record {
+  absent = Rose before.misses after.misses;
+  unread = Rose before.read_faults after.read_faults;
+  shorter = Rose before.ends after.ends × NothingFailed before after;
+  too_much = ⊥;
+  refused = NothingFailed before after;
+}
+
+abbrev kind_cause : Type 0 → Files → Files → Counts → Counts → ByKind (Type 0)
+kind_cause given old new before after = record {
+  absent = Rose before.misses after.misses × (new ≡ old) × given;
+  unread = Rose before.read_faults after.read_faults × (new ≡ old);
+  shorter = Rose before.ends after.ends × (new ≡ old) × (old ≡ untold);
+  too_much = ⊥;
+  refused = ⊥;
+}
+
+-- with status 0, 1 or 2 it is the one that is defined
+input_given : (given : Type 0) (old : Files) (status : ℕ) (kind : InputKind) → status ≡ by_kind kind_status kind → status ≤ 2 → by_kind (kind_defined given old) kind → given
+input_given given old status IsAbsent is low h = absurd (omega (arith, is, low))
+input_given given old status IsUnread is low h = absurd (omega (arith, is, low))
+input_given given old status IsShorter is low h = absurd (omega (arith, is, low))
+input_given given old status IsTooMuch is low h = absurd (omega (arith, is, low))
+input_given given old status IsRefused is low h = h
+
+-- with status 3 its cause is known
+input_cause : (given : Type 0) (old new : Files) (before after : Counts) (status : ℕ) (kind : InputKind) → status ≡ by_kind kind_status kind → status ≡ 3 → by_kind (kind_defined given old) kind
+    → by_kind (kind_counted before after) kind → new ≡ old → by_kind (kind_cause given old new before after) kind
+input_cause given old new before after status IsAbsent is three h counted left = (counted, left, h)
+input_cause given old new before after status IsUnread is three h counted left = (counted, left)
+input_cause given old new before after status IsShorter is three h counted left = (counted.0, left, h)
+input_cause given old new before after status IsTooMuch is three h counted left = absurd (omega (arith, is, three))
+input_cause given old new before after status IsRefused is three h counted left = absurd (omega (arith, is, three))
+
+-- it is never want of memory
+input_memory : (given : Type 0) (old : Files) (status : ℕ) (kind : InputKind) → status ≡ by_kind kind_status kind → status ≡ 4 → by_kind (kind_defined given old) kind → ⊥
+input_memory given old status IsAbsent is four h = omega (arith, is, four)
+input_memory given old status IsUnread is four h = omega (arith, is, four)
+input_memory given old status IsShorter is four h = omega (arith, is, four)
+input_memory given old status IsTooMuch is four h = h
+input_memory given old status IsRefused is four h = omega (arith, is, four)
+
+input_counted : (before after : Counts) (status : ℕ) (kind : InputKind) → status ≡ by_kind kind_status kind → status ≢ 3 → by_kind (kind_counted before after) kind → NothingFailed before after
+input_counted before after status IsAbsent is other h = absurd (other is)
+input_counted before after status IsUnread is other h = absurd (other is)
+input_counted before after status IsShorter is other h = absurd (other is)
+input_counted before after status IsTooMuch is other h = absurd h
+input_counted before after status IsRefused is other h = h
+
+input_not_done : (status : ℕ) (kind : InputKind) → status ≡ by_kind kind_status kind → status ≡ 0 → ⊥
+input_not_done status IsAbsent is zero = omega (arith, is, zero)
+input_not_done status IsUnread is zero = omega (arith, is, zero)
+input_not_done status IsShorter is zero = omega (arith, is, zero)
+input_not_done status IsTooMuch is zero = omega (arith, is, zero)
+input_not_done status IsRefused is zero = omega (arith, is, zero)
+
+-- where the files are told and no read failed, it is the one that is defined
+input_told : (given : Type 0) (f : Contents) (before after : Counts) (kind : InputKind) → (Rose before.read_faults after.read_faults → ⊥) → by_kind (kind_defined given (Some f)) kind → by_kind (kind_counted before after) kind → given
+input_told given f before after IsAbsent reads h counted = h
+input_told given f before after IsUnread reads h counted = absurd (reads counted)
+input_told given f before after IsShorter reads h counted = absurd cc
+input_told given f before after IsTooMuch reads h counted = absurd h
+input_told given f before after IsRefused reads h counted = h
 
 outcome-gain : (words : List (List ℕ)) (f : Contents) (shift : Shift) (input output : ℕ) (r : Result (List ℕ) EditFault) → job_of words ≡ Ok (Gain shift input output)
     → gain_result shift (word_at words input) (word_at words output) f ≡ r → outcome words f ≡ gain_outcome (word_at words input) (word_at words output) f r
@@ -63,10 +137,7 @@ module _ (words : List (List ℕ)) (shift : Shift) (input output : ℕ) (job : j
       → Gained shift source target old new counts_before counts_after answer → status ≡ answer_status answer → status ≡ 4 → AsksForMemory words old
   asks_for_memory old new counts_before counts_after (Ok x) status all is four = absurd (omega arith)
   asks_for_memory old new counts_before counts_after (Err (EqualNames place)) status all is four = absurd (omega arith)
-  asks_for_memory old new counts_before counts_after (Err Absent) status all is four = absurd (omega arith)
-  asks_for_memory old new counts_before counts_after (Err Read) status all is four = absurd (omega arith)
-  asks_for_memory old new counts_before counts_after (Err (NotYet offset)) status all is four = absurd (omega arith)
-  asks_for_memory old new counts_before counts_after (Err (CheckWord offset said right)) status all is four = absurd (omega arith)
+  asks_for_memory old new counts_before counts_after (Err (Input place fault)) status all is four = absurd (input_memory (Gives shift source target old (Err (Input place fault))) old status (kind_of fault) is four all.defined)
   asks_for_memory old new counts_before counts_after (Err (GainRange offset granule channel gain)) status all is four = absurd (omega arith)
   asks_for_memory old new counts_before counts_after (Err (Write place)) status all is four = absurd (omega arith)
   asks_for_memory old new counts_before counts_after (Err Memory) status all is four =
@@ -97,10 +168,8 @@ module _ (words : List (List ℕ)) (shift : Shift) (input output : ℕ) (job : j
     is_defined None new counts_before counts_after answer status all is line low = tt
     is_defined (Some f) new counts_before counts_after (Ok x) status all is line low = done_defined f new status is all.written line
     is_defined (Some f) new counts_before counts_after (Err (EqualNames place)) status all is line low = refused_defined f new (EqualNames place) status is all.defined all.left line
-    is_defined (Some f) new counts_before counts_after (Err Absent) status all is line low = absurd (omega arith)
-    is_defined (Some f) new counts_before counts_after (Err Read) status all is line low = absurd (omega arith)
-    is_defined (Some f) new counts_before counts_after (Err (NotYet offset)) status all is line low = refused_defined f new (NotYet offset) status is all.defined all.left line
-    is_defined (Some f) new counts_before counts_after (Err (CheckWord offset said right)) status all is line low = refused_defined f new (CheckWord offset said right) status is all.defined all.left line
+    is_defined (Some f) new counts_before counts_after (Err (Input place fault)) status all is line low =
+        refused_defined f new (Input place fault) status is (input_given (Gives shift source target (Some f) (Err (Input place fault))) (Some f) status (kind_of fault) is low all.defined) all.left line
     is_defined (Some f) new counts_before counts_after (Err (GainRange offset granule channel gain)) status all is line low = refused_defined f new (GainRange offset granule channel gain) status is all.defined all.left line
     is_defined (Some f) new counts_before counts_after (Err (Write place)) status all is line low = absurd (omega arith)
     is_defined (Some f) new counts_before counts_after (Err Memory) status all is line low = absurd (omega arith)
@@ -116,13 +185,12 @@ module _ (words : List (List ℕ)) (shift : Shift) (input output : ℕ) (job : j
         → IsStopped words old new counts_before counts_after before after faults_before faults_after
     is_stopped old new counts_before counts_after (Ok x) status all is line three = absurd (omega arith)
     is_stopped old new counts_before counts_after (Err (EqualNames place)) status all is line three = absurd (omega arith)
-    is_stopped old new counts_before counts_after (Err Absent) status all is line three = stops old new counts_before counts_after Absent (differ all (λ e. cc)) (all.absent refl, all.left, all.defined) line
-    is_stopped old new counts_before counts_after (Err Read) status all is line three = stops old new counts_before counts_after Read (differ all (λ e. cc)) (all.read refl, all.left) line
-    is_stopped old new counts_before counts_after (Err (NotYet offset)) status all is line three = absurd (omega arith)
-    is_stopped old new counts_before counts_after (Err (CheckWord offset said right)) status all is line three = absurd (omega arith)
+    is_stopped old new counts_before counts_after (Err (Input place fault)) status all is line three =
+        stops old new counts_before counts_after (Input place fault) (differ all (λ e. cc))
+        (input_cause (Gives shift source target old (Err (Input place fault))) old new counts_before counts_after status (kind_of fault) is three all.defined all.counted all.left) line
     is_stopped old new counts_before counts_after (Err (GainRange offset granule channel gain)) status all is line three = absurd (omega arith)
     is_stopped old new counts_before counts_after (Err (Write place)) status all is line three =
-        stops old new counts_before counts_after (Write place) (differ all (λ e. cc)) (all.write (ap (λ n. Err (Write n)) all.defined), all.left) line
+        stops old new counts_before counts_after (Write place) (differ all (λ e. cc)) (all.counted, all.left) line
     is_stopped old new counts_before counts_after (Err Memory) status all is line three = absurd (omega arith)
 
     -- ---- status 4
@@ -131,17 +199,14 @@ module _ (words : List (List ℕ)) (shift : Shift) (input output : ℕ) (job : j
     unfolding fault_line
     memory_line = refl
 
-    pub is_out_of_memory : {T : Type 0} (answer : Result T EditFault) (status : ℕ) → status ≡ answer_status answer → GotLine before after faults_before faults_after (answer_line answer source target)
+    pub is_out_of_memory : {T : Type 0} (old : Files) (answer : Result T EditFault) (status : ℕ) → IfErr answer (IsDefinedAt shift source target old) → status ≡ answer_status answer → GotLine before after faults_before faults_after (answer_line answer source target)
         → status ≡ 4 → GotLine before after faults_before faults_after (codes "out of memory\n")
-    is_out_of_memory (Ok x) status is line four = absurd (omega arith)
-    is_out_of_memory (Err (EqualNames place)) status is line four = absurd (omega arith)
-    is_out_of_memory (Err Absent) status is line four = absurd (omega arith)
-    is_out_of_memory (Err Read) status is line four = absurd (omega arith)
-    is_out_of_memory (Err (NotYet offset)) status is line four = absurd (omega arith)
-    is_out_of_memory (Err (CheckWord offset said right)) status is line four = absurd (omega arith)
-    is_out_of_memory (Err (GainRange offset granule channel gain)) status is line four = absurd (omega arith)
-    is_out_of_memory (Err (Write place)) status is line four = absurd (omega arith)
-    is_out_of_memory (Err Memory) status is line four = subst (GotLine before after faults_before faults_after) memory_line line
+    is_out_of_memory old (Ok x) status defined is line four = absurd (omega arith)
+    is_out_of_memory old (Err (EqualNames place)) status defined is line four = absurd (omega arith)
+    is_out_of_memory old (Err (Input place fault)) status defined is line four = absurd (input_memory (Gives shift source target old (Err (Input place fault))) old status (kind_of fault) is four defined)
+    is_out_of_memory old (Err (GainRange offset granule channel gain)) status defined is line four = absurd (omega arith)
+    is_out_of_memory old (Err (Write place)) status defined is line four = absurd (omega arith)
+    is_out_of_memory old (Err Memory) status defined is line four = subst (GotLine before after faults_before faults_after) memory_line line
 
 -- ---- what was counted
 
@@ -149,37 +214,34 @@ pub nothing_failed : {T : Type 0} (before after : Counts) (answer : Result T Edi
     → status ≡ answer_status answer → status ≢ 3 → NothingFailed before after
 nothing_failed before after (Ok x) status done counted is other = done
 nothing_failed before after (Err (EqualNames place)) status done counted is other = counted
-nothing_failed before after (Err Absent) status done counted is other = absurd (other is)
-nothing_failed before after (Err Read) status done counted is other = absurd (other is)
-nothing_failed before after (Err (NotYet offset)) status done counted is other = counted
-nothing_failed before after (Err (CheckWord offset said right)) status done counted is other = counted
+nothing_failed before after (Err (Input place fault)) status done counted is other = input_counted before after status (kind_of fault) is other counted
 nothing_failed before after (Err (GainRange offset granule channel gain)) status done counted is other = counted
 nothing_failed before after (Err (Write place)) status done counted is other = absurd (other is)
 nothing_failed before after (Err Memory) status done counted is other = counted
 
 -- ---- what is accepted
 
--- a file that becomes something is plain, and none of its gains would leave its range
+-- a file that becomes something has no fault, and none of its gains would leave its range
 record IsFit (shift : Shift) (file : List ℕ) : Type 0 where
-  pub plain : file_fault file ≡ None
-  pub range : range_fault shift 0 (file_walk file).frames ≡ None
+  pub survey : SurveyFields
+  pub sound : survey_of file most_frames ≡ Ok survey
+  pub range : range_fault shift survey.frames ≡ None
 
-range_none : (o : Option EditFault) (a bytes : List ℕ) → unless o (Ok a) ≡ Ok bytes → o ≡ None
+range_none : (o : Option EditFault) (a bytes : List ℕ) → unless o a ≡ Ok bytes → o ≡ None
 range_none (Some fault) a bytes e = absurd cc
 range_none None a bytes e = refl
 
-fit_cases : (shift : Shift) (file bytes : List ℕ) (o : Option EditFault) → file_fault file ≡ o
-    → unless o (unless (range_fault shift 0 (file_walk file).frames) (Ok (edited shift (file_walk file)))) ≡ Ok bytes → IsFit shift file
-fit_cases shift file bytes (Some fault) is e = absurd cc
-fit_cases shift file bytes None is e = record { plain = is; range = range_none _ _ bytes e }
+fit_cases : (shift : Shift) (file bytes : List ℕ) (r : Result SurveyFields SurveyFault) → survey_of file most_frames ≡ r → gained_by shift file r ≡ Ok bytes → IsFit shift file
+fit_cases shift file bytes (Err fault) is e = absurd cc
+fit_cases shift file bytes (Ok s) is e = record { survey = s; sound = is; range = range_none _ _ bytes e }
 
 fit : (shift : Shift) (file bytes : List ℕ) → gained shift file ≡ Ok bytes → IsFit shift file
 unfolding gained
-fit shift file bytes e = fit_cases shift file bytes (file_fault file) refl e
+fit shift file bytes e = fit_cases shift file bytes (survey_of file most_frames) refl e
 
-gained-fit : (shift : Shift) (file : List ℕ) → IsFit shift file → gained shift file ≡ Ok (edited shift (file_walk file))
+gained-fit : (shift : Shift) (file : List ℕ) (is : IsFit shift file) → gained shift file ≡ Ok (edited shift file is.survey)
 unfolding gained
-gained-fit shift file is = let plain = is.plain in let range = is.range in rw (plain, range) refl
+gained-fit shift file is = ap (gained_by shift file) is.sound ∙ ap (λ o. unless o (edited shift file is.survey)) is.range
 
 -- what the command asks of its input
 record IsFitInput (shift : Shift) (input output : List ℕ) (f : Contents) : Type 0 where
@@ -201,8 +263,8 @@ fit_input : (shift : Shift) (input output : List ℕ) (f : Contents) (bytes : Li
 unfolding gain_result
 fit_input shift input output f bytes e = name_cases shift input output f bytes (bytes_eq input output) refl e
 
-gain_result-fit : (shift : Shift) (input output : List ℕ) (f : Contents) (file : List ℕ) → input ≢ output → f input ≡ Some file → IsFit shift file
-    → gain_result shift input output f ≡ Ok (edited shift (file_walk file))
+gain_result-fit : (shift : Shift) (input output : List ℕ) (f : Contents) (file : List ℕ) → input ≢ output → f input ≡ Some file → (is : IsFit shift file)
+    → gain_result shift input output f ≡ Ok (edited shift file is.survey)
 unfolding gain_result
 gain_result-fit shift input output f file differ there is =
     let names : bytes_eq input output ≡ false = bytes_eq_other input output (λ e. differ (sym e)) in
@@ -226,13 +288,13 @@ module _ (words : List (List ℕ)) (shift : Shift) (input output : ℕ) (job : j
   accepted_of : (bytes : List ℕ) → gain_result shift (word_at words input) (word_at words output) f ≡ Ok bytes → IsAccepted words f
   accepted_of bytes is =
       let fits = fit_input shift (word_at words input) (word_at words output) f bytes is in
-      record { shift = shift; input = input; output = output; job = job; names = fits.names; file = fits.file; there = fits.there; plain = fits.fits.plain; range = fits.fits.range }
+      record { shift = shift; input = input; output = output; job = job; names = fits.names; file = fits.file; there = fits.there; survey = fits.fits.survey; sound = fits.fits.sound; range = fits.fits.range }
 
   of_accepted : IsAccepted words f → (bytes : List ℕ) × (gain_result shift (word_at words input) (word_at words output) f ≡ Ok bytes)
   of_accepted a =
       let same = same_gain a.shift shift a.input input a.output output (sym a.job ∙ job) in
-      let bytes = edited a.shift (file_walk a.file) in
-      let is = gain_result-fit a.shift (word_at words a.input) (word_at words a.output) f a.file a.names a.there (record { plain = a.plain; range = a.range }) in
+      let bytes = edited a.shift a.file a.survey in
+      let is = gain_result-fit a.shift (word_at words a.input) (word_at words a.output) f a.file a.names a.there (record { survey = a.survey; sound = a.sound; range = a.range }) in
       (bytes, sym (λ i. gain_result (same.shift i) (word_at words (same.input i)) (word_at words (same.output i)) f) ∙ is)
 
   -- where no call of the folder failed and memory was found, exactly the legal commands are done
@@ -242,13 +304,13 @@ module _ (words : List (List ℕ)) (shift : Shift) (input output : ℕ) (job : j
       → (status ≡ 0) ↔ IsAccepted words f
   is_accepted new counts_before counts_after (Ok x) status all is reads writes found = ((λ zero. accepted_of all.written.bytes all.written.defined), λ a. is)
   is_accepted new counts_before counts_after (Err (EqualNames place)) status all is reads writes found = ((λ zero. absurd (omega arith)), λ a. absurd (refuses _ (of_accepted a).0 (EqualNames place) (of_accepted a).1 all.defined))
-  is_accepted new counts_before counts_after (Err Absent) status all is reads writes found = ((λ zero. absurd (omega arith)), λ a. absurd (refuses _ (of_accepted a).0 Absent (of_accepted a).1 all.defined))
-  is_accepted new counts_before counts_after (Err Read) status all is reads writes found = absurd (reads (all.read refl))
-  is_accepted new counts_before counts_after (Err (NotYet offset)) status all is reads writes found = ((λ zero. absurd (omega arith)), λ a. absurd (refuses _ (of_accepted a).0 (NotYet offset) (of_accepted a).1 all.defined))
-  is_accepted new counts_before counts_after (Err (CheckWord offset said right)) status all is reads writes found = ((λ zero. absurd (omega arith)), λ a. absurd (refuses _ (of_accepted a).0 (CheckWord offset said right) (of_accepted a).1 all.defined))
+  is_accepted new counts_before counts_after (Err (Input place fault)) status all is reads writes found =
+      ((λ zero. absurd (input_not_done status (kind_of fault) is zero)),
+      λ a. absurd (refuses _ (of_accepted a).0 (Input place fault) (of_accepted a).1
+      (input_told (Gives shift (word_at words input) (word_at words output) (Some f) (Err (Input place fault))) f counts_before counts_after (kind_of fault) reads all.defined all.counted)))
   is_accepted new counts_before counts_after (Err (GainRange offset granule channel gain)) status all is reads writes found =
       ((λ zero. absurd (omega arith)), λ a. absurd (refuses _ (of_accepted a).0 (GainRange offset granule channel gain) (of_accepted a).1 all.defined))
-  is_accepted new counts_before counts_after (Err (Write place)) status all is reads writes found = absurd (writes (all.write (ap (λ n. Err (Write n)) all.defined)))
+  is_accepted new counts_before counts_after (Err (Write place)) status all is reads writes found = absurd (writes all.counted)
   is_accepted new counts_before counts_after (Err Memory) status all is reads writes found = absurd (found is)
 
 -- ---- the names as they stand in the words
@@ -263,6 +325,11 @@ pub named_line : {T : Type 0} (a b input output : List ℕ) (before after : Sent
 named_line a b input output before after faults_before faults_after answer first second line =
     subst (λ n. GotLine before after faults_before faults_after (answer_line answer n output)) first
     (subst (λ n. GotLine before after faults_before faults_after (answer_line answer a n)) second line)
+
+pub named_defined : {T : Type 0} (shift : Shift) (a b input output : List ℕ) (old : Files) (answer : Result T EditFault) → a ≡ input → b ≡ output
+    → IfErr answer (IsDefinedAt shift a b old) → IfErr answer (IsDefinedAt shift input output old)
+named_defined shift a b input output old answer first second defined =
+    subst (λ n. IfErr answer (IsDefinedAt shift n output old)) first (subst (λ n. IfErr answer (IsDefinedAt shift a n old)) second defined)
 
 pub is_accepted_told : {T : Type 0} (words : List (List ℕ)) (shift : Shift) (input output : ℕ) → job_of words ≡ Ok (Gain shift input output) → (f : Contents) (old new : Files) (counts_before counts_after : Counts)
     (answer : Result T EditFault) (status : ℕ) → old ≡ Some f → Gained shift (word_at words input) (word_at words output) old new counts_before counts_after answer → status ≡ answer_status answer

@@ -1,12 +1,12 @@
 -- What a gain command leaves in its folder, by its answer.
-use Rattle.std.specs.Prelude.{◌≡◌, ◌⊎◌, ℕ, ◌<◌, ◌≤◌, List, length, take, Some, Result, Ok, Err, option_map, IfSome}
+use Rattle.std.specs.Prelude.{◌≡◌, ◌⊎◌, ℕ, ◌≤◌, List, length, take, Result, Ok, Err, option_map, IfSome}
 use Rattle.outside.specs.Files.{Files, untold, with_file, Holds, IsThere, IsMissing}
 use Rattle.outside.specs.Counts.{Counts, Rose, NothingFailed}
 use Rattle.sync_survey.specs.Faults.{longest_file}
 use Rattle.mp3_cli.specs.declared.fault.EditFault.{EditFault}
 use Rattle.mp3_cli.specs.declared.fault.EditFault.TheVariants.{EqualNames, Input, GainRange, Write, Memory}
 use Rattle.mp3_cli.specs.declared.shift.Shift.{Shift}
-use Rattle.mp3_cli.specs.Kinds.{by_kind}
+use Rattle.mp3_cli.specs.Kinds.{kind_of, by_kind}
 use Rattle.mp3_cli.specs.Edited.{gained, gain_result}
 
 -- the same files, where they are told, but that the name holds these bytes
@@ -54,11 +54,11 @@ abbrev pub IsDefinedAt : Shift → List ℕ → List ℕ → Files → EditFault
 IsDefinedAt shift input output old (EqualNames place) = Gives shift input output old (Err (EqualNames place))
 IsDefinedAt shift input output old (Input place fault) = by_kind (record {
   absent = Gives shift input output old (Err (Input place fault));
-  read = Unit {0};
-  shrunk = old ≡ untold;
-  memory = ⊥;
+  unread = Unit {0};
+  shorter = old ≡ untold;
+  too_much = ⊥;
   refused = Gives shift input output old (Err (Input place fault));
-}) fault
+}) (kind_of fault)
 IsDefinedAt shift input output old (GainRange offset granule channel gain) = Gives shift input output old (Err (GainRange offset granule channel gain))
 IsDefinedAt shift input output old (Write place) = place ≡ 0
 IsDefinedAt shift input output old Memory = NeedsMemory input old
@@ -68,11 +68,11 @@ abbrev pub IsCounted : Counts → Counts → EditFault → Type 0
 IsCounted before after (EqualNames place) = NothingFailed before after
 IsCounted before after (Input place fault) = by_kind (record {
   absent = Rose before.misses after.misses;
-  read = Rose before.read_faults after.read_faults;
-  shrunk = Rose before.ends after.ends × NothingFailed before after;
-  memory = ⊥;
+  unread = Rose before.read_faults after.read_faults;
+  shorter = Rose before.ends after.ends × NothingFailed before after;
+  too_much = ⊥;
   refused = NothingFailed before after;
-}) fault
+}) (kind_of fault)
 IsCounted before after (GainRange offset granule channel gain) = NothingFailed before after
 IsCounted before after (Write place) = Rose before.write_faults after.write_faults
 IsCounted before after Memory = NothingFailed before after
@@ -86,11 +86,11 @@ abbrev pub IsInputFault : Shift → List ℕ → Files → EditFault → Type 0
 IsInputFault shift name files (EqualNames place) = ⊥
 IsInputFault shift name files (Input place fault) = (place ≡ 0) × by_kind (record {
   absent = IsMissing files name;
-  read = Unit {0};
-  shrunk = files ≡ untold;
-  memory = ⊥;
+  unread = Unit {0};
+  shorter = files ≡ untold;
+  too_much = ⊥;
   refused = RefusesBytes shift name files (Input place fault);
-}) fault
+}) (kind_of fault)
 IsInputFault shift name files (GainRange offset granule channel gain) = RefusesBytes shift name files (GainRange offset granule channel gain)
 IsInputFault shift name files (Write place) = ⊥
 IsInputFault shift name files Memory = NeedsMemory name files

@@ -1,36 +1,54 @@
--- The kinds of a survey's faults: an absent file, a fault of reading, a file that became shorter, want of memory, and all that the
--- bytes of a file that is there are refused for.
-use Rattle.std.specs.Prelude.{ℕ}
+-- The kinds of a survey's faults.
 use Rattle.sync_survey.specs.declared.survey_fault.SurveyFault.{SurveyFault}
 use Rattle.sync_survey.specs.declared.survey_fault.SurveyFault.TheVariants.{Absent, TooLong, NoFrame, LostSync, Truncated, FreeFormat, Mixed, CheckWord, BackPointer, Overlap, Overrun, TooManyFrames, Shrunk, Read, Memory}
 use Rattle.mp3_cli.specs.declared.fault.EditFault.{EditFault}
 use Rattle.mp3_cli.specs.declared.fault.EditFault.TheVariants.{Input, Memory as NoMemory}
 
+pub data InputKind : Type 0 where
+  -- the file isn't there
+  IsAbsent : InputKind
+  -- it could not be read
+  IsUnread : InputKind
+  -- it became shorter while it was read
+  IsShorter : InputKind
+  -- want of memory
+  IsTooMuch : InputKind
+  -- it is there, and its bytes are refused
+  IsRefused : InputKind
+
+-- the kind of a fault
+abbrev pub kind_of : SurveyFault → InputKind
+kind_of Absent = IsAbsent
+kind_of (TooLong size) = IsRefused
+kind_of (NoFrame at) = IsRefused
+kind_of (LostSync at) = IsRefused
+kind_of (Truncated at) = IsRefused
+kind_of (FreeFormat at) = IsRefused
+kind_of (Mixed at) = IsRefused
+kind_of (CheckWord at said right) = IsRefused
+kind_of (BackPointer at begin present) = IsRefused
+kind_of (Overlap at) = IsRefused
+kind_of (Overrun at bits room) = IsRefused
+kind_of (TooManyFrames at) = IsRefused
+kind_of (Shrunk first second) = IsShorter
+kind_of Read = IsUnread
+kind_of Memory = IsTooMuch
+
 -- what stands for each kind
 pub record ByKind {ℓ} (A : Type ℓ) : Type ℓ where
   pub absent : A
-  pub read : A
-  pub shrunk : A
-  pub memory : A
+  pub unread : A
+  pub shorter : A
+  pub too_much : A
   pub refused : A
 
-abbrev pub by_kind {ℓ} : {A : Type ℓ} → ByKind A → SurveyFault → A
-by_kind k Absent = k.absent
-by_kind k (TooLong size) = k.refused
-by_kind k (NoFrame at) = k.refused
-by_kind k (LostSync at) = k.refused
-by_kind k (Truncated at) = k.refused
-by_kind k (FreeFormat at) = k.refused
-by_kind k (Mixed at) = k.refused
-by_kind k (CheckWord at said right) = k.refused
-by_kind k (BackPointer at begin present) = k.refused
-by_kind k (Overlap at) = k.refused
-by_kind k (Overrun at bits room) = k.refused
-by_kind k (TooManyFrames at) = k.refused
-by_kind k (Shrunk first second) = k.shrunk
-by_kind k Read = k.read
-by_kind k Memory = k.memory
+abbrev pub by_kind {ℓ} : {A : Type ℓ} → ByKind A → InputKind → A
+by_kind k IsAbsent = k.absent
+by_kind k IsUnread = k.unread
+by_kind k IsShorter = k.shorter
+by_kind k IsTooMuch = k.too_much
+by_kind k IsRefused = k.refused
 
 -- the fault of a command's one input; want of memory stands alone
 abbrev pub of_input : SurveyFault → EditFault
-of_input fault = by_kind (record { absent = Input 0 fault; read = Input 0 fault; shrunk = Input 0 fault; memory = NoMemory; refused = Input 0 fault }) fault
+of_input fault = by_kind (record { absent = Input 0 fault; unread = Input 0 fault; shorter = Input 0 fault; too_much = NoMemory; refused = Input 0 fault }) (kind_of fault)

@@ -11,7 +11,7 @@ use Rattle.mp3_cli.specs.declared.jobs.Job.TheVariants.{Gain}
 use Rattle.mp3_cli.specs.declared.shift.Shift.{Shift}
 use Rattle.mp3_cli.specs.Words.{word_at, job_of}
 use Rattle.mp3_cli.specs.Texts.{status_of, fault_line, bad_word_line, GotLine}
-use Rattle.mp3_cli.specs.Kinds.{by_kind}
+use Rattle.mp3_cli.specs.Kinds.{kind_of, by_kind}
 use Rattle.mp3_cli.specs.Edited.{most_frames, range_fault, gain_result}
 use Rattle.mp3_cli.specs.Gain.{Gives, IsWrittenInPart, NeedsMemory}
 
@@ -77,11 +77,11 @@ abbrev pub IsCause : Shift → List ℕ → List ℕ → Files → Files → Cou
 IsCause shift input output old new before after (EqualNames place) = ⊥
 IsCause shift input output old new before after (Input place fault) = by_kind (record {
   absent = Rose before.misses after.misses × (new ≡ old) × Gives shift input output old (Err (Input place fault));
-  read = Rose before.read_faults after.read_faults × (new ≡ old);
-  shrunk = Rose before.ends after.ends × (new ≡ old) × (old ≡ untold);
-  memory = ⊥;
+  unread = Rose before.read_faults after.read_faults × (new ≡ old);
+  shorter = Rose before.ends after.ends × (new ≡ old) × (old ≡ untold);
+  too_much = ⊥;
   refused = ⊥;
-}) fault
+}) (kind_of fault)
 IsCause shift input output old new before after (GainRange offset granule channel gain) = ⊥
 IsCause shift input output old new before after (Write place) = Rose before.write_faults after.write_faults × IsWrittenInPart shift input output old new
 IsCause shift input output old new before after Memory = ⊥

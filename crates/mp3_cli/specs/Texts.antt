@@ -2,7 +2,7 @@
 use Rattle.std.specs.Prelude.{◌≡◌, ◌⊎◌, ℕ, ◌/◌, ◌%◌, ◌≤◌, List, [], ◌∷◌, ◌++◌, length, take, slice_index, codes, decimal}
 use Rattle.outside.specs.Files.{Sent, sent_more}
 use Rattle.outside.specs.Counts.{Rose}
-use Rattle.mp3_cli.specs.Kinds.{by_kind}
+use Rattle.mp3_cli.specs.Kinds.{kind_of, by_kind}
 use Rattle.sync_survey.specs.declared.survey_fault.SurveyFault.{SurveyFault}
 use Rattle.sync_survey.specs.declared.survey_fault.SurveyFault.TheVariants.{Absent, TooLong, NoFrame, LostSync, Truncated, FreeFormat, Mixed, CheckWord, BackPointer, Overlap, Overrun, TooManyFrames, Shrunk, Read, Memory}
 use Rattle.mp3_cli.specs.declared.fault.EditFault.{EditFault}
@@ -11,7 +11,7 @@ use Rattle.mp3_cli.specs.declared.fault.EditFault.TheVariants.{EqualNames, Input
 -- 1 for a refused input, 3 for a fault of the outside, 4 for want of memory
 abbrev pub status_of : EditFault → ℕ
 status_of (EqualNames place) = 1
-status_of (Input place fault) = by_kind (record { absent = 3; read = 3; shrunk = 3; memory = 4; refused = 1 }) fault
+status_of (Input place fault) = by_kind (record { absent = 3; unread = 3; shorter = 3; too_much = 4; refused = 1 }) (kind_of fault)
 status_of (GainRange offset granule channel gain) = 1
 status_of (Write place) = 3
 status_of NoMemory = 4

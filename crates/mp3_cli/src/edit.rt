@@ -25,9 +25,8 @@ pub(crate) fn range_fault(shift: &Shift, rows: &[Row]) -> Option<EditFault>
     ensures range { IfSome result IsRangeFault }
 {
     for row in rows {
-        let fault = fault_at(row.offset, stuck_in(shift, &row.side));
-        if fault.is_some() {
-            return fault;
+        if let Some(fault) = fault_at(row.offset, stuck_in(shift, &row.side)) {
+            return Some(fault);
         }
     }
     None

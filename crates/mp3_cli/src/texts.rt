@@ -98,7 +98,13 @@ fn send_check_word<E: Sink>(err: &mut E, input: &str, at: u64, said: u16, right:
 }
 
 /// Sends a line with one number.
-fn send_number<E: Sink>(err: &mut E, input: &str, before: &str, number: u64, behind: &str)
+fn send_number<'a, E: Sink>(
+    err: &mut E,
+    input: &'a str,
+    before: &'a str,
+    number: u64,
+    behind: &'a str,
+)
     ensures { GotLine (E.sent err.old) (E.sent err.new) (E.faults err.old) (E.faults err.new) (input.now ++ (before.now ++ (decimal number ++ behind.now))) }
 {
     send_pieces(err, &[input, before, Buffer::new().format(number), behind]);

@@ -174,3 +174,30 @@ start-first file s e = start_cases file (front_end_of file) (item_at file (front
 pub if_ok : (r : Result Start WalkFault) (P : Start → Type 0) → ((s : Start) → r ≡ Ok s → P s) → IfOk r P
 if_ok (Ok s) P holds = holds s refl
 if_ok (Err fault) P holds = tt
+
+-- ---- where the front ends
+
+front_fits : (at : ℕ) (p : PlacedFrame) (b : Bool) (fault : WalkFault) (s : Start) → cond b (Ok (record { front_end = at; first = p })) (Err fault) ≡ Ok s → s.front_end ≡ at
+front_fits at p true fault s e =
+    let same : record { front_end = at; first = p } ≡ s = cc in
+    ap (λ t. t.front_end) (sym same)
+front_fits at p false fault s e = absurd cc
+
+front_behind : (at : ℕ) (o : Option PlacedFrame) (s : Start) → start_behind at o ≡ Ok s → s.front_end ≡ at
+front_behind at None s e = absurd cc
+front_behind at (Some p) s e =
+    let same : record { front_end = at; first = p } ≡ s = cc in
+    ap (λ t. t.front_end) (sym same)
+
+front_cases : (file : List ℕ) (at : ℕ) (item : Item) (s : Start) → start_at file at item ≡ Ok s → s.front_end ≡ at
+front_cases file at (Frame h) s e = front_fits at (record { offset = at; header = h }) _ _ s e
+front_cases file at Free s e = absurd cc
+front_cases file at (Block b) s e = absurd cc
+front_cases file at Zero s e = front_behind at _ s e
+front_cases file at End s e = front_behind at _ s e
+front_cases file at Nothing s e = front_behind at _ s e
+
+-- the start keeps where the blocks and zero bytes at the front end
+pub start-front : (file : List ℕ) (s : Start) → start_of file ≡ Ok s → s.front_end ≡ front_end_of file
+unfolding start_of
+start-front file s e = front_cases file (front_end_of file) (item_at file (front_end_of file)) s e

@@ -20,12 +20,12 @@ use Rattle.sync_survey.specs.declared.runs.Part.TheVariants.{Stream}
 use Rattle.sync_survey.specs.Items.{item_at, size_of}
 use Rattle.sync_survey.specs.Runs.{Placed, AreEndToEnd, AreInFile, frame_as, frames_of}
 use Rattle.sync_survey.specs.Start.{start_of}
-use Rattle.sync_survey.specs.Walk.{stream_of, numbered, fault_at, end_fault}
+use Rattle.sync_survey.specs.Walk.{stream_of, head_of, numbered, fault_at, end_fault, walk_from}
 use Rattle.sync_survey.specs.MainData.{rows_of}
 use Rattle.sync_survey.specs.Faults.{all_faults, as_survey, first_of, class_from, faults_from, SurveyFields, fields_from, unless_fault, survey_by, surveyed}
 use Rattle.sync_survey.proofs.ItemsLaws.{stands-at, header_front-in_range}
 use Rattle.sync_survey.proofs.RunsLaws.{cons_list, item_of-is, run-ends}
-use Rattle.sync_survey.proofs.WalkLaws.{IsFound, walk-is}
+use Rattle.sync_survey.proofs.WalkLaws.{IsFound, walk-is, no_fault, nothing_left}
 use Rattle.sync_survey.proofs.FaultsLaws.{some-append, none-of}
 
 -- ---- the frames that were met are in the file
@@ -143,3 +143,35 @@ start_cases file allowed s (Ok start) begins e = fields_cases file allowed start
 pub surveyed-is : (file : List ℕ) (allowed : ℕ) (s : SurveyFields) → surveyed file allowed ≡ Ok s → IsSurveyed file allowed s
 unfolding surveyed
 surveyed-is file allowed s e = start_cases file allowed s (start_of file) refl e
+
+last_none : (xs : List SurveyFault) (o : Option WalkFault) → first_of (xs ++ option_to_list (option_map as_survey o)) ≡ None → o ≡ None
+last_none [] None e = refl
+last_none [] (Some fault) e = absurd cc
+last_none (x ∷ xs) o e = absurd cc
+
+-- the frames and the head that the survey tells are those of the walk, which goes to the file's end
+pub record IsWalked (file : List ℕ) (s : SurveyFields) (start : Start) : Type 0 where
+  pub head_is : s.head ≡ head_of file start.first
+  pub frames_are : s.frames ≡ rows_of file (numbered s.head (frames_of (stream_of file start).items))
+  pub junk_is : s.junk ≡ start.front_end
+  pub first_is : s.first ≡ start.first.offset
+  pub nothing_behind : drop (stream_of file start).stop file ≡ []
+
+walk_fault : (file : List ℕ) (start : Start) → (walk_from file start).fault ≡ None → drop (stream_of file start).stop file ≡ []
+unfolding walk_from
+walk_fault file start none = nothing_left file (stream_of file start).stop (no_fault file _ _ none)
+
+walked_by : (file : List ℕ) (start : Start) → drop (stream_of file start).stop file ≡ [] → IsWalked file (fields_from file start) start
+unfolding fields_from walk_from
+walked_by file start left = record { head_is = refl; frames_are = refl; junk_is = refl; first_is = refl; nothing_behind = left }
+
+end_none : (file : List ℕ) (allowed : ℕ) (start : Start) → first_of (faults_from file allowed start) ≡ None → (walk_from file start).fault ≡ None
+unfolding faults_from
+end_none file allowed start none = last_none _ _ none
+
+pub walked : (file : List ℕ) (allowed : ℕ) (s : SurveyFields) (is : IsSurveyed file allowed s) → IsWalked file s is.start
+walked file allowed s is = subst (λ t. IsWalked file t is.start) is.fields_are (walked_by file is.start (walk_fault file is.start (end_none file allowed is.start is.none)))
+
+-- the frames of a survey are in the file
+pub frames_in_file : (file : List ℕ) (s : SurveyFields) (start : Start) → IsWalked file s start → AreInFile file (numbered s.head (frames_of (stream_of file start).items))
+frames_in_file file s start is = found_inside file start s.head (numbered s.head (frames_of (stream_of file start).items)) refl

@@ -109,13 +109,13 @@ at_end rest at Zero here e = absurd cc
 at_end rest at End here e = here
 at_end rest at Nothing here e = absurd cc
 
-no_fault : (file : List ℕ) (frames : List PlacedFrame) (o : Option WalkFault) → end_fault file frames o ≡ None → o ≡ None
+pub no_fault : (file : List ℕ) (frames : List PlacedFrame) (o : Option WalkFault) → end_fault file frames o ≡ None → o ≡ None
 no_fault file frames None e = refl
 no_fault file [] (Some fault) e = absurd cc
 no_fault file (p ∷ ps) (Some fault) e = absurd cc
 
 -- where nothing is at fault, nothing is left
-nothing_left : (file : List ℕ) (stop : ℕ) → fault_at stop (item_at file stop) ≡ None → drop stop file ≡ []
+pub nothing_left : (file : List ℕ) (stop : ℕ) → fault_at stop (item_at file stop) ≡ None → drop stop file ≡ []
 nothing_left file stop none = at_end (drop stop file) stop (item_at file stop) (stands-at file stop (item_at file stop) refl) none
 
 fault_offset : (at : ℕ) (item : Item) (fault : WalkFault) → fault_at at item ≡ Some fault → offset_of fault ≡ at

@@ -1,23 +1,62 @@
--- A fault of a step is a fault of the input.
+-- A fault of a step is a fault of the input, and the bytes are the edited ones.
+use Rattle.std.proofs.Common.{◌+◌, ◌++◌, take, drop, sym, ◌∙◌, ap, ap₂, subst, arith}
+use Rattle.std.proofs.lemmas.List.{take_at}
 use Rattle.std.proofs.lemmas.Result.{err_from_is_err_and}
-use Rattle.mp3_cli.proofs.GainLaws.{find_fault, load_fault, needs_memory, stream_fault, refused_bytes}
+use Rattle.sync_survey.specs.Faults.{tells}
+use Rattle.mp3_cli.specs.Edited.{most_frames, range_fault, with_rows, AreInBytes}
+use Rattle.mp3_cli.proofs.WholeEdit.{rows_in_bytes}
+use Rattle.mp3_cli.proofs.GainLaws.{IsLoadedInput, load_is_input, survey_is_input, survey_counted, range_is_input, edited_is, junk_dropped, junk_within}
 use Rattle.mp3_cli.proofs.gain_file.edited_input.Goals as goal
-
-pub returns-in_err-size-clause-refused : goal.returns-in_err-size-clause-refused
-returns-in_err-size-clause-refused g c = let p = err_from_is_err_and c.from_residual.result c.from_residual.ensures.1 in rw (p.1, p.2) (find_fault _ _ _ _ c.in_err-size.ensures.refused)
-
-pub returns-in_err-edit-clause-refused : goal.returns-in_err-edit-clause-refused
-returns-in_err-edit-clause-refused g c =
-    let p = err_from_is_err_and c.from_residual-in_err-edit.result c.from_residual-in_err-edit.ensures.1 in
-    let files = g.D.Folder.files c.args.folder.now in
-    let refuses = refused_bytes c.args.shift.now c.args.name.now c.in_ok-bytes.bytes.items c.deref_mut.result.now files (g.D.Folder.files c.find_input.new.folder) c.in_err-edit.field-0.0
-    c.find_input.ensures.files c.deref_mut.ensures.value c.in_ok-size.ensures.there c.in_ok-bytes.ensures.bytes c.in_err-edit.ensures.exact in
-    rw (p.1, p.2) (stream_fault c.args.shift.now c.args.name.now files c.in_err-edit.field-0.0 c.in_err-edit.ensures.refused refuses)
 
 pub returns-in_err-bytes-clause-refused : goal.returns-in_err-bytes-clause-refused
 returns-in_err-bytes-clause-refused g c =
-    let p = err_from_is_err_and c.from_residual-in_err-bytes.result c.from_residual-in_err-bytes.ensures.1 in
-    let size = c.in_ok-size.ensures in
-    rw (p.1, p.2)
-    (load_fault c.args.shift.now c.args.name.now (g.D.Folder.files c.args.folder.now) _ c.in_err-bytes.ensures.refused
-    (needs_memory c.args.name.now (g.D.Folder.files c.args.folder.now) c.in_ok-size.size size.there size.found size.some size.bound))
+    let p = err_from_is_err_and c.from_residual.result c.from_residual.ensures.1 in
+    rw (p.1, p.2) (load_is_input c.args.shift.now c.args.name.now (g.D.Folder.files c.args.folder.now) _ _ _ c.in_err-bytes.ensures.refused)
+
+pub returns-in_err-survey-clause-refused : goal.returns-in_err-survey-clause-refused
+returns-in_err-survey-clause-refused g c =
+    let p = err_from_is_err_and c.from_residual-in_err-survey.result c.from_residual-in_err-survey.ensures.1 in
+    let files = g.D.Folder.files c.args.folder.now in
+    let loaded = c.in_ok-bytes.ensures in
+    let all : IsLoadedInput c.args.name.now files c.deref.result.now = subst (IsLoadedInput c.args.name.now files) (sym c.deref.ensures.value) (record { there = loaded.there; bytes = loaded.bytes; few = loaded.bound }) in
+    rw (p.1, p.2) (survey_is_input c.args.shift.now c.args.name.now files c.deref.result.now all _ c.in_err-survey.ensures)
+
+pub returns-in_err-survey-clause-counted : goal.returns-in_err-survey-clause-counted
+returns-in_err-survey-clause-counted g c =
+    let p = err_from_is_err_and c.from_residual-in_err-survey.result c.from_residual-in_err-survey.ensures.1 in
+    rw (p.1, p.2) (survey_counted _ _ c.deref.result.now most_frames _ c.in_err-survey.ensures c.in_ok-bytes.ensures.done)
+
+pub returns-in-Some-clause-refused : goal.returns-in-Some-clause-refused
+returns-in-Some-clause-refused g c =
+    let shift = c.args.shift.now in
+    let files = g.D.Folder.files c.args.folder.now in
+    let loaded = c.in_ok-bytes.ensures in
+    let all : IsLoadedInput c.args.name.now files c.deref.result.now = subst (IsLoadedInput c.args.name.now files) (sym c.deref.ensures.value) (record { there = loaded.there; bytes = loaded.bytes; few = loaded.bound }) in
+    range_is_input shift c.args.name.now files c.deref.result.now all (tells c.in_ok-survey.survey) c.in-Some.fault c.in_ok-survey.ensures (sym (c.in-Some.ensures.fault ∙ ap (range_fault shift) c.frames.ensures)) c.in-Some.ensures.range
+
+pub move_gains-requires : goal.move_gains-requires
+move_gains-requires g c =
+    let file = c.deref.result.now in
+    subst (λ b. AreInBytes b c.frames-2.result.now) (c.deref.ensures.value ∙ sym c.deref_mut.ensures.value)
+    (subst (AreInBytes file) (sym c.frames-2.ensures) (rows_in_bytes file most_frames (tells c.in_ok-survey.survey) c.in_ok-survey.ensures))
+
+pub drop_junk-requires : goal.drop_junk-requires
+drop_junk-requires g c =
+    omega (arith, c.deref.ensures.len,
+    junk_within c.deref.result.now (tells c.in_ok-survey.survey) c.junk-at.result.0 c.junk-at.result.1 c.in_ok-survey.ensures (ap (λ r. r.0) c.junk-at.ensures) (ap (λ r. r.1) c.junk-at.ensures))
+
+pub returns-clause-gained : goal.returns-clause-gained
+returns-clause-gained g c =
+    let shift = c.args.shift.now in
+    let files = g.D.Folder.files c.args.folder.now in
+    let file = c.deref.result.now in
+    let s = tells c.in_ok-survey.survey in
+    let loaded = c.in_ok-bytes.ensures in
+    let all : IsLoadedInput c.args.name.now files file = subst (IsLoadedInput c.args.name.now files) (sym c.deref.ensures.value) (record { there = loaded.there; bytes = loaded.bytes; few = loaded.bound }) in
+    let moved = c.move_gains.ensures ∙ ap₂ (with_rows shift) c.frames-2.ensures (c.deref_mut.ensures.value ∙ sym c.deref.ensures.value) in
+    let at = c.junk-at.result.0 in
+    let end = at + c.junk-at.result.1 in
+    let same = take_at c.move_gains.new.bytes _ c.in_ok-bytes.bytes.len (omega (arith, c.move_gains.auto.bytes, c.deref_mut.ensures.len)) in
+    edited_is shift c.args.name.now files file all s _ c.in_ok-survey.ensures (sym (c.in_default.ensures.fault ∙ ap (range_fault shift) c.frames.ensures))
+    (junk_dropped shift file c.move_gains.new.bytes _ s c.junk-at.result.0 c.junk-at.result.1 c.in_ok-survey.ensures moved (ap (λ r. r.0) c.junk-at.ensures) (ap (λ r. r.1) c.junk-at.ensures)
+    (c.drop_junk.ensures ∙ ap (λ l. take at l ++ drop end l) same))

@@ -1,6 +1,6 @@
 -- Each clause from what the command ensures.
 use Rattle.std.proofs.Common.{map, string_bytes}
-use Rattle.mp3_cli.proofs.RunLaws.{Gained, named, named_line, is_defined, is_out_of_memory, asks_for_memory, is_accepted_told, each_text}
+use Rattle.mp3_cli.proofs.RunLaws.{Gained, named, named_line, named_defined, is_defined, is_out_of_memory, asks_for_memory, is_accepted_told, each_text}
 use Rattle.mp3_cli.specs.Run.{outcome, IsOutcome}
 use Rattle.mp3_cli.proofs.program.run_gain.Goals as goal
 
@@ -10,7 +10,7 @@ returns-clause-defined g c low =
     let all = c.gain-done.ensures in
     let here : Gained c.args.shift c.name_at-input.result.now c.name_at-output.result.now (g.D.Folder.files c.args.folder.now) (g.D.Folder.files c.gain-done.new.folder)
     (g.D.Folder.counts c.args.folder.now) (g.D.Folder.counts c.gain-done.new.folder) c.gain-done.result =
-    record { written = all.written; defined = all.defined; left = all.left; names = all.equal_names.1; absent = all.absent; read = all.read; write = all.write } in
+    record { written = all.written; defined = all.defined; left = all.left; names = all.equal_names.1; counted = all.counted } in
     let there = named _ _ _ _ _ _ _ _ _ _ c.name_at-input.ensures c.name_at-output.ensures here in
     let line = named_line _ _ _ _ _ _ _ _ c.gain-done.result c.name_at-input.ensures c.name_at-output.ensures c.report.ensures.line in
     each_text (g.D.Folder.files c.args.folder.now) (λ f text. IsOutcome (outcome words f) c.report.result (g.D.Folder.files c.gain-done.new.folder) text text
@@ -23,8 +23,9 @@ pub returns-clause-memory : goal.returns-clause-memory
 returns-clause-memory g c four =
     let words = map string_bytes c.args.words.now in
     let line = named_line _ _ _ _ _ _ _ _ c.gain-done.result c.name_at-input.ensures c.name_at-output.ensures c.report.ensures.line in
+    let defined = named_defined c.args.shift _ _ _ _ (g.D.Folder.files c.args.folder.now) c.gain-done.result c.name_at-input.ensures c.name_at-output.ensures c.gain-done.ensures.defined in
     is_out_of_memory words c.args.shift c.args.input c.args.output c.requires.job (g.E.Sink.sent c.args.err.now) (g.E.Sink.sent c.args.err.now) (g.E.Sink.sent c.report.new.err)
-    (g.E.Sink.faults c.args.err.now) (g.E.Sink.faults c.report.new.err) c.gain-done.result c.report.result c.report.ensures.status line four
+    (g.E.Sink.faults c.args.err.now) (g.E.Sink.faults c.report.new.err) (g.D.Folder.files c.args.folder.now) c.gain-done.result c.report.result defined c.report.ensures.status line four
 
 pub returns-clause-accepted : goal.returns-clause-accepted
 returns-clause-accepted g c f told reads writes found =
@@ -32,7 +33,7 @@ returns-clause-accepted g c f told reads writes found =
     let all = c.gain-done.ensures in
     let here : Gained c.args.shift c.name_at-input.result.now c.name_at-output.result.now (g.D.Folder.files c.args.folder.now) (g.D.Folder.files c.gain-done.new.folder)
     (g.D.Folder.counts c.args.folder.now) (g.D.Folder.counts c.gain-done.new.folder) c.gain-done.result =
-    record { written = all.written; defined = all.defined; left = all.left; names = all.equal_names.1; absent = all.absent; read = all.read; write = all.write } in
+    record { written = all.written; defined = all.defined; left = all.left; names = all.equal_names.1; counted = all.counted } in
     let there = named _ _ _ _ _ _ _ _ _ _ c.name_at-input.ensures c.name_at-output.ensures here in
     is_accepted_told words c.args.shift c.args.input c.args.output c.requires.job f (g.D.Folder.files c.args.folder.now) (g.D.Folder.files c.gain-done.new.folder)
     (g.D.Folder.counts c.args.folder.now) (g.D.Folder.counts c.gain-done.new.folder) c.gain-done.result c.report.result told there c.report.ensures.status reads writes found
@@ -43,7 +44,7 @@ returns-clause-needed g c four =
     let all = c.gain-done.ensures in
     let here : Gained c.args.shift c.name_at-input.result.now c.name_at-output.result.now (g.D.Folder.files c.args.folder.now) (g.D.Folder.files c.gain-done.new.folder)
     (g.D.Folder.counts c.args.folder.now) (g.D.Folder.counts c.gain-done.new.folder) c.gain-done.result =
-    record { written = all.written; defined = all.defined; left = all.left; names = all.equal_names.1; absent = all.absent; read = all.read; write = all.write } in
+    record { written = all.written; defined = all.defined; left = all.left; names = all.equal_names.1; counted = all.counted } in
     let there = named _ _ _ _ _ _ _ _ _ _ c.name_at-input.ensures c.name_at-output.ensures here in
     asks_for_memory words c.args.shift c.args.input c.args.output c.requires.job (g.D.Folder.files c.args.folder.now) (g.D.Folder.files c.gain-done.new.folder)
     (g.D.Folder.counts c.args.folder.now) (g.D.Folder.counts c.gain-done.new.folder) c.gain-done.result c.report.result there c.report.ensures.status four

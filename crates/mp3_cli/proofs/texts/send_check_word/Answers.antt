@@ -1,11 +1,9 @@
 -- The pieces are the line.
 use Rattle.std.proofs.Common.{refl, append_assoc}
-use Rattle.mp3_cli.specs.Texts.{fault_line}
 use Rattle.mp3_cli.proofs.Lines.{line_is}
 use Rattle.mp3_cli.proofs.texts.send_check_word.Goals as goal
 
 pub returns : goal.returns
-unfolding fault_line
 returns g c =
     line_is _ _ _ _ _ _
     (simp append_assoc (rw (
