@@ -10,3 +10,4 @@ pub mod FoldersLaws
 pub mod ItemBytes
 pub mod ItemLists
 pub mod SurveyParts
+pub mod HeadSame
