@@ -201,6 +201,9 @@ pub payload-moved : (shift : Shift) (s : Side) → IsShaped s → payload_bytes 
 unfolding payload_bytes
 payload-moved shift s shaped = ap (λ n. (n + 7) / 8) (each_shaped (λ t. payload_bits (moved_side shift t) ≡ payload_bits t) (payload-with shift) s shaped)
 
+pub payload_bits-moved : (shift : Shift) (s : Side) → IsShaped s → payload_bits (moved_side shift s) ≡ payload_bits s
+payload_bits-moved shift s shaped = each_shaped (λ t. payload_bits (moved_side shift t) ≡ payload_bits t) (payload-with shift) s shaped
+
 pub begin-moved : (shift : Shift) (s : Side) → (moved_side shift s).main_data_begin ≡ s.main_data_begin
 unfolding moved_side
 begin-moved shift s = refl

@@ -84,7 +84,7 @@ kept_items file from (p ∷ ps) to all ends of =
 abbrev pub nearer : ℕ → Placed → Placed
 nearer gap p = record p { offset = p.offset - gap }
 
-item_at-known : (file : List ℕ) (place at : ℕ) (bytes : List ℕ) (item : Item) → place ≡ at → drop at file ≡ bytes → item_front bytes ≡ item → item_at file place ≡ item
+pub item_at-known : (file : List ℕ) (place at : ℕ) (bytes : List ℕ) (item : Item) → place ≡ at → drop at file ≡ bytes → item_front bytes ≡ item → item_at file place ≡ item
 unfolding item_at
 item_at-known file place at bytes item same is known = ap (λ n. item_front (drop n file)) same ∙ ap item_front is ∙ known
 
