@@ -152,7 +152,7 @@ module _ (shift : Shift) (file : List ℕ) (allowed : ℕ) (start : Start) (all 
   abbrev after : List ℕ
   after = moved_items shift file later.items
 
-  first_frame : IsWhole h (frame_bytes file start.first)
+  pub first_frame : IsWhole h (frame_bytes file start.first)
   first_frame = frame_whole file first h all first_whole.is first_whole.within
 
   own_by : (o : Option Head) → IsItem (Frame h) (first_bytes shift file start.first o)

@@ -1,14 +1,15 @@
 -- A frame that is the same from two bytes before its area on is a head as before.
 use Rattle.std.proofs.Common.{◌≡◌, ℕ, ◌+◌, ◌-◌, ◌≤◌, ◌||◌, List, take, drop, Option, Some, None, option_map, refl, sym, ◌∙◌, ap, codes, arith}
 use Rattle.std.specs.Str.{bytes_eq}
-use Rattle.std.proofs.lemmas.List.{drop-drop}
+use Rattle.std.proofs.lemmas.List.{drop-drop, drop-take}
 use Rattle.frame_header.specs.Fields.{HeaderFields}
-use Rattle.frame_header.specs.Tables.{class_of, overhead_of}
+use Rattle.frame_header.specs.Tables.{class_of, length_of, area_of, overhead_of}
 use Rattle.info_header.specs.HeadText.{has_text, low_place, high_place, head_text_of}
 use Rattle.side_info.proofs.FrameLaws.{overhead-most}
 use Rattle.sync_survey.specs.declared.places.PlacedFrame.{PlacedFrame}
 use Rattle.sync_survey.specs.declared.places.Head.{Head}
 use Rattle.sync_survey.specs.Walk.{frame_bytes, head_of}
+use Rattle.sync_survey.specs.MainData.{area_bytes, head_bytes}
 use Rattle.sync_survey.proofs.ItemLists.{nearer_frame}
 
 -- what is the same from one place on is so from each later one
@@ -54,3 +55,24 @@ unfolding head_of
 head_of-nearer old file gap p same =
     ap (option_map (λ at. record { offset = p.offset - gap; header = p.header; text_at = at })) (text-same p.header (frame_bytes file (nearer_frame gap p)) (frame_bytes old p) same)
     ∙ placed gap p (head_text_of p.header (frame_bytes old p))
+
+area_placed : (old file : List ℕ) (gap : ℕ) (p : PlacedFrame) (o : Option ℕ) → area_bytes file (p.offset - gap) p.header ≡ area_bytes old p.offset p.header
+    → head_bytes file (option_map (nearer_head gap) (option_map (λ at. record { offset = p.offset; header = p.header; text_at = at }) o)) ≡ head_bytes old (option_map (λ at. record { offset = p.offset; header = p.header; text_at = at }) o)
+area_placed old file gap p (Some at) same = same
+area_placed old file gap p None same = refl
+
+-- a head's area, where the frame's area is the same so many bytes nearer to the front of another file
+pub head_bytes-nearer : (old file : List ℕ) (gap : ℕ) (p : PlacedFrame) → area_bytes file (p.offset - gap) p.header ≡ area_bytes old p.offset p.header
+    → head_bytes file (option_map (nearer_head gap) (head_of old p)) ≡ head_bytes old (head_of old p)
+unfolding head_of
+head_bytes-nearer old file gap p same = area_placed old file gap p (head_text_of p.header (frame_bytes old p)) same
+
+-- the area of a frame is what stands behind its side information
+pub area-frame : (file : List ℕ) (p : PlacedFrame) → overhead_of (class_of p.header) p.header.protected ≤ length_of (class_of p.header) p.header.slot
+    → area_bytes file p.offset p.header ≡ drop (overhead_of (class_of p.header) p.header.protected) (frame_bytes file p)
+unfolding area_of
+area-frame file p room =
+    let over = overhead_of (class_of p.header) p.header.protected in
+    let size = length_of (class_of p.header) p.header.slot in
+    let split : over + (size - over) ≡ size = omega (arith, room) in
+    sym (drop-take over (size - over) (drop p.offset file)) ∙ ap (λ n. drop over (take n (drop p.offset file))) split
