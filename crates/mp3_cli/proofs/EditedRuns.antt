@@ -67,7 +67,7 @@ abbrev pub first_bytes : Shift → List ℕ → PlacedFrame → Option Head → 
 first_bytes shift file first None = moved_frame shift first.header (frame_bytes file first)
 first_bytes shift file first (Some head) = frame_bytes file first
 
-moved_first : (shift : Shift) (file : List ℕ) (first : PlacedFrame) (ps : List Placed) (o : Option Head)
+pub moved_first : (shift : Shift) (file : List ℕ) (first : PlacedFrame) (ps : List Placed) (o : Option Head)
     → moved_stream shift file o (record { offset = first.offset; item = Frame first.header } ∷ ps) ≡ first_bytes shift file first o ++ moved_items shift file ps
 moved_first shift file first ps None = moved-cons shift file (record { offset = first.offset; item = Frame first.header }) ps
 moved_first shift file first ps (Some head) = ap (λ l. l ++ moved_items shift file ps) (append-nil (frame_bytes file first))
@@ -125,21 +125,22 @@ module _ (shift : Shift) (file : List ℕ) (allowed : ℕ) (start : Start) (all 
   pub front_ends : AreEndToEnd file 0 front.items front.stop
   front_ends = run-ends Front file 0
 
-  later_ends : AreEndToEnd file (first + size) later.items later.stop
+  pub later_ends : AreEndToEnd file (first + size) later.items later.stop
   later_ends = run-ends Stream file (first + size)
 
-  later_of : AreOf Stream later.items
+  pub later_of : AreOf Stream later.items
   later_of = run-of Stream file (first + size)
 
   pub ends : AreEndToEnd file first items later.stop
   ends = (refl, first_whole.is, first_whole.within, later_ends)
 
+  pub items_bytes : bytes_of file items ≡ drop first file
+  items_bytes = ap (λ (r : Run). bytes_of file r.items) (sym stream_is) ∙ walk-bytes file start (frames_from file start) (stream_of file start).stop refl read.end
+
   pub stop_is : later.stop ≡ length file
   stop_is =
       let kept : AreItems items (bytes_of file items) = kept_items file first items later.stop all ends (refl, later_of) in
-      let bytes : bytes_of file items ≡ drop first file =
-      ap (λ (r : Run). bytes_of file r.items) (sym stream_is) ∙ walk-bytes file start (frames_from file start) (stream_of file start).stop refl read.end in
-      omega (arith, items-length file first items later.stop (bytes_of file items) ends kept, ap length bytes, length-drop first file, first_whole.within, first_whole.some)
+      omega (arith, items-length file first items later.stop (bytes_of file items) ends kept, ap length items_bytes, length-drop first file, first_whole.within, first_whole.some)
 
   -- ---- the bytes
 
@@ -171,7 +172,7 @@ module _ (shift : Shift) (file : List ℕ) (allowed : ℕ) (start : Start) (all 
       ap (λ (r : Run). before ++ moved_stream shift file head r.items) stream_is
       ∙ ap (λ l. before ++ l) (moved_first shift file start.first later.items head)
 
-  before_long : length before ≡ front_end
+  pub before_long : length before ≡ front_end
   before_long = omega (arith, items-length file 0 front.items front.stop before front_ends before_are, front_stop)
 
   pub new-stands : drop front_end new_file ≡ own ++ after
@@ -227,16 +228,17 @@ module _ (shift : Shift) (file : List ℕ) (allowed : ℕ) (start : Start) (all 
 
   -- ---- frames and blocks
 
-  place : first - gap ≡ front_end
+  pub place : first - gap ≡ front_end
   place = omega (arith, front_low)
 
   pub nearer_first : nearer_frame gap start.first ≡ (moved_start start).first
   nearer_first = ap (λ n. record { offset = n; header = h }) place
 
+  pub new-later : drop (front_end + size) new_file ≡ after ++ []
+  new-later = sym (drop-drop size front_end new_file) ∙ ap (drop size) new-stands ∙ drop_at own after size (own_by head).size ∙ sym (append-nil after)
+
   later_moved : AreMovedAt shift file new_file gap (frames_of later.items)
-  later_moved =
-      frames_moved shift file new_file gap (first + size) (front_end + size) later.items later.stop [] all later_ends later_of (omega (arith, front_low))
-      (sym (drop-drop size front_end new_file) ∙ ap (drop size) new-stands ∙ drop_at own after size (own_by head).size ∙ sym (append-nil after))
+  later_moved = frames_moved shift file new_file gap (first + size) (front_end + size) later.items later.stop [] all later_ends later_of (omega (arith, front_low)) new-later
 
   moved_by : (o : Option Head) → drop front_end new_file ≡ first_bytes shift file start.first o ++ after → AreMovedAt shift file new_file gap (numbered o (start.first ∷ frames_of later.items))
   moved_by None is = (record { whole = first_frame; rest = after; stands = ap (λ n. drop n new_file) place ∙ is }, later_moved)
@@ -258,7 +260,7 @@ module _ (shift : Shift) (file : List ℕ) (allowed : ℕ) (start : Start) (all 
   new_own : frame_bytes new_file (moved_start start).first ≡ own
   new_own = ap (take size) new-stands ∙ take_at own after size (own_by head).size
 
-  near_own : frame_bytes new_file (nearer_frame gap start.first) ≡ own
+  pub near_own : frame_bytes new_file (nearer_frame gap start.first) ≡ own
   near_own = ap (frame_bytes new_file) nearer_first ∙ new_own
 
   pub new-head : head_of new_file (moved_start start).first ≡ option_map (nearer_head gap) head

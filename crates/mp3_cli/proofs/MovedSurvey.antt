@@ -188,7 +188,7 @@ module _ (shift : Shift) (file : List ℕ) (allowed : ℕ) (start : Start) (all 
   moved_frames : AreMovedAt shift file new gap (frames_from file start)
   moved_frames = frames-moved shift file allowed start all read
 
-  new-rows : rows_of new (frames_from new (moved_start start)) ≡ map (moved_row shift gap) rows
+  pub new-rows : rows_of new (frames_from new (moved_start start)) ≡ map (moved_row shift gap) rows
   new-rows = ap (rows_of new) (new-frames shift file allowed start all read) ∙ rows-moved shift file new gap (frames_from file start) moved_frames
 
   no_faults : all_faults new (head_of new (moved_start start).first) (class_from (moved_start start)) allowed [] (rows_of new (frames_from new (moved_start start))) ≡ []

@@ -1,5 +1,5 @@
 -- What a change of gains makes of the survey of a file, and of the stream that the file holds.
-use Rattle.std.specs.Prelude.{◌≡◌, ℕ, ◌+◌, ◌-◌, nat_lt, if◌then◌else◌, List, length, map, option_map, Ok}
+use Rattle.std.specs.Prelude.{◌≡◌, ℕ, ◌-◌, nat_lt, if◌then◌else◌, List, ◌++◌, take, drop, map, option_map}
 use Rattle.sync_survey.specs.declared.places.Head.{Head}
 use Rattle.sync_survey.specs.declared.places.Piece.{Piece}
 use Rattle.sync_survey.specs.declared.rows.Row.{Row}
@@ -38,6 +38,10 @@ moved_survey shift s = record {
   class = s.class;
   length = s.length - junk_length s;
 }
+
+-- the bytes of the file but for the junk before its first frame
+abbrev pub without_junk : SurveyFields → List ℕ → List ℕ
+without_junk s file = take s.junk file ++ drop s.first file
 
 -- ---- the stream
 
