@@ -1,26 +1,24 @@
 -- The items of a file with moved gains are the same items, and its frames stand where they stood.
-use Rattle.std.proofs.Common.{◌≡◌, ℕ, ◌+◌, ◌-◌, ◌≤◌, true, false, List, [], ◌∷◌, ◌++◌, length, take, drop, Option, Some, None, Ok, refl, sym, ◌∙◌, ap, subst, arith, append_assoc, append-nil, length-drop}
+use Rattle.std.proofs.Common.{◌≡◌, ℕ, ◌+◌, ◌-◌, ◌≤◌, true, List, [], ◌∷◌, ◌++◌, length, take, drop, refl, sym, ◌∙◌, ap, arith, append_assoc, length-drop}
 use Rattle.std.specs.List.{cons_option}
 use Rattle.std.proofs.lemmas.Bool.{false≢true}
 use Rattle.std.proofs.lemmas.List.{drop-drop, drop_at, take-take, length-take-le}
 use Rattle.bit_fields.specs.Bits.{AreBytes}
 use Rattle.bit_fields.proofs.BitsLaws.{AreBytes-take, AreBytes-drop}
 use Rattle.frame_header.specs.Fields.{HeaderFields}
-use Rattle.frame_header.specs.Tables.{class_of, length_of}
 use Rattle.sync_survey.specs.declared.items.Item.{Item}
 use Rattle.sync_survey.specs.declared.items.Item.TheVariants.{Frame, Free, Block, Zero, End, Nothing}
 use Rattle.sync_survey.specs.declared.places.PlacedFrame.{PlacedFrame}
-use Rattle.sync_survey.specs.declared.places.Head.{Head}
 use Rattle.sync_survey.specs.declared.runs.Part.TheVariants.{Stream}
 use Rattle.sync_survey.specs.Items.{item_at, size_of}
-use Rattle.sync_survey.specs.Runs.{Placed, belongs, AreEndToEnd, AreOf, bytes_in, bytes_of, frame_as, frames_of}
+use Rattle.sync_survey.specs.Runs.{Placed, belongs, AreEndToEnd, AreOf, bytes_in, frame_as, frames_of}
 use Rattle.sync_survey.specs.Walk.{frame_bytes}
 use Rattle.sync_survey.proofs.ItemsLaws.{stands-at, header_front-in_range}
 use Rattle.sync_survey.proofs.ItemBytes.{IsItem, header_front-four, frame-least, kept_item}
 use Rattle.sync_survey.proofs.ItemLists.{AreItems}
 use Rattle.mp3_cli.specs.declared.shift.Shift.{Shift}
-use Rattle.mp3_cli.specs.Edited.{moved_frame, moved_item, moved_items, moved_stream}
-use Rattle.mp3_cli.proofs.MovedFrame.{IsWhole, IsMoved, moved_whole, whole_item}
+use Rattle.mp3_cli.specs.Edited.{moved_frame, moved_item, moved_items}
+use Rattle.mp3_cli.proofs.MovedFrame.{IsWhole, moved_whole, whole_item}
 
 -- ---- one item
 

@@ -1,28 +1,26 @@
 -- The runs of the edited file are those of the file, without the junk between them.
-use Rattle.std.proofs.Common.{◌≡◌, ℕ, ◌+◌, ◌-◌, ◌<◌, ◌≤◌, leb, true, false, cond, List, [], ◌∷◌, ◌++◌, length, take, drop, map, Option, Some, None, option_map, Ok, Err, inl, inr, refl, sym, ◌∙◌, ap, ap₂, subst, arith, append_assoc, append-nil, length-append, length-drop}
-use Rattle.std.specs.Prelude.{◌⊎◌}
+use Rattle.std.proofs.Common.{◌≡◌, ℕ, ◌+◌, ◌-◌, ◌≤◌, true, List, [], ◌∷◌, ◌++◌, length, take, drop, map, Option, Some, None, option_map, Ok, inl, inr, refl, sym, ◌∙◌, ap, ap₂, subst, arith, append-nil, length-append, length-drop}
 use Rattle.std.proofs.lemmas.Bool.{le-leb}
 use Rattle.std.proofs.lemmas.List.{drop-drop, take_at, drop_at}
 use Rattle.bit_fields.specs.Bits.{AreBytes}
 use Rattle.bit_fields.proofs.BitsLaws.{AreBytes-append}
 use Rattle.frame_header.specs.Fields.{HeaderFields}
-use Rattle.frame_header.specs.Tables.{class_of, length_of, overhead_of}
-use Rattle.sync_survey.specs.declared.items.Item.{Item}
+use Rattle.frame_header.specs.Tables.{class_of, overhead_of}
 use Rattle.sync_survey.specs.declared.items.Item.TheVariants.{Frame}
 use Rattle.sync_survey.specs.declared.places.PlacedFrame.{PlacedFrame}
 use Rattle.sync_survey.specs.declared.places.Piece.{Piece}
 use Rattle.sync_survey.specs.declared.places.Head.{Head}
 use Rattle.sync_survey.specs.declared.places.Start.{Start}
 use Rattle.sync_survey.specs.declared.runs.Part.TheVariants.{Front, Stream}
-use Rattle.sync_survey.specs.Items.{item_at, item_front, size_of, fits}
-use Rattle.sync_survey.specs.Runs.{Placed, Run, behind, whole, item_of, run, AreEndToEnd, AreOf, bytes_in, bytes_of, frames_of, blocks_of}
-use Rattle.sync_survey.specs.Start.{start_at, front_end_of, start_of, IsLeastStart, longest_junk, is_anchored, IsLeast}
+use Rattle.sync_survey.specs.Items.{item_at, size_of, fits}
+use Rattle.sync_survey.specs.Runs.{Placed, Run, whole, item_of, run, AreEndToEnd, AreOf, bytes_of, frames_of, blocks_of}
+use Rattle.sync_survey.specs.Start.{start_at, front_end_of, start_of, IsLeastStart}
 use Rattle.sync_survey.specs.Walk.{stream_of, frame_bytes, head_of, numbered, all_blocks}
 use Rattle.sync_survey.proofs.RunsLaws.{IsItemOf, item_of-past, run-next, run-ends}
 use Rattle.sync_survey.proofs.StartLaws.{start-first}
 use Rattle.sync_survey.proofs.WalkLaws.{first_item, walk-bytes}
-use Rattle.sync_survey.proofs.ItemBytes.{IsItem, kept_item}
-use Rattle.sync_survey.proofs.ItemLists.{AreItems, run-of, front_of, ends-within, items-bytes, items-length, kept_items, nearer, item_at-known, items-run, nearer-none, nearer_frame, nearer_piece, frames-nearer, blocks-nearer}
+use Rattle.sync_survey.proofs.ItemBytes.{IsItem}
+use Rattle.sync_survey.proofs.ItemLists.{AreItems, run-of, front_of, items-bytes, items-length, kept_items, nearer, item_at-known, items-run, nearer-none, nearer_frame, nearer_piece, frames-nearer, blocks-nearer}
 use Rattle.sync_survey.proofs.HeadSame.{nearer_head, head_of-nearer}
 use Rattle.sync_survey.proofs.SurveyParts.{start-front_end, frames_from, told_from, IsRead}
 use Rattle.mp3_cli.specs.declared.shift.Shift.{Shift}

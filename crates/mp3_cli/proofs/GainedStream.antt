@@ -1,5 +1,5 @@
 -- What a change of gains makes of a file is well-formed, and its stream is that of the file with each gain moved.
-use Rattle.std.proofs.Common.{◌≡◌, ℕ, ◌+◌, ◌<◌, ◌≤◌, ltb, Bool, true, false, cond, List, length, map, Option, Some, None, Result, Ok, Err, refl, sym, ◌∙◌, ap, subst, arith}
+use Rattle.std.proofs.Common.{◌≡◌, ℕ, ◌+◌, ◌≤◌, ltb, Bool, true, false, cond, List, length, Option, Some, None, Result, Ok, Err, refl, ◌∙◌, ap, subst, arith}
 use Rattle.std.proofs.lemmas.Bool.{ltb-false}
 use Rattle.bit_fields.specs.Bits.{AreBytes}
 use Rattle.sync_survey.specs.declared.survey_fault.SurveyFault.{SurveyFault}

@@ -1,31 +1,28 @@
 -- A frame with moved gains: what it has in common with the frame, and that moved back it is the frame.
-use Rattle.std.proofs.Common.{◌≡◌, ℕ, ◌+◌, ◌-◌, ◌<◌, ◌≤◌, Bool, true, false, cond, ◌&&◌, ◌||◌, not, eqb, List, [], ◌∷◌, ◌++◌, length, take, drop, map, Option, refl, sym, ◌∙◌, ap, ap₂, subst, codes, arith, ℤ, Ok}
-use Rattle.std.specs.Prelude.{MatchBool, bytes_eq, flat_map}
-use Rattle.std.proofs.lemmas.List.{drop-drop, take_at, drop_at, take-take, length-take-le, take-append-le}
-use Rattle.bit_fields.specs.Bits.{bits, bits_of, bytes, AreBytes}
+use Rattle.std.proofs.Common.{◌≡◌, ℕ, ◌+◌, ◌-◌, ◌<◌, Bool, true, false, cond, List, [], ◌++◌, length, take, drop, refl, sym, ◌∙◌, ap, arith, ℤ, Ok}
+use Rattle.bit_fields.specs.Bits.{bits_of, bytes, AreBytes}
 use Rattle.bit_fields.proofs.BitsLaws.{AreBits-bits_of, AreBytes-bytes, AreBytes-append, AreBytes-take, AreBytes-drop}
-use Rattle.frame_header.specs.Fields.{HeaderFields, ClassFields, IsClass, IsHeader}
+use Rattle.frame_header.specs.Fields.{HeaderFields, ClassFields, IsClass}
 use Rattle.frame_header.specs.Tables.{class_of, side_size_of, overhead_of, length_of}
 use Rattle.frame_header.proofs.HeaderLaws.{IsClass-class_of}
 use Rattle.frame_header.proofs.Lengths.{area_some}
 use Rattle.side_info.specs.declared.granule.Granule.{Granule}
 use Rattle.side_info.specs.declared.side.Side.{Side}
-use Rattle.side_info.specs.Granule.{no_granule, GranuleFits}
-use Rattle.side_info.specs.Side.{granule_in, granules_in, has_granule, side_bits, SideFits}
-use Rattle.side_info.specs.Frame.{side_in, word_said, word_part, frame_with}
+use Rattle.side_info.specs.Side.{granule_in, side_bits}
+use Rattle.side_info.specs.Frame.{side_in, word_part, frame_with}
 use Rattle.side_info.specs.CheckWord.{check_word_of}
-use Rattle.side_info.proofs.SideLaws.{AreBits-side_bits, IsShaped, side_with, each_shaped, class_with, each_class}
-use Rattle.side_info.proofs.FrameLaws.{HasRoom, IsRight, overhead-is, overhead-most, shaped-side_in, fits-side_in, length-frame_with, header-frame_with, area-frame_with, side_in-frame_with, word_said-frame_with, frame_with-again, frame_with-own, side_in-take, word_said-take}
+use Rattle.side_info.proofs.SideLaws.{AreBits-side_bits, each_class}
+use Rattle.side_info.proofs.FrameLaws.{HasRoom, IsRight, overhead-most, shaped-side_in, fits-side_in, length-frame_with, header-frame_with, area-frame_with, side_in-frame_with, word_said-frame_with, frame_with-again, frame_with-own}
 use Rattle.side_info.proofs.LastBytes.{AreAlike, last_granule, last_bytes-frame_with}
 use Rattle.sync_survey.specs.declared.items.Item.TheVariants.{Frame}
 use Rattle.sync_survey.specs.Items.{header_front}
 use Rattle.sync_survey.proofs.ItemsLaws.{header_front-in_range}
-use Rattle.sync_survey.proofs.ItemBytes.{IsItem, header_front-four, frame_item, frame-least}
+use Rattle.sync_survey.proofs.ItemBytes.{IsItem, header_front-four, frame_item}
 use Rattle.mp3_cli.specs.declared.shift.Shift.{Shift}
 use Rattle.mp3_cli.specs.Gains.{left_steps, right_steps, is_silent, moved_gain, moved, moved_side}
 use Rattle.mp3_cli.specs.Edited.{moved_frame}
 use Rattle.mp3_cli.proofs.GainsLaws.{SideFits-moved_side}
-use Rattle.mp3_cli.proofs.GainsBack.{opposite, GainsFit, IsSideBack, IsShaped-moved}
+use Rattle.mp3_cli.proofs.GainsBack.{opposite, IsSideBack, IsShaped-moved}
 
 -- ---- the last two bytes of the side information
 

@@ -1,22 +1,19 @@
 -- The stream of the edited file is that of the file, with the gains of each frame moved.
-use Rattle.std.proofs.Common.{◌≡◌, ℕ, ◌+◌, ◌-◌, ◌*◌, ◌<◌, ◌≤◌, List, [], ◌∷◌, ◌++◌, length, take, drop, map, Option, Some, None, option_map, Ok, refl, sym, ◌∙◌, ap, ap₂, subst, arith}
+use Rattle.std.proofs.Common.{◌≡◌, ℕ, ◌-◌, ◌*◌, ◌≤◌, List, [], ◌∷◌, ◌++◌, take, drop, map, Option, option_map, Ok, refl, sym, ◌∙◌, ap, ap₂, subst, arith}
 use Rattle.std.specs.Prelude.{flat_map}
 use Rattle.bit_fields.specs.Bits.{bits, AreBytes}
-use Rattle.frame_header.specs.Fields.{HeaderFields}
 use Rattle.frame_header.specs.Tables.{class_of, length_of, overhead_of}
-use Rattle.frame_header.proofs.HeaderLaws.{IsClass-class_of}
 use Rattle.side_info.specs.declared.side.Side.{Side}
-use Rattle.side_info.specs.Side.{payload_bits}
 use Rattle.side_info.proofs.SideLaws.{IsShaped}
 use Rattle.sync_survey.specs.declared.places.PlacedFrame.{PlacedFrame}
 use Rattle.sync_survey.specs.declared.places.Head.{Head}
 use Rattle.sync_survey.specs.declared.places.Start.{Start}
 use Rattle.sync_survey.specs.declared.rows.Row.{Row}
 use Rattle.sync_survey.specs.Walk.{frame_bytes, head_of}
-use Rattle.sync_survey.specs.MainData.{rows_of, start_of_data, area_bytes, head_bytes, main_bytes, parts_of, part_lengths, StreamFrame, stream_frame, stream_behind}
+use Rattle.sync_survey.specs.MainData.{rows_of, area_bytes, head_bytes, main_bytes, parts_of, StreamFrame, stream_frame, stream_behind}
 use Rattle.sync_survey.specs.Faults.{SurveyFields, surveyed, stream_of_survey}
 use Rattle.sync_survey.proofs.ItemLists.{nearer_frame}
-use Rattle.sync_survey.proofs.HeadSame.{nearer_head, head_bytes-nearer, area-frame}
+use Rattle.sync_survey.proofs.HeadSame.{head_bytes-nearer, area-frame}
 use Rattle.sync_survey.proofs.SurveyParts.{frames_from, told_from, IsRead, surveyed-parts}
 use Rattle.mp3_cli.specs.declared.shift.Shift.{Shift}
 use Rattle.mp3_cli.specs.Gains.{moved_side}

@@ -5,10 +5,10 @@ use Rattle.std.proofs.lemmas.Bool.{eq-eqb, lt-ltb, le-ltb}
 use Rattle.std.proofs.lemmas.List.{take_at, map-append, map-id, length-map, drop_all}
 use Rattle.std.proofs.lemmas.List.Sums.{sum_by-cons}
 use Rattle.bit_fields.specs.Bits.{AreBytes}
-use Rattle.frame_header.specs.Fields.{HeaderFields, ClassFields}
+use Rattle.frame_header.specs.Fields.{ClassFields}
 use Rattle.frame_header.specs.Tables.{class_of, length_of}
 use Rattle.side_info.specs.declared.side.Side.{Side}
-use Rattle.side_info.specs.Side.{payload_bits, payload_bytes}
+use Rattle.side_info.specs.Side.{payload_bytes}
 use Rattle.side_info.specs.CheckWord.{check_word_of}
 use Rattle.side_info.specs.Frame.{side_in, word_said}
 use Rattle.side_info.proofs.SideLaws.{IsShaped}
@@ -25,20 +25,19 @@ use Rattle.sync_survey.specs.Items.{item_at}
 use Rattle.sync_survey.specs.Runs.{Run, run, blocks_of}
 use Rattle.sync_survey.specs.Walk.{stream_of, frame_bytes, head_of, all_blocks, fault_at, end_fault}
 use Rattle.sync_survey.specs.MainData.{row_of, rows_of, own_area, head_area, is_silent, start_of_data, place_behind, end_behind}
-use Rattle.sync_survey.specs.Faults.{has_wrong_word, points_too_far, overlaps, overruns, all_faults, class_from, SurveyFields, surveyed}
+use Rattle.sync_survey.specs.Faults.{has_wrong_word, all_faults, class_from, SurveyFields, surveyed}
 use Rattle.sync_survey.proofs.OneItem.{stands-only_at}
 use Rattle.sync_survey.proofs.RunsLaws.{run-ends}
 use Rattle.sync_survey.proofs.ItemLists.{run-of, front_of, nearer_frame, nearer_piece, blocks-between}
-use Rattle.sync_survey.proofs.HeadSame.{nearer_head}
 use Rattle.sync_survey.proofs.SurveyParts.{frames_from, told_from, IsRead, surveyed-told, surveyed-parts, IsSound, AreSound, all_faults-none_sound, sound-no_all_faults}
 use Rattle.mp3_cli.specs.declared.shift.Shift.{Shift}
 use Rattle.mp3_cli.specs.Gains.{moved_side}
 use Rattle.mp3_cli.specs.Edited.{moved_frame, edited}
-use Rattle.mp3_cli.specs.Streams.{junk_length, moved_row, moved_head, moved_block, moved_survey}
+use Rattle.mp3_cli.specs.Streams.{moved_row, moved_head, moved_block, moved_survey}
 use Rattle.mp3_cli.proofs.GainsBack.{payload_bits-moved, payload-moved, begin-moved}
-use Rattle.mp3_cli.proofs.MovedFrame.{IsWhole, whole_room, IsMoved, moved_whole}
+use Rattle.mp3_cli.proofs.MovedFrame.{whole_room, IsMoved, moved_whole}
 use Rattle.mp3_cli.proofs.EditedItems.{IsMovedAt, AreMovedAt}
-use Rattle.mp3_cli.proofs.EditedRuns.{gap_of, moved_start, new_file, first_whole, front_low, stream_is, stop_is, front_ends, front_stop, new-bytes, new-length, new-stream, new-start, new-head, new-frames, new-blocks, frames-moved}
+use Rattle.mp3_cli.proofs.EditedRuns.{gap_of, moved_start, new_file, front_low, stream_is, stop_is, front_stop, new-length, new-stream, new-start, new-head, new-frames, new-blocks, frames-moved}
 
 -- ---- a frame that stands with moved gains in another file
 

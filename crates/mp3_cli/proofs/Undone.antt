@@ -1,5 +1,5 @@
 -- A change of gains without wrap is undone by the opposite one: all bytes of the file come back, but for the junk.
-use Rattle.std.proofs.Common.{◌≡◌, ℕ, ◌+◌, ◌-◌, ◌<◌, ◌≤◌, ◌==◌, Bool, true, false, cond, ◌&&◌, not, List, [], ◌∷◌, ◌++◌, length, take, drop, map, Option, Some, None, option_map, Result, Ok, refl, sym, ◌∙◌, ap, ap₂, subst, arith, append_assoc, take-append-drop}
+use Rattle.std.proofs.Common.{◌≡◌, ℕ, ◌+◌, ◌-◌, ◌<◌, ◌≤◌, ◌==◌, Bool, true, false, ◌&&◌, not, List, [], ◌∷◌, ◌++◌, length, take, drop, map, Option, Some, None, option_map, Result, Ok, refl, sym, ◌∙◌, ap, ap₂, subst, arith, append_assoc, take-append-drop}
 use Rattle.std.specs.Prelude.{MatchBool}
 use Rattle.std.specs.List.{cons_option}
 use Rattle.std.proofs.lemmas.Bool.{eqb-true}
@@ -24,9 +24,9 @@ use Rattle.sync_survey.specs.declared.runs.Part.TheVariants.{Front, Stream}
 use Rattle.sync_survey.specs.declared.survey_fault.SurveyFault.{SurveyFault}
 use Rattle.sync_survey.specs.Items.{item_at, size_of}
 use Rattle.sync_survey.specs.Runs.{Placed, Run, run, AreEndToEnd, AreOf, bytes_in, bytes_of, frame_as, frames_of}
-use Rattle.sync_survey.specs.Walk.{stream_of, frame_bytes, head_of, numbered}
+use Rattle.sync_survey.specs.Walk.{frame_bytes, head_of, numbered}
 use Rattle.sync_survey.specs.MainData.{row_of, rows_of}
-use Rattle.sync_survey.specs.Faults.{has_wrong_word, class_from, SurveyFields, surveyed, longest_file}
+use Rattle.sync_survey.specs.Faults.{has_wrong_word, class_from, SurveyFields, longest_file}
 use Rattle.sync_survey.specs.Survey.{survey_of}
 use Rattle.sync_survey.proofs.RunsLaws.{run-ends, bytes-ends}
 use Rattle.sync_survey.proofs.FoldersLaws.{survey_of-short}
@@ -40,11 +40,11 @@ use Rattle.mp3_cli.specs.Gains.{moved_side, stuck_in}
 use Rattle.mp3_cli.specs.Edited.{moved_frame, moved_item, moved_items, moved_stream, edited, stuck_fault, range_fault, most_frames, gained}
 use Rattle.mp3_cli.specs.Streams.{moved_row, without_junk}
 use Rattle.mp3_cli.proofs.GainsBack.{opposite, GainsFit, IsSideBack, side_back}
-use Rattle.mp3_cli.proofs.MovedFrame.{IsWhole, whole_class, whole_room, frame_back}
+use Rattle.mp3_cli.proofs.MovedFrame.{whole_class, whole_room, frame_back}
 use Rattle.mp3_cli.proofs.EditedItems.{frame_whole, moved_own, moved-nil, moved-cons, IsMovedAt, AreMovedAt}
-use Rattle.mp3_cli.proofs.EditedRuns.{gap_of, moved_start, new_file, first_bytes, moved_first, first_whole, front_low, stream_is, later_ends, later_of, items_bytes, front_ends, front_stop, new-before, new-bytes, new-length, new-later, new-front, new-stream, new-head, place, near_own, first_frame, frames-moved}
+use Rattle.mp3_cli.proofs.EditedRuns.{gap_of, moved_start, new_file, first_bytes, moved_first, front_low, stream_is, later_ends, later_of, items_bytes, front_stop, new-before, new-bytes, new-length, new-later, new-front, new-stream, new-head, near_own, first_frame, frames-moved}
 use Rattle.mp3_cli.proofs.MovedSurvey.{new-rows, new-read}
-use Rattle.mp3_cli.proofs.GainedStream.{IsGained, gained-parts, gained-ok, survey_of-parts}
+use Rattle.mp3_cli.proofs.GainedStream.{gained-parts, gained-ok, survey_of-parts}
 
 -- ---- the gains of a frame
 

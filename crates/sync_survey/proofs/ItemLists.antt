@@ -1,5 +1,5 @@
 -- Bytes that are items, one behind the other: where they stand in a file, the items stand end to end.
-use Rattle.std.proofs.Common.{◌≡◌, ℕ, zero, suc, ◌+◌, ◌-◌, ◌<◌, ◌≤◌, Bool, true, false, List, [], ◌∷◌, ◌++◌, length, take, drop, map, Option, Some, None, refl, sym, ◌∙◌, ap, ap₂, subst, arith, append_assoc, length-append, length-drop}
+use Rattle.std.proofs.Common.{◌≡◌, ℕ, zero, suc, ◌+◌, ◌-◌, ◌<◌, ◌≤◌, true, List, [], ◌∷◌, ◌++◌, length, drop, map, Option, Some, None, refl, sym, ◌∙◌, ap, ap₂, subst, arith, append_assoc, length-append, length-drop}
 use Rattle.std.specs.List.{cons_option}
 use Rattle.std.proofs.lemmas.List.{drop-drop, drop_at}
 use Rattle.bit_fields.specs.Bits.{AreBytes}
@@ -100,8 +100,7 @@ items-end old file gap from at (p ∷ ps) to bytes behind ends there are all wit
     let stands : drop at file ≡ own ++ (rest ++ behind) = is ∙ ap (λ l. l ++ behind) are.2 ∙ append_assoc own rest behind in
     let room : at + size ≤ length file = omega (arith, within, ap length stands, length-drop at file, length-append own (rest ++ behind), are.3.size) in
     let next : drop (p.offset - gap + size) file ≡ rest ++ behind =
-    ap (λ n. drop (n + size) file) place ∙ sym (drop-drop size at file) ∙ ap (drop size) stands ∙ drop_at own (rest ++ behind) size are.3.size in
-    (
+    ap (λ n. drop (n + size) file) place ∙ sym (drop-drop size at file) ∙ ap (drop size) stands ∙ drop_at own (rest ++ behind) size are.3.size in (
       place,
       item_at-known file (p.offset - gap) at (own ++ (rest ++ behind)) p.item place stands (are.3.known (rest ++ behind) (AreBytes-append rest behind (items-bytes ps rest are.4) all)),
       omega (arith, place, room),

@@ -1,12 +1,10 @@
 -- What a survey without fault says of a file: where its stream starts, and that nothing is at fault from there on.
-use Rattle.std.proofs.Common.{◌≡◌, ◌≢◌, ℕ, zero, suc, ◌+◌, ◌-◌, ◌<◌, ◌≤◌, ◌==◌, Bool, true, false, cond, List, [], ◌∷◌, ◌++◌, length, drop, map, Option, Some, None, option_map, Result, Ok, Err, inl, inr, refl, sym, ◌∙◌, ap, ap₂, subst, arith}
-use Rattle.std.specs.Prelude.{option_to_list, not, ◌⊎◌}
+use Rattle.std.proofs.Common.{◌≡◌, ℕ, ◌+◌, ◌<◌, ◌≤◌, ◌==◌, Bool, true, false, cond, List, [], ◌∷◌, ◌++◌, length, Option, Some, None, option_map, Result, Ok, Err, refl, sym, ◌∙◌, ap, ap₂, arith}
+use Rattle.std.specs.Prelude.{option_to_list, not}
 use Rattle.std.proofs.lemmas.Bool.{ne_eqb}
 use Rattle.std.proofs.lemmas.List.{length-map}
-use Rattle.frame_header.specs.Fields.{HeaderFields, ClassFields}
+use Rattle.frame_header.specs.Fields.{ClassFields}
 use Rattle.frame_header.specs.Tables.{class_of}
-use Rattle.side_info.specs.CheckWord.{check_word_of}
-use Rattle.side_info.specs.Frame.{word_said}
 use Rattle.sync_survey.specs.declared.items.Item.{Item}
 use Rattle.sync_survey.specs.declared.items.Item.TheVariants.{Frame, Free, Block, Zero, End, Nothing}
 use Rattle.sync_survey.specs.declared.places.PlacedFrame.{PlacedFrame}
@@ -15,17 +13,15 @@ use Rattle.sync_survey.specs.declared.places.Start.{Start}
 use Rattle.sync_survey.specs.declared.places.WalkFault.{WalkFault}
 use Rattle.sync_survey.specs.declared.rows.Row.{Row}
 use Rattle.sync_survey.specs.declared.survey_fault.SurveyFault.{SurveyFault}
-use Rattle.sync_survey.specs.declared.survey_fault.SurveyFault.TheVariants.{Mixed, CheckWord, BackPointer, Overlap, Overrun, TooManyFrames}
 use Rattle.sync_survey.specs.declared.runs.Part.TheVariants.{Stream}
 use Rattle.sync_survey.specs.Items.{item_at, fits, same_class}
 use Rattle.sync_survey.specs.Runs.{frames_of}
-use Rattle.sync_survey.specs.Start.{first_anchored, longest_junk, start_behind, start_at, front_end_of, start_of}
+use Rattle.sync_survey.specs.Start.{start_behind, start_at, front_end_of, start_of}
 use Rattle.sync_survey.specs.Walk.{stream_of, head_of, numbered, all_blocks, fault_at, end_fault, walk_from}
 use Rattle.sync_survey.specs.MainData.{row_of, rows_of, place_behind, end_behind}
-use Rattle.sync_survey.specs.Faults.{where_true, has_wrong_word, points_too_far, overlaps, overruns, data_faults, faults_at, frame_faults, all_faults, as_survey, first_of, class_from, faults_from, SurveyFields, fields_from, unless_fault, survey_by, surveyed}
+use Rattle.sync_survey.specs.Faults.{where_true, has_wrong_word, points_too_far, overlaps, overruns, faults_at, all_faults, as_survey, first_of, class_from, faults_from, SurveyFields, fields_from, unless_fault, survey_by, surveyed}
 use Rattle.sync_survey.proofs.FaultsLaws.{none-of}
 use Rattle.sync_survey.proofs.SurveyLaws.{told_by, survey-whole}
-use Rattle.sync_survey.proofs.WalkLaws.{IsFound}
 use Rattle.sync_survey.proofs.RunsLaws.{run-ends}
 use Rattle.sync_survey.proofs.StartLaws.{start-first}
 use Rattle.sync_survey.proofs.ItemLists.{run-of, ends-within, frames-few}
