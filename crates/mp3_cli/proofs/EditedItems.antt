@@ -11,11 +11,11 @@ use Rattle.sync_survey.specs.declared.items.Item.TheVariants.{Frame, Free, Block
 use Rattle.sync_survey.specs.declared.places.PlacedFrame.{PlacedFrame}
 use Rattle.sync_survey.specs.declared.runs.Part.TheVariants.{Stream}
 use Rattle.sync_survey.specs.Items.{item_at, size_of}
-use Rattle.sync_survey.specs.Runs.{Placed, belongs, AreEndToEnd, AreOf, bytes_in, frame_as, frames_of}
+use Rattle.sync_survey.specs.Runs.{Placed, belongs, bytes_in, frame_as, frames_of}
 use Rattle.sync_survey.specs.Walk.{frame_bytes}
 use Rattle.sync_survey.proofs.ItemsLaws.{stands-at, header_front-in_range}
 use Rattle.sync_survey.proofs.ItemBytes.{IsItem, header_front-four, frame-least, kept_item}
-use Rattle.sync_survey.proofs.ItemLists.{AreItems}
+use Rattle.sync_survey.proofs.ItemLists.{AreOf, StandEndToEnd, AreItems}
 use Rattle.mp3_cli.specs.declared.shift.Shift.{Shift}
 use Rattle.mp3_cli.specs.Edited.{moved_frame, moved_item, moved_items}
 use Rattle.mp3_cli.proofs.MovedFrame.{IsWhole, moved_whole, whole_item}
@@ -55,7 +55,7 @@ pub moved-cons : (shift : Shift) (file : List ℕ) (p : Placed) (ps : List Place
 unfolding moved_items
 moved-cons shift file p ps = refl
 
-pub moved_are : (shift : Shift) (file : List ℕ) (from : ℕ) (ps : List Placed) (to : ℕ) → AreBytes file → AreEndToEnd file from ps to → AreOf Stream ps → AreItems ps (moved_items shift file ps)
+pub moved_are : (shift : Shift) (file : List ℕ) (from : ℕ) (ps : List Placed) (to : ℕ) → AreBytes file → StandEndToEnd file from ps to → AreOf Stream ps → AreItems ps (moved_items shift file ps)
 moved_are shift file from [] to all ends of = moved-nil shift file
 moved_are shift file from (p ∷ ps) to all ends of = (
   moved_item shift p.item (bytes_in file p),
@@ -86,7 +86,7 @@ frame_more shift file new gap at Zero rest frames all is within stands later = l
 frame_more shift file new gap at End rest frames all is within stands later = later
 frame_more shift file new gap at Nothing rest frames all is within stands later = later
 
-pub frames_moved : (shift : Shift) (file new : List ℕ) (gap from at : ℕ) (ps : List Placed) (to : ℕ) (behind : List ℕ) → AreBytes file → AreEndToEnd file from ps to → AreOf Stream ps → from ≡ at + gap
+pub frames_moved : (shift : Shift) (file new : List ℕ) (gap from at : ℕ) (ps : List Placed) (to : ℕ) (behind : List ℕ) → AreBytes file → StandEndToEnd file from ps to → AreOf Stream ps → from ≡ at + gap
     → drop at new ≡ moved_items shift file ps ++ behind → AreMovedAt shift file new gap (frames_of ps)
 frames_moved shift file new gap from at [] to behind all ends of there is = tt
 frames_moved shift file new gap from at (p ∷ ps) to behind all ends of there is =

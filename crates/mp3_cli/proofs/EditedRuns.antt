@@ -1,5 +1,6 @@
 -- The runs of the edited file are those of the file, without the junk between them.
 use Rattle.std.proofs.Common.{◌≡◌, ℕ, ◌+◌, ◌-◌, ◌≤◌, true, List, [], ◌∷◌, ◌++◌, length, take, drop, map, Option, Some, None, option_map, Ok, inl, inr, refl, sym, ◌∙◌, ap, ap₂, subst, arith, append-nil, length-append, length-drop}
+use Rattle.std.proofs.Math.Seq.{drop-length}
 use Rattle.std.proofs.lemmas.Bool.{le-leb}
 use Rattle.std.proofs.lemmas.List.{drop-drop, take_at, drop_at}
 use Rattle.bit_fields.specs.Bits.{AreBytes}
@@ -13,14 +14,14 @@ use Rattle.sync_survey.specs.declared.places.Head.{Head}
 use Rattle.sync_survey.specs.declared.places.Start.{Start}
 use Rattle.sync_survey.specs.declared.runs.Part.TheVariants.{Front, Stream}
 use Rattle.sync_survey.specs.Items.{item_at, size_of, fits}
-use Rattle.sync_survey.specs.Runs.{Placed, Run, whole, item_of, run, AreEndToEnd, AreOf, bytes_of, frames_of, blocks_of}
+use Rattle.sync_survey.specs.Runs.{Placed, Run, whole, item_of, run, bytes_of, frames_of, blocks_of}
 use Rattle.sync_survey.specs.Start.{start_at, front_end_of, start_of, IsLeastStart}
 use Rattle.sync_survey.specs.Walk.{stream_of, frame_bytes, head_of, numbered, all_blocks}
-use Rattle.sync_survey.proofs.RunsLaws.{IsItemOf, item_of-past, run-next, run-ends}
+use Rattle.sync_survey.proofs.RunsLaws.{IsItemOf, item_of-past, run-next}
 use Rattle.sync_survey.proofs.StartLaws.{start-first}
-use Rattle.sync_survey.proofs.WalkLaws.{first_item, walk-bytes}
+use Rattle.sync_survey.proofs.WalkLaws.{first_item, reach-end}
 use Rattle.sync_survey.proofs.ItemBytes.{IsItem}
-use Rattle.sync_survey.proofs.ItemLists.{AreItems, run-of, front_of, items-bytes, items-length, kept_items, nearer, item_at-known, items-run, nearer-none, nearer_frame, nearer_piece, frames-nearer, blocks-nearer}
+use Rattle.sync_survey.proofs.ItemLists.{AreOf, StandEndToEnd, run-stands, AreItems, run-of, front_of, items-bytes, items-length, kept_items, nearer, item_at-known, items-run, nearer-none, nearer_frame, nearer_piece, frames-nearer, blocks-nearer}
 use Rattle.sync_survey.proofs.HeadSame.{nearer_head, head_of-nearer}
 use Rattle.sync_survey.proofs.SurveyParts.{start-front_end, frames_from, told_from, IsRead}
 use Rattle.mp3_cli.specs.declared.shift.Shift.{Shift}
@@ -120,20 +121,21 @@ module _ (shift : Shift) (file : List ℕ) (allowed : ℕ) (start : Start) (all 
   pub stream_is : stream_of file start ≡ record { items = items; stop = later.stop }
   stream_is = run-next Stream file first (Frame h) (first_item file start.first first_whole.is first_whole.within)
 
-  pub front_ends : AreEndToEnd file 0 front.items front.stop
-  front_ends = run-ends Front file 0
+  pub front_ends : StandEndToEnd file 0 front.items front.stop
+  front_ends = run-stands Front file 0
 
-  pub later_ends : AreEndToEnd file (first + size) later.items later.stop
-  later_ends = run-ends Stream file (first + size)
+  pub later_ends : StandEndToEnd file (first + size) later.items later.stop
+  later_ends = run-stands Stream file (first + size)
 
   pub later_of : AreOf Stream later.items
   later_of = run-of Stream file (first + size)
 
-  pub ends : AreEndToEnd file first items later.stop
+  pub ends : StandEndToEnd file first items later.stop
   ends = (refl, first_whole.is, first_whole.within, later_ends)
 
   pub items_bytes : bytes_of file items ≡ drop first file
-  items_bytes = ap (λ (r : Run). bytes_of file r.items) (sym stream_is) ∙ walk-bytes file start (frames_from file start) (stream_of file start).stop refl read.end
+  items_bytes = ap (λ (r : Run). bytes_of file r.items) (sym stream_is) ∙ sym (ap (λ l. bytes_of file (stream_of file start).items ++ l) (drop-length file) ∙ append-nil (bytes_of file (stream_of file start).items))
+      ∙ reach-end file start (frames_from file start) (stream_of file start).stop refl read.end
 
   pub stop_is : later.stop ≡ length file
   stop_is =

@@ -23,14 +23,14 @@ use Rattle.sync_survey.specs.declared.rows.Row.{Row}
 use Rattle.sync_survey.specs.declared.runs.Part.TheVariants.{Front, Stream}
 use Rattle.sync_survey.specs.declared.survey_fault.SurveyFault.{SurveyFault}
 use Rattle.sync_survey.specs.Items.{item_at, size_of}
-use Rattle.sync_survey.specs.Runs.{Placed, Run, run, AreEndToEnd, AreOf, bytes_in, bytes_of, frame_as, frames_of}
+use Rattle.sync_survey.specs.Runs.{Placed, Run, run, bytes_in, bytes_of, frame_as, frames_of}
 use Rattle.sync_survey.specs.Walk.{frame_bytes, head_of, numbered}
 use Rattle.sync_survey.specs.MainData.{row_of, rows_of}
 use Rattle.sync_survey.specs.Faults.{has_wrong_word, class_from, SurveyFields, longest_file}
 use Rattle.sync_survey.specs.Survey.{survey_of}
 use Rattle.sync_survey.proofs.RunsLaws.{run-ends, bytes-ends}
 use Rattle.sync_survey.proofs.FoldersLaws.{survey_of-short}
-use Rattle.sync_survey.proofs.ItemLists.{nearer, nearer_frame, run-of, front_of, items-length, kept_items}
+use Rattle.sync_survey.proofs.ItemLists.{AreOf, StandEndToEnd, run-stands, nearer, nearer_frame, run-of, front_of, items-length, kept_items}
 use Rattle.sync_survey.proofs.HeadSame.{nearer_head}
 use Rattle.sync_survey.proofs.SurveyParts.{frames_from, told_from, IsRead, surveyed-told, surveyed-parts, AreSound, all_faults-none_sound}
 use Rattle.mp3_cli.specs.declared.fault.EditFault.{EditFault}
@@ -142,7 +142,7 @@ item_back shift file at Zero frames all is within back = (refl, back)
 item_back shift file at End frames all is within back = (refl, back)
 item_back shift file at Nothing frames all is within back = (refl, back)
 
-items_back : (shift : Shift) (file new : List ℕ) (gap from at : ℕ) (ps : List Placed) (to : ℕ) (behind : List ℕ) → AreBytes file → AreEndToEnd file from ps to → AreOf Stream ps → from ≡ at + gap
+items_back : (shift : Shift) (file new : List ℕ) (gap from at : ℕ) (ps : List Placed) (to : ℕ) (behind : List ℕ) → AreBytes file → StandEndToEnd file from ps to → AreOf Stream ps → from ≡ at + gap
     → drop at new ≡ moved_items shift file ps ++ behind → AreBack shift file (frames_of ps) → moved_items (opposite shift) new (map (nearer gap) ps) ≡ bytes_of file ps
 items_back shift file new gap from at [] to behind all ends of there is back = moved-nil (opposite shift) new
 items_back shift file new gap from at (p ∷ ps) to behind all ends of there is back =
@@ -165,9 +165,9 @@ front_bytes : (file : List ℕ) → AreBytes file → bytes_of file (run Front f
 front_bytes file all =
     let front = run Front file 0 in
     let bytes = bytes_of file front.items in
-    let ends = run-ends Front file 0 in
+    let ends = run-stands Front file 0 in
     let long = items-length file 0 front.items front.stop bytes ends (kept_items file 0 front.items front.stop all ends (front_of front.items (run-of Front file 0))) in
-    sym (ap (take front.stop) (sym (bytes-ends file 0 front.items front.stop ends)) ∙ take_at bytes (drop front.stop file) front.stop (omega (arith, long)))
+    sym (ap (take front.stop) (sym (bytes-ends Front file 0 front.items front.stop (run-ends Front file 0))) ∙ take_at bytes (drop front.stop file) front.stop (omega (arith, long)))
 
 -- ---- the file back
 

@@ -11,10 +11,35 @@ use Rattle.sync_survey.specs.declared.places.Piece.{Piece}
 use Rattle.sync_survey.specs.declared.runs.Part.{Part}
 use Rattle.sync_survey.specs.declared.runs.Part.TheVariants.{Front, Stream}
 use Rattle.sync_survey.specs.Items.{item_front, item_at, size_of}
-use Rattle.sync_survey.specs.Runs.{Placed, belongs, item_of, Run, onward, run_up_to, run, AreEndToEnd, AreOf, bytes_in, bytes_of, frame_as, block_as, frames_of, blocks_of}
+use Rattle.sync_survey.specs.Runs.{Placed, belongs, item_of, Run, onward, run_up_to, run, AreEndToEnd, bytes_in, bytes_of, frame_as, block_as, frames_of, blocks_of}
 use Rattle.sync_survey.proofs.ItemsLaws.{size-some}
-use Rattle.sync_survey.proofs.RunsLaws.{item_of-is, run-only}
+use Rattle.sync_survey.proofs.RunsLaws.{item_of-is, item_of-whole, run-ends, run-only}
 use Rattle.sync_survey.proofs.ItemBytes.{IsItem, kept_item}
+
+-- ---- items end to end, whatever part they are of
+
+-- these items are of the part
+abbrev pub AreOf : Part → List Placed → Type 0
+AreOf part [] = Unit {0}
+AreOf part (p ∷ ps) = (belongs part p.item ≡ true) × AreOf part ps
+
+-- these items stand end to end in the file, from one offset to another
+abbrev pub StandEndToEnd : List ℕ → ℕ → List Placed → ℕ → Type 0
+StandEndToEnd file from [] to = from ≡ to
+StandEndToEnd file from (p ∷ ps) to = (p.offset ≡ from) × (item_at file p.offset ≡ p.item) × (p.offset + size_of p.item ≤ length file) × StandEndToEnd file (p.offset + size_of p.item) ps to
+
+pub ends-stand : (part : Part) (file : List ℕ) (from : ℕ) (ps : List Placed) (to : ℕ) → AreEndToEnd part file from ps to → StandEndToEnd file from ps to
+ends-stand part file from [] to ends = ends
+ends-stand part file from (p ∷ ps) to ends =
+    let here = item_of-is part file p.offset p.item ends.1 in
+    (ends.0, here.is, here.within, ends-stand part file (p.offset + size_of p.item) ps to ends.2)
+
+pub stand-ends : (part : Part) (file : List ℕ) (from : ℕ) (ps : List Placed) (to : ℕ) → StandEndToEnd file from ps to → AreOf part ps → AreEndToEnd part file from ps to
+stand-ends part file from [] to ends of = ends
+stand-ends part file from (p ∷ ps) to ends of = (ends.0, item_of-whole part file p.offset p.item ends.1 of.0 ends.2, stand-ends part file (p.offset + size_of p.item) ps to ends.3 of.1)
+
+pub run-stands : (part : Part) (file : List ℕ) (from : ℕ) → StandEndToEnd file from (run part file from).items (run part file from).stop
+run-stands part file from = ends-stand part file from (run part file from).items (run part file from).stop (run-ends part file from)
 
 -- ---- what belongs to a run
 
@@ -47,11 +72,11 @@ front_of (p ∷ ps) of = (front_belongs p.item of.0, front_of ps of.1)
 
 -- ---- from where to where
 
-pub ends-rise : (file : List ℕ) (from : ℕ) (ps : List Placed) (to : ℕ) → AreEndToEnd file from ps to → from ≤ to
+pub ends-rise : (file : List ℕ) (from : ℕ) (ps : List Placed) (to : ℕ) → StandEndToEnd file from ps to → from ≤ to
 ends-rise file from [] to ends = omega (arith, ends)
 ends-rise file from (p ∷ ps) to ends = omega (arith, ends.0, ends-rise file (p.offset + size_of p.item) ps to ends.3)
 
-pub ends-within : (file : List ℕ) (from : ℕ) (ps : List Placed) (to : ℕ) → AreEndToEnd file from ps to → from ≤ length file → to ≤ length file
+pub ends-within : (file : List ℕ) (from : ℕ) (ps : List Placed) (to : ℕ) → StandEndToEnd file from ps to → from ≤ length file → to ≤ length file
 ends-within file from [] to ends within = omega (arith, ends, within)
 ends-within file from (p ∷ ps) to ends within = ends-within file (p.offset + size_of p.item) ps to ends.3 ends.2
 
@@ -67,13 +92,13 @@ items-bytes [] bytes are = subst AreBytes (sym are) tt
 items-bytes (p ∷ ps) bytes are = subst AreBytes (sym are.2) (AreBytes-append are.0 are.1 are.3.bytes (items-bytes ps are.1 are.4))
 
 -- they are as many as the items have
-pub items-length : (file : List ℕ) (from : ℕ) (ps : List Placed) (to : ℕ) (bytes : List ℕ) → AreEndToEnd file from ps to → AreItems ps bytes → from + length bytes ≡ to
+pub items-length : (file : List ℕ) (from : ℕ) (ps : List Placed) (to : ℕ) (bytes : List ℕ) → StandEndToEnd file from ps to → AreItems ps bytes → from + length bytes ≡ to
 items-length file from [] to bytes ends are = omega (arith, ends, ap length are)
 items-length file from (p ∷ ps) to bytes ends are =
     omega (arith, ends.0, ap length are.2, length-append are.0 are.1, are.3.size, items-length file (p.offset + size_of p.item) ps to are.1 ends.3 are.4)
 
 -- the bytes of items of a file are these items
-pub kept_items : (file : List ℕ) (from : ℕ) (ps : List Placed) (to : ℕ) → AreBytes file → AreEndToEnd file from ps to → AreOf Stream ps → AreItems ps (bytes_of file ps)
+pub kept_items : (file : List ℕ) (from : ℕ) (ps : List Placed) (to : ℕ) → AreBytes file → StandEndToEnd file from ps to → AreOf Stream ps → AreItems ps (bytes_of file ps)
 kept_items file from [] to all ends of = refl
 kept_items file from (p ∷ ps) to all ends of =
     (bytes_in file p, bytes_of file ps, refl, kept_item file p.offset p.item all ends.1 of.0 ends.2, kept_items file (p.offset + size_of p.item) ps to all ends.3 of.1)
@@ -89,8 +114,8 @@ unfolding item_at
 item_at-known file place at bytes item same is known = ap (λ n. item_front (drop n file)) same ∙ ap item_front is ∙ known
 
 -- Where bytes that are items stand in another file, so many bytes nearer to its front, they stand there end to end.
-pub items-end : (old file : List ℕ) (gap from at : ℕ) (ps : List Placed) (to : ℕ) (bytes behind : List ℕ) → AreEndToEnd old from ps to → from ≡ at + gap → AreItems ps bytes → AreBytes behind → at ≤ length file
-    → drop at file ≡ bytes ++ behind → AreEndToEnd file at (map (nearer gap) ps) (to - gap)
+pub items-end : (old file : List ℕ) (gap from at : ℕ) (ps : List Placed) (to : ℕ) (bytes behind : List ℕ) → StandEndToEnd old from ps to → from ≡ at + gap → AreItems ps bytes → AreBytes behind → at ≤ length file
+    → drop at file ≡ bytes ++ behind → StandEndToEnd file at (map (nearer gap) ps) (to - gap)
 items-end old file gap from at [] to bytes behind ends there are all within is = omega (arith, ends, there)
 items-end old file gap from at (p ∷ ps) to bytes behind ends there are all within is =
     let own = are.0 in
@@ -119,10 +144,11 @@ nearer-none (p ∷ ps) =
     λ i. record p { offset = same i } ∷ nearer-none ps i
 
 -- they are the run there, where no further item of the part stands
-pub items-run : (part : Part) (old file : List ℕ) (gap from at : ℕ) (ps : List Placed) (to : ℕ) (bytes behind : List ℕ) → AreEndToEnd old from ps to → AreOf part ps → from ≡ at + gap → AreItems ps bytes → AreBytes behind
+pub items-run : (part : Part) (old file : List ℕ) (gap from at : ℕ) (ps : List Placed) (to : ℕ) (bytes behind : List ℕ) → StandEndToEnd old from ps to → AreOf part ps → from ≡ at + gap → AreItems ps bytes → AreBytes behind
     → at ≤ length file → drop at file ≡ bytes ++ behind → item_of part file (to - gap) ≡ None → run part file at ≡ record { items = map (nearer gap) ps; stop = to - gap }
 items-run part old file gap from at ps to bytes behind ends of there are all within is none =
-    run-only part file at (map (nearer gap) ps) (to - gap) (items-end old file gap from at ps to bytes behind ends there are all within is) (nearer-of part gap ps of) none
+    run-only part file at (map (nearer gap) ps) (to - gap)
+    (stand-ends part file at (map (nearer gap) ps) (to - gap) (items-end old file gap from at ps to bytes behind ends there are all within is) (nearer-of part gap ps of)) none
 
 -- ---- frames and blocks among them
 
@@ -165,7 +191,7 @@ one_mapped f g at End ys same rest = rest
 one_mapped f g at Nothing ys same rest = rest
 
 -- what is done to blocks in front of an offset, and what is done to blocks from an offset on
-pub blocks-between : (f g : Piece → Piece) (file : List ℕ) (low high from : ℕ) (ps : List Placed) (to : ℕ) → ((p : Piece) → low ≤ p.offset → p.offset < high → f p ≡ g p) → AreEndToEnd file from ps to → AreOf Stream ps → low ≤ from → to ≤ high
+pub blocks-between : (f g : Piece → Piece) (file : List ℕ) (low high from : ℕ) (ps : List Placed) (to : ℕ) → ((p : Piece) → low ≤ p.offset → p.offset < high → f p ≡ g p) → StandEndToEnd file from ps to → AreOf Stream ps → low ≤ from → to ≤ high
     → map f (blocks_of ps) ≡ map g (blocks_of ps)
 blocks-between f g file low high from [] to same ends of begin end = refl
 blocks-between f g file low high from (p ∷ ps) to same ends of begin end =
@@ -184,7 +210,7 @@ frame_count at End xs = omega arith
 frame_count at Nothing xs = omega arith
 
 -- there are no more frames than bytes
-pub frames-few : (file : List ℕ) (from : ℕ) (ps : List Placed) (to : ℕ) → AreEndToEnd file from ps to → AreOf Stream ps → from + length (frames_of ps) ≤ to
+pub frames-few : (file : List ℕ) (from : ℕ) (ps : List Placed) (to : ℕ) → StandEndToEnd file from ps to → AreOf Stream ps → from + length (frames_of ps) ≤ to
 frames-few file from [] to ends of = omega (arith, ends)
 frames-few file from (p ∷ ps) to ends of =
     omega (arith, ends.0, size-some Stream file p.offset p.item ends.1 of.0, frame_count p.offset p.item (frames_of ps), frames-few file (p.offset + size_of p.item) ps to ends.3 of.1)

@@ -22,9 +22,8 @@ use Rattle.sync_survey.specs.MainData.{row_of, rows_of, place_behind, end_behind
 use Rattle.sync_survey.specs.Faults.{where_true, has_wrong_word, points_too_far, overlaps, overruns, faults_at, all_faults, as_survey, first_of, class_from, faults_from, SurveyFields, fields_from, unless_fault, survey_by, surveyed}
 use Rattle.sync_survey.proofs.FaultsLaws.{none-of}
 use Rattle.sync_survey.proofs.SurveyLaws.{told_by, survey-whole}
-use Rattle.sync_survey.proofs.RunsLaws.{run-ends}
 use Rattle.sync_survey.proofs.StartLaws.{start-first}
-use Rattle.sync_survey.proofs.ItemLists.{run-of, ends-within, frames-few}
+use Rattle.sync_survey.proofs.ItemLists.{run-stands, run-of, ends-within, frames-few}
 
 -- ---- the start
 
@@ -198,7 +197,7 @@ numbered-few file start is =
     let stream = stream_of file start in
     let first = start.first.offset in
     let frame = (start-first file start is).frame in
-    let ends = run-ends Stream file first in
+    let ends = run-stands Stream file first in
     omega (
       arith,
       length-map (frames_from file start) (row_of file),
