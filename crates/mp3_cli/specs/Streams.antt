@@ -1,11 +1,14 @@
 -- What a change of gains makes of the survey of a file, and of the stream that the file holds.
-use Rattle.std.specs.Prelude.{◌≡◌, ℕ, ◌-◌, nat_lt, if◌then◌else◌, List, ◌++◌, take, drop, map, option_map}
+use Rattle.std.specs.Prelude.{◌≡◌, ℕ, ◌-◌, nat_lt, if◌then◌else◌, List, ◌++◌, take, drop, map, option_map, Ok}
 use Rattle.sync_survey.specs.declared.places.Head.{Head}
 use Rattle.sync_survey.specs.declared.places.Piece.{Piece}
 use Rattle.sync_survey.specs.declared.rows.Row.{Row}
 use Rattle.sync_survey.specs.MainData.{StreamFrame}
 use Rattle.sync_survey.specs.Faults.{SurveyFields, IsWellFormed, stream_of_survey}
+use Rattle.outside.specs.Files.{Files, Holds}
+use Rattle.mp3_cli.specs.declared.jobs.Job.TheVariants.{Gain}
 use Rattle.mp3_cli.specs.declared.shift.Shift.{Shift}
+use Rattle.mp3_cli.specs.Words.{word_at, job_of}
 use Rattle.mp3_cli.specs.Gains.{moved_side}
 
 -- ---- the survey of the edited file
@@ -55,3 +58,15 @@ pub record IsStreamMoved (shift : Shift) (file new : List ℕ) : Type 0 where
   pub before : IsWellFormed file
   pub after : IsWellFormed new
   pub stream : stream_of_survey new after.0 ≡ map (moved_stream_frame shift) (stream_of_survey file before.0)
+
+-- The input was a well-formed file, and the output is one that holds its stream with each gain moved.
+abbrev pub HoldsMovedStream : Shift → List ℕ → List ℕ → Files → Files → Type 0
+HoldsMovedStream shift input output old new = (file made : List ℕ) → Holds old input file → Holds new output made → IsStreamMoved shift file made
+
+-- the same by the words, which ask for a gain command
+pub record MovesStream (words : List (List ℕ)) (old new : Files) : Type 0 where
+  pub shift : Shift
+  pub input : ℕ
+  pub output : ℕ
+  pub job : job_of words ≡ Ok (Gain shift input output)
+  pub moved : HoldsMovedStream shift (word_at words input) (word_at words output) old new
