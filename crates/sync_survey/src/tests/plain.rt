@@ -47,18 +47,18 @@ enum Found {
     Nothing,
 }
 
-fn bit(bytes: &[u8], at: usize) -> u64 {
+fn bit(bytes: &[u8], at: usize) -> bool {
     match bytes.get(at / 8) {
-        Some(byte) => u64::from(*byte >> (7 - at % 8) & 1),
-        None => 0,
+        Some(byte) => *byte >> (7 - at % 8) & 1 == 1,
+        None => false,
     }
 }
 
 /// The number of so many bits, from one on; the first is the most significant.
-fn number(bytes: &[u8], from: usize, count: usize) -> u64 {
+fn number(bytes: &[u8], from: usize, count: usize) -> u32 {
     let mut number = 0;
     for i in 0..count {
-        number = number << 1 | bit(bytes, from.saturating_add(i));
+        number = number << 1 | u32::from(bit(bytes, from.saturating_add(i)));
     }
     number
 }
@@ -68,7 +68,7 @@ fn bytes_from(file: &[u8], at: usize) -> &[u8] {
 }
 
 fn class_at(bytes: &[u8]) -> Option<Class> {
-    let is_mpeg_1 = bit(bytes, 12) == 1;
+    let is_mpeg_1 = bit(bytes, 12);
     let frequencies = if is_mpeg_1 {
         &FREQUENCIES_OF_MPEG_1
     } else {
@@ -101,8 +101,8 @@ fn side_size(class: &Class) -> usize {
 }
 
 fn frame_at(at: usize, bytes: &[u8], class: Class, rate: u16) -> Frame {
-    let is_protected = bit(bytes, 15) == 0;
-    let padding = bit(bytes, 22) as usize;
+    let is_protected = !bit(bytes, 15);
+    let padding = usize::from(bit(bytes, 22));
     let side_at = if is_protected { 6 } else { 4 };
     Frame {
         at,
@@ -296,7 +296,7 @@ fn is_head(file: &[u8], frame: &Frame) -> bool {
 }
 
 /// The lengths in bits of the main data of each granule and channel, summed.
-fn payload_bits(frame: &Frame, bytes: &[u8]) -> u64 {
+fn payload_bits(frame: &Frame, bytes: &[u8]) -> u32 {
     let (first, size, granules) = match (frame.class.is_mpeg_1, frame.class.channels) {
         (true, 2) => (20, 59, 2),
         (true, _) => (18, 59, 2),
@@ -304,7 +304,7 @@ fn payload_bits(frame: &Frame, bytes: &[u8]) -> u64 {
         (false, _) => (9, 63, 1),
     };
     let mut at = frame.side_at.saturating_mul(8).saturating_add(first);
-    let mut sum: u64 = 0;
+    let mut sum: u32 = 0;
     for _ in 0..granules {
         for _ in 0..frame.class.channels {
             sum = sum.saturating_add(number(bytes, at, 12));
@@ -314,17 +314,17 @@ fn payload_bits(frame: &Frame, bytes: &[u8]) -> u64 {
     sum
 }
 
-fn main_data_begin(frame: &Frame, bytes: &[u8]) -> u64 {
+fn main_data_begin(frame: &Frame, bytes: &[u8]) -> u32 {
     let width = if frame.class.is_mpeg_1 { 9 } else { 8 };
     number(bytes, frame.side_at.saturating_mul(8), width)
 }
 
-/// The remainder by x^16 + x^15 + x^2 + 1, bit by bit, from all ones on.
-fn remainder_behind(word: u64, bytes: &[u8], from: usize, to: usize) -> u64 {
+/// The remainder by x^16 + x^15 + x^2 + 1, bit by bit, from this word on.
+fn remainder_behind(word: u16, bytes: &[u8], from: usize, to: usize) -> u16 {
     let mut word = word;
     for at in from..to {
-        let leaves = word >> 15 & 1 != bit(bytes, at);
-        word = word << 1 & 0xffff;
+        let leaves = (word >> 15 == 1) != bit(bytes, at);
+        word <<= 1;
         if leaves {
             word ^= 0x8005;
         }
@@ -332,8 +332,16 @@ fn remainder_behind(word: u64, bytes: &[u8], from: usize, to: usize) -> u64 {
     word
 }
 
-/// The check word of a protected frame is over the second half of the header and the side information.
-fn right_word(frame: &Frame, bytes: &[u8]) -> u64 {
+/// The check word that stands in a protected frame.
+fn word_said(bytes: &[u8]) -> u16 {
+    match bytes {
+        [_, _, _, _, high, low, ..] => u16::from_be_bytes([*high, *low]),
+        _ => 0,
+    }
+}
+
+/// The right one is over the second half of the header and the side information, from all ones on.
+fn word_right(frame: &Frame, bytes: &[u8]) -> u16 {
     let header = remainder_behind(0xffff, bytes, 16, 32);
     let side_at = frame.side_at.saturating_mul(8);
     remainder_behind(header, bytes, side_at, frame.area_at.saturating_mul(8))
@@ -356,8 +364,8 @@ struct Numbered<'a> {
     frame: Frame,
     /// The bytes of the file from the frame on.
     bytes: &'a [u8],
-    begin: u64,
-    bits: u64,
+    begin: u32,
+    bits: u32,
     /// The main data of the file before the frame's own area, in bytes.
     before: u64,
     /// With its own area.
@@ -397,6 +405,13 @@ impl<'a> Numbered<'a> {
         self.start()
             .saturating_add(i128::from(self.bits.div_ceil(8)))
     }
+
+    /// The bits from main_data_begin bytes before its own area to the end of that.
+    fn room(&self) -> u32 {
+        let own = self.up_to.saturating_sub(self.before);
+        let bytes = u64::from(self.begin).saturating_add(own);
+        u32::try_from(bytes.saturating_mul(8)).unwrap_or(u32::MAX)
+    }
 }
 
 /// The place where the main data of the last frame before this one end that has any.
@@ -430,20 +445,18 @@ fn push_faults(
         faults.push(SurveyFault::TooManyFrames(at))?;
     }
     if numbered.end() > i128::from(numbered.up_to) {
-        let own = numbered.up_to.saturating_sub(numbered.before);
-        let room = numbered.begin.saturating_add(own).saturating_mul(8);
-        faults.push(SurveyFault::Overrun(at, numbered.bits as u32, room as u32))?;
+        faults.push(SurveyFault::Overrun(at, numbered.bits, numbered.room()))?;
     }
     if numbered.start() < ended {
         faults.push(SurveyFault::Overlap(at))?;
     }
     if numbered.start() < 0 {
-        faults.push(SurveyFault::BackPointer(at, numbered.begin as u32, numbered.before))?;
+        faults.push(SurveyFault::BackPointer(at, numbered.begin, numbered.before))?;
     }
-    let said = number(numbered.bytes, 32, 16);
-    let right = right_word(&numbered.frame, numbered.bytes);
+    let said = word_said(numbered.bytes);
+    let right = word_right(&numbered.frame, numbered.bytes);
     if numbered.frame.is_protected && said != right {
-        faults.push(SurveyFault::CheckWord(at, said as u16, right as u16))?;
+        faults.push(SurveyFault::CheckWord(at, said, right))?;
     }
     if numbered.frame.class != *class {
         faults.push(SurveyFault::Mixed(at))?;
