@@ -60,51 +60,70 @@ const SHORT_OF_FOUR: Stretch = Stretch::Bytes(&[
     0xff, 0xf3, 0x14, 0xc0, 0x21, 0x0b, 0, 0, 0, 0, 0, 0, 0, 0, 0, 0, 0, 0, 0, 0, 0, 0, 0, 0,
 ]);
 
-/// The same with a check word, so an area of 9 bytes, and with 8 bits of gain 100.
+/// As `SHORT` with a check word, so an area of 9 bytes, and with 8 bits of gain 100. The right words here were
+/// worked out apart, by long division.
 const PROTECTED: Stretch = Stretch::Bytes(&[
     0xff, 0xf2, 0x14, 0xc0, 0xe9, 0x52, 0x00, 0x00, 0x40, 0x01, 0x90, 0, 0, 0, 0, 0, 0, 0, 0, 0, 0,
     0, 0, 0,
 ]);
 
-/// With a check word, silent.
+/// As `SHORT` with a check word.
 const PROTECTED_SILENT: Stretch = Stretch::Bytes(&[
     0xff, 0xf2, 0x14, 0xc0, 0xee, 0xd2, 0, 0, 0, 0, 0, 0, 0, 0, 0, 0, 0, 0, 0, 0, 0, 0, 0, 0,
 ]);
 
-/// With a wrong word.
+/// As `PROTECTED` with a wrong word.
 const WRONG: Stretch = Stretch::Bytes(&[
     0xff, 0xf2, 0x14, 0xc0, 0xe9, 0x53, 0x00, 0x00, 0x40, 0x01, 0x90, 0, 0, 0, 0, 0, 0, 0, 0, 0, 0,
     0, 0, 0,
 ]);
 
-/// With main_data_begin 1, for which its word is wrong.
+/// As `PROTECTED` with main_data_begin 1, for which its word is wrong.
 const WRONG_AND_BACK: Stretch = Stretch::Bytes(&[
     0xff, 0xf2, 0x14, 0xc0, 0xe9, 0x52, 0x01, 0x00, 0x40, 0x01, 0x90, 0, 0, 0, 0, 0, 0, 0, 0, 0, 0,
     0, 0, 0,
 ]);
 
-/// With main_data_begin 1 and the right word.
-const PROTECTED_AND_BACK: Stretch = Stretch::Bytes(&[
-    0xff, 0xf2, 0x14, 0xc0, 0x6f, 0x31, 0x01, 0x00, 0x40, 0x01, 0x90, 0, 0, 0, 0, 0, 0, 0, 0, 0, 0,
-    0, 0, 0,
-]);
-
-/// With 73 bits.
+/// As `PROTECTED` with 73 bits.
 const PROTECTED_OF_73: Stretch = Stretch::Bytes(&[
     0xff, 0xf2, 0x14, 0xc0, 0x41, 0xdd, 0x00, 0x02, 0x48, 0x01, 0x90, 0, 0, 0, 0, 0, 0, 0, 0, 0, 0,
     0, 0, 0,
 ]);
 
-/// With main_data_begin 9 and 144 bits, which is two areas.
+/// As `PROTECTED` with main_data_begin 9 and 144 bits, which is two areas.
 const PROTECTED_OF_144: Stretch = Stretch::Bytes(&[
     0xff, 0xf2, 0x14, 0xc0, 0x50, 0x2a, 0x09, 0x04, 0x80, 0x01, 0x90, 0, 0, 0, 0, 0, 0, 0, 0, 0, 0,
     0, 0, 0,
 ]);
 
-/// With main_data_begin 10 and 80 bits.
+/// As `PROTECTED` with main_data_begin 10 and 80 bits.
 const PROTECTED_AND_10_BACK: Stretch = Stretch::Bytes(&[
     0xff, 0xf2, 0x14, 0xc0, 0x3a, 0x9e, 0x0a, 0x02, 0x80, 0x01, 0x90, 0, 0, 0, 0, 0, 0, 0, 0, 0, 0,
     0, 0, 0,
+]);
+
+/// The fronts of frames of MPEG-1, 48,000 Hz, 32 kbit/s, one channel: 96 bytes, with an area of 75. The
+/// granules have 300 and 300 bits, and 300 and 301.
+const MONO_OF_600: Stretch = Stretch::Bytes(&[
+    0xff, 0xfb, 0x14, 0xc0, 0x00, 0x00, 0x04, 0xb0, 0x00, 0x00, 0x00, 0x00, 0x00, 0x00, 0x96, 0x00,
+    0x00, 0x00, 0x00, 0x00, 0x00,
+]);
+
+const MONO_OF_601: Stretch = Stretch::Bytes(&[
+    0xff, 0xfb, 0x14, 0xc0, 0x00, 0x00, 0x04, 0xb0, 0x00, 0x00, 0x00, 0x00, 0x00, 0x00, 0x96, 0x80,
+    0x00, 0x00, 0x00, 0x00, 0x00,
+]);
+
+/// Frames of MPEG-2, 24,000 Hz, 8 kbit/s, stereo: 24 bytes, with an area of 3. The channels have 8 and 16
+/// bits, and 8 and 17.
+const LOWER_OF_24: Stretch = Stretch::Bytes(&[
+    0xff, 0xf3, 0x14, 0x00, 0x00, 0x00, 0x20, 0x00, 0x00, 0x00, 0x00, 0x00, 0x00, 0x00, 0x80, 0x00,
+    0x00, 0x00, 0x00, 0x00, 0x00, 0, 0, 0,
+]);
+
+const LOWER_OF_25: Stretch = Stretch::Bytes(&[
+    0xff, 0xf3, 0x14, 0x00, 0x00, 0x00, 0x20, 0x00, 0x00, 0x00, 0x00, 0x00, 0x00, 0x00, 0x88, 0x00,
+    0x00, 0x00, 0x00, 0x00, 0x00, 0, 0, 0,
 ]);
 
 /// The front of a protected head, whose area has 379 bytes. Its check word is wrong.
@@ -114,7 +133,7 @@ const PROTECTED_HEAD_FRONT: Stretch = Stretch::Bytes(
 
 const PROTECTED_HEAD_REST: Stretch = Stretch::Fill(0, 375);
 
-static CASES: [Case; 42] = [
+static CASES: [Case; 46] = [
     Case {
         name: "main data one behind the other",
         file: TWO_FRAMES,
@@ -260,6 +279,30 @@ static CASES: [Case; 42] = [
         file: &[PROTECTED_SILENT, PROTECTED_OF_144],
         allowed: MANY,
         answer: None,
+    },
+    Case {
+        name: "two granules of one channel that fill the area",
+        file: &[MONO_OF_600, Stretch::Fill(0x55, 75)],
+        allowed: MANY,
+        answer: None,
+    },
+    Case {
+        name: "one bit more in the second",
+        file: &[MONO_OF_601, Stretch::Fill(0x55, 75)],
+        allowed: MANY,
+        answer: Some(SurveyFault::Overrun(0, 601, 600)),
+    },
+    Case {
+        name: "two channels of one granule that fill the area",
+        file: &[LOWER_OF_24],
+        allowed: MANY,
+        answer: None,
+    },
+    Case {
+        name: "one bit more in the second",
+        file: &[LOWER_OF_25],
+        allowed: MANY,
+        answer: Some(SurveyFault::Overrun(0, 25, 24)),
     },
     Case {
         name: "a wrong check word",
