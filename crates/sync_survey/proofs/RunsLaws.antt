@@ -9,7 +9,7 @@ use Rattle.sync_survey.specs.declared.items.Item.TheVariants.{Frame, Free, Block
 use Rattle.sync_survey.specs.declared.runs.Part.{Part}
 use Rattle.sync_survey.specs.declared.runs.Part.TheVariants.{Front}
 use Rattle.sync_survey.specs.Items.{item_at, size_of, fits}
-use Rattle.sync_survey.specs.Runs.{Placed, belongs, whole, item_of, Run, stopped, behind, onward, run_up_to, run, AreEndToEnd, AreOf, bytes_in, bytes_of, frame_as, block_as, frames_of, blocks_of}
+use Rattle.sync_survey.specs.Runs.{Placed, belongs, whole, item_of, Run, stopped, behind, onward, run_up_to, run, AreEndToEnd, bytes_in, bytes_of, frame_as, block_as, frames_of, blocks_of}
 use Rattle.sync_survey.proofs.ItemsLaws.{size-some}
 
 -- what a test that passed says of its two parts
@@ -103,35 +103,34 @@ run-stopped part file at is = run-step part file at ∙ ap (onward at (run part 
 
 -- ---- what the items of a run are together
 
-onward_ends : (part : Part) (file : List ℕ) (at : ℕ) (next : ℕ → Run) (o : Option Item) → item_of part file at ≡ o → ((later : ℕ) → AreEndToEnd file later (next later).items (next later).stop) →
-    AreEndToEnd file at (onward at next o).items (onward at next o).stop
+onward_ends : (part : Part) (file : List ℕ) (at : ℕ) (next : ℕ → Run) (o : Option Item) → item_of part file at ≡ o → ((later : ℕ) → AreEndToEnd part file later (next later).items (next later).stop) →
+    AreEndToEnd part file at (onward at next o).items (onward at next o).stop
 onward_ends part file at next None is ends = refl
-onward_ends part file at next (Some item) is ends = let here = item_of-is part file at item is in (refl, here.is, here.within, ends (at + size_of item))
+onward_ends part file at next (Some item) is ends = (refl, is, ends (at + size_of item))
 
-ends_up_to : (n : ℕ) (part : Part) (file : List ℕ) (at : ℕ) → AreEndToEnd file at (run_up_to n part file at).items (run_up_to n part file at).stop
+ends_up_to : (n : ℕ) (part : Part) (file : List ℕ) (at : ℕ) → AreEndToEnd part file at (run_up_to n part file at).items (run_up_to n part file at).stop
 unfolding run_up_to
 ends_up_to zero part file at = refl
 ends_up_to (suc n) part file at = onward_ends part file at (λ later. run_up_to n part file later) (item_of part file at) refl (λ later. ends_up_to n part file later)
 
 -- the items of a run stand end to end from its beginning to its stop
-pub run-ends : (part : Part) (file : List ℕ) (from : ℕ) → AreEndToEnd file from (run part file from).items (run part file from).stop
+pub run-ends : (part : Part) (file : List ℕ) (from : ℕ) → AreEndToEnd part file from (run part file from).items (run part file from).stop
 unfolding run
 run-ends part file from = ends_up_to (length file) part file from
 
--- items of the part that stand end to end, where no further one stands, are the run
-pub run-only : (part : Part) (file : List ℕ) (from : ℕ) (ps : List Placed) (to : ℕ) → AreEndToEnd file from ps to → AreOf part ps → item_of part file to ≡ None → run part file from ≡ record { items = ps; stop = to }
-run-only part file from [] to ends of none = run-stopped part file from (ap (item_of part file) ends ∙ none) ∙ ap stopped ends
-run-only part file from (p ∷ ps) to ends of none =
-    let here : item_of part file p.offset ≡ Some p.item = item_of-whole part file p.offset p.item ends.1 of.0 ends.2 in
-    ap (run part file) (sym ends.0) ∙ run-next part file p.offset p.item here ∙ ap (behind p.offset p.item) (run-only part file (p.offset + size_of p.item) ps to ends.3 of.1 none)
+-- items that stand end to end, where no further one stands, are the run
+pub run-only : (part : Part) (file : List ℕ) (from : ℕ) (ps : List Placed) (to : ℕ) → AreEndToEnd part file from ps to → item_of part file to ≡ None → run part file from ≡ record { items = ps; stop = to }
+run-only part file from [] to ends none = run-stopped part file from (ap (item_of part file) ends ∙ none) ∙ ap stopped ends
+run-only part file from (p ∷ ps) to ends none =
+    ap (run part file) (sym ends.0) ∙ run-next part file p.offset p.item ends.1 ∙ ap (behind p.offset p.item) (run-only part file (p.offset + size_of p.item) ps to ends.2 none)
 
 -- items that stand end to end are, with the bytes behind them, the file's bytes from their beginning on
-pub bytes-ends : (file : List ℕ) (from : ℕ) (ps : List Placed) (to : ℕ) → AreEndToEnd file from ps to → bytes_of file ps ++ drop to file ≡ drop from file
-bytes-ends file from [] to ends = ap (λ at. drop at file) (sym ends)
-bytes-ends file from (p ∷ ps) to ends =
+pub bytes-ends : (part : Part) (file : List ℕ) (from : ℕ) (ps : List Placed) (to : ℕ) → AreEndToEnd part file from ps to → bytes_of file ps ++ drop to file ≡ drop from file
+bytes-ends part file from [] to ends = ap (λ at. drop at file) (sym ends)
+bytes-ends part file from (p ∷ ps) to ends =
     let size = size_of p.item in
     append_assoc (bytes_in file p) (bytes_of file ps) (drop to file)
-    ∙ ap (λ rest. bytes_in file p ++ rest) (bytes-ends file (p.offset + size) ps to ends.3 ∙ sym (drop-drop size p.offset file))
+    ∙ ap (λ rest. bytes_in file p ++ rest) (bytes-ends part file (p.offset + size) ps to ends.2 ∙ sym (drop-drop size p.offset file))
     ∙ take-append-drop size (drop p.offset file)
     ∙ ap (λ at. drop at file) ends.0
 

@@ -1,13 +1,15 @@
 -- The walk over a whole file, from what the parts of the code find.
-use Rattle.std.proofs.Common.{◌≡◌, ℕ, ◌+◌, ◌≤◌, List, [], ◌∷◌, ◌++◌, length, drop, Option, Some, None, Result, Ok, Err, refl, sym, ◌∙◌, ap, subst, append-nil}
+use Rattle.std.proofs.Common.{◌≡◌, ℕ, ◌+◌, ◌≤◌, List, [], ◌∷◌, ◌++◌, length, drop, Option, Some, None, Result, Ok, Err, refl, sym, ◌∙◌, ap, subst}
+use Rattle.std.proofs.Math.Seq.{drop-length}
 use Rattle.sync_survey.specs.declared.items.Item.{Item}
 use Rattle.sync_survey.specs.declared.items.Item.TheVariants.{Frame, Free, Block, Zero, End, Nothing}
 use Rattle.sync_survey.specs.declared.runs.Part.TheVariants.{Stream}
 use Rattle.sync_survey.specs.declared.places.WalkFault.{WalkFault}
+use Rattle.sync_survey.specs.declared.places.WalkFault.TheVariants.{NoFrame, LostSync, Truncated, FreeFormat}
 use Rattle.sync_survey.specs.declared.walks.Walk.{Walk}
 use Rattle.sync_survey.specs.declared.walks.WalkRefusal.{WalkRefusal}
-use Rattle.sync_survey.specs.declared.walks.WalkRefusal.TheVariants.{Fault}
-use Rattle.std.specs.Prelude.{IsErrAnd, MatchResult}
+use Rattle.sync_survey.specs.declared.walks.WalkRefusal.TheVariants.{Fault, Memory}
+use Rattle.std.specs.Prelude.{IsErrAnd, IsOk, MatchResult}
 use Rattle.sync_survey.specs.declared.places.PlacedFrame.{PlacedFrame}
 use Rattle.sync_survey.specs.declared.places.Piece.{Piece}
 use Rattle.sync_survey.specs.declared.places.Head.{Head}
@@ -15,7 +17,7 @@ use Rattle.sync_survey.specs.declared.places.Start.{Start}
 use Rattle.sync_survey.specs.Items.{Stands, item_at, size_of}
 use Rattle.sync_survey.specs.Runs.{item_of, run, frames_of, blocks_of, bytes_of}
 use Rattle.sync_survey.specs.Start.{start_of}
-use Rattle.sync_survey.specs.Walk.{stream_of, head_of, numbered, numbered_at, all_blocks, fault_at, end_fault, WalkFields, walk_from, without_fault, walk_by, walk_of, shown, IsRefusal}
+use Rattle.sync_survey.specs.Walk.{stream_of, head_of, numbered, numbered_at, all_blocks, fault_at, end_fault, offset_of, ReachesTo, ReachesFault, WalkFields, walk_from, without_fault, walk_by, walk_of, shown, IsRefusal}
 use Rattle.sync_survey.proofs.ItemsLaws.{stands-at}
 use Rattle.sync_survey.proofs.RunsLaws.{item_of-whole, run-next, frames-next, blocks-next, run-ends, bytes-ends}
 
@@ -78,6 +80,11 @@ pub refused : (file : List ℕ) (fault : WalkFault) (r : Result Walk WalkRefusal
 refused file fault (Ok w) is e = absurd is
 refused file fault (Err refusal) is e = subst (IsRefusal file) (sym is) e
 
+-- memory was asked for, since a stream begins
+pub no_memory : (file : List ℕ) (start : Start) (r : Result Walk WalkRefusal) → IsErrAnd r (λ refusal. refusal ≡ Memory) → start_of file ≡ Ok start → MatchResult r (λ w. walk_of file ≡ Ok (shown w)) (IsRefusal file)
+no_memory file start (Ok w) is begun = absurd is
+no_memory file start (Err refusal) is begun = subst (IsRefusal file) (sym is) (subst IsOk (sym begun) refl)
+
 -- something is at fault where the walk stops
 pub walk-fault : (file : List ℕ) (start : Start) (head : Option Head) (frames : List PlacedFrame) (blocks : List Piece) (stop : ℕ) (fault : WalkFault) → IsFound file start head frames blocks stop →
     end_fault file frames (fault_at stop (item_at file stop)) ≡ Some fault → walk_of file ≡ Err fault
@@ -92,12 +99,7 @@ walk-whole file start head frames blocks stop found is =
     walk_of-by file start _ found.start_is (walk-is file start head frames blocks stop found)
     ∙ (λ i. without_fault (record { start = start; head = head; frames = frames; blocks = blocks; fault = is i }) (is i))
 
--- ---- a walk with no fault reaches the end of the file
-
-no_fault_cases : (file : List ℕ) (frames : List PlacedFrame) (o : Option WalkFault) → end_fault file frames o ≡ None → o ≡ None
-no_fault_cases file frames None e = refl
-no_fault_cases file [] (Some fault) e = absurd cc
-no_fault_cases file (p ∷ ps) (Some fault) e = absurd cc
+-- ---- how far the items of a walk reach
 
 at_end : (rest : List ℕ) (at : ℕ) (item : Item) → Stands rest item → fault_at at item ≡ None → rest ≡ []
 at_end rest at (Frame h) here e = absurd cc
@@ -107,10 +109,48 @@ at_end rest at Zero here e = absurd cc
 at_end rest at End here e = here
 at_end rest at Nothing here e = absurd cc
 
-pub walk-bytes : (file : List ℕ) (start : Start) (frames : List PlacedFrame) (stop : ℕ) → stop ≡ (stream_of file start).stop → end_fault file frames (fault_at stop (item_at file stop)) ≡ None →
-    bytes_of file (stream_of file start).items ≡ drop start.first.offset file
-walk-bytes file start frames stop is none =
+no_fault : (file : List ℕ) (frames : List PlacedFrame) (o : Option WalkFault) → end_fault file frames o ≡ None → o ≡ None
+no_fault file frames None e = refl
+no_fault file [] (Some fault) e = absurd cc
+no_fault file (p ∷ ps) (Some fault) e = absurd cc
+
+-- where nothing is at fault, nothing is left
+nothing_left : (file : List ℕ) (stop : ℕ) → fault_at stop (item_at file stop) ≡ None → drop stop file ≡ []
+nothing_left file stop none = at_end (drop stop file) stop (item_at file stop) (stands-at file stop (item_at file stop) refl) none
+
+fault_offset : (at : ℕ) (item : Item) (fault : WalkFault) → fault_at at item ≡ Some fault → offset_of fault ≡ at
+fault_offset at (Frame h) fault e = let same : Truncated at ≡ fault = cc in sym (ap offset_of same)
+fault_offset at Free fault e = let same : FreeFormat at ≡ fault = cc in sym (ap offset_of same)
+fault_offset at (Block b) fault e = let same : Truncated at ≡ fault = cc in sym (ap offset_of same)
+fault_offset at Zero fault e = let same : LostSync at ≡ fault = cc in sym (ap offset_of same)
+fault_offset at End fault e = absurd cc
+fault_offset at Nothing fault e = let same : LostSync at ≡ fault = cc in sym (ap offset_of same)
+
+-- behind the fault stands what stands behind the stop
+left_by : (file : List ℕ) (stop : ℕ) (frames : List PlacedFrame) (fault : WalkFault) (o : Option WalkFault) → fault_at stop (item_at file stop) ≡ o → end_fault file frames o ≡ Some fault → drop (offset_of fault) file ≡ drop stop file
+left_by file stop frames fault (Some f) is e =
+    let same : f ≡ fault = cc in
+    ap (λ at. drop at file) (ap offset_of (sym same) ∙ fault_offset stop (item_at file stop) f is)
+left_by file stop (p ∷ ps) fault None is e = absurd cc
+left_by file stop [] fault None is e =
+    let same : NoFrame (length file) ≡ fault = cc in
+    ap (λ f. drop (offset_of f) file) (sym same) ∙ drop-length file ∙ sym (nothing_left file stop is)
+
+-- the items reach to the stop, and so to what has the same bytes behind it
+reach_to : (file : List ℕ) (start : Start) (stop to : ℕ) → stop ≡ (stream_of file start).stop → drop to file ≡ drop stop file → ReachesTo file start to
+reach_to file start stop to is same =
     let r = stream_of file start in
-    let ended : drop stop file ≡ [] = at_end (drop stop file) stop (item_at file stop) (stands-at file stop (item_at file stop) refl) (no_fault_cases file frames _ none) in
-    let nothing : drop r.stop file ≡ [] = ap (λ at. drop at file) (sym is) ∙ ended in
-    sym (append-nil (bytes_of file r.items)) ∙ ap (λ rest. bytes_of file r.items ++ rest) (sym nothing) ∙ bytes-ends file start.first.offset r.items r.stop (run-ends Stream file start.first.offset)
+    ap (λ rest. bytes_of file r.items ++ rest) (same ∙ ap (λ at. drop at file) is) ∙ bytes-ends Stream file start.first.offset r.items r.stop (run-ends Stream file start.first.offset)
+
+pub reach-end : (file : List ℕ) (start : Start) (frames : List PlacedFrame) (stop : ℕ) → stop ≡ (stream_of file start).stop → end_fault file frames (fault_at stop (item_at file stop)) ≡ None → ReachesTo file start (length file)
+reach-end file start frames stop is none = reach_to file start stop (length file) is (drop-length file ∙ sym (nothing_left file stop (no_fault file frames _ none)))
+
+pub reach-fault : (file : List ℕ) (start : Start) (frames : List PlacedFrame) (stop : ℕ) (fault : WalkFault) → start_of file ≡ Ok start → stop ≡ (stream_of file start).stop →
+    end_fault file frames (fault_at stop (item_at file stop)) ≡ Some fault → ReachesFault file (Fault fault)
+reach-fault file start frames stop fault begun is e =
+    λ other same_file. let same : start ≡ other = cc in subst (λ s. ReachesTo file s (offset_of fault)) same (reach_to file start stop (offset_of fault) is (left_by file stop frames fault _ refl e))
+
+-- there is no stream
+pub reach-nowhere : (file : List ℕ) (fault : WalkFault) (r : Result Walk WalkRefusal) → IsErrAnd r (λ refusal. refusal ≡ Fault fault) → start_of file ≡ Err fault → MatchResult r (λ w. ReachesTo file w.start (length file)) (ReachesFault file)
+reach-nowhere file fault (Ok w) is e = absurd is
+reach-nowhere file fault (Err refusal) is e = subst (ReachesFault file) (sym is) (λ start begun. absurd cc)

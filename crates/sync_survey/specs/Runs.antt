@@ -1,5 +1,5 @@
 -- Items that stand end to end.
-use Rattle.std.specs.Prelude.{◌≡◌, ℕ, zero, suc, ◌+◌, ◌&&◌, ◌≤◌, if◌then◌else◌, Bool, true, false, List, [], ◌∷◌, length, take, drop, flat_map, filter_map, Option, Some, None}
+use Rattle.std.specs.Prelude.{◌≡◌, ℕ, zero, suc, ◌+◌, ◌&&◌, if◌then◌else◌, Bool, true, false, List, [], ◌∷◌, length, take, drop, flat_map, filter_map, Option, Some, None}
 use Rattle.sync_survey.specs.declared.items.Item.{Item}
 use Rattle.sync_survey.specs.declared.items.Item.TheVariants.{Frame, Free, Block, Zero, End, Nothing}
 use Rattle.sync_survey.specs.declared.places.PlacedFrame.{PlacedFrame}
@@ -58,15 +58,10 @@ run part file from = run_up_to (length file) part file from
 
 -- ---- what a run says, without its recursion
 
--- these items stand end to end in the file, from one offset to another
-abbrev pub AreEndToEnd : List ℕ → ℕ → List Placed → ℕ → Type 0
-AreEndToEnd file from [] to = from ≡ to
-AreEndToEnd file from (p ∷ ps) to = (p.offset ≡ from) × (item_at file p.offset ≡ p.item) × (p.offset + size_of p.item ≤ length file) × AreEndToEnd file (p.offset + size_of p.item) ps to
-
--- these items are of the part
-abbrev pub AreOf : Part → List Placed → Type 0
-AreOf part [] = Unit {0}
-AreOf part (p ∷ ps) = (belongs part p.item ≡ true) × AreOf part ps
+-- these whole items of the part stand end to end in the file, from one offset to another
+abbrev pub AreEndToEnd : Part → List ℕ → ℕ → List Placed → ℕ → Type 0
+AreEndToEnd part file from [] to = from ≡ to
+AreEndToEnd part file from (p ∷ ps) to = (p.offset ≡ from) × (item_of part file p.offset ≡ Some p.item) × AreEndToEnd part file (p.offset + size_of p.item) ps to
 
 -- the bytes of an item of the file
 abbrev pub bytes_in : List ℕ → Placed → List ℕ

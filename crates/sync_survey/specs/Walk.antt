@@ -1,5 +1,5 @@
 -- The walk over a whole file: the frames and blocks from the start on, and where it stops.
-use Rattle.std.specs.Prelude.{◌≡◌, ℕ, ◌+◌, List, [], ◌∷◌, ◌++◌, length, take, drop, Option, Some, None, option_map, Result, Ok, Err}
+use Rattle.std.specs.Prelude.{◌≡◌, ℕ, ◌+◌, List, [], ◌∷◌, ◌++◌, length, take, drop, Option, Some, None, option_map, Result, Ok, Err, IsOk}
 use Rattle.frame_header.specs.Tables.{class_of, length_of}
 use Rattle.info_header.specs.HeadText.{head_text_of}
 use Rattle.sync_survey.specs.declared.items.Item.{Item}
@@ -15,7 +15,7 @@ use Rattle.sync_survey.specs.declared.walks.WalkRefusal.{WalkRefusal}
 use Rattle.sync_survey.specs.declared.walks.WalkRefusal.TheVariants.{Fault, Memory}
 use Rattle.sync_survey.specs.declared.runs.Part.TheVariants.{Front, Stream}
 use Rattle.sync_survey.specs.Items.{item_at}
-use Rattle.sync_survey.specs.Runs.{Run, run, frames_of, blocks_of}
+use Rattle.sync_survey.specs.Runs.{Run, run, bytes_of, frames_of, blocks_of}
 use Rattle.sync_survey.specs.Start.{start_of}
 
 -- the items from the first frame on
@@ -99,11 +99,31 @@ walk_by file (Err fault) = Err fault
 unfoldable pub walk_of : List ℕ → Result WalkFields WalkFault
 walk_of file = walk_by file (start_of file)
 
+-- ---- what a walk says of the file's bytes
+
+-- where a fault stands
+abbrev pub offset_of : WalkFault → ℕ
+offset_of (NoFrame at) = at
+offset_of (LostSync at) = at
+offset_of (Truncated at) = at
+offset_of (FreeFormat at) = at
+
+-- the items from the first frame on, one behind the other, are the file's bytes from there to this offset
+abbrev pub ReachesTo : List ℕ → Start → ℕ → Type 0
+ReachesTo file start to = bytes_of file (stream_of file start).items ++ drop to file ≡ drop start.first.offset file
+
+-- ---- the walk of the code
+
 -- a walk of the code, as the definition has it
 abbrev pub shown : Walk → WalkFields
 shown w = record { start = w.start; head = w.head; frames = w.frames.items; blocks = w.blocks.items; fault = None }
 
--- why there is no walk: the fault of the file, or memory
+-- why there is no walk: the fault of the file, or memory, which is asked for only where a stream begins
 abbrev pub IsRefusal : List ℕ → WalkRefusal → Type 0
 IsRefusal file (Fault fault) = walk_of file ≡ Err fault
-IsRefusal file Memory = Unit {0}
+IsRefusal file Memory = IsOk (start_of file)
+
+-- where there is a stream, it reaches to its fault
+abbrev pub ReachesFault : List ℕ → WalkRefusal → Type 0
+ReachesFault file (Fault fault) = (start : Start) → start_of file ≡ Ok start → ReachesTo file start (offset_of fault)
+ReachesFault file Memory = Unit {0}

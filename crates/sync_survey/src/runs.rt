@@ -1,7 +1,7 @@
 //! Items that stand end to end.
 ghost use Rattle.std.specs.Prelude.{◌≡◌, ℕ, List, ◌+◌, ◌++◌, ◌≤◌, ◌<◌, drop, length, IfSome};
 ghost use Rattle.sync_survey.specs.Items.{size_of};
-ghost use Rattle.sync_survey.specs.Runs.{belongs as belongs_lem, item_of as item_of_lem, Placed, run, AreEndToEnd, AreOf, bytes_of};
+ghost use Rattle.sync_survey.specs.Runs.{belongs as belongs_lem, item_of as item_of_lem, Placed, run, AreEndToEnd, bytes_of};
 
 use crate::items::{Item, fits, item_at};
 
@@ -43,10 +43,11 @@ pub fn item_of(part: Part, file: &[u8], at: usize) -> Option<Item>
 /// The offset in bytes where the items of the part that stand end to end from an offset on stop.
 pub fn run_stop(part: Part, file: &[u8], from: usize) -> usize
     ensures stop { result ≡ (run part file.now from).stop }
-    ensures items { AreEndToEnd file.now from (run part file.now from).items result }
+    ensures items { AreEndToEnd part file.now from (run part file.now from).items result }
+    ensures last { item_of_lem part file.now result ≡ None }
     ensures bytes { bytes_of file.now (run part file.now from).items ++ drop result file.now ≡ drop from file.now }
     // No other items of the part stand so and go as far.
-    ensures only { (items : List Placed) (stop : ℕ) → AreEndToEnd file.now from items stop → AreOf part items → item_of_lem part file.now stop ≡ None → stop ≡ result }
+    ensures only { (items : List Placed) (stop : ℕ) → AreEndToEnd part file.now from items stop → item_of_lem part file.now stop ≡ None → stop ≡ result }
     ensures within { from ≤ length file.now → result ≤ length file.now }
 {
     let mut at = from;

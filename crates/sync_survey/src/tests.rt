@@ -353,10 +353,12 @@ fn files(rt: HostRuntime) -> Result<(), Fail> {
         let file = file_of(rt.alloc(), case.file)?;
         match (walk_file(rt.alloc(), &file), &case.answer) {
             (Ok(walk), Ok(shape)) => expect_shape(&rt, case.name, &walk, shape),
-            (Ok(_), Err(fault)) => assert!(rt; false, "{}: no {fault:?}", case.name),
-            (Err(refusal), Ok(_)) => assert!(rt; false, "{}: {refusal:?}", case.name),
-            (Err(refusal), Err(fault)) => {
-                assert_eq!(rt; refusal, WalkRefusal::Fault(*fault), "{}", case.name);
+            (result, answer) => {
+                let fault = answer
+                    .as_ref()
+                    .err()
+                    .map(|fault| WalkRefusal::Fault(*fault));
+                assert_eq!(rt; result.err(), fault, "{}", case.name);
             }
         }
     }
@@ -370,14 +372,8 @@ fn expect_frames<R: Abort + AllocGlobal>(
     what: &str,
     answer: Result<usize, WalkFault>,
 ) {
-    match (walk_file(rt.alloc(), file), answer) {
-        (Ok(walk), Ok(count)) => assert_eq!(rt; walk.frames.len(), count, "{what}"),
-        (Ok(_), Err(fault)) => assert!(rt; false, "{what}: no {fault:?}"),
-        (Err(refusal), Ok(_)) => assert!(rt; false, "{what}: {refusal:?}"),
-        (Err(refusal), Err(fault)) => {
-            assert_eq!(rt; refusal, WalkRefusal::Fault(fault), "{what}");
-        }
-    }
+    let count = walk_file(rt.alloc(), file).map(|walk| walk.frames.len());
+    assert_eq!(rt; count, answer.map_err(WalkRefusal::Fault), "{what}");
 }
 
 /// What the first so many bytes of two frames give.

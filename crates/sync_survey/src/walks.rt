@@ -1,8 +1,8 @@
 //! The walk over a whole file.
-ghost use Rattle.std.specs.Prelude.{◌≡◌, ◌+◌, [], ◌++◌, ◌≤◌, length, drop, IfOk, OnOk, MatchResult, option_to_list};
+ghost use Rattle.std.specs.Prelude.{◌≡◌, ◌+◌, [], ◌++◌, ◌≤◌, length, IfOk, OnOk, MatchResult, option_to_list};
 ghost use Rattle.sync_survey.specs.Items.{item_at as item_at_lem, size_of};
-ghost use Rattle.sync_survey.specs.Runs.{run, frames_of, blocks_of, frame_as, block_as, bytes_of};
-ghost use Rattle.sync_survey.specs.Walk.{head_of as head_of_lem, fault_at as fault_at_lem, end_fault, numbered, numbered_at, stream_of, all_blocks, walk_of, shown, IsRefusal};
+ghost use Rattle.sync_survey.specs.Runs.{run, frames_of, blocks_of, frame_as, block_as};
+ghost use Rattle.sync_survey.specs.Walk.{head_of as head_of_lem, fault_at as fault_at_lem, end_fault, numbered, numbered_at, stream_of, all_blocks, walk_of, shown, IsRefusal, ReachesTo, ReachesFault};
 ghost use Rattle.sync_survey.specs.declared.walks.WalkRefusal.TheVariants.{Fault, Memory};
 
 use crate::items::{Item, item_at};
@@ -173,10 +173,12 @@ fn find_all(
 /// `Fault` is the first fault of the walk: one of `find_start`, or, where the items stop before the end of
 /// the file, `Truncated` at a frame or block that passes the end, `FreeFormat` at a header of free format,
 /// `LostSync` at anything else, fewer than four bytes among them; or `NoFrame` with the file's length where
-/// the only frame is a head. `Memory` may come before a fault is met.
+/// the only frame is a head. `Memory` may come before a fault is met, but not where `find_start` refuses.
+///
+/// From the first frame on the items are the file's bytes, to its end or to the fault.
 pub fn walk_file(alloc: Global, file: &[u8]) -> Result<Walk, WalkRefusal>
     ensures exact { MatchResult result (λ w. walk_of file.now ≡ Ok (shown w)) (IsRefusal file.now) }
-    ensures bytes { IfOk result (λ w. bytes_of file.now (stream_of file.now w.start).items ≡ drop w.start.first.offset file.now) }
+    ensures reach { MatchResult result (λ w. ReachesTo file.now w.start (length file.now)) (ReachesFault file.now) }
 {
     let start = find_start(file)?;
     let head = head_of(file, &start.first);

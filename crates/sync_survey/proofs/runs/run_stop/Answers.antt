@@ -20,15 +20,15 @@ returns-clause-stop c = stop_is c
 pub returns-clause-items : goal.returns-clause-items
 returns-clause-items c =
     let r = run c.args.part c.args.file.now c.args.from in
-    subst (AreEndToEnd c.args.file.now c.args.from r.items) (sym (stop_is c)) (run-ends c.args.part c.args.file.now c.args.from)
+    subst (AreEndToEnd c.args.part c.args.file.now c.args.from r.items) (sym (stop_is c)) (run-ends c.args.part c.args.file.now c.args.from)
 
 pub returns-clause-bytes : goal.returns-clause-bytes
 returns-clause-bytes c =
     let r = run c.args.part c.args.file.now c.args.from in
-    let whole = bytes-ends c.args.file.now c.args.from r.items r.stop (run-ends c.args.part c.args.file.now c.args.from) in
+    let whole = bytes-ends c.args.part c.args.file.now c.args.from r.items r.stop (run-ends c.args.part c.args.file.now c.args.from) in
     ap (λ at. bytes_of c.args.file.now r.items ++ drop at c.args.file.now) (stop_is c) ∙ whole
 
 pub returns-clause-only : goal.returns-clause-only
 returns-clause-only c =
     let is = stop_is c in
-    λ items stop ends of none. sym (ap (λ r. r.stop) (run-only c.args.part c.args.file.now c.args.from items stop ends of none)) ∙ sym is
+    λ items stop ends none. sym (ap (λ r. r.stop) (run-only c.args.part c.args.file.now c.args.from items stop ends none)) ∙ sym is
