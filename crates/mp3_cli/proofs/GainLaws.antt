@@ -7,6 +7,7 @@ use Rattle.std.proofs.lemmas.Bool.{lt-ltb}
 use Rattle.sync_survey.specs.Faults.{longest_file, SurveyFields, surveyed, IsSurveyRefusal}
 use Rattle.sync_survey.specs.Survey.{survey_of, IsLoadFault, IsOfBytes}
 use Rattle.sync_survey.proofs.FoldersLaws.{surveyed_of_bytes, survey_of-short}
+use Rattle.mp3_cli.specs.Streams.{IsStreamMoved, HoldsMovedStream}
 use Rattle.mp3_cli.proofs.WholeEdit.{ordered, whole_edited}
 use Rattle.mp3_cli.specs.Kinds.{InputKind, IsAbsent, IsUnread, IsShorter, IsTooMuch, IsRefused, kind_of, by_kind, of_input}
 use Rattle.mp3_cli.specs.declared.fault.EditFault.{EditFault}
@@ -238,3 +239,19 @@ junk_dropped shift file rows_bytes new s at size is moved place long dropped =
 
 pub junk_within : (file : List ℕ) (s : SurveyFields) (at size : ℕ) → surveyed file most_frames ≡ Ok s → at ≡ s.junk → size ≡ s.first - s.junk → at + size ≤ length file
 junk_within file s at size is place long = let order = ordered file most_frames s is in omega (arith, place, long, order.junk, order.first)
+
+-- ---- what the output holds
+
+held_is : (files : Files) (name bytes made : List ℕ) → Holds (holding files name bytes) name made → bytes ≡ made
+unfolding holding
+held_is None name bytes made holds = absurd holds
+held_is (Some f) name bytes made holds = some_is bytes made (sym (with_file_here f name bytes) ∙ holds)
+  where
+    some_is : (xs ys : List ℕ) → Some xs ≡ Some ys → xs ≡ ys
+    some_is xs ys e = cc
+
+-- the output that was written holds the stream of the input with each gain moved
+pub holds_moved : (shift : Shift) (input output bytes given : List ℕ) (old read new : Files) → given ≡ bytes → ((file : List ℕ) → Holds old input file → IsStreamMoved shift file bytes)
+    → new ≡ holding read output given → HoldsMovedStream shift input output old new
+holds_moved shift input output bytes given old read new is each written file made holds holds_made =
+    subst (IsStreamMoved shift file) (sym is ∙ held_is read output given made (subst (λ f. Holds f output made) written holds_made)) (each file holds)

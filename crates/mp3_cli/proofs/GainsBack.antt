@@ -1,14 +1,19 @@
 -- Moved gains are moved back by the opposite steps.
-use Rattle.std.proofs.Common.{◌≡◌, ℕ, ◌+◌, ◌<◌, Bool, true, false, cond, ◌&&◌, not, Option, Some, None, refl, sym, ◌∙◌, ap, arith, ℤ, pos, negsuc, ◌+ℤ◌}
-use Rattle.std.specs.Prelude.{◌/◌, unsigned_abs}
+use Rattle.std.proofs.Common.{◌≡◌, ℕ, ◌+◌, ◌<◌, ◌==◌, List, [], ◌∷◌, take, map, Bool, true, false, cond, ◌&&◌, not, Option, Some, None, refl, sym, ◌∙◌, ap, arith, ℤ, pos, negsuc, ◌+ℤ◌}
+use Rattle.std.specs.Prelude.{◌/◌, flat_map, unsigned_abs}
 use Rattle.std.specs.Int.{int_rem_euclid}
 use Rattle.std.specs.Option.{option_or}
 use Rattle.std.proofs.Math.IntN.{neg_ℤ, +ℤ-neg_ℤ_cancel}
 use Rattle.std.proofs.lemmas.Bool.{false≢true, ltb-false, le-ltb}
+use Rattle.frame_header.specs.declared.version.Version.{Version}
+use Rattle.frame_header.specs.declared.version.Version.TheVariants.{One, Two}
+use Rattle.frame_header.specs.Fields.{HeaderFields}
+use Rattle.frame_header.specs.Tables.{granules_of}
 use Rattle.side_info.specs.declared.granule.Granule.{Granule}
 use Rattle.side_info.specs.declared.side.Side.{Side}
-use Rattle.side_info.specs.Side.{granule_in, payload_bits, payload_bytes}
+use Rattle.side_info.specs.Side.{granule_in, granules_in, payload_bits, payload_bytes}
 use Rattle.side_info.proofs.SideLaws.{IsShaped, side_with, each_shaped}
+use Rattle.sync_survey.specs.MainData.{part_lengths}
 use Rattle.mp3_cli.specs.declared.gains.Stuck.{Stuck}
 use Rattle.mp3_cli.specs.declared.shift.Shift.{Shift}
 use Rattle.mp3_cli.specs.declared.shift.Channels.{Channels}
@@ -201,6 +206,9 @@ pub payload-moved : (shift : Shift) (s : Side) → IsShaped s → payload_bytes 
 unfolding payload_bytes
 payload-moved shift s shaped = ap (λ n. (n + 7) / 8) (each_shaped (λ t. payload_bits (moved_side shift t) ≡ payload_bits t) (payload-with shift) s shaped)
 
+pub payload_bits-moved : (shift : Shift) (s : Side) → IsShaped s → payload_bits (moved_side shift s) ≡ payload_bits s
+payload_bits-moved shift s shaped = each_shaped (λ t. payload_bits (moved_side shift t) ≡ payload_bits t) (payload-with shift) s shaped
+
 pub begin-moved : (shift : Shift) (s : Side) → (moved_side shift s).main_data_begin ≡ s.main_data_begin
 unfolding moved_side
 begin-moved shift s = refl
@@ -208,3 +216,18 @@ begin-moved shift s = refl
 pub IsShaped-moved : (shift : Shift) (s : Side) → IsShaped s → IsShaped (moved_side shift s)
 unfolding moved_side
 IsShaped-moved shift s shaped = record { scfsi = shaped.scfsi; granules = refl; first = refl; second = refl }
+
+-- the lengths of the main data of each granule and channel that a class has
+abbrev lengths_of : Version → Bool → Side → List ℕ
+lengths_of version mono s = map (λ (g : Granule). g.part2_3_length) (flat_map (take (cond mono 1 2)) (take (granules_of version) s.granules))
+
+lengths-with : (shift : Shift) (version : Version) (mono : Bool) (m p a b : ℕ) (g h k l : Granule) → lengths_of version mono (moved_side shift (side_with m p a b g h k l)) ≡ lengths_of version mono (side_with m p a b g h k l)
+unfolding moved_side
+lengths-with shift One true m p a b g h k l = λ i. moved-payload (left_steps shift) g i ∷ moved-payload (left_steps shift) k i ∷ []
+lengths-with shift One false m p a b g h k l = λ i. moved-payload (left_steps shift) g i ∷ moved-payload (right_steps shift) h i ∷ moved-payload (left_steps shift) k i ∷ moved-payload (right_steps shift) l i ∷ []
+lengths-with shift Two true m p a b g h k l = λ i. moved-payload (left_steps shift) g i ∷ []
+lengths-with shift Two false m p a b g h k l = λ i. moved-payload (left_steps shift) g i ∷ moved-payload (right_steps shift) h i ∷ []
+
+pub lengths-moved : (shift : Shift) (h : HeaderFields) (s : Side) → IsShaped s → part_lengths h (moved_side shift s) ≡ part_lengths h s
+unfolding granules_in
+lengths-moved shift h s shaped = each_shaped (λ t. lengths_of h.version (h.mode == 3) (moved_side shift t) ≡ lengths_of h.version (h.mode == 3) t) (lengths-with shift h.version (h.mode == 3)) s shaped

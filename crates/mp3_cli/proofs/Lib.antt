@@ -11,3 +11,10 @@ pub mod Reading
 pub mod RunLaws
 pub mod Sizes
 pub mod Sound
+pub mod MovedFrame
+pub mod EditedItems
+pub mod EditedRuns
+pub mod MovedSurvey
+pub mod MovedStream
+pub mod GainedStream
+pub mod Undone

@@ -1,5 +1,5 @@
 -- What `run` promises, from what the gain command ensures.
-use Rattle.std.proofs.Common.{◌≡◌, ◌≢◌, ◌↔◌, ℕ, ◌≤◌, Bool, true, false, cond, List, [], Option, Some, None, Result, Ok, Err, refl, sym, ◌∙◌, ap, subst, bytes_eq, codes, arith}
+use Rattle.std.proofs.Common.{◌≡◌, ◌≢◌, ◌↔◌, ℕ, ◌<◌, ◌≤◌, Bool, true, false, cond, List, [], Option, Some, None, Result, Ok, Err, refl, sym, ◌∙◌, ap, subst, bytes_eq, codes, arith}
 use Rattle.std.specs.Prelude.{OnOk, IfErr, IfSome, IsErrOf}
 use Rattle.std.proofs.lemmas.Bool.{true≢false}
 use Rattle.outside.specs.Files.{Contents, Files, untold, Sent, with_file}
@@ -13,6 +13,7 @@ use Rattle.mp3_cli.specs.declared.shift.Shift.{Shift}
 use Rattle.mp3_cli.specs.Words.{word_at, job_of}
 use Rattle.mp3_cli.specs.Texts.{status_of, fault_line, bad_word_line, GotLine}
 use Rattle.mp3_cli.specs.Edited.{most_frames, edited, range_fault, unless, gained_by, gained, gained_where, gain_result}
+use Rattle.mp3_cli.specs.Streams.{HoldsMovedStream}
 use Rattle.mp3_cli.specs.Kinds.{InputKind, IsAbsent, IsUnread, IsShorter, IsTooMuch, IsRefused, ByKind, kind_of, by_kind}
 use Rattle.sync_survey.specs.declared.survey_fault.SurveyFault.{SurveyFault}
 use Rattle.sync_survey.specs.Faults.{SurveyFields}
@@ -330,6 +331,28 @@ pub named_defined : {T : Type 0} (shift : Shift) (a b input output : List ℕ) (
     → IfErr answer (IsDefinedAt shift a b old) → IfErr answer (IsDefinedAt shift input output old)
 named_defined shift a b input output old answer first second defined =
     subst (λ n. IfErr answer (IsDefinedAt shift n output old)) first (subst (λ n. IfErr answer (IsDefinedAt shift a n old)) second defined)
+
+pub named_moved : (shift : Shift) (a b input output : List ℕ) (old new : Files) → a ≡ input → b ≡ output → HoldsMovedStream shift a b old new → HoldsMovedStream shift input output old new
+named_moved shift a b input output old new first second moved = subst (λ n. HoldsMovedStream shift n output old new) first (subst (λ n. HoldsMovedStream shift a n old new) second moved)
+
+-- what holds where the command was done
+kind_some : (kind : InputKind) → 0 < by_kind kind_status kind
+kind_some IsAbsent = omega arith
+kind_some IsUnread = omega arith
+kind_some IsShorter = omega arith
+kind_some IsTooMuch = omega arith
+kind_some IsRefused = omega arith
+
+status_some : (fault : EditFault) → 0 < status_of fault
+status_some (EqualNames place) = omega arith
+status_some (Input place fault) = kind_some (kind_of fault)
+status_some (GainRange offset granule channel gain) = omega arith
+status_some (Write place) = omega arith
+status_some Memory = omega arith
+
+pub answered : {T : Type 0} (answer : Result T EditFault) (status : ℕ) (P : Type 0) → status ≡ answer_status answer → status ≡ 0 → OnOk answer P → P
+answered (Ok x) status P is zero holds = holds
+answered (Err fault) status P is zero holds = absurd (omega (arith, is, zero, status_some fault))
 
 pub is_accepted_told : {T : Type 0} (words : List (List ℕ)) (shift : Shift) (input output : ℕ) → job_of words ≡ Ok (Gain shift input output) → (f : Contents) (old new : Files) (counts_before counts_after : Counts)
     (answer : Result T EditFault) (status : ℕ) → old ≡ Some f → Gained shift (word_at words input) (word_at words output) old new counts_before counts_after answer → status ≡ answer_status answer

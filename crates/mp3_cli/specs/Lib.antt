@@ -7,3 +7,4 @@ pub mod Gains
 pub mod Edited
 pub mod Gain
 pub mod Run
+pub mod Streams

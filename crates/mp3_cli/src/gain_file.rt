@@ -3,6 +3,7 @@ ghost use Rattle.std.specs.Prelude.{◌≡◌, ◌⊎◌, ◌↔◌, ◌+◌, �
 ghost use Rattle.outside.specs.Files.{Holds, IsThere, IsMissing};
 ghost use Rattle.outside.specs.Counts.{Rose, NoneFell, OnlyReads, OnlyWrites, NothingFailed};
 ghost use Rattle.mp3_cli.specs.Edited.{gained};
+ghost use Rattle.mp3_cli.specs.Streams.{IsStreamMoved, HoldsMovedStream};
 ghost use Rattle.mp3_cli.specs.Gain.{holding, HoldsFront, IsInputFault, IsWritten, IsDefinedAt, IsCounted, LeavesAt};
 
 use crate::edit::{drop_junk, move_gains, range_fault};
@@ -24,6 +25,7 @@ fn edited_input<D: Folder>(
 ) -> Result<Vec<u8>, EditFault>
     ensures there { OnOk result (IsThere (D.files folder.old) name.now) }
     ensures gained { IfOk result (λ v. (bytes : List ℕ) → Holds (D.files folder.old) name.now bytes → gained shift.now bytes ≡ Ok v.items) }
+    ensures moved { IfOk result (λ v. (bytes : List ℕ) → Holds (D.files folder.old) name.now bytes → IsStreamMoved shift.now bytes v.items) }
     ensures refused { IfErr result (IsInputFault shift.now name.now (D.files folder.old)) }
     ensures done { OnOk result (NothingFailed (D.counts folder.old) (D.counts folder.new)) }
     ensures counted { IfErr result (IsCounted (D.counts folder.old) (D.counts folder.new)) }
@@ -70,6 +72,8 @@ pub fn gain<D: Folder>(
     shift: &Shift,
 ) -> Result<(), EditFault>
     ensures written { OnOk result (IsWritten shift.now input.now output.now (D.files folder.old) (D.files folder.new)) }
+    // The output is well-formed as the input is, and holds the same stream with each gain moved.
+    ensures moved { OnOk result (HoldsMovedStream shift.now input.now output.now (D.files folder.old) (D.files folder.new)) }
     ensures defined { IfErr result (λ fault. IsDefinedAt shift.now input.now output.now (D.files folder.old) fault) }
     ensures left { IfErr result (λ fault. LeavesAt shift.now input.now output.now (D.files folder.old) (D.files folder.new) fault) }
     ensures equal_names { IsErrOf result (EditFault.EqualNames 0) ↔ (input.now ≡ output.now) }

@@ -5,6 +5,7 @@ ghost use Rattle.outside.specs.Counts.{Rose, NoneFell, NothingFailed};
 ghost use Rattle.mp3_cli.specs.declared.jobs.Job.TheVariants.{Gain};
 ghost use Rattle.mp3_cli.specs.Words.{word_at, job_of, IsSound};
 ghost use Rattle.mp3_cli.specs.Texts.{GotLine};
+ghost use Rattle.mp3_cli.specs.Streams.{MovesStream};
 ghost use Rattle.mp3_cli.specs.Run.{outcome, answer_status, answer_line, IsOutcome, IsAccepted, IsStopped, AsksForMemory};
 
 use crate::fault::EditFault;
@@ -76,6 +77,9 @@ fn run_gain<D: Folder, E: Sink>(
         → (Rose (D.counts folder.old).write_faults (D.counts folder.new).write_faults → ⊥) → result ≢ 4
         → ((result ≡ 0) ↔ IsAccepted (map string_bytes words.now) files) }
 
+    // What is written is a well-formed file that holds the input's stream with each gain moved.
+    ensures moved { result ≡ 0 → MovesStream (map string_bytes words.now) (D.files folder.old) (D.files folder.new) }
+
     ensures quiet { result ≡ 0 → E.sent err.new ≡ E.sent err.old }
     ensures counts { NoneFell (D.counts folder.old) (D.counts folder.new) }
 {
@@ -123,6 +127,9 @@ pub fn run<D: Folder, T: Sink, E: Sink>(
     ensures accepted { (files : Contents) → D.files folder.old ≡ Some files → (Rose (D.counts folder.old).read_faults (D.counts folder.new).read_faults → ⊥)
         → (Rose (D.counts folder.old).write_faults (D.counts folder.new).write_faults → ⊥) → result ≢ 4
         → ((result ≡ 0) ↔ IsAccepted (map string_bytes words.now) files) }
+
+    // What is written is a well-formed file that holds the input's stream with each gain moved.
+    ensures moved { result ≡ 0 → MovesStream (map string_bytes words.now) (D.files folder.old) (D.files folder.new) }
 
     ensures quiet { result ≡ 0 → E.sent err.new ≡ E.sent err.old }
     ensures no_text { T.sent out.new ≡ T.sent out.old }

@@ -172,7 +172,7 @@ pub all_judged : (file : List ℕ) (head : Option Head) (class : ClassFields) (a
     → IsJudgedTo file head class allowed frames i rows place ended → length frames ≤ i → (rows ≡ rows_of file frames) × (first_of (all_faults file head class allowed [] (rows_of file frames)) ≡ None)
 all_judged file head class allowed frames i rows place ended so_far end = (
   so_far.rows_are ∙ ap (rows_of file) (take_all i frames end),
-  ap first_of (so_far.faults ∙ ap (λ (ps : List PlacedFrame). all_faults file head class allowed (reverse rows) (rows_of file ps)) (drop_all i frames end) ∙ faults-none file head class allowed (reverse rows))
+  ap first_of (so_far.faults ∙ ap (λ (ps : List PlacedFrame). all_faults file head class allowed (reverse rows) (rows_of file ps)) (drop_all i frames end) ∙ faults-none file head class allowed (reverse rows)),
 )
 
 -- each of these frames is in the file

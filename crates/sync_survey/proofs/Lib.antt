@@ -7,3 +7,7 @@ pub mod FaultsLaws
 pub mod OneItem
 pub mod SurveyLaws
 pub mod FoldersLaws
+pub mod ItemBytes
+pub mod ItemLists
+pub mod SurveyParts
+pub mod HeadSame

@@ -107,14 +107,14 @@ pub record SurveyFields : Type 0 where
 unfoldable pub fields_from : List ℕ → Start → SurveyFields
 fields_from file start =
     let walk = walk_from file start in record {
-  frames = rows_of file walk.frames;
-  blocks = walk.blocks;
-  head = walk.head;
-  junk = start.front_end;
-  first = start.first.offset;
-  class = class_from start;
-  length = length file;
-}
+      frames = rows_of file walk.frames;
+      blocks = walk.blocks;
+      head = walk.head;
+      junk = start.front_end;
+      first = start.first.offset;
+      class = class_from start;
+      length = length file;
+    }
 
 abbrev pub unless_fault : Option SurveyFault → SurveyFields → Result SurveyFields SurveyFault
 unless_fault (Some fault) fields = Err fault

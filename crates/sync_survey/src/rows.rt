@@ -110,9 +110,14 @@ impl Before {
     {
         let place = self.place + u64::from(row.header.area());
         if row.side.bits() == 0 {
-            return Before { place, ended: self.ended };
+            return Before {
+                place,
+                ended: self.ended,
+            };
         }
-        let start = self.place.saturating_sub(u64::from(row.side.main_data_begin));
+        let start = self
+            .place
+            .saturating_sub(u64::from(row.side.main_data_begin));
         Before {
             place,
             ended: start + u64::from(row.side.payload_bytes()),
@@ -121,7 +126,14 @@ impl Before {
 
     /// The first fault of a frame that so many frames stand before.
     #[tactic(auto, unfolding(crate::specs::Faults::faults_at))]
-    pub(crate) fn fault(&self, file: &[u8], row: &Row, class: Class, count: u64, allowed: u64) -> Option<SurveyFault>
+    pub(crate) fn fault(
+        &self,
+        file: &[u8],
+        row: &Row,
+        class: Class,
+        count: u64,
+        allowed: u64,
+    ) -> Option<SurveyFault>
         requires room { row.now.offset + overhead_of (class_of row.now.header) row.now.header.protected ≤ length file.now }
         requires fits { SideFits (class_of row.now.header) row.now.side }
         requires bound { self.now.place ≤ 2 ^ 62 }

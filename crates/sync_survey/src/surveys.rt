@@ -1,5 +1,6 @@
 //! The survey of a file's bytes.
 ghost use Rattle.std.specs.Prelude.{◌≡◌, ◌⊎◌, ◌-◌, ◌≤◌, [], IfOk, MatchResult};
+ghost use Rattle.bit_fields.specs.Bits.{AreBytes};
 ghost use Rattle.sync_survey.specs.Runs.{AreInFile};
 ghost use Rattle.sync_survey.specs.MainData.{head_area as head_area_lem, rows_of};
 ghost use Rattle.sync_survey.specs.Faults.{all_faults, first_of, surveyed, tells};
@@ -125,7 +126,9 @@ fn judge(
 /// `BackPointer`, `Overlap`, `Overrun`, `TooManyFrames`. `Memory` may come before a fault is met.
 #[tactic(auto, unfolding(crate::specs::Faults::surveyed))]
 pub fn survey_bytes(alloc: Global, file: &[u8], allowed: u32) -> Result<Survey, SurveyFault>
-    ensures { MatchResult result (λ s. surveyed file.now allowed ≡ Ok (tells s)) (IsSurveyRefusal file.now allowed) }
+    ensures exact { MatchResult result (λ s. surveyed file.now allowed ≡ Ok (tells s)) (IsSurveyRefusal file.now allowed) }
+    // What the type says of the file, for callers that go by the numbers.
+    ensures octets { AreBytes file.now }
 {
     let start = find_start(file)?;
     let head = head_of(file, &start.first);

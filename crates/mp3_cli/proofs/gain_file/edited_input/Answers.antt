@@ -4,6 +4,8 @@ use Rattle.std.proofs.lemmas.List.{take_at}
 use Rattle.std.proofs.lemmas.Result.{err_from_is_err_and}
 use Rattle.sync_survey.specs.Faults.{tells}
 use Rattle.mp3_cli.specs.Edited.{most_frames, range_fault, with_rows, AreInBytes}
+use Rattle.bit_fields.specs.Bits.{AreBytes}
+use Rattle.mp3_cli.proofs.GainedStream.{gained-stream}
 use Rattle.mp3_cli.proofs.WholeEdit.{rows_in_bytes}
 use Rattle.mp3_cli.proofs.GainLaws.{IsLoadedInput, load_is_input, survey_is_input, survey_counted, range_is_input, edited_is, junk_dropped, junk_within}
 use Rattle.mp3_cli.proofs.gain_file.edited_input.Goals as goal
@@ -19,12 +21,12 @@ returns-in_err-survey-clause-refused g c =
     let files = g.D.Folder.files c.args.folder.now in
     let loaded = c.in_ok-bytes.ensures in
     let all : IsLoadedInput c.args.name.now files c.deref.result.now = subst (IsLoadedInput c.args.name.now files) (sym c.deref.ensures.value) (record { there = loaded.there; bytes = loaded.bytes; few = loaded.bound }) in
-    rw (p.1, p.2) (survey_is_input c.args.shift.now c.args.name.now files c.deref.result.now all _ c.in_err-survey.ensures)
+    rw (p.1, p.2) (survey_is_input c.args.shift.now c.args.name.now files c.deref.result.now all _ c.in_err-survey.ensures.exact)
 
 pub returns-in_err-survey-clause-counted : goal.returns-in_err-survey-clause-counted
 returns-in_err-survey-clause-counted g c =
     let p = err_from_is_err_and c.from_residual-in_err-survey.result c.from_residual-in_err-survey.ensures.1 in
-    rw (p.1, p.2) (survey_counted _ _ c.deref.result.now most_frames _ c.in_err-survey.ensures c.in_ok-bytes.ensures.done)
+    rw (p.1, p.2) (survey_counted _ _ c.deref.result.now most_frames _ c.in_err-survey.ensures.exact c.in_ok-bytes.ensures.done)
 
 pub returns-in-Some-clause-refused : goal.returns-in-Some-clause-refused
 returns-in-Some-clause-refused g c =
@@ -32,18 +34,18 @@ returns-in-Some-clause-refused g c =
     let files = g.D.Folder.files c.args.folder.now in
     let loaded = c.in_ok-bytes.ensures in
     let all : IsLoadedInput c.args.name.now files c.deref.result.now = subst (IsLoadedInput c.args.name.now files) (sym c.deref.ensures.value) (record { there = loaded.there; bytes = loaded.bytes; few = loaded.bound }) in
-    range_is_input shift c.args.name.now files c.deref.result.now all (tells c.in_ok-survey.survey) c.in-Some.fault c.in_ok-survey.ensures (sym (c.in-Some.ensures.fault ∙ ap (range_fault shift) c.frames.ensures)) c.in-Some.ensures.range
+    range_is_input shift c.args.name.now files c.deref.result.now all (tells c.in_ok-survey.survey) c.in-Some.fault c.in_ok-survey.ensures.exact (sym (c.in-Some.ensures.fault ∙ ap (range_fault shift) c.frames.ensures)) c.in-Some.ensures.range
 
 pub move_gains-requires : goal.move_gains-requires
 move_gains-requires g c =
     let file = c.deref.result.now in
     subst (λ b. AreInBytes b c.frames-2.result.now) (c.deref.ensures.value ∙ sym c.deref_mut.ensures.value)
-    (subst (AreInBytes file) (sym c.frames-2.ensures) (rows_in_bytes file most_frames (tells c.in_ok-survey.survey) c.in_ok-survey.ensures))
+    (subst (AreInBytes file) (sym c.frames-2.ensures) (rows_in_bytes file most_frames (tells c.in_ok-survey.survey) c.in_ok-survey.ensures.exact))
 
 pub drop_junk-requires : goal.drop_junk-requires
 drop_junk-requires g c =
     omega (arith, c.deref.ensures.len,
-    junk_within c.deref.result.now (tells c.in_ok-survey.survey) c.junk-at.result.0 c.junk-at.result.1 c.in_ok-survey.ensures (ap (λ r. r.0) c.junk-at.ensures) (ap (λ r. r.1) c.junk-at.ensures))
+    junk_within c.deref.result.now (tells c.in_ok-survey.survey) c.junk-at.result.0 c.junk-at.result.1 c.in_ok-survey.ensures.exact (ap (λ r. r.0) c.junk-at.ensures) (ap (λ r. r.1) c.junk-at.ensures))
 
 pub returns-clause-gained : goal.returns-clause-gained
 returns-clause-gained g c =
@@ -57,6 +59,11 @@ returns-clause-gained g c =
     let at = c.junk-at.result.0 in
     let end = at + c.junk-at.result.1 in
     let same = take_at c.move_gains.new.bytes _ c.in_ok-bytes.bytes.len (omega (arith, c.move_gains.auto.bytes, c.deref_mut.ensures.len)) in
-    edited_is shift c.args.name.now files file all s _ c.in_ok-survey.ensures (sym (c.in_default.ensures.fault ∙ ap (range_fault shift) c.frames.ensures))
-    (junk_dropped shift file c.move_gains.new.bytes _ s c.junk-at.result.0 c.junk-at.result.1 c.in_ok-survey.ensures moved (ap (λ r. r.0) c.junk-at.ensures) (ap (λ r. r.1) c.junk-at.ensures)
+    edited_is shift c.args.name.now files file all s _ c.in_ok-survey.ensures.exact (sym (c.in_default.ensures.fault ∙ ap (range_fault shift) c.frames.ensures))
+    (junk_dropped shift file c.move_gains.new.bytes _ s c.junk-at.result.0 c.junk-at.result.1 c.in_ok-survey.ensures.exact moved (ap (λ r. r.0) c.junk-at.ensures) (ap (λ r. r.1) c.junk-at.ensures)
     (c.drop_junk.ensures ∙ ap (λ l. take at l ++ drop end l) same))
+
+pub returns-clause-moved : goal.returns-clause-moved
+returns-clause-moved g c bytes holds =
+    let all = subst AreBytes (c.deref.ensures.value ∙ c.in_ok-bytes.ensures.bytes bytes holds) c.in_ok-survey.ensures.octets in
+    gained-stream c.args.shift.now bytes c.drop_junk.new.bytes.items all (returns-clause-gained g c bytes holds)

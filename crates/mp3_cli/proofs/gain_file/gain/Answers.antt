@@ -1,7 +1,7 @@
 -- The command's answer is the defined one.
 use Rattle.std.proofs.Common.{◌≡◌, Ok, rules, true, false, bytes_eq}
 use Rattle.std.proofs.lemmas.Result.{err_from_is_err_and}
-use Rattle.mp3_cli.proofs.GainLaws.{gives_equal, gives_bytes, input_fault-defined, is_written, written_in_part}
+use Rattle.mp3_cli.proofs.GainLaws.{holds_moved, gives_equal, gives_bytes, input_fault-defined, is_written, written_in_part}
 use Rattle.mp3_cli.proofs.gain_file.gain.Goals as goal
 
 pub returns-then-eq-clause-defined : goal.returns-then-eq-clause-defined
@@ -30,3 +30,8 @@ returns-clause-left g c =
     let bytes = c.in_ok-bytes.bytes.items in
     let defined = gives_bytes c.args.shift.now c.args.input.now c.args.output.now files (Ok bytes) differ c.in_ok-bytes.ensures.there c.in_ok-bytes.ensures.gained in
     written_in_part c.args.shift.now c.args.input.now c.args.output.now bytes c.deref.result.now files _ _ c.in_ok-bytes.ensures.files c.deref.ensures.value defined c.in-Err.ensures.front
+
+pub returns-in-Ok-clause-moved : goal.returns-in-Ok-clause-moved
+returns-in-Ok-clause-moved g c =
+    holds_moved c.args.shift.now c.args.input.now c.args.output.now c.in_ok-bytes.bytes.items c.deref.result.now (g.D.Folder.files c.args.folder.now) (g.D.Folder.files c.edited_input.new.folder)
+    (g.D.Folder.files c.save.new.folder) c.deref.ensures.value c.in_ok-bytes.ensures.moved c.in-Ok.ensures.written

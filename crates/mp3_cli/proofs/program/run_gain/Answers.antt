@@ -1,6 +1,7 @@
 -- Each clause from what the command ensures.
 use Rattle.std.proofs.Common.{map, string_bytes}
-use Rattle.mp3_cli.proofs.RunLaws.{Gained, named, named_line, named_defined, is_defined, is_out_of_memory, asks_for_memory, is_accepted_told, each_text}
+use Rattle.mp3_cli.proofs.RunLaws.{named_moved, answered, Gained, named, named_line, named_defined, is_defined, is_out_of_memory, asks_for_memory, is_accepted_told, each_text}
+use Rattle.mp3_cli.specs.Streams.{HoldsMovedStream}
 use Rattle.mp3_cli.specs.Run.{outcome, IsOutcome}
 use Rattle.mp3_cli.proofs.program.run_gain.Goals as goal
 
@@ -48,3 +49,16 @@ returns-clause-needed g c four =
     let there = named _ _ _ _ _ _ _ _ _ _ c.name_at-input.ensures c.name_at-output.ensures here in
     asks_for_memory words c.args.shift c.args.input c.args.output c.requires.job (g.D.Folder.files c.args.folder.now) (g.D.Folder.files c.gain-done.new.folder)
     (g.D.Folder.counts c.args.folder.now) (g.D.Folder.counts c.gain-done.new.folder) c.gain-done.result c.report.result there c.report.ensures.status four
+
+pub returns-clause-moved : goal.returns-clause-moved
+returns-clause-moved g c done =
+    let words = map string_bytes c.args.words.now in
+    record {
+      shift = c.args.shift;
+      input = c.args.input;
+      output = c.args.output;
+      job = c.requires.job;
+      moved = named_moved c.args.shift _ _ _ _ (g.D.Folder.files c.args.folder.now) (g.D.Folder.files c.gain-done.new.folder) c.name_at-input.ensures c.name_at-output.ensures
+          (answered c.gain-done.result c.report.result (HoldsMovedStream c.args.shift c.name_at-input.result.now c.name_at-output.result.now (g.D.Folder.files c.args.folder.now) (g.D.Folder.files c.gain-done.new.folder))
+          c.report.ensures.status done c.gain-done.ensures.moved);
+    }

@@ -11,7 +11,7 @@ returns-clause-exact g c =
     let loaded = c.in_ok-bytes.ensures in
     let all : IsLoaded c.args.name.now files before after c.deref.result.now =
     subst (IsLoaded c.args.name.now files before after) (sym c.deref.ensures.value) (record { there = loaded.there; bytes = loaded.bytes; few = loaded.bound; counts = loaded.done }) in
-    survey_ok c.args.name.now files c.args.allowed before after c.deref.result.now all c.survey_bytes.result c.survey_bytes.ensures
+    survey_ok c.args.name.now files c.args.allowed before after c.deref.result.now all c.survey_bytes.result c.survey_bytes.ensures.exact
 
 pub returns-clause-refused : goal.returns-clause-refused
 returns-clause-refused g c =
@@ -21,4 +21,4 @@ returns-clause-refused g c =
     let loaded = c.in_ok-bytes.ensures in
     let all : IsLoaded c.args.name.now files before after c.deref.result.now =
     subst (IsLoaded c.args.name.now files before after) (sym c.deref.ensures.value) (record { there = loaded.there; bytes = loaded.bytes; few = loaded.bound; counts = loaded.done }) in
-    survey_refused c.args.name.now files c.args.allowed before after c.deref.result.now all c.survey_bytes.result c.survey_bytes.ensures
+    survey_refused c.args.name.now files c.args.allowed before after c.deref.result.now all c.survey_bytes.result c.survey_bytes.ensures.exact

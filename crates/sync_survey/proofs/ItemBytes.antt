@@ -1,0 +1,143 @@
+-- An item is known by its own bytes: whatever bytes stand behind them, it is what stands at their front.
+use Rattle.std.proofs.Common.{◌≡◌, ℕ, ◌+◌, ◌-◌, ◌≤◌, Bool, true, false, cond, leb, List, ◌++◌, length, take, drop, Some, Ok, Err, refl, sym, ◌∙◌, ap, codes, arith}
+use Rattle.std.specs.Str.{bytes_eq}
+use Rattle.std.proofs.lemmas.Bool.{false≢true, leb-true, leb-false}
+use Rattle.std.proofs.lemmas.List.{length-take, length-drop, length-take-le, take-append-le, take-take, drop-take, get_or-take, take_at}
+use Rattle.bit_fields.specs.Bits.{AreBytes}
+use Rattle.bit_fields.proofs.BitsLaws.{AreBytes-append, AreBytes-take, AreBytes-drop}
+use Rattle.frame_header.specs.declared.header.NotHeader.TheVariants.{No}
+use Rattle.frame_header.specs.Fields.{HeaderFields, IsHeader}
+use Rattle.frame_header.specs.Tables.{class_of, length_of}
+use Rattle.frame_header.specs.Reading.{header_at}
+use Rattle.frame_header.proofs.Lengths.{area_some}
+use Rattle.frame_header.proofs.HeaderLaws.{IsClass-class_of}
+use Rattle.tag_blocks.specs.declared.block.Kind.{Kind}
+use Rattle.tag_blocks.specs.declared.block.Kind.TheVariants.{Id3v2, Id3v1, Ape}
+use Rattle.tag_blocks.specs.declared.block.Block.{Block as TagBlock}
+use Rattle.tag_blocks.specs.Blocks.{begins_with, is_id3v2, id3v2_length, is_id3v1, is_ape, ape_length, begins, length_as, front_as, block_front}
+use Rattle.tag_blocks.proofs.BlocksLaws.{block_front-own, block_front-begins, block_front-any}
+use Rattle.sync_survey.specs.declared.items.Item.{Item}
+use Rattle.sync_survey.specs.declared.items.Item.TheVariants.{Frame, Free, Block, Zero, End, Nothing}
+use Rattle.sync_survey.specs.declared.runs.Part.TheVariants.{Stream}
+use Rattle.sync_survey.specs.Items.{header_front, Stands, item_front, item_at, size_of}
+use Rattle.sync_survey.specs.Runs.{belongs}
+use Rattle.sync_survey.proofs.ItemsLaws.{stands-at, header_front-in_range}
+use Rattle.sync_survey.proofs.OneItem.{stands-only}
+
+-- ---- a length that is asked for shows in as many bytes
+
+long_cases : (k n : ℕ) (bytes : List ℕ) → k ≤ n → (a b : Bool) → leb k (length (take n bytes)) ≡ a → leb k (length bytes) ≡ b → a ≡ b
+long_cases k n bytes within true true e f = refl
+long_cases k n bytes within false false e f = refl
+long_cases k n bytes within true false e f = absurd (omega (arith, leb-true k (length (take n bytes)) e, leb-false k (length bytes) f, length-take n bytes))
+long_cases k n bytes within false true e f = absurd (omega (arith, leb-false k (length (take n bytes)) e, leb-true k (length bytes) f, length-take n bytes))
+
+long_take : (k n : ℕ) (bytes : List ℕ) → k ≤ n → leb k (length (take n bytes)) ≡ leb k (length bytes)
+long_take k n bytes within = long_cases k n bytes within _ _ refl refl
+
+-- ---- a block
+
+-- by so many of its first bytes a block of this kind is known
+abbrev known_by : Kind → ℕ
+known_by Id3v2 = 10
+known_by Id3v1 = 3
+known_by Ape = 32
+
+part_take : (at many n : ℕ) (bytes : List ℕ) → at + many ≤ n → take many (drop at (take n bytes)) ≡ take many (drop at bytes)
+part_take at many n bytes within =
+    let split : n ≡ at + (n - at) = omega arith in
+    ap (λ k. take many (drop at (take k bytes))) split ∙ ap (take many) (drop-take at (n - at) bytes) ∙ take-take many (n - at) (drop at bytes) (omega arith)
+
+text_take : (text : List ℕ) (n : ℕ) (bytes : List ℕ) → length text ≤ n → begins_with text (take n bytes) ≡ begins_with text bytes
+text_take text n bytes within = ap (bytes_eq text) (take-take (length text) n bytes within)
+
+begins-take : (kind : Kind) (n : ℕ) (bytes : List ℕ) → known_by kind ≤ n → begins kind (take n bytes) ≡ begins kind bytes
+unfolding is_id3v2 is_id3v1 is_ape
+begins-take Id3v2 n bytes within =
+    rw (long_take 10 n bytes within, text_take (codes "ID3") n bytes (omega arith), get_or-take n bytes 3 0 (omega arith), get_or-take n bytes 4 0 (omega arith), part_take 6 4 n bytes (omega arith)) refl
+begins-take Id3v1 n bytes within = text_take (codes "TAG") n bytes within
+begins-take Ape n bytes within =
+    rw (long_take 32 n bytes within, text_take (codes "APETAGEX") n bytes (omega arith), part_take 8 4 n bytes (omega arith), part_take 12 4 n bytes (omega arith), part_take 20 4 n bytes (omega arith)) refl
+
+length_as-take : (kind : Kind) (n : ℕ) (bytes : List ℕ) → known_by kind ≤ n → length_as kind (take n bytes) ≡ length_as kind bytes
+unfolding id3v2_length ape_length
+length_as-take Id3v2 n bytes within = rw (part_take 6 4 n bytes (omega arith), get_or-take n bytes 5 0 (omega arith)) refl
+length_as-take Id3v1 n bytes within = refl
+length_as-take Ape n bytes within = rw (part_take 12 4 n bytes (omega arith)) refl
+
+front_as-take : (kind : Kind) (n : ℕ) (bytes : List ℕ) → known_by kind ≤ n → front_as kind (take n bytes) ≡ front_as kind bytes
+front_as-take kind n bytes within = rw (begins-take kind n bytes within, length_as-take kind n bytes within) refl
+
+-- these bytes are within the block
+known_within : (kind : Kind) (bytes : List ℕ) → known_by kind ≤ length_as kind bytes
+unfolding id3v2_length ape_length
+known_within Id3v2 bytes = omega arith
+known_within Id3v1 bytes = omega arith
+known_within Ape bytes = omega arith
+
+-- a block is known by its own bytes, whatever stands behind them
+pub block_front-bytes : (bytes rest : List ℕ) (b : TagBlock) → block_front bytes ≡ Some b → b.length ≤ length bytes → block_front (take b.length bytes ++ rest) ≡ Some b
+block_front-bytes bytes rest b is within =
+    let own = take b.length bytes in
+    let known : known_by b.kind ≤ b.length = omega (arith, known_within b.kind bytes, (block_front-begins bytes b is).1) in
+    let same : take b.length (own ++ rest) ≡ own = take_at own rest b.length (length-take-le b.length bytes within) in
+    block_front-any b.kind (own ++ rest) b
+    (sym (front_as-take b.kind b.length (own ++ rest) known) ∙ ap (front_as b.kind) same ∙ front_as-take b.kind b.length bytes known ∙ block_front-own bytes b is)
+
+-- ---- a header
+
+-- only the first four bytes matter
+pub header_front-four : (xs ys : List ℕ) → take 4 xs ≡ take 4 ys → header_front xs ≡ header_front ys
+unfolding header_front
+header_front-four xs ys same =
+    let long : leb 4 (length xs) ≡ leb 4 (length ys) = sym (long_take 4 4 xs (omega arith)) ∙ ap (λ l. leb 4 (length l)) same ∙ long_take 4 4 ys (omega arith) in
+    ap (λ b. cond b (header_at (take 4 xs)) (Err No)) long ∙ ap (λ four. cond (leb 4 (length ys)) (header_at four) (Err No)) same
+
+-- ---- an item
+
+-- These bytes are an item: they are as many as it has, and whatever bytes stand behind them, it is what stands at their front.
+pub record IsItem (item : Item) (own : List ℕ) : Type 0 where
+  pub size : length own ≡ size_of item
+  pub bytes : AreBytes own
+  pub known : (rest : List ℕ) → AreBytes rest → item_front (own ++ rest) ≡ item
+
+known_by_standing : (item : Item) (own : List ℕ) → AreBytes own → ((rest : List ℕ) → Stands (own ++ rest) item) → (rest : List ℕ) → AreBytes rest → item_front (own ++ rest) ≡ item
+known_by_standing item own all stands rest behind = sym (stands-only (own ++ rest) item (AreBytes-append own rest all behind) (stands rest))
+
+-- a frame has its header and its length
+pub frame_item : (h : HeaderFields) (own : List ℕ) → header_front own ≡ Ok h → length own ≡ length_of (class_of h) h.slot → 4 ≤ length own → AreBytes own → IsItem (Frame h) own
+frame_item h own header long least all = record {
+  size = long;
+  bytes = all;
+  known = known_by_standing (Frame h) own all (λ rest. header_front-four (own ++ rest) own (take-append-le 4 own rest least) ∙ header);
+}
+
+-- a frame has more than the four bytes of its header
+pub frame-least : (h : HeaderFields) → IsHeader h → 4 ≤ length_of (class_of h) h.slot
+frame-least h fields = omega (arith, area_some (class_of h) h.slot (IsClass-class_of h fields) fields.slot)
+
+-- what stands at the front of bytes and is whole is known by its own bytes
+stands_kept : (item : Item) (bytes rest : List ℕ) → Stands bytes item → belongs Stream item ≡ true → size_of item ≤ length bytes → Stands (take (size_of item) bytes ++ rest) item
+stands_kept (Frame h) bytes rest here is within =
+    let size = length_of (class_of h) h.slot in
+    let least = frame-least h (header_front-in_range bytes h here) in
+    header_front-four (take size bytes ++ rest) bytes
+    (take-append-le 4 (take size bytes) rest (omega (arith, least, within, length-take size bytes)) ∙ take-take 4 size bytes least)
+    ∙ here
+stands_kept Free bytes rest here is within = absurd (false≢true is)
+stands_kept (Block b) bytes rest here is within = block_front-bytes bytes rest b here within
+stands_kept Zero bytes rest here is within = take-append-le 1 (take 1 bytes) rest (omega (arith, within, length-take 1 bytes)) ∙ take-take 1 1 bytes (omega arith) ∙ here
+stands_kept End bytes rest here is within = absurd (false≢true is)
+stands_kept Nothing bytes rest here is within = absurd (false≢true is)
+
+-- the bytes of a whole item of a file are that item
+pub kept_item : (file : List ℕ) (at : ℕ) (item : Item) → AreBytes file → item_at file at ≡ item → belongs Stream item ≡ true → at + size_of item ≤ length file → IsItem item (take (size_of item) (drop at file))
+kept_item file at item all is belongs within =
+    let bytes = drop at file in
+    let size = size_of item in
+    let room : size ≤ length bytes = omega (arith, within, length-drop at file) in
+    let own : AreBytes (take size bytes) = AreBytes-take size bytes (AreBytes-drop at file all) in record {
+      size = length-take-le size bytes room;
+      bytes = own;
+      known = known_by_standing item (take size bytes) own (λ rest. stands_kept item bytes rest (stands-at file at item is) belongs room);
+    }
