@@ -1,27 +1,31 @@
 #!/usr/bin/env python3
-"""Reads Layer III frames of MPEG-1 and MPEG-2, apart from the program that it helps to check.
+"""Reads MP3 files (Layer III of MPEG-1 and MPEG-2), apart from the program that it helps to check.
 
-  frames.py plain FILE             'plain: N frames, ..', or why not and status 1
-  frames.py refusal FILE           of a file that is not plain: 'not yet at O', or 'check word at O is S, right is R'
+  frames.py survey FILE            what stands in the file; or why it is refused, and status 1
+  frames.py refusal FILE           of a file that is refused: what the program's line says behind the name
   frames.py past FILE N            'gain V out of range at O, granule G, channel C' for the first gain that N steps lead out of 0 to 255
   frames.py ends FILE              the least and the greatest gain, but for the silent ones
-  frames.py moved IN N OUT         writes OUT: IN with each gain moved by N, but the silent ones, and with right check words
+  frames.py moved IN N OUT         writes OUT: IN with each gain moved by N, but the silent ones, with right check words, and without
+                                   junk; and says what stands in IN
+  frames.py without-junk IN OUT    writes OUT: IN without the bytes between its blocks and its first frame
   frames.py spoilt IN PLACE OUT    writes OUT: IN with a wrong check word in its 'first' or 'last' frame
   frames.py differ A B N           says where A and B differ; status 1 where B is not A with the gains of silent granules alone moved by N,
                                    and with the check words that are right for them
   frames.py decoded A B FACTOR     compares two WAV files of 16 bits: B is A times FACTOR, within rounding, and A is not silent
 
-A frame is plain where its header is one of Layer III with a rate, it is whole, its version, frequency and number of channels
-are those of the first frame, and the first frame is no 'Xing' or 'Info' head; its check word is right, where protection_bit
-is 0; and main_data_begin is 0, and its main data fit in it. What fails first is its refusal. Layout: ISO/IEC 11172-3 and
-13818-3, 2.4.1 and 2.4.2. A granule of a channel is silent where its part2_3_length is 0.
+Layout of frames: ISO/IEC 11172-3 and 13818-3, 2.4.1 and 2.4.2; of blocks: ID3v2, ID3v1 and APEv2. A granule of a channel is
+silent where its part2_3_length is 0. The main bytes of a file are the areas of its frames (what is left of a frame behind
+header, check word and side information) end to end; a frame's main data begin main_data_begin bytes before its own area there.
 """
 import array
 import sys
 import wave
-from dataclasses import dataclass
+from dataclasses import dataclass, field
 
 MODES = ("stereo", "joint", "dual", "mono")
+MOST_JUNK = 65_536
+LONGEST = 1_073_741_824
+MOST_FRAMES = 2_900_000
 
 
 @dataclass(frozen=True)
@@ -63,12 +67,8 @@ MPEG_2 = Version(
 )
 
 
-class NotPlain(Exception):
-    """Why no plain frame stands somewhere."""
-
-
-class WrongWord(NotPlain):
-    pass
+class Refused(Exception):
+    """What the program's line says behind the name of the file."""
 
 
 def check_word(data):
@@ -79,6 +79,9 @@ def check_word(data):
             carry = word >> 15 ^ byte >> bit & 1
             word = word << 1 & 0xFFFF ^ 0x8005 * carry
     return word
+
+
+# ---- what stands at an offset
 
 
 @dataclass
@@ -93,94 +96,223 @@ class Granule:
 
 
 class Frame:
-    """One frame of Layer III at an offset."""
+    """One frame of Layer III at an offset, by its header."""
 
-    def __init__(self, data, offset):
+    def __init__(self, header, offset):
         self.offset = offset
-        self.header = data[offset : offset + 4]
-        if len(self.header) < 4 or self.header[0] != 0xFF or self.header[1] & 0xF6 != 0xF2:
-            raise NotPlain("no header of MPEG-1 or MPEG-2, Layer III")
-        rate, frequency = self.header[2] >> 4, self.header[2] >> 2 & 3
-        if rate in (0, 15) or frequency == 3:
-            raise NotPlain("no rate or no frequency in the header")
-        self.version = MPEG_1 if self.header[1] & 8 else MPEG_2
-        self.protected = not self.header[1] & 1
-        self.rate = self.version.rates[rate - 1]
-        self.frequency = self.version.frequencies[frequency]
-        self.mode = MODES[self.header[3] >> 6]
+        self.header = header
+        self.version = MPEG_1 if header[1] & 8 else MPEG_2
+        self.protected = not header[1] & 1
+        self.rate = self.version.rates[(header[2] >> 4) - 1]
+        self.frequency = self.version.frequencies[header[2] >> 2 & 3]
+        self.mode = MODES[header[3] >> 6]
         self.channels = 1 if self.mode == "mono" else 2
-        padding = self.header[2] >> 1 & 1
+        self.kind = self.version, self.frequency, self.channels
+        padding = header[2] >> 1 & 1
         self.length = 1000 * self.version.factor * self.rate // self.frequency + padding
         self.end = offset + self.length
-        if self.end > len(data):
-            raise NotPlain("the frame is not whole")
-        self.read_side(data)
-        text_at = {self.side_end, offset + 4 + self.side_size}
-        self.is_head = any(data[at : at + 4] in (b"Xing", b"Info") for at in text_at)
-
-    def read_side(self, data):
-        self.side_at = self.offset + (6 if self.protected else 4)
+        self.side_at = offset + (6 if self.protected else 4)
         self.side_size = self.version.side_size[self.channels - 1]
         self.side_end = self.side_at + self.side_size
+        self.area = self.end - self.side_end
+
+    def is_head(self, data):
+        """Whether 'Xing' or 'Info' stands behind the side information, or where it would if there were no check word."""
+        places = {self.side_end, self.offset + 4 + self.side_size}
+        return any(data[at : min(at + 4, self.end)] in (b"Xing", b"Info") for at in places)
+
+    def read_side(self, data):
         side = data[self.side_at : self.side_end]
         self.word = int.from_bytes(data[self.offset + 4 : self.offset + 6], "big")
-        self.right_word = check_word(self.header[2:] + side)
         self.side = int.from_bytes(side, "big")
-        self.begin = self.field(0, self.version.begin_bits)
-        count = self.version.granules * self.channels
-        self.granules = [self.granule(number) for number in range(count)]
-        self.payload = (sum(it.length for it in self.granules) + 7) // 8
+        self.begin = self.bits(0, self.version.begin_bits)
+        self.granules = [self.granule(number) for number in range(self.version.granules * self.channels)]
+        self.payload_bits = sum(it.length for it in self.granules)
 
     def behind(self, at, width):
         return 8 * self.side_size - at - width
 
-    def field(self, at, width):
+    def bits(self, at, width):
         return self.side >> self.behind(at, width) & (1 << width) - 1
 
     def granule(self, number):
         at = self.version.front_bits[self.channels - 1] + self.version.granule_bits * number
         place = divmod(number, self.channels)
-        return Granule(*place, self.field(at, 12), self.field(at + 21, 8), self.behind(at + 21, 8))
+        return Granule(*place, self.bits(at, 12), self.bits(at + 21, 8), self.behind(at + 21, 8))
 
-    def kind(self):
-        return self.version, self.frequency, self.channels
-
-
-def plain_at(data, offset, first):
-    frame = Frame(data, offset)
-    if first and frame.kind() != first.kind():
-        raise NotPlain("another version, frequency or number of channels")
-    if not first and frame.is_head:
-        raise NotPlain("a head")
-    if frame.protected and frame.word != frame.right_word:
-        raise WrongWord(f"is {frame.word:04x}, right is {frame.right_word:04x}")
-    if frame.begin:
-        raise NotPlain(f"main_data_begin {frame.begin}")
-    if frame.payload > frame.end - frame.side_end:
-        raise NotPlain("the main data do not fit")
-    return frame
+    def right_word(self, side):
+        return check_word(self.header[2:] + side.to_bytes(self.side_size, "big"))
 
 
-def walk(data):
-    """The plain frames from offset 0 on, the offset where they end, and why; None where that is the end of the data."""
-    frames, offset = [], 0
-    if not data:
-        return frames, offset, NotPlain("an empty file")
-    while offset < len(data):
+@dataclass
+class Block:
+    kind: str
+    offset: int
+    end: int
+
+
+class Free:
+    """A header of free format."""
+
+
+def header_at(data, at):
+    """A frame by its header, or a header of free format."""
+    header = data[at : at + 4]
+    if len(header) < 4 or header[0] != 0xFF or header[1] & 0xF6 != 0xF2:
+        return None
+    rate, frequency = header[2] >> 4, header[2] >> 2 & 3
+    if rate == 15 or frequency == 3:
+        return None
+    return Frame(header, at) if rate else Free()
+
+
+def block_at(data, at):
+    front = data[at : at + 32]
+    if front[:3] == b"TAG":
+        return Block("ID3v1", at, at + 128)
+    if front[:3] == b"ID3" and len(front) >= 10 and 0xFF not in front[3:5] and max(front[6:10]) < 0x80:
+        size = sum(byte << 7 * place for place, byte in enumerate(reversed(front[6:10])))
+        return Block("ID3v2", at, at + 10 + size + (10 if front[5] & 0x10 else 0))
+    if front[:8] == b"APETAGEX" and len(front) == 32:
+        version, size, _, flags = (int.from_bytes(front[at : at + 4], "little") for at in (8, 12, 16, 20))
+        if version == 2000 and size >= 32 and flags >> 31 & 1 and flags >> 29 & 1:
+            return Block("APEv2", at, at + 32 + size)
+    return None
+
+
+# ---- a whole file
+
+
+@dataclass
+class Survey:
+    """What stands in a file: the frames without the head, and where the junk before the first of them is."""
+
+    frames: list
+    head: object = None
+    blocks: list = field(default_factory=list)
+    junk: tuple = (0, 0)  # from, to
+
+    def text(self, data):
+        frames = self.frames
+        silent = sum(not it.length for frame in frames for it in frame.granules)
+        words = sum(it.protected for it in frames)
+        back = sum(it.begin > 0 for it in frames)
+        rates = sorted({it.rate for it in frames})
+        modes = sorted({it.mode for it in frames})
+        more = [f"{len(frames)} frames, {len(data)} bytes, {frames[0].version.name}, {frames[0].frequency} Hz"]
+        more.append("/".join(modes))
+        more.append(f"{'/'.join(map(str, rates))} kbit/s" if len(rates) < 4 else f"{rates[0]} to {rates[-1]} kbit/s")
+        more.append(f"{words} check words")
+        more.append(f"{back} back pointers")
+        more.append(f"{silent} silent granules")
+        more += ["a head"] if self.head else []
+        more += [it.kind for it in self.blocks]
+        more += [f"{self.junk[1] - self.junk[0]} bytes of junk"] if self.junk[0] < self.junk[1] else []
+        return ", ".join(more)
+
+
+def passed(data, at, blocks):
+    """Behind the blocks and zero bytes that stand from an offset on."""
+    while at < len(data):
+        block = block_at(data, at)
+        if block and block.end > len(data):
+            raise Refused(f"truncated at {at}")
+        if block:
+            blocks.append(block)
+        elif data[at]:
+            break
+        at = block.end if block else at + 1
+    return at
+
+
+def is_anchored(data, frame):
+    if frame.end > len(data):
+        return False
+    there = header_at(data, frame.end)
+    if isinstance(there, Frame):
+        return there.kind == frame.kind
+    return frame.end == len(data) or block_at(data, frame.end) is not None
+
+
+def first_frame(data, front):
+    there = header_at(data, front)
+    if isinstance(there, Free):
+        raise Refused(f"free format at {front}")
+    if there and there.end > len(data):
+        raise Refused(f"truncated at {front}")
+    if there:
+        return there
+    for at in range(front + 1, min(front + MOST_JUNK, len(data)) + 1):
+        there = header_at(data, at)
+        if isinstance(there, Frame) and is_anchored(data, there):
+            return there
+    raise Refused(f"no frame at {front}")
+
+
+def stream_from(data, first, blocks):
+    """The frames from the first on, and why they end before the file does."""
+    frames, at = [], first.offset
+    while True:
         try:
-            frame = plain_at(data, offset, frames[0] if frames else None)
-        except NotPlain as it:
-            return frames, offset, it
-        frames.append(frame)
-        offset = frame.end
-    return frames, offset, None
+            at = passed(data, at, blocks)
+        except Refused as it:
+            return frames, it
+        if at == len(data):
+            return frames, None
+        there = header_at(data, at)
+        if there is None:
+            return frames, Refused(f"lost synchronisation at {at}")
+        if isinstance(there, Free):
+            return frames, Refused(f"free format at {at}")
+        if there.end > len(data):
+            return frames, Refused(f"truncated at {at}")
+        there.read_side(data)
+        frames.append(there)
+        at = there.end
 
 
-def plain_frames(data):
-    frames, offset, why = walk(data)
+def judge(frames, head):
+    """Refuses the first frame that is at fault."""
+    kind = (head or frames[0]).kind
+    before, ended = head.area if head else 0, 0
+    for number, frame in enumerate(frames):
+        at = frame.offset
+        if frame.kind != kind:
+            raise Refused(f"mixed class at {at}")
+        if frame.protected and frame.word != frame.right_word(frame.side):
+            raise Refused(f"check word at {at} is {frame.word:04x}, right is {frame.right_word(frame.side):04x}")
+        if frame.begin > before:
+            raise Refused(f"back pointer at {at} is {frame.begin}, present {before}")
+        start = before - frame.begin
+        if start < ended:
+            raise Refused(f"overlap at {at}")
+        end = start + (frame.payload_bits + 7) // 8
+        if end > before + frame.area:
+            raise Refused(f"overrun at {at}, bits {frame.payload_bits}, room {8 * (frame.begin + frame.area)}")
+        if number == MOST_FRAMES:
+            raise Refused(f"too many frames at {at}")
+        ended = end if frame.payload_bits else ended
+        before += frame.area
+
+
+def survey_of(data):
+    if len(data) > LONGEST:
+        raise Refused(f"too long, {len(data)} bytes")
+    blocks = []
+    front = passed(data, 0, blocks)
+    first = first_frame(data, front)
+    frames, why = stream_from(data, first, blocks)
+    head = frames.pop(0) if first.is_head(data) else None
+    if frames:
+        judge(frames, head)
     if why:
-        sys.exit(f"not plain at {offset}: {why}")
-    return frames
+        raise why
+    if not frames:
+        raise Refused(f"no frame at {len(data)}")
+    return Survey(frames, head, blocks, (front, first.offset))
+
+
+# ---- the commands
 
 
 def bytes_of(name):
@@ -193,66 +325,70 @@ def write(name, data):
         it.write(data)
 
 
-def plain(name):
+def survey(name):
     data = bytes_of(name)
-    frames = plain_frames(data)
-    silent = sum(not it.length for frame in frames for it in frame.granules)
-    words = sum(it.protected for it in frames)
-    rates = sorted({it.rate for it in frames})
-    modes = sorted({it.mode for it in frames})
-    print(
-        f"plain: {len(frames)} frames, {len(data)} bytes, {frames[0].version.name}, "
-        f"{frames[0].frequency} Hz, {'/'.join(modes)}, {'/'.join(map(str, rates))} kbit/s, "
-        f"{words} check words, {silent} silent granules"
-    )
+    print(survey_of(data).text(data))
 
 
 def refusal(name):
-    _, offset, why = walk(bytes_of(name))
-    if not why:
-        sys.exit("plain to its end")
-    print(f"check word at {offset} {why}" if isinstance(why, WrongWord) else f"not yet at {offset}")
+    try:
+        survey_of(bytes_of(name))
+    except Refused as it:
+        print(it)
+    else:
+        sys.exit("it is not refused")
 
 
 def past(name, steps):
-    for frame in plain_frames(bytes_of(name)):
+    for frame in survey_of(bytes_of(name)).frames:
         for it in frame.granules:
             if it.length and not 0 <= it.gain + int(steps) <= 255:
-                print(
-                    f"gain {it.gain} out of range at {frame.offset}, "
-                    f"granule {it.granule}, channel {it.channel}"
-                )
+                print(f"gain {it.gain} out of range at {frame.offset}, granule {it.granule}, channel {it.channel}")
                 return
     sys.exit("no gain leaves the range")
 
 
 def ends(name):
-    frames = plain_frames(bytes_of(name))
+    frames = survey_of(bytes_of(name)).frames
     gains = [it.gain for frame in frames for it in frame.granules if it.length]
     print(min(gains), max(gains))
 
 
+def moved_side(frame, steps):
+    side = frame.side
+    for it in frame.granules:
+        if it.length:
+            new = it.gain + steps
+            if not 0 <= new <= 255:
+                sys.exit(f"gain {it.gain} would become {new}")
+            side += new - it.gain << it.behind
+    return side
+
+
 def moved(name, steps, output):
-    data = bytearray(bytes_of(name))
-    for frame in plain_frames(bytes(data)):
-        number = frame.side
-        for it in frame.granules:
-            if it.length:
-                new = it.gain + int(steps)
-                if not 0 <= new <= 255:
-                    sys.exit(f"gain {it.gain} would become {new}")
-                number += new - it.gain << it.behind
-        side = number.to_bytes(frame.side_size, "big")
-        data[frame.side_at : frame.side_end] = side
+    data = bytes_of(name)
+    found = survey_of(data)
+    new = bytearray(data)
+    for frame in found.frames:
+        side = moved_side(frame, int(steps))
+        new[frame.side_at : frame.side_end] = side.to_bytes(frame.side_size, "big")
         if frame.protected:
-            word = check_word(frame.header[2:] + side)
-            data[frame.offset + 4 : frame.side_at] = word.to_bytes(2, "big")
+            new[frame.offset + 4 : frame.side_at] = frame.right_word(side).to_bytes(2, "big")
+    del new[slice(*found.junk)]
+    write(output, new)
+    print(found.text(data))
+
+
+def without_junk(name, output):
+    data = bytearray(bytes_of(name))
+    found = survey_of(bytes(data))
+    del data[slice(*found.junk)]
     write(output, data)
 
 
 def spoilt(name, place, output):
     data = bytearray(bytes_of(name))
-    frame = plain_frames(bytes(data))[{"first": 0, "last": -1}[place]]
+    frame = survey_of(bytes(data)).frames[{"first": 0, "last": -1}[place]]
     if not frame.protected:
         sys.exit(f"no check word at {frame.offset}")
     data[frame.offset + 5] ^= 1
@@ -261,27 +397,28 @@ def spoilt(name, place, output):
 
 def differ(one, other, steps):
     a, b, steps = bytes_of(one), bytes_of(other), int(steps)
-    faults, silent, words = [], 0, 0
+    faults, silent, words, place = [], 0, 0, 0
     if len(a) != len(b):
         faults.append(f"{len(a)} and {len(b)} bytes")
-    for frame in plain_frames(a):
-        theirs = b[frame.side_at : frame.side_end]
-        apart = frame.side ^ int.from_bytes(theirs, "big")
+    for frame in survey_of(a).frames:
+        theirs = int.from_bytes(b[frame.side_at : frame.side_end], "big")
+        apart = frame.side ^ theirs
         for it in frame.granules:
             if not it.length and apart >> it.behind & 0xFF == it.gain ^ it.gain + steps:
                 silent += 1
                 apart &= ~(0xFF << it.behind)
         if apart:
             faults.append(f"side information of the frame at {frame.offset}")
-        if b[frame.offset : frame.offset + 4] != frame.header:
-            faults.append(f"header of the frame at {frame.offset}")
-        if b[frame.side_end : frame.end] != a[frame.side_end : frame.end]:
-            faults.append(f"main data of the frame at {frame.offset}")
+        if b[place : frame.offset + 4] != a[place : frame.offset + 4]:
+            faults.append(f"between {place} and the end of the header at {frame.offset}")
         if frame.protected:
             word = int.from_bytes(b[frame.offset + 4 : frame.side_at], "big")
             words += word != frame.word
-            if word != check_word(frame.header[2:] + theirs):
+            if word != frame.right_word(theirs):
                 faults.append(f"check word of the frame at {frame.offset}")
+        place = frame.side_end
+    if b[place:] != a[place:]:
+        faults.append(f"behind {place}")
     print(
         f"silent granules moved by {steps}: {silent}, with other check words in {words} frames; "
         f"other differences: {len(faults)}"
@@ -313,11 +450,12 @@ def decoded(one, other, factor):
 
 
 COMMANDS = {
-    "plain": (plain, 1),
+    "survey": (survey, 1),
     "refusal": (refusal, 1),
     "past": (past, 2),
     "ends": (ends, 1),
     "moved": (moved, 3),
+    "without-junk": (without_junk, 2),
     "spoilt": (spoilt, 3),
     "differ": (differ, 3),
     "decoded": (decoded, 3),
@@ -327,4 +465,7 @@ if __name__ == "__main__":
     call, count = COMMANDS.get(sys.argv[1] if sys.argv[1:] else "", (None, 0))
     if not call or len(sys.argv) != count + 2:
         sys.exit(__doc__)
-    call(*sys.argv[2:])
+    try:
+        call(*sys.argv[2:])
+    except Refused as it:
+        sys.exit(f"refused: {it}")
