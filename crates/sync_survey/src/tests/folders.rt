@@ -2,7 +2,7 @@
 ghost use Rattle.outside.specs.Files.{untold};
 
 use crate::tests::files::{APE, HEAD_FRONT, HEAD_REST, ID3V2, Stretch, Z, file_of};
-use crate::{Head, Piece, SurveyFault, survey};
+use crate::{Head, Piece, Row, Survey, SurveyFault, survey};
 use frame_header::{Class, Header, Slot, Version};
 use outside::{Call, Failed, FindFault, Folder, MemFolder};
 use std::alloc::AllocGlobal;
@@ -73,6 +73,37 @@ const CLASS: Class = Class {
     channels: 2,
 };
 
+/// Asserts what stands where in the song.
+fn expect_places<R: Abort>(rt: &R, survey: &Survey) {
+    assert_eq!(rt; survey.junk(), (42, 300));
+    assert_eq!(rt; survey.first(), 342);
+    assert_eq!(rt; survey.class(), CLASS);
+    assert_eq!(rt; survey.length(), 1800);
+    assert_eq!(rt; survey.blocks(), BLOCKS.as_slice());
+}
+
+/// Asserts that the row is such a frame.
+fn expect_row<R: Abort>(rt: &R, row: &Row, offset: u64, begin: u16, bits: u32) {
+    assert_eq!(rt; row.offset, offset);
+    assert_eq!(rt; row.header, HEADER);
+    assert_eq!(rt; row.side.main_data_begin, begin);
+    assert_eq!(rt; row.side.bits(), bits);
+}
+
+fn expect_frames<R: Abort>(rt: &R, survey: &Survey) {
+    let head = Head {
+        offset: 342,
+        header: HEADER,
+        text_at: 36,
+    };
+    assert_eq!(rt; survey.head(), Some(head));
+    let [first, second] = survey.frames() else {
+        panic!(rt; "two frames");
+    };
+    expect_row(rt, first, 759, 0, 0);
+    expect_row(rt, second, 1176, 200, 2400);
+}
+
 #[test]
 fn a_song(rt: HostRuntime) -> Result<(), Fail> {
     let file = file_of(rt.alloc(), &SONG)?;
@@ -81,33 +112,12 @@ fn a_song(rt: HostRuntime) -> Result<(), Fail> {
     let Ok(survey) = survey(rt.alloc(), &mut folder, "song", 2) else {
         panic!(&rt; "no survey");
     };
-    let head = Head {
-        offset: 342,
-        header: HEADER,
-        text_at: 36,
-    };
-    assert_eq!(rt; survey.head(), Some(head));
-    assert_eq!(rt; survey.junk(), (42, 300));
-    assert_eq!(rt; survey.first(), 342);
-    assert_eq!(rt; survey.class(), CLASS);
-    assert_eq!(rt; survey.length(), 1800);
-    assert_eq!(rt; survey.blocks(), BLOCKS.as_slice());
-    let [first, second] = survey.frames() else {
-        panic!(&rt; "two frames");
-    };
-    assert_eq!(rt;
-        (first.offset, first.header, first.side.bits()),
-        (759, HEADER, 0)
-    );
-    assert_eq!(rt;
-        (second.offset, second.header, second.side.bits()),
-        (1176, HEADER, 2400)
-    );
-    assert_eq!(rt; second.side.main_data_begin, 200);
+    expect_places(&rt, &survey);
+    expect_frames(&rt, &survey);
     Ok(())
 }
 
-/// Asserts that the survey of one of two names is refused so.
+/// Asserts that the survey of the name is refused so.
 fn expect_fault<R: Abort + AllocGlobal, D: Folder>(
     rt: &R,
     folder: &mut D,

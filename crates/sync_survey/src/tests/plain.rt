@@ -507,6 +507,17 @@ fn rank(fault: &SurveyFault) -> (u64, u32) {
     }
 }
 
+/// The fault of the least rank.
+fn least(faults: &[SurveyFault]) -> Option<SurveyFault> {
+    let mut least = *faults.first()?;
+    for fault in faults {
+        if rank(fault) < rank(&least) {
+            least = *fault;
+        }
+    }
+    Some(least)
+}
+
 /// The fault of the least offset, and at one offset the first in the order of `SurveyFault`.
 pub fn first_fault(
     alloc: Global,
@@ -519,5 +530,5 @@ pub fn first_fault(
     };
     let Stream { frames, mut faults } = stream_from(alloc, file, first)?;
     push_all(alloc, file, &frames, allowed as usize, &mut faults)?;
-    Ok(faults.iter().min_by_key(|fault| rank(fault)).copied())
+    Ok(least(&faults))
 }
