@@ -69,26 +69,6 @@ const OVERFULL: Frame = Frame {
     ..BACK_POINTER
 };
 
-/// A silent frame with the text of a head behind its side information.
-const HEAD: Frame = Frame {
-    header: [0xff, 0xfa, 0x90, 0x00],
-    word: Some(0xc05c),
-    area: b"Info",
-    ..Z
-};
-
-/// The text of a head where a frame without a check word has it, and a wrong check word.
-const EARLY_HEAD: Frame = Frame {
-    word: Some(0x0000),
-    side: &[
-        0x00, 0x00, 0x00, 0x00, 0x00, 0x00, 0x00, 0x00, 0x00, 0x00, 0x00, 0x00, 0x00, 0x00, 0x00,
-        0x00, 0x00, 0x00, 0x00, 0x00, 0x00, 0x00, 0x00, 0x00, 0x00, 0x00, 0x00, 0x00, 0x00, 0x00,
-        b'X', b'i',
-    ],
-    area: b"ng",
-    ..HEAD
-};
-
 /// The frames of the input `a`, and the line.
 struct Refused {
     what: &'static str,
@@ -96,46 +76,36 @@ struct Refused {
     line: &'static str,
 }
 
-static REFUSED: [Refused; 9] = [
+static REFUSED: [Refused; 7] = [
     Refused {
         what: "a wrong word, later, and a gain out of range before",
         frames: &[LOUD, WRONG_G],
         line: "a: check word at 417 is 01a2, right is 11a2\n",
     },
     Refused {
-        what: "a wrong word and main_data_begin 1",
+        what: "a wrong word and a back pointer",
         frames: &[WRONG_BACK_POINTER],
         line: "a: check word at 0 is e952, right is 6f31\n",
     },
     Refused {
-        what: "main_data_begin 1",
+        what: "a back pointer",
         frames: &[BACK_POINTER],
-        line: "a: not yet at 0\n",
+        line: "a: back pointer at 0 is 1, present 0\n",
     },
     Refused {
         what: "main data past the area",
         frames: &[OVERFULL],
-        line: "a: not yet at 0\n",
+        line: "a: overrun at 0, bits 73, room 72\n",
     },
     Refused {
-        what: "a wrong word behind a frame that is not plain",
-        frames: &[Z, OVERFULL, WRONG_G],
-        line: "a: not yet at 417\n",
-    },
-    Refused {
-        what: "a head",
-        frames: &[HEAD, PROTECTED_G],
-        line: "a: not yet at 0\n",
-    },
-    Refused {
-        what: "a head that begins in the side information, and a wrong word",
-        frames: &[EARLY_HEAD, PROTECTED_G],
-        line: "a: not yet at 0\n",
+        what: "a wrong word behind a frame that is at fault",
+        frames: &[OVERFULL, WRONG_BACK_POINTER],
+        line: "a: overrun at 0, bits 73, room 72\n",
     },
     Refused {
         what: "a wrong word in a frame of another class",
         frames: &[Z, WRONG_BACK_POINTER],
-        line: "a: not yet at 417\n",
+        line: "a: mixed class at 417\n",
     },
     Refused {
         what: "a wrong word in a frame that is cut short",
@@ -143,7 +113,7 @@ static REFUSED: [Refused; 9] = [
             length: 416,
             ..WRONG_G
         }],
-        line: "a: not yet at 0\n",
+        line: "a: truncated at 0\n",
     },
 ];
 

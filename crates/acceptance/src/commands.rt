@@ -1,8 +1,9 @@
 //! Commands in words, over a folder in memory.
 
+use crate::files::{Stretch, bytes_of};
 use crate::frames::{Frame, file_of};
 use mp3_cli::run;
-use outside::{MemFolder, MemSink};
+use outside::{Folder, MemFolder, MemSink};
 use std::alloc::{AllocError, Global};
 use std::process::Abort;
 
@@ -40,6 +41,16 @@ pub fn folder_of_frames(
     folder_of(alloc, name, &bytes, bytes.len())
 }
 
+/// Such a folder with these stretches end to end, and with room for as many bytes.
+pub fn folder_of_file(
+    alloc: Global,
+    name: &str,
+    file: &[Stretch],
+) -> Result<MemFolder, AllocError> {
+    let bytes = bytes_of(alloc, file)?;
+    folder_of(alloc, name, &bytes, bytes.len())
+}
+
 /// A sink with room for a line.
 pub fn sink(alloc: Global) -> Result<MemSink, AllocError> {
     let mut sink = MemSink::new(alloc);
@@ -54,9 +65,9 @@ fn words_of(alloc: Global, text: &str) -> Result<Vec<String>, AllocError> {
 }
 
 /// Runs the words, which blanks part, with this sink as standard error.
-pub fn run_over(
+pub fn run_over<D: Folder>(
     alloc: Global,
-    folder: &mut MemFolder,
+    folder: &mut D,
     words: &str,
     mut err: MemSink,
 ) -> Result<Ended, AllocError> {
@@ -68,9 +79,9 @@ pub fn run_over(
 
 /// Runs the words, and asserts the status, the text on standard error, and that none went to standard
 /// output.
-pub fn expect<R: Abort + AllocGlobal>(
+pub fn expect<R: Abort + AllocGlobal, D: Folder>(
     rt: &R,
-    folder: &mut MemFolder,
+    folder: &mut D,
     words: &str,
     status: u8,
     text: &str,
@@ -80,6 +91,23 @@ pub fn expect<R: Abort + AllocGlobal>(
     assert_eq!(rt; ended.err.sent(), text.as_bytes(), "{words}, for {text}");
     assert_eq!(rt; ended.status, status, "{words}, for {text}");
     assert_eq!(rt; ended.out.sent(), b"".as_slice(), "{words}");
+    Ok(())
+}
+
+/// Asserts that the file is these stretches end to end.
+pub fn expect_file<R: Abort + AllocGlobal>(
+    rt: &R,
+    folder: &MemFolder,
+    name: &str,
+    file: &[Stretch],
+    what: &str,
+) -> Result<(), AllocError> {
+    let wanted = bytes_of(rt.alloc(), file)?;
+    assert_eq!(rt;
+        folder.get(name).unwrap_or(&[]),
+        wanted.as_slice(),
+        "{name}: {what}"
+    );
     Ok(())
 }
 

@@ -1,12 +1,38 @@
 //! Calls of the outside that fail.
 
 use crate::check_words::WRONG_M;
-use crate::commands::{expect, expect_frames, folder_of, folder_of_frames, run_over, sink};
-use crate::frames::{G, G_LOWER, file_of};
+use crate::commands::{
+    expect, expect_file, folder_of, folder_of_file, folder_of_frames, run_over, sink,
+};
+use crate::files::{APE, ID3V1, ID3V1_REST, ID3V2, ID3V2_REST, Stretch, bytes_of};
+use crate::frames::{G, G_LOWER, HEAD, PROTECTED_G, PROTECTED_G_LOWER, Z, file_of};
 use outside::Call;
 use std::test::Fail;
 
 const WORDS: &str = "gain -s s -g -5 g o";
+
+/// A file in which everything stands that a file may have.
+static FILE: [Stretch; 8] = [
+    ID3V2,
+    ID3V2_REST,
+    Stretch::Fill(0, 2),
+    Stretch::Fill(0x55, 10),
+    Stretch::Frames(&[HEAD, G, Z, PROTECTED_G]),
+    APE,
+    ID3V1,
+    ID3V1_REST,
+];
+
+/// The same with the gains 5 less, without its junk.
+static LOWER_FILE: [Stretch; 7] = [
+    ID3V2,
+    ID3V2_REST,
+    Stretch::Fill(0, 2),
+    Stretch::Frames(&[HEAD, G_LOWER, Z, PROTECTED_G_LOWER]),
+    APE,
+    ID3V1,
+    ID3V1_REST,
+];
 
 /// The call that fails, the line, and what the output then holds, where it is there.
 struct Failing {
@@ -42,16 +68,16 @@ static FAILING: [Failing; 4] = [
 #[test]
 fn each_call_fails_once(rt: HostRuntime) -> Result<(), Fail> {
     for case in &FAILING {
-        let mut folder = folder_of_frames(rt.alloc(), "g", &[G])?;
+        let mut folder = folder_of_file(rt.alloc(), "g", &FILE)?;
         folder.fail(case.call, 1)?;
         expect(&rt, &mut folder, WORDS, 3, case.line)?;
         assert!(rt; folder.get("o") == case.output, "{:?}", case.call);
-        expect_frames(&rt, &folder, "g", &[G], case.line)?;
+        expect_file(&rt, &folder, "g", &FILE, case.line)?;
 
-        let mut folder = folder_of_frames(rt.alloc(), "g", &[G])?;
+        let mut folder = folder_of_file(rt.alloc(), "g", &FILE)?;
         folder.fail(case.call, 2)?;
         expect(&rt, &mut folder, WORDS, 0, "")?;
-        expect_frames(&rt, &folder, "o", &[G_LOWER], "the second call")?;
+        expect_file(&rt, &folder, "o", &LOWER_FILE, "the second call")?;
     }
     Ok(())
 }
@@ -145,9 +171,9 @@ fn standard_error_fails(rt: HostRuntime) -> Result<(), Fail> {
 
 #[test]
 fn want_of_memory_is_told_before_the_output_is_created(rt: HostRuntime) -> Result<(), Fail> {
-    let mut folder = folder_of_frames(rt.alloc(), "g", &[G])?;
-    let input = file_of(rt.alloc(), &[G])?;
-    let wanted = file_of(rt.alloc(), &[G_LOWER])?;
+    let mut folder = folder_of_file(rt.alloc(), "g", &FILE)?;
+    let input = bytes_of(rt.alloc(), &FILE)?;
+    let wanted = bytes_of(rt.alloc(), &LOWER_FILE)?;
     let err = sink(rt.alloc())?;
     let ended = run_over(rt.alloc(), &mut folder, WORDS, err)?;
     assert!(rt; folder.get("g") == Some(input.as_slice()));

@@ -190,16 +190,9 @@ pub const OVERFULL: Frame = Frame {
     ..G
 };
 
-/// main_data_begin is 1, and all else is as in Z.
+/// main_data_begin is 10, and all else is as in Z.
 pub const BACK_POINTER: Frame = Frame {
-    side: &[0x00, 0x80],
-    ..Z
-};
-
-/// Z, padded.
-pub const Z_PADDED: Frame = Frame {
-    header: [0xff, 0xfb, 0x92, 0x00],
-    length: 418,
+    side: &[0x05, 0x00],
     ..Z
 };
 
@@ -250,13 +243,38 @@ pub const LONG_LOWER: Frame = Frame {
 /// Z with the text of a head.
 pub const HEAD: Frame = Frame { area: b"Info", ..Z };
 
-/// Z with the text of a head of changing rates.
-pub const HEAD_OF_RATES: Frame = Frame { area: b"Xing", ..Z };
-
 /// MONO with the text of a head.
 pub const MONO_HEAD: Frame = Frame {
     area: b"Info",
     ..MONO
+};
+
+/// The same with the gains 95 and 195.
+pub const MONO_HEAD_LOWER: Frame = Frame {
+    area: b"Info",
+    ..MONO_LOWER
+};
+
+/// G with a wrong check word, and with the text of a head behind the side information.
+pub const PROTECTED_HEAD: Frame = Frame {
+    header: PROTECTED,
+    word: Some(0x0000),
+    area: b"Info",
+    ..G
+};
+
+/// The same with the text where a frame without a check word has it. Its first two bytes are the last two
+/// of the side information.
+pub const EARLY_HEAD: Frame = Frame {
+    header: PROTECTED,
+    word: Some(0x0000),
+    side: &[
+        0x00, 0x00, 0x00, 0x08, 0x00, 0x32, 0x00, 0x00, 0x00, 0x00, 0x01, 0x00, 0x06, 0x50, 0x00,
+        0x00, 0x00, 0x00, 0x20, 0x01, 0xfe, 0x00, 0x00, 0x00, 0x00, 0x04, 0x00, 0x16, 0x80, 0x00,
+        b'X', b'i',
+    ],
+    area: b"ng",
+    length: 417,
 };
 
 /// Z with a check word.

@@ -1,13 +1,12 @@
-//! What a change of gains makes of files, byte for byte.
+//! What a change of gains makes of frames, byte for byte.
 
-use crate::commands::{expect, expect_frames, folder_of, folder_of_frames};
+use crate::commands::{expect, expect_frames, folder_of_frames};
 use crate::frames::{
     FULL, FULL_LOUDER, Frame, G, G_AT_32_KHZ, G_AT_32_KHZ_LOWER, G_AT_48_KHZ, G_AT_48_KHZ_LOWER,
     G_LOWER, LEFT_ALONE, LEFT_ALONE_LOUDER, LONG, LONG_LOWER, LOUD, LOW, LOWER, LOWER_QUIETER,
     MONO, MONO_LOWER, PADDED, PADDED_LOWER, PROTECTED_G, PROTECTED_G_LOWER, PROTECTED_LOWER,
-    PROTECTED_LOWER_QUIETER, PROTECTED_Z, QUIET, QUIETER, Z, Z_PADDED, file_of,
+    PROTECTED_LOWER_QUIETER, PROTECTED_Z, QUIET, QUIETER, Z,
 };
-use std::alloc::{AllocError, Global};
 use std::test::Fail;
 
 /// The words, the frame of the input `g`, and that of the output `o`.
@@ -177,41 +176,5 @@ fn an_output_that_was_there_holds_the_new_bytes_alone(rt: HostRuntime) -> Result
     expect(&rt, &mut folder, "gain -s s -g -5 g o", 0, "")?;
     expect_frames(&rt, &folder, "o", &[G_LOWER], "over other bytes")?;
     assert!(rt; folder.get("other") == Some(b"kept".as_slice()));
-    Ok(())
-}
-
-// So many frames of 417 bytes, and behind them so many of 418.
-fn long_file(alloc: Global, short: usize, long: usize) -> Result<Vec<u8>, AllocError> {
-    let short_frame = file_of(alloc, &[Z])?;
-    let long_frame = file_of(alloc, &[Z_PADDED])?;
-    let mut bytes = Vec::new(alloc);
-    for _ in 0..short {
-        bytes.extend_from_slice(&short_frame)?;
-    }
-    for _ in 0..long {
-        bytes.extend_from_slice(&long_frame)?;
-    }
-    Ok(bytes)
-}
-
-#[test]
-fn the_longest_input(rt: HostRuntime) -> Result<(), Fail> {
-    let bytes = long_file(rt.alloc(), 40_178, 55)?;
-    assert_eq!(rt; bytes.len(), 16_777_216);
-    let mut folder = folder_of(rt.alloc(), "z", &bytes, bytes.len())?;
-    expect(&rt, &mut folder, "gain -s s -g 5 z o", 0, "")?;
-    assert!(rt; folder.get("o").unwrap_or(&[]) == bytes.as_slice());
-
-    let bytes = long_file(rt.alloc(), 40_177, 56)?;
-    assert_eq!(rt; bytes.len(), 16_777_217);
-    let mut folder = folder_of(rt.alloc(), "z", &bytes, bytes.len())?;
-    expect(
-        &rt,
-        &mut folder,
-        "gain -s s -g 5 z o",
-        1,
-        "z: not yet at 0\n",
-    )?;
-    assert!(rt; folder.get("o").is_none());
     Ok(())
 }

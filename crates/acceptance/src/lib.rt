@@ -8,8 +8,18 @@ mod commands;
 #[cfg(test)]
 mod faults;
 #[cfg(test)]
+mod files;
+#[cfg(test)]
 mod frames;
 #[cfg(test)]
 mod gains;
 #[cfg(test)]
 mod refusals;
+#[cfg(test)]
+mod reservoir;
+#[cfg(test)]
+mod song;
+#[cfg(test)]
+mod streams;
+#[cfg(test)]
+mod untold;

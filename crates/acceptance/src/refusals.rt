@@ -1,200 +1,205 @@
 //! What is refused, with its line, before an output is created.
 
-use crate::commands::{expect, expect_frames, folder_of, folder_of_frames};
+use crate::commands::{expect, expect_file, expect_frames, folder_of_file, folder_of_frames};
+use crate::files::{ID3V1, ID3V2, Stretch};
 use crate::frames::{
-    BACK_POINTER, FORBIDDEN_RATE, FREE, Frame, G, G_AT_48_KHZ, HEAD, HEAD_OF_RATES, LAYER_2, LOUD,
-    MONO, MONO_HEAD, MPEG_2, MPEG_2_5, OVERFULL, RESERVED_FREQUENCY, Z, file_of,
+    BACK_POINTER, FORBIDDEN_RATE, FREE, Frame, G, G_AT_48_KHZ, HEAD, LAYER_2, MONO, MPEG_2,
+    MPEG_2_5, OVERFULL, RESERVED_FREQUENCY, Z,
+};
+use crate::reservoir::{
+    FIRST, OVERFULL_BEHIND, OVERLAPPING, OVERLAPPING_AND_OVERFULL, SECOND, SILENT_BACK_POINTER,
+    TOO_FAR,
 };
 use outside::{Call, MemFolder};
 use std::alloc::{AllocError, Global};
 use std::test::Fail;
 
-/// The two frames of the input `a`, and the line.
-struct NotPlain {
+/// What is at fault in the input `a`, the input, and the line.
+struct Faulty {
     what: &'static str,
-    frames: &'static [Frame],
+    file: &'static [Stretch],
     line: &'static str,
 }
 
-static NOT_PLAIN: [NotPlain; 18] = [
-    NotPlain {
-        what: "main data past the area",
-        frames: &[OVERFULL, G],
-        line: "a: not yet at 0\n",
+/// SECOND without its last byte.
+const SHORT: Frame = Frame {
+    length: 416,
+    ..SECOND
+};
+
+/// G_AT_48_KHZ without its last byte.
+const SHORT_AT_48_KHZ: Frame = Frame {
+    length: 383,
+    ..G_AT_48_KHZ
+};
+
+static FAULTY: [Faulty; 30] = [
+    Faulty {
+        what: "an empty file",
+        file: &[],
+        line: "a: no frame at 0\n",
     },
-    NotPlain {
-        what: "main data past the area, later",
-        frames: &[Z, OVERFULL],
-        line: "a: not yet at 417\n",
+    Faulty {
+        what: "fewer bytes than a header has",
+        file: &[Stretch::Bytes(b"\xff\xfb\x90")],
+        line: "a: no frame at 0\n",
     },
-    NotPlain {
-        what: "main_data_begin 1",
-        frames: &[BACK_POINTER, Z],
-        line: "a: not yet at 0\n",
+    Faulty {
+        what: "zero bytes alone",
+        file: &[Stretch::Fill(0, 3)],
+        line: "a: no frame at 3\n",
     },
-    NotPlain {
-        what: "main_data_begin 1, later",
-        frames: &[Z, BACK_POINTER],
-        line: "a: not yet at 417\n",
+    Faulty {
+        what: "a head alone",
+        file: &[Stretch::Frames(&[HEAD])],
+        line: "a: no frame at 417\n",
     },
-    NotPlain {
-        what: "a head",
-        frames: &[HEAD, G],
-        line: "a: not yet at 0\n",
-    },
-    NotPlain {
-        what: "a head of changing rates",
-        frames: &[HEAD_OF_RATES, G],
-        line: "a: not yet at 0\n",
-    },
-    NotPlain {
-        what: "a head with one channel",
-        frames: &[MONO_HEAD, MONO],
-        line: "a: not yet at 0\n",
-    },
-    NotPlain {
-        what: "MPEG-1, later",
-        frames: &[MPEG_2, Z],
-        line: "a: not yet at 208\n",
-    },
-    NotPlain {
-        what: "MPEG-2, later",
-        frames: &[Z, MPEG_2],
-        line: "a: not yet at 417\n",
-    },
-    NotPlain {
+    Faulty {
         what: "MPEG-2.5",
-        frames: &[MPEG_2_5, Z],
-        line: "a: not yet at 0\n",
+        file: &[Stretch::Frames(&[MPEG_2_5, MPEG_2_5])],
+        line: "a: no frame at 0\n",
     },
-    NotPlain {
-        what: "another frequency, later",
-        frames: &[Z, G_AT_48_KHZ],
-        line: "a: not yet at 417\n",
+    Faulty {
+        what: "one byte of junk more than there may be",
+        file: &[Stretch::Fill(0x55, 65_537), Stretch::Frames(&[Z])],
+        line: "a: no frame at 0\n",
     },
-    NotPlain {
-        what: "one channel, later",
-        frames: &[G, MONO],
-        line: "a: not yet at 417\n",
+    Faulty {
+        what: "bytes that are no item",
+        file: &[
+            Stretch::Frames(&[FIRST, SECOND]),
+            Stretch::Bytes(b"\x00\x41"),
+        ],
+        line: "a: lost synchronisation at 835\n",
     },
-    NotPlain {
-        what: "two channels, later",
-        frames: &[MONO, G],
-        line: "a: not yet at 417\n",
+    Faulty {
+        what: "the beginning of a header",
+        file: &[Stretch::Frames(&[Z, Z]), Stretch::Bytes(b"\xff\xfb\x90")],
+        line: "a: lost synchronisation at 834\n",
     },
-    NotPlain {
-        what: "layer II",
-        frames: &[LAYER_2, Z],
-        line: "a: not yet at 0\n",
+    Faulty {
+        what: "layer II, later",
+        file: &[Stretch::Frames(&[Z, LAYER_2])],
+        line: "a: lost synchronisation at 417\n",
     },
-    NotPlain {
-        what: "free format",
-        frames: &[FREE, Z],
-        line: "a: not yet at 0\n",
-    },
-    NotPlain {
+    Faulty {
         what: "the forbidden rate, later",
-        frames: &[Z, FORBIDDEN_RATE],
-        line: "a: not yet at 417\n",
+        file: &[Stretch::Frames(&[Z, FORBIDDEN_RATE])],
+        line: "a: lost synchronisation at 417\n",
     },
-    NotPlain {
+    Faulty {
         what: "the reserved frequency, later",
-        frames: &[Z, RESERVED_FREQUENCY],
-        line: "a: not yet at 417\n",
+        file: &[Stretch::Frames(&[Z, RESERVED_FREQUENCY])],
+        line: "a: lost synchronisation at 417\n",
     },
-    NotPlain {
-        what: "refused later, out of range before",
-        frames: &[LOUD, OVERFULL],
-        line: "a: not yet at 417\n",
+    Faulty {
+        what: "a frame without its last byte",
+        file: &[Stretch::Frames(&[FIRST, SHORT])],
+        line: "a: truncated at 417\n",
+    },
+    Faulty {
+        what: "a header alone",
+        file: &[Stretch::Bytes(b"\xff\xfb\x90\x00")],
+        line: "a: truncated at 0\n",
+    },
+    Faulty {
+        what: "a frame of another class without its last byte",
+        file: &[Stretch::Frames(&[Z, SHORT_AT_48_KHZ])],
+        line: "a: truncated at 417\n",
+    },
+    Faulty {
+        what: "a block at the front without its last byte",
+        file: &[Stretch::Fill(0, 2), ID3V2, Stretch::Fill(0x11, 29)],
+        line: "a: truncated at 2\n",
+    },
+    Faulty {
+        what: "a block behind a frame without its last byte",
+        file: &[Stretch::Frames(&[Z]), ID3V1, Stretch::Fill(0x20, 124)],
+        line: "a: truncated at 417\n",
+    },
+    Faulty {
+        what: "free format",
+        file: &[Stretch::Frames(&[FREE, SECOND])],
+        line: "a: free format at 0\n",
+    },
+    Faulty {
+        what: "free format, later",
+        file: &[Stretch::Frames(&[Z, FREE])],
+        line: "a: free format at 417\n",
+    },
+    Faulty {
+        what: "MPEG-1, later",
+        file: &[Stretch::Frames(&[MPEG_2, Z])],
+        line: "a: mixed class at 208\n",
+    },
+    Faulty {
+        what: "another frequency, later",
+        file: &[Stretch::Frames(&[Z, G_AT_48_KHZ])],
+        line: "a: mixed class at 417\n",
+    },
+    Faulty {
+        what: "one channel, later",
+        file: &[Stretch::Frames(&[G, MONO])],
+        line: "a: mixed class at 417\n",
+    },
+    Faulty {
+        what: "main data before the stream",
+        file: &[Stretch::Frames(&[BACK_POINTER])],
+        line: "a: back pointer at 0 is 10, present 0\n",
+    },
+    Faulty {
+        what: "main data before the area of a head",
+        file: &[Stretch::Frames(&[HEAD, TOO_FAR])],
+        line: "a: back pointer at 417 is 382, present 381\n",
+    },
+    Faulty {
+        what: "main data within those of the frame before",
+        file: &[Stretch::Frames(&[FIRST, OVERLAPPING])],
+        line: "a: overlap at 417\n",
+    },
+    Faulty {
+        what: "the same of a silent frame",
+        file: &[Stretch::Frames(&[FIRST, SILENT_BACK_POINTER])],
+        line: "a: overlap at 417\n",
+    },
+    Faulty {
+        what: "the same, and past the area",
+        file: &[Stretch::Frames(&[FIRST, OVERLAPPING_AND_OVERFULL])],
+        line: "a: overlap at 417\n",
+    },
+    Faulty {
+        what: "main data past the area",
+        file: &[Stretch::Frames(&[OVERFULL])],
+        line: "a: overrun at 0, bits 3049, room 3048\n",
+    },
+    Faulty {
+        what: "the same with a back pointer",
+        file: &[Stretch::Frames(&[Z, OVERFULL_BEHIND])],
+        line: "a: overrun at 417, bits 3372, room 3368\n",
+    },
+    Faulty {
+        what: "a frame at fault before bytes that are no item",
+        file: &[Stretch::Frames(&[OVERFULL]), Stretch::Bytes(b"\x41")],
+        line: "a: overrun at 0, bits 3049, room 3048\n",
+    },
+    Faulty {
+        what: "bytes that are no item before a frame at fault",
+        file: &[
+            Stretch::Frames(&[Z]),
+            Stretch::Bytes(b"\x41"),
+            Stretch::Frames(&[OVERFULL]),
+        ],
+        line: "a: lost synchronisation at 417\n",
     },
 ];
 
 #[test]
-fn frames_that_are_not_plain(rt: HostRuntime) -> Result<(), Fail> {
-    for case in &NOT_PLAIN {
-        let mut folder = folder_of_frames(rt.alloc(), "a", case.frames)?;
-        expect(&rt, &mut folder, "gain -s s -g 5 a o", 1, case.line)?;
+fn files_at_fault(rt: HostRuntime) -> Result<(), Fail> {
+    for case in &FAULTY {
+        let mut folder = folder_of_file(rt.alloc(), "a", case.file)?;
+        expect(&rt, &mut folder, "gain -s s -g 0 a o", 1, case.line)?;
         assert!(rt; folder.get("o").is_none(), "{}", case.what);
-        expect_frames(&rt, &folder, "a", case.frames, case.what)?;
-    }
-    Ok(())
-}
-
-/// What stands before two frames Z, how many bytes of them stand, what stands behind, and the line.
-struct Around {
-    before: &'static [u8],
-    count: usize,
-    behind: &'static [u8],
-    line: &'static str,
-}
-
-static AROUND: [Around; 9] = [
-    Around {
-        before: b"",
-        count: 0,
-        behind: b"",
-        line: "z: not yet at 0\n",
-    },
-    Around {
-        before: b"",
-        count: 0,
-        behind: b"\xff\xfb\x90",
-        line: "z: not yet at 0\n",
-    },
-    Around {
-        before: b"",
-        count: 4,
-        behind: b"",
-        line: "z: not yet at 0\n",
-    },
-    Around {
-        before: b"",
-        count: 416,
-        behind: b"",
-        line: "z: not yet at 0\n",
-    },
-    Around {
-        before: b"",
-        count: 417,
-        behind: b"\0",
-        line: "z: not yet at 417\n",
-    },
-    Around {
-        before: b"",
-        count: 833,
-        behind: b"",
-        line: "z: not yet at 417\n",
-    },
-    Around {
-        before: b"",
-        count: 834,
-        behind: b"\xff\xfb\x90",
-        line: "z: not yet at 834\n",
-    },
-    Around {
-        before: b"\0",
-        count: 834,
-        behind: b"",
-        line: "z: not yet at 0\n",
-    },
-    Around {
-        before: b"ID3\x03\0\0\0\0\0\0",
-        count: 834,
-        behind: b"",
-        line: "z: not yet at 0\n",
-    },
-];
-
-#[test]
-fn bytes_around_frames(rt: HostRuntime) -> Result<(), Fail> {
-    let frames = file_of(rt.alloc(), &[Z, Z])?;
-    for case in &AROUND {
-        let mut bytes = case.before.to_vec(rt.alloc())?;
-        bytes.extend_from_slice(frames.get(..case.count).unwrap_or(&[]))?;
-        bytes.extend_from_slice(case.behind)?;
-        let mut folder = folder_of(rt.alloc(), "z", &bytes, bytes.len())?;
-        expect(&rt, &mut folder, "gain -s s -g 5 z o", 1, case.line)?;
-        assert!(rt; folder.get("o").is_none(), "{}", case.line);
+        expect_file(&rt, &folder, "a", case.file, case.what)?;
     }
     Ok(())
 }

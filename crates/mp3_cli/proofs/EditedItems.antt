@@ -11,11 +11,12 @@ use Rattle.sync_survey.specs.declared.items.Item.TheVariants.{Frame, Free, Block
 use Rattle.sync_survey.specs.declared.places.PlacedFrame.{PlacedFrame}
 use Rattle.sync_survey.specs.declared.runs.Part.TheVariants.{Stream}
 use Rattle.sync_survey.specs.Items.{item_at, size_of}
-use Rattle.sync_survey.specs.Runs.{Placed, belongs, bytes_in, frame_as, frames_of}
+use Rattle.sync_survey.specs.Runs.{Placed, belongs, AreEndToEnd, bytes_in, frame_as, frames_of}
 use Rattle.sync_survey.specs.Walk.{frame_bytes}
 use Rattle.sync_survey.proofs.ItemsLaws.{stands-at, header_front-in_range}
+use Rattle.sync_survey.proofs.RunsLaws.{item_of-is}
 use Rattle.sync_survey.proofs.ItemBytes.{IsItem, header_front-four, frame-least, kept_item}
-use Rattle.sync_survey.proofs.ItemLists.{AreOf, StandEndToEnd, AreItems}
+use Rattle.sync_survey.proofs.ItemLists.{AreItems}
 use Rattle.mp3_cli.specs.declared.shift.Shift.{Shift}
 use Rattle.mp3_cli.specs.Edited.{moved_frame, moved_item, moved_items}
 use Rattle.mp3_cli.proofs.MovedFrame.{IsWhole, moved_whole, whole_item}
@@ -55,15 +56,16 @@ pub moved-cons : (shift : Shift) (file : List ℕ) (p : Placed) (ps : List Place
 unfolding moved_items
 moved-cons shift file p ps = refl
 
-pub moved_are : (shift : Shift) (file : List ℕ) (from : ℕ) (ps : List Placed) (to : ℕ) → AreBytes file → StandEndToEnd file from ps to → AreOf Stream ps → AreItems ps (moved_items shift file ps)
-moved_are shift file from [] to all ends of = moved-nil shift file
-moved_are shift file from (p ∷ ps) to all ends of = (
-  moved_item shift p.item (bytes_in file p),
-  moved_items shift file ps,
-  moved-cons shift file p ps,
-  moved_own shift file p.offset p.item all ends.1 of.0 ends.2,
-  moved_are shift file (p.offset + size_of p.item) ps to all ends.3 of.1,
-)
+pub moved_are : (shift : Shift) (file : List ℕ) (from : ℕ) (ps : List Placed) (to : ℕ) → AreBytes file → AreEndToEnd Stream file from ps to → AreItems ps (moved_items shift file ps)
+moved_are shift file from [] to all ends = moved-nil shift file
+moved_are shift file from (p ∷ ps) to all ends =
+    let here = item_of-is Stream file p.offset p.item ends.1 in (
+      moved_item shift p.item (bytes_in file p),
+      moved_items shift file ps,
+      moved-cons shift file p ps,
+      moved_own shift file p.offset p.item all here.is here.belongs here.within,
+      moved_are shift file (p.offset + size_of p.item) ps to all ends.2,
+    )
 
 -- ---- the frames among them
 
@@ -86,17 +88,18 @@ frame_more shift file new gap at Zero rest frames all is within stands later = l
 frame_more shift file new gap at End rest frames all is within stands later = later
 frame_more shift file new gap at Nothing rest frames all is within stands later = later
 
-pub frames_moved : (shift : Shift) (file new : List ℕ) (gap from at : ℕ) (ps : List Placed) (to : ℕ) (behind : List ℕ) → AreBytes file → StandEndToEnd file from ps to → AreOf Stream ps → from ≡ at + gap
+pub frames_moved : (shift : Shift) (file new : List ℕ) (gap from at : ℕ) (ps : List Placed) (to : ℕ) (behind : List ℕ) → AreBytes file → AreEndToEnd Stream file from ps to → from ≡ at + gap
     → drop at new ≡ moved_items shift file ps ++ behind → AreMovedAt shift file new gap (frames_of ps)
-frames_moved shift file new gap from at [] to behind all ends of there is = tt
-frames_moved shift file new gap from at (p ∷ ps) to behind all ends of there is =
+frames_moved shift file new gap from at [] to behind all ends there is = tt
+frames_moved shift file new gap from at (p ∷ ps) to behind all ends there is =
     let size = size_of p.item in
     let own = moved_item shift p.item (bytes_in file p) in
     let rest = moved_items shift file ps ++ behind in
+    let here = item_of-is Stream file p.offset p.item ends.1 in
     let place : p.offset - gap ≡ at = omega (arith, ends.0, there) in
     let stands : drop (p.offset - gap) new ≡ own ++ rest =
     ap (λ n. drop n new) place ∙ is ∙ ap (λ (l : List ℕ). l ++ behind) (moved-cons shift file p ps) ∙ append_assoc own (moved_items shift file ps) behind in
     let next : drop (p.offset - gap + size) new ≡ rest =
-    sym (drop-drop size (p.offset - gap) new) ∙ ap (drop size) stands ∙ drop_at own rest size (moved_own shift file p.offset p.item all ends.1 of.0 ends.2).size in
-    frame_more shift file new gap p.offset p.item rest (frames_of ps) all ends.1 ends.2 stands
-    (frames_moved shift file new gap (p.offset + size) (p.offset - gap + size) ps to behind all ends.3 of.1 (omega (arith, place, ends.0, there)) next)
+    sym (drop-drop size (p.offset - gap) new) ∙ ap (drop size) stands ∙ drop_at own rest size (moved_own shift file p.offset p.item all here.is here.belongs here.within).size in
+    frame_more shift file new gap p.offset p.item rest (frames_of ps) all here.is here.within stands
+    (frames_moved shift file new gap (p.offset + size) (p.offset - gap + size) ps to behind all ends.2 (omega (arith, place, ends.0, there)) next)

@@ -1,8 +1,8 @@
 -- The runs of the edited file are those of the file, without the junk between them.
 use Rattle.std.proofs.Common.{◌≡◌, ℕ, ◌+◌, ◌-◌, ◌≤◌, true, List, [], ◌∷◌, ◌++◌, length, take, drop, map, Option, Some, None, option_map, Ok, inl, inr, refl, sym, ◌∙◌, ap, ap₂, subst, arith, append-nil, length-append, length-drop}
-use Rattle.std.proofs.Math.Seq.{drop-length}
 use Rattle.std.proofs.lemmas.Bool.{le-leb}
 use Rattle.std.proofs.lemmas.List.{drop-drop, take_at, drop_at}
+use Rattle.std.proofs.Math.Seq.{drop-length}
 use Rattle.bit_fields.specs.Bits.{AreBytes}
 use Rattle.bit_fields.proofs.BitsLaws.{AreBytes-append}
 use Rattle.frame_header.specs.Fields.{HeaderFields}
@@ -14,16 +14,16 @@ use Rattle.sync_survey.specs.declared.places.Head.{Head}
 use Rattle.sync_survey.specs.declared.places.Start.{Start}
 use Rattle.sync_survey.specs.declared.runs.Part.TheVariants.{Front, Stream}
 use Rattle.sync_survey.specs.Items.{item_at, size_of, fits}
-use Rattle.sync_survey.specs.Runs.{Placed, Run, whole, item_of, run, bytes_of, frames_of, blocks_of}
+use Rattle.sync_survey.specs.Runs.{Placed, Run, whole, item_of, run, AreEndToEnd, bytes_of, frames_of, blocks_of}
 use Rattle.sync_survey.specs.Start.{start_at, front_end_of, start_of, IsLeastStart}
-use Rattle.sync_survey.specs.Walk.{stream_of, frame_bytes, head_of, numbered, all_blocks}
-use Rattle.sync_survey.proofs.RunsLaws.{IsItemOf, item_of-past, run-next}
-use Rattle.sync_survey.proofs.StartLaws.{start-first}
+use Rattle.sync_survey.specs.Walk.{ReachesTo, stream_of, frame_bytes, head_of, numbered, all_blocks}
+use Rattle.sync_survey.proofs.RunsLaws.{IsItemOf, item_of-past, run-next, run-ends}
+use Rattle.sync_survey.proofs.StartLaws.{start-first, start-front}
 use Rattle.sync_survey.proofs.WalkLaws.{first_item, reach-end}
 use Rattle.sync_survey.proofs.ItemBytes.{IsItem}
-use Rattle.sync_survey.proofs.ItemLists.{AreOf, StandEndToEnd, run-stands, AreItems, run-of, front_of, items-bytes, items-length, kept_items, nearer, item_at-known, items-run, nearer-none, nearer_frame, nearer_piece, frames-nearer, blocks-nearer}
+use Rattle.sync_survey.proofs.ItemLists.{AreItems, ends-stream, items-bytes, items-length, kept_items, nearer, item_at-known, items-run, nearer-none, nearer_frame, nearer_piece, frames-nearer, blocks-nearer}
 use Rattle.sync_survey.proofs.HeadSame.{nearer_head, head_of-nearer}
-use Rattle.sync_survey.proofs.SurveyParts.{start-front_end, frames_from, told_from, IsRead}
+use Rattle.sync_survey.proofs.SurveyParts.{frames_from, told_from, IsRead}
 use Rattle.mp3_cli.specs.declared.shift.Shift.{Shift}
 use Rattle.mp3_cli.specs.Edited.{moved_frame, moved_items, moved_stream, edited}
 use Rattle.mp3_cli.proofs.MovedFrame.{IsWhole, moved_whole, whole_item}
@@ -116,31 +116,34 @@ module _ (shift : Shift) (file : List ℕ) (allowed : ℕ) (start : Start) (all 
   items = record { offset = first; item = Frame h } ∷ later.items
 
   pub front_stop : front.stop ≡ front_end
-  front_stop = sym (start-front_end file start read.start_is ∙ front_end-is file)
+  front_stop = sym (start-front file start read.start_is ∙ front_end-is file)
+
+  first_there : item_of Stream file first ≡ Some (Frame h)
+  first_there = first_item file start.first first_whole.is first_whole.within
 
   pub stream_is : stream_of file start ≡ record { items = items; stop = later.stop }
-  stream_is = run-next Stream file first (Frame h) (first_item file start.first first_whole.is first_whole.within)
+  stream_is = run-next Stream file first (Frame h) first_there
 
-  pub front_ends : StandEndToEnd file 0 front.items front.stop
-  front_ends = run-stands Front file 0
+  pub front_ends : AreEndToEnd Front file 0 front.items front.stop
+  front_ends = run-ends Front file 0
 
-  pub later_ends : StandEndToEnd file (first + size) later.items later.stop
-  later_ends = run-stands Stream file (first + size)
+  pub later_ends : AreEndToEnd Stream file (first + size) later.items later.stop
+  later_ends = run-ends Stream file (first + size)
 
-  pub later_of : AreOf Stream later.items
-  later_of = run-of Stream file (first + size)
-
-  pub ends : StandEndToEnd file first items later.stop
-  ends = (refl, first_whole.is, first_whole.within, later_ends)
+  ends : AreEndToEnd Stream file first items later.stop
+  ends = (refl, first_there, later_ends)
 
   pub items_bytes : bytes_of file items ≡ drop first file
-  items_bytes = ap (λ (r : Run). bytes_of file r.items) (sym stream_is) ∙ sym (ap (λ l. bytes_of file (stream_of file start).items ++ l) (drop-length file) ∙ append-nil (bytes_of file (stream_of file start).items))
-      ∙ reach-end file start (frames_from file start) (stream_of file start).stop refl read.end
+  items_bytes =
+      let reached : ReachesTo file start (length file) = reach-end file start (frames_from file start) (stream_of file start).stop refl read.end in
+      ap (λ (r : Run). bytes_of file r.items) (sym stream_is)
+      ∙ sym (append-nil (bytes_of file (stream_of file start).items))
+      ∙ ap (λ l. bytes_of file (stream_of file start).items ++ l) (sym (drop-length file))
+      ∙ reached
 
   pub stop_is : later.stop ≡ length file
   stop_is =
-      let kept : AreItems items (bytes_of file items) = kept_items file first items later.stop all ends (refl, later_of) in
-      omega (arith, items-length file first items later.stop (bytes_of file items) ends kept, ap length items_bytes, length-drop first file, first_whole.within, first_whole.some)
+      omega (arith, items-length Stream file first items later.stop (bytes_of file items) ends (kept_items file first items later.stop all ends), ap length items_bytes, length-drop first file, first_whole.within, first_whole.some)
 
   -- ---- the bytes
 
@@ -161,10 +164,10 @@ module _ (shift : Shift) (file : List ℕ) (allowed : ℕ) (start : Start) (all 
   own_by (Some found) = whole_item h (frame_bytes file start.first) first_frame
 
   before_are : AreItems front.items before
-  before_are = kept_items file 0 front.items front.stop all front_ends (front_of front.items (run-of Front file 0))
+  before_are = kept_items file 0 front.items front.stop all (ends-stream Front file 0 front.items front.stop front_ends)
 
   after_are : AreItems later.items after
-  after_are = moved_are shift file (first + size) later.items later.stop all later_ends later_of
+  after_are = moved_are shift file (first + size) later.items later.stop all later_ends
 
   new-is : new_file ≡ before ++ (own ++ after)
   unfolding edited
@@ -173,7 +176,7 @@ module _ (shift : Shift) (file : List ℕ) (allowed : ℕ) (start : Start) (all 
       ∙ ap (λ l. before ++ l) (moved_first shift file start.first later.items head)
 
   pub before_long : length before ≡ front_end
-  before_long = omega (arith, items-length file 0 front.items front.stop before front_ends before_are, front_stop)
+  before_long = omega (arith, items-length Front file 0 front.items front.stop before front_ends before_are, front_stop)
 
   pub new-stands : drop front_end new_file ≡ own ++ after
   new-stands = ap (drop front_end) new-is ∙ drop_at before (own ++ after) front_end before_long
@@ -196,7 +199,7 @@ module _ (shift : Shift) (file : List ℕ) (allowed : ℕ) (start : Start) (all 
         length-append own after,
         before_long,
         (own_by head).size,
-        items-length file (first + size) later.items later.stop after later_ends after_are,
+        items-length Stream file (first + size) later.items later.stop after later_ends after_are,
         stop_is,
         front_low,
         first_whole.within,
@@ -213,13 +216,13 @@ module _ (shift : Shift) (file : List ℕ) (allowed : ℕ) (start : Start) (all 
   pub new-front : run Front new_file 0 ≡ record { items = front.items; stop = front_end }
   new-front =
       let stop : front.stop - 0 ≡ front_end = omega (arith, front_stop) in
-      items-run Front file new_file 0 0 0 front.items front.stop before (own ++ after) front_ends (run-of Front file 0) (omega arith) before_are rest_bytes (omega arith) new-is
+      items-run Front file new_file 0 0 0 front.items front.stop before (own ++ after) front_ends (omega arith) before_are rest_bytes (omega arith) new-is
       (not_in_front new_file (front.stop - 0) h (ap (item_at new_file) stop ∙ new_first))
       ∙ (λ i. record { items = nearer-none front.items i; stop = stop i })
 
   pub new-stream : run Stream new_file front_end ≡ record { items = map (nearer gap) items; stop = later.stop - gap }
   new-stream =
-      items-run Stream file new_file gap first front_end items later.stop (own ++ after) [] ends (refl, later_of) (omega (arith, front_low))
+      items-run Stream file new_file gap first front_end items later.stop (own ++ after) [] ends (omega (arith, front_low))
       (own, after, refl, own_by head, after_are) tt (omega (arith, new_room)) (new-stands ∙ sym (append-nil (own ++ after)))
       (item_of-past Stream new_file (later.stop - gap) (omega (arith, new-length, stop_is)))
 
@@ -238,7 +241,7 @@ module _ (shift : Shift) (file : List ℕ) (allowed : ℕ) (start : Start) (all 
   new-later = sym (drop-drop size front_end new_file) ∙ ap (drop size) new-stands ∙ drop_at own after size (own_by head).size ∙ sym (append-nil after)
 
   later_moved : AreMovedAt shift file new_file gap (frames_of later.items)
-  later_moved = frames_moved shift file new_file gap (first + size) (front_end + size) later.items later.stop [] all later_ends later_of (omega (arith, front_low)) new-later
+  later_moved = frames_moved shift file new_file gap (first + size) (front_end + size) later.items later.stop [] all later_ends (omega (arith, front_low)) new-later
 
   moved_by : (o : Option Head) → drop front_end new_file ≡ first_bytes shift file start.first o ++ after → AreMovedAt shift file new_file gap (numbered o (start.first ∷ frames_of later.items))
   moved_by None is = (record { whole = first_frame; rest = after; stands = ap (λ n. drop n new_file) place ∙ is }, later_moved)

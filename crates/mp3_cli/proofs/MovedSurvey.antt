@@ -27,7 +27,8 @@ use Rattle.sync_survey.specs.Walk.{stream_of, frame_bytes, head_of, all_blocks, 
 use Rattle.sync_survey.specs.MainData.{row_of, rows_of, own_area, head_area, is_silent, start_of_data, place_behind, end_behind}
 use Rattle.sync_survey.specs.Faults.{has_wrong_word, all_faults, class_from, SurveyFields, surveyed}
 use Rattle.sync_survey.proofs.OneItem.{stands-only_at}
-use Rattle.sync_survey.proofs.ItemLists.{run-stands, run-of, front_of, nearer_frame, nearer_piece, blocks-between}
+use Rattle.sync_survey.proofs.RunsLaws.{run-ends}
+use Rattle.sync_survey.proofs.ItemLists.{nearer_frame, nearer_piece, blocks-between}
 use Rattle.sync_survey.proofs.SurveyParts.{frames_from, told_from, IsRead, surveyed-told, surveyed-parts, IsSound, AreSound, all_faults-none_sound, sound-no_all_faults}
 use Rattle.mp3_cli.specs.declared.shift.Shift.{Shift}
 use Rattle.mp3_cli.specs.Gains.{moved_side}
@@ -221,11 +222,11 @@ module _ (shift : Shift) (file : List ℕ) (allowed : ℕ) (start : Start) (all 
       let first = start.first.offset in
       let low = front_low shift file allowed start all read in
       let front_blocks : map (moved_block first gap) (blocks_of front.items) ≡ blocks_of front.items =
-      blocks-between (moved_block first gap) same_block file 0 first 0 front.items front.stop (λ b above below. before_first first gap b below) (run-stands Front file 0) (front_of front.items (run-of Front file 0)) (omega arith)
+      blocks-between Front (moved_block first gap) same_block file 0 first 0 front.items front.stop (λ b above below. before_first first gap b below) (run-ends Front file 0) (omega arith)
       (omega (arith, low, front_stop shift file allowed start all read))
       ∙ map-id (blocks_of front.items) in
       let stream_blocks : map (moved_block first gap) (blocks_of stream.items) ≡ map (nearer_piece gap) (blocks_of stream.items) =
-      blocks-between (moved_block first gap) (nearer_piece gap) file first stream.stop first stream.items stream.stop (λ b above below. behind_first first gap b above) (run-stands Stream file first) (run-of Stream file first)
+      blocks-between Stream (moved_block first gap) (nearer_piece gap) file first stream.stop first stream.items stream.stop (λ b above below. behind_first first gap b above) (run-ends Stream file first)
       (omega arith) (omega arith) in
       new-blocks shift file allowed start all read
       ∙ sym (map-append (moved_block first gap) (blocks_of front.items) (blocks_of stream.items) ∙ ap₂ (λ (a b : List Piece). a ++ b) front_blocks stream_blocks)

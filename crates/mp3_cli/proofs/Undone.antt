@@ -23,14 +23,14 @@ use Rattle.sync_survey.specs.declared.rows.Row.{Row}
 use Rattle.sync_survey.specs.declared.runs.Part.TheVariants.{Front, Stream}
 use Rattle.sync_survey.specs.declared.survey_fault.SurveyFault.{SurveyFault}
 use Rattle.sync_survey.specs.Items.{item_at, size_of}
-use Rattle.sync_survey.specs.Runs.{Placed, Run, run, bytes_in, bytes_of, frame_as, frames_of}
+use Rattle.sync_survey.specs.Runs.{Placed, Run, run, AreEndToEnd, bytes_in, bytes_of, frame_as, frames_of}
 use Rattle.sync_survey.specs.Walk.{frame_bytes, head_of, numbered}
 use Rattle.sync_survey.specs.MainData.{row_of, rows_of}
 use Rattle.sync_survey.specs.Faults.{has_wrong_word, class_from, SurveyFields, longest_file}
 use Rattle.sync_survey.specs.Survey.{survey_of}
-use Rattle.sync_survey.proofs.RunsLaws.{run-ends, bytes-ends}
+use Rattle.sync_survey.proofs.RunsLaws.{item_of-is, run-ends, bytes-ends}
 use Rattle.sync_survey.proofs.FoldersLaws.{survey_of-short}
-use Rattle.sync_survey.proofs.ItemLists.{AreOf, StandEndToEnd, run-stands, nearer, nearer_frame, run-of, front_of, items-length, kept_items}
+use Rattle.sync_survey.proofs.ItemLists.{nearer, nearer_frame, ends-stream, items-length, kept_items}
 use Rattle.sync_survey.proofs.HeadSame.{nearer_head}
 use Rattle.sync_survey.proofs.SurveyParts.{frames_from, told_from, IsRead, surveyed-told, surveyed-parts, AreSound, all_faults-none_sound}
 use Rattle.mp3_cli.specs.declared.fault.EditFault.{EditFault}
@@ -42,7 +42,7 @@ use Rattle.mp3_cli.specs.Streams.{moved_row, without_junk}
 use Rattle.mp3_cli.proofs.GainsBack.{opposite, GainsFit, IsSideBack, side_back}
 use Rattle.mp3_cli.proofs.MovedFrame.{whole_class, whole_room, frame_back}
 use Rattle.mp3_cli.proofs.EditedItems.{frame_whole, moved_own, moved-nil, moved-cons, IsMovedAt, AreMovedAt}
-use Rattle.mp3_cli.proofs.EditedRuns.{gap_of, moved_start, new_file, first_bytes, moved_first, front_low, stream_is, later_ends, later_of, items_bytes, front_stop, new-before, new-bytes, new-length, new-later, new-front, new-stream, new-head, near_own, first_frame, frames-moved}
+use Rattle.mp3_cli.proofs.EditedRuns.{gap_of, moved_start, new_file, first_bytes, moved_first, front_low, stream_is, later_ends, items_bytes, front_stop, new-before, new-bytes, new-length, new-later, new-front, new-stream, new-head, near_own, first_frame, frames-moved}
 use Rattle.mp3_cli.proofs.MovedSurvey.{new-rows, new-read}
 use Rattle.mp3_cli.proofs.GainedStream.{gained-parts, gained-ok, survey_of-parts}
 
@@ -142,32 +142,33 @@ item_back shift file at Zero frames all is within back = (refl, back)
 item_back shift file at End frames all is within back = (refl, back)
 item_back shift file at Nothing frames all is within back = (refl, back)
 
-items_back : (shift : Shift) (file new : List ℕ) (gap from at : ℕ) (ps : List Placed) (to : ℕ) (behind : List ℕ) → AreBytes file → StandEndToEnd file from ps to → AreOf Stream ps → from ≡ at + gap
+items_back : (shift : Shift) (file new : List ℕ) (gap from at : ℕ) (ps : List Placed) (to : ℕ) (behind : List ℕ) → AreBytes file → AreEndToEnd Stream file from ps to → from ≡ at + gap
     → drop at new ≡ moved_items shift file ps ++ behind → AreBack shift file (frames_of ps) → moved_items (opposite shift) new (map (nearer gap) ps) ≡ bytes_of file ps
-items_back shift file new gap from at [] to behind all ends of there is back = moved-nil (opposite shift) new
-items_back shift file new gap from at (p ∷ ps) to behind all ends of there is back =
+items_back shift file new gap from at [] to behind all ends there is back = moved-nil (opposite shift) new
+items_back shift file new gap from at (p ∷ ps) to behind all ends there is back =
     let size = size_of p.item in
     let own = moved_item shift p.item (bytes_in file p) in
     let rest = moved_items shift file ps ++ behind in
     let place : p.offset - gap ≡ at = omega (arith, ends.0, there) in
-    let long : length own ≡ size = (moved_own shift file p.offset p.item all ends.1 of.0 ends.2).size in
+    let stood = item_of-is Stream file p.offset p.item ends.1 in
+    let long : length own ≡ size = (moved_own shift file p.offset p.item all stood.is stood.belongs stood.within).size in
     let stands : drop (p.offset - gap) new ≡ own ++ rest =
     ap (λ n. drop n new) place ∙ is ∙ ap (λ (l : List ℕ). l ++ behind) (moved-cons shift file p ps) ∙ append_assoc own (moved_items shift file ps) behind in
     let next : drop (p.offset - gap + size) new ≡ rest = sym (drop-drop size (p.offset - gap) new) ∙ ap (drop size) stands ∙ drop_at own rest size long in
     let taken : bytes_in new (nearer gap p) ≡ own = ap (take size) stands ∙ take_at own rest size long in
-    let here = item_back shift file p.offset p.item (frames_of ps) all ends.1 ends.2 back in
+    let here = item_back shift file p.offset p.item (frames_of ps) all stood.is stood.within back in
     moved-cons (opposite shift) new (nearer gap p) (map (nearer gap) ps)
     ∙ ap₂ (λ (a b : List ℕ). a ++ b) (ap (moved_item (opposite shift) p.item) taken ∙ here.0)
-    (items_back shift file new gap (p.offset + size) (p.offset - gap + size) ps to behind all ends.3 of.1 (omega (arith, place, ends.0, there)) next here.1)
+    (items_back shift file new gap (p.offset + size) (p.offset - gap + size) ps to behind all ends.2 (omega (arith, place, ends.0, there)) next here.1)
 
 -- blocks and zero bytes at the front of a file are its front
 front_bytes : (file : List ℕ) → AreBytes file → bytes_of file (run Front file 0).items ≡ take (run Front file 0).stop file
 front_bytes file all =
     let front = run Front file 0 in
     let bytes = bytes_of file front.items in
-    let ends = run-stands Front file 0 in
-    let long = items-length file 0 front.items front.stop bytes ends (kept_items file 0 front.items front.stop all ends (front_of front.items (run-of Front file 0))) in
-    sym (ap (take front.stop) (sym (bytes-ends Front file 0 front.items front.stop (run-ends Front file 0))) ∙ take_at bytes (drop front.stop file) front.stop (omega (arith, long)))
+    let ends = run-ends Front file 0 in
+    let long = items-length Front file 0 front.items front.stop bytes ends (kept_items file 0 front.items front.stop all (ends-stream Front file 0 front.items front.stop ends)) in
+    sym (ap (take front.stop) (sym (bytes-ends Front file 0 front.items front.stop ends)) ∙ take_at bytes (drop front.stop file) front.stop (omega (arith, long)))
 
 -- ---- the file back
 
@@ -213,7 +214,7 @@ module _ (shift : Shift) (file : List ℕ) (allowed : ℕ) (start : Start) (all 
       ap₂ (λ (o : Option Head) (r : Run). moved_stream (opposite shift) new o r.items) (new-head shift file allowed start all read) (new-stream shift file allowed start all read)
       ∙ moved_first (opposite shift) new nearer_first (map (nearer gap) later.items) (option_map (nearer_head gap) head)
       ∙ ap₂ (λ (a b : List ℕ). a ++ b) (first_by head (near_own shift file allowed start all read) numbered_back)
-      (items_back shift file new gap (start.first.offset + size_of (Frame h)) (start.front_end + size_of (Frame h)) later.items later.stop [] all (later_ends shift file allowed start all read) (later_of shift file allowed start all read)
+      (items_back shift file new gap (start.first.offset + size_of (Frame h)) (start.front_end + size_of (Frame h)) later.items later.stop [] all (later_ends shift file allowed start all read)
       (omega (arith, low)) (new-later shift file allowed start all read) (later_by head numbered_back))
       ∙ items_bytes shift file allowed start all read
 

@@ -1,5 +1,5 @@
 -- Bytes that are items, one behind the other: where they stand in a file, the items stand end to end.
-use Rattle.std.proofs.Common.{◌≡◌, ℕ, zero, suc, ◌+◌, ◌-◌, ◌<◌, ◌≤◌, true, List, [], ◌∷◌, ◌++◌, length, drop, map, Option, Some, None, refl, sym, ◌∙◌, ap, ap₂, subst, arith, append_assoc, length-append, length-drop}
+use Rattle.std.proofs.Common.{◌≡◌, ℕ, ◌+◌, ◌-◌, ◌<◌, ◌≤◌, true, List, [], ◌∷◌, ◌++◌, length, drop, map, None, refl, sym, ◌∙◌, ap, ap₂, subst, arith, append_assoc, length-append, length-drop}
 use Rattle.std.specs.List.{cons_option}
 use Rattle.std.proofs.lemmas.List.{drop-drop, drop_at}
 use Rattle.bit_fields.specs.Bits.{AreBytes}
@@ -9,76 +9,38 @@ use Rattle.sync_survey.specs.declared.items.Item.TheVariants.{Frame, Free, Block
 use Rattle.sync_survey.specs.declared.places.PlacedFrame.{PlacedFrame}
 use Rattle.sync_survey.specs.declared.places.Piece.{Piece}
 use Rattle.sync_survey.specs.declared.runs.Part.{Part}
-use Rattle.sync_survey.specs.declared.runs.Part.TheVariants.{Front, Stream}
+use Rattle.sync_survey.specs.declared.runs.Part.TheVariants.{Stream}
 use Rattle.sync_survey.specs.Items.{item_front, item_at, size_of}
-use Rattle.sync_survey.specs.Runs.{Placed, belongs, item_of, Run, onward, run_up_to, run, AreEndToEnd, bytes_in, bytes_of, frame_as, block_as, frames_of, blocks_of}
-use Rattle.sync_survey.proofs.ItemsLaws.{size-some}
-use Rattle.sync_survey.proofs.RunsLaws.{item_of-is, item_of-whole, run-ends, run-only}
+use Rattle.sync_survey.specs.Runs.{Placed, belongs, item_of, run, AreEndToEnd, bytes_in, bytes_of, frame_as, block_as, frames_of, blocks_of}
+use Rattle.sync_survey.proofs.RunsLaws.{item_of-is, item_of-whole, run-only}
 use Rattle.sync_survey.proofs.ItemBytes.{IsItem, kept_item}
 
--- ---- items end to end, whatever part they are of
-
--- these items are of the part
-abbrev pub AreOf : Part → List Placed → Type 0
-AreOf part [] = Unit {0}
-AreOf part (p ∷ ps) = (belongs part p.item ≡ true) × AreOf part ps
-
--- these items stand end to end in the file, from one offset to another
-abbrev pub StandEndToEnd : List ℕ → ℕ → List Placed → ℕ → Type 0
-StandEndToEnd file from [] to = from ≡ to
-StandEndToEnd file from (p ∷ ps) to = (p.offset ≡ from) × (item_at file p.offset ≡ p.item) × (p.offset + size_of p.item ≤ length file) × StandEndToEnd file (p.offset + size_of p.item) ps to
-
-pub ends-stand : (part : Part) (file : List ℕ) (from : ℕ) (ps : List Placed) (to : ℕ) → AreEndToEnd part file from ps to → StandEndToEnd file from ps to
-ends-stand part file from [] to ends = ends
-ends-stand part file from (p ∷ ps) to ends =
-    let here = item_of-is part file p.offset p.item ends.1 in
-    (ends.0, here.is, here.within, ends-stand part file (p.offset + size_of p.item) ps to ends.2)
-
-pub stand-ends : (part : Part) (file : List ℕ) (from : ℕ) (ps : List Placed) (to : ℕ) → StandEndToEnd file from ps to → AreOf part ps → AreEndToEnd part file from ps to
-stand-ends part file from [] to ends of = ends
-stand-ends part file from (p ∷ ps) to ends of = (ends.0, item_of-whole part file p.offset p.item ends.1 of.0 ends.2, stand-ends part file (p.offset + size_of p.item) ps to ends.3 of.1)
-
-pub run-stands : (part : Part) (file : List ℕ) (from : ℕ) → StandEndToEnd file from (run part file from).items (run part file from).stop
-run-stands part file from = ends-stand part file from (run part file from).items (run part file from).stop (run-ends part file from)
-
--- ---- what belongs to a run
-
-onward_of : (part : Part) (file : List ℕ) (at : ℕ) (next : ℕ → Run) (o : Option Item) → item_of part file at ≡ o → ((later : ℕ) → AreOf part (next later).items) → AreOf part (onward at next o).items
-onward_of part file at next None is of = tt
-onward_of part file at next (Some item) is of = ((item_of-is part file at item is).belongs, of (at + size_of item))
-
-of_up_to : (n : ℕ) (part : Part) (file : List ℕ) (at : ℕ) → AreOf part (run_up_to n part file at).items
-unfolding run_up_to
-of_up_to zero part file at = tt
-of_up_to (suc n) part file at = onward_of part file at (λ later. run_up_to n part file later) (item_of part file at) refl (λ later. of_up_to n part file later)
-
--- the items of a run are of its part
-pub run-of : (part : Part) (file : List ℕ) (from : ℕ) → AreOf part (run part file from).items
-unfolding run
-run-of part file from = of_up_to (length file) part file from
+-- ---- items of the front
 
 -- what may stand before the first frame may stand behind it
-front_belongs : (item : Item) → belongs Front item ≡ true → belongs Stream item ≡ true
-front_belongs (Frame h) is = refl
-front_belongs Free is = is
-front_belongs (Block b) is = refl
-front_belongs Zero is = refl
-front_belongs End is = is
-front_belongs Nothing is = is
+stream_belongs : (part : Part) (item : Item) → belongs part item ≡ true → belongs Stream item ≡ true
+stream_belongs part (Frame h) is = refl
+stream_belongs part Free is = is
+stream_belongs part (Block b) is = refl
+stream_belongs part Zero is = refl
+stream_belongs part End is = is
+stream_belongs part Nothing is = is
 
-pub front_of : (ps : List Placed) → AreOf Front ps → AreOf Stream ps
-front_of [] of = tt
-front_of (p ∷ ps) of = (front_belongs p.item of.0, front_of ps of.1)
+pub ends-stream : (part : Part) (file : List ℕ) (from : ℕ) (ps : List Placed) (to : ℕ) → AreEndToEnd part file from ps to → AreEndToEnd Stream file from ps to
+ends-stream part file from [] to ends = ends
+ends-stream part file from (p ∷ ps) to ends =
+    let here = item_of-is part file p.offset p.item ends.1 in
+    (ends.0, item_of-whole Stream file p.offset p.item here.is (stream_belongs part p.item here.belongs) here.within, ends-stream part file (p.offset + size_of p.item) ps to ends.2)
 
 -- ---- from where to where
 
-pub ends-rise : (file : List ℕ) (from : ℕ) (ps : List Placed) (to : ℕ) → StandEndToEnd file from ps to → from ≤ to
-ends-rise file from [] to ends = omega (arith, ends)
-ends-rise file from (p ∷ ps) to ends = omega (arith, ends.0, ends-rise file (p.offset + size_of p.item) ps to ends.3)
+pub ends-rise : (part : Part) (file : List ℕ) (from : ℕ) (ps : List Placed) (to : ℕ) → AreEndToEnd part file from ps to → from ≤ to
+ends-rise part file from [] to ends = omega (arith, ends)
+ends-rise part file from (p ∷ ps) to ends = omega (arith, ends.0, ends-rise part file (p.offset + size_of p.item) ps to ends.2)
 
-pub ends-within : (file : List ℕ) (from : ℕ) (ps : List Placed) (to : ℕ) → StandEndToEnd file from ps to → from ≤ length file → to ≤ length file
-ends-within file from [] to ends within = omega (arith, ends, within)
-ends-within file from (p ∷ ps) to ends within = ends-within file (p.offset + size_of p.item) ps to ends.3 ends.2
+pub ends-within : (part : Part) (file : List ℕ) (from : ℕ) (ps : List Placed) (to : ℕ) → AreEndToEnd part file from ps to → from ≤ length file → to ≤ length file
+ends-within part file from [] to ends within = omega (arith, ends, within)
+ends-within part file from (p ∷ ps) to ends within = ends-within part file (p.offset + size_of p.item) ps to ends.2 (item_of-is part file p.offset p.item ends.1).within
 
 -- ---- bytes that are items
 
@@ -92,16 +54,17 @@ items-bytes [] bytes are = subst AreBytes (sym are) tt
 items-bytes (p ∷ ps) bytes are = subst AreBytes (sym are.2) (AreBytes-append are.0 are.1 are.3.bytes (items-bytes ps are.1 are.4))
 
 -- they are as many as the items have
-pub items-length : (file : List ℕ) (from : ℕ) (ps : List Placed) (to : ℕ) (bytes : List ℕ) → StandEndToEnd file from ps to → AreItems ps bytes → from + length bytes ≡ to
-items-length file from [] to bytes ends are = omega (arith, ends, ap length are)
-items-length file from (p ∷ ps) to bytes ends are =
-    omega (arith, ends.0, ap length are.2, length-append are.0 are.1, are.3.size, items-length file (p.offset + size_of p.item) ps to are.1 ends.3 are.4)
+pub items-length : (part : Part) (file : List ℕ) (from : ℕ) (ps : List Placed) (to : ℕ) (bytes : List ℕ) → AreEndToEnd part file from ps to → AreItems ps bytes → from + length bytes ≡ to
+items-length part file from [] to bytes ends are = omega (arith, ends, ap length are)
+items-length part file from (p ∷ ps) to bytes ends are =
+    omega (arith, ends.0, ap length are.2, length-append are.0 are.1, are.3.size, items-length part file (p.offset + size_of p.item) ps to are.1 ends.2 are.4)
 
 -- the bytes of items of a file are these items
-pub kept_items : (file : List ℕ) (from : ℕ) (ps : List Placed) (to : ℕ) → AreBytes file → StandEndToEnd file from ps to → AreOf Stream ps → AreItems ps (bytes_of file ps)
-kept_items file from [] to all ends of = refl
-kept_items file from (p ∷ ps) to all ends of =
-    (bytes_in file p, bytes_of file ps, refl, kept_item file p.offset p.item all ends.1 of.0 ends.2, kept_items file (p.offset + size_of p.item) ps to all ends.3 of.1)
+pub kept_items : (file : List ℕ) (from : ℕ) (ps : List Placed) (to : ℕ) → AreBytes file → AreEndToEnd Stream file from ps to → AreItems ps (bytes_of file ps)
+kept_items file from [] to all ends = refl
+kept_items file from (p ∷ ps) to all ends =
+    let here = item_of-is Stream file p.offset p.item ends.1 in
+    (bytes_in file p, bytes_of file ps, refl, kept_item file p.offset p.item all here.is here.belongs here.within, kept_items file (p.offset + size_of p.item) ps to all ends.2)
 
 -- ---- where they stand
 
@@ -114,27 +77,24 @@ unfolding item_at
 item_at-known file place at bytes item same is known = ap (λ n. item_front (drop n file)) same ∙ ap item_front is ∙ known
 
 -- Where bytes that are items stand in another file, so many bytes nearer to its front, they stand there end to end.
-pub items-end : (old file : List ℕ) (gap from at : ℕ) (ps : List Placed) (to : ℕ) (bytes behind : List ℕ) → StandEndToEnd old from ps to → from ≡ at + gap → AreItems ps bytes → AreBytes behind → at ≤ length file
-    → drop at file ≡ bytes ++ behind → StandEndToEnd file at (map (nearer gap) ps) (to - gap)
-items-end old file gap from at [] to bytes behind ends there are all within is = omega (arith, ends, there)
-items-end old file gap from at (p ∷ ps) to bytes behind ends there are all within is =
+pub items-end : (part : Part) (old file : List ℕ) (gap from at : ℕ) (ps : List Placed) (to : ℕ) (bytes behind : List ℕ) → AreEndToEnd part old from ps to → from ≡ at + gap → AreItems ps bytes → AreBytes behind → at ≤ length file
+    → drop at file ≡ bytes ++ behind → AreEndToEnd part file at (map (nearer gap) ps) (to - gap)
+items-end part old file gap from at [] to bytes behind ends there are all within is = omega (arith, ends, there)
+items-end part old file gap from at (p ∷ ps) to bytes behind ends there are all within is =
     let own = are.0 in
     let rest = are.1 in
     let size = size_of p.item in
+    let here = item_of-is part old p.offset p.item ends.1 in
     let place : p.offset - gap ≡ at = omega (arith, ends.0, there) in
     let stands : drop at file ≡ own ++ (rest ++ behind) = is ∙ ap (λ l. l ++ behind) are.2 ∙ append_assoc own rest behind in
     let room : at + size ≤ length file = omega (arith, within, ap length stands, length-drop at file, length-append own (rest ++ behind), are.3.size) in
+    let known = item_at-known file (p.offset - gap) at (own ++ (rest ++ behind)) p.item place stands (are.3.known (rest ++ behind) (AreBytes-append rest behind (items-bytes ps rest are.4) all)) in
     let next : drop (p.offset - gap + size) file ≡ rest ++ behind =
     ap (λ n. drop (n + size) file) place ∙ sym (drop-drop size at file) ∙ ap (drop size) stands ∙ drop_at own (rest ++ behind) size are.3.size in (
       place,
-      item_at-known file (p.offset - gap) at (own ++ (rest ++ behind)) p.item place stands (are.3.known (rest ++ behind) (AreBytes-append rest behind (items-bytes ps rest are.4) all)),
-      omega (arith, place, room),
-      items-end old file gap (p.offset + size) (p.offset - gap + size) ps to rest behind ends.3 (omega (arith, place, ends.0, there)) are.4 all (omega (arith, place, room)) next,
+      item_of-whole part file (p.offset - gap) p.item known here.belongs (omega (arith, place, room)),
+      items-end part old file gap (p.offset + size) (p.offset - gap + size) ps to rest behind ends.2 (omega (arith, place, ends.0, there)) are.4 all (omega (arith, place, room)) next,
     )
-
-pub nearer-of : (part : Part) (gap : ℕ) (ps : List Placed) → AreOf part ps → AreOf part (map (nearer gap) ps)
-nearer-of part gap [] of = tt
-nearer-of part gap (p ∷ ps) of = (of.0, nearer-of part gap ps of.1)
 
 -- not nearer at all
 pub nearer-none : (ps : List Placed) → map (nearer 0) ps ≡ ps
@@ -144,11 +104,10 @@ nearer-none (p ∷ ps) =
     λ i. record p { offset = same i } ∷ nearer-none ps i
 
 -- they are the run there, where no further item of the part stands
-pub items-run : (part : Part) (old file : List ℕ) (gap from at : ℕ) (ps : List Placed) (to : ℕ) (bytes behind : List ℕ) → StandEndToEnd old from ps to → AreOf part ps → from ≡ at + gap → AreItems ps bytes → AreBytes behind
+pub items-run : (part : Part) (old file : List ℕ) (gap from at : ℕ) (ps : List Placed) (to : ℕ) (bytes behind : List ℕ) → AreEndToEnd part old from ps to → from ≡ at + gap → AreItems ps bytes → AreBytes behind
     → at ≤ length file → drop at file ≡ bytes ++ behind → item_of part file (to - gap) ≡ None → run part file at ≡ record { items = map (nearer gap) ps; stop = to - gap }
-items-run part old file gap from at ps to bytes behind ends of there are all within is none =
-    run-only part file at (map (nearer gap) ps) (to - gap)
-    (stand-ends part file at (map (nearer gap) ps) (to - gap) (items-end old file gap from at ps to bytes behind ends there are all within is) (nearer-of part gap ps of)) none
+items-run part old file gap from at ps to bytes behind ends there are all within is none =
+    run-only part file at (map (nearer gap) ps) (to - gap) (items-end part old file gap from at ps to bytes behind ends there are all within is) none
 
 -- ---- frames and blocks among them
 
@@ -191,15 +150,15 @@ one_mapped f g at End ys same rest = rest
 one_mapped f g at Nothing ys same rest = rest
 
 -- what is done to blocks in front of an offset, and what is done to blocks from an offset on
-pub blocks-between : (f g : Piece → Piece) (file : List ℕ) (low high from : ℕ) (ps : List Placed) (to : ℕ) → ((p : Piece) → low ≤ p.offset → p.offset < high → f p ≡ g p) → StandEndToEnd file from ps to → AreOf Stream ps → low ≤ from → to ≤ high
+pub blocks-between : (part : Part) (f g : Piece → Piece) (file : List ℕ) (low high from : ℕ) (ps : List Placed) (to : ℕ) → ((p : Piece) → low ≤ p.offset → p.offset < high → f p ≡ g p) → AreEndToEnd part file from ps to → low ≤ from → to ≤ high
     → map f (blocks_of ps) ≡ map g (blocks_of ps)
-blocks-between f g file low high from [] to same ends of begin end = refl
-blocks-between f g file low high from (p ∷ ps) to same ends of begin end =
+blocks-between part f g file low high from [] to same ends begin end = refl
+blocks-between part f g file low high from (p ∷ ps) to same ends begin end =
     let size = size_of p.item in
-    let some : 0 < size = size-some Stream file p.offset p.item ends.1 of.0 in
-    let rise : p.offset + size ≤ to = ends-rise file (p.offset + size) ps to ends.3 in
+    let some = (item_of-is part file p.offset p.item ends.1).some in
+    let rise : p.offset + size ≤ to = ends-rise part file (p.offset + size) ps to ends.2 in
     one_mapped f g p.offset p.item (blocks_of ps) (λ q here. same q (omega (arith, here, ends.0, begin)) (omega (arith, here, some, rise, end)))
-    (blocks-between f g file low high (p.offset + size) ps to same ends.3 of.1 (omega (arith, ends.0, begin)) end)
+    (blocks-between part f g file low high (p.offset + size) ps to same ends.2 (omega (arith, ends.0, begin)) end)
 
 frame_count : (at : ℕ) (item : Item) (xs : List PlacedFrame) → length (cons_option (frame_as at item) xs) ≤ 1 + length xs
 frame_count at (Frame h) xs = omega arith
@@ -210,7 +169,7 @@ frame_count at End xs = omega arith
 frame_count at Nothing xs = omega arith
 
 -- there are no more frames than bytes
-pub frames-few : (file : List ℕ) (from : ℕ) (ps : List Placed) (to : ℕ) → StandEndToEnd file from ps to → AreOf Stream ps → from + length (frames_of ps) ≤ to
-frames-few file from [] to ends of = omega (arith, ends)
-frames-few file from (p ∷ ps) to ends of =
-    omega (arith, ends.0, size-some Stream file p.offset p.item ends.1 of.0, frame_count p.offset p.item (frames_of ps), frames-few file (p.offset + size_of p.item) ps to ends.3 of.1)
+pub frames-few : (part : Part) (file : List ℕ) (from : ℕ) (ps : List Placed) (to : ℕ) → AreEndToEnd part file from ps to → from + length (frames_of ps) ≤ to
+frames-few part file from [] to ends = omega (arith, ends)
+frames-few part file from (p ∷ ps) to ends =
+    omega (arith, ends.0, (item_of-is part file p.offset p.item ends.1).some, frame_count p.offset p.item (frames_of ps), frames-few part file (p.offset + size_of p.item) ps to ends.2)

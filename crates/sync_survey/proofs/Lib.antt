@@ -6,6 +6,7 @@ pub mod WalkLaws
 pub mod FaultsLaws
 pub mod OneItem
 pub mod SurveyLaws
+pub mod FirstFault
 pub mod FoldersLaws
 pub mod ItemBytes
 pub mod ItemLists

@@ -1,12 +1,10 @@
 -- What a survey without fault says of a file: where its stream starts, and that nothing is at fault from there on.
-use Rattle.std.proofs.Common.{◌≡◌, ℕ, ◌+◌, ◌<◌, ◌≤◌, ◌==◌, Bool, true, false, cond, List, [], ◌∷◌, ◌++◌, length, Option, Some, None, option_map, Result, Ok, Err, refl, sym, ◌∙◌, ap, ap₂, arith}
+use Rattle.std.proofs.Common.{◌≡◌, ℕ, ◌+◌, ◌<◌, ◌≤◌, ◌==◌, Bool, true, false, List, [], ◌∷◌, ◌++◌, length, Option, Some, None, option_map, Ok, refl, sym, ◌∙◌, ap, ap₂, arith}
 use Rattle.std.specs.Prelude.{option_to_list, not}
 use Rattle.std.proofs.lemmas.Bool.{ne_eqb}
 use Rattle.std.proofs.lemmas.List.{length-map}
 use Rattle.frame_header.specs.Fields.{ClassFields}
 use Rattle.frame_header.specs.Tables.{class_of}
-use Rattle.sync_survey.specs.declared.items.Item.{Item}
-use Rattle.sync_survey.specs.declared.items.Item.TheVariants.{Frame, Free, Block, Zero, End, Nothing}
 use Rattle.sync_survey.specs.declared.places.PlacedFrame.{PlacedFrame}
 use Rattle.sync_survey.specs.declared.places.Head.{Head}
 use Rattle.sync_survey.specs.declared.places.Start.{Start}
@@ -14,39 +12,17 @@ use Rattle.sync_survey.specs.declared.places.WalkFault.{WalkFault}
 use Rattle.sync_survey.specs.declared.rows.Row.{Row}
 use Rattle.sync_survey.specs.declared.survey_fault.SurveyFault.{SurveyFault}
 use Rattle.sync_survey.specs.declared.runs.Part.TheVariants.{Stream}
-use Rattle.sync_survey.specs.Items.{item_at, fits, same_class}
+use Rattle.sync_survey.specs.Items.{item_at, same_class}
 use Rattle.sync_survey.specs.Runs.{frames_of}
-use Rattle.sync_survey.specs.Start.{start_behind, start_at, front_end_of, start_of}
+use Rattle.sync_survey.specs.Start.{start_of}
 use Rattle.sync_survey.specs.Walk.{stream_of, head_of, numbered, all_blocks, fault_at, end_fault, walk_from}
 use Rattle.sync_survey.specs.MainData.{row_of, rows_of, place_behind, end_behind}
-use Rattle.sync_survey.specs.Faults.{where_true, has_wrong_word, points_too_far, overlaps, overruns, faults_at, all_faults, as_survey, first_of, class_from, faults_from, SurveyFields, fields_from, unless_fault, survey_by, surveyed}
+use Rattle.sync_survey.specs.Faults.{where_true, has_wrong_word, points_too_far, overlaps, overruns, faults_at, all_faults, as_survey, first_of, class_from, faults_from, SurveyFields, fields_from, surveyed}
 use Rattle.sync_survey.proofs.FaultsLaws.{none-of}
-use Rattle.sync_survey.proofs.SurveyLaws.{told_by, survey-whole}
+use Rattle.sync_survey.proofs.SurveyLaws.{told_by, survey-whole, surveyed-is}
+use Rattle.sync_survey.proofs.RunsLaws.{run-ends}
 use Rattle.sync_survey.proofs.StartLaws.{start-first}
-use Rattle.sync_survey.proofs.ItemLists.{run-stands, run-of, ends-within, frames-few}
-
--- ---- the start
-
-fits_cases : (b : Bool) (s t : Start) (fault : WalkFault) → cond b (Ok s) (Err fault) ≡ Ok t → s ≡ t
-fits_cases true s t fault e = cc
-fits_cases false s t fault e = absurd cc
-
-behind_cases : (at : ℕ) (o : Option PlacedFrame) (s : Start) → start_behind at o ≡ Ok s → s.front_end ≡ at
-behind_cases at (Some p) s e = let same : record { front_end = at; first = p } ≡ s = cc in sym (ap (λ (t : Start). t.front_end) same)
-behind_cases at None s e = absurd cc
-
-front_cases : (file : List ℕ) (at : ℕ) (item : Item) (s : Start) → start_at file at item ≡ Ok s → s.front_end ≡ at
-front_cases file at (Frame h) s e = sym (ap (λ (t : Start). t.front_end) (fits_cases (fits file at (Frame h)) _ s _ e))
-front_cases file at Free s e = absurd cc
-front_cases file at (Block b) s e = absurd cc
-front_cases file at Zero s e = behind_cases at _ s e
-front_cases file at End s e = behind_cases at _ s e
-front_cases file at Nothing s e = behind_cases at _ s e
-
--- the junk begins where the blocks and zero bytes at the front end
-pub start-front_end : (file : List ℕ) (s : Start) → start_of file ≡ Ok s → s.front_end ≡ front_end_of file
-unfolding start_of
-start-front_end file s e = front_cases file (front_end_of file) (item_at file (front_end_of file)) s e
+use Rattle.sync_survey.proofs.ItemLists.{ends-within, frames-few}
 
 -- ---- a survey by its start
 
@@ -69,10 +45,6 @@ surveyed-told file allowed start read =
     survey-whole file allowed start (head_of file start.first) (frames_from file start) (all_blocks file start) (stream_of file start).stop
     (record { start_is = read.start_is; head_is = refl; frames_are = refl; blocks_are = refl; stop_is = refl }) (ap first_of read.frames) read.end
 
-ok_cases : (o : Option SurveyFault) (fields s : SurveyFields) → unless_fault o fields ≡ Ok s → (o ≡ None) × (fields ≡ s)
-ok_cases (Some fault) fields s e = absurd cc
-ok_cases None fields s e = (refl, cc)
-
 empty_parts : (xs ys : List SurveyFault) → xs ++ ys ≡ [] → (xs ≡ []) × (ys ≡ [])
 empty_parts [] ys e = (refl, e)
 empty_parts (x ∷ xs) ys e = absurd cc
@@ -91,19 +63,11 @@ is_read file allowed start is none =
     let parts = empty_parts _ _ none in
     record { start_is = is; frames = parts.0; end = no_walk_fault _ parts.1 }
 
-abbrev Parts : List ℕ → ℕ → SurveyFields → Type 0
-Parts file allowed s = (start : Start) × IsRead file allowed start × (told_from file start ≡ s)
-
-start_cases : (file : List ℕ) (allowed : ℕ) (r : Result Start WalkFault) (s : SurveyFields) → start_of file ≡ r → survey_by file allowed r ≡ Ok s → Parts file allowed s
-start_cases file allowed (Err fault) s is e = absurd cc
-start_cases file allowed (Ok start) s is e =
-    let cases = ok_cases (first_of (faults_from file allowed start)) (fields_from file start) s e in
-    (start, is_read file allowed start is (none-of _ cases.0), sym (fields_from-told file start) ∙ cases.1)
-
 -- what a survey says
 pub surveyed-parts : (file : List ℕ) (allowed : ℕ) (s : SurveyFields) → surveyed file allowed ≡ Ok s → (start : Start) × IsRead file allowed start × (told_from file start ≡ s)
-unfolding surveyed
-surveyed-parts file allowed s e = start_cases file allowed (start_of file) s refl e
+surveyed-parts file allowed s e =
+    let is = surveyed-is file allowed s e in
+    (is.start, is_read file allowed is.start is.begins (none-of _ is.none), sym (fields_from-told file is.start) ∙ is.fields_are)
 
 -- ---- a frame without fault
 
@@ -197,13 +161,13 @@ numbered-few file start is =
     let stream = stream_of file start in
     let first = start.first.offset in
     let frame = (start-first file start is).frame in
-    let ends = run-stands Stream file first in
+    let ends = run-ends Stream file first in
     omega (
       arith,
       length-map (frames_from file start) (row_of file),
       numbered_few (head_of file start.first) (frames_of stream.items),
-      frames-few file first stream.items stream.stop ends (run-of Stream file first),
-      ends-within file first stream.items stream.stop ends (omega (arith, frame.within)),
+      frames-few Stream file first stream.items stream.stop ends,
+      ends-within Stream file first stream.items stream.stop ends (omega (arith, frame.within)),
     )
 
 -- a file without fault has none whatever number of frames, greater than that of its bytes, is allowed

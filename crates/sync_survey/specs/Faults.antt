@@ -1,5 +1,5 @@
 -- What is at fault in a file, and what a survey of a file without fault tells.
-use Rattle.std.specs.Prelude.{◌≡◌, ◌⊎◌, ℕ, ◌+◌, ◌-◌, ◌*◌, ◌==◌, ◌&&◌, not, nat_lt, if◌then◌else◌, Bool, List, [], ◌∷◌, ◌++◌, length, drop, Option, Some, None, option_map, Result, Ok, Err, option_to_list}
+use Rattle.std.specs.Prelude.{◌≡◌, ◌⊎◌, ℕ, ◌≤◌, ◌+◌, ◌-◌, ◌*◌, ◌==◌, ◌&&◌, not, nat_lt, if◌then◌else◌, Bool, List, [], ◌∷◌, ◌++◌, length, drop, Option, Some, None, option_map, Result, Ok, Err, option_to_list}
 use Rattle.frame_header.specs.Fields.{ClassFields}
 use Rattle.frame_header.specs.Tables.{class_of}
 use Rattle.side_info.specs.Side.{payload_bits, payload_bytes}
@@ -13,7 +13,7 @@ use Rattle.sync_survey.specs.declared.places.Start.{Start}
 use Rattle.sync_survey.specs.declared.rows.Row.{Row}
 use Rattle.sync_survey.specs.declared.surveys.Survey.{Survey}
 use Rattle.sync_survey.specs.declared.survey_fault.SurveyFault.{SurveyFault}
-use Rattle.sync_survey.specs.declared.survey_fault.SurveyFault.TheVariants.{NoFrame, LostSync, Truncated, FreeFormat, Mixed, CheckWord, BackPointer, Overlap, Overrun, TooManyFrames, Memory}
+use Rattle.sync_survey.specs.declared.survey_fault.SurveyFault.TheVariants.{Absent, TooLong, NoFrame, LostSync, Truncated, FreeFormat, Mixed, CheckWord, BackPointer, Overlap, Overrun, TooManyFrames, Shrunk, Read, Memory}
 use Rattle.sync_survey.specs.Items.{same_class}
 use Rattle.sync_survey.specs.Start.{start_of}
 use Rattle.sync_survey.specs.Walk.{walk_from}
@@ -127,6 +127,29 @@ survey_by file allowed (Ok start) = unless_fault (first_of (faults_from file all
 -- the survey of a file that may have so many frames, or its first fault
 unfoldable pub surveyed : List ℕ → ℕ → Result SurveyFields SurveyFault
 surveyed file allowed = survey_by file allowed (start_of file)
+
+-- where a fault of the bytes stands
+abbrev pub fault_place : SurveyFault → ℕ
+fault_place Absent = 0
+fault_place (TooLong size) = 0
+fault_place (NoFrame at) = at
+fault_place (LostSync at) = at
+fault_place (Truncated at) = at
+fault_place (FreeFormat at) = at
+fault_place (Mixed at) = at
+fault_place (CheckWord at said right) = at
+fault_place (BackPointer at begin present) = at
+fault_place (Overlap at) = at
+fault_place (Overrun at bits room) = at
+fault_place (TooManyFrames at) = at
+fault_place (Shrunk first second) = 0
+fault_place Read = 0
+fault_place Memory = 0
+
+-- none of these faults stands before an offset
+abbrev pub NoneBefore : ℕ → List SurveyFault → Type 0
+NoneBefore at [] = Unit {0}
+NoneBefore at (fault ∷ later) = (at ≤ fault_place fault) × NoneBefore at later
 
 -- what a survey of the code tells
 abbrev pub tells : Survey → SurveyFields

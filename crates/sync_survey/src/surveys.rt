@@ -1,9 +1,10 @@
 //! The survey of a file's bytes.
-ghost use Rattle.std.specs.Prelude.{◌≡◌, ◌⊎◌, ◌-◌, ◌≤◌, [], IfOk, MatchResult};
+ghost use Rattle.std.specs.Prelude.{◌≡◌, ◌⊎◌, ◌-◌, ◌≤◌, [], IfOk, IfErr, MatchResult};
 ghost use Rattle.bit_fields.specs.Bits.{AreBytes};
 ghost use Rattle.sync_survey.specs.Runs.{AreInFile};
 ghost use Rattle.sync_survey.specs.MainData.{head_area as head_area_lem, rows_of};
-ghost use Rattle.sync_survey.specs.Faults.{all_faults, first_of, surveyed, tells};
+ghost use Rattle.sync_survey.specs.Faults.{all_faults, first_of, faults_from, fault_place, NoneBefore, surveyed, tells};
+ghost use Rattle.sync_survey.specs.Start.{start_of};
 ghost use Rattle.sync_survey.specs.Faults.{IsSurveyRefusal};
 
 use crate::places::{Head, Piece, PlacedFrame, Start};
@@ -127,6 +128,8 @@ fn judge(
 #[tactic(auto, unfolding(crate::specs::Faults::surveyed))]
 pub fn survey_bytes(alloc: Global, file: &[u8], allowed: u32) -> Result<Survey, SurveyFault>
     ensures exact { MatchResult result (λ s. surveyed file.now allowed ≡ Ok (tells s)) (IsSurveyRefusal file.now allowed) }
+    // No other fault of the file stands before the one that is told.
+    ensures first { IfErr result (λ fault. (start : Start) → start_of file.now ≡ Ok start → NoneBefore (fault_place fault) (faults_from file.now allowed start)) }
     // What the type says of the file, for callers that go by the numbers.
     ensures octets { AreBytes file.now }
 {

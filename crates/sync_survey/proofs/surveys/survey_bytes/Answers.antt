@@ -1,10 +1,12 @@
 -- The survey and its faults are those of the definition.
-use Rattle.std.proofs.Common.{Ok, Err, [], sym, ◌∙◌, ap, ap₂, subst, inl, inr, ⊎_elim}
+use Rattle.std.proofs.Common.{Ok, Err, [], sym, ◌∙◌, ap, ap₂, subst, inl, inr, ⊎_elim, refl}
 use Rattle.bit_fields.proofs.BitsLaws.{AreBytes-from_slice}
 use Rattle.std.proofs.lemmas.Result.{err_from_is_err_and}
 use Rattle.sync_survey.specs.Runs.{AreInFile}
 use Rattle.sync_survey.specs.MainData.{rows_of}
 use Rattle.sync_survey.specs.Faults.{all_faults, first_of}
+use Rattle.sync_survey.specs.declared.survey_fault.SurveyFault.TheVariants.{Memory}
+use Rattle.sync_survey.proofs.FirstFault.{refusal_first, refused_first}
 use Rattle.sync_survey.proofs.WalkLaws.{IsFound}
 use Rattle.sync_survey.proofs.SurveyLaws.{told_by, found_inside, survey-frame, survey-stopped, survey-whole}
 use Rattle.sync_survey.proofs.surveys.survey_bytes.Goals as goal
@@ -62,3 +64,14 @@ returns-in-Some-clause-octets c = AreBytes-from_slice c.args.file.now c.type_inv
 
 pub returns-in-None-clause-octets : goal.returns-in-None-clause-octets
 returns-in-None-clause-octets c = AreBytes-from_slice c.args.file.now c.type_inv.file
+
+pub returns-in_err-found-clause-first : goal.returns-in_err-found-clause-first
+returns-in_err-found-clause-first c =
+    let p = err_from_is_err_and c.from_residual-in_err-found.result c.from_residual-in_err-found.ensures.1 in
+    rw (p.1, p.2) (refusal_first c.args.file.now c.args.allowed Memory (inl refl))
+
+pub returns-in_err-frames-clause-first : goal.returns-in_err-frames-clause-first
+returns-in_err-frames-clause-first c = refused_first c.args.file.now c.args.allowed c.from_residual-in_err-frames.result (returns-in_err-frames-clause-exact c)
+
+pub returns-in-Some-clause-first : goal.returns-in-Some-clause-first
+returns-in-Some-clause-first c = refusal_first c.args.file.now c.args.allowed c.into.result (returns-in-Some-clause-exact c)

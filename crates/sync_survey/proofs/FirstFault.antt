@@ -1,0 +1,222 @@
+-- The faults of a file are listed by their offsets, so that the first of them has the least.
+use Rattle.std.proofs.Common.{◌≡◌, ℕ, ◌+◌, ◌≤◌, ◌⊎◌, Bool, true, false, not, List, [], ◌∷◌, ◌++◌, length, drop, Option, Some, None, option_map, Result, Ok, Err, refl, sym, ◌∙◌, ap, subst, inl, inr, ⊎_elim, arith, append_assoc}
+use Rattle.std.specs.Prelude.{◌==◌, IfErr, MatchResult, option_to_list}
+use Rattle.frame_header.specs.Fields.{ClassFields}
+use Rattle.frame_header.specs.Tables.{class_of}
+use Rattle.side_info.specs.Side.{payload_bits}
+use Rattle.side_info.specs.CheckWord.{check_word_of}
+use Rattle.side_info.specs.Frame.{word_said}
+use Rattle.sync_survey.specs.declared.items.Item.{Item}
+use Rattle.sync_survey.specs.declared.items.Item.TheVariants.{Frame, Free, Block, Zero, End, Nothing}
+use Rattle.sync_survey.specs.declared.places.Head.{Head}
+use Rattle.sync_survey.specs.declared.places.PlacedFrame.{PlacedFrame}
+use Rattle.sync_survey.specs.declared.places.Start.{Start}
+use Rattle.sync_survey.specs.declared.places.WalkFault.{WalkFault}
+use Rattle.sync_survey.specs.declared.places.WalkFault.TheVariants.{LostSync as LostSyncInWalk, Truncated as TruncatedInWalk, FreeFormat as FreeFormatInWalk}
+use Rattle.sync_survey.specs.declared.rows.Row.{Row}
+use Rattle.sync_survey.specs.declared.runs.Part.{Part}
+use Rattle.sync_survey.specs.declared.runs.Part.TheVariants.{Stream}
+use Rattle.sync_survey.specs.declared.surveys.Survey.{Survey}
+use Rattle.sync_survey.specs.declared.survey_fault.SurveyFault.{SurveyFault}
+use Rattle.sync_survey.specs.declared.survey_fault.SurveyFault.TheVariants.{Mixed, CheckWord, BackPointer, Overlap, Overrun, TooManyFrames}
+use Rattle.sync_survey.specs.Items.{item_at, size_of, same_class}
+use Rattle.sync_survey.specs.Runs.{Placed, AreEndToEnd, frame_as, frames_of}
+use Rattle.sync_survey.specs.Start.{start_of}
+use Rattle.sync_survey.specs.Walk.{stream_of, head_of, numbered, fault_at, end_fault, walk_from}
+use Rattle.sync_survey.specs.MainData.{rows_of, place_behind, end_behind}
+use Rattle.sync_survey.specs.Faults.{where_true, has_wrong_word, points_too_far, overlaps, overruns, room_of, data_faults, faults_at, frame_faults, all_faults, as_survey, first_of, class_from, faults_from, fault_place, NoneBefore, SurveyFields, fields_from, unless_fault, survey_by, surveyed, tells, IsSurveyRefusal}
+use Rattle.sync_survey.proofs.RunsLaws.{cons_list, item_of-is, run-ends}
+use Rattle.sync_survey.proofs.StartLaws.{start-first}
+
+-- ---- lists of faults
+
+none-append : (at : ℕ) (xs ys : List SurveyFault) → NoneBefore at xs → NoneBefore at ys → NoneBefore at (xs ++ ys)
+none-append at [] ys p q = q
+none-append at (x ∷ xs) ys p q = (p.0, none-append at xs ys p.1 q)
+
+none-less : (low high : ℕ) (xs : List SurveyFault) → low ≤ high → NoneBefore high xs → NoneBefore low xs
+none-less low high [] le p = tt
+none-less low high (x ∷ xs) le p = (omega (arith, le, p.0), none-less low high xs le p.1)
+
+-- all of these faults stand at one offset
+abbrev AreAt : ℕ → List SurveyFault → Type 0
+AreAt at [] = Unit {0}
+AreAt at (fault ∷ later) = (fault_place fault ≡ at) × AreAt at later
+
+one_at : (at : ℕ) (b : Bool) (fault : SurveyFault) → fault_place fault ≡ at → AreAt at (where_true b fault)
+one_at at true fault is = (is, tt)
+one_at at false fault is = tt
+
+all_at : (at : ℕ) (xs ys : List SurveyFault) → AreAt at xs → AreAt at ys → AreAt at (xs ++ ys)
+all_at at [] ys p q = q
+all_at at (x ∷ xs) ys p q = (p.0, all_at at xs ys p.1 q)
+
+at_none : (at : ℕ) (xs : List SurveyFault) → AreAt at xs → NoneBefore at xs
+at_none at [] p = tt
+at_none at (x ∷ xs) p = (omega (arith, p.0), at_none at xs p.1)
+
+-- ---- the faults of a frame stand at its offset
+
+data_at : (place ended : ℕ) (r : Row) → AreAt r.offset (data_faults place ended r)
+data_at place ended r =
+    let begins = BackPointer r.offset r.side.main_data_begin place in
+    let ends = Overrun r.offset (payload_bits r.side) (room_of r) in
+    let far = where_true (points_too_far place r) begins in
+    let over = where_true (overlaps place ended r) (Overlap r.offset) in
+    all_at r.offset (far ++ over) (where_true (overruns place r) ends)
+    (all_at r.offset far over (one_at r.offset (points_too_far place r) begins refl) (one_at r.offset (overlaps place ended r) (Overlap r.offset) refl)) (one_at r.offset (overruns place r) ends refl)
+
+frame_at : (file : List ℕ) (class : ClassFields) (allowed place ended count : ℕ) (r : Row) → AreAt r.offset (faults_at file class allowed place ended count r)
+unfolding faults_at
+frame_at file class allowed place ended count r =
+    let other = not (same_class (class_of r.header) class) in
+    let word = CheckWord r.offset (word_said (drop r.offset file)) (check_word_of r.header r.side) in
+    let mixed = where_true other (Mixed r.offset) in
+    let wrong = where_true (has_wrong_word file r) word in
+    all_at r.offset ((mixed ++ wrong) ++ data_faults place ended r) (where_true (count == allowed) (TooManyFrames r.offset))
+    (all_at r.offset (mixed ++ wrong) (data_faults place ended r) (all_at r.offset mixed wrong (one_at r.offset other (Mixed r.offset) refl) (one_at r.offset (has_wrong_word file r) word refl)) (data_at place ended r))
+    (one_at r.offset (count == allowed) (TooManyFrames r.offset) refl)
+
+-- ---- the faults of frames that stand one behind the other
+
+-- the offsets of these frames rise, from one on to another
+abbrev AreRising : ℕ → List Row → ℕ → Type 0
+AreRising at [] to = at ≤ to
+AreRising at (r ∷ rows) to = (at ≤ r.offset) × AreRising r.offset rows to
+
+rising_ends : (at : ℕ) (rows : List Row) (to : ℕ) → AreRising at rows to → at ≤ to
+rising_ends at [] to rise = rise
+rising_ends at (r ∷ rows) to rise = omega (arith, rise.0, rising_ends r.offset rows to rise.1)
+
+rising_none : (file : List ℕ) (head : Option Head) (class : ClassFields) (allowed at to : ℕ) (earlier rows : List Row) → AreRising at rows to → NoneBefore at (all_faults file head class allowed earlier rows)
+unfolding all_faults
+rising_none file head class allowed at to earlier [] rise = tt
+rising_none file head class allowed at to earlier (r ∷ rows) rise =
+    none-append at (frame_faults file head class allowed earlier r) (all_faults file head class allowed (r ∷ earlier) rows)
+    (none-less at r.offset (frame_faults file head class allowed earlier r) rise.0
+    (at_none r.offset (frame_faults file head class allowed earlier r) (frame_at file class allowed (place_behind head earlier) (end_behind head earlier) (length earlier) r)))
+    (none-less at r.offset (all_faults file head class allowed (r ∷ earlier) rows) rise.0 (rising_none file head class allowed r.offset to (r ∷ earlier) rows rise.1))
+
+first_at : (at : ℕ) (xs ys : List SurveyFault) (fault : SurveyFault) → AreAt at xs → first_of (xs ++ ys) ≡ Some fault → NoneBefore at ys → (xs ≡ []) ⊎ ((fault_place fault ≡ at) × NoneBefore (fault_place fault) (xs ++ ys))
+first_at at [] ys fault all is later = inl refl
+first_at at (x ∷ xs) ys fault all is later =
+    let same : x ≡ fault = cc in
+    let place : fault_place fault ≡ at = sym (ap fault_place same) ∙ all.0 in
+    inr (place, subst (λ n. NoneBefore n ((x ∷ xs) ++ ys)) (sym place) (none-append at (x ∷ xs) ys (at_none at (x ∷ xs) all) later))
+
+-- the first of the faults of frames and of what comes behind them
+least_first : (file : List ℕ) (head : Option Head) (class : ClassFields) (allowed at to : ℕ) (earlier rows : List Row) (later : List SurveyFault) (fault : SurveyFault) → AreRising at rows to → NoneBefore to later
+    → ((f : SurveyFault) → first_of later ≡ Some f → NoneBefore (fault_place f) later)
+    → first_of (all_faults file head class allowed earlier rows ++ later) ≡ Some fault → NoneBefore (fault_place fault) (all_faults file head class allowed earlier rows ++ later)
+unfolding all_faults
+least_first file head class allowed at to earlier [] later fault rise behind each is = each fault is
+least_first file head class allowed at to earlier (r ∷ rows) later fault rise behind each is =
+    let here = frame_faults file head class allowed earlier r in
+    let rest = all_faults file head class allowed (r ∷ earlier) rows in
+    let regrouped : (here ++ rest) ++ later ≡ here ++ (rest ++ later) = append_assoc here rest later in
+    let low : NoneBefore r.offset (rest ++ later) =
+    none-append r.offset rest later (rising_none file head class allowed r.offset to (r ∷ earlier) rows rise.1) (none-less r.offset to later (rising_ends r.offset rows to rise.1) behind) in
+    ⊎_elim
+    (λ none. let same : (here ++ rest) ++ later ≡ rest ++ later = ap (λ l. (l ++ rest) ++ later) none in
+    subst (NoneBefore (fault_place fault)) (sym same) (least_first file head class allowed r.offset to (r ∷ earlier) rows later fault rise.1 behind each (ap first_of (sym same) ∙ is)))
+    (λ found. subst (NoneBefore (fault_place fault)) (sym regrouped) found.1)
+    (first_at r.offset here (rest ++ later) fault (frame_at file class allowed (place_behind head earlier) (end_behind head earlier) (length earlier) r) (ap first_of (sym regrouped) ∙ is) low)
+
+-- ---- the frames of a walk stand one behind the other
+
+rising_more : (file : List ℕ) (at : ℕ) (item : Item) (rows : List PlacedFrame) (to : ℕ) → AreRising at (rows_of file rows) to → AreRising at (rows_of file (option_to_list (frame_as at item) ++ rows)) to
+rising_more file at (Frame h) rows to rise = (omega arith, rise)
+rising_more file at Free rows to rise = rise
+rising_more file at (Block b) rows to rise = rise
+rising_more file at Zero rows to rise = rise
+rising_more file at End rows to rise = rise
+rising_more file at Nothing rows to rise = rise
+
+rising_less : (low high : ℕ) (rows : List Row) (to : ℕ) → low ≤ high → AreRising high rows to → AreRising low rows to
+rising_less low high [] to le rise = omega (arith, le, rise)
+rising_less low high (r ∷ rows) to le rise = (omega (arith, le, rise.0), rise.1)
+
+items_rise : (file : List ℕ) (part : Part) (from : ℕ) (ps : List Placed) (to : ℕ) → AreEndToEnd part file from ps to → AreRising from (rows_of file (frames_of ps)) to
+items_rise file part from [] to ends = omega (arith, ends)
+items_rise file part from (p ∷ ps) to ends =
+    let later = rising_less p.offset (p.offset + size_of p.item) (rows_of file (frames_of ps)) to (omega arith) (items_rise file part (p.offset + size_of p.item) ps to ends.2) in
+    subst (λ n. AreRising n (rows_of file (frames_of (p ∷ ps))) to) ends.0
+    (subst (λ l. AreRising p.offset (rows_of file l) to) (sym (cons_list (frame_as p.offset p.item) (frames_of ps))) (rising_more file p.offset p.item (frames_of ps) to later))
+
+rise_behind : (file : List ℕ) (at : ℕ) (ps : List PlacedFrame) (to : ℕ) → AreRising at (rows_of file ps) to → AreRising at (rows_of file (drop 1 ps)) to
+rise_behind file at [] to rise = rise
+rise_behind file at (p ∷ ps) to rise = rising_less at p.offset (rows_of file ps) to rise.0 rise.1
+
+rise_numbered : (file : List ℕ) (at : ℕ) (head : Option Head) (ps : List PlacedFrame) (to : ℕ) → AreRising at (rows_of file ps) to → AreRising at (rows_of file (numbered head ps)) to
+rise_numbered file at None ps to rise = rise
+rise_numbered file at (Some head) ps to rise = rise_behind file at ps to rise
+
+-- ---- the fault where the walk ends
+
+stop_place : (stop : ℕ) (item : Item) (fault : WalkFault) → fault_at stop item ≡ Some fault → fault_place (as_survey fault) ≡ stop
+stop_place stop (Frame h) fault e = let same : TruncatedInWalk stop ≡ fault = cc in sym (ap (λ f. fault_place (as_survey f)) same)
+stop_place stop Free fault e = let same : FreeFormatInWalk stop ≡ fault = cc in sym (ap (λ f. fault_place (as_survey f)) same)
+stop_place stop (Block b) fault e = let same : TruncatedInWalk stop ≡ fault = cc in sym (ap (λ f. fault_place (as_survey f)) same)
+stop_place stop Zero fault e = let same : LostSyncInWalk stop ≡ fault = cc in sym (ap (λ f. fault_place (as_survey f)) same)
+stop_place stop End fault e = absurd cc
+stop_place stop Nothing fault e = let same : LostSyncInWalk stop ≡ fault = cc in sym (ap (λ f. fault_place (as_survey f)) same)
+
+end_place : (file : List ℕ) (frames : List PlacedFrame) (stop : ℕ) (o : Option WalkFault) → stop ≤ length file → fault_at stop (item_at file stop) ≡ o → NoneBefore stop (option_to_list (option_map as_survey (end_fault file frames o)))
+end_place file frames stop (Some fault) within is = (omega (arith, stop_place stop (item_at file stop) fault is), tt)
+end_place file (p ∷ ps) stop None within is = tt
+end_place file [] stop None within is = (within, tt)
+
+one_only : (o : Option WalkFault) (fault : SurveyFault) → first_of (option_to_list (option_map as_survey o)) ≡ Some fault → NoneBefore (fault_place fault) (option_to_list (option_map as_survey o))
+one_only None fault e = absurd cc
+one_only (Some f) fault e =
+    let same : as_survey f ≡ fault = cc in
+    (omega (arith, ap fault_place same), tt)
+
+stop_in : (part : Part) (file : List ℕ) (from : ℕ) (ps : List Placed) (to : ℕ) → AreEndToEnd part file from ps to → from ≤ length file → to ≤ length file
+stop_in part file from [] to ends within = omega (arith, ends, within)
+stop_in part file from (p ∷ ps) to ends within = stop_in part file (p.offset + size_of p.item) ps to ends.2 (item_of-is part file p.offset p.item ends.1).within
+
+-- the first fault of a file with this start has the least offset
+pub first_is_least : (file : List ℕ) (allowed : ℕ) (start : Start) (fault : SurveyFault) → start.first.offset ≤ length file → first_of (faults_from file allowed start) ≡ Some fault → NoneBefore (fault_place fault) (faults_from file allowed start)
+unfolding faults_from walk_from
+first_is_least file allowed start fault within is =
+    let stream = stream_of file start in
+    let ends = run-ends Stream file start.first.offset in
+    let head = head_of file start.first in
+    let frames = numbered head (frames_of stream.items) in
+    let o = end_fault file frames (fault_at stream.stop (item_at file stream.stop)) in
+    least_first file head (class_from start) allowed start.first.offset stream.stop [] (rows_of file frames) (option_to_list (option_map as_survey o)) fault
+    (rise_numbered file start.first.offset head (frames_of stream.items) stream.stop (items_rise file Stream start.first.offset stream.items stream.stop ends))
+    (end_place file frames stream.stop (fault_at stream.stop (item_at file stream.stop)) (stop_in Stream file start.first.offset stream.items stream.stop ends within) refl)
+    (λ f found. one_only o f found) is
+
+-- ---- the refusal of a survey
+
+fault_is : (o : Option SurveyFault) (fields : SurveyFields) (fault : SurveyFault) → unless_fault o fields ≡ Err fault → o ≡ Some fault
+fault_is (Some f) fields fault e = cc
+fault_is None fields fault e = absurd cc
+
+start_is : (file : List ℕ) (allowed : ℕ) (start : Start) (fault : SurveyFault) (r : Result Start WalkFault) → start_of file ≡ r → r ≡ Ok start → survey_by file allowed r ≡ Err fault → NoneBefore (fault_place fault) (faults_from file allowed start)
+start_is file allowed start fault (Err f) begun same e = absurd cc
+start_is file allowed start fault (Ok s) begun same e =
+    let one : s ≡ start = cc in
+    subst (λ t. NoneBefore (fault_place fault) (faults_from file allowed t)) one
+    (first_is_least file allowed s fault (omega (arith, (start-first file s begun).frame.within)) (fault_is (first_of (faults_from file allowed s)) (fields_from file s) fault e))
+
+surveyed_first : (file : List ℕ) (allowed : ℕ) (fault : SurveyFault) → surveyed file allowed ≡ Err fault → (start : Start) → start_of file ≡ Ok start → NoneBefore (fault_place fault) (faults_from file allowed start)
+unfolding surveyed
+surveyed_first file allowed fault e start begun = start_is file allowed start fault (start_of file) refl begun e
+
+none_at_all : (xs : List SurveyFault) → NoneBefore 0 xs
+none_at_all [] = tt
+none_at_all (x ∷ xs) = (omega arith, none_at_all xs)
+
+pub refusal_first : (file : List ℕ) (allowed : ℕ) (fault : SurveyFault) → IsSurveyRefusal file allowed fault → (start : Start) → start_of file ≡ Ok start → NoneBefore (fault_place fault) (faults_from file allowed start)
+refusal_first file allowed fault (inl memory) start begun =
+    subst (λ f. NoneBefore (fault_place f) (faults_from file allowed start)) (sym memory) (none_at_all (faults_from file allowed start))
+refusal_first file allowed fault (inr is) start begun = surveyed_first file allowed fault is start begun
+
+pub refused_first : (file : List ℕ) (allowed : ℕ) (r : Result Survey SurveyFault) → MatchResult r (λ s. surveyed file allowed ≡ Ok (tells s)) (IsSurveyRefusal file allowed)
+    → IfErr r (λ fault. (start : Start) → start_of file ≡ Ok start → NoneBefore (fault_place fault) (faults_from file allowed start))
+refused_first file allowed (Ok s) is = tt
+refused_first file allowed (Err fault) is = refusal_first file allowed fault is
