@@ -4,7 +4,7 @@ use crate::commands::{expect, expect_file, folder_of_file};
 use crate::files::{APE, ID3V1, ID3V1_REST, ID3V2, ID3V2_REST, Stretch};
 use crate::frames::{
     EARLY_HEAD, G, G_LOWER, HEAD, LOWER, LOWER_QUIETER, MONO, MONO_HEAD, MONO_HEAD_LOWER,
-    MONO_LOWER, PADDED, PROTECTED_G, PROTECTED_G_LOWER, PROTECTED_HEAD, Z,
+    MONO_LOWER, MPEG_2_5, PADDED, PROTECTED_G, PROTECTED_G_LOWER, PROTECTED_HEAD, Z,
 };
 use crate::reservoir::{
     FARTHER, FARTHER_LOUDER, FIRST, FIRST_LOUDER, NEARER, NEARER_LOUDER, SECOND, SECOND_LOUDER,
@@ -89,13 +89,9 @@ static EDITS: [Edit; 10] = [
         after: &[Stretch::Frames(&[G_LOWER])],
     },
     Edit {
-        what: "a file of MPEG-2.5 before one of MPEG-2",
+        what: "a frame of MPEG-2.5, which is junk",
         words: "gain -s s -g -5 a o",
-        before: &[
-            Stretch::Bytes(&[0xff, 0xe3, 0x80, 0x00]),
-            Stretch::Fill(0, 204),
-            Stretch::Frames(&[LOWER]),
-        ],
+        before: &[Stretch::Frames(&[MPEG_2_5, LOWER])],
         after: &[Stretch::Frames(&[LOWER_QUIETER])],
     },
     Edit {
