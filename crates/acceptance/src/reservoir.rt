@@ -3,8 +3,8 @@
 
 use crate::frames::{Frame, Z};
 
-/// Four times 600 bits, 300 bytes from its own area on; all gains are 100. The 81 bytes that are left in its area
-/// are of the next frame.
+/// Four times 600 bits, 300 bytes from its own area on; all gains are 100. The 81 bytes that are left in its
+/// area are of the next frame.
 pub const FIRST: Frame = Frame {
     side: &[
         0x00, 0x00, 0x02, 0x58, 0x00, 0x32, 0x00, 0x00, 0x00, 0x00, 0x4b, 0x00, 0x06, 0x40, 0x00,

@@ -6,7 +6,8 @@ use crate::frames::{Frame, file_of};
 use std::alloc::{AllocError, Global};
 use std::test::Fail;
 
-/// An ID3v2 block of 30,000 bytes, and a head of 417 with text, flags, a number of frames and a number of bytes.
+/// An ID3v2 block of 30,000 bytes, and a head of 417 with its text, flags, number of frames and number of
+/// bytes.
 static FRONT: [Stretch; 6] = [
     Stretch::Bytes(&[b'I', b'D', b'3', 3, 0, 0, 0x00, 0x01, 0x6a, 0x26]),
     Stretch::Fill(0xff, 29_990),
@@ -18,8 +19,8 @@ static FRONT: [Stretch; 6] = [
 
 static BACK: [Stretch; 2] = [ID3V1, ID3V1_REST];
 
-/// Four joint stereo frames of changing rates at 44,100 Hz, whose main data begin in the areas of the frames before them;
-/// behind them the same four may stand again. The second channel of the third is silent.
+/// Four joint stereo frames of changing rates at 44,100 Hz, whose main data begin in the areas of the frames
+/// before them. Behind them the same four may stand again. The second channel of the third is silent.
 const FRAMES: [Frame; 4] = [
     Frame {
         header: [0xff, 0xfb, 0x90, 0x64],
