@@ -305,10 +305,11 @@ module _ (words : List (List ℕ)) (shift : Shift) (input output : ℕ) (job : j
       → (status ≡ 0) ↔ IsAccepted words f
   is_accepted new counts_before counts_after (Ok x) status all is reads writes found = ((λ zero. accepted_of all.written.bytes all.written.defined), λ a. is)
   is_accepted new counts_before counts_after (Err (EqualNames place)) status all is reads writes found = ((λ zero. absurd (omega arith)), λ a. absurd (refuses _ (of_accepted a).0 (EqualNames place) (of_accepted a).1 all.defined))
-  is_accepted new counts_before counts_after (Err (Input place fault)) status all is reads writes found =
-      ((λ zero. absurd (input_not_done status (kind_of fault) is zero)),
-      λ a. absurd (refuses _ (of_accepted a).0 (Input place fault) (of_accepted a).1
-      (input_told (Gives shift (word_at words input) (word_at words output) (Some f) (Err (Input place fault))) f counts_before counts_after (kind_of fault) reads all.defined all.counted)))
+  is_accepted new counts_before counts_after (Err (Input place fault)) status all is reads writes found = (
+    (λ zero. absurd (input_not_done status (kind_of fault) is zero)),
+    λ a. absurd (refuses _ (of_accepted a).0 (Input place fault) (of_accepted a).1
+        (input_told (Gives shift (word_at words input) (word_at words output) (Some f) (Err (Input place fault))) f counts_before counts_after (kind_of fault) reads all.defined all.counted)),
+  )
   is_accepted new counts_before counts_after (Err (GainRange offset granule channel gain)) status all is reads writes found =
       ((λ zero. absurd (omega arith)), λ a. absurd (refuses _ (of_accepted a).0 (GainRange offset granule channel gain) (of_accepted a).1 all.defined))
   is_accepted new counts_before counts_after (Err (Write place)) status all is reads writes found = absurd (writes all.counted)

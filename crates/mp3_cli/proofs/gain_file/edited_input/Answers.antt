@@ -44,8 +44,11 @@ move_gains-requires g c =
 
 pub drop_junk-requires : goal.drop_junk-requires
 drop_junk-requires g c =
-    omega (arith, c.deref.ensures.len,
-    junk_within c.deref.result.now (tells c.in_ok-survey.survey) c.junk-at.result.0 c.junk-at.result.1 c.in_ok-survey.ensures.exact (ap (λ r. r.0) c.junk-at.ensures) (ap (λ r. r.1) c.junk-at.ensures))
+    omega (
+      arith,
+      c.deref.ensures.len,
+      junk_within c.deref.result.now (tells c.in_ok-survey.survey) c.junk-at.result.0 c.junk-at.result.1 c.in_ok-survey.ensures.exact (ap (λ r. r.0) c.junk-at.ensures) (ap (λ r. r.1) c.junk-at.ensures),
+    )
 
 pub returns-clause-gained : goal.returns-clause-gained
 returns-clause-gained g c =
