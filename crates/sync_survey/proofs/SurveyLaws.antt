@@ -79,10 +79,6 @@ survey-by : (file : List ℕ) (allowed : ℕ) (r : Result Start WalkFault) → s
 unfolding surveyed
 survey-by file allowed r is = ap (survey_by file allowed) is
 
--- no stream begins
-pub survey-no_start : (file : List ℕ) (allowed : ℕ) (fault : WalkFault) → start_of file ≡ Err fault → surveyed file allowed ≡ Err (as_survey fault)
-survey-no_start file allowed fault is = survey-by file allowed (Err fault) is
-
 module _ (file : List ℕ) (allowed : ℕ) (start : Start) (head : Option Head) (frames : List PlacedFrame) (blocks : List Piece) (stop : ℕ) (found : IsFound file start head frames blocks stop) where
   abbrev end : Option WalkFault
   end = end_fault file frames (fault_at stop (item_at file stop))
@@ -171,7 +167,3 @@ end_none file allowed start none = last_none _ _ none
 
 pub walked : (file : List ℕ) (allowed : ℕ) (s : SurveyFields) (is : IsSurveyed file allowed s) → IsWalked file s is.start
 walked file allowed s is = subst (λ t. IsWalked file t is.start) is.fields_are (walked_by file is.start (walk_fault file is.start (end_none file allowed is.start is.none)))
-
--- the frames of a survey are in the file
-pub frames_in_file : (file : List ℕ) (s : SurveyFields) (start : Start) → IsWalked file s start → AreInFile file (numbered s.head (frames_of (stream_of file start).items))
-frames_in_file file s start is = found_inside file start s.head (numbered s.head (frames_of (stream_of file start).items)) refl
