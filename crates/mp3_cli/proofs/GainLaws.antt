@@ -9,14 +9,14 @@ use Rattle.sync_survey.specs.Survey.{survey_of, IsLoadFault, IsOfBytes}
 use Rattle.sync_survey.proofs.FoldersLaws.{surveyed_of_bytes, survey_of-short}
 use Rattle.mp3_cli.specs.Streams.{IsStreamMoved, HoldsMovedStream}
 use Rattle.mp3_cli.proofs.WholeEdit.{ordered, whole_edited}
-use Rattle.mp3_cli.specs.Kinds.{InputKind, IsAbsent, IsUnread, IsShorter, IsTooMuch, IsRefused, kind_of, by_kind, of_input}
+use Rattle.mp3_cli.specs.Kinds.{InputKind, IsAbsent, IsUnread, IsShorter, IsTooMuch, IsRefused, kind_of, by_kind, of_input, HasRightNumbers}
 use Rattle.mp3_cli.specs.declared.fault.EditFault.{EditFault}
 use Rattle.mp3_cli.specs.declared.fault.EditFault.TheVariants.{EqualNames, Input, GainRange, Write, Memory}
 use Rattle.mp3_cli.specs.declared.shift.Shift.{Shift}
 use Rattle.mp3_cli.specs.Edited.{most_frames, unless, edited, range_fault, with_rows, gained_by, gained, gained_where, gain_result}
 use Rattle.sync_survey.specs.declared.survey_fault.SurveyFault.{SurveyFault}
 use Rattle.sync_survey.specs.declared.survey_fault.SurveyFault.TheVariants.{Absent as Missing, TooLong, NoFrame, LostSync, Truncated, FreeFormat, Mixed, CheckWord, BackPointer, Overlap, Overrun, TooManyFrames, Shrunk, Read, Memory as NoRoom}
-use Rattle.mp3_cli.specs.Gain.{holding, Gives, RefusesBytes, IsInputFault, IsDefinedAt, IsRangeFault, IsCounted, HoldsFront, IsWritten, IsWrittenInPart}
+use Rattle.mp3_cli.specs.Gain.{holding, Gives, RefusesBytes, IsInputFault, IsDefinedAt, IsRangeFault, IsCounted, IsOfOneFile, HoldsFront, IsWritten, IsWrittenInPart}
 
 abbrev failed : EditFault → Result (List ℕ) EditFault
 failed fault = Err fault
@@ -177,6 +177,72 @@ load_is_input shift name files before after (TooManyFrames at) h = absurd h
 load_is_input shift name files before after (Shrunk first second) h = (refl, h.nothing_told)
 load_is_input shift name files before after Read h = (refl, tt)
 load_is_input shift name files before after NoRoom h = record { there = h.there; few = h.few }
+
+-- the numbers that the faults of the input carry
+load_numbers : (name : List ℕ) (files : Files) (before after : Counts) (fault : SurveyFault) → IsLoadFault name files before after fault → HasRightNumbers fault
+load_numbers name files before after Missing h = tt
+load_numbers name files before after (TooLong size) h = h.long
+load_numbers name files before after (NoFrame at) h = tt
+load_numbers name files before after (LostSync at) h = tt
+load_numbers name files before after (Truncated at) h = tt
+load_numbers name files before after (FreeFormat at) h = tt
+load_numbers name files before after (Mixed at) h = tt
+load_numbers name files before after (CheckWord at said right) h = tt
+load_numbers name files before after (BackPointer at begin present) h = tt
+load_numbers name files before after (Overlap at) h = tt
+load_numbers name files before after (Overrun at bits room) h = tt
+load_numbers name files before after (TooManyFrames at) h = tt
+load_numbers name files before after (Shrunk first second) h = h.less
+load_numbers name files before after Read h = tt
+load_numbers name files before after NoRoom h = tt
+
+bytes_numbers : (fault : SurveyFault) → IsOfBytes fault → HasRightNumbers fault
+bytes_numbers Missing is = tt
+bytes_numbers (TooLong size) is = absurd is
+bytes_numbers (NoFrame at) is = tt
+bytes_numbers (LostSync at) is = tt
+bytes_numbers (Truncated at) is = tt
+bytes_numbers (FreeFormat at) is = tt
+bytes_numbers (Mixed at) is = tt
+bytes_numbers (CheckWord at said right) is = tt
+bytes_numbers (BackPointer at begin present) is = tt
+bytes_numbers (Overlap at) is = tt
+bytes_numbers (Overrun at bits room) is = tt
+bytes_numbers (TooManyFrames at) is = tt
+bytes_numbers (Shrunk first second) is = absurd is
+bytes_numbers Read is = tt
+bytes_numbers NoRoom is = tt
+
+input_numbers : (fault : SurveyFault) → HasRightNumbers fault → IsOfOneFile (of_input fault)
+input_numbers Missing h = (refl, h)
+input_numbers (TooLong size) h = (refl, h)
+input_numbers (NoFrame at) h = (refl, h)
+input_numbers (LostSync at) h = (refl, h)
+input_numbers (Truncated at) h = (refl, h)
+input_numbers (FreeFormat at) h = (refl, h)
+input_numbers (Mixed at) h = (refl, h)
+input_numbers (CheckWord at said right) h = (refl, h)
+input_numbers (BackPointer at begin present) h = (refl, h)
+input_numbers (Overlap at) h = (refl, h)
+input_numbers (Overrun at bits room) h = (refl, h)
+input_numbers (TooManyFrames at) h = (refl, h)
+input_numbers (Shrunk first second) h = (refl, h)
+input_numbers Read h = (refl, h)
+input_numbers NoRoom h = tt
+
+pub load_of_one : (name : List ℕ) (files : Files) (before after : Counts) (fault : SurveyFault) → IsLoadFault name files before after fault → IsOfOneFile (of_input fault)
+load_of_one name files before after fault h = input_numbers fault (load_numbers name files before after fault h)
+
+pub survey_of_one : (file : List ℕ) (allowed : ℕ) (fault : SurveyFault) → IsSurveyRefusal file allowed fault → IsOfOneFile (of_input fault)
+survey_of_one file allowed fault (inl memory) = subst (λ f. IsOfOneFile (of_input f)) (sym memory) tt
+survey_of_one file allowed fault (inr is) = input_numbers fault (bytes_numbers fault (surveyed_of_bytes file allowed fault is))
+
+pub range_of_one : (fault : EditFault) → IsRangeFault fault → IsOfOneFile fault
+range_of_one (EqualNames place) is = absurd is
+range_of_one (Input place fault) is = absurd is
+range_of_one (GainRange offset granule channel gain) is = tt
+range_of_one (Write place) is = absurd is
+range_of_one Memory is = absurd is
 
 gained-fault : (shift : Shift) (file : List ℕ) (fault : SurveyFault) → length file ≤ longest_file → surveyed file most_frames ≡ Err fault → gained shift file ≡ Err (Input 0 fault)
 unfolding gained

@@ -6,7 +6,7 @@ use Rattle.sync_survey.specs.Faults.{longest_file}
 use Rattle.mp3_cli.specs.declared.fault.EditFault.{EditFault}
 use Rattle.mp3_cli.specs.declared.fault.EditFault.TheVariants.{EqualNames, Input, GainRange, Write, Memory}
 use Rattle.mp3_cli.specs.declared.shift.Shift.{Shift}
-use Rattle.mp3_cli.specs.Kinds.{kind_of, by_kind}
+use Rattle.mp3_cli.specs.Kinds.{kind_of, by_kind, HasRightNumbers}
 use Rattle.mp3_cli.specs.Edited.{gained, gain_result}
 
 -- the same files, where they are told, but that the name holds these bytes
@@ -76,6 +76,14 @@ IsCounted before after (Input place fault) = by_kind (record {
 IsCounted before after (GainRange offset granule channel gain) = NothingFailed before after
 IsCounted before after (Write place) = Rose before.write_faults after.write_faults
 IsCounted before after Memory = NothingFailed before after
+
+-- what the numbers of a fault say over every folder; the one input and the one output have the number 0
+abbrev pub IsOfOneFile : EditFault → Type 0
+IsOfOneFile (EqualNames place) = place ≡ 0
+IsOfOneFile (Input place fault) = (place ≡ 0) × HasRightNumbers fault
+IsOfOneFile (GainRange offset granule channel gain) = Unit {0}
+IsOfOneFile (Write place) = place ≡ 0
+IsOfOneFile Memory = Unit {0}
 
 -- the input is there, and its bytes are refused
 abbrev pub RefusesBytes : Shift → List ℕ → Files → EditFault → Type 0

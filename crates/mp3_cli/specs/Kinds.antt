@@ -1,4 +1,6 @@
 -- The kinds of a survey's faults.
+use Rattle.std.specs.Prelude.{◌<◌}
+use Rattle.sync_survey.specs.Faults.{longest_file}
 use Rattle.sync_survey.specs.declared.survey_fault.SurveyFault.{SurveyFault}
 use Rattle.sync_survey.specs.declared.survey_fault.SurveyFault.TheVariants.{Absent, TooLong, NoFrame, LostSync, Truncated, FreeFormat, Mixed, CheckWord, BackPointer, Overlap, Overrun, TooManyFrames, Shrunk, Read, Memory}
 use Rattle.mp3_cli.specs.declared.fault.EditFault.{EditFault}
@@ -33,6 +35,25 @@ kind_of (TooManyFrames at) = IsRefused
 kind_of (Shrunk first second) = IsShorter
 kind_of Read = IsUnread
 kind_of Memory = IsTooMuch
+
+-- the numbers that a fault carries, whatever is told of the file: it is too long above the limit alone, and it ended before the length
+-- that it was found with
+abbrev pub HasRightNumbers : SurveyFault → Type 0
+HasRightNumbers Absent = Unit {0}
+HasRightNumbers (TooLong size) = longest_file < size
+HasRightNumbers (NoFrame at) = Unit {0}
+HasRightNumbers (LostSync at) = Unit {0}
+HasRightNumbers (Truncated at) = Unit {0}
+HasRightNumbers (FreeFormat at) = Unit {0}
+HasRightNumbers (Mixed at) = Unit {0}
+HasRightNumbers (CheckWord at said right) = Unit {0}
+HasRightNumbers (BackPointer at begin present) = Unit {0}
+HasRightNumbers (Overlap at) = Unit {0}
+HasRightNumbers (Overrun at bits room) = Unit {0}
+HasRightNumbers (TooManyFrames at) = Unit {0}
+HasRightNumbers (Shrunk first second) = second < first
+HasRightNumbers Read = Unit {0}
+HasRightNumbers Memory = Unit {0}
 
 -- what stands for each kind
 pub record ByKind {ℓ} (A : Type ℓ) : Type ℓ where

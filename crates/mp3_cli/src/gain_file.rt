@@ -4,7 +4,7 @@ ghost use Rattle.outside.specs.Files.{Holds, IsThere, IsMissing};
 ghost use Rattle.outside.specs.Counts.{Rose, NoneFell, OnlyReads, OnlyWrites, NothingFailed};
 ghost use Rattle.mp3_cli.specs.Edited.{gained};
 ghost use Rattle.mp3_cli.specs.Streams.{IsStreamMoved, HoldsMovedStream};
-ghost use Rattle.mp3_cli.specs.Gain.{holding, HoldsFront, IsInputFault, IsWritten, IsDefinedAt, IsCounted, LeavesAt};
+ghost use Rattle.mp3_cli.specs.Gain.{holding, HoldsFront, IsInputFault, IsWritten, IsDefinedAt, IsCounted, IsOfOneFile, LeavesAt};
 
 use crate::edit::{drop_junk, move_gains, range_fault};
 use crate::fault::EditFault;
@@ -29,6 +29,7 @@ fn edited_input<D: Folder>(
     ensures refused { IfErr result (IsInputFault shift.now name.now (D.files folder.old)) }
     ensures done { OnOk result (NothingFailed (D.counts folder.old) (D.counts folder.new)) }
     ensures counted { IfErr result (IsCounted (D.counts folder.old) (D.counts folder.new)) }
+    ensures numbers { IfErr result IsOfOneFile }
     ensures files { D.files folder.new ≡ D.files folder.old }
     ensures counts { OnlyReads (D.counts folder.old) (D.counts folder.new) }
 {
@@ -80,6 +81,8 @@ pub fn gain<D: Folder>(
     // Where no count is named, no file was missing and no call failed.
     ensures done { OnOk result (NothingFailed (D.counts folder.old) (D.counts folder.new)) }
     ensures counted { IfErr result (IsCounted (D.counts folder.old) (D.counts folder.new)) }
+    // Also over a folder that tells nothing.
+    ensures numbers { IfErr result IsOfOneFile }
     ensures counts { NoneFell (D.counts folder.old) (D.counts folder.new) }
 {
     if input == output {

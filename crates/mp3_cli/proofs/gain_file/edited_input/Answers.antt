@@ -7,7 +7,7 @@ use Rattle.mp3_cli.specs.Edited.{most_frames, range_fault, with_rows, AreInBytes
 use Rattle.bit_fields.specs.Bits.{AreBytes}
 use Rattle.mp3_cli.proofs.GainedStream.{gained-stream}
 use Rattle.mp3_cli.proofs.WholeEdit.{rows_in_bytes}
-use Rattle.mp3_cli.proofs.GainLaws.{IsLoadedInput, load_is_input, survey_is_input, survey_counted, range_is_input, edited_is, junk_dropped, junk_within}
+use Rattle.mp3_cli.proofs.GainLaws.{IsLoadedInput, load_is_input, survey_is_input, survey_counted, range_is_input, load_of_one, survey_of_one, range_of_one, edited_is, junk_dropped, junk_within}
 use Rattle.mp3_cli.proofs.gain_file.edited_input.Goals as goal
 
 pub returns-in_err-bytes-clause-refused : goal.returns-in_err-bytes-clause-refused
@@ -70,3 +70,16 @@ pub returns-clause-moved : goal.returns-clause-moved
 returns-clause-moved g c bytes holds =
     let all = subst AreBytes (c.deref.ensures.value ∙ c.in_ok-bytes.ensures.bytes bytes holds) c.in_ok-survey.ensures.octets in
     gained-stream c.args.shift.now bytes c.drop_junk.new.bytes.items all (returns-clause-gained g c bytes holds)
+
+pub returns-in_err-bytes-clause-numbers : goal.returns-in_err-bytes-clause-numbers
+returns-in_err-bytes-clause-numbers g c =
+    let p = err_from_is_err_and c.from_residual.result c.from_residual.ensures.1 in
+    rw (p.1, p.2) (load_of_one _ _ _ _ _ c.in_err-bytes.ensures.refused)
+
+pub returns-in_err-survey-clause-numbers : goal.returns-in_err-survey-clause-numbers
+returns-in_err-survey-clause-numbers g c =
+    let p = err_from_is_err_and c.from_residual-in_err-survey.result c.from_residual-in_err-survey.ensures.1 in
+    rw (p.1, p.2) (survey_of_one c.deref.result.now most_frames _ c.in_err-survey.ensures.exact)
+
+pub returns-in-Some-clause-numbers : goal.returns-in-Some-clause-numbers
+returns-in-Some-clause-numbers g c = range_of_one c.in-Some.fault c.in-Some.ensures.range

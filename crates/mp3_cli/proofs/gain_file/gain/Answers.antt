@@ -35,3 +35,8 @@ pub returns-in-Ok-clause-moved : goal.returns-in-Ok-clause-moved
 returns-in-Ok-clause-moved g c =
     holds_moved c.args.shift.now c.args.input.now c.args.output.now c.in_ok-bytes.bytes.items c.deref.result.now (g.D.Folder.files c.args.folder.now) (g.D.Folder.files c.edited_input.new.folder)
     (g.D.Folder.files c.save.new.folder) c.deref.ensures.value c.in_ok-bytes.ensures.moved c.in-Ok.ensures.written
+
+pub returns-in_err-bytes-clause-numbers : goal.returns-in_err-bytes-clause-numbers
+returns-in_err-bytes-clause-numbers g c =
+    let p = err_from_is_err_and c.from_residual.result c.from_residual.ensures.1 in
+    rw (p.1, p.2) c.in_err-bytes.ensures.numbers
