@@ -5,20 +5,20 @@ use Rattle.std.proofs.lemmas.Bool.{true≢false}
 use Rattle.outside.specs.Files.{Contents, Files, untold, Sent, with_file}
 use Rattle.outside.specs.Counts.{Counts, Rose, NothingFailed}
 use Rattle.outside.proofs.FilesLaws.{sent_nothing, bytes_eq_same, bytes_eq_other}
-use Rattle.mp3_cli.specs.declared.fault.EditFault.{EditFault}
-use Rattle.mp3_cli.specs.declared.fault.EditFault.TheVariants.{EqualNames, Input, GainRange, Write, Memory}
+use Rattle.edits.specs.declared.fault.EditFault.{EditFault}
+use Rattle.edits.specs.declared.fault.EditFault.TheVariants.{EqualNames, Input, GainRange, Write, Memory}
 use Rattle.mp3_cli.specs.declared.jobs.Job.{Job}
 use Rattle.mp3_cli.specs.declared.jobs.Job.TheVariants.{Gain}
-use Rattle.mp3_cli.specs.declared.shift.Shift.{Shift}
+use Rattle.edits.specs.declared.shift.Shift.{Shift}
 use Rattle.mp3_cli.specs.Words.{word_at, job_of}
 use Rattle.mp3_cli.specs.Texts.{status_of, fault_line, bad_word_line, GotLine}
-use Rattle.mp3_cli.specs.Edited.{most_frames, edited, range_fault, unless, gained_by, gained, gained_where, gain_result}
-use Rattle.mp3_cli.specs.Streams.{HoldsMovedStream}
-use Rattle.mp3_cli.specs.Kinds.{InputKind, IsAbsent, IsUnread, IsShorter, IsTooMuch, IsRefused, ByKind, kind_of, by_kind}
+use Rattle.edits.specs.Edited.{most_frames, edited, range_fault, unless, gained_by, gained, gained_where, gain_result}
+use Rattle.edits.specs.Streams.{HoldsMovedStream}
+use Rattle.edits.specs.Kinds.{InputKind, IsAbsent, IsUnread, IsShorter, IsTooMuch, IsRefused, ByKind, kind_of, by_kind}
 use Rattle.sync_survey.specs.declared.survey_fault.SurveyFault.{SurveyFault}
 use Rattle.sync_survey.specs.Faults.{SurveyFields}
 use Rattle.sync_survey.specs.Survey.{survey_of}
-use Rattle.mp3_cli.specs.Gain.{holding, Gives, IsWritten, IsDefinedAt, IsCounted, LeavesAt}
+use Rattle.edits.specs.Gain.{holding, Gives, IsWritten, IsDefinedAt, IsCounted, LeavesAt}
 use Rattle.mp3_cli.specs.Run.{refused, gain_outcome, job_outcome, outcome, answer_status, answer_line, IsOutcome, IsAccepted, IsCause, IsStopped, AsksForMemory}
 
 -- ---- bad words

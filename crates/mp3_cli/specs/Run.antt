@@ -4,16 +4,17 @@ use Rattle.outside.specs.Files.{Contents, Files, untold, Sent, with_file, sent_m
 use Rattle.outside.specs.Counts.{Counts, Rose}
 use Rattle.sync_survey.specs.Faults.{SurveyFields}
 use Rattle.sync_survey.specs.Survey.{survey_of}
-use Rattle.mp3_cli.specs.declared.fault.EditFault.{EditFault}
-use Rattle.mp3_cli.specs.declared.fault.EditFault.TheVariants.{EqualNames, Input, GainRange, Write, Memory}
+use Rattle.edits.specs.declared.fault.EditFault.{EditFault}
+use Rattle.edits.specs.declared.fault.EditFault.TheVariants.{EqualNames, Input, GainRange, Write, Memory}
 use Rattle.mp3_cli.specs.declared.jobs.Job.{Job}
 use Rattle.mp3_cli.specs.declared.jobs.Job.TheVariants.{Gain}
-use Rattle.mp3_cli.specs.declared.shift.Shift.{Shift}
+use Rattle.edits.specs.declared.shift.Shift.{Shift}
 use Rattle.mp3_cli.specs.Words.{word_at, job_of}
 use Rattle.mp3_cli.specs.Texts.{status_of, fault_line, bad_word_line, GotLine}
-use Rattle.mp3_cli.specs.Kinds.{kind_of, by_kind}
-use Rattle.mp3_cli.specs.Edited.{most_frames, range_fault, gain_result}
-use Rattle.mp3_cli.specs.Gain.{Gives, IsWrittenInPart, NeedsMemory}
+use Rattle.edits.specs.Streams.{HoldsMovedStream}
+use Rattle.edits.specs.Kinds.{kind_of, by_kind}
+use Rattle.edits.specs.Edited.{most_frames, range_fault, gain_result}
+use Rattle.edits.specs.Gain.{Gives, IsWrittenInPart, NeedsMemory}
 
 -- ---- the result
 
@@ -116,3 +117,13 @@ answer_status (Err fault) = status_of fault
 abbrev pub answer_line : {T : Type 0} → Result T EditFault → List ℕ → List ℕ → List ℕ
 answer_line (Ok x) input output = []
 answer_line (Err fault) input output = fault_line fault input output
+
+-- ---- the stream
+
+-- the words ask for a gain command, and the output holds the input's stream with each gain moved
+pub record MovesStream (words : List (List ℕ)) (old new : Files) : Type 0 where
+  pub shift : Shift
+  pub input : ℕ
+  pub output : ℕ
+  pub job : job_of words ≡ Ok (Gain shift input output)
+  pub moved : HoldsMovedStream shift (word_at words input) (word_at words output) old new

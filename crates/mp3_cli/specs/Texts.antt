@@ -2,11 +2,11 @@
 use Rattle.std.specs.Prelude.{◌≡◌, ◌⊎◌, ℕ, ◌/◌, ◌%◌, ◌≤◌, List, [], ◌∷◌, ◌++◌, length, take, slice_index, codes, decimal}
 use Rattle.outside.specs.Files.{Sent, sent_more}
 use Rattle.outside.specs.Counts.{Rose}
-use Rattle.mp3_cli.specs.Kinds.{kind_of, by_kind}
+use Rattle.edits.specs.Kinds.{kind_of, by_kind}
 use Rattle.sync_survey.specs.declared.survey_fault.SurveyFault.{SurveyFault}
 use Rattle.sync_survey.specs.declared.survey_fault.SurveyFault.TheVariants.{Absent, TooLong, NoFrame, LostSync, Truncated, FreeFormat, Mixed, CheckWord, BackPointer, Overlap, Overrun, TooManyFrames, Shrunk, Read, Memory}
-use Rattle.mp3_cli.specs.declared.fault.EditFault.{EditFault}
-use Rattle.mp3_cli.specs.declared.fault.EditFault.TheVariants.{EqualNames, Input, GainRange, Write, Memory as NoMemory}
+use Rattle.edits.specs.declared.fault.EditFault.{EditFault}
+use Rattle.edits.specs.declared.fault.EditFault.TheVariants.{EqualNames, Input, GainRange, Write, Memory as NoMemory}
 
 -- 1 for a refused input, 3 for a fault of the outside, 4 for want of memory
 abbrev pub status_of : EditFault → ℕ

@@ -4,7 +4,7 @@ use Rattle.std.specs.List.{common_prefix_len}
 use Rattle.std.specs.Cmp.Lexicographic.{pointwise}
 use Rattle.std.specs.Str.{all_ascii_digits}
 use Rattle.std.specs.Str.Parse.{digits_value}
-use Rattle.mp3_cli.specs.declared.shift.Channels.TheVariants.{Both}
+use Rattle.edits.specs.declared.shift.Channels.TheVariants.{Both}
 use Rattle.mp3_cli.specs.declared.jobs.Job.{Job}
 use Rattle.mp3_cli.specs.declared.jobs.Job.TheVariants.{Gain}
 

@@ -1,6 +1,6 @@
 //! What the program is asked to do.
 
-use crate::shift::Shift;
+use edits::Shift;
 
 /// What a list of words asks for. Names are places of words, counted from 1.
 #[derive(Clone, Copy, Debug, PartialEq, Eq)]

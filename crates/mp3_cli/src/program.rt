@@ -5,15 +5,13 @@ ghost use Rattle.outside.specs.Counts.{Rose, NoneFell, NothingFailed};
 ghost use Rattle.mp3_cli.specs.declared.jobs.Job.TheVariants.{Gain};
 ghost use Rattle.mp3_cli.specs.Words.{word_at, job_of, IsSound};
 ghost use Rattle.mp3_cli.specs.Texts.{GotLine};
-ghost use Rattle.mp3_cli.specs.Streams.{MovesStream};
+ghost use Rattle.mp3_cli.specs.Run.{MovesStream};
 ghost use Rattle.mp3_cli.specs.Run.{outcome, answer_status, answer_line, IsOutcome, IsAccepted, IsStopped, AsksForMemory};
 
-use crate::fault::EditFault;
-use crate::gain_file::gain;
 use crate::jobs::Job;
-use crate::shift::Shift;
 use crate::texts::{send_bad_word, send_fault, status};
 use crate::words::job;
+use edits::{EditFault, Shift, gain};
 use outside::{Folder, Sink};
 use std::alloc::Global;
 

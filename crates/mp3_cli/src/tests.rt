@@ -1,6 +1,7 @@
 //! Words and their readings, and lines as they are sent.
 
 use super::*;
+use edits::{Channels, EditFault, Shift};
 use outside::MemSink;
 use std::alloc::{AllocError, Global};
 use std::test::Fail;

@@ -2,7 +2,7 @@
 ghost use Rattle.std.specs.Prelude.{◌≡◌, ◌%◌, [], ◌∷◌, ◌++◌, decimal, flat_map};
 ghost use Rattle.mp3_cli.specs.Texts.{status_of, hex_digit as hex_digit_lem, input_text, fault_line, bad_word_line, GotLine};
 
-use crate::fault::EditFault;
+use edits::EditFault;
 use itoa::Buffer;
 use outside::{Sink, send_all};
 use sync_survey::SurveyFault;

@@ -5,7 +5,7 @@ ghost use Rattle.mp3_cli.specs.Words.{is_name, size_of, steps_of, fits_kind, job
 ghost use Rattle.mp3_cli.specs.Table.{kind_of, form_named};
 
 use crate::jobs::Job;
-use crate::shift::{Channels, Shift};
+use edits::{Channels, Shift};
 
 /// What a word of a form is.
 #[derive(Clone, Copy)]

@@ -1,7 +1,7 @@
 -- Each clause from what the command ensures.
 use Rattle.std.proofs.Common.{map, string_bytes}
 use Rattle.mp3_cli.proofs.RunLaws.{named_moved, answered, Gained, named, named_line, named_defined, is_defined, is_out_of_memory, asks_for_memory, is_accepted_told, each_text}
-use Rattle.mp3_cli.specs.Streams.{HoldsMovedStream}
+use Rattle.edits.specs.Streams.{HoldsMovedStream}
 use Rattle.mp3_cli.specs.Run.{outcome, IsOutcome}
 use Rattle.mp3_cli.proofs.program.run_gain.Goals as goal
 

@@ -1,0 +1,55 @@
+-- Side information with moved gains still fits its class.
+use Rattle.std.proofs.Common.{◌≡◌, ℕ, ◌<◌, Bool, true, false, cond, ap, arith, ℤ, pos, negsuc, ◌+ℤ◌}
+use Rattle.std.specs.Prelude.{MatchBool, unsigned_abs}
+use Rattle.std.specs.Int.{int_rem_euclid}
+use Rattle.frame_header.specs.declared.version.Version.TheVariants.{One, Two}
+use Rattle.side_info.specs.Granule.{LacksPreflag}
+use Rattle.frame_header.specs.declared.version.Version.{Version}
+use Rattle.frame_header.specs.Fields.{ClassFields}
+use Rattle.side_info.specs.declared.granule.Granule.{Granule}
+use Rattle.side_info.specs.declared.side.Side.{Side}
+use Rattle.side_info.specs.Granule.{no_granule, GranuleFits}
+use Rattle.side_info.specs.Side.{granule_in, has_granule, SideFits}
+use Rattle.side_info.proofs.SideLaws.{granules_fit}
+use Rattle.edits.specs.declared.shift.Shift.{Shift}
+use Rattle.edits.specs.Gains.{left_steps, right_steps, is_silent, moved_gain, moved, moved_side}
+
+below : (sum : ℤ) → unsigned_abs (int_rem_euclid sum (pos 256)) < 256
+below (pos n) = omega arith
+below (negsuc n) = omega arith
+
+same_preflag : (version : Version) (g : Granule) (gain : ℕ) → LacksPreflag version g → LacksPreflag version (record g { global_gain = gain })
+same_preflag One g gain lacks = tt
+same_preflag Two g gain lacks = lacks
+
+moved-fits : (version : Version) (steps : ℤ) (g : Granule) → GranuleFits version g → GranuleFits version (moved steps g)
+moved-fits version steps g fits =
+    elim (is_silent g) as (λ b. GranuleFits version (cond b g (record g { global_gain = moved_gain steps g.global_gain }))) [
+      | true ↦ fits
+      | false ↦ record {
+        part2_3_length = fits.part2_3_length;
+        big_values = fits.big_values;
+        global_gain = below (pos g.global_gain +ℤ steps);
+        scalefac_compress = fits.scalefac_compress;
+        detail = fits.detail;
+        preflag = same_preflag version g (moved_gain steps g.global_gain) fits.preflag;
+      }
+    ]
+
+-- a granule that the class lacks stays
+moved_at : (version : Version) (has : Bool) (steps : ℤ) (g : Granule) → MatchBool has (GranuleFits version g) (g ≡ no_granule) → MatchBool has (GranuleFits version (moved steps g)) (moved steps g ≡ no_granule)
+moved_at version true steps g fits = moved-fits version steps g fits
+moved_at version false steps g none = ap (moved steps) none
+
+pub SideFits-moved_side : (c : ClassFields) (shift : Shift) (s : Side) → SideFits c s → SideFits c (moved_side shift s)
+unfolding moved_side
+SideFits-moved_side c shift s fits = record {
+  main_data_begin = fits.main_data_begin;
+  private_bits = fits.private_bits;
+  scfsi = fits.scfsi;
+  granules = granules_fit c s.main_data_begin s.private_bits 0 0 _ _ _ _
+      (moved_at c.version (has_granule c 0 0) (left_steps shift) (granule_in s 0 0) (fits.granules 0 0))
+      (moved_at c.version (has_granule c 0 1) (right_steps shift) (granule_in s 0 1) (fits.granules 0 1))
+      (moved_at c.version (has_granule c 1 0) (left_steps shift) (granule_in s 1 0) (fits.granules 1 0))
+      (moved_at c.version (has_granule c 1 1) (right_steps shift) (granule_in s 1 1) (fits.granules 1 1));
+}

@@ -1,0 +1,128 @@
+-- A frame with moved gains: what it has in common with the frame, and that moved back it is the frame.
+use Rattle.std.proofs.Common.{◌≡◌, ℕ, ◌+◌, ◌-◌, ◌<◌, Bool, true, false, cond, List, [], ◌++◌, length, take, drop, refl, sym, ◌∙◌, ap, arith, ℤ, Ok}
+use Rattle.bit_fields.specs.Bits.{bits_of, bytes, AreBytes}
+use Rattle.bit_fields.proofs.BitsLaws.{AreBits-bits_of, AreBytes-bytes, AreBytes-append, AreBytes-take, AreBytes-drop}
+use Rattle.frame_header.specs.Fields.{HeaderFields, ClassFields, IsClass}
+use Rattle.frame_header.specs.Tables.{class_of, side_size_of, overhead_of, length_of}
+use Rattle.frame_header.proofs.HeaderLaws.{IsClass-class_of}
+use Rattle.frame_header.proofs.Lengths.{area_some}
+use Rattle.side_info.specs.declared.granule.Granule.{Granule}
+use Rattle.side_info.specs.declared.side.Side.{Side}
+use Rattle.side_info.specs.Side.{granule_in, side_bits}
+use Rattle.side_info.specs.Frame.{side_in, word_part, frame_with}
+use Rattle.side_info.specs.CheckWord.{check_word_of}
+use Rattle.side_info.proofs.SideLaws.{AreBits-side_bits, each_class}
+use Rattle.side_info.proofs.FrameLaws.{HasRoom, IsRight, overhead-most, shaped-side_in, fits-side_in, length-frame_with, header-frame_with, area-frame_with, side_in-frame_with, word_said-frame_with, frame_with-again, frame_with-own}
+use Rattle.side_info.proofs.LastBytes.{AreAlike, last_granule, last_bytes-frame_with}
+use Rattle.sync_survey.specs.declared.items.Item.TheVariants.{Frame}
+use Rattle.sync_survey.specs.Items.{header_front}
+use Rattle.sync_survey.proofs.ItemsLaws.{header_front-in_range}
+use Rattle.sync_survey.proofs.ItemBytes.{IsItem, header_front-four, frame_item}
+use Rattle.edits.specs.declared.shift.Shift.{Shift}
+use Rattle.edits.specs.Gains.{left_steps, right_steps, is_silent, moved_gain, moved, moved_side}
+use Rattle.edits.specs.Edited.{moved_frame}
+use Rattle.edits.proofs.GainsLaws.{SideFits-moved_side}
+use Rattle.edits.proofs.GainsBack.{opposite, IsSideBack, IsShaped-moved}
+
+-- ---- the last two bytes of the side information
+
+-- a moved granule differs in no field but global_gain
+moved-alike : (steps : ℤ) (g : Granule) → AreAlike g (moved steps g)
+moved-alike steps g = elim (is_silent g) as (λ b. AreAlike g (cond b g (record g { global_gain = moved_gain steps g.global_gain }))) [ true ↦ refl | false ↦ refl ]
+
+-- nor does the last granule and channel of moved side information
+last_granule-moved : (shift : Shift) (c : ClassFields) → IsClass c → (s : Side) → AreAlike (last_granule c s) (last_granule c (moved_side shift s))
+unfolding moved_side
+last_granule-moved shift =
+    each_class (λ c. (s : Side) → AreAlike (last_granule c s) (last_granule c (moved_side shift s)))
+    (λ f s. moved-alike (left_steps shift) (granule_in s 1 0))
+    (λ f s. moved-alike (right_steps shift) (granule_in s 1 1))
+    (λ f s. moved-alike (left_steps shift) (granule_in s 0 0))
+    (λ f s. moved-alike (right_steps shift) (granule_in s 0 1))
+
+-- moved gains leave a frame as it is from two bytes before its area on
+last_bytes-moved : (shift : Shift) (h : HeaderFields) (frame : List ℕ) → IsClass (class_of h) → AreBytes frame → HasRoom h frame
+    → drop (overhead_of (class_of h) h.protected - 2) (moved_frame shift h frame) ≡ drop (overhead_of (class_of h) h.protected - 2) frame
+last_bytes-moved shift h frame class all room =
+    let s = side_in h frame in
+    last_bytes-frame_with h (moved_side shift s) frame class all (IsShaped-moved shift s (shaped-side_in h frame)) room (last_granule-moved shift (class_of h) class s)
+
+-- ---- a frame with other side information is bytes
+
+word_bytes : (h : HeaderFields) (s : Side) (b : Bool) → AreBytes (cond b (bytes (bits_of 16 (check_word_of h s))) [])
+word_bytes h s true = AreBytes-bytes (bits_of 16 (check_word_of h s)) (AreBits-bits_of 16 (check_word_of h s))
+word_bytes h s false = tt
+
+frame_bytes : (h : HeaderFields) (s : Side) (frame : List ℕ) → AreBytes frame → AreBytes (frame_with h s frame)
+unfolding frame_with
+frame_bytes h s frame all =
+    let side = bytes (side_bits (class_of h) s) in
+    let rest = drop (overhead_of (class_of h) h.protected) frame in
+    AreBytes-append (take 4 frame) (word_part h s ++ (side ++ rest)) (AreBytes-take 4 frame all)
+    (AreBytes-append (word_part h s) (side ++ rest) (word_bytes h s h.protected)
+    (AreBytes-append side rest (AreBytes-bytes (side_bits (class_of h) s) (AreBits-side_bits (class_of h) s)) (AreBytes-drop (overhead_of (class_of h) h.protected) frame all)))
+
+-- ---- a whole frame
+
+-- a frame with this header that is whole
+pub record IsWhole (h : HeaderFields) (frame : List ℕ) : Type 0 where
+  pub header : header_front frame ≡ Ok h
+  pub size : length frame ≡ length_of (class_of h) h.slot
+  pub all : AreBytes frame
+
+pub whole_class : (h : HeaderFields) (frame : List ℕ) → IsWhole h frame → IsClass (class_of h)
+whole_class h frame whole = IsClass-class_of h (header_front-in_range frame h whole.header)
+
+pub whole_room : (h : HeaderFields) (frame : List ℕ) → IsWhole h frame → (HasRoom h frame) × (6 + side_size_of (class_of h) < length frame)
+whole_room h frame whole =
+    let fields = header_front-in_range frame h whole.header in
+    let some = area_some (class_of h) h.slot (IsClass-class_of h fields) fields.slot in
+    (omega (arith, some, whole.size, overhead-most (class_of h) h.protected), omega (arith, some, whole.size))
+
+-- ---- with moved gains
+
+-- what it has in common with the frame, its side information, and that its check word is right
+pub record IsMoved (shift : Shift) (h : HeaderFields) (frame new : List ℕ) : Type 0 where
+  pub is : new ≡ frame_with h (moved_side shift (side_in h frame)) frame
+  pub whole : IsWhole h new
+  pub same_end : drop (overhead_of (class_of h) h.protected - 2) new ≡ drop (overhead_of (class_of h) h.protected - 2) frame
+  pub same_area : drop (overhead_of (class_of h) h.protected) new ≡ drop (overhead_of (class_of h) h.protected) frame
+  pub side : side_in h new ≡ moved_side shift (side_in h frame)
+  pub right : IsRight h new
+
+pub moved_whole : (shift : Shift) (h : HeaderFields) (frame : List ℕ) → IsWhole h frame → IsMoved shift h frame (moved_frame shift h frame)
+moved_whole shift h frame whole =
+    let s = moved_side shift (side_in h frame) in
+    let class = whole_class h frame whole in
+    let room = (whole_room h frame whole).0 in
+    let shaped = IsShaped-moved shift (side_in h frame) (shaped-side_in h frame) in
+    let fits = SideFits-moved_side (class_of h) shift (side_in h frame) (fits-side_in h frame class) in
+    let side : side_in h (frame_with h s frame) ≡ s = side_in-frame_with h s frame class shaped fits room in
+    record {
+      is = refl;
+      whole = record {
+        header = header_front-four (frame_with h s frame) frame (header-frame_with h s frame room) ∙ whole.header;
+        size = length-frame_with h s frame class shaped room ∙ whole.size;
+        all = frame_bytes h s frame whole.all;
+      };
+      same_end = last_bytes-moved shift h frame class whole.all room;
+      same_area = area-frame_with h s frame class shaped room;
+      side = side;
+      right = λ protected. word_said-frame_with h s frame protected room ∙ ap (check_word_of h) (sym side);
+    }
+
+-- it is an item of its own
+pub whole_item : (h : HeaderFields) (frame : List ℕ) → IsWhole h frame → IsItem (Frame h) frame
+whole_item h frame whole = frame_item h frame whole.header whole.size (omega (arith, (whole_room h frame whole).1)) whole.all
+
+-- moved back it is the frame
+pub frame_back : (shift : Shift) (h : HeaderFields) (frame : List ℕ) → IsWhole h frame → IsRight h frame → IsSideBack shift (side_in h frame) → moved_frame (opposite shift) h (moved_frame shift h frame) ≡ frame
+frame_back shift h frame whole right sides =
+    let s = side_in h frame in
+    let to = moved_whole shift h frame whole in
+    let class = whole_class h frame whole in
+    let room = (whole_room h frame whole).0 in
+    ap (λ t. frame_with h (moved_side (opposite shift) t) (moved_frame shift h frame)) to.side
+    ∙ ap (λ t. frame_with h t (moved_frame shift h frame)) sides.back
+    ∙ frame_with-again h s (moved_side shift s) frame class (IsShaped-moved shift s (shaped-side_in h frame)) room
+    ∙ frame_with-own h frame class whole.all room right

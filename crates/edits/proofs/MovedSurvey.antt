@@ -1,0 +1,256 @@
+-- The survey of the edited file is that of the file, with moved gains and without the junk.
+use Rattle.std.proofs.Common.{◌≡◌, ℕ, ◌+◌, ◌-◌, ◌<◌, ◌≤◌, ◌==◌, ltb, Bool, true, false, cond, ◌&&◌, not, List, [], ◌∷◌, ◌++◌, length, take, drop, map, Option, Some, None, option_map, Ok, refl, sym, ◌∙◌, ap, ap₂, subst, arith}
+use Rattle.std.specs.Prelude.{sum_by}
+use Rattle.std.proofs.lemmas.Bool.{eq-eqb, lt-ltb, le-ltb}
+use Rattle.std.proofs.lemmas.List.{take_at, map-append, map-id, length-map, drop_all}
+use Rattle.std.proofs.lemmas.List.Sums.{sum_by-cons}
+use Rattle.bit_fields.specs.Bits.{AreBytes}
+use Rattle.frame_header.specs.Fields.{ClassFields}
+use Rattle.frame_header.specs.Tables.{class_of, length_of}
+use Rattle.side_info.specs.declared.side.Side.{Side}
+use Rattle.side_info.specs.Side.{payload_bytes}
+use Rattle.side_info.specs.CheckWord.{check_word_of}
+use Rattle.side_info.specs.Frame.{side_in, word_said}
+use Rattle.side_info.proofs.SideLaws.{IsShaped}
+use Rattle.side_info.proofs.FrameLaws.{IsRight, shaped-side_in, side_in-take, word_said-take}
+use Rattle.sync_survey.specs.declared.items.Item.TheVariants.{End}
+use Rattle.sync_survey.specs.declared.places.PlacedFrame.{PlacedFrame}
+use Rattle.sync_survey.specs.declared.places.Piece.{Piece}
+use Rattle.sync_survey.specs.declared.places.Head.{Head}
+use Rattle.sync_survey.specs.declared.places.Start.{Start}
+use Rattle.sync_survey.specs.declared.places.WalkFault.{WalkFault}
+use Rattle.sync_survey.specs.declared.rows.Row.{Row}
+use Rattle.sync_survey.specs.declared.runs.Part.TheVariants.{Front, Stream}
+use Rattle.sync_survey.specs.Items.{item_at}
+use Rattle.sync_survey.specs.Runs.{Run, run, blocks_of}
+use Rattle.sync_survey.specs.Walk.{stream_of, frame_bytes, head_of, all_blocks, fault_at, end_fault}
+use Rattle.sync_survey.specs.MainData.{row_of, rows_of, own_area, head_area, is_silent, start_of_data, place_behind, end_behind}
+use Rattle.sync_survey.specs.Faults.{has_wrong_word, all_faults, class_from, SurveyFields, surveyed}
+use Rattle.sync_survey.proofs.OneItem.{stands-only_at}
+use Rattle.sync_survey.proofs.RunsLaws.{run-ends}
+use Rattle.sync_survey.proofs.ItemLists.{nearer_frame, nearer_piece, blocks-between}
+use Rattle.sync_survey.proofs.SurveyParts.{frames_from, told_from, IsRead, surveyed-told, surveyed-parts, IsSound, AreSound, all_faults-none_sound, sound-no_all_faults}
+use Rattle.edits.specs.declared.shift.Shift.{Shift}
+use Rattle.edits.specs.Gains.{moved_side}
+use Rattle.edits.specs.Edited.{moved_frame, edited}
+use Rattle.edits.specs.Streams.{moved_row, moved_head, moved_block, moved_survey}
+use Rattle.edits.proofs.GainsBack.{payload_bits-moved, payload-moved, begin-moved}
+use Rattle.edits.proofs.MovedFrame.{whole_room, IsMoved, moved_whole}
+use Rattle.edits.proofs.EditedItems.{IsMovedAt, AreMovedAt}
+use Rattle.edits.proofs.EditedRuns.{gap_of, moved_start, new_file, front_low, stream_is, stop_is, front_stop, new-length, new-stream, new-start, new-head, new-frames, new-blocks, frames-moved}
+
+-- ---- a frame that stands with moved gains in another file
+
+module _ (shift : Shift) (file new : List ℕ) (gap : ℕ) (p : PlacedFrame) (at : IsMovedAt shift file new gap p) where
+  abbrev frame : List ℕ
+  frame = frame_bytes file p
+
+  abbrev new_frame : List ℕ
+  new_frame = moved_frame shift p.header frame
+
+  abbrev size : ℕ
+  size = length_of (class_of p.header) p.header.slot
+
+  pub to : IsMoved shift p.header frame new_frame
+  to = moved_whole shift p.header frame at.whole
+
+  pub frame_there : take size (drop (p.offset - gap) new) ≡ new_frame
+  frame_there = ap (take size) at.stands ∙ take_at new_frame at.rest size to.whole.size
+
+  side_there : side_in p.header (drop (p.offset - gap) new) ≡ moved_side shift (side_in p.header (drop p.offset file))
+  side_there =
+      let room = (whole_room p.header frame at.whole) in
+      sym (side_in-take p.header size (drop (p.offset - gap) new) (omega (arith, room.0, at.whole.size)))
+      ∙ ap (side_in p.header) frame_there
+      ∙ to.side
+      ∙ ap (moved_side shift) (side_in-take p.header size (drop p.offset file) (omega (arith, room.0, at.whole.size)))
+
+  pub row-moved : row_of new (nearer_frame gap p) ≡ moved_row shift gap (row_of file p)
+  row-moved = ap (λ s. record { offset = p.offset - gap; header = p.header; side = s }) side_there
+
+  right_there : IsRight p.header (drop (p.offset - gap) new)
+  right_there protected =
+      let room = (whole_room p.header frame at.whole) in
+      sym (word_said-take size (drop (p.offset - gap) new) (omega (arith, room.1, at.whole.size)))
+      ∙ ap word_said frame_there
+      ∙ to.right protected
+      ∙ ap (check_word_of p.header) (sym (ap (side_in p.header) frame_there) ∙ side_in-take p.header size (drop (p.offset - gap) new) (omega (arith, room.0, at.whole.size)))
+
+  right_cases : (s : Side) → side_in p.header (drop (p.offset - gap) new) ≡ s → (b : Bool) → p.header.protected ≡ b → (b && not (word_said (drop (p.offset - gap) new) == check_word_of p.header s)) ≡ false
+  right_cases s is true protected = ap not (eq-eqb _ _ (right_there protected ∙ ap (check_word_of p.header) is))
+  right_cases s is false protected = refl
+
+  pub right_word : has_wrong_word new (moved_row shift gap (row_of file p)) ≡ false
+  right_word = right_cases (moved_side shift (side_in p.header (drop p.offset file))) side_there p.header.protected refl
+
+pub rows-moved : (shift : Shift) (file new : List ℕ) (gap : ℕ) (ps : List PlacedFrame) → AreMovedAt shift file new gap ps → rows_of new (map (nearer_frame gap) ps) ≡ map (moved_row shift gap) (rows_of file ps)
+rows-moved shift file new gap [] at = refl
+rows-moved shift file new gap (p ∷ ps) at = ap₂ (λ (r : Row) (rs : List Row). r ∷ rs) (row-moved shift file new gap p at.0) (rows-moved shift file new gap ps at.1)
+
+-- ---- frames without fault
+
+-- the shapes of all side information are those that are read
+abbrev pub AreShaped : List Row → Type 0
+AreShaped [] = Unit {0}
+AreShaped (r ∷ rows) = IsShaped r.side × AreShaped rows
+
+pub rows_shaped : (file : List ℕ) (ps : List PlacedFrame) → AreShaped (rows_of file ps)
+rows_shaped file [] = tt
+rows_shaped file (p ∷ ps) = (shaped-side_in p.header (drop p.offset file), rows_shaped file ps)
+
+areas-moved : (shift : Shift) (gap : ℕ) (earlier : List Row) → sum_by (λ (r : Row). own_area r.header) (map (moved_row shift gap) earlier) ≡ sum_by (λ (r : Row). own_area r.header) earlier
+areas-moved shift gap [] = refl
+areas-moved shift gap (r ∷ earlier) =
+    sum_by-cons (λ (q : Row). own_area q.header) (moved_row shift gap r) (map (moved_row shift gap) earlier)
+    ∙ ap (λ n. own_area r.header + n) (areas-moved shift gap earlier)
+    ∙ sym (sum_by-cons (λ (q : Row). own_area q.header) r earlier)
+
+head_area-moved : (gap : ℕ) (o : Option Head) → head_area (option_map (moved_head gap) o) ≡ head_area o
+head_area-moved gap None = refl
+head_area-moved gap (Some head) = refl
+
+pub place-moved : (shift : Shift) (gap : ℕ) (o : Option Head) (earlier : List Row) → place_behind (option_map (moved_head gap) o) (map (moved_row shift gap) earlier) ≡ place_behind o earlier
+unfolding place_behind
+place-moved shift gap o earlier = ap₂ (λ m n. m + n) (head_area-moved gap o) (areas-moved shift gap earlier)
+
+pub start-moved : (shift : Shift) (gap : ℕ) (o : Option Head) (earlier : List Row) (r : Row) → start_of_data (option_map (moved_head gap) o) (map (moved_row shift gap) earlier) (moved_row shift gap r) ≡ start_of_data o earlier r
+start-moved shift gap o earlier r = ap₂ (λ m n. m - n) (place-moved shift gap o earlier) (begin-moved shift r.side)
+
+end-moved : (shift : Shift) (gap : ℕ) (o : Option Head) (earlier : List Row) → AreShaped earlier → end_behind (option_map (moved_head gap) o) (map (moved_row shift gap) earlier) ≡ end_behind o earlier
+unfolding end_behind
+end-moved shift gap o [] shaped = refl
+end-moved shift gap o (r ∷ earlier) shaped =
+    let silent : is_silent (moved_row shift gap r) ≡ is_silent r = ap (λ n. n == 0) (payload_bits-moved shift r.side shaped.0) in
+    let loud : start_of_data (option_map (moved_head gap) o) (map (moved_row shift gap) earlier) (moved_row shift gap r) + payload_bytes (moved_side shift r.side) ≡ start_of_data o earlier r + payload_bytes r.side =
+    ap₂ (λ m n. m + n) (start-moved shift gap o earlier r) (payload-moved shift r.side shaped.0) in
+    λ i. cond (silent i) (end-moved shift gap o earlier shaped.1 i) (loud i)
+
+-- the check words are right
+abbrev AreRight : List ℕ → List Row → Type 0
+AreRight file [] = Unit {0}
+AreRight file (r ∷ rows) = (has_wrong_word file r ≡ false) × AreRight file rows
+
+rows_right : (shift : Shift) (file new : List ℕ) (gap : ℕ) (ps : List PlacedFrame) → AreMovedAt shift file new gap ps → AreRight new (map (moved_row shift gap) (rows_of file ps))
+rows_right shift file new gap [] at = tt
+rows_right shift file new gap (p ∷ ps) at = (right_word shift file new gap p at.0, rows_right shift file new gap ps at.1)
+
+sound-moved : (shift : Shift) (file new : List ℕ) (gap : ℕ) (class : ClassFields) (allowed place ended count new_place new_ended new_count : ℕ) (r : Row) → new_place ≡ place → new_ended ≡ ended → new_count ≡ count → IsShaped r.side
+    → has_wrong_word new (moved_row shift gap r) ≡ false → IsSound file class allowed place ended count r → IsSound new class allowed new_place new_ended new_count (moved_row shift gap r)
+sound-moved shift file new gap class allowed place ended count new_place new_ended new_count r same_place same_ended same_count shaped word sound =
+    let begin = begin-moved shift r.side in
+    let payload = payload-moved shift r.side shaped in
+    record {
+      same = sound.same;
+      word = word;
+      begins = ap₂ ltb same_place begin ∙ sound.begins;
+      apart = ap₂ ltb (ap₂ (λ m n. m - n) same_place begin) same_ended ∙ sound.apart;
+      within = ap₂ ltb (ap (λ n. n + own_area r.header) same_place) (ap₂ (λ m n. m + n) (ap₂ (λ m n. m - n) same_place begin) payload) ∙ sound.within;
+      few = ap (λ n. n == allowed) same_count ∙ sound.few;
+    }
+
+all_sound : (shift : Shift) (file new : List ℕ) (gap : ℕ) (o : Option Head) (class : ClassFields) (allowed : ℕ) (earlier rows : List Row) → AreShaped earlier → AreShaped rows → AreRight new (map (moved_row shift gap) rows)
+    → AreSound file o class allowed earlier rows → AreSound new (option_map (moved_head gap) o) class allowed (map (moved_row shift gap) earlier) (map (moved_row shift gap) rows)
+all_sound shift file new gap o class allowed earlier [] before shaped right sound = tt
+all_sound shift file new gap o class allowed earlier (r ∷ rows) before shaped right sound = (
+  sound-moved shift file new gap class allowed _ _ _ _ _ _ r (place-moved shift gap o earlier) (end-moved shift gap o earlier before) (length-map earlier (moved_row shift gap)) shaped.0 right.0 sound.0,
+  all_sound shift file new gap o class allowed (r ∷ earlier) rows (shaped.0, before) shaped.1 right.1 sound.1,
+)
+
+-- ---- blocks
+
+abbrev same_block : Piece → Piece
+same_block b = b
+
+before_first : (first gap : ℕ) (b : Piece) → b.offset < first → moved_block first gap b ≡ same_block b
+before_first first gap b below = let is : ltb b.offset first ≡ true = lt-ltb b.offset first below in ap (λ (x : Bool). cond x b (nearer_piece gap b)) is
+
+behind_first : (first gap : ℕ) (b : Piece) → first ≤ b.offset → moved_block first gap b ≡ nearer_piece gap b
+behind_first first gap b above = let is : ltb b.offset first ≡ false = le-ltb b.offset first above in ap (λ (x : Bool). cond x b (nearer_piece gap b)) is
+
+-- ---- the end
+
+end_cases : (file new : List ℕ) (gap : ℕ) (frames : List PlacedFrame) (o : Option WalkFault) → end_fault file frames o ≡ None → end_fault new (map (nearer_frame gap) frames) None ≡ None
+end_cases file new gap [] (Some fault) e = absurd cc
+end_cases file new gap [] None e = absurd cc
+end_cases file new gap (p ∷ ps) o e = refl
+
+module _ (shift : Shift) (file : List ℕ) (allowed : ℕ) (start : Start) (all : AreBytes file) (read : IsRead file allowed start) where
+  abbrev new : List ℕ
+  new = new_file shift file allowed start all read
+
+  abbrev gap : ℕ
+  gap = gap_of start
+
+  abbrev rows : List Row
+  rows = rows_of file (frames_from file start)
+
+  moved_frames : AreMovedAt shift file new gap (frames_from file start)
+  moved_frames = frames-moved shift file allowed start all read
+
+  pub new-rows : rows_of new (frames_from new (moved_start start)) ≡ map (moved_row shift gap) rows
+  new-rows = ap (rows_of new) (new-frames shift file allowed start all read) ∙ rows-moved shift file new gap (frames_from file start) moved_frames
+
+  no_faults : all_faults new (head_of new (moved_start start).first) (class_from (moved_start start)) allowed [] (rows_of new (frames_from new (moved_start start))) ≡ []
+  no_faults =
+      let sound = all_faults-none_sound file (head_of file start.first) (class_from start) allowed [] rows read.frames in
+      ap₂ (λ (o : Option Head) (rs : List Row). all_faults new o (class_from start) allowed [] rs) (new-head shift file allowed start all read) new-rows
+      ∙ sound-no_all_faults new (option_map (moved_head gap) (head_of file start.first)) (class_from start) allowed [] (map (moved_row shift gap) rows)
+      (all_sound shift file new gap (head_of file start.first) (class_from start) allowed [] rows tt (rows_shaped file (frames_from file start)) (rows_right shift file new gap (frames_from file start) moved_frames) sound)
+
+  ended : (stop : ℕ) → length new ≤ stop → fault_at stop (item_at new stop) ≡ None
+  ended stop past =
+      let nothing : drop stop new ≡ [] = drop_all stop new past in
+      ap (fault_at stop) (sym (stands-only_at new stop End (subst AreBytes (sym nothing) tt) nothing))
+
+  whole_end : end_fault new (frames_from new (moved_start start)) (fault_at (stream_of new (moved_start start)).stop (item_at new (stream_of new (moved_start start)).stop)) ≡ None
+  whole_end =
+      let stop : (stream_of new (moved_start start)).stop ≡ (stream_of file start).stop - gap =
+      ap (λ (r : Run). r.stop) (new-stream shift file allowed start all read) ∙ sym (ap (λ (r : Run). r.stop - gap) (stream_is shift file allowed start all read)) in
+      let full : length new ≤ (stream_of new (moved_start start)).stop =
+      omega (arith, stop, new-length shift file allowed start all read, ap (λ (r : Run). r.stop) (stream_is shift file allowed start all read), stop_is shift file allowed start all read) in
+      ap₂ (end_fault new) (new-frames shift file allowed start all read) (ended (stream_of new (moved_start start)).stop full)
+      ∙ end_cases file new gap (frames_from file start) _ read.end
+
+  -- nothing is at fault in the edited file
+  pub new-read : IsRead new allowed (moved_start start)
+  new-read = record { start_is = new-start shift file allowed start all read; frames = no_faults; end = whole_end }
+
+  blocks_same : all_blocks new (moved_start start) ≡ map (moved_block start.first.offset gap) (all_blocks file start)
+  blocks_same =
+      let front = run Front file 0 in
+      let stream = stream_of file start in
+      let first = start.first.offset in
+      let low = front_low shift file allowed start all read in
+      let front_blocks : map (moved_block first gap) (blocks_of front.items) ≡ blocks_of front.items =
+      blocks-between Front (moved_block first gap) same_block file 0 first 0 front.items front.stop (λ b above below. before_first first gap b below) (run-ends Front file 0) (omega arith)
+      (omega (arith, low, front_stop shift file allowed start all read))
+      ∙ map-id (blocks_of front.items) in
+      let stream_blocks : map (moved_block first gap) (blocks_of stream.items) ≡ map (nearer_piece gap) (blocks_of stream.items) =
+      blocks-between Stream (moved_block first gap) (nearer_piece gap) file first stream.stop first stream.items stream.stop (λ b above below. behind_first first gap b above) (run-ends Stream file first)
+      (omega arith) (omega arith) in
+      new-blocks shift file allowed start all read
+      ∙ sym (map-append (moved_block first gap) (blocks_of front.items) (blocks_of stream.items) ∙ ap₂ (λ (a b : List Piece). a ++ b) front_blocks stream_blocks)
+
+  pub new-told : told_from new (moved_start start) ≡ moved_survey shift (told_from file start)
+  unfolding moved_survey
+  new-told =
+      let head = new-head shift file allowed start all read in
+      let long = new-length shift file allowed start all read in
+      λ i. record {
+        frames = new-rows i;
+        blocks = blocks_same i;
+        head = head i;
+        junk = start.front_end;
+        first = start.front_end;
+        class = class_from start;
+        length = long i;
+      }
+
+  surveyed-from : surveyed new allowed ≡ Ok (moved_survey shift (told_from file start))
+  surveyed-from = surveyed-told new allowed (moved_start start) new-read ∙ ap Ok new-told
+
+-- The survey of the edited file: that of the file with moved gains, and without the junk.
+pub surveyed-edited : (shift : Shift) (file : List ℕ) (allowed : ℕ) (s : SurveyFields) → AreBytes file → surveyed file allowed ≡ Ok s → surveyed (edited shift file s) allowed ≡ Ok (moved_survey shift s)
+surveyed-edited shift file allowed s all e =
+    let parts = surveyed-parts file allowed s e in
+    subst (λ t. surveyed (edited shift file t) allowed ≡ Ok (moved_survey shift t)) parts.2 (surveyed-from shift file allowed parts.0 all parts.1)

@@ -1,0 +1,266 @@
+-- A change of gains without wrap is undone by the opposite one: all bytes of the file come back, but for the junk.
+use Rattle.std.proofs.Common.{◌≡◌, ℕ, ◌+◌, ◌-◌, ◌<◌, ◌≤◌, ◌==◌, Bool, true, false, ◌&&◌, not, List, [], ◌∷◌, ◌++◌, length, take, drop, map, Option, Some, None, option_map, Result, Ok, refl, sym, ◌∙◌, ap, ap₂, subst, arith, append_assoc, take-append-drop}
+use Rattle.std.specs.Prelude.{MatchBool}
+use Rattle.std.specs.List.{cons_option}
+use Rattle.std.proofs.lemmas.Bool.{eqb-true}
+use Rattle.std.proofs.lemmas.List.{take_at, drop_at, drop-drop}
+use Rattle.bit_fields.specs.Bits.{AreBytes}
+use Rattle.frame_header.specs.Fields.{HeaderFields, ClassFields}
+use Rattle.frame_header.specs.Tables.{class_of, length_of}
+use Rattle.side_info.specs.declared.granule.Granule.{Granule}
+use Rattle.side_info.specs.declared.side.Side.{Side}
+use Rattle.side_info.specs.Granule.{GranuleFits, no_granule}
+use Rattle.side_info.specs.Side.{granule_in, has_granule, SideFits}
+use Rattle.side_info.specs.CheckWord.{check_word_of}
+use Rattle.side_info.specs.Frame.{side_in, word_said}
+use Rattle.side_info.proofs.FrameLaws.{IsRight, shaped-side_in, fits-side_in, side_in-take, word_said-take}
+use Rattle.sync_survey.specs.declared.items.Item.{Item}
+use Rattle.sync_survey.specs.declared.items.Item.TheVariants.{Frame, Free, Block, Zero, End, Nothing}
+use Rattle.sync_survey.specs.declared.places.PlacedFrame.{PlacedFrame}
+use Rattle.sync_survey.specs.declared.places.Head.{Head}
+use Rattle.sync_survey.specs.declared.places.Start.{Start}
+use Rattle.sync_survey.specs.declared.rows.Row.{Row}
+use Rattle.sync_survey.specs.declared.runs.Part.TheVariants.{Front, Stream}
+use Rattle.sync_survey.specs.declared.survey_fault.SurveyFault.{SurveyFault}
+use Rattle.sync_survey.specs.Items.{item_at, size_of}
+use Rattle.sync_survey.specs.Runs.{Placed, Run, run, AreEndToEnd, bytes_in, bytes_of, frame_as, frames_of}
+use Rattle.sync_survey.specs.Walk.{frame_bytes, head_of, numbered}
+use Rattle.sync_survey.specs.MainData.{row_of, rows_of}
+use Rattle.sync_survey.specs.Faults.{has_wrong_word, class_from, SurveyFields, longest_file}
+use Rattle.sync_survey.specs.Survey.{survey_of}
+use Rattle.sync_survey.proofs.RunsLaws.{item_of-is, run-ends, bytes-ends}
+use Rattle.sync_survey.proofs.FoldersLaws.{survey_of-short}
+use Rattle.sync_survey.proofs.ItemLists.{nearer, nearer_frame, ends-stream, items-length, kept_items}
+use Rattle.sync_survey.proofs.HeadSame.{nearer_head}
+use Rattle.sync_survey.proofs.SurveyParts.{frames_from, told_from, IsRead, surveyed-told, surveyed-parts, AreSound, all_faults-none_sound}
+use Rattle.edits.specs.declared.fault.EditFault.{EditFault}
+use Rattle.edits.specs.declared.gains.Stuck.{Stuck}
+use Rattle.edits.specs.declared.shift.Shift.{Shift}
+use Rattle.edits.specs.Gains.{moved_side, stuck_in}
+use Rattle.edits.specs.Edited.{moved_frame, moved_item, moved_items, moved_stream, edited, stuck_fault, range_fault, most_frames, gained}
+use Rattle.edits.specs.Streams.{moved_row, without_junk}
+use Rattle.edits.proofs.GainsBack.{opposite, GainsFit, IsSideBack, side_back}
+use Rattle.edits.proofs.MovedFrame.{whole_class, whole_room, frame_back}
+use Rattle.edits.proofs.EditedItems.{frame_whole, moved_own, moved-nil, moved-cons, IsMovedAt, AreMovedAt}
+use Rattle.edits.proofs.EditedRuns.{gap_of, moved_start, new_file, first_bytes, moved_first, front_low, stream_is, later_ends, items_bytes, front_stop, new-before, new-bytes, new-length, new-later, new-front, new-stream, new-head, near_own, first_frame, frames-moved}
+use Rattle.edits.proofs.MovedSurvey.{new-rows, new-read}
+use Rattle.edits.proofs.GainedStream.{gained-parts, gained-ok, survey_of-parts}
+
+-- ---- the gains of a frame
+
+gain_fits : (c : ClassFields) (has : Bool) (g : Granule) → MatchBool has (GranuleFits c.version g) (g ≡ no_granule) → g.global_gain < 256
+gain_fits c true g fits = omega (arith, fits.global_gain)
+gain_fits c false g none = omega (arith, ap (λ (h : Granule). h.global_gain) none)
+
+gains_fit : (c : ClassFields) (s : Side) → SideFits c s → GainsFit s
+gains_fit c s fits = record {
+  first = gain_fits c (has_granule c 0 0) (granule_in s 0 0) (fits.granules 0 0);
+  second = gain_fits c (has_granule c 0 1) (granule_in s 0 1) (fits.granules 0 1);
+  third = gain_fits c (has_granule c 1 0) (granule_in s 1 0) (fits.granules 1 0);
+  fourth = gain_fits c (has_granule c 1 1) (granule_in s 1 1) (fits.granules 1 1);
+}
+
+-- ---- frames whose gains can be moved back
+
+-- the check word is right, and the opposite steps give the side information back
+record IsBack (shift : Shift) (file : List ℕ) (p : PlacedFrame) : Type 0 where
+  right : IsRight p.header (frame_bytes file p)
+  sides : IsSideBack shift (side_in p.header (frame_bytes file p))
+  same : side_in p.header (frame_bytes file p) ≡ side_in p.header (drop p.offset file)
+
+abbrev AreBack : Shift → List ℕ → List PlacedFrame → Type 0
+AreBack shift file [] = Unit {0}
+AreBack shift file (p ∷ ps) = IsBack shift file p × AreBack shift file ps
+
+right_cases : (b : Bool) (said right : ℕ) → (b && not (said == right)) ≡ false → b ≡ true → said ≡ right
+right_cases true said right e is = eqb-true said right (not_cases (said == right) e)
+  where
+    not_cases : (x : Bool) → not x ≡ false → x ≡ true
+    not_cases true h = refl
+    not_cases false h = absurd cc
+right_cases false said right e is = absurd cc
+
+is_back : (shift : Shift) (file new : List ℕ) (gap : ℕ) (p : PlacedFrame) → shift.wrap ≡ false → IsMovedAt shift file new gap p → has_wrong_word file (row_of file p) ≡ false → stuck_in shift (row_of file p).side ≡ None → IsBack shift file p
+is_back shift file new gap p strict at word free =
+    let h = p.header in
+    let frame = frame_bytes file p in
+    let size = length_of (class_of h) h.slot in
+    let bytes = drop p.offset file in
+    let room = whole_room h frame at.whole in
+    let same : side_in h frame ≡ side_in h bytes = side_in-take h size bytes (omega (arith, room.0, at.whole.size)) in
+    record {
+      right = λ protected.
+          word_said-take size bytes (omega (arith, room.1, at.whole.size))
+          ∙ right_cases h.protected (word_said bytes) (check_word_of h (side_in h bytes)) word protected
+          ∙ ap (check_word_of h) (sym same);
+      sides = side_back shift strict (side_in h frame) (shaped-side_in h frame) (gains_fit (class_of h) (side_in h frame) (fits-side_in h frame (whole_class h frame at.whole))) (ap (stuck_in shift) same ∙ free);
+      same = same;
+    }
+
+range-cons : (shift : Shift) (r : Row) (rows : List Row) → range_fault shift (r ∷ rows) ≡ stuck_fault r.offset (stuck_in shift r.side) (range_fault shift rows)
+unfolding range_fault
+range-cons shift r rows = refl
+
+range-nil : (shift : Shift) → range_fault shift [] ≡ None
+unfolding range_fault
+range-nil shift = refl
+
+stuck_none : (at : ℕ) (s : Option Stuck) (later : Option EditFault) → stuck_fault at s later ≡ None → (s ≡ None) × (later ≡ None)
+stuck_none at (Some s) later e = absurd cc
+stuck_none at None later e = (refl, e)
+
+none_stuck : (at : ℕ) (s : Option Stuck) (later : Option EditFault) → s ≡ None → later ≡ None → stuck_fault at s later ≡ None
+none_stuck at s later e rest = ap (λ x. stuck_fault at x later) e ∙ rest
+
+all_back : (shift : Shift) (file new : List ℕ) (gap : ℕ) (o : Option Head) (class : ClassFields) (allowed : ℕ) (earlier : List Row) (ps : List PlacedFrame) → shift.wrap ≡ false → AreMovedAt shift file new gap ps
+    → AreSound file o class allowed earlier (rows_of file ps) → range_fault shift (rows_of file ps) ≡ None → AreBack shift file ps
+all_back shift file new gap o class allowed earlier [] strict at sound free = tt
+all_back shift file new gap o class allowed earlier (p ∷ ps) strict at sound free =
+    let parts = stuck_none p.offset (stuck_in shift (row_of file p).side) (range_fault shift (rows_of file ps)) (sym (range-cons shift (row_of file p) (rows_of file ps)) ∙ free) in
+    (is_back shift file new gap p strict at.0 sound.0.word parts.0, all_back shift file new gap o class allowed (row_of file p ∷ earlier) ps strict at.1 sound.1 parts.1)
+
+-- no gain leaves its range on the way back
+free_back : (shift : Shift) (file : List ℕ) (gap : ℕ) (ps : List PlacedFrame) → AreBack shift file ps → range_fault (opposite shift) (map (moved_row shift gap) (rows_of file ps)) ≡ None
+free_back shift file gap [] back = range-nil (opposite shift)
+free_back shift file gap (p ∷ ps) back =
+    let row = row_of file p in
+    let later = map (moved_row shift gap) (rows_of file ps) in
+    range-cons (opposite shift) (moved_row shift gap row) later
+    ∙ none_stuck (p.offset - gap) (stuck_in (opposite shift) (moved_side shift row.side)) (range_fault (opposite shift) later)
+    (ap (λ s. stuck_in (opposite shift) (moved_side shift s)) (sym back.0.same) ∙ back.0.sides.free)
+    (free_back shift file gap ps back.1)
+
+-- ---- the items back
+
+item_back : (shift : Shift) (file : List ℕ) (at : ℕ) (item : Item) (frames : List PlacedFrame) → AreBytes file → item_at file at ≡ item → at + size_of item ≤ length file → AreBack shift file (cons_option (frame_as at item) frames)
+    → (moved_item (opposite shift) item (moved_item shift item (take (size_of item) (drop at file))) ≡ take (size_of item) (drop at file)) × AreBack shift file frames
+item_back shift file at (Frame h) frames all is within back =
+    (frame_back shift h (take (size_of (Frame h)) (drop at file)) (frame_whole file at h all is within) back.0.right back.0.sides, back.1)
+item_back shift file at Free frames all is within back = (refl, back)
+item_back shift file at (Block b) frames all is within back = (refl, back)
+item_back shift file at Zero frames all is within back = (refl, back)
+item_back shift file at End frames all is within back = (refl, back)
+item_back shift file at Nothing frames all is within back = (refl, back)
+
+items_back : (shift : Shift) (file new : List ℕ) (gap from at : ℕ) (ps : List Placed) (to : ℕ) (behind : List ℕ) → AreBytes file → AreEndToEnd Stream file from ps to → from ≡ at + gap
+    → drop at new ≡ moved_items shift file ps ++ behind → AreBack shift file (frames_of ps) → moved_items (opposite shift) new (map (nearer gap) ps) ≡ bytes_of file ps
+items_back shift file new gap from at [] to behind all ends there is back = moved-nil (opposite shift) new
+items_back shift file new gap from at (p ∷ ps) to behind all ends there is back =
+    let size = size_of p.item in
+    let own = moved_item shift p.item (bytes_in file p) in
+    let rest = moved_items shift file ps ++ behind in
+    let place : p.offset - gap ≡ at = omega (arith, ends.0, there) in
+    let stood = item_of-is Stream file p.offset p.item ends.1 in
+    let long : length own ≡ size = (moved_own shift file p.offset p.item all stood.is stood.belongs stood.within).size in
+    let stands : drop (p.offset - gap) new ≡ own ++ rest =
+    ap (λ n. drop n new) place ∙ is ∙ ap (λ (l : List ℕ). l ++ behind) (moved-cons shift file p ps) ∙ append_assoc own (moved_items shift file ps) behind in
+    let next : drop (p.offset - gap + size) new ≡ rest = sym (drop-drop size (p.offset - gap) new) ∙ ap (drop size) stands ∙ drop_at own rest size long in
+    let taken : bytes_in new (nearer gap p) ≡ own = ap (take size) stands ∙ take_at own rest size long in
+    let here = item_back shift file p.offset p.item (frames_of ps) all stood.is stood.within back in
+    moved-cons (opposite shift) new (nearer gap p) (map (nearer gap) ps)
+    ∙ ap₂ (λ (a b : List ℕ). a ++ b) (ap (moved_item (opposite shift) p.item) taken ∙ here.0)
+    (items_back shift file new gap (p.offset + size) (p.offset - gap + size) ps to behind all ends.2 (omega (arith, place, ends.0, there)) next here.1)
+
+-- blocks and zero bytes at the front of a file are its front
+front_bytes : (file : List ℕ) → AreBytes file → bytes_of file (run Front file 0).items ≡ take (run Front file 0).stop file
+front_bytes file all =
+    let front = run Front file 0 in
+    let bytes = bytes_of file front.items in
+    let ends = run-ends Front file 0 in
+    let long = items-length Front file 0 front.items front.stop bytes ends (kept_items file 0 front.items front.stop all (ends-stream Front file 0 front.items front.stop ends)) in
+    sym (ap (take front.stop) (sym (bytes-ends Front file 0 front.items front.stop ends)) ∙ take_at bytes (drop front.stop file) front.stop (omega (arith, long)))
+
+-- ---- the file back
+
+module _ (shift : Shift) (file : List ℕ) (allowed : ℕ) (start : Start) (all : AreBytes file) (read : IsRead file allowed start) (strict : shift.wrap ≡ false) (free : range_fault shift (rows_of file (frames_from file start)) ≡ None) where
+  abbrev new : List ℕ
+  new = new_file shift file allowed start all read
+
+  abbrev gap : ℕ
+  gap = gap_of start
+
+  abbrev h : HeaderFields
+  h = start.first.header
+
+  abbrev head : Option Head
+  head = head_of file start.first
+
+  abbrev later : Run
+  later = run Stream file (start.first.offset + size_of (Frame h))
+
+  abbrev nearer_first : PlacedFrame
+  nearer_first = nearer_frame gap start.first
+
+  back : AreBack shift file (frames_from file start)
+  back =
+      all_back shift file new gap head (class_from start) allowed [] (frames_from file start) strict (frames-moved shift file allowed start all read)
+      (all_faults-none_sound file head (class_from start) allowed [] (rows_of file (frames_from file start)) read.frames) free
+
+  numbered_back : AreBack shift file (numbered head (start.first ∷ frames_of later.items))
+  numbered_back = subst (λ (r : Run). AreBack shift file (numbered head (frames_of r.items))) (stream_is shift file allowed start all read) back
+
+  later_by : (o : Option Head) → AreBack shift file (numbered o (start.first ∷ frames_of later.items)) → AreBack shift file (frames_of later.items)
+  later_by None all_are = all_are.1
+  later_by (Some found) all_are = all_are
+
+  first_by : (o : Option Head) → frame_bytes new nearer_first ≡ first_bytes shift file start.first o → AreBack shift file (numbered o (start.first ∷ frames_of later.items))
+      → first_bytes (opposite shift) new nearer_first (option_map (nearer_head gap) o) ≡ frame_bytes file start.first
+  first_by None is all_are = ap (moved_frame (opposite shift) h) is ∙ frame_back shift h (frame_bytes file start.first) (first_frame shift file allowed start all read) all_are.0.right all_are.0.sides
+  first_by (Some found) is all_are = is
+
+  stream_back : moved_stream (opposite shift) new (head_of new (moved_start start).first) (run Stream new start.front_end).items ≡ drop start.first.offset file
+  stream_back =
+      let low = front_low shift file allowed start all read in
+      ap₂ (λ (o : Option Head) (r : Run). moved_stream (opposite shift) new o r.items) (new-head shift file allowed start all read) (new-stream shift file allowed start all read)
+      ∙ moved_first (opposite shift) new nearer_first (map (nearer gap) later.items) (option_map (nearer_head gap) head)
+      ∙ ap₂ (λ (a b : List ℕ). a ++ b) (first_by head (near_own shift file allowed start all read) numbered_back)
+      (items_back shift file new gap (start.first.offset + size_of (Frame h)) (start.front_end + size_of (Frame h)) later.items later.stop [] all (later_ends shift file allowed start all read)
+      (omega (arith, low)) (new-later shift file allowed start all read) (later_by head numbered_back))
+      ∙ items_bytes shift file allowed start all read
+
+  front_back : bytes_of new (run Front new 0).items ≡ take start.front_end file
+  front_back =
+      let stop : (run Front new 0).stop ≡ start.front_end = ap (λ (r : Run). r.stop) (new-front shift file allowed start all read) in
+      front_bytes new (new-bytes shift file allowed start all read)
+      ∙ ap (λ n. take n new) stop
+      ∙ new-before shift file allowed start all read
+      ∙ front_bytes file all
+      ∙ ap (λ n. take n file) (front_stop shift file allowed start all read)
+
+  bytes_back : edited (opposite shift) new (told_from new (moved_start start)) ≡ take start.front_end file ++ drop start.first.offset file
+  unfolding edited
+  bytes_back = ap₂ (λ (a b : List ℕ). a ++ b) front_back stream_back
+
+  gained_back : allowed ≡ most_frames → length file ≤ longest_file → gained (opposite shift) new ≡ Ok (take start.front_end file ++ drop start.first.offset file)
+  gained_back same few =
+      let short : length new ≤ longest_file = omega (arith, few, new-length shift file allowed start all read) in
+      let read_new : IsRead new most_frames (moved_start start) = subst (λ n. IsRead new n (moved_start start)) same (new-read shift file allowed start all read) in
+      gained-ok (opposite shift) new (told_from new (moved_start start))
+      (survey_of-short new most_frames short ∙ surveyed-told new most_frames (moved_start start) read_new)
+      (ap (range_fault (opposite shift)) (new-rows shift file allowed start all read) ∙ free_back shift file gap (frames_from file start) back)
+      ∙ ap Ok bytes_back
+
+survey_back : (shift : Shift) (file : List ℕ) (s : SurveyFields) → shift.wrap ≡ false → AreBytes file → survey_of file most_frames ≡ Ok s → range_fault shift s.frames ≡ None → gained (opposite shift) (edited shift file s) ≡ Ok (without_junk s file)
+survey_back shift file s strict all is free =
+    let short = survey_of-parts file most_frames s is in
+    let parts = surveyed-parts file most_frames s short.1 in
+    subst (λ t. range_fault shift t.frames ≡ None → gained (opposite shift) (edited shift file t) ≡ Ok (without_junk t file)) parts.2
+    (λ told_free. gained_back shift file most_frames parts.0 all parts.1 strict told_free refl short.0) free
+
+ok_same : (s t : SurveyFields) (r : Result SurveyFields SurveyFault) → r ≡ Ok s → r ≡ Ok t → s ≡ t
+ok_same s t r e f = cc
+
+-- What a change of gains without wrap makes of a file, the opposite change makes the file again, but for the junk before its first frame.
+pub undone : (shift : Shift) (file new : List ℕ) (s : SurveyFields) → shift.wrap ≡ false → AreBytes file → survey_of file most_frames ≡ Ok s → gained shift file ≡ Ok new → gained (opposite shift) new ≡ Ok (without_junk s file)
+undone shift file new s strict all is e =
+    let parts = gained-parts shift file new e in
+    let same : parts.survey ≡ s = ok_same parts.survey s (survey_of file most_frames) parts.is is in
+    ap (gained (opposite shift)) (sym parts.bytes)
+    ∙ survey_back shift file parts.survey strict all parts.is parts.free
+    ∙ ap (λ t. Ok (without_junk t file)) same
+
+-- and so, where there is no junk, the file itself
+pub undone_same : (shift : Shift) (file new : List ℕ) (s : SurveyFields) → shift.wrap ≡ false → AreBytes file → survey_of file most_frames ≡ Ok s → s.junk ≡ s.first → gained shift file ≡ Ok new → gained (opposite shift) new ≡ Ok file
+undone_same shift file new s strict all is none e =
+    undone shift file new s strict all is e
+    ∙ ap Ok (ap (λ n. take s.junk file ++ drop n file) (sym none) ∙ take-append-drop s.junk file)

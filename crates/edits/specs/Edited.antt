@@ -1,0 +1,105 @@
+-- The file that a gain command writes.
+use Rattle.std.specs.Prelude.{ℕ, ◌+◌, ◌≤◌, List, [], ◌∷◌, ◌++◌, length, take, drop, Option, Some, None, Result, Ok, Err, bytes_eq, if◌then◌else◌, flat_map}
+use Rattle.frame_header.specs.Fields.{HeaderFields}
+use Rattle.frame_header.specs.Tables.{class_of, overhead_of}
+use Rattle.side_info.specs.Side.{SideFits}
+use Rattle.side_info.specs.Frame.{side_in, frame_with}
+use Rattle.outside.specs.Files.{Contents}
+use Rattle.sync_survey.specs.declared.items.Item.{Item}
+use Rattle.sync_survey.specs.declared.items.Item.TheVariants.{Frame, Free, Block, Zero, End, Nothing}
+use Rattle.sync_survey.specs.declared.places.Head.{Head}
+use Rattle.sync_survey.specs.declared.rows.Row.{Row}
+use Rattle.sync_survey.specs.declared.runs.Part.TheVariants.{Front, Stream}
+use Rattle.sync_survey.specs.declared.survey_fault.SurveyFault.{SurveyFault}
+use Rattle.sync_survey.specs.declared.survey_fault.SurveyFault.TheVariants.{Absent}
+use Rattle.sync_survey.specs.Runs.{Placed, run, bytes_in, bytes_of}
+use Rattle.sync_survey.specs.Faults.{SurveyFields}
+use Rattle.sync_survey.specs.Survey.{survey_of}
+use Rattle.edits.specs.declared.fault.EditFault.{EditFault}
+use Rattle.edits.specs.declared.fault.EditFault.TheVariants.{EqualNames, Input, GainRange}
+use Rattle.edits.specs.declared.gains.Stuck.{Stuck}
+use Rattle.edits.specs.declared.shift.Shift.{Shift}
+use Rattle.edits.specs.Gains.{moved_side, stuck_in}
+
+-- ---- the bytes
+
+-- a frame with this header and moved gains: the check word of a protected frame is right for them, and all other bytes stay
+abbrev pub moved_frame : Shift → HeaderFields → List ℕ → List ℕ
+moved_frame shift h frame = frame_with h (moved_side shift (side_in h frame)) frame
+
+-- the bytes of an item, where a frame has moved gains and all else stays
+abbrev pub moved_item : Shift → Item → List ℕ → List ℕ
+moved_item shift (Frame h) bytes = moved_frame shift h bytes
+moved_item shift Free bytes = bytes
+moved_item shift (Block b) bytes = bytes
+moved_item shift Zero bytes = bytes
+moved_item shift End bytes = bytes
+moved_item shift Nothing bytes = bytes
+
+-- the same of items of a file, one behind the other
+unfoldable pub moved_items : Shift → List ℕ → List Placed → List ℕ
+moved_items shift file ps = flat_map (λ (p : Placed). moved_item shift p.item (bytes_in file p)) ps
+
+-- the items from the first frame on; a head is the first of them, and stays
+abbrev pub moved_stream : Shift → List ℕ → Option Head → List Placed → List ℕ
+moved_stream shift file None ps = moved_items shift file ps
+moved_stream shift file (Some head) ps = bytes_of file (take 1 ps) ++ moved_items shift file (drop 1 ps)
+
+-- all items of a file in their order, with the gains of its frames moved; junk is dropped
+unfoldable pub edited : Shift → List ℕ → SurveyFields → List ℕ
+edited shift file s = bytes_of file (run Front file 0).items ++ moved_stream shift file s.head (run Stream file s.first).items
+
+-- the frame is in these bytes, up to its area at least, and its side fields are within their bits
+pub record IsInBytes (bytes : List ℕ) (row : Row) : Type 0 where
+  pub room : row.offset + overhead_of (class_of row.header) row.header.protected ≤ length bytes
+  pub fits : SideFits (class_of row.header) row.side
+
+abbrev pub AreInBytes : List ℕ → List Row → Type 0
+AreInBytes bytes [] = Unit {0}
+AreInBytes bytes (row ∷ rows) = IsInBytes bytes row × AreInBytes bytes rows
+
+-- the bytes of a file with the gains of these frames moved where they stand
+unfoldable pub with_rows : Shift → List Row → List ℕ → List ℕ
+with_rows shift [] bytes = bytes
+with_rows shift (row ∷ rows) bytes =
+    with_rows shift rows (take row.offset bytes ++ frame_with row.header (moved_side shift row.side) (drop row.offset bytes))
+
+-- ---- the range
+
+-- where the gain stands in the file
+abbrev pub stuck_fault : ℕ → Option Stuck → Option EditFault → Option EditFault
+stuck_fault offset (Some stuck) later = Some (GainRange offset stuck.granule stuck.channel stuck.gain)
+stuck_fault offset None later = later
+
+-- the first gain of these frames that would leave the range
+unfoldable pub range_fault : Shift → List Row → Option EditFault
+range_fault shift [] = None
+range_fault shift (row ∷ rows) = stuck_fault row.offset (stuck_in shift row.side) (range_fault shift rows)
+
+-- ---- the command
+
+-- an input may have so many frames
+abbrev pub most_frames : ℕ
+most_frames = 2900000
+
+abbrev pub unless : {A : Type 0} → Option EditFault → A → Result A EditFault
+unless (Some fault) a = Err fault
+unless None a = Ok a
+
+abbrev pub gained_by : Shift → List ℕ → Result SurveyFields SurveyFault → Result (List ℕ) EditFault
+gained_by shift file (Err fault) = Err (Input 0 fault)
+gained_by shift file (Ok s) = unless (range_fault shift s.frames) (edited shift file s)
+
+-- what a file becomes, or why it is refused: it is at fault, or else a gain would leave the range
+unfoldable pub gained : Shift → List ℕ → Result (List ℕ) EditFault
+gained shift file = gained_by shift file (survey_of file most_frames)
+
+abbrev pub gained_where : Shift → Option (List ℕ) → Result (List ℕ) EditFault
+gained_where shift None = Err (Input 0 Absent)
+gained_where shift (Some file) = gained shift file
+
+-- what a gain command writes, or why it is refused: the output has the input's name, or else the input isn't there, or
+-- else it is refused itself
+unfoldable pub gain_result : Shift → List ℕ → List ℕ → Contents → Result (List ℕ) EditFault
+gain_result shift input output files =
+    if bytes_eq input output then Err (EqualNames 0) else gained_where shift (files input)

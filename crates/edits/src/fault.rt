@@ -1,0 +1,52 @@
+//! Why a job was not done.
+
+ghost use Rattle.std.specs.Prelude.{◌≡◌};
+ghost use Rattle.edits.specs.declared.fault.EditFault.TheVariants.{Memory};
+ghost use Rattle.edits.specs.Kinds.{of_input};
+
+use std::alloc::{AllocError, AllocFailed};
+use sync_survey::SurveyFault;
+
+/// Why a job was not done.
+#[derive(Clone, Copy, Debug, PartialEq, Eq)]
+pub enum EditFault {
+    /// The output's name is that of this input, counted from 0.
+    EqualNames(u32),
+    /// This input, counted from 0, isn't there, can't be read, or is at fault. Never `Memory`.
+    Input(u32, SurveyFault),
+    /// A gain would leave the range from 0 to 255: the offset of its frame in bytes, its granule, its
+    /// channel, and the gain that stands there.
+    GainRange(u64, u8, u8, u8),
+    /// This output, counted from 0, could not be written.
+    Write(u32),
+    /// There was no memory left.
+    Memory,
+}
+
+impl From<AllocError> for EditFault {
+    ghost from_gives = { λ _ e. e ≡ Memory };
+
+    fn from(_: AllocError) -> EditFault {
+        EditFault::Memory
+    }
+}
+
+impl<T: Drop> From<AllocFailed<T>> for EditFault {
+    ghost from_gives = { λ _ e. e ≡ Memory };
+
+    fn from(_: AllocFailed<T>) -> EditFault {
+        EditFault::Memory
+    }
+}
+
+/// The fault of the one input of a command; want of memory stands alone.
+impl From<SurveyFault> for EditFault {
+    ghost from_gives = { λ fault e. e ≡ of_input fault };
+
+    fn from(fault: SurveyFault) -> EditFault {
+        match fault {
+            SurveyFault::Memory => EditFault::Memory,
+            _ => EditFault::Input(0, fault),
+        }
+    }
+}

@@ -1,0 +1,13 @@
+//! The commands: from the files of a folder they make new ones, or are refused.
+#![tactic(auto)]
+
+mod edit;
+mod fault;
+mod gain_file;
+mod gains;
+mod shift;
+
+pub use fault::EditFault;
+pub use gain_file::gain;
+pub use gains::Stuck;
+pub use shift::{Channels, Shift};
