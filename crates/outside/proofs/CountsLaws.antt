@@ -32,7 +32,7 @@ pub none_fell_by_reads : (a b : Counts) → OnlyReads a b → NoneFell a b
 none_fell_by_reads a b p = record { misses = p.misses; ends = p.ends; read_faults = p.read_faults; write_faults = omega arith }
 
 pub none_fell_by_writes : (a b : Counts) → OnlyWrites a b → NoneFell a b
-none_fell_by_writes a b p = record { misses = p.misses; ends = p.ends; read_faults = omega arith; write_faults = p.write_faults }
+none_fell_by_writes a b p = record { misses = p.misses; ends = omega arith; read_faults = omega arith; write_faults = p.write_faults }
 
 pub nothing_failed_same : (a : Counts) → NothingFailed a a
 nothing_failed_same a = record { misses = refl; read_faults = refl; write_faults = refl }

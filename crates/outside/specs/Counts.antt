@@ -33,7 +33,7 @@ pub record OnlyReads (old new : Counts) : Type 0 where
 -- what a call that only writes does to the counts
 pub record OnlyWrites (old new : Counts) : Type 0 where
   pub misses : old.misses ≤ new.misses
-  pub ends : old.ends ≤ new.ends
+  pub ends : new.ends ≡ old.ends
   pub read_faults : new.read_faults ≡ old.read_faults
   pub write_faults : old.write_faults ≤ new.write_faults
 

@@ -181,9 +181,9 @@ where
         ensures absent { IsErrOf result FindFault.Absent → Rose (disk_counts self.old).misses (disk_counts self.new).misses }
         ensures failed { IsErrOf result FindFault.Failed → Rose (disk_counts self.old).read_faults (disk_counts self.new).read_faults }
         ensures files { untold ≡ untold }
-        ensures done { OnOk result (NothingFailed (disk_counts self.old) (disk_counts self.new)) }
+        ensures ends { (disk_counts self.new).ends ≡ (disk_counts self.old).ends }
+        ensures done { OnOk result (disk_counts self.new ≡ disk_counts self.old) }
         ensures counts { OnlyReads (disk_counts self.old) (disk_counts self.new) }
-        ensures found_counts { OnOk result (disk_counts self.new ≡ disk_counts self.old) }
         ensures absent_counts { IsErrOf result FindFault.Absent → disk_counts self.new ≡ with_miss (disk_counts self.old) }
         ensures failed_counts { IsErrOf result FindFault.Failed → disk_counts self.new ≡ with_read_fault (disk_counts self.old) }
     {
@@ -213,6 +213,7 @@ where
         ensures ended { IfOk result (λ k. k ≡ 0 → 0 < length into.old → Rose (disk_counts self.old).ends (disk_counts self.new).ends) }
         ensures failed { OnErr result (Rose (disk_counts self.old).read_faults (disk_counts self.new).read_faults) }
         ensures files { untold ≡ untold }
+        ensures got { IfOk result (λ k. (0 < k) ⊎ (length into.old ≡ 0) → disk_counts self.new ≡ disk_counts self.old) }
         ensures done { OnOk result (NothingFailed (disk_counts self.old) (disk_counts self.new)) }
         ensures counts { OnlyReads (disk_counts self.old) (disk_counts self.new) }
         ensures read_counts { IfOk result (λ k. disk_counts self.new ≡ (if k == 0 && nat_lt 0 (length into.old) then with_end (disk_counts self.old) else disk_counts self.old)) }
@@ -235,9 +236,8 @@ where
         ensures created { OnOk result (untold ≡ emptied untold name.now) }
         ensures kept { OnErr result (untold ≡ untold) }
         ensures failed { OnErr result (Rose (disk_counts self.old).write_faults (disk_counts self.new).write_faults) }
-        ensures done { OnOk result (NothingFailed (disk_counts self.old) (disk_counts self.new)) }
+        ensures done { OnOk result (disk_counts self.new ≡ disk_counts self.old) }
         ensures counts { OnlyWrites (disk_counts self.old) (disk_counts self.new) }
-        ensures created_counts { OnOk result (disk_counts self.new ≡ disk_counts self.old) }
         ensures failed_counts { OnErr result (disk_counts self.new ≡ with_write_fault (disk_counts self.old)) }
     {
         if self.make_empty(name).is_err() {
@@ -258,9 +258,8 @@ where
         ensures written { IfOk result (λ k. untold ≡ appended untold name.now (take k bytes.now)) }
         ensures kept { OnErr result (untold ≡ untold) }
         ensures failed { OnErr result (Rose (disk_counts self.old).write_faults (disk_counts self.new).write_faults) }
-        ensures done { OnOk result (NothingFailed (disk_counts self.old) (disk_counts self.new)) }
+        ensures done { OnOk result (disk_counts self.new ≡ disk_counts self.old) }
         ensures counts { OnlyWrites (disk_counts self.old) (disk_counts self.new) }
-        ensures written_counts { OnOk result (disk_counts self.new ≡ disk_counts self.old) }
         ensures failed_counts { OnErr result (disk_counts self.new ≡ with_write_fault (disk_counts self.old)) }
     {
         match self.append(name, bytes) {

@@ -81,7 +81,8 @@ pub trait Folder {
         ensures absent { IsErrOf result FindFault.Absent → Rose (counts self.old).misses (counts self.new).misses }
         ensures failed { IsErrOf result FindFault.Failed → Rose (counts self.old).read_faults (counts self.new).read_faults }
         ensures files { files self.new ≡ files self.old }
-        ensures done { OnOk result (NothingFailed (counts self.old) (counts self.new)) }
+        ensures ends { (counts self.new).ends ≡ (counts self.old).ends }
+        ensures done { OnOk result (counts self.new ≡ counts self.old) }
         ensures counts { OnlyReads (counts self.old) (counts self.new) };
 
     /// Puts bytes of the file, from the place `at` on, at the front of `into`, and answers how many: none
@@ -99,6 +100,7 @@ pub trait Folder {
         ensures ended { IfOk result (λ k. k ≡ 0 → 0 < length into.old → Rose (counts self.old).ends (counts self.new).ends) }
         ensures failed { OnErr result (Rose (counts self.old).read_faults (counts self.new).read_faults) }
         ensures files { files self.new ≡ files self.old }
+        ensures got { IfOk result (λ k. (0 < k) ⊎ (length into.old ≡ 0) → counts self.new ≡ counts self.old) }
         ensures done { OnOk result (NothingFailed (counts self.old) (counts self.new)) }
         ensures counts { OnlyReads (counts self.old) (counts self.new) };
 
@@ -110,7 +112,7 @@ pub trait Folder {
         ensures created { OnOk result (files self.new ≡ emptied (files self.old) name.now) }
         ensures kept { OnErr result (files self.new ≡ files self.old) }
         ensures failed { OnErr result (Rose (counts self.old).write_faults (counts self.new).write_faults) }
-        ensures done { OnOk result (NothingFailed (counts self.old) (counts self.new)) }
+        ensures done { OnOk result (counts self.new ≡ counts self.old) }
         ensures counts { OnlyWrites (counts self.old) (counts self.new) };
 
     /// Appends a front of the bytes to the file, and answers how many: at least one where there are any.
@@ -125,6 +127,6 @@ pub trait Folder {
         ensures written { IfOk result (λ k. files self.new ≡ appended (files self.old) name.now (take k bytes.now)) }
         ensures kept { OnErr result (files self.new ≡ files self.old) }
         ensures failed { OnErr result (Rose (counts self.old).write_faults (counts self.new).write_faults) }
-        ensures done { OnOk result (NothingFailed (counts self.old) (counts self.new)) }
+        ensures done { OnOk result (counts self.new ≡ counts self.old) }
         ensures counts { OnlyWrites (counts self.old) (counts self.new) };
 }

@@ -15,7 +15,7 @@ pub fn write_all<D: Folder>(folder: &mut D, name: &str, bytes: &[u8]) -> Result<
     ensures written { OnOk result (D.files folder.new ≡ appended (D.files folder.old) name.now bytes.now) }
     ensures front { OnErr result ((k : ℕ) × (k ≤ length bytes.now) × (D.files folder.new ≡ appended (D.files folder.old) name.now (take k bytes.now))) }
     ensures failed { OnErr result (Rose (D.counts folder.old).write_faults (D.counts folder.new).write_faults) }
-    ensures done { OnOk result (NothingFailed (D.counts folder.old) (D.counts folder.new)) }
+    ensures done { OnOk result (D.counts folder.new ≡ D.counts folder.old) }
     ensures counts { OnlyWrites (D.counts folder.old) (D.counts folder.new) }
 {
     let mut done = 0;
@@ -61,6 +61,7 @@ pub fn read_full<D: Folder>(
     ensures ended { IfOk result (λ k. k < length into.old → Rose (D.counts folder.old).ends (D.counts folder.new).ends) }
     ensures failed { OnErr result (Rose (D.counts folder.old).read_faults (D.counts folder.new).read_faults) }
     ensures files { D.files folder.new ≡ D.files folder.old }
+    ensures filled { IfOk result (λ k. k ≡ length into.old → D.counts folder.new ≡ D.counts folder.old) }
     ensures done { OnOk result (NothingFailed (D.counts folder.old) (D.counts folder.new)) }
     ensures counts { OnlyReads (D.counts folder.old) (D.counts folder.new) }
 {

@@ -135,11 +135,11 @@ impl Folder for MemFolder {
         ensures absent { IsErrOf result FindFault.Absent → Rose (counts_of self.old).misses (counts_of self.new).misses }
         ensures failed { IsErrOf result FindFault.Failed → Rose (counts_of self.old).read_faults (counts_of self.new).read_faults }
         ensures files { Some (contents_of self.new) ≡ Some (contents_of self.old) }
-        ensures done { OnOk result (NothingFailed (counts_of self.old) (counts_of self.new)) }
+        ensures ends { (counts_of self.new).ends ≡ (counts_of self.old).ends }
+        ensures done { OnOk result (counts_of self.new ≡ counts_of self.old) }
         ensures counts { OnlyReads (counts_of self.old) (counts_of self.new) }
         ensures exact { result ≡ find_answer self.old name.now }
         ensures called { Called self.old self.new Call.Find }
-        ensures found_counts { OnOk result (counts_of self.new ≡ counts_of self.old) }
         ensures absent_counts { IsErrOf result FindFault.Absent → counts_of self.new ≡ with_miss (counts_of self.old) }
         ensures failed_counts { IsErrOf result FindFault.Failed → counts_of self.new ≡ with_read_fault (counts_of self.old) }
     {
@@ -166,6 +166,7 @@ impl Folder for MemFolder {
         ensures ended { IfOk result (λ k. k ≡ 0 → 0 < length into.old → Rose (counts_of self.old).ends (counts_of self.new).ends) }
         ensures failed { OnErr result (Rose (counts_of self.old).read_faults (counts_of self.new).read_faults) }
         ensures files { Some (contents_of self.new) ≡ Some (contents_of self.old) }
+        ensures got { IfOk result (λ k. (0 < k) ⊎ (length into.old ≡ 0) → counts_of self.new ≡ counts_of self.old) }
         ensures done { OnOk result (NothingFailed (counts_of self.old) (counts_of self.new)) }
         ensures counts { OnlyReads (counts_of self.old) (counts_of self.new) }
         ensures fails { is_err result ≡ is_to_fail self.old Call.Read }
@@ -191,11 +192,10 @@ impl Folder for MemFolder {
         ensures created { OnOk result (Some (contents_of self.new) ≡ emptied (Some (contents_of self.old)) name.now) }
         ensures kept { OnErr result (Some (contents_of self.new) ≡ Some (contents_of self.old)) }
         ensures failed { OnErr result (Rose (counts_of self.old).write_faults (counts_of self.new).write_faults) }
-        ensures done { OnOk result (NothingFailed (counts_of self.old) (counts_of self.new)) }
+        ensures done { OnOk result (counts_of self.new ≡ counts_of self.old) }
         ensures counts { OnlyWrites (counts_of self.old) (counts_of self.new) }
         ensures fails { is_err result ≡ create_fails self.old name.now }
         ensures called { Called self.old self.new Call.Create }
-        ensures created_counts { OnOk result (counts_of self.new ≡ counts_of self.old) }
         ensures failed_counts { OnErr result (counts_of self.new ≡ with_write_fault (counts_of self.old)) }
     {
         if self.creates.next_fails() || !self.slots.create(name) {
@@ -212,12 +212,11 @@ impl Folder for MemFolder {
         ensures written { IfOk result (λ k. Some (contents_of self.new) ≡ appended (Some (contents_of self.old)) name.now (take k bytes.now)) }
         ensures kept { OnErr result (Some (contents_of self.new) ≡ Some (contents_of self.old)) }
         ensures failed { OnErr result (Rose (counts_of self.old).write_faults (counts_of self.new).write_faults) }
-        ensures done { OnOk result (NothingFailed (counts_of self.old) (counts_of self.new)) }
+        ensures done { OnOk result (counts_of self.new ≡ counts_of self.old) }
         ensures counts { OnlyWrites (counts_of self.old) (counts_of self.new) }
         ensures fails { is_err result ≡ write_fails self.old name.now bytes.now }
         ensures whole { IfOk result (λ k. k ≡ length bytes.now) }
         ensures called { Called self.old self.new Call.Write }
-        ensures written_counts { OnOk result (counts_of self.new ≡ counts_of self.old) }
         ensures failed_counts { OnErr result (counts_of self.new ≡ with_write_fault (counts_of self.old)) }
     {
         if self.writes.next_fails() || !self.slots.append(name, bytes) {

@@ -1,7 +1,6 @@
-use Rattle.std.proofs.Common.{◌≡◌, ◌-◌, length, take, drop, sym, ◌∙◌, ap, subst, arith, length-drop}
+use Rattle.std.proofs.Common.{◌≡◌, ◌-◌, length, take, drop, sym, ◌∙◌, ap, subst, inl, arith, length-drop}
 use Rattle.std.proofs.lemmas.List.{drop-drop}
 use Rattle.outside.specs.Files.{Holds}
-use Rattle.outside.proofs.CountsLaws.{only_reads_then, nothing_failed_then}
 use Rattle.outside.proofs.Pieces.{part_from, length_refilled, take_refilled, drop_refilled}
 use Rattle.outside.proofs.helpers.read_full.Goals as goal
 
@@ -22,6 +21,5 @@ loop-done-preserved g c =
       within = λ bytes holds. omega (arith, invariant.within bytes holds, c.in_ok-got.ensures.within bytes (subst (λ f. Holds f c.args.name.now bytes) (sym invariant.files) holds));
       rest = drop_refilled m n xs ys invariant.in_range as_many c.args.into.now invariant.rest (rw part_from at c.in_ok-got.ensures.rest);
       files = c.in_ok-got.ensures.files ∙ invariant.files;
-      counts = only_reads_then _ _ _ invariant.counts c.in_ok-got.ensures.counts;
-      done = nothing_failed_then _ _ _ invariant.done c.in_ok-got.ensures.done;
+      counts = c.in_ok-got.ensures.got (inl (omega arith)) ∙ invariant.counts;
     }

@@ -1,6 +1,5 @@
 use Rattle.std.proofs.Common.{◌≡◌, ℕ, ◌-◌, ◌≤◌, List, length, take, drop}
 use Rattle.outside.specs.Files.{Holds}
-use Rattle.outside.specs.Counts.{OnlyReads, NothingFailed}
 use Rattle.outside.proofs.helpers.read_full.Given as goal
 
 abbrev pub invariant-loop-done : goal.invariant-loop-done
@@ -10,8 +9,7 @@ invariant-loop-done g l = record {
   within : (bytes : List ℕ) → Holds (g.D.Folder.files l.initial.folder) l.name bytes → l.done ≤ length bytes - l.at;
   rest : drop l.done l.into ≡ drop l.done l.initial.into;
   files : g.D.Folder.files l.folder ≡ g.D.Folder.files l.initial.folder;
-  counts : OnlyReads (g.D.Folder.counts l.initial.folder) (g.D.Folder.counts l.folder);
-  done : NothingFailed (g.D.Folder.counts l.initial.folder) (g.D.Folder.counts l.folder);
+  counts : g.D.Folder.counts l.folder ≡ g.D.Folder.counts l.initial.folder;
 }
 
 abbrev pub decreases-loop-done : goal.decreases-loop-done

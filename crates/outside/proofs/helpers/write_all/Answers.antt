@@ -1,7 +1,6 @@
-use Rattle.std.proofs.Common.{◌≡◌, ◌+◌, take, sym, subst, arith, length-drop}
+use Rattle.std.proofs.Common.{◌≡◌, ◌+◌, take, refl, sym, ◌∙◌, subst, arith, length-drop}
 use Rattle.outside.specs.Files.{appended, IsThere}
 use Rattle.outside.proofs.FilesLaws.{appended_nothing, appended_there}
-use Rattle.outside.proofs.CountsLaws.{only_writes_same, only_writes_then, nothing_failed_same, nothing_failed_then}
 use Rattle.outside.proofs.Pieces.{part_from, appended_then}
 use Rattle.outside.proofs.helpers.write_all.Goals as goal
 
@@ -10,8 +9,7 @@ loop-done-init g c = record {
   in_range = omega arith;
   written = sym (appended_nothing _ c.args.name.now c.requires);
   there = c.requires;
-  counts = only_writes_same _;
-  done = nothing_failed_same _;
+  counts = refl;
 }
 
 pub loop-done-preserved : goal.loop-done-preserved
@@ -25,6 +23,5 @@ loop-done-preserved g c =
       in_range = omega (arith, rw part_from at c.in_ok-done.ensures.bound, length-drop c.loop-done.done bytes);
       written = written;
       there = subst (λ f. IsThere f name) (sym written) (appended_there _ name _);
-      counts = only_writes_then _ _ _ c.loop-done.invariant.counts c.in_ok-done.ensures.counts;
-      done = nothing_failed_then _ _ _ c.loop-done.invariant.done c.in_ok-done.ensures.done;
+      counts = c.in_ok-done.ensures.done ∙ c.loop-done.invariant.counts;
     }

@@ -1,6 +1,5 @@
 use Rattle.std.proofs.Common.{◌≡◌, ◌-◌, ◌≤◌, length, take}
 use Rattle.outside.specs.Files.{appended, IsThere}
-use Rattle.outside.specs.Counts.{OnlyWrites, NothingFailed}
 use Rattle.outside.proofs.helpers.write_all.Given as goal
 
 abbrev pub invariant-loop-done : goal.invariant-loop-done
@@ -8,8 +7,7 @@ invariant-loop-done g l = record {
   in_range : l.done ≤ length l.bytes;
   written : g.D.Folder.files l.folder ≡ appended (g.D.Folder.files l.initial.folder) l.name (take l.done l.bytes);
   there : IsThere (g.D.Folder.files l.folder) l.name;
-  counts : OnlyWrites (g.D.Folder.counts l.initial.folder) (g.D.Folder.counts l.folder);
-  done : NothingFailed (g.D.Folder.counts l.initial.folder) (g.D.Folder.counts l.folder);
+  counts : g.D.Folder.counts l.folder ≡ g.D.Folder.counts l.initial.folder;
 }
 
 abbrev pub decreases-loop-done : goal.decreases-loop-done
