@@ -3,7 +3,7 @@ use Rattle.std.proofs.Common.{◌≡◌, ℕ, zero, suc, ◌+◌, ◌-◌, ◌*�
 use Rattle.std.proofs.Math.Nat.{add_comm, zero-add, suc-add, pow-suc, mod-one, add-mul}
 use Rattle.std.proofs.Math.Seq.{take-nil, take-append-add, drop-append-add}
 use Rattle.std.proofs.lemmas.List.{take_at, drop_at, length-take-le, drop_all, nil_from_length}
-use Rattle.std.specs.Int.{from_be_bytes, w32}
+use Rattle.std.specs.Int.{from_be_bytes, w32, w64}
 use mir.Val.{Fits}
 use mir.Syntax.{w8}
 use Rattle.std.proofs.lemmas.Nat.{pow-add, shr-shr, shr_split, mod-pow-add, shr_high, mul-add-lt}
@@ -315,3 +315,17 @@ number-bits-be_bytes xs l h = absurd (omega arith)
 pub bits-be_bytes : (xs : List ℕ) → length xs ≡ 4 → AreBytes xs → bits xs ≡ bits_of 32 (from_be_bytes w32 xs)
 bits-be_bytes xs l h =
     bits-bits_of xs ∙ ap₂ (λ k n. bits_of (8 * k) n) l (number-bits-be_bytes xs l h)
+
+-- ---- eight bytes as one big-endian number
+number-eight : (a b c d e f g h : ℕ) → AreBytes (a ∷ b ∷ c ∷ d ∷ e ∷ f ∷ g ∷ h ∷ []) → number (bits (a ∷ b ∷ c ∷ d ∷ e ∷ f ∷ g ∷ h ∷ [])) ≡ from_be_bytes w64 (a ∷ b ∷ c ∷ d ∷ e ∷ f ∷ g ∷ h ∷ [])
+number-eight a b c d e f g h all =
+    let four : number (bits (a ∷ b ∷ c ∷ d ∷ [])) ≡ from_be_bytes w32 (a ∷ b ∷ c ∷ d ∷ []) = number-four a b c d (all.0, (all.1.0, (all.1.1.0, (all.1.1.1.0, tt)))) in
+    let five : number (bits (a ∷ b ∷ c ∷ d ∷ e ∷ [])) ≡ number (bits (a ∷ b ∷ c ∷ d ∷ [])) * 256 + e = number-bits-push (a ∷ b ∷ c ∷ d ∷ []) e all.1.1.1.1.0 in
+    let six : number (bits (a ∷ b ∷ c ∷ d ∷ e ∷ f ∷ [])) ≡ number (bits (a ∷ b ∷ c ∷ d ∷ e ∷ [])) * 256 + f = number-bits-push (a ∷ b ∷ c ∷ d ∷ e ∷ []) f all.1.1.1.1.1.0 in
+    let seven : number (bits (a ∷ b ∷ c ∷ d ∷ e ∷ f ∷ g ∷ [])) ≡ number (bits (a ∷ b ∷ c ∷ d ∷ e ∷ f ∷ [])) * 256 + g = number-bits-push (a ∷ b ∷ c ∷ d ∷ e ∷ f ∷ []) g all.1.1.1.1.1.1.0 in
+    let eight : number (bits (a ∷ b ∷ c ∷ d ∷ e ∷ f ∷ g ∷ h ∷ [])) ≡ number (bits (a ∷ b ∷ c ∷ d ∷ e ∷ f ∷ g ∷ [])) * 256 + h = number-bits-push (a ∷ b ∷ c ∷ d ∷ e ∷ f ∷ g ∷ []) h all.1.1.1.1.1.1.1.0 in
+    omega arith
+
+pub number-bits-be_bytes_8 : (xs : List ℕ) → length xs ≡ 8 → AreBytes xs → number (bits xs) ≡ from_be_bytes w64 xs
+number-bits-be_bytes_8 (a ∷ b ∷ c ∷ d ∷ e ∷ f ∷ g ∷ h ∷ []) l all = number-eight a b c d e f g h all
+number-bits-be_bytes_8 xs l all = absurd (omega arith)

@@ -1,5 +1,5 @@
 -- A place moved on twice is moved on once.
-use Rattle.std.proofs.Common.{◌≡◌, ℕ, ◌+◌, drop, add_assoc}
+use Rattle.std.proofs.Common.{◌≡◌, ℕ, ◌+◌, add_assoc}
 use Rattle.std.proofs.lemmas.List.{drop-drop}
 use Rattle.bit_fields.specs.Cursor.{Cursor, advanced}
 

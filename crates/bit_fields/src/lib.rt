@@ -6,11 +6,12 @@ mod window;
 mod writer;
 
 pub use reader::Bits;
+pub use window::number_at;
 pub use writer::put;
 
 #[cfg(test)]
 mod tests {
-    use super::{Bits, put};
+    use super::{Bits, number_at, put};
 
     // The first eight side bytes of an MPEG-1 frame of two channels, ISO/IEC 11172-3, 2.4.1.7.
     const SIDE: [u8; 8] = [0x00, 0x00, 0x00, 0x08, 0x00, 0x32, 0x00, 0x00];
@@ -27,6 +28,18 @@ mod tests {
         assert_eq!(rt; bits.take(16), None);
         assert_eq!(rt; bits.place(), 49);
         assert_eq!(rt; bits.take(0), Some(0));
+    }
+
+    #[test]
+    fn reads_a_gain_among_few_bytes(rt: HostRuntime) {
+        // By eight bytes, and by the few that there are.
+        assert_eq!(rt; number_at(&SIDE, 41, 8), 100);
+        assert_eq!(rt; number_at(&SIDE[5..], 1, 8), 100);
+        assert_eq!(rt; number_at(&SIDE[3..7], 17, 8), 100);
+        assert_eq!(rt;
+            number_at(&[0, 0, 0, 0, 0, 0, 0x12, 0x34, 0x5f], 52, 20),
+            0x2345f
+        );
     }
 
     #[test]

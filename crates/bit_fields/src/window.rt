@@ -1,5 +1,5 @@
 //! The few bytes around a group of bits, as one number.
-ghost use Rattle.std.specs.Prelude.{◌≡◌, ◌+◌, ◌*◌, ◌/◌, ◌%◌, ◌^◌, ◌<◌, ◌≤◌, length};
+ghost use Rattle.std.specs.Prelude.{◌≡◌, ◌+◌, ◌*◌, ◌/◌, ◌%◌, ◌^◌, ◌<◌, ◌≤◌, length, take, drop};
 ghost use Rattle.bit_fields.specs.Bits.{bits, bits_of, number};
 ghost use Rattle.bit_fields.specs.Groups.{group};
 
@@ -41,8 +41,36 @@ pub(crate) fn with_group(window: u64, n: u32, low: u32, value: u32) -> u64
     (((above << n) + u64::from(value)) << low) + below
 }
 
-/// The number of the n bits from bit `at` on, at most 32 of them.
-pub(crate) fn number_at(bytes: &[u8], at: usize, n: u32) -> u32
+/// The number of eight bytes, the most significant first.
+fn word_at(bytes: &[u8], first: usize) -> u64
+    requires { first + 8 ≤ length bytes.now }
+    ensures { result ≡ number (bits (take 8 (drop first bytes.now))) }
+{
+    let word = &bytes[first..first + 8];
+    u64::from_be_bytes([
+        word[0], word[1], word[2], word[3], word[4], word[5], word[6], word[7],
+    ])
+}
+
+/// The number of a group of bits, by one load of eight bytes that hold it.
+#[inline]
+fn number_in_word(bytes: &[u8], at: usize, n: u32) -> u32
+    requires some { 1 ≤ n }
+    requires few { n ≤ 32 }
+    requires room { at + n ≤ 8 * length bytes.now }
+    requires long { 8 ≤ length bytes.now }
+    requires short { length bytes.now ≤ 2 ^ 28 }
+    ensures value { result ≡ group at n (bits bytes.now) }
+    ensures below { result < 2 ^ n }
+{
+    let end = at + n as usize;
+    let first = (at / 8).min(bytes.len() - 8);
+    let spare = 8 * (first + 8) - end;
+    ((word_at(bytes, first) >> spare as u32) % (1 << n)) as u32
+}
+
+/// The number of a group of bits, by the bytes that it reaches.
+fn number_in_bytes(bytes: &[u8], at: usize, n: u32) -> u32
     requires few { n ≤ 32 }
     requires room { at + n ≤ 8 * length bytes.now }
     requires short { length bytes.now ≤ 2 ^ 28 }
@@ -54,4 +82,20 @@ pub(crate) fn number_at(bytes: &[u8], at: usize, n: u32) -> u32
     let last = (end + 7) / 8;
     let window = number_of(&bytes[first..last]);
     ((window >> (8 * last - end) as u32) % (1 << n)) as u32
+}
+
+/// The number of the n bits from bit `at` on, at most 32 of them, the most significant first.
+#[inline]
+pub fn number_at(bytes: &[u8], at: usize, n: u32) -> u32
+    requires few { n ≤ 32 }
+    requires room { at + n ≤ 8 * length bytes.now }
+    requires short { length bytes.now ≤ 2 ^ 28 }
+    ensures value { result ≡ group at n (bits bytes.now) }
+    ensures below { result < 2 ^ n }
+{
+    if n > 0 && bytes.len() >= 8 {
+        number_in_word(bytes, at, n)
+    } else {
+        number_in_bytes(bytes, at, n)
+    }
 }

@@ -2,7 +2,7 @@
 use Rattle.std.proofs.Common.{◌<◌, ◌+◌, ◌/◌, arith}
 use Rattle.std.proofs.lemmas.Nat.{one_shl}
 use Rattle.bit_fields.proofs.WindowLaws.{read_group}
-use Rattle.bit_fields.proofs.window.number_at.Goals as goal
+use Rattle.bit_fields.proofs.window.number_in_bytes.Goals as goal
 
 pub returns-clause-value : goal.returns-clause-value
 returns-clause-value c =
