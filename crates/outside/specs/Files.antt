@@ -1,5 +1,5 @@
 -- What a folder tells of its files, and what a sink tells of its bytes.
-use Rattle.std.specs.Prelude.{◌≡◌, ℕ, List, [], ◌++◌, Option, Some, None, unwrap_or, option_map, IfSome, IsSome, bytes_eq}
+use Rattle.std.specs.Prelude.{◌≡◌, ◌<◌, ℕ, slice_index_or, List, [], ◌++◌, Option, Some, None, unwrap_or, option_map, IfSome, IsSome, bytes_eq}
 use Rattle.std.specs.Map.{update}
 
 -- a content for each name that is there
@@ -52,3 +52,7 @@ IsThere files name = IfSome files (λ f. IsSome (f name))
 -- where the files are told, the name isn't there
 abbrev pub IsMissing : Files → List ℕ → Type 0
 IsMissing files name = IfSome files (λ f. f name ≡ None)
+
+-- numbers that bytes can be
+abbrev pub AreOctets : List ℕ → Type 0
+AreOctets bytes = (i : ℕ) → slice_index_or bytes i 0 < 256

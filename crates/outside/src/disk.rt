@@ -1,6 +1,6 @@
 //! Real files.
 ghost use Rattle.std.specs.Prelude.{◌≡◌, ℕ, ◌<◌, ◌≤◌, List, length, take, drop, IfOk, OnOk, OnErr, IsErrOf, if◌then◌else◌, ◌==◌, ◌&&◌, nat_lt, ◌⊎◌, ◌-◌};
-ghost use Rattle.outside.specs.Files.{untold, emptied, appended, Holds, IsThere, IsMissing};
+ghost use Rattle.outside.specs.Files.{untold, emptied, appended, Holds, IsThere, IsMissing, AreOctets};
 ghost use Rattle.outside.specs.Counts.{none_counted, with_miss, with_end, with_read_fault, with_write_fault, OnlyReads, OnlyWrites, NothingFailed, Rose};
 
 use crate::folder::{Failed, FindFault, Folder};
@@ -177,6 +177,7 @@ where
     fn find(&mut self, name: &str) -> Result<u64, FindFault>
         ensures found { IfOk result (λ n. (bytes : List ℕ) → Holds untold name.now bytes → n ≡ length bytes) }
         ensures there { OnOk result (IsThere untold name.now) }
+        ensures octets { OnOk result ((bytes : List ℕ) → Holds untold name.now bytes → AreOctets bytes) }
         ensures missing { IsErrOf result FindFault.Absent → IsMissing untold name.now }
         ensures absent { IsErrOf result FindFault.Absent → Rose (disk_counts self.old).misses (disk_counts self.new).misses }
         ensures failed { IsErrOf result FindFault.Failed → Rose (disk_counts self.old).read_faults (disk_counts self.new).read_faults }

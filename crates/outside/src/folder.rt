@@ -1,6 +1,6 @@
 //! A folder of files.
 ghost use Rattle.std.specs.Prelude.{◌≡◌, ◌⊎◌, ◌-◌, ◌<◌, ◌≤◌, List, ℕ, length, take, drop, string_bytes, IfOk, OnOk, OnErr, IsErrOf};
-ghost use Rattle.outside.specs.Files.{Files, emptied, appended, Holds, IsThere, IsMissing};
+ghost use Rattle.outside.specs.Files.{Files, emptied, appended, Holds, IsThere, IsMissing, AreOctets};
 ghost use Rattle.outside.specs.Counts.{Counts, OnlyReads, OnlyWrites, NothingFailed, Rose};
 
 use std::alloc::AllocError;
@@ -70,13 +70,14 @@ pub trait Folder {
     /// How often a file was missing, a read met an end, and a call failed.
     ghost counts: { Self → Counts };
 
-    /// The length of the file in bytes.
+    /// The length of the file in bytes. What is told of its content are bytes, so numbers below 256.
     ///
     /// # Errors
     /// `Absent` where the name isn't there, `Failed` where the call failed.
     fn find(&mut self, name: &str) -> Result<u64, FindFault>
         ensures found { IfOk result (λ n. (bytes : List ℕ) → Holds (files self.old) name.now bytes → n ≡ length bytes) }
         ensures there { OnOk result (IsThere (files self.old) name.now) }
+        ensures octets { OnOk result ((bytes : List ℕ) → Holds (files self.old) name.now bytes → AreOctets bytes) }
         ensures missing { IsErrOf result FindFault.Absent → IsMissing (files self.old) name.now }
         ensures absent { IsErrOf result FindFault.Absent → Rose (counts self.old).misses (counts self.new).misses }
         ensures failed { IsErrOf result FindFault.Failed → Rose (counts self.old).read_faults (counts self.new).read_faults }

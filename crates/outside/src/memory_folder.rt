@@ -1,6 +1,6 @@
 //! A folder in memory, for tests.
 ghost use Rattle.std.specs.Prelude.{◌≡◌, ◌≢◌, ℕ, ◌+◌, ◌-◌, ◌<◌, ◌≤◌, [], ◌∷◌, ◌++◌, List, None, Some, Ok, Err, length, take, drop, min, IfOk, OnOk, OnErr, IsErrOf, is_err, option_copied, if◌then◌else◌, ◌==◌, ◌&&◌, ◌⊎◌, nat_lt};
-ghost use Rattle.outside.specs.Files.{with_file, emptied, appended, Holds, IsThere, IsMissing};
+ghost use Rattle.outside.specs.Files.{with_file, emptied, appended, Holds, IsThere, IsMissing, AreOctets};
 ghost use Rattle.outside.specs.Counts.{none_counted, with_miss, with_end, with_read_fault, with_write_fault, OnlyReads, OnlyWrites, NothingFailed, Rose};
 
 use crate::folder::{Failed, FindFault, Folder};
@@ -121,6 +121,15 @@ impl MemFolder {
     }
 }
 
+/// How many bytes these are.
+fn size_of(bytes: &[u8]) -> u64
+    ensures size { result ≡ length bytes.now }
+    // What the type says.
+    ensures octets { AreOctets bytes.now }
+{
+    bytes.len() as u64
+}
+
 impl Folder for MemFolder {
     ghost use Rattle.outside.specs.Memory.{contents_of, bytes_of, counts_of, is_to_fail, find_answer, create_fails, write_fails, Called};
 
@@ -131,6 +140,7 @@ impl Folder for MemFolder {
     fn find(&mut self, name: &str) -> Result<u64, FindFault>
         ensures found { IfOk result (λ n. (bytes : List ℕ) → Holds (Some (contents_of self.old)) name.now bytes → n ≡ length bytes) }
         ensures there { OnOk result (IsThere (Some (contents_of self.old)) name.now) }
+        ensures octets { OnOk result ((bytes : List ℕ) → Holds (Some (contents_of self.old)) name.now bytes → AreOctets bytes) }
         ensures missing { IsErrOf result FindFault.Absent → IsMissing (Some (contents_of self.old)) name.now }
         ensures absent { IsErrOf result FindFault.Absent → Rose (counts_of self.old).misses (counts_of self.new).misses }
         ensures failed { IsErrOf result FindFault.Failed → Rose (counts_of self.old).read_faults (counts_of self.new).read_faults }
@@ -148,7 +158,7 @@ impl Folder for MemFolder {
             return Err(FindFault::Failed);
         }
         match self.slots.content(name) {
-            Some(content) => Ok(content.len() as u64),
+            Some(content) => Ok(size_of(content)),
             None => {
                 self.tally.count_miss();
                 Err(FindFault::Absent)
