@@ -8,7 +8,7 @@ use Rattle.side_info.specs.Side.{payload_bits}
 use Rattle.side_info.specs.CheckWord.{check_word_of}
 use Rattle.side_info.specs.Frame.{word_said}
 use Rattle.outside.specs.Files.{Files, untold, Holds, IsThere}
-use Rattle.outside.specs.Counts.{Counts, NothingFailed}
+use Rattle.outside.specs.Counts.{Counts}
 use Rattle.outside.proofs.FilesLaws.{there_holds}
 use Rattle.sync_survey.specs.declared.places.Head.{Head}
 use Rattle.sync_survey.specs.declared.places.Start.{Start}
@@ -156,7 +156,7 @@ pub record IsLoaded (name : List ℕ) (files : Files) (before after : Counts) (l
   pub there : IsThere files name
   pub bytes : (bytes : List ℕ) → Holds files name bytes → loaded ≡ bytes
   pub few : length loaded ≤ longest_file
-  pub counts : NothingFailed before after
+  pub counts : after ≡ before
 
 module _ (name : List ℕ) (files : Files) (allowed : ℕ) (before after : Counts) (loaded : List ℕ) (all : IsLoaded name files before after loaded) where
   is_of : (r : Result SurveyFields SurveyFault) → surveyed loaded allowed ≡ r → (bytes : List ℕ) → Holds files name bytes → survey_of bytes allowed ≡ r

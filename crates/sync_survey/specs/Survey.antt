@@ -10,18 +10,18 @@ use Rattle.sync_survey.specs.Faults.{SurveyFields, surveyed, longest_file}
 unfoldable pub survey_of : List ℕ → ℕ → Result SurveyFields SurveyFault
 survey_of file allowed = if nat_lt longest_file (length file) then Err (TooLong (length file)) else surveyed file allowed
 
--- the file is there, no call failed, and its bytes are refused so
+-- the file is there, no count changed, and its bytes are refused so
 pub record RefusesBytes (name : List ℕ) (files : Files) (allowed : ℕ) (before after : Counts) (fault : SurveyFault) : Type 0 where
   pub there : IsThere files name
   pub bytes : (bytes : List ℕ) → Holds files name bytes → survey_of bytes allowed ≡ Err fault
-  pub counts : NothingFailed before after
+  pub counts : after ≡ before
 
--- the file is there and longer than a file may be; no call failed
+-- the file is there and longer than a file may be; no count changed
 pub record IsTooLong (name : List ℕ) (files : Files) (before after : Counts) (size : ℕ) : Type 0 where
   pub there : IsThere files name
   pub size_is : (bytes : List ℕ) → Holds files name bytes → size ≡ length bytes
   pub long : longest_file < size
-  pub counts : NothingFailed before after
+  pub counts : after ≡ before
 
 -- a file of which nothing is told was found with the first length, and a read at the second gave no byte
 pub record HasShrunk (files : Files) (before after : Counts) (first second : ℕ) : Type 0 where
@@ -30,11 +30,11 @@ pub record HasShrunk (files : Files) (before after : Counts) (first second : ℕ
   pub ended : Rose before.ends after.ends
   pub counts : NothingFailed before after
 
--- the file is there with a length that it may have, so that memory for it is taken; no call failed
+-- the file is there with a length that it may have, so that memory for it is taken; no count changed
 pub record AsksForMemory (name : List ℕ) (files : Files) (before after : Counts) : Type 0 where
   pub there : IsThere files name
   pub few : (bytes : List ℕ) → Holds files name bytes → length bytes ≤ longest_file
-  pub counts : NothingFailed before after
+  pub counts : after ≡ before
 
 -- why there is no survey: the file isn't there, is too long, could not be read, became shorter, or there is no memory
 abbrev pub IsLoadFault : List ℕ → Files → Counts → Counts → SurveyFault → Type 0

@@ -1,7 +1,7 @@
 //! The survey of a file of a folder.
 ghost use Rattle.std.specs.Prelude.{◌≡◌, ◌≤◌, List, ℕ, length, IfOk, IfErr, OnOk};
 ghost use Rattle.outside.specs.Files.{Holds, IsThere};
-ghost use Rattle.outside.specs.Counts.{OnlyReads, NothingFailed};
+ghost use Rattle.outside.specs.Counts.{OnlyReads};
 ghost use Rattle.sync_survey.specs.Faults.{tells, longest_file};
 ghost use Rattle.sync_survey.specs.Survey.{survey_of, IsLoadFault, IsSurveyFault};
 
@@ -19,7 +19,7 @@ fn find_file<D: Folder>(folder: &mut D, name: &str) -> Result<usize, SurveyFault
     ensures there { OnOk result (IsThere (D.files folder.old) name.now) }
     ensures bound { IfOk result (λ n. n ≤ longest_file) }
     ensures refused { IfErr result (IsLoadFault name.now (D.files folder.old) (D.counts folder.old) (D.counts folder.new)) }
-    ensures done { OnOk result (NothingFailed (D.counts folder.old) (D.counts folder.new)) }
+    ensures done { OnOk result (D.counts folder.new ≡ D.counts folder.old) }
     ensures files { D.files folder.new ≡ D.files folder.old }
     ensures counts { OnlyReads (D.counts folder.old) (D.counts folder.new) }
 {
@@ -41,7 +41,7 @@ pub fn load<D: Folder>(alloc: Global, folder: &mut D, name: &str) -> Result<Vec<
     ensures there { OnOk result (IsThere (D.files folder.old) name.now) }
     ensures bound { IfOk result (λ v. length v.items ≤ longest_file) }
     ensures refused { IfErr result (IsLoadFault name.now (D.files folder.old) (D.counts folder.old) (D.counts folder.new)) }
-    ensures done { OnOk result (NothingFailed (D.counts folder.old) (D.counts folder.new)) }
+    ensures done { OnOk result (D.counts folder.new ≡ D.counts folder.old) }
     ensures files { D.files folder.new ≡ D.files folder.old }
     ensures counts { OnlyReads (D.counts folder.old) (D.counts folder.new) }
 {
@@ -66,7 +66,7 @@ pub fn survey<D: Folder>(
     ensures exact { IfOk result (λ s. (bytes : List ℕ) → Holds (D.files folder.old) name.now bytes → survey_of bytes allowed ≡ Ok (tells s)) }
     ensures there { OnOk result (IsThere (D.files folder.old) name.now) }
     ensures refused { IfErr result (IsSurveyFault name.now (D.files folder.old) allowed (D.counts folder.old) (D.counts folder.new)) }
-    ensures done { OnOk result (NothingFailed (D.counts folder.old) (D.counts folder.new)) }
+    ensures done { OnOk result (D.counts folder.new ≡ D.counts folder.old) }
     ensures files { D.files folder.new ≡ D.files folder.old }
     ensures counts { OnlyReads (D.counts folder.old) (D.counts folder.new) }
 {

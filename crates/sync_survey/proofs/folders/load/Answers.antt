@@ -1,7 +1,8 @@
 -- A read that ends early shows that nothing is told, since a told file has the bytes that it was found with.
 use Rattle.std.proofs.Common.{◌<◌, length, sym, subst, arith}
 use Rattle.outside.specs.Files.{Holds}
-use Rattle.outside.proofs.CountsLaws.{nothing_failed_then, later_rose}
+use Rattle.outside.specs.Counts.{NothingFailed}
+use Rattle.outside.proofs.CountsLaws.{later_rose}
 use Rattle.sync_survey.proofs.FoldersLaws.{nothing_told}
 use Rattle.sync_survey.proofs.folders.load.Goals as goal
 
@@ -16,5 +17,5 @@ returns-in-Ok-clause-refused g c =
           omega (arith, end, c.in_ok-size.ensures.found bytes holds, c.if-count-size.true));
       less = omega (arith, c.if-count-size.true);
       ended = later_rose _ _ _ c.in_ok-size.ensures.counts.ends (c.in-Ok.ensures.ended short);
-      counts = nothing_failed_then _ _ _ c.in_ok-size.ensures.done c.in-Ok.ensures.done;
+      counts = subst (λ before. NothingFailed before (g.D.Folder.counts c.read_full.new.folder)) c.in_ok-size.ensures.done c.in-Ok.ensures.done;
     }
