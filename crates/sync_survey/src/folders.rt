@@ -1,5 +1,6 @@
 //! The survey of a file of a folder.
 ghost use Rattle.std.specs.Prelude.{◌≡◌, ◌≤◌, List, ℕ, length, IfOk, IfErr, OnOk};
+ghost use Rattle.bit_fields.specs.Bits.{AreBytes};
 ghost use Rattle.outside.specs.Files.{Holds, IsThere};
 ghost use Rattle.outside.specs.Counts.{OnlyReads};
 ghost use Rattle.sync_survey.specs.Faults.{tells, longest_file};
@@ -65,6 +66,7 @@ pub fn survey<D: Folder>(
 ) -> Result<Survey, SurveyFault>
     ensures exact { IfOk result (λ s. (bytes : List ℕ) → Holds (D.files folder.old) name.now bytes → survey_of bytes allowed ≡ Ok (tells s)) }
     ensures there { OnOk result (IsThere (D.files folder.old) name.now) }
+    ensures octets { OnOk result ((bytes : List ℕ) → Holds (D.files folder.old) name.now bytes → AreBytes bytes) }
     ensures refused { IfErr result (IsSurveyFault name.now (D.files folder.old) allowed (D.counts folder.old) (D.counts folder.new)) }
     ensures done { OnOk result (D.counts folder.new ≡ D.counts folder.old) }
     ensures files { D.files folder.new ≡ D.files folder.old }
