@@ -1,47 +1,29 @@
--- Steps of the gain command over what a folder tells.
-use Rattle.std.proofs.Common.{◌≡◌, ◌⊎◌, ℕ, ◌+◌, ◌-◌, ◌<◌, ◌≤◌, true, false, ltb, List, [], ◌++◌, length, take, drop, Option, Some, None, refl, sym, ◌∙◌, ap, ap₂, subst, unwrap_or, bytes_eq, Result, Ok, Err, inl, inr, arith}
-use Rattle.outside.specs.Files.{Contents, Files, untold, emptied, appended, with_file, Holds, IsThere, IsMissing}
-use Rattle.outside.specs.Counts.{Counts, Rose, NothingFailed}
-use Rattle.outside.proofs.FilesLaws.{there_holds, with_file_here, with_file_twice}
+-- Steps of the gain command, and what it leaves by them.
+use Rattle.std.proofs.Common.{◌≡◌, ◌≢◌, ◌⊎◌, ℕ, ◌+◌, ◌<◌, ◌≤◌, Bool, true, false, ltb, cond, List, [], ◌∷◌, ◌++◌, length, take, Option, Some, None, refl, sym, ◌∙◌, ap, ap₂, subst, bytes_eq, Result, Ok, Err, inl, inr, arith}
+use Rattle.std.specs.Prelude.{IfSome, IfErr, OnOk, is_some, map, unwrap_or}
 use Rattle.std.proofs.lemmas.Bool.{lt-ltb}
-use Rattle.sync_survey.specs.Faults.{longest_file, SurveyFields, surveyed, IsSurveyRefusal}
-use Rattle.sync_survey.specs.Survey.{survey_of, IsLoadFault, IsOfBytes}
+use Rattle.bit_fields.specs.Bits.{AreBytes}
+use Rattle.outside.specs.Files.{Contents, Files, untold, with_file, Holds, IsThere, IsMissing}
+use Rattle.outside.specs.Counts.{Counts, Rose, NothingFailed}
+use Rattle.outside.proofs.FilesLaws.{there_holds}
+use Rattle.sync_survey.specs.declared.survey_fault.SurveyFault.{SurveyFault}
+use Rattle.sync_survey.specs.declared.survey_fault.SurveyFault.TheVariants.{Absent, TooLong, NoFrame, LostSync, Truncated, FreeFormat, Mixed, CheckWord, BackPointer, Overlap, Overrun, TooManyFrames, Shrunk, Read, Memory as NoRoom}
+use Rattle.sync_survey.specs.Faults.{longest_file, SurveyFields, surveyed, stream_of_survey}
+use Rattle.sync_survey.specs.Survey.{survey_of, RefusesBytes as SurveyRefuses, IsSurveyFault, IsOfBytes}
 use Rattle.sync_survey.proofs.FoldersLaws.{surveyed_of_bytes, survey_of-short}
-use Rattle.edits.specs.Streams.{IsStreamMoved, HoldsMovedStream}
-use Rattle.edits.proofs.WholeEdit.{ordered, whole_edited}
-use Rattle.edits.specs.Kinds.{InputKind, IsAbsent, IsUnread, IsShorter, IsTooMuch, IsRefused, kind_of, by_kind, of_input, HasRightNumbers}
 use Rattle.edits.specs.declared.fault.EditFault.{EditFault}
 use Rattle.edits.specs.declared.fault.EditFault.TheVariants.{EqualNames, Input, GainRange, Write, Memory}
 use Rattle.edits.specs.declared.shift.Shift.{Shift}
-use Rattle.edits.specs.Edited.{most_frames, unless, edited, range_fault, with_rows, gained_by, gained, gained_where, gain_result}
-use Rattle.sync_survey.specs.declared.survey_fault.SurveyFault.{SurveyFault}
-use Rattle.sync_survey.specs.declared.survey_fault.SurveyFault.TheVariants.{Absent as Missing, TooLong, NoFrame, LostSync, Truncated, FreeFormat, Mixed, CheckWord, BackPointer, Overlap, Overrun, TooManyFrames, Shrunk, Read, Memory as NoRoom}
-use Rattle.edits.specs.Gain.{holding, Gives, RefusesBytes, IsInputFault, IsDefinedAt, IsRangeFault, IsCounted, IsOfOneFile, HoldsFront, IsWritten, IsWrittenInPart}
-
-abbrev failed : EditFault → Result (List ℕ) EditFault
-failed fault = Err fault
-
-abbrev told : Contents → Files
-told f = Some f
-
--- emptied and then appended to, the output holds these bytes
-pub appended-emptied : (files : Files) (name bytes : List ℕ) → appended (emptied files name) name bytes ≡ holding files name bytes
-unfolding appended emptied holding
-appended-emptied None name bytes = refl
-appended-emptied (Some f) name bytes =
-    ap (λ (held : Option (List ℕ)). told (with_file (with_file f name []) name (unwrap_or held [] ++ bytes))) (with_file_here f name [])
-    ∙ ap told (with_file_twice f name [] bytes)
-
--- created and not written to, the output holds nothing of these bytes
-pub emptied-front : (files : Files) (name bytes : List ℕ) → emptied files name ≡ holding files name (take 0 bytes)
-unfolding emptied holding
-emptied-front None name bytes = refl
-emptied-front (Some f) name bytes = refl
-
--- ---- created and written
-
-pub written_whole : (old created new : Files) (name bytes : List ℕ) → created ≡ emptied old name → new ≡ appended created name bytes → new ≡ holding old name bytes
-written_whole old created new name bytes made written = written ∙ ap (λ f. appended f name bytes) made ∙ appended-emptied old name bytes
+use Rattle.edits.specs.Kinds.{of_input, HasRightNumbers}
+use Rattle.edits.specs.declared.gains.Stuck.{Stuck}
+use Rattle.edits.specs.Gains.{stuck_in}
+use Rattle.sync_survey.specs.declared.rows.Row.{Row}
+use Rattle.edits.specs.Edited.{stuck_fault, most_frames, unless, edited, range_fault, IsRangeFault, gained_by, gained, gained_where, gain_result}
+use Rattle.edits.specs.Streams.{IsStreamMoved, HoldsStream, stream_by, stream_in, moved_stream_frame}
+use Rattle.edits.specs.Command.{Made, Command, clash_of, Gives, written, written_to, MakesStreams}
+use Rattle.edits.specs.Left.{Why, Refused, Missing, Unread, Shorter, Unwritten, NoMemory, why_of, Seen, seen, IsDone, IsWrittenTo, TakesMemory, is_before_memory, LeavesBy, Leaves, HasNumbers, IsOfInput, IsOfPass}
+use Rattle.edits.specs.Gain.{made_of, gain_command, holding, RefusesBytes, IsInputFaultBy, IsInputFault, HoldsPrefix, IsPassFaultBy, IsPassFault}
+use Rattle.edits.proofs.GainedStream.{survey_of-parts, gained-stream}
 
 -- ---- what the told files make of the command
 
@@ -53,271 +35,296 @@ gain_result-other : (shift : Shift) (input output : List ℕ) (f : Contents) (o 
 unfolding gain_result
 gain_result-other shift input output f o differ is = rw (differ, is) refl
 
-pub gives_equal : (shift : Shift) (input output : List ℕ) (files : Files) → bytes_eq input output ≡ true → Gives shift input output files (Err (EqualNames 0))
+gives_equal : (shift : Shift) (input output : List ℕ) (files : Files) → bytes_eq input output ≡ true → Gives (gain_command shift input output) files (Err (EqualNames 0))
 gives_equal shift input output None same = tt
-gives_equal shift input output (Some f) same = gain_result-equal shift input output f same
+gives_equal shift input output (Some f) same = ap (made_of output) (gain_result-equal shift input output f same)
 
-gives_absent : (shift : Shift) (input output : List ℕ) (files : Files) → bytes_eq input output ≡ false → IsMissing files input → Gives shift input output files (Err (Input 0 Missing))
+gives_absent : (shift : Shift) (input output : List ℕ) (files : Files) → bytes_eq input output ≡ false → IsMissing files input → Gives (gain_command shift input output) files (Err (Input 0 Absent))
 gives_absent shift input output None differ missing = tt
-gives_absent shift input output (Some f) differ missing = gain_result-other shift input output f None differ missing
+gives_absent shift input output (Some f) differ missing = ap (made_of output) (gain_result-other shift input output f None differ missing)
 
-pub gives_bytes : (shift : Shift) (input output : List ℕ) (files : Files) (r : Result (List ℕ) EditFault) → bytes_eq input output ≡ false → IsThere files input
-    → ((bytes : List ℕ) → Holds files input bytes → gained shift bytes ≡ r) → Gives shift input output files r
+gives_bytes : (shift : Shift) (input output : List ℕ) (files : Files) (r : Result (List ℕ) EditFault) → bytes_eq input output ≡ false → IsThere files input
+    → ((bytes : List ℕ) → Holds files input bytes → gained shift bytes ≡ r) → Gives (gain_command shift input output) files (made_of output r)
 gives_bytes shift input output None r differ there is = tt
 gives_bytes shift input output (Some f) r differ there is =
     let held = there_holds f input there in
-    gain_result-other shift input output f (Some held.0) differ held.1 ∙ is held.0 held.1
+    ap (made_of output) (gain_result-other shift input output f (Some held.0) differ held.1 ∙ is held.0 held.1)
 
--- a fault of the input is the one that is defined
-absent_is : (fault : SurveyFault) → kind_of fault ≡ IsAbsent → fault ≡ Missing
-absent_is Missing is = refl
-absent_is (TooLong size) is = absurd cc
-absent_is (NoFrame at) is = absurd cc
-absent_is (LostSync at) is = absurd cc
-absent_is (Truncated at) is = absurd cc
-absent_is (FreeFormat at) is = absurd cc
-absent_is (Mixed at) is = absurd cc
-absent_is (CheckWord at said right) is = absurd cc
-absent_is (BackPointer at begin present) is = absurd cc
-absent_is (Overlap at) is = absurd cc
-absent_is (Overrun at bits room) is = absurd cc
-absent_is (TooManyFrames at) is = absurd cc
-absent_is (Shrunk first second) is = absurd cc
-absent_is Read is = absurd cc
-absent_is NoRoom is = absurd cc
+-- ---- the survey of the input
 
-input_defined : (shift : Shift) (input output : List ℕ) (files : Files) (place : ℕ) (fault : SurveyFault) (kind : InputKind) → kind_of fault ≡ kind → bytes_eq input output ≡ false → place ≡ 0
-    → by_kind (record { absent = IsMissing files input; unread = Unit {0}; shorter = files ≡ untold; too_much = ⊥; refused = RefusesBytes shift input files (Input place fault) }) kind
-    → by_kind (record { absent = Gives shift input output files (Err (Input place fault)); unread = Unit {0}; shorter = files ≡ untold; too_much = ⊥; refused = Gives shift input output files (Err (Input place fault)) }) kind
-input_defined shift input output files place fault IsAbsent is differ first h =
-    subst (λ f. Gives shift input output files (Err f)) (ap₂ (λ n f. Input n f) (sym first) (sym (absent_is fault is))) (gives_absent shift input output files differ h)
-input_defined shift input output files place fault IsUnread is differ first h = tt
-input_defined shift input output files place fault IsShorter is differ first h = h
-input_defined shift input output files place fault IsTooMuch is differ first h = absurd h
-input_defined shift input output files place fault IsRefused is differ first h = gives_bytes shift input output files (Err (Input place fault)) differ h.0 h.1
+gained-fault : (shift : Shift) (bytes : List ℕ) (fault : SurveyFault) → survey_of bytes most_frames ≡ Err fault → gained shift bytes ≡ Err (Input 0 fault)
+unfolding gained
+gained-fault shift bytes fault is = ap (gained_by shift bytes) is
 
-pub input_fault-defined : (shift : Shift) (input output : List ℕ) (files : Files) (fault : EditFault) → bytes_eq input output ≡ false → IsInputFault shift input files fault → IsDefinedAt shift input output files fault
-input_fault-defined shift input output files (EqualNames place) differ h = absurd h
-input_fault-defined shift input output files (Input place fault) differ h = input_defined shift input output files place fault (kind_of fault) refl differ h.0 h.1
-input_fault-defined shift input output files (GainRange offset granule channel gain) differ h = gives_bytes shift input output files (Err (GainRange offset granule channel gain)) differ h.0 h.1
-input_fault-defined shift input output files (Write place) differ h = absurd h
-input_fault-defined shift input output files Memory differ h = h
+pub gained-survey : (shift : Shift) (bytes : List ℕ) (s : SurveyFields) → survey_of bytes most_frames ≡ Ok s → gained shift bytes ≡ unless (range_fault shift s.frames) (edited shift bytes s)
+unfolding gained
+gained-survey shift bytes s is = ap (gained_by shift bytes) is
 
--- the output was written whole, over files that the reading left as they were
-pub is_written : (shift : Shift) (input output bytes given : List ℕ) (old read new : Files) → read ≡ old → given ≡ bytes → Gives shift input output old (Ok bytes)
-    → new ≡ holding read output given → IsWritten shift input output old new
-is_written shift input output bytes given old read new same is defined written = record {
-  bytes = bytes;
-  defined = defined;
-  files = written ∙ ap (λ f. holding f output given) same ∙ ap (holding old output) is;
-}
-
--- the output was written in part, over files that the reading left as they were
-pub written_in_part : (shift : Shift) (input output bytes given : List ℕ) (old read new : Files) → read ≡ old → given ≡ bytes → Gives shift input output old (Ok bytes)
-    → (new ≡ read) ⊎ HoldsFront output given read new → IsWrittenInPart shift input output old new
-written_in_part shift input output bytes given old read new same is defined left = record {
-  bytes = bytes;
-  defined = defined;
-  left = subst (λ f. (new ≡ f) ⊎ HoldsFront output bytes f new) same (subst (λ b. (new ≡ read) ⊎ HoldsFront output b read new) is left);
-}
-
--- ---- faults of the input
-
-kind-of_bytes : (fault : SurveyFault) → IsOfBytes fault → kind_of fault ≡ IsRefused
-kind-of_bytes Missing is = absurd is
-kind-of_bytes (TooLong size) is = absurd is
-kind-of_bytes (NoFrame at) is = refl
-kind-of_bytes (LostSync at) is = refl
-kind-of_bytes (Truncated at) is = refl
-kind-of_bytes (FreeFormat at) is = refl
-kind-of_bytes (Mixed at) is = refl
-kind-of_bytes (CheckWord at said right) is = refl
-kind-of_bytes (BackPointer at begin present) is = refl
-kind-of_bytes (Overlap at) is = refl
-kind-of_bytes (Overrun at bits room) is = refl
-kind-of_bytes (TooManyFrames at) is = refl
-kind-of_bytes (Shrunk first second) is = absurd is
-kind-of_bytes Read is = absurd is
-kind-of_bytes NoRoom is = absurd is
-
-of_input-refused : (fault : SurveyFault) → kind_of fault ≡ IsRefused → of_input fault ≡ Input 0 fault
-of_input-refused fault is = ap (by_kind (record { absent = Input 0 fault; unread = Input 0 fault; shorter = Input 0 fault; too_much = Memory; refused = Input 0 fault })) is
-
-refused_input : (shift : Shift) (name : List ℕ) (files : Files) (fault : SurveyFault) → kind_of fault ≡ IsRefused → RefusesBytes shift name files (Input 0 fault) → IsInputFault shift name files (of_input fault)
-refused_input shift name files fault is h =
-    subst (IsInputFault shift name files) (sym (of_input-refused fault is))
-    (refl, subst (λ kind. by_kind (record { absent = IsMissing files name; unread = Unit {0}; shorter = files ≡ untold; too_much = ⊥; refused = RefusesBytes shift name files (Input 0 fault) }) kind) (sym is) h)
-
-refused_counted : (before after : Counts) (fault : SurveyFault) → kind_of fault ≡ IsRefused → NothingFailed before after → IsCounted before after (of_input fault)
-refused_counted before after fault is h =
-    subst (IsCounted before after) (sym (of_input-refused fault is))
-    (subst (λ kind. by_kind (record { absent = Rose before.misses after.misses; unread = Rose before.read_faults after.read_faults; shorter = Rose before.ends after.ends × NothingFailed before after; too_much = ⊥; refused = NothingFailed before after }) kind)
-    (sym is) h)
-
-too_long : (shift : Shift) (size : ℕ) (bytes : List ℕ) → size ≡ length bytes → longest_file < size → gained shift bytes ≡ Err (Input 0 (TooLong size))
-unfolding gained survey_of
-too_long shift size bytes is long =
+too_long : (size : ℕ) (bytes : List ℕ) → size ≡ length bytes → longest_file < size → survey_of bytes most_frames ≡ Err (TooLong size)
+unfolding survey_of
+too_long size bytes is long =
     let more : ltb longest_file (length bytes) ≡ true = lt-ltb longest_file (length bytes) (omega (arith, is, long)) in
-    rw more (ap (λ n. failed (Input 0 (TooLong n))) (sym is))
+    rw more (ap (λ n. Err (TooLong n)) (sym is))
 
--- a fault of loading the input is one of it
-pub load_is_input : (shift : Shift) (name : List ℕ) (files : Files) (before after : Counts) (fault : SurveyFault) → IsLoadFault name files before after fault → IsInputFault shift name files (of_input fault)
-load_is_input shift name files before after Missing h = (refl, h.0)
-load_is_input shift name files before after (TooLong size) h = (refl, (h.there, λ bytes holds. too_long shift size bytes (h.size_is bytes holds) h.long))
-load_is_input shift name files before after (NoFrame at) h = absurd h
-load_is_input shift name files before after (LostSync at) h = absurd h
-load_is_input shift name files before after (Truncated at) h = absurd h
-load_is_input shift name files before after (FreeFormat at) h = absurd h
-load_is_input shift name files before after (Mixed at) h = absurd h
-load_is_input shift name files before after (CheckWord at said right) h = absurd h
-load_is_input shift name files before after (BackPointer at begin present) h = absurd h
-load_is_input shift name files before after (Overlap at) h = absurd h
-load_is_input shift name files before after (Overrun at bits room) h = absurd h
-load_is_input shift name files before after (TooManyFrames at) h = absurd h
-load_is_input shift name files before after (Shrunk first second) h = (refl, h.nothing_told)
-load_is_input shift name files before after Read h = (refl, tt)
-load_is_input shift name files before after NoRoom h = record { there = h.there; few = h.few }
+module _ (shift : Shift) (name : List ℕ) (files new : Files) (before after : Counts) (same : new ≡ files) where
+  refused : (fault : SurveyFault) → SurveyRefuses name files most_frames before after fault → RefusesBytes shift name (seen files before) (seen new after) (Input 0 fault)
+  refused fault h = record { there = h.there; bytes = λ bytes holds. gained-fault shift bytes fault (h.bytes bytes holds); stays = ap₂ seen same h.counts }
 
--- the numbers that the faults of the input carry
-load_numbers : (name : List ℕ) (files : Files) (before after : Counts) (fault : SurveyFault) → IsLoadFault name files before after fault → HasRightNumbers fault
-load_numbers name files before after Missing h = tt
-load_numbers name files before after (TooLong size) h = h.long
-load_numbers name files before after (NoFrame at) h = tt
-load_numbers name files before after (LostSync at) h = tt
-load_numbers name files before after (Truncated at) h = tt
-load_numbers name files before after (FreeFormat at) h = tt
-load_numbers name files before after (Mixed at) h = tt
-load_numbers name files before after (CheckWord at said right) h = tt
-load_numbers name files before after (BackPointer at begin present) h = tt
-load_numbers name files before after (Overlap at) h = tt
-load_numbers name files before after (Overrun at bits room) h = tt
-load_numbers name files before after (TooManyFrames at) h = tt
-load_numbers name files before after (Shrunk first second) h = h.less
-load_numbers name files before after Read h = tt
-load_numbers name files before after NoRoom h = tt
+  -- a fault of the survey is one of the input
+  pub survey_is_input : (fault : SurveyFault) → IsSurveyFault name files most_frames before after fault → IsInputFault shift name (seen files before) (seen new after) (of_input fault)
+  survey_is_input Absent h = record { is = refl; missing = h.0; rose = h.1; files = same }
+  survey_is_input (TooLong size) h =
+      record { there = h.there; bytes = λ bytes holds. gained-fault shift bytes (TooLong size) (too_long size bytes (h.size_is bytes holds) h.long); stays = ap₂ seen same h.counts }
+  survey_is_input (NoFrame at) h = refused (NoFrame at) h
+  survey_is_input (LostSync at) h = refused (LostSync at) h
+  survey_is_input (Truncated at) h = refused (Truncated at) h
+  survey_is_input (FreeFormat at) h = refused (FreeFormat at) h
+  survey_is_input (Mixed at) h = refused (Mixed at) h
+  survey_is_input (CheckWord at said right) h = refused (CheckWord at said right) h
+  survey_is_input (BackPointer at begin present) h = refused (BackPointer at begin present) h
+  survey_is_input (Overlap at) h = refused (Overlap at) h
+  survey_is_input (Overrun at bits room) h = refused (Overrun at bits room) h
+  survey_is_input (TooManyFrames at) h = refused (TooManyFrames at) h
+  survey_is_input (Shrunk first second) h = record { rose = h.ended; counts = h.counts; untold_before = h.nothing_told; untold_after = same ∙ h.nothing_told }
+  survey_is_input Read h = record { rose = h; files = same }
+  survey_is_input NoRoom h = record { there = h.there; few = h.few; stays = ap₂ seen same h.counts }
 
-bytes_numbers : (fault : SurveyFault) → IsOfBytes fault → HasRightNumbers fault
-bytes_numbers Missing is = tt
-bytes_numbers (TooLong size) is = absurd is
-bytes_numbers (NoFrame at) is = tt
-bytes_numbers (LostSync at) is = tt
-bytes_numbers (Truncated at) is = tt
-bytes_numbers (FreeFormat at) is = tt
-bytes_numbers (Mixed at) is = tt
-bytes_numbers (CheckWord at said right) is = tt
-bytes_numbers (BackPointer at begin present) is = tt
-bytes_numbers (Overlap at) is = tt
-bytes_numbers (Overrun at bits room) is = tt
-bytes_numbers (TooManyFrames at) is = tt
-bytes_numbers (Shrunk first second) is = absurd is
-bytes_numbers Read is = tt
-bytes_numbers NoRoom is = tt
+  pub survey_numbers : (fault : SurveyFault) → IsSurveyFault name files most_frames before after fault → IsOfInput (of_input fault)
+  survey_numbers Absent h = (refl, (λ e. cc), tt)
+  survey_numbers (TooLong size) h = (refl, (λ e. cc), h.long)
+  survey_numbers (NoFrame at) h = (refl, (λ e. cc), tt)
+  survey_numbers (LostSync at) h = (refl, (λ e. cc), tt)
+  survey_numbers (Truncated at) h = (refl, (λ e. cc), tt)
+  survey_numbers (FreeFormat at) h = (refl, (λ e. cc), tt)
+  survey_numbers (Mixed at) h = (refl, (λ e. cc), tt)
+  survey_numbers (CheckWord at said right) h = (refl, (λ e. cc), tt)
+  survey_numbers (BackPointer at begin present) h = (refl, (λ e. cc), tt)
+  survey_numbers (Overlap at) h = (refl, (λ e. cc), tt)
+  survey_numbers (Overrun at bits room) h = (refl, (λ e. cc), tt)
+  survey_numbers (TooManyFrames at) h = (refl, (λ e. cc), tt)
+  survey_numbers (Shrunk first second) h = (refl, (λ e. cc), h.less)
+  survey_numbers Read h = (refl, (λ e. cc), tt)
+  survey_numbers NoRoom h = tt
 
-input_numbers : (fault : SurveyFault) → HasRightNumbers fault → IsOfOneFile (of_input fault)
-input_numbers Missing h = (refl, h)
-input_numbers (TooLong size) h = (refl, h)
-input_numbers (NoFrame at) h = (refl, h)
-input_numbers (LostSync at) h = (refl, h)
-input_numbers (Truncated at) h = (refl, h)
-input_numbers (FreeFormat at) h = (refl, h)
-input_numbers (Mixed at) h = (refl, h)
-input_numbers (CheckWord at said right) h = (refl, h)
-input_numbers (BackPointer at begin present) h = (refl, h)
-input_numbers (Overlap at) h = (refl, h)
-input_numbers (Overrun at bits room) h = (refl, h)
-input_numbers (TooManyFrames at) h = (refl, h)
-input_numbers (Shrunk first second) h = (refl, h)
-input_numbers Read h = (refl, h)
-input_numbers NoRoom h = tt
+-- ---- a gain that would leave its range
 
-pub load_of_one : (name : List ℕ) (files : Files) (before after : Counts) (fault : SurveyFault) → IsLoadFault name files before after fault → IsOfOneFile (of_input fault)
-load_of_one name files before after fault h = input_numbers fault (load_numbers name files before after fault h)
+range_why : (fault : EditFault) → IsRangeFault fault → why_of fault ≡ Refused
+range_why (EqualNames place) is = absurd is
+range_why (Input place fault) is = absurd is
+range_why (GainRange offset granule channel gain) is = refl
+range_why (Write place) is = absurd is
+range_why Memory is = absurd is
 
-pub survey_of_one : (file : List ℕ) (allowed : ℕ) (fault : SurveyFault) → IsSurveyRefusal file allowed fault → IsOfOneFile (of_input fault)
-survey_of_one file allowed fault (inl memory) = subst (λ f. IsOfOneFile (of_input f)) (sym memory) tt
-survey_of_one file allowed fault (inr is) = input_numbers fault (bytes_numbers fault (surveyed_of_bytes file allowed fault is))
+pub range_is_input : (shift : Shift) (name : List ℕ) (old new : Seen) (s : SurveyFields) (fault : EditFault) → IsThere old.files name → ((bytes : List ℕ) → Holds old.files name bytes → survey_of bytes most_frames ≡ Ok s)
+    → range_fault shift s.frames ≡ Some fault → IsRangeFault fault → new ≡ old → IsInputFault shift name old new fault
+range_is_input shift name old new s fault there is out kind stays =
+    subst (IsInputFaultBy shift name old new fault) (sym (range_why fault kind))
+    (record { there = there; bytes = λ bytes holds. gained-survey shift bytes s (is bytes holds) ∙ ap (λ o. unless o (edited shift bytes s)) out; stays = stays })
 
-pub range_of_one : (fault : EditFault) → IsRangeFault fault → IsOfOneFile fault
-range_of_one (EqualNames place) is = absurd is
-range_of_one (Input place fault) is = absurd is
-range_of_one (GainRange offset granule channel gain) is = tt
-range_of_one (Write place) is = absurd is
-range_of_one Memory is = absurd is
+pub range_of_input : (fault : EditFault) → IsRangeFault fault → IsOfInput fault
+range_of_input (EqualNames place) is = absurd is
+range_of_input (Input place fault) is = absurd is
+range_of_input (GainRange offset granule channel gain) is = tt
+range_of_input (Write place) is = absurd is
+range_of_input Memory is = absurd is
 
-gained-fault : (shift : Shift) (file : List ℕ) (fault : SurveyFault) → length file ≤ longest_file → surveyed file most_frames ≡ Err fault → gained shift file ≡ Err (Input 0 fault)
+pub gained-free : (shift : Shift) (bytes : List ℕ) (s : SurveyFields) → survey_of bytes most_frames ≡ Ok s → range_fault shift s.frames ≡ None → gained shift bytes ≡ Ok (edited shift bytes s)
+gained-free shift bytes s is none = gained-survey shift bytes s is ∙ ap (λ o. unless o (edited shift bytes s)) none
+
+-- ---- memory
+
+of_bytes_behind : (fault : SurveyFault) → IsOfBytes fault → is_before_memory (Input 0 fault) ≡ false
+of_bytes_behind Absent is = absurd is
+of_bytes_behind (TooLong size) is = absurd is
+of_bytes_behind _ is = refl
+
+range_cases : (shift : Shift) (output bytes : List ℕ) (o : Option EditFault) → ((fault : EditFault) → o ≡ Some fault → is_before_memory fault ≡ false) → TakesMemory (made_of output (unless o bytes))
+range_cases shift output bytes None behind = tt
+range_cases shift output bytes (Some fault) behind = behind fault refl
+
+stuck_behind : (row : Row) (o : Option Stuck) (later : Option EditFault) (fault : EditFault) → (later ≡ Some fault → is_before_memory fault ≡ false) → stuck_fault row.offset o later ≡ Some fault → is_before_memory fault ≡ false
+stuck_behind row (Some stuck) later fault behind e = subst (λ f. is_before_memory f ≡ false) (some_is (GainRange row.offset stuck.granule stuck.channel stuck.gain) fault e) refl
+  where
+    some_is : (f g : EditFault) → Some f ≡ Some g → f ≡ g
+    some_is f g e = cc
+stuck_behind row None later fault behind e = behind e
+
+range_behind : (shift : Shift) (rows : List Row) (fault : EditFault) → range_fault shift rows ≡ Some fault → is_before_memory fault ≡ false
+unfolding range_fault
+range_behind shift [] fault is = absurd cc
+range_behind shift (row ∷ rows) fault is = stuck_behind row (stuck_in shift row.side) (range_fault shift rows) fault (range_behind shift rows fault) is
+
+survey_cases : (shift : Shift) (output bytes : List ℕ) (r : Result SurveyFields SurveyFault) → ((fault : SurveyFault) → r ≡ Err fault → IsOfBytes fault) → TakesMemory (made_of output (gained_by shift bytes r))
+survey_cases shift output bytes (Err fault) of = of_bytes_behind fault (of fault refl)
+survey_cases shift output bytes (Ok s) of = range_cases shift output (edited shift bytes s) (range_fault shift s.frames) (range_behind shift s.frames)
+
+short_takes : (shift : Shift) (output bytes : List ℕ) → length bytes ≤ longest_file → TakesMemory (made_of output (gained shift bytes))
 unfolding gained
-gained-fault shift file fault few is = ap (gained_by shift file) (survey_of-short file most_frames few ∙ is)
+short_takes shift output bytes few =
+    subst (λ r. TakesMemory (made_of output (gained_by shift bytes r))) (sym (survey_of-short bytes most_frames few))
+    (survey_cases shift output bytes (surveyed bytes most_frames) (surveyed_of_bytes bytes most_frames))
 
-gained-survey : (shift : Shift) (file : List ℕ) (s : SurveyFields) → length file ≤ longest_file → surveyed file most_frames ≡ Ok s → gained shift file ≡ unless (range_fault shift s.frames) (edited shift file s)
-unfolding gained
-gained-survey shift file s few is = ap (gained_by shift file) (survey_of-short file most_frames few ∙ is)
+takes_memory : (shift : Shift) (input output : List ℕ) (files : Files) → bytes_eq input output ≡ false → IsThere files input → ((bytes : List ℕ) → Holds files input bytes → length bytes ≤ longest_file)
+    → IfSome files (λ f. TakesMemory ((gain_command shift input output).makes f))
+takes_memory shift input output None differ there few = tt
+takes_memory shift input output (Some f) differ there few =
+    let held = there_holds f input there in
+    subst (λ r. TakesMemory (made_of output r)) (sym (gain_result-other shift input output f (Some held.0) differ held.1)) (short_takes shift output held.0 (few held.0 held.1))
 
-pub survey_counted : (before after : Counts) (file : List ℕ) (allowed : ℕ) (fault : SurveyFault) → IsSurveyRefusal file allowed fault → NothingFailed before after → IsCounted before after (of_input fault)
-survey_counted before after file allowed fault (inl memory) h = subst (λ f. IsCounted before after (of_input f)) (sym memory) h
-survey_counted before after file allowed fault (inr is) h = refused_counted before after fault (kind-of_bytes fault (surveyed_of_bytes file allowed fault is)) h
+-- ---- what is left
 
--- the bytes that were loaded are those of the input
-pub record IsLoadedInput (name : List ℕ) (files : Files) (loaded : List ℕ) : Type 0 where
-  pub there : IsThere files name
-  pub bytes : (bytes : List ℕ) → Holds files name bytes → loaded ≡ bytes
-  pub few : length loaded ≤ longest_file
+pub no_clash : (shift : Shift) (input output : List ℕ) → bytes_eq input output ≡ false → clash_of (gain_command shift input output) ≡ None
+no_clash shift input output differ = rw differ refl
 
-module _ (shift : Shift) (name : List ℕ) (files : Files) (loaded : List ℕ) (all : IsLoadedInput name files loaded) where
-  refuses : (fault : EditFault) → gained shift loaded ≡ Err fault → RefusesBytes shift name files fault
-  refuses fault is = (all.there, λ bytes holds. subst (λ b. gained shift b ≡ Err fault) (all.bytes bytes holds) is)
+pub clashes : (shift : Shift) (input output : List ℕ) → bytes_eq input output ≡ true → clash_of (gain_command shift input output) ≡ Some 0
+clashes shift input output same = rw same refl
 
-  -- a fault of its bytes
-  pub survey_is_input : (fault : SurveyFault) → IsSurveyRefusal loaded most_frames fault → IsInputFault shift name files (of_input fault)
-  survey_is_input fault (inl memory) =
-      subst (λ f. IsInputFault shift name files (of_input f)) (sym memory) (record { there = all.there; few = λ bytes holds. subst (λ b. length b ≤ longest_file) (all.bytes bytes holds) all.few })
-  survey_is_input fault (inr is) =
-      refused_input shift name files fault (kind-of_bytes fault (surveyed_of_bytes loaded most_frames fault is)) (refuses (Input 0 fault) (gained-fault shift loaded fault all.few is))
+pub equal_left : (shift : Shift) (input output : List ℕ) (now : Seen) → bytes_eq input output ≡ true → Leaves (gain_command shift input output) now now (EqualNames 0)
+equal_left shift input output now same = record { defined = gives_equal shift input output now.files same; stays = refl }
 
-  range_kinds : (fault : EditFault) → IsRangeFault fault → RefusesBytes shift name files fault → IsInputFault shift name files fault
-  range_kinds (EqualNames place) is h = absurd is
-  range_kinds (Input place fault) is h = absurd is
-  range_kinds (GainRange offset granule channel gain) is h = h
-  range_kinds (Write place) is h = absurd is
-  range_kinds Memory is h = absurd is
+module _ (shift : Shift) (input output : List ℕ) (differ : bytes_eq input output ≡ false) (old new : Seen) (fault : EditFault) where
+  input_left_by : (why : Why) → IsInputFaultBy shift input old new fault why → LeavesBy (gain_command shift input output) old new fault why
+  input_left_by Refused h = record { defined = gives_bytes shift input output old.files (Err fault) differ h.there h.bytes; stays = h.stays }
+  input_left_by Missing h =
+      record { defined = subst (λ f. Gives (gain_command shift input output) old.files (Err f)) (sym h.is) (gives_absent shift input output old.files differ h.missing); rose = h.rose; files = h.files }
+  input_left_by Unread h = record { rose = h.rose; files = inl h.files }
+  input_left_by Shorter h = record { rose = h.rose; counts = h.counts; before = h.untold_before; after = h.untold_after }
+  input_left_by (Unwritten k) h = absurd h
+  input_left_by NoMemory h = record { names = no_clash shift input output differ; takes = takes_memory shift input output old.files differ h.there h.few; stays = h.stays }
 
-  -- a gain that would leave its range
-  pub range_is_input : (s : SurveyFields) (fault : EditFault) → surveyed loaded most_frames ≡ Ok s → range_fault shift s.frames ≡ Some fault → IsRangeFault fault → IsInputFault shift name files fault
-  range_is_input s fault is out kind =
-      range_kinds fault kind (refuses fault (gained-survey shift loaded s all.few is ∙ ap (λ o. unless o (edited shift loaded s)) out))
+  pub input_left : IsInputFault shift input old new fault → Leaves (gain_command shift input output) old new fault
+  input_left h = input_left_by (why_of fault) h
 
-  -- nothing is at fault
-  pub edited_is : (s : SurveyFields) (new : List ℕ) → surveyed loaded most_frames ≡ Ok s → range_fault shift s.frames ≡ None → new ≡ edited shift loaded s
-      → (bytes : List ℕ) → Holds files name bytes → gained shift bytes ≡ Ok new
-  edited_is s new is none made bytes holds =
-      subst (λ b. gained shift b ≡ Ok new) (all.bytes bytes holds)
-      (gained-survey shift loaded s all.few is ∙ ap (λ o. unless o (edited shift loaded s)) none ∙ ap (λ l. Ok l) (sym made))
+pub input_numbers : (shift : Shift) (input output : List ℕ) (fault : EditFault) → IsOfInput fault → HasNumbers (gain_command shift input output) fault
+input_numbers shift input output (EqualNames place) h = absurd h
+input_numbers shift input output (Input place fault) h = (omega (arith, h.0), h.1, h.2)
+input_numbers shift input output (GainRange offset granule channel gain) h = tt
+input_numbers shift input output (Write place) h = absurd h
+input_numbers shift input output Memory h = tt
 
--- the junk is dropped from the bytes with moved gains
-pub junk_dropped : (shift : Shift) (file rows_bytes new : List ℕ) (s : SurveyFields) (at size : ℕ) → surveyed file most_frames ≡ Ok s → rows_bytes ≡ with_rows shift s.frames file → at ≡ s.junk → size ≡ s.first - s.junk
-    → new ≡ take at rows_bytes ++ drop (at + size) rows_bytes → new ≡ edited shift file s
-junk_dropped shift file rows_bytes new s at size is moved place long dropped =
-    let order = ordered file most_frames s is in
-    let end : at + size ≡ s.first = omega (arith, place, long, order.junk) in
-    dropped
-    ∙ ap₂ (λ m n. take m rows_bytes ++ drop n rows_bytes) place end
-    ∙ ap (λ (l : List ℕ). take s.junk l ++ drop s.first l) moved
-    ∙ whole_edited shift file most_frames s is
+pub pass_numbers : (shift : Shift) (input output : List ℕ) (fault : EditFault) → IsOfPass fault → HasNumbers (gain_command shift input output) fault
+pass_numbers shift input output (EqualNames place) h = absurd h
+pass_numbers shift input output (Input place fault) h = (omega (arith, h.0), h.1, h.2)
+pass_numbers shift input output (GainRange offset granule channel gain) h = absurd h
+pass_numbers shift input output (Write place) h = omega (arith, h)
+pass_numbers shift input output Memory h = tt
 
-pub junk_within : (file : List ℕ) (s : SurveyFields) (at size : ℕ) → surveyed file most_frames ≡ Ok s → at ≡ s.junk → size ≡ s.first - s.junk → at + size ≤ length file
-junk_within file s at size is place long = let order = ordered file most_frames s is in omega (arith, place, long, order.junk, order.first)
+-- ---- the second pass
+
+-- the input was surveyed, and no gain would leave its range
+pub record IsFree (shift : Shift) (input : List ℕ) (files : Files) (s : SurveyFields) : Type 0 where
+  pub there : IsThere files input
+  pub few : (bytes : List ℕ) → Holds files input bytes → survey_of bytes most_frames ≡ Ok s
+  pub gained_is : (bytes : List ℕ) → Holds files input bytes → gained shift bytes ≡ Ok (edited shift bytes s)
+
+survey_of-few : (bytes : List ℕ) (s : SurveyFields) → survey_of bytes most_frames ≡ Ok s → length bytes ≤ longest_file
+survey_of-few bytes s is = (survey_of-parts bytes most_frames s is).0
+
+module _ (shift : Shift) (input output : List ℕ) (differ : bytes_eq input output ≡ false) where
+  gives_made : (f : Contents) (s : SurveyFields) → IsFree shift input (Some f) s → (bytes : List ℕ) → f input ≡ Some bytes → (gain_command shift input output).makes f ≡ made_of output (Ok (edited shift bytes s))
+  gives_made f s free bytes holds = ap (made_of output) (gain_result-other shift input output f (Some bytes) differ holds ∙ free.gained_is bytes holds)
+
+  free_takes : (files : Files) (s : SurveyFields) → IsFree shift input files s → IfSome files (λ f. TakesMemory ((gain_command shift input output).makes f))
+  free_takes None s free = tt
+  free_takes (Some f) s free = let held = there_holds f input free.there in subst TakesMemory (sym (gives_made f s free held.0 held.1)) tt
+
+  -- the output was written whole
+  made_whole : (files new : Files) (s : SurveyFields) → IsFree shift input files s → ((bytes : List ℕ) → Holds files input bytes → new ≡ holding files output (edited shift bytes s))
+      → IfSome files (λ f. (made : Made) × ((gain_command shift input output).makes f ≡ Ok made) × (new ≡ Some (written made.outputs f)))
+  unfolding holding
+  made_whole None new s free written = tt
+  made_whole (Some f) new s free written =
+      let held = there_holds f input free.there in
+      (record { outputs = record { name = output; bytes = edited shift held.0 s } ∷ []; text = [] }, gives_made f s free held.0 held.1, written held.0 held.1)
+
+  is_done : (old new : Seen) (s : SurveyFields) → IsFree shift input old.files s → ((bytes : List ℕ) → Holds old.files input bytes → new.files ≡ holding old.files output (edited shift bytes s))
+      → is_some new.files ≡ is_some old.files → new.counts ≡ old.counts → IsDone (gain_command shift input output) old new
+  is_done old new s free written told counts = record { made = made_whole old.files new.files s free written; told = told; counts = counts }
+
+  -- or in part
+  begun_to : (f : Contents) (new : Files) (moved : List ℕ) → HoldsPrefix output moved (Some f) new → (count : Option ℕ) × (new ≡ Some (written_to 0 count (record { name = output; bytes = moved } ∷ []) f))
+  unfolding holding
+  begun_to f new moved (inl stays) = (None, stays)
+  begun_to f new moved (inr part) = (Some part.0, part.1)
+
+  written_part : (old new : Files) (s : SurveyFields) → IsFree shift input old s → ((bytes : List ℕ) → Holds old input bytes → HoldsPrefix output (edited shift bytes s) old new)
+      → is_some new ≡ is_some old → IsWrittenTo (gain_command shift input output) 0 old new
+  written_part None new s free part told = record { made = tt; told = told }
+  written_part (Some f) new s free part told =
+      let held = there_holds f input free.there in
+      let begun = begun_to f new (edited shift held.0 s) (part held.0 held.1) in
+      record {
+        made = (record { outputs = record { name = output; bytes = edited shift held.0 s } ∷ []; text = [] }, gives_made f s free held.0 held.1, omega arith, begun.0, begun.1);
+        told = told;
+      }
+
+  module _ (old new : Seen) (fault : EditFault) (s : SurveyFields) (free : IsFree shift input old.files s) (told : is_some new.files ≡ is_some old.files) where
+    pass_left_by : (why : Why) → IsPassFaultBy shift s input output old new why → LeavesBy (gain_command shift input output) old new fault why
+    pass_left_by Refused h = absurd h
+    pass_left_by Missing h = absurd h
+    pass_left_by Unread h = record { rose = h.rose; files = inr (0, written_part old.files new.files s free h.files told) }
+    pass_left_by Shorter h = record { rose = h.rose; counts = h.counts; before = h.untold_before; after = h.untold_after }
+    pass_left_by (Unwritten k) h =
+        record { rose = h.1.rose; files = subst (λ n. IsWrittenTo (gain_command shift input output) n old.files new.files) (sym h.0) (written_part old.files new.files s free h.1.files told) }
+    pass_left_by NoMemory h = record { names = no_clash shift input output differ; takes = free_takes old.files s free; stays = h }
+
+    pub pass_left : IsPassFault shift s input output old new fault → Leaves (gain_command shift input output) old new fault
+    pass_left h = pass_left_by (why_of fault) h
 
 -- ---- what the output holds
 
-held_is : (files : Files) (name bytes made : List ℕ) → Holds (holding files name bytes) name made → bytes ≡ made
-unfolding holding
-held_is None name bytes made holds = absurd holds
-held_is (Some f) name bytes made holds = some_is bytes made (sym (with_file_here f name bytes) ∙ holds)
-  where
-    some_is : (xs ys : List ℕ) → Some xs ≡ Some ys → xs ≡ ys
-    some_is xs ys e = cc
+abbrev ok_made : Made → Result Made EditFault
+ok_made made = Ok made
 
--- the output that was written holds the stream of the input with each gain moved
-pub holds_moved : (shift : Shift) (input output bytes given : List ℕ) (old read new : Files) → given ≡ bytes → ((file : List ℕ) → Holds old input file → IsStreamMoved shift file bytes)
-    → new ≡ holding read output given → HoldsMovedStream shift input output old new
-holds_moved shift input output bytes given old read new is each written file made holds holds_made =
-    subst (IsStreamMoved shift file) (sym is ∙ held_is read output given made (subst (λ f. Holds f output made) written holds_made)) (each file holds)
+stream_in-survey : (file : List ℕ) (s : SurveyFields) → surveyed file (length file + 1) ≡ Ok s → stream_in file ≡ stream_of_survey file s
+unfolding stream_in
+stream_in-survey file s is = ap (stream_by file) is
+
+pub moved_holds : (shift : Shift) (file new : List ℕ) → IsStreamMoved shift file new → HoldsStream new (map (moved_stream_frame shift) (stream_in file))
+moved_holds shift file new h = record {
+  well_formed = h.after;
+  stream_is = stream_in-survey new h.after.0 h.after.1 ∙ h.stream ∙ ap (map (moved_stream_frame shift)) (sym (stream_in-survey file h.before.0 h.before.1));
+}
+
+pub makes_streams : (shift : Shift) (input output : List ℕ) (f : Contents) (bytes : List ℕ) → bytes_eq input output ≡ false → f input ≡ Some bytes → AreBytes bytes → (made : Made)
+    → (gain_command shift input output).makes f ≡ Ok made → MakesStreams (gain_command shift input output) f made
+makes_streams shift input output f bytes differ holds octets made is = at (gained shift bytes) refl (ap (made_of output) (sym (gain_result-other shift input output f (Some bytes) differ holds)) ∙ is)
+  where
+    at : (r : Result (List ℕ) EditFault) → gained shift bytes ≡ r → made_of output r ≡ Ok made → MakesStreams (gain_command shift input output) f made
+    at (Err fault) e is = absurd cc
+    at (Ok new) e is =
+        let moved = gained-stream shift bytes new octets e in
+        subst (MakesStreams (gain_command shift input output) f) (made_is _ made is)
+        (record {
+          sources = ((bytes, holds, moved.before), tt);
+          streams = (subst (λ o. HoldsStream new (map (moved_stream_frame shift) (stream_in (unwrap_or o [])))) (sym holds) (moved_holds shift bytes new moved), tt);
+        })
+      where
+        made_is : (a b : Made) → ok_made a ≡ ok_made b → a ≡ b
+        made_is a b e = cc
+
+-- ---- the whole command, where the second pass goes on from what the survey left as it was
+
+module _ {T : Type 0} (shift : Shift) (input output : List ℕ) (differ : bytes_eq input output ≡ false) (old mid new : Seen) (stays : mid ≡ old) (s : SurveyFields) (free : IsFree shift input old.files s) (told : is_some new.files ≡ is_some mid.files) where
+  pub done_behind : (r : Result T EditFault) → OnOk r ((bytes : List ℕ) → Holds mid.files input bytes → new.files ≡ holding mid.files output (edited shift bytes s)) → OnOk r (new.counts ≡ mid.counts)
+      → OnOk r (IsDone (gain_command shift input output) old new)
+  done_behind (Ok x) written counts =
+      subst (λ m. IsDone (gain_command shift input output) m new) stays
+      (is_done shift input output differ mid new s (subst (λ (m : Seen). IsFree shift input m.files s) (sym stays) free) written told counts)
+  done_behind (Err fault) written counts = tt
+
+  pub left_behind : (r : Result T EditFault) → IfErr r (IsPassFault shift s input output mid new) → IfErr r (Leaves (gain_command shift input output) old new)
+  left_behind (Ok x) h = tt
+  left_behind (Err fault) h =
+      subst (λ m. Leaves (gain_command shift input output) m new fault) stays
+      (pass_left shift input output differ mid new fault s (subst (λ (m : Seen). IsFree shift input m.files s) (sym stays) free) told h)
+
+pub streams_behind : {T E : Type 0} (shift : Shift) (input output : List ℕ) (differ : bytes_eq input output ≡ false) (files : Files) → IsThere files input → ((bytes : List ℕ) → Holds files input bytes → AreBytes bytes)
+    → (r : Result T E) → OnOk r (IfSome files (λ f. (made : Made) → (gain_command shift input output).makes f ≡ Ok made → MakesStreams (gain_command shift input output) f made))
+streams_behind shift input output differ files there octets (Ok x) = at files there octets
+  where
+    at : (files : Files) → IsThere files input → ((bytes : List ℕ) → Holds files input bytes → AreBytes bytes)
+        → IfSome files (λ f. (made : Made) → (gain_command shift input output).makes f ≡ Ok made → MakesStreams (gain_command shift input output) f made)
+    at None there octets = tt
+    at (Some f) there octets = let held = there_holds f input there in makes_streams shift input output f held.0 differ held.1 (octets held.0 held.1)
+streams_behind shift input output differ files there octets (Err fault) = tt

@@ -76,6 +76,11 @@ unfoldable pub range_fault : Shift → List Row → Option EditFault
 range_fault shift [] = None
 range_fault shift (row ∷ rows) = stuck_fault row.offset (stuck_in shift row.side) (range_fault shift rows)
 
+-- a gain would leave its range
+abbrev pub IsRangeFault : EditFault → Type 0
+IsRangeFault (GainRange offset granule channel gain) = Unit {0}
+IsRangeFault _ = ⊥
+
 -- ---- the command
 
 -- an input may have so many frames

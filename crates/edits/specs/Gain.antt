@@ -1,112 +1,106 @@
--- What a gain command leaves in its folder, by its answer.
-use Rattle.std.specs.Prelude.{◌≡◌, ◌⊎◌, ℕ, ◌≤◌, List, length, take, Result, Ok, Err, option_map, IfSome}
-use Rattle.outside.specs.Files.{Files, untold, with_file, Holds, IsThere, IsMissing}
+-- The gain command.
+use Rattle.std.specs.Prelude.{◌≡◌, ◌⊎◌, ℕ, ◌≤◌, take, List, [], ◌∷◌, length, map, Bool, false, Option, None, Some, unwrap_or, Result, Ok, Err, option_map}
+use Rattle.outside.specs.Files.{Contents, Files, untold, with_file, Holds, IsThere, IsMissing}
 use Rattle.outside.specs.Counts.{Counts, Rose, NothingFailed}
 use Rattle.sync_survey.specs.Faults.{longest_file}
+use Rattle.sync_survey.specs.declared.survey_fault.SurveyFault.TheVariants.{Absent}
 use Rattle.edits.specs.declared.fault.EditFault.{EditFault}
-use Rattle.edits.specs.declared.fault.EditFault.TheVariants.{EqualNames, Input, GainRange, Write, Memory}
+use Rattle.edits.specs.declared.fault.EditFault.TheVariants.{Input}
 use Rattle.edits.specs.declared.shift.Shift.{Shift}
-use Rattle.edits.specs.Kinds.{kind_of, by_kind, HasRightNumbers}
-use Rattle.edits.specs.Edited.{gained, gain_result}
+use Rattle.edits.specs.Command.{Made, Command}
+use Rattle.edits.specs.Left.{Why, Refused, Missing, Unread, Shorter, Unwritten, NoMemory, why_of, Seen}
+use Rattle.sync_survey.specs.Faults.{SurveyFields}
+use Rattle.edits.specs.Edited.{edited, gained, gain_result}
+use Rattle.edits.specs.Streams.{stream_in, moved_stream_frame}
+
+-- ---- the command
+
+abbrev pub made_of : List ℕ → Result (List ℕ) EditFault → Result Made EditFault
+made_of output (Ok bytes) = Ok (record { outputs = record { name = output; bytes = bytes } ∷ []; text = [] })
+made_of output (Err fault) = Err fault
+
+-- the output is the input with its gains moved, and so is its stream
+abbrev pub gain_command : Shift → List ℕ → List ℕ → Command
+gain_command shift input output = record {
+  inputs = input ∷ [];
+  outputs = output ∷ [];
+  sources = input ∷ [];
+  speaks = false;
+  makes = λ files. made_of output (gain_result shift input output files);
+  streams = λ files. map (moved_stream_frame shift) (stream_in (unwrap_or (files input) [])) ∷ [];
+}
+
+-- ---- its steps
 
 -- the same files, where they are told, but that the name holds these bytes
 unfoldable pub holding : Files → List ℕ → List ℕ → Files
 holding files name bytes = option_map (λ f. with_file f name bytes) files
 
--- the files that are told make the command give this
-abbrev pub Gives : Shift → List ℕ → List ℕ → Files → Result (List ℕ) EditFault → Type 0
-Gives shift input output files result = IfSome files (λ f. gain_result shift input output f ≡ result)
-
--- the output was written whole
-pub record IsWritten (shift : Shift) (input output : List ℕ) (old new : Files) : Type 0 where
-  pub bytes : List ℕ
-  pub defined : Gives shift input output old (Ok bytes)
-  pub files : new ≡ holding old output bytes
-
--- the output was created and holds a front of what is defined
-pub record HoldsFront (output bytes : List ℕ) (old new : Files) : Type 0 where
-  pub count : ℕ
-  pub within : count ≤ length bytes
-  pub files : new ≡ holding old output (take count bytes)
-
--- the output could not be created, or holds a front of what is defined
-pub record IsWrittenInPart (shift : Shift) (input output : List ℕ) (old new : Files) : Type 0 where
-  pub bytes : List ℕ
-  pub defined : Gives shift input output old (Ok bytes)
-  pub left : (new ≡ old) ⊎ HoldsFront output bytes old new
-
--- what is left after a fault: all files as they were, but for a fault of writing
-abbrev pub LeavesAt : Shift → List ℕ → List ℕ → Files → Files → EditFault → Type 0
-LeavesAt shift input output old new (EqualNames place) = new ≡ old
-LeavesAt shift input output old new (Input place fault) = new ≡ old
-LeavesAt shift input output old new (GainRange offset granule channel gain) = new ≡ old
-LeavesAt shift input output old new (Write place) = IsWrittenInPart shift input output old new
-LeavesAt shift input output old new Memory = new ≡ old
-
--- the input is there with a length that it may have, so that memory for its bytes is taken
-pub record NeedsMemory (name : List ℕ) (files : Files) : Type 0 where
-  pub there : IsThere files name
-  pub few : (bytes : List ℕ) → Holds files name bytes → length bytes ≤ longest_file
-
--- A refusal is the one that is defined. A fault of reading or writing is none; a file becomes shorter only where nothing is told; and
--- want of memory comes only where memory is taken.
-abbrev pub IsDefinedAt : Shift → List ℕ → List ℕ → Files → EditFault → Type 0
-IsDefinedAt shift input output old (EqualNames place) = Gives shift input output old (Err (EqualNames place))
-IsDefinedAt shift input output old (Input place fault) = by_kind (record {
-  absent = Gives shift input output old (Err (Input place fault));
-  unread = Unit {0};
-  shorter = old ≡ untold;
-  too_much = ⊥;
-  refused = Gives shift input output old (Err (Input place fault));
-}) (kind_of fault)
-IsDefinedAt shift input output old (GainRange offset granule channel gain) = Gives shift input output old (Err (GainRange offset granule channel gain))
-IsDefinedAt shift input output old (Write place) = place ≡ 0
-IsDefinedAt shift input output old Memory = NeedsMemory input old
-
--- the cause of a fault: the count that is named rose, and where none is named, no file was missing and no call failed
-abbrev pub IsCounted : Counts → Counts → EditFault → Type 0
-IsCounted before after (EqualNames place) = NothingFailed before after
-IsCounted before after (Input place fault) = by_kind (record {
-  absent = Rose before.misses after.misses;
-  unread = Rose before.read_faults after.read_faults;
-  shorter = Rose before.ends after.ends × NothingFailed before after;
-  too_much = ⊥;
-  refused = NothingFailed before after;
-}) (kind_of fault)
-IsCounted before after (GainRange offset granule channel gain) = NothingFailed before after
-IsCounted before after (Write place) = Rose before.write_faults after.write_faults
-IsCounted before after Memory = NothingFailed before after
-
--- what the numbers of a fault say over every folder; the one input and the one output have the number 0
-abbrev pub IsOfOneFile : EditFault → Type 0
-IsOfOneFile (EqualNames place) = place ≡ 0
-IsOfOneFile (Input place fault) = (place ≡ 0) × HasRightNumbers fault
-IsOfOneFile (GainRange offset granule channel gain) = Unit {0}
-IsOfOneFile (Write place) = place ≡ 0
-IsOfOneFile Memory = Unit {0}
-
 -- the input is there, and its bytes are refused
-abbrev pub RefusesBytes : Shift → List ℕ → Files → EditFault → Type 0
-RefusesBytes shift name files fault = IsThere files name × ((bytes : List ℕ) → Holds files name bytes → gained shift bytes ≡ Err fault)
+pub record RefusesBytes (shift : Shift) (name : List ℕ) (old new : Seen) (fault : EditFault) : Type 0 where
+  pub there : IsThere old.files name
+  pub bytes : (bytes : List ℕ) → Holds old.files name bytes → gained shift bytes ≡ Err fault
+  pub stays : new ≡ old
 
--- what a fault met while the input was read and edited says of the files
-abbrev pub IsInputFault : Shift → List ℕ → Files → EditFault → Type 0
-IsInputFault shift name files (EqualNames place) = ⊥
-IsInputFault shift name files (Input place fault) = (place ≡ 0) × by_kind (record {
-  absent = IsMissing files name;
-  unread = Unit {0};
-  shorter = files ≡ untold;
-  too_much = ⊥;
-  refused = RefusesBytes shift name files (Input place fault);
-}) (kind_of fault)
-IsInputFault shift name files (GainRange offset granule channel gain) = RefusesBytes shift name files (GainRange offset granule channel gain)
-IsInputFault shift name files (Write place) = ⊥
-IsInputFault shift name files Memory = NeedsMemory name files
+pub record MissesInput (name : List ℕ) (old new : Seen) (fault : EditFault) : Type 0 where
+  pub is : fault ≡ Input 0 Absent
+  pub missing : IsMissing old.files name
+  pub rose : Rose old.counts.misses new.counts.misses
+  pub files : new.files ≡ old.files
 
--- a gain would leave its range
-abbrev pub IsRangeFault : EditFault → Type 0
-IsRangeFault (EqualNames place) = ⊥
-IsRangeFault (Input place fault) = ⊥
-IsRangeFault (GainRange offset granule channel gain) = Unit {0}
-IsRangeFault (Write place) = ⊥
-IsRangeFault Memory = ⊥
+pub record ReadsNothing (old new : Seen) : Type 0 where
+  pub rose : Rose old.counts.read_faults new.counts.read_faults
+  pub files : new.files ≡ old.files
+
+pub record LosesInput (old new : Seen) : Type 0 where
+  pub rose : Rose old.counts.ends new.counts.ends
+  pub counts : NothingFailed old.counts new.counts
+  pub untold_before : old.files ≡ untold
+  pub untold_after : new.files ≡ untold
+
+-- the input is there with a length that it may have, so that memory is taken for it
+pub record NeedsMemory (name : List ℕ) (old new : Seen) : Type 0 where
+  pub there : IsThere old.files name
+  pub few : (bytes : List ℕ) → Holds old.files name bytes → length bytes ≤ longest_file
+  pub stays : new ≡ old
+
+abbrev pub IsInputFaultBy : Shift → List ℕ → Seen → Seen → EditFault → Why → Type 0
+IsInputFaultBy shift name old new fault Refused = RefusesBytes shift name old new fault
+IsInputFaultBy shift name old new fault Missing = MissesInput name old new fault
+IsInputFaultBy shift name old new fault Unread = ReadsNothing old new
+IsInputFaultBy shift name old new fault Shorter = LosesInput old new
+IsInputFaultBy shift name old new fault (Unwritten k) = ⊥
+IsInputFaultBy shift name old new fault NoMemory = NeedsMemory name old new
+
+-- what a fault that was met before the output is created says of the input
+abbrev pub IsInputFault : Shift → List ℕ → Seen → Seen → EditFault → Type 0
+IsInputFault shift name old new fault = IsInputFaultBy shift name old new fault (why_of fault)
+
+-- ---- the second pass
+
+-- the output wasn't created, or holds a prefix of these bytes
+abbrev pub HoldsPrefix : List ℕ → List ℕ → Files → Files → Type 0
+HoldsPrefix name bytes old new = (new ≡ old) ⊎ ((count : ℕ) × (new ≡ holding old name (take count bytes)))
+
+-- the output wasn't created, or holds a prefix of what it is to hold, where the input is told
+abbrev pub IsBegun : Shift → SurveyFields → List ℕ → List ℕ → Files → Files → Type 0
+IsBegun shift s input output old new = (bytes : List ℕ) → Holds old input bytes → HoldsPrefix output (edited shift bytes s) old new
+
+pub record StopsReading (shift : Shift) (s : SurveyFields) (input output : List ℕ) (old new : Seen) : Type 0 where
+  pub rose : Rose old.counts.read_faults new.counts.read_faults
+  pub files : IsBegun shift s input output old.files new.files
+
+pub record StopsWriting (shift : Shift) (s : SurveyFields) (input output : List ℕ) (old new : Seen) : Type 0 where
+  pub rose : Rose old.counts.write_faults new.counts.write_faults
+  pub files : IsBegun shift s input output old.files new.files
+
+abbrev pub IsPassFaultBy : Shift → SurveyFields → List ℕ → List ℕ → Seen → Seen → Why → Type 0
+IsPassFaultBy shift s input output old new Unread = StopsReading shift s input output old new
+IsPassFaultBy shift s input output old new Shorter = LosesInput old new
+IsPassFaultBy shift s input output old new (Unwritten k) = (k ≡ 0) × StopsWriting shift s input output old new
+IsPassFaultBy shift s input output old new NoMemory = new ≡ old
+IsPassFaultBy shift s input output old new _ = ⊥
+
+-- what a fault leaves that was met while the output was written
+abbrev pub IsPassFault : Shift → SurveyFields → List ℕ → List ℕ → Seen → Seen → EditFault → Type 0
+IsPassFault shift s input output old new fault = IsPassFaultBy shift s input output old new (why_of fault)

@@ -2,5 +2,7 @@
 pub mod Kinds
 pub mod Gains
 pub mod Edited
-pub mod Gain
 pub mod Streams
+pub mod Command
+pub mod Left
+pub mod Gain

@@ -1,11 +1,11 @@
 -- What a change of gains makes of the survey of a file, and of the stream that the file holds.
-use Rattle.std.specs.Prelude.{◌≡◌, ℕ, ◌-◌, nat_lt, if◌then◌else◌, List, ◌++◌, take, drop, map, option_map}
+use Rattle.std.specs.Prelude.{◌≡◌, ℕ, ◌+◌, ◌-◌, nat_lt, if◌then◌else◌, List, [], ◌++◌, length, take, drop, map, option_map, Result, Ok, Err}
 use Rattle.sync_survey.specs.declared.places.Head.{Head}
 use Rattle.sync_survey.specs.declared.places.Piece.{Piece}
 use Rattle.sync_survey.specs.declared.rows.Row.{Row}
 use Rattle.sync_survey.specs.MainData.{StreamFrame}
-use Rattle.sync_survey.specs.Faults.{SurveyFields, IsWellFormed, stream_of_survey}
-use Rattle.outside.specs.Files.{Files, Holds}
+use Rattle.sync_survey.specs.Faults.{SurveyFields, surveyed, IsWellFormed, stream_of_survey}
+use Rattle.sync_survey.specs.declared.survey_fault.SurveyFault.{SurveyFault}
 use Rattle.edits.specs.declared.shift.Shift.{Shift}
 use Rattle.edits.specs.Gains.{moved_side}
 
@@ -57,6 +57,17 @@ pub record IsStreamMoved (shift : Shift) (file new : List ℕ) : Type 0 where
   pub after : IsWellFormed new
   pub stream : stream_of_survey new after.0 ≡ map (moved_stream_frame shift) (stream_of_survey file before.0)
 
--- The input was a well-formed file, and the output is one that holds its stream with each gain moved.
-abbrev pub HoldsMovedStream : Shift → List ℕ → List ℕ → Files → Files → Type 0
-HoldsMovedStream shift input output old new = (file made : List ℕ) → Holds old input file → Holds new output made → IsStreamMoved shift file made
+-- ---- the stream of a file
+
+abbrev pub stream_by : List ℕ → Result SurveyFields SurveyFault → List StreamFrame
+stream_by file (Ok s) = stream_of_survey file s
+stream_by file (Err fault) = []
+
+-- the stream of a well-formed file
+unfoldable pub stream_in : List ℕ → List StreamFrame
+stream_in file = stream_by file (surveyed file (length file + 1))
+
+-- the file is well-formed, and this is its stream
+pub record HoldsStream (file : List ℕ) (stream : List StreamFrame) : Type 0 where
+  pub well_formed : IsWellFormed file
+  pub stream_is : stream_in file ≡ stream

@@ -1,59 +1,68 @@
 //! The gain command over a folder.
-ghost use Rattle.std.specs.Prelude.{◌≡◌, ◌⊎◌, ◌↔◌, ◌+◌, ◌<◌, ◌≤◌, ◌^◌, List, ℕ, length, take, vec_len, IfOk, IfErr, OnOk, OnErr, IsErrOf, MatchResult};
-ghost use Rattle.outside.specs.Files.{Holds, IsThere, IsMissing};
-ghost use Rattle.outside.specs.Counts.{Rose, NoneFell, OnlyReads, OnlyWrites, NothingFailed};
-ghost use Rattle.edits.specs.Edited.{gained};
-ghost use Rattle.edits.specs.Streams.{IsStreamMoved, HoldsMovedStream};
-ghost use Rattle.edits.specs.Gain.{holding, HoldsFront, IsInputFault, IsWritten, IsDefinedAt, IsCounted, IsOfOneFile, LeavesAt};
+ghost use Rattle.std.specs.Prelude.{◌≡◌, ◌↔◌, List, ℕ, Ok, is_some, IfOk, IfErr, IfSome, OnOk, IsErrOf};
+ghost use Rattle.bit_fields.specs.Bits.{AreBytes};
+ghost use Rattle.outside.specs.Files.{Holds, IsThere};
+ghost use Rattle.outside.specs.Counts.{NoneFell, OnlyReads};
+ghost use Rattle.sync_survey.specs.Faults.{tells};
+ghost use Rattle.sync_survey.specs.Survey.{survey_of};
+ghost use Rattle.edits.specs.Command.{Made, MakesStreams};
+ghost use Rattle.edits.specs.Edited.{edited, gained, most_frames};
+ghost use Rattle.edits.specs.Gain.{gain_command, holding, IsInputFault, IsPassFault};
+ghost use Rattle.edits.specs.Left.{seen, IsDone, Leaves, HasNumbers, IsOfInput, IsOfPass};
 
-use crate::edit::{drop_junk, move_gains, range_fault};
+use crate::edit::range_fault;
 use crate::fault::EditFault;
 use crate::shift::Shift;
-use outside::{Failed, Folder, write_all};
+use outside::Folder;
 use std::alloc::Global;
-use sync_survey::{load, survey_bytes};
+use sync_survey::{Survey, survey};
 
 /// An input may have so many frames.
 const MOST_FRAMES: u32 = 2_900_000;
 
-/// The bytes of the output: those of the input with its gains moved.
-fn edited_input<D: Folder>(
+/// What is known of the input, where no gain of it would leave its range.
+fn survey_input<D: Folder>(
     alloc: Global,
     folder: &mut D,
     name: &str,
     shift: &Shift,
-) -> Result<Vec<u8>, EditFault>
+) -> Result<Survey, EditFault>
     ensures there { OnOk result (IsThere (D.files folder.old) name.now) }
-    ensures gained { IfOk result (λ v. (bytes : List ℕ) → Holds (D.files folder.old) name.now bytes → gained shift.now bytes ≡ Ok v.items) }
-    ensures moved { IfOk result (λ v. (bytes : List ℕ) → Holds (D.files folder.old) name.now bytes → IsStreamMoved shift.now bytes v.items) }
-    ensures refused { IfErr result (IsInputFault shift.now name.now (D.files folder.old)) }
-    ensures done { OnOk result (NothingFailed (D.counts folder.old) (D.counts folder.new)) }
-    ensures counted { IfErr result (IsCounted (D.counts folder.old) (D.counts folder.new)) }
-    ensures numbers { IfErr result IsOfOneFile }
+    ensures gained { IfOk result (λ s. (bytes : List ℕ) → Holds (D.files folder.old) name.now bytes → gained shift.now bytes ≡ Ok (edited shift.now bytes (tells s))) }
+    ensures surveyed { IfOk result (λ s. (bytes : List ℕ) → Holds (D.files folder.old) name.now bytes → survey_of bytes most_frames ≡ Ok (tells s)) }
+    ensures octets { OnOk result ((bytes : List ℕ) → Holds (D.files folder.old) name.now bytes → AreBytes bytes) }
+    ensures refused { IfErr result (IsInputFault shift.now name.now (seen (D.files folder.old) (D.counts folder.old)) (seen (D.files folder.new) (D.counts folder.new))) }
+    ensures numbers { IfErr result IsOfInput }
+    ensures done { OnOk result (D.counts folder.new ≡ D.counts folder.old) }
     ensures files { D.files folder.new ≡ D.files folder.old }
     ensures counts { OnlyReads (D.counts folder.old) (D.counts folder.new) }
 {
-    let mut bytes = load(alloc, folder, name)?;
-    let survey = survey_bytes(alloc, &bytes, MOST_FRAMES)?;
-    if let Some(fault) = range_fault(shift, survey.frames()) {
-        return Err(fault);
+    let survey = survey(alloc, folder, name, MOST_FRAMES)?;
+    match range_fault(shift, survey.frames()) {
+        Some(fault) => Err(fault),
+        None => Ok(survey),
     }
-    move_gains(shift, survey.frames(), &mut bytes);
-    let (at, length) = survey.junk();
-    drop_junk(at as usize, length as usize, &mut bytes);
-    Ok(bytes)
 }
 
-/// Writes the output whole, or fails with the output as it was or with a front of the bytes.
-fn save<D: Folder>(folder: &mut D, name: &str, bytes: &[u8]) -> Result<(), Failed>
-    ensures written { OnOk result (D.files folder.new ≡ holding (D.files folder.old) name.now bytes.now) }
-    ensures front { OnErr result ((D.files folder.new ≡ D.files folder.old) ⊎ HoldsFront name.now bytes.now (D.files folder.old) (D.files folder.new)) }
-    ensures done { OnOk result (NothingFailed (D.counts folder.old) (D.counts folder.new)) }
-    ensures failed { OnErr result (Rose (D.counts folder.old).write_faults (D.counts folder.new).write_faults) }
-    ensures counts { OnlyWrites (D.counts folder.old) (D.counts folder.new) }
+/// Writes the output. All memory is taken before it is created.
+fn write_output<D: Folder>(
+    alloc: Global,
+    folder: &mut D,
+    input: &str,
+    output: &str,
+    survey: &Survey,
+    shift: &Shift,
+) -> Result<(), EditFault>
+    requires there { IsThere (D.files folder.old) input.now }
+    requires surveyed { (bytes : List ℕ) → Holds (D.files folder.old) input.now bytes → survey_of bytes most_frames ≡ Ok (tells survey.now) }
+    ensures written { OnOk result ((bytes : List ℕ) → Holds (D.files folder.old) input.now bytes → D.files folder.new ≡ holding (D.files folder.old) output.now (edited shift.now bytes (tells survey.now))) }
+    ensures told { is_some (D.files folder.new) ≡ is_some (D.files folder.old) }
+    ensures done { OnOk result (D.counts folder.new ≡ D.counts folder.old) }
+    ensures left { IfErr result (IsPassFault shift.now (tells survey.now) input.now output.now (seen (D.files folder.old) (D.counts folder.old)) (seen (D.files folder.new) (D.counts folder.new))) }
+    ensures numbers { IfErr result IsOfPass }
+    ensures counts { NoneFell (D.counts folder.old) (D.counts folder.new) }
 {
-    folder.create(name)?;
-    write_all(folder, name, bytes)
+    Err(EditFault::Memory)
 }
 
 /// Writes the output, which is the input with its gains moved by the shift.
@@ -62,7 +71,7 @@ fn save<D: Folder>(folder: &mut D, name: &str, bytes: &[u8]) -> Result<(), Faile
 /// fault of the survey of the input, of which 2,900,000 frames are allowed; `GainRange` for the first gain that
 /// would leave the range without wrap. Then nothing was created. `Input` with `Read` and `Write(0)` come only
 /// where a call of that kind failed, `Input` with `Absent` only where the input isn't there, and every other
-/// answer only where none failed; after `Write(0)` the output is as it was or holds a front of its bytes.
+/// answer only where none failed; after `Write(0)` the output is as it was or holds a prefix of its bytes.
 /// `Memory` may come once the input was found with a length that it may have, before the output is created,
 /// and not from then on.
 pub fn gain<D: Folder>(
@@ -72,25 +81,18 @@ pub fn gain<D: Folder>(
     output: &str,
     shift: &Shift,
 ) -> Result<(), EditFault>
-    ensures written { OnOk result (IsWritten shift.now input.now output.now (D.files folder.old) (D.files folder.new)) }
-    // The output is well-formed as the input is, and holds the same stream with each gain moved.
-    ensures moved { OnOk result (HoldsMovedStream shift.now input.now output.now (D.files folder.old) (D.files folder.new)) }
-    ensures defined { IfErr result (λ fault. IsDefinedAt shift.now input.now output.now (D.files folder.old) fault) }
-    ensures left { IfErr result (λ fault. LeavesAt shift.now input.now output.now (D.files folder.old) (D.files folder.new) fault) }
-    ensures equal_names { IsErrOf result (EditFault.EqualNames 0) ↔ (input.now ≡ output.now) }
-    // Where no count is named, no file was missing and no call failed.
-    ensures done { OnOk result (NothingFailed (D.counts folder.old) (D.counts folder.new)) }
-    ensures counted { IfErr result (IsCounted (D.counts folder.old) (D.counts folder.new)) }
-    // Also over a folder that tells nothing.
-    ensures numbers { IfErr result IsOfOneFile }
+    ensures done { OnOk result (IsDone (gain_command shift.now input.now output.now) (seen (D.files folder.old) (D.counts folder.old)) (seen (D.files folder.new) (D.counts folder.new))) }
+    ensures left { IfErr result (Leaves (gain_command shift.now input.now output.now) (seen (D.files folder.old) (D.counts folder.old)) (seen (D.files folder.new) (D.counts folder.new))) }
+    // Over a folder that tells nothing too.
+    ensures numbers { IfErr result (HasNumbers (gain_command shift.now input.now output.now)) }
+    ensures names { IsErrOf result (EditFault.EqualNames 0) ↔ (input.now ≡ output.now) }
+    // The input is well-formed, and the output holds its stream with each gain moved.
+    ensures streams { OnOk result (IfSome (D.files folder.old) (λ f. (made : Made) → (gain_command shift.now input.now output.now).makes f ≡ Ok made → MakesStreams (gain_command shift.now input.now output.now) f made)) }
     ensures counts { NoneFell (D.counts folder.old) (D.counts folder.new) }
 {
     if input == output {
         return Err(EditFault::EqualNames(0));
     }
-    let bytes = edited_input(alloc, folder, input, shift)?;
-    match save(folder, output, &bytes) {
-        Ok(()) => Ok(()),
-        Err(_) => Err(EditFault::Write(0)),
-    }
+    let survey = survey_input(alloc, folder, input, shift)?;
+    write_output(alloc, folder, input, output, &survey, shift)
 }

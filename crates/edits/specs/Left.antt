@@ -1,0 +1,130 @@
+-- What a command leaves of the files, by its answer, and the cause of each refusal.
+use Rattle.std.specs.Prelude.{◌≡◌, ◌≢◌, ◌⊎◌, ℕ, ◌<◌, ◌==◌, ◌&&◌, List, length, Bool, true, false, Option, Some, None, Result, Ok, Err, IfSome, is_some}
+use Rattle.outside.specs.Files.{Contents, Files, untold}
+use Rattle.outside.specs.Counts.{Counts, Rose, NothingFailed}
+use Rattle.sync_survey.specs.declared.survey_fault.SurveyFault.{SurveyFault}
+use Rattle.sync_survey.specs.declared.survey_fault.SurveyFault.TheVariants.{Absent, TooLong, Memory as NoRoom}
+use Rattle.edits.specs.Kinds.{kind_of, by_kind, HasRightNumbers}
+use Rattle.edits.specs.declared.fault.EditFault.{EditFault}
+use Rattle.edits.specs.declared.fault.EditFault.TheVariants.{EqualNames, Input, GainRange, Write, Memory}
+use Rattle.edits.specs.Command.{Made, Command, clash_of, written, written_to, Gives}
+
+-- what can be seen of a folder at a moment: the files, where they are told, and the counts
+pub record Seen : Type 0 where
+  pub files : Files
+  pub counts : Counts
+
+abbrev pub seen : Files → Counts → Seen
+seen files counts = record { files = files; counts = counts }
+
+-- ---- what a refusal comes from
+
+pub data Why : Type 0 where
+  -- the words or the files are refused
+  Refused : Why
+  -- an input isn't there
+  Missing : Why
+  -- a call that reads failed
+  Unread : Why
+  -- an input became shorter while it was read
+  Shorter : Why
+  -- a call failed that writes this output
+  Unwritten : ℕ → Why
+  -- want of memory
+  NoMemory : Why
+
+abbrev pub why_of : EditFault → Why
+why_of (Input place fault) = by_kind (record { absent = Missing; unread = Unread; shorter = Shorter; too_much = NoMemory; refused = Refused }) (kind_of fault)
+why_of (Write place) = Unwritten place
+why_of Memory = NoMemory
+why_of _ = Refused
+
+-- ---- what is left
+
+-- the command was done: all that it makes was written, and no count changed
+pub record IsDone (command : Command) (old new : Seen) : Type 0 where
+  pub made : IfSome old.files (λ f. (made : Made) × (command.makes f ≡ Ok made) × (new.files ≡ Some (written made.outputs f)))
+  pub told : is_some new.files ≡ is_some old.files
+  pub counts : new.counts ≡ old.counts
+
+-- nothing is refused, and of what the command makes the first k outputs are whole; the next one holds a prefix, or wasn't created
+pub record IsWrittenTo (command : Command) (k : ℕ) (old new : Files) : Type 0 where
+  pub made : IfSome old (λ f. (made : Made) × (command.makes f ≡ Ok made) × (k < length made.outputs) × (count : Option ℕ) × (new ≡ Some (written_to k count made.outputs f)))
+  pub told : is_some new ≡ is_some old
+
+-- the command is refused so; all is as it was
+pub record IsRefused (command : Command) (old new : Seen) (fault : EditFault) : Type 0 where
+  pub defined : Gives command old.files (Err fault)
+  pub stays : new ≡ old
+
+pub record IsMissing (command : Command) (old new : Seen) (fault : EditFault) : Type 0 where
+  pub defined : Gives command old.files (Err fault)
+  pub rose : Rose old.counts.misses new.counts.misses
+  pub files : new.files ≡ old.files
+
+pub record IsUnread (command : Command) (old new : Seen) : Type 0 where
+  pub rose : Rose old.counts.read_faults new.counts.read_faults
+  pub files : (new.files ≡ old.files) ⊎ ((k : ℕ) × IsWrittenTo command k old.files new.files)
+
+-- only a folder that tells nothing can have such a file
+pub record IsShorter (old new : Seen) : Type 0 where
+  pub rose : Rose old.counts.ends new.counts.ends
+  pub counts : NothingFailed old.counts new.counts
+  pub before : old.files ≡ untold
+  pub after : new.files ≡ untold
+
+pub record IsUnwritten (command : Command) (k : ℕ) (old new : Seen) : Type 0 where
+  pub rose : Rose old.counts.write_faults new.counts.write_faults
+  pub files : IsWrittenTo command k old.files new.files
+
+-- equal names, an absent first input and one that is too long are found before any memory is taken
+abbrev pub is_before_memory : EditFault → Bool
+is_before_memory (EqualNames place) = true
+is_before_memory (Input place Absent) = place == 0
+is_before_memory (Input place (TooLong size)) = place == 0
+is_before_memory _ = false
+
+abbrev pub TakesMemory : Result Made EditFault → Type 0
+TakesMemory (Ok made) = Unit {0}
+TakesMemory (Err fault) = is_before_memory fault ≡ false
+
+-- all is as it was, and it is a command for which memory is taken
+pub record IsOutOfMemory (command : Command) (old new : Seen) : Type 0 where
+  pub names : clash_of command ≡ None
+  pub takes : IfSome old.files (λ f. TakesMemory (command.makes f))
+  pub stays : new ≡ old
+
+abbrev pub LeavesBy : Command → Seen → Seen → EditFault → Why → Type 0
+LeavesBy command old new fault Refused = IsRefused command old new fault
+LeavesBy command old new fault Missing = IsMissing command old new fault
+LeavesBy command old new fault Unread = IsUnread command old new
+LeavesBy command old new fault Shorter = IsShorter old new
+LeavesBy command old new fault (Unwritten k) = IsUnwritten command k old new
+LeavesBy command old new fault NoMemory = IsOutOfMemory command old new
+
+-- what a fault of the command leaves, and its cause
+abbrev pub Leaves : Command → Seen → Seen → EditFault → Type 0
+Leaves command old new fault = LeavesBy command old new fault (why_of fault)
+
+-- ---- what the numbers of a fault say over every folder, told or not
+
+abbrev pub HasNumbers : Command → EditFault → Type 0
+HasNumbers command (EqualNames place) = clash_of command ≡ Some place
+HasNumbers command (Input place fault) = (place < length command.inputs) × (fault ≢ NoRoom) × HasRightNumbers fault
+HasNumbers command (Write place) = place < length command.outputs
+HasNumbers command _ = Unit {0}
+
+-- the fault is one of the only input, or none of an input or of names
+abbrev pub IsOfInput : EditFault → Type 0
+IsOfInput (EqualNames place) = ⊥
+IsOfInput (Input place fault) = (place ≡ 0) × (fault ≢ NoRoom) × HasRightNumbers fault
+IsOfInput (Write place) = ⊥
+IsOfInput _ = Unit {0}
+
+-- the same of a fault of the second pass, or want of memory
+abbrev pub IsOfPass : EditFault → Type 0
+IsOfPass (EqualNames place) = ⊥
+IsOfPass (Input place fault) = (place ≡ 0) × (fault ≢ NoRoom) × HasRightNumbers fault
+IsOfPass (GainRange offset granule channel gain) = ⊥
+IsOfPass (Write place) = place ≡ 0
+IsOfPass Memory = Unit {0}
