@@ -107,6 +107,17 @@ unfolding appended
 appended_holds_other None name more other bytes apart holds = holds
 appended_holds_other (Some f) name more other bytes apart holds = with_file_other f name _ other apart ∙ holds
 
+-- and held already what it holds
+pub emptied_held_other : (files : Files) (name other bytes : List ℕ) → other ≢ name → Holds (emptied files name) other bytes → Holds files other bytes
+unfolding emptied
+emptied_held_other None name other bytes apart holds = holds
+emptied_held_other (Some f) name other bytes apart holds = sym (with_file_other f name [] other apart) ∙ holds
+
+pub appended_held_other : (files : Files) (name more other bytes : List ℕ) → other ≢ name → Holds (appended files name more) other bytes → Holds files other bytes
+unfolding appended
+appended_held_other None name more other bytes apart holds = holds
+appended_held_other (Some f) name more other bytes apart holds = sym (with_file_other f name _ other apart) ∙ holds
+
 pub emptied_other : (f : Contents) (name other : List ℕ) → other ≢ name → (g : Contents) × (emptied (Some f) name ≡ Some g) × (g other ≡ f other)
 unfolding emptied
 emptied_other f name other apart = (with_file f name [], refl, with_file_other f name [] other apart)

@@ -1,4 +1,6 @@
 pub mod FilesLaws
 pub mod CountsLaws
 pub mod Pieces
+pub mod FeedLaws
+pub mod PassedLaws
 mod SlotsLaws

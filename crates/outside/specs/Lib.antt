@@ -6,3 +6,5 @@ pub mod Slots
 pub mod Memory
 pub mod Real
 pub mod Faults
+pub mod Feed
+pub mod Passed

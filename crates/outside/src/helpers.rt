@@ -65,8 +65,43 @@ pub fn read_full<D: Folder>(
     ensures done { OnOk result (NothingFailed (D.counts folder.old) (D.counts folder.new)) }
     ensures counts { OnlyReads (D.counts folder.old) (D.counts folder.new) }
 {
-    let mut done = 0;
-    while done < into.len() {
+    let enough = into.len();
+    read_on(folder, name, at, into, 0, enough)
+}
+
+/// Reads the file on, of which the first `have` bytes from the place `at` on are at the front of `into`, until
+/// there are `enough` or a read gives no byte, and answers how many there are then. A read is of as much as
+/// `into` takes.
+///
+/// # Errors
+/// Where a read failed.
+pub fn read_on<D: Folder>(
+    folder: &mut D,
+    name: &str,
+    at: u64,
+    into: &mut [u8],
+    have: usize,
+    enough: usize,
+) -> Result<usize, Failed>
+    requires there { IsThere (D.files folder.old) name.now }
+    requires short { at + length into.old < 2 ^ 63 }
+    requires room { have ≤ length into.old }
+    requires enough { enough ≤ length into.old }
+    ensures bound { IfOk result (λ k. k ≤ length into.old) }
+    ensures more { IfOk result (λ k. have ≤ k) }
+    ensures bytes { IfOk result (λ k. (bytes : List ℕ) → Holds (D.files folder.old) name.now bytes → take have into.old ≡ take have (drop at bytes) → take k into.new ≡ take k (drop at bytes)) }
+    ensures rest { IfOk result (λ k. drop k into.new ≡ drop k into.old) }
+    ensures end { IfOk result (λ k. (bytes : List ℕ) → Holds (D.files folder.old) name.now bytes → k < enough → length bytes - at ≤ k) }
+    ensures within { IfOk result (λ k. (bytes : List ℕ) → Holds (D.files folder.old) name.now bytes → have ≤ length bytes - at → k ≤ length bytes - at) }
+    ensures ended { IfOk result (λ k. k < enough → Rose (D.counts folder.old).ends (D.counts folder.new).ends) }
+    ensures filled { IfOk result (λ k. enough ≤ k → D.counts folder.new ≡ D.counts folder.old) }
+    ensures failed { OnErr result (Rose (D.counts folder.old).read_faults (D.counts folder.new).read_faults) }
+    ensures files { D.files folder.new ≡ D.files folder.old }
+    ensures done { OnOk result (NothingFailed (D.counts folder.old) (D.counts folder.new)) }
+    ensures counts { OnlyReads (D.counts folder.old) (D.counts folder.new) }
+{
+    let mut done = have;
+    while done < enough {
         let got = folder.read(name, at + done as u64, &mut into[done..])?;
         if got == 0 {
             return Ok(done);

@@ -4,6 +4,7 @@
 
 mod buffer;
 mod disk;
+mod feed;
 mod folder;
 mod helpers;
 mod memory_folder;
@@ -14,15 +15,18 @@ mod sink;
 mod slots;
 mod stream;
 mod tally;
+mod write_buffer;
 mod writing;
 
 pub use disk::DiskFolder;
+pub use feed::Feed;
 pub use folder::{Failed, FindFault, Folder};
 pub use helpers::{read_full, send_all, write_all};
 pub use memory_folder::{Call, MemFolder};
 pub use memory_sink::MemSink;
 pub use sink::Sink;
 pub use stream::StdSink;
+pub use write_buffer::WriteBuffer;
 
 #[cfg(test)]
 mod tests;

@@ -1,16 +1,17 @@
 use Rattle.std.proofs.Common.{◌≡◌, ℕ, ◌-◌, ◌≤◌, List, length, take, drop}
 use Rattle.outside.specs.Files.{Holds}
-use Rattle.outside.proofs.helpers.read_full.Given as goal
+use Rattle.outside.proofs.helpers.read_on.Given as goal
 
 abbrev pub invariant-loop-done : goal.invariant-loop-done
 invariant-loop-done g l = record {
   in_range : l.done ≤ length l.into;
-  read : (bytes : List ℕ) → Holds (g.D.Folder.files l.initial.folder) l.name bytes → take l.done l.into ≡ take l.done (drop l.at bytes);
-  within : (bytes : List ℕ) → Holds (g.D.Folder.files l.initial.folder) l.name bytes → l.done ≤ length bytes - l.at;
+  more : l.have ≤ l.done;
+  read : (bytes : List ℕ) → Holds (g.D.Folder.files l.initial.folder) l.name bytes → take l.have l.initial.into ≡ take l.have (drop l.at bytes) → take l.done l.into ≡ take l.done (drop l.at bytes);
+  within : (bytes : List ℕ) → Holds (g.D.Folder.files l.initial.folder) l.name bytes → l.have ≤ length bytes - l.at → l.done ≤ length bytes - l.at;
   rest : drop l.done l.into ≡ drop l.done l.initial.into;
   files : g.D.Folder.files l.folder ≡ g.D.Folder.files l.initial.folder;
   counts : g.D.Folder.counts l.folder ≡ g.D.Folder.counts l.initial.folder;
 }
 
 abbrev pub decreases-loop-done : goal.decreases-loop-done
-decreases-loop-done g l = length l.into - l.done
+decreases-loop-done g l = l.enough - l.done

@@ -2,7 +2,7 @@ use Rattle.std.proofs.Common.{◌≡◌, ◌-◌, length, take, drop, sym, ◌�
 use Rattle.std.proofs.lemmas.List.{drop-drop}
 use Rattle.outside.specs.Files.{Holds}
 use Rattle.outside.proofs.Pieces.{part_from, length_refilled, take_refilled, drop_refilled}
-use Rattle.outside.proofs.helpers.read_full.Goals as goal
+use Rattle.outside.proofs.helpers.read_on.Goals as goal
 
 pub loop-done-preserved : goal.loop-done-preserved
 loop-done-preserved g c =
@@ -15,10 +15,11 @@ loop-done-preserved g c =
     let size = length_refilled m n xs ys invariant.in_range as_many in
     record {
       in_range = omega (arith, size, as_many, rw part_from at c.in_ok-got.ensures.bound, length-drop m xs);
-      read = λ bytes holds.
-          take_refilled m n xs ys invariant.in_range as_many (drop c.args.at bytes) (invariant.read bytes holds)
+      more = omega arith;
+      read = λ bytes holds before.
+          take_refilled m n xs ys invariant.in_range as_many (drop c.args.at bytes) (invariant.read bytes holds before)
           (c.in_ok-got.ensures.bytes bytes (subst (λ f. Holds f c.args.name.now bytes) (sym invariant.files) holds) ∙ ap (take n) (sym (drop-drop m c.args.at bytes)));
-      within = λ bytes holds. omega (arith, invariant.within bytes holds, c.in_ok-got.ensures.within bytes (subst (λ f. Holds f c.args.name.now bytes) (sym invariant.files) holds));
+      within = λ bytes holds before. omega (arith, invariant.within bytes holds before, c.in_ok-got.ensures.within bytes (subst (λ f. Holds f c.args.name.now bytes) (sym invariant.files) holds));
       rest = drop_refilled m n xs ys invariant.in_range as_many c.args.into.now invariant.rest (rw part_from at c.in_ok-got.ensures.rest);
       files = c.in_ok-got.ensures.files ∙ invariant.files;
       counts = c.in_ok-got.ensures.got (inl (omega arith)) ∙ invariant.counts;

@@ -1,0 +1,22 @@
+-- What a feed of the bytes of a file shows.
+use Rattle.std.specs.Prelude.{◌≡◌, ℕ, ◌^◌, ◌≤◌, List, length, take, drop}
+use Rattle.outside.specs.Files.{Files, Holds}
+
+pub record Fed : Type 0 where
+  -- where in the file the bytes begin that are held
+  pub place : ℕ
+  pub held : List ℕ
+  -- the bytes that the last `fill` gave
+  pub given : List ℕ
+
+-- where the files are told, the bytes held are those of the name's file from `place` on
+pub record IsFedFrom (fed : Fed) (files : Files) (name : List ℕ) : Type 0 where
+  pub same : (bytes : List ℕ) → Holds files name bytes → take (length fed.held) (drop fed.place bytes) ≡ fed.held
+
+-- the room of a feed, and what is held and given of it
+pub record IsWithin (room : List ℕ) (place held from to : ℕ) : Type 0 where
+  pub size : length room ≡ 65536
+  pub few : held ≤ 65536
+  pub among : to ≤ held
+  pub ordered : from ≤ to
+  pub early : place ≤ 2 ^ 32

@@ -1,0 +1,170 @@
+//! The bytes of a file, through one buffer.
+ghost use Rattle.std.specs.Prelude.{◌≡◌, ◌+◌, ◌-◌, ◌^◌, ◌<◌, ◌≤◌, List, ℕ, [], length, take, drop, IfOk, OnOk, OnErr};
+ghost use Rattle.outside.specs.Files.{Files, Holds, IsThere};
+ghost use Rattle.outside.specs.Feed.{IsFedFrom};
+ghost use Rattle.outside.specs.Counts.{OnlyReads, NothingFailed, Rose};
+
+use crate::folder::{Failed, Folder};
+use crate::helpers::read_on;
+use std::alloc::{AllocError, Global};
+use std::marker::Model;
+
+// As much as one read asks for.
+const SIZE: usize = 65_536;
+
+/// A view of one file through a buffer of 65,536 bytes. Contracts see it as the bytes that it holds, their
+/// place in the file, and the bytes that the last `fill` gave.
+#[derive(Drop)]
+pub struct Feed {
+    room: Vec<u8>,
+    place: u64,
+    held: usize,
+    from: usize,
+    to: usize,
+}
+
+impl Model for Feed {
+    ghost use Rattle.std.specs.Prelude.{◌-◌, take, drop};
+    ghost use Rattle.outside.specs.Feed.{Fed, IsWithin};
+
+    ghost Value = { Fed };
+
+    ghost view = { λ f. record { place = f.place; held = take f.held f.room.items; given = take (f.to - f.from) (drop f.from f.room.items) } };
+
+    ghost invariant = { λ f. IsWithin f.room.items f.place f.held f.from f.to };
+}
+
+impl Feed {
+    /// A feed that holds no bytes, and has given none. It takes all its memory here.
+    ///
+    /// # Errors
+    /// Where there is no memory.
+    pub fn new(alloc: Global) -> Result<Feed, AllocError>
+        ensures held { IfOk result (λ feed. feed.held ≡ []) }
+        ensures given { IfOk result (λ feed. feed.given ≡ []) }
+        ensures fed { IfOk result (λ feed. (files : Files) (name : List ℕ) → IsFedFrom feed files name) }
+    {
+        Ok(Feed {
+            room: vec![in alloc; 0; SIZE]?,
+            place: 0,
+            held: 0,
+            from: 0,
+            to: 0,
+        })
+    }
+
+    /// Forgets what is held and given, as before another file or after a change of this one.
+    pub fn clear(&mut self)
+        ensures held { self.new.held ≡ [] }
+        ensures given { self.new.given ≡ [] }
+        ensures fed { (files : Files) (name : List ℕ) → IsFedFrom self.new files name }
+    {
+        self.held = 0;
+        self.from = 0;
+        self.to = 0;
+    }
+
+    /// The bytes that the last `fill` gave: none before the first one, after `clear` and after a `fill` that
+    /// failed.
+    #[inline]
+    pub fn bytes(&self) -> &[u8]
+        ensures { result.now ≡ self.now.given }
+    {
+        &self.room[self.from..self.to]
+    }
+
+    /// Gives `n` bytes of the file from the place `at` on, or as many as there are behind it, and answers how
+    /// many. Reads only where it doesn't hold them, then as much as its buffer takes, and no more once there
+    /// are `n`. It takes no memory.
+    ///
+    /// What is held has to be of this file: a feed is cleared before another file, and before this one
+    /// changes.
+    ///
+    /// # Errors
+    /// Where a read failed. Then nothing is given.
+    #[inline]
+    pub fn fill<D: Folder>(
+        &mut self,
+        folder: &mut D,
+        name: &str,
+        at: u64,
+        n: usize,
+    ) -> Result<usize, Failed>
+        requires there { IsThere (D.files folder.old) name.now }
+        requires few { n ≤ 4096 }
+        requires short { at + n ≤ 2 ^ 32 }
+        requires fed { IsFedFrom self.old (D.files folder.old) name.now }
+        ensures bound { IfOk result (λ k. k ≤ n) }
+        ensures given { IfOk result (λ k. length self.new.given ≡ k) }
+        ensures bytes { IfOk result (λ k. (bytes : List ℕ) → Holds (D.files folder.old) name.now bytes → self.new.given ≡ take n (drop at bytes)) }
+        ensures whole { IfOk result (λ k. k ≡ n → D.counts folder.new ≡ D.counts folder.old) }
+        ensures ended { IfOk result (λ k. k < n → Rose (D.counts folder.old).ends (D.counts folder.new).ends) }
+        ensures failed { OnErr result (Rose (D.counts folder.old).read_faults (D.counts folder.new).read_faults) }
+        ensures none { OnErr result (self.new.given ≡ []) }
+        ensures fed { IsFedFrom self.new (D.files folder.new) name.now }
+        ensures files { D.files folder.new ≡ D.files folder.old }
+        ensures done { OnOk result (NothingFailed (D.counts folder.old) (D.counts folder.new)) }
+        ensures counts { OnlyReads (D.counts folder.old) (D.counts folder.new) }
+    {
+        let held_to = self.place + self.held as u64;
+        if self.place <= at && at + n as u64 <= held_to {
+            self.from = (at - self.place) as usize;
+            self.to = self.from + n;
+            return Ok(n);
+        }
+        self.refill(folder, name, at, n)
+    }
+
+    // Moves what is held from `at` on to the front of the buffer, and reads on behind it.
+    #[inline(never)]
+    fn refill<D: Folder>(
+        &mut self,
+        folder: &mut D,
+        name: &str,
+        at: u64,
+        n: usize,
+    ) -> Result<usize, Failed>
+        requires there { IsThere (D.files folder.old) name.now }
+        requires few { n ≤ 4096 }
+        requires short { at + n ≤ 2 ^ 32 }
+        requires fed { IsFedFrom self.old (D.files folder.old) name.now }
+        ensures bound { IfOk result (λ k. k ≤ n) }
+        ensures given { IfOk result (λ k. length self.new.given ≡ k) }
+        ensures bytes { IfOk result (λ k. (bytes : List ℕ) → Holds (D.files folder.old) name.now bytes → self.new.given ≡ take n (drop at bytes)) }
+        ensures whole { IfOk result (λ k. k ≡ n → D.counts folder.new ≡ D.counts folder.old) }
+        ensures ended { IfOk result (λ k. k < n → Rose (D.counts folder.old).ends (D.counts folder.new).ends) }
+        ensures failed { OnErr result (Rose (D.counts folder.old).read_faults (D.counts folder.new).read_faults) }
+        ensures none { OnErr result (self.new.given ≡ []) }
+        ensures fed { IsFedFrom self.new (D.files folder.new) name.now }
+        ensures files { D.files folder.new ≡ D.files folder.old }
+        ensures done { OnOk result (NothingFailed (D.counts folder.old) (D.counts folder.new)) }
+        ensures counts { OnlyReads (D.counts folder.old) (D.counts folder.new) }
+    {
+        let room = self.room.as_mut_slice();
+        let kept = keep_from(room, self.place, self.held, at);
+        self.place = at;
+        self.held = 0;
+        self.from = 0;
+        self.to = 0;
+        self.held = read_on(folder, name, at, room, kept, n)?;
+        self.to = n.min(self.held);
+        Ok(self.to)
+    }
+}
+
+// Moves to the front what is held at the place `at` and behind it without a gap, and says how many bytes
+// these are.
+fn keep_from(room: &mut [u8], place: u64, held: usize, at: u64) -> usize
+    requires early { place ≤ 2 ^ 32 }
+    requires within { held ≤ length room.old }
+    requires few { held ≤ 65536 }
+    ensures fewer { result ≤ held }
+    ensures kept { (bytes : List ℕ) → take held (drop place bytes) ≡ take held room.old → take result room.new ≡ take result (drop at bytes) }
+{
+    if at < place || at > place + held as u64 {
+        return 0;
+    }
+    let before = (at - place) as usize;
+    room.copy_within(before..held, 0);
+    held - before
+}

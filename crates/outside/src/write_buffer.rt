@@ -1,0 +1,146 @@
+//! Bytes that wait to be written to a file.
+ghost use Rattle.std.specs.Prelude.{◌≡◌, ◌+◌, ◌-◌, ◌<◌, ◌≤◌, [], ◌++◌, length, take, IfOk, OnOk, OnErr};
+ghost use Rattle.outside.specs.Files.{appended, IsThere};
+ghost use Rattle.outside.specs.Passed.{PassedOn, AppendedPrefix};
+ghost use Rattle.outside.specs.Counts.{OnlyWrites, Rose};
+
+use crate::folder::{Failed, Folder};
+use crate::helpers::write_all;
+use std::alloc::{AllocError, Global};
+use std::marker::Model;
+
+// As much as is written at once.
+const SIZE: usize = 65_536;
+
+/// A buffer of 65,536 bytes in front of one file. Contracts see it as the bytes that wait.
+#[derive(Drop)]
+pub struct WriteBuffer {
+    room: Vec<u8>,
+    waiting: usize,
+}
+
+impl Model for WriteBuffer {
+    ghost use Rattle.std.specs.Prelude.{◌≡◌, ◌≤◌, ℕ, List, length, take};
+
+    ghost Value = { List ℕ };
+
+    ghost view = { λ b. take b.waiting b.room.items };
+
+    ghost invariant = { λ b. (length b.room.items ≡ 65536) × (b.waiting ≤ 65536) };
+}
+
+impl WriteBuffer {
+    /// A buffer in which nothing waits. It takes all its memory here.
+    ///
+    /// # Errors
+    /// Where there is no memory.
+    pub fn new(alloc: Global) -> Result<WriteBuffer, AllocError>
+        ensures { IfOk result (λ buffer. buffer ≡ []) }
+    {
+        Ok(WriteBuffer {
+            room: vec![in alloc; 0; SIZE]?,
+            waiting: 0,
+        })
+    }
+
+    /// Adds a piece of any length to what waits. Where that is more than 65,536 bytes, the first of them are
+    /// appended to the file, 65,536 at a time or more.
+    ///
+    /// # Errors
+    /// Where a write failed. Then a prefix of what waited and the piece was appended, and nothing waits.
+    #[inline]
+    pub fn push<D: Folder>(
+        &mut self,
+        folder: &mut D,
+        name: &str,
+        piece: &[u8],
+    ) -> Result<(), Failed>
+        requires { IsThere (D.files folder.old) name.now }
+        ensures passed { OnOk result (PassedOn name.now (self.old ++ piece.now) self.new (D.files folder.old) (D.files folder.new)) }
+        ensures prefix { OnErr result (AppendedPrefix name.now (self.old ++ piece.now) (D.files folder.old) (D.files folder.new)) }
+        ensures none { OnErr result (self.new ≡ []) }
+        ensures few { length self.new ≤ 65536 }
+        ensures failed { OnErr result (Rose (D.counts folder.old).write_faults (D.counts folder.new).write_faults) }
+        ensures done { OnOk result (D.counts folder.new ≡ D.counts folder.old) }
+        ensures counts { OnlyWrites (D.counts folder.old) (D.counts folder.new) }
+    {
+        if piece.len() <= SIZE - self.waiting {
+            self.add(piece);
+            return Ok(());
+        }
+        self.push_over(folder, name, piece)
+    }
+
+    /// Appends to the file what waits.
+    ///
+    /// # Errors
+    /// Where a write failed. Then a prefix of what waited was appended, and nothing waits.
+    pub fn finish<D: Folder>(&mut self, folder: &mut D, name: &str) -> Result<(), Failed>
+        requires { IsThere (D.files folder.old) name.now }
+        ensures appended { OnOk result (D.files folder.new ≡ appended (D.files folder.old) name.now self.old) }
+        ensures prefix { OnErr result (AppendedPrefix name.now self.old (D.files folder.old) (D.files folder.new)) }
+        ensures none { self.new ≡ [] }
+        ensures failed { OnErr result (Rose (D.counts folder.old).write_faults (D.counts folder.new).write_faults) }
+        ensures done { OnOk result (D.counts folder.new ≡ D.counts folder.old) }
+        ensures counts { OnlyWrites (D.counts folder.old) (D.counts folder.new) }
+    {
+        let waiting = self.waiting;
+        self.waiting = 0;
+        write_all(folder, name, &self.room[..waiting])
+    }
+
+    // Adds a piece that fits.
+    #[inline]
+    fn add(&mut self, piece: &[u8])
+        requires { length self.old + length piece.now ≤ 65536 }
+        ensures { self.new ≡ self.old ++ piece.now }
+    {
+        let end = self.waiting + piece.len();
+        self.room[self.waiting..end].copy_from_slice(piece);
+        self.waiting = end;
+    }
+
+    // Adds a piece that doesn't fit: fills the buffer up and hands it on, and then all but the end of what is
+    // left of the piece.
+    #[inline(never)]
+    fn push_over<D: Folder>(
+        &mut self,
+        folder: &mut D,
+        name: &str,
+        piece: &[u8],
+    ) -> Result<(), Failed>
+        requires there { IsThere (D.files folder.old) name.now }
+        requires over { 65536 < length self.old + length piece.now }
+        ensures passed { OnOk result (PassedOn name.now (self.old ++ piece.now) self.new (D.files folder.old) (D.files folder.new)) }
+        ensures prefix { OnErr result (AppendedPrefix name.now (self.old ++ piece.now) (D.files folder.old) (D.files folder.new)) }
+        ensures none { OnErr result (self.new ≡ []) }
+        ensures few { length self.new ≤ 65536 }
+        ensures failed { OnErr result (Rose (D.counts folder.old).write_faults (D.counts folder.new).write_faults) }
+        ensures done { OnOk result (D.counts folder.new ≡ D.counts folder.old) }
+        ensures counts { OnlyWrites (D.counts folder.old) (D.counts folder.new) }
+    {
+        let free = SIZE - self.waiting;
+        self.add(&piece[..free]);
+        self.finish(folder, name)?;
+        let done = write_whole(folder, name, &piece[free..])?;
+        self.add(&piece[free + done..]);
+        Ok(())
+    }
+}
+
+// Appends as many times 65,536 of the bytes as there are, in one write where the folder takes them, and
+// answers how many bytes these are.
+fn write_whole<D: Folder>(folder: &mut D, name: &str, bytes: &[u8]) -> Result<usize, Failed>
+    requires { IsThere (D.files folder.old) name.now }
+    ensures within { IfOk result (λ k. k ≤ length bytes.now) }
+    ensures few { IfOk result (λ k. length bytes.now - k < 65536) }
+    ensures written { IfOk result (λ k. D.files folder.new ≡ appended (D.files folder.old) name.now (take k bytes.now)) }
+    ensures prefix { OnErr result (AppendedPrefix name.now bytes.now (D.files folder.old) (D.files folder.new)) }
+    ensures failed { OnErr result (Rose (D.counts folder.old).write_faults (D.counts folder.new).write_faults) }
+    ensures done { OnOk result (D.counts folder.new ≡ D.counts folder.old) }
+    ensures counts { OnlyWrites (D.counts folder.old) (D.counts folder.new) }
+{
+    let whole = bytes.len() - bytes.len() % SIZE;
+    write_all(folder, name, &bytes[..whole])?;
+    Ok(whole)
+}
