@@ -20,7 +20,7 @@ use Rattle.edits.specs.Gains.{stuck_in}
 use Rattle.sync_survey.specs.declared.rows.Row.{Row}
 use Rattle.edits.specs.Edited.{stuck_fault, most_frames, unless, edited, range_fault, IsRangeFault, gained_by, gained, gained_where, gain_result}
 use Rattle.edits.specs.Streams.{IsStreamMoved, HoldsStream, stream_by, stream_in, moved_stream_frame}
-use Rattle.edits.specs.Command.{Made, Command, clash_of, Gives, written, written_to, MakesStreams}
+use Rattle.edits.specs.Command.{Made, Command, clash_of, Gives, written, written_to, MakesStreams, HoldsStreams}
 use Rattle.edits.specs.Left.{Why, Refused, Missing, Unread, Shorter, Unwritten, NoMemory, why_of, Seen, seen, IsDone, IsWrittenTo, TakesMemory, is_before_memory, LeavesBy, Leaves, HasNumbers, IsOfInput, IsOfPass}
 use Rattle.edits.specs.Gain.{made_of, gain_command, holding, RefusesBytes, IsInputFaultBy, IsInputFault, HoldsPrefix, IsPassFaultBy, IsPassFault}
 use Rattle.edits.proofs.GainedStream.{survey_of-parts, gained-stream}
@@ -320,11 +320,11 @@ module _ {T : Type 0} (shift : Shift) (input output : List ℕ) (differ : bytes_
       (pass_left shift input output differ mid new fault s (subst (λ (m : Seen). IsFree shift input m.files s) (sym stays) free) told h)
 
 pub streams_behind : {T E : Type 0} (shift : Shift) (input output : List ℕ) (differ : bytes_eq input output ≡ false) (files : Files) → IsThere files input → ((bytes : List ℕ) → Holds files input bytes → AreBytes bytes)
-    → (r : Result T E) → OnOk r (IfSome files (λ f. (made : Made) → (gain_command shift input output).makes f ≡ Ok made → MakesStreams (gain_command shift input output) f made))
+    → (r : Result T E) → OnOk r (HoldsStreams (gain_command shift input output) files)
 streams_behind shift input output differ files there octets (Ok x) = at files there octets
   where
     at : (files : Files) → IsThere files input → ((bytes : List ℕ) → Holds files input bytes → AreBytes bytes)
-        → IfSome files (λ f. (made : Made) → (gain_command shift input output).makes f ≡ Ok made → MakesStreams (gain_command shift input output) f made)
+        → HoldsStreams (gain_command shift input output) files
     at None there octets = tt
     at (Some f) there octets = let held = there_holds f input there in makes_streams shift input output f held.0 differ held.1 (octets held.0 held.1)
 streams_behind shift input output differ files there octets (Err fault) = tt

@@ -1,5 +1,5 @@
 -- What a command is for the outside: of the files that are there it makes files and a text, or it is refused.
-use Rattle.std.specs.Prelude.{◌≡◌, ℕ, ◌+◌, ◌<◌, List, [], ◌∷◌, ◌++◌, length, take, drop, Bool, if◌then◌else◌, bytes_eq, Option, Some, None, Result, Ok, Err, IfSome}
+use Rattle.std.specs.Prelude.{◌≡◌, ℕ, ◌+◌, ◌<◌, List, [], ◌∷◌, ◌++◌, length, take, drop, if◌then◌else◌, bytes_eq, Option, Some, None, Result, Ok, Err, IfSome}
 use Rattle.std.specs.List.{list_any}
 use Rattle.outside.specs.Files.{Contents, Files, with_file}
 use Rattle.sync_survey.specs.MainData.{StreamFrame}
@@ -23,8 +23,6 @@ pub record Command : Type 0 where
   pub outputs : List (List ℕ)
   -- those that it reads as streams of frames
   pub sources : List (List ℕ)
-  -- whether it sends a text
-  pub speaks : Bool
   -- what it makes of these files, or why it is refused
   pub makes : Contents → Result Made EditFault
   -- the stream that each file it writes has to hold
@@ -64,10 +62,10 @@ Gives command files answer = IfSome files (λ f. command.makes f ≡ answer)
 -- ---- streams
 
 -- each of these files is well-formed and holds the stream at its place
-abbrev pub HoldStreams : List Output → List (List StreamFrame) → Type 0
-HoldStreams [] [] = Unit {0}
-HoldStreams (output ∷ outputs) (stream ∷ streams) = HoldsStream output.bytes stream × HoldStreams outputs streams
-HoldStreams _ _ = ⊥
+abbrev pub AreStreams : List Output → List (List StreamFrame) → Type 0
+AreStreams [] [] = Unit {0}
+AreStreams (output ∷ outputs) (stream ∷ streams) = HoldsStream output.bytes stream × AreStreams outputs streams
+AreStreams _ _ = ⊥
 
 -- the files of these names are there and well-formed
 abbrev pub AreSound : Contents → List (List ℕ) → Type 0
@@ -77,4 +75,8 @@ AreSound files (name ∷ names) = ((bytes : List ℕ) × (files name ≡ Some by
 -- the command is done with well-formed sources alone, and what it makes of them holds the streams that it has to hold
 pub record MakesStreams (command : Command) (files : Contents) (made : Made) : Type 0 where
   pub sources : AreSound files command.sources
-  pub streams : HoldStreams made.outputs (command.streams files)
+  pub streams : AreStreams made.outputs (command.streams files)
+
+-- what the command makes of the files that are told, by well-formed sources, holds the streams that it has to hold
+abbrev pub HoldsStreams : Command → Files → Type 0
+HoldsStreams command files = IfSome files (λ f. (made : Made) → command.makes f ≡ Ok made → MakesStreams command f made)

@@ -1,5 +1,5 @@
 -- The gain command.
-use Rattle.std.specs.Prelude.{◌≡◌, ◌⊎◌, ℕ, ◌≤◌, take, List, [], ◌∷◌, length, map, Bool, false, Option, None, Some, unwrap_or, Result, Ok, Err, option_map}
+use Rattle.std.specs.Prelude.{◌≡◌, ◌⊎◌, ℕ, ◌≤◌, take, List, [], ◌∷◌, length, map, Option, None, Some, unwrap_or, Result, Ok, Err, option_map}
 use Rattle.outside.specs.Files.{Contents, Files, untold, with_file, Holds, IsThere, IsMissing}
 use Rattle.outside.specs.Counts.{Counts, Rose, NothingFailed}
 use Rattle.sync_survey.specs.Faults.{longest_file}
@@ -25,7 +25,6 @@ gain_command shift input output = record {
   inputs = input ∷ [];
   outputs = output ∷ [];
   sources = input ∷ [];
-  speaks = false;
   makes = λ files. made_of output (gain_result shift input output files);
   streams = λ files. map (moved_stream_frame shift) (stream_in (unwrap_or (files input) [])) ∷ [];
 }

@@ -5,7 +5,7 @@ ghost use Rattle.outside.specs.Files.{Holds, IsThere};
 ghost use Rattle.outside.specs.Counts.{NoneFell, OnlyReads};
 ghost use Rattle.sync_survey.specs.Faults.{tells};
 ghost use Rattle.sync_survey.specs.Survey.{survey_of};
-ghost use Rattle.edits.specs.Command.{Made, MakesStreams};
+ghost use Rattle.edits.specs.Command.{HoldsStreams};
 ghost use Rattle.edits.specs.Edited.{edited, gained, most_frames};
 ghost use Rattle.edits.specs.Gain.{gain_command, holding, IsInputFault, IsPassFault};
 ghost use Rattle.edits.specs.Left.{seen, IsDone, Leaves, HasNumbers, IsOfInput, IsOfPass};
@@ -87,7 +87,7 @@ pub fn gain<D: Folder>(
     ensures numbers { IfErr result (HasNumbers (gain_command shift.now input.now output.now)) }
     ensures names { IsErrOf result (EditFault.EqualNames 0) ↔ (input.now ≡ output.now) }
     // The input is well-formed, and the output holds its stream with each gain moved.
-    ensures streams { OnOk result (IfSome (D.files folder.old) (λ f. (made : Made) → (gain_command shift.now input.now output.now).makes f ≡ Ok made → MakesStreams (gain_command shift.now input.now output.now) f made)) }
+    ensures streams { OnOk result (HoldsStreams (gain_command shift.now input.now output.now) (D.files folder.old)) }
     ensures counts { NoneFell (D.counts folder.old) (D.counts folder.new) }
 {
     if input == output {

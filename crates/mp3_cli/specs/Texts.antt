@@ -1,20 +1,21 @@
 -- The status and the line of each fault, and what a sink got of a line.
-use Rattle.std.specs.Prelude.{◌≡◌, ◌⊎◌, ℕ, ◌/◌, ◌%◌, ◌≤◌, List, [], ◌∷◌, ◌++◌, length, take, slice_index, codes, decimal}
+use Rattle.std.specs.Prelude.{◌≡◌, ◌≢◌, ◌⊎◌, ℕ, ◌/◌, ◌%◌, ◌≤◌, List, [], ◌∷◌, ◌++◌, length, take, slice_index, slice_index_or, codes, decimal}
 use Rattle.outside.specs.Files.{Sent, sent_more}
 use Rattle.outside.specs.Counts.{Rose}
-use Rattle.edits.specs.Kinds.{kind_of, by_kind}
+use Rattle.edits.specs.Left.{Why, Refused, NoMemory, why_of}
 use Rattle.sync_survey.specs.declared.survey_fault.SurveyFault.{SurveyFault}
 use Rattle.sync_survey.specs.declared.survey_fault.SurveyFault.TheVariants.{Absent, TooLong, NoFrame, LostSync, Truncated, FreeFormat, Mixed, CheckWord, BackPointer, Overlap, Overrun, TooManyFrames, Shrunk, Read, Memory}
 use Rattle.edits.specs.declared.fault.EditFault.{EditFault}
-use Rattle.edits.specs.declared.fault.EditFault.TheVariants.{EqualNames, Input, GainRange, Write, Memory as NoMemory}
+use Rattle.edits.specs.declared.fault.EditFault.TheVariants.{EqualNames, Input, GainRange, Write, Memory as OutOfMemory}
 
--- 1 for a refused input, 3 for a fault of the outside, 4 for want of memory
+abbrev pub status_by : Why → ℕ
+status_by Refused = 1
+status_by NoMemory = 4
+status_by _ = 3
+
+-- 1 for what is refused, 3 for an absent file and a fault of the outside, 4 for want of memory
 abbrev pub status_of : EditFault → ℕ
-status_of (EqualNames place) = 1
-status_of (Input place fault) = by_kind (record { absent = 3; unread = 3; shorter = 3; too_much = 4; refused = 1 }) (kind_of fault)
-status_of (GainRange offset granule channel gain) = 1
-status_of (Write place) = 3
-status_of NoMemory = 4
+status_of fault = status_by (why_of fault)
 
 -- a number below 16 as a hexadecimal digit, and a word as four of them
 abbrev pub hex_digit : ℕ → ℕ
@@ -39,17 +40,26 @@ input_text (Overrun at bits room) = codes ": overrun at " ++ decimal at ++ codes
 input_text (TooManyFrames at) = codes ": too many frames at " ++ decimal at ++ codes "\n"
 input_text (Shrunk first second) = codes ": shrunk from " ++ decimal first ++ codes " to " ++ decimal second ++ codes "\n"
 input_text Read = codes ": read fault\n"
-input_text Memory = codes ": out of memory\n"
+input_text Memory = []
 
--- the line of a fault, by the names of the input and the output
-unfoldable pub fault_line : EditFault → List ℕ → List ℕ → List ℕ
-fault_line (EqualNames place) input output = input ++ codes ": input is an output\n"
-fault_line (Input place fault) input output = input ++ input_text fault
-fault_line (GainRange offset granule channel gain) input output =
+-- the name at a place, counted from 0
+abbrev pub name_in : List (List ℕ) → ℕ → List ℕ
+name_in names place = slice_index_or names place []
+
+-- the line of a fault, by the names of the inputs and of the outputs
+unfoldable pub fault_line : EditFault → List (List ℕ) → List (List ℕ) → List ℕ
+fault_line (EqualNames place) inputs outputs = name_in inputs place ++ codes ": input is an output\n"
+fault_line (Input place fault) inputs outputs = name_in inputs place ++ input_text fault
+fault_line (GainRange offset granule channel gain) inputs outputs =
     codes "gain " ++ decimal gain ++ codes " out of range at " ++ decimal offset
     ++ codes ", granule " ++ decimal granule ++ codes ", channel " ++ decimal channel ++ codes "\n"
-fault_line (Write place) input output = output ++ codes ": write fault\n"
-fault_line NoMemory input output = codes "out of memory\n"
+fault_line (Write place) inputs outputs = name_in outputs place ++ codes ": write fault\n"
+fault_line OutOfMemory inputs outputs = codes "out of memory\n"
+
+-- want of memory is a fault of its own, and none of an input
+abbrev pub HasLine : EditFault → Type 0
+HasLine (Input place fault) = fault ≢ Memory
+HasLine _ = Unit {0}
 
 -- the line of a bad word, by its place counted from 1
 unfoldable pub bad_word_line : ℕ → List ℕ

@@ -59,7 +59,7 @@ word_at words place = slice_index_or words (place - 1) []
 abbrev pub gain_without_tags : Form
 gain_without_tags = record {
   kinds = Fixed (codes "gain") ∷ Fixed (codes "-s") ∷ Fixed (codes "s") ∷ Fixed (codes "-g") ∷ Steps ∷ Name ∷ Name ∷ [];
-  reads = λ words. Gain (record { channels = Both; steps = unwrap_or (steps_of (word_at words 5)) (pos 0); wrap = false }) 6 7;
+  reads = λ words. Gain (record { channels = Both; steps = unwrap_or (steps_of (word_at words 5)) (pos 0); wrap = false }) false 6 7;
 }
 
 -- all of them
@@ -134,4 +134,4 @@ pub record IsStepCount (steps : ℤ) : Type 0 where
 
 -- the names of a job are words, and its numbers are in range
 abbrev pub IsSound : List (List ℕ) → Job → Type 0
-IsSound words (Gain shift input output) = IsNamePlace words input × IsNamePlace words output × IsStepCount shift.steps
+IsSound words (Gain shift tags input output) = IsNamePlace words input × IsNamePlace words output × IsStepCount shift.steps

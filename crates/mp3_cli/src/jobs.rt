@@ -9,6 +9,8 @@ pub enum Job {
     Gain {
         /// The change.
         shift: Shift,
+        /// Whether a note of the change is kept in the tag.
+        tags: bool,
         /// The place of the word that names the file to read.
         input: u32,
         /// The place of the word that names the file to write.

@@ -33,6 +33,7 @@ fn steps_are_read(rt: HostRuntime) -> Result<(), Fail> {
         };
         let wanted = Job::Gain {
             shift,
+            tags: false,
             input: 6,
             output: 7,
         };
@@ -186,7 +187,7 @@ fn lines(rt: HostRuntime) -> Result<(), Fail> {
         assert_eq!(rt; status(&case.fault), case.status);
         let mut err = MemSink::new(rt.alloc());
         err.reserve(100)?;
-        send_fault(&mut err, &case.fault, "a.mp3", "b.mp3");
+        send_fault(&mut err, &case.fault, &["a.mp3"], &["b.mp3"]);
         assert_eq!(rt; err.sent(), case.line);
     }
     Ok(())
@@ -207,7 +208,7 @@ fn a_line_stops_where_a_write_fails(rt: HostRuntime) -> Result<(), Fail> {
     err.reserve(100)?;
     err.fail(2)?;
     let fault = EditFault::Input(0, SurveyFault::Overlap(7));
-    send_fault(&mut err, &fault, "a.mp3", "b.mp3");
+    send_fault(&mut err, &fault, &["a.mp3"], &["b.mp3"]);
     assert_eq!(rt; err.sent(), b"a.mp3".as_slice());
     Ok(())
 }

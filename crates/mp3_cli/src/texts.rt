@@ -1,13 +1,13 @@
 //! The statuses that the program ends with, and the lines that it writes of faults.
-ghost use Rattle.std.specs.Prelude.{◌≡◌, ◌%◌, [], ◌∷◌, ◌++◌, decimal, flat_map};
-ghost use Rattle.mp3_cli.specs.Texts.{status_of, hex_digit as hex_digit_lem, input_text, fault_line, bad_word_line, GotLine};
+ghost use Rattle.std.specs.Prelude.{◌≡◌, ◌≢◌, map, ◌%◌, [], ◌∷◌, ◌++◌, decimal, flat_map};
+ghost use Rattle.mp3_cli.specs.Texts.{status_of, hex_digit as hex_digit_lem, input_text, name_in as name_in_lem, fault_line, bad_word_line, HasLine, GotLine};
 
 use edits::EditFault;
 use itoa::Buffer;
 use outside::{Sink, send_all};
 use sync_survey::SurveyFault;
 
-/// The status of a fault of the input: 3 where it isn't there, can't be read or became shorter, else 1.
+/// The status of a fault of an input: 3 where it isn't there, can't be read or became shorter, else 1.
 fn input_status(fault: &SurveyFault) -> u8
     ensures { result ≡ status_of (EditFault.Input 0 fault.now) }
 {
@@ -164,12 +164,14 @@ fn send_shrunk<E: Sink>(err: &mut E, input: &str, first: u64, second: u64)
 
 /// Sends the line of a fault of the input.
 fn send_input_fault<E: Sink>(err: &mut E, fault: &SurveyFault, input: &str)
+    requires { fault.now ≢ SurveyFault.Memory }
     ensures { GotLine (E.sent err.old) (E.sent err.new) (E.faults err.old) (E.faults err.new) (input.now ++ input_text fault.now) }
 {
     match *fault {
+        // Not an input's fault, so it never comes here.
+        SurveyFault::Memory => {}
         SurveyFault::Absent => send_pieces(err, &[input, ": absent\n"]),
         SurveyFault::Read => send_pieces(err, &[input, ": read fault\n"]),
-        SurveyFault::Memory => send_pieces(err, &[input, ": out of memory\n"]),
         SurveyFault::TooLong(size) => send_number(err, input, ": too long, ", size, " bytes\n"),
         SurveyFault::NoFrame(at) => send_number(err, input, ": no frame at ", at, "\n"),
         SurveyFault::LostSync(at) => {
@@ -191,10 +193,18 @@ fn send_input_fault<E: Sink>(err: &mut E, fault: &SurveyFault, input: &str)
     }
 }
 
-/// Sends the line of a fault, by the names of the input and the output, without taking memory.
+/// The name at a place, counted from 0.
+fn name_in<'a>(names: &[&'a str], place: u32) -> &'a str
+    ensures { result.now ≡ name_in_lem (map (λ name. name.now) names.now) place }
+{
+    names.get(place as usize).copied().unwrap_or("")
+}
+
+/// Sends the line of a fault, by the names of the inputs and of the outputs, without taking memory.
 /// It stops at the first write that fails, and such a failure is not answered.
 ///
-/// NAME is the input's but for Write, where it is the output's. O is an offset and N a number of bytes.
+/// NAME is that of the input or, for Write, of the output whose place the fault has. O is an offset and N a
+/// number of bytes.
 ///
 /// | fault | line |
 /// |---|---|
@@ -216,16 +226,21 @@ fn send_input_fault<E: Sink>(err: &mut E, fault: &SurveyFault, input: &str)
 /// | GainRange(O, G, C, V) | `gain V out of range at O, granule G, channel C` |
 /// | Write | `NAME: write fault` |
 /// | Memory | `out of memory` |
-pub fn send_fault<E: Sink>(err: &mut E, fault: &EditFault, input: &str, output: &str)
-    ensures { GotLine (E.sent err.old) (E.sent err.new) (E.faults err.old) (E.faults err.new) (fault_line fault.now input.now output.now) }
+pub fn send_fault<E: Sink>(err: &mut E, fault: &EditFault, inputs: &[&str], outputs: &[&str])
+    requires { HasLine fault.now }
+    ensures { GotLine (E.sent err.old) (E.sent err.new) (E.faults err.old) (E.faults err.new) (fault_line fault.now (map (λ name. name.now) inputs.now) (map (λ name. name.now) outputs.now)) }
 {
     match *fault {
-        EditFault::EqualNames(_) => send_pieces(err, &[input, ": input is an output\n"]),
-        EditFault::Input(_, fault) => send_input_fault(err, &fault, input),
+        EditFault::EqualNames(place) => {
+            send_pieces(err, &[name_in(inputs, place), ": input is an output\n"]);
+        }
+        EditFault::Input(place, fault) => send_input_fault(err, &fault, name_in(inputs, place)),
         EditFault::GainRange(offset, granule, channel, gain) => {
             send_gain_range(err, offset, granule, channel, gain);
         }
-        EditFault::Write(_) => send_pieces(err, &[output, ": write fault\n"]),
+        EditFault::Write(place) => {
+            send_pieces(err, &[name_in(outputs, place), ": write fault\n"]);
+        }
         EditFault::Memory => send_pieces(err, &["out of memory\n"]),
     }
 }

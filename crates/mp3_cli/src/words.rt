@@ -113,6 +113,7 @@ impl FormName {
                     steps: read_steps(&words[4]).unwrap_or(0),
                     wrap: false,
                 },
+                tags: false,
                 input: 6,
                 output: 7,
             },

@@ -6,11 +6,11 @@ use Rattle.mp3_cli.proofs.texts.send_fault.Goals as goal
 
 pub returns-in-EqualNames : goal.returns-in-EqualNames
 unfolding fault_line
-returns-in-EqualNames g c = line_is _ _ _ _ _ _ (rw c.in-EqualNames.is refl) c.send_pieces.ensures
+returns-in-EqualNames g c = line_is _ _ _ _ _ _ (rw (c.in-EqualNames.is, c.name_in.ensures) refl) c.send_pieces.ensures
 
 pub returns-in-Input : goal.returns-in-Input
 unfolding fault_line
-returns-in-Input g c = line_is _ _ _ _ _ _ (rw c.in-Input.is refl) c.send_input_fault.ensures
+returns-in-Input g c = line_is _ _ _ _ _ _ (rw (c.in-Input.is, c.name_in-in-Input.ensures) refl) c.send_input_fault.ensures
 
 pub returns-in-GainRange : goal.returns-in-GainRange
 unfolding fault_line
@@ -18,7 +18,7 @@ returns-in-GainRange g c = line_is _ _ _ _ _ _ (rw c.in-GainRange.is refl) c.sen
 
 pub returns-in-Write : goal.returns-in-Write
 unfolding fault_line
-returns-in-Write g c = line_is _ _ _ _ _ _ (rw c.in-Write.is refl) c.send_pieces-in-Write.ensures
+returns-in-Write g c = line_is _ _ _ _ _ _ (rw (c.in-Write.is, c.name_in-in-Write.ensures) refl) c.send_pieces-in-Write.ensures
 
 pub returns-in-Memory : goal.returns-in-Memory
 unfolding fault_line

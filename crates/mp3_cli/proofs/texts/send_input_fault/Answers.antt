@@ -9,9 +9,6 @@ returns-in-Absent g c = line_is _ _ _ _ _ _ (rw c.in-Absent.is refl) c.send_piec
 pub returns-in-Read : goal.returns-in-Read
 returns-in-Read g c = line_is _ _ _ _ _ _ (rw c.in-Read.is refl) c.send_pieces-in-Read.ensures
 
-pub returns-in-Memory : goal.returns-in-Memory
-returns-in-Memory g c = line_is _ _ _ _ _ _ (rw c.in-Memory.is refl) c.send_pieces-in-Memory.ensures
-
 pub returns-in-TooLong : goal.returns-in-TooLong
 returns-in-TooLong g c = line_is _ _ _ _ _ _ (rw c.in-TooLong.is refl) c.send_number.ensures
 
