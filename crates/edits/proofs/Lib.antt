@@ -1,7 +1,8 @@
 -- The lemmas of this crate.
 pub mod GainsBack
-pub mod EditLaws
-pub mod WholeEdit
+pub mod RangeLaws
+pub mod MovingLaws
+pub mod PassLaws
 pub mod GainLaws
 pub mod GainsLaws
 pub mod MovedFrame

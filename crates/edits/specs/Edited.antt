@@ -1,8 +1,6 @@
 -- The file that a gain command writes.
-use Rattle.std.specs.Prelude.{ℕ, ◌+◌, ◌≤◌, List, [], ◌∷◌, ◌++◌, length, take, drop, Option, Some, None, Result, Ok, Err, bytes_eq, if◌then◌else◌, flat_map}
+use Rattle.std.specs.Prelude.{ℕ, List, [], ◌∷◌, ◌++◌, take, drop, Option, Some, None, Result, Ok, Err, bytes_eq, if◌then◌else◌, flat_map}
 use Rattle.frame_header.specs.Fields.{HeaderFields}
-use Rattle.frame_header.specs.Tables.{class_of, overhead_of}
-use Rattle.side_info.specs.Side.{SideFits}
 use Rattle.side_info.specs.Frame.{side_in, frame_with}
 use Rattle.outside.specs.Files.{Contents}
 use Rattle.sync_survey.specs.declared.items.Item.{Item}
@@ -48,21 +46,6 @@ moved_stream shift file (Some head) ps = bytes_of file (take 1 ps) ++ moved_item
 -- all items of a file in their order, with the gains of its frames moved; junk is dropped
 unfoldable pub edited : Shift → List ℕ → SurveyFields → List ℕ
 edited shift file s = bytes_of file (run Front file 0).items ++ moved_stream shift file s.head (run Stream file s.first).items
-
--- the frame is in these bytes, up to its area at least, and its side fields are within their bits
-pub record IsInBytes (bytes : List ℕ) (row : Row) : Type 0 where
-  pub room : row.offset + overhead_of (class_of row.header) row.header.protected ≤ length bytes
-  pub fits : SideFits (class_of row.header) row.side
-
-abbrev pub AreInBytes : List ℕ → List Row → Type 0
-AreInBytes bytes [] = Unit {0}
-AreInBytes bytes (row ∷ rows) = IsInBytes bytes row × AreInBytes bytes rows
-
--- the bytes of a file with the gains of these frames moved where they stand
-unfoldable pub with_rows : Shift → List Row → List ℕ → List ℕ
-with_rows shift [] bytes = bytes
-with_rows shift (row ∷ rows) bytes =
-    with_rows shift rows (take row.offset bytes ++ frame_with row.header (moved_side shift row.side) (drop row.offset bytes))
 
 -- ---- the range
 

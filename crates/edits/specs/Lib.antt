@@ -2,6 +2,8 @@
 pub mod Kinds
 pub mod Gains
 pub mod Edited
+pub mod Moving
+pub mod Pass
 pub mod Streams
 pub mod Command
 pub mod Left

@@ -5,6 +5,7 @@ mod edit;
 mod fault;
 mod gain_file;
 mod gains;
+mod moving;
 mod shift;
 
 pub use fault::EditFault;

@@ -1,7 +1,7 @@
 -- The first stuck gain is found.
 use Rattle.std.proofs.Common.{None, sym, ◌∙◌, ap, arith}
 use Rattle.edits.specs.Edited.{stuck_fault}
-use Rattle.edits.proofs.EditLaws.{range_more, range_here, range_all}
+use Rattle.edits.proofs.RangeLaws.{range_more, range_here, range_all}
 use Rattle.edits.proofs.edit.range_fault.Goals as goal
 
 pub returns-in-Some-clause-fault : goal.returns-in-Some-clause-fault

@@ -1,0 +1,230 @@
+-- What is written from front to back is the edited file.
+use Rattle.std.proofs.Common.{◌≡◌, ℕ, ◌+◌, ◌-◌, ◌≤◌, List, [], ◌∷◌, ◌++◌, length, take, drop, Option, Some, None, Ok, refl, sym, ◌∙◌, ap, ap₂, subst, arith, append_assoc, take-append-drop, append-nil, length-drop, length-append}
+use Rattle.std.specs.Prelude.{option_to_list, Bool, true, false, Err, if◌then◌else◌, nat_lt}
+use Rattle.std.proofs.lemmas.List.{drop-drop, take_all, take_at}
+use Rattle.std.proofs.Math.Seq.{take-add}
+use Rattle.frame_header.specs.Fields.{HeaderFields}
+use Rattle.frame_header.specs.Tables.{class_of, length_of}
+use Rattle.side_info.specs.declared.side.Side.{Side}
+use Rattle.side_info.specs.Frame.{side_in, frame_with}
+use Rattle.side_info.proofs.FrameLaws.{side_in-take}
+use Rattle.sync_survey.specs.declared.items.Item.{Item}
+use Rattle.sync_survey.specs.declared.items.Item.TheVariants.{Frame, Free, Block, Zero, End, Nothing}
+use Rattle.sync_survey.specs.declared.places.Head.{Head}
+use Rattle.sync_survey.specs.declared.places.PlacedFrame.{PlacedFrame}
+use Rattle.sync_survey.specs.declared.rows.Row.{Row}
+use Rattle.sync_survey.specs.declared.runs.Part.{Part}
+use Rattle.sync_survey.specs.declared.runs.Part.TheVariants.{Front, Stream}
+use Rattle.sync_survey.specs.Items.{item_at, size_of}
+use Rattle.sync_survey.specs.Runs.{Placed, AreEndToEnd, run, bytes_in, bytes_of, frame_as, frames_of}
+use Rattle.sync_survey.specs.Start.{front_end_of}
+use Rattle.sync_survey.specs.Walk.{stream_of, numbered}
+use Rattle.sync_survey.specs.MainData.{rows_of}
+use Rattle.sync_survey.specs.declared.places.Start.{Start}
+use Rattle.sync_survey.specs.declared.survey_fault.SurveyFault.TheVariants.{TooLong}
+use Rattle.sync_survey.specs.Faults.{SurveyFields, fields_from, surveyed, longest_file}
+use Rattle.sync_survey.specs.Survey.{survey_of}
+use Rattle.sync_survey.proofs.ItemsLaws.{stands-at, header_front-in_range}
+use Rattle.sync_survey.proofs.RunsLaws.{cons_list, IsItemOf, item_of-is, run-ends, bytes-ends}
+use Rattle.sync_survey.proofs.StartLaws.{start-first, start-front}
+use Rattle.sync_survey.proofs.SurveyLaws.{surveyed-is, walked, overhead-within}
+use Rattle.edits.specs.declared.shift.Shift.{Shift}
+use Rattle.edits.specs.Gains.{moved_side}
+use Rattle.edits.specs.Edited.{moved_frame, moved_item, moved_items, moved_stream, edited}
+use Rattle.edits.specs.Moving.{row_end, AreInOrder, moved_row_bytes, bytes_between, moved_from}
+use Rattle.edits.proofs.EditedItems.{moved-nil, moved-cons}
+
+pub moved_from-nil : (shift : Shift) (file : List ℕ) (at : ℕ) → moved_from shift file at [] ≡ drop at file
+unfolding moved_from
+moved_from-nil shift file at = refl
+
+pub moved_from-cons : (shift : Shift) (file : List ℕ) (at : ℕ) (row : Row) (rows : List Row)
+    → moved_from shift file at (row ∷ rows) ≡ bytes_between file at row.offset ++ (moved_row_bytes shift file row ++ moved_from shift file (row_end row) rows)
+unfolding moved_from
+moved_from-cons shift file at row rows = refl
+
+-- the first of these frames stands at this offset or behind it
+abbrev pub IsBehind : ℕ → List Row → Type 0
+IsBehind at [] = Unit {0}
+IsBehind at (row ∷ rows) = at ≤ row.offset
+
+-- bytes before the first frame stay
+pub moved_from-later : (shift : Shift) (file : List ℕ) (at size : ℕ) (rows : List Row) → IsBehind (at + size) rows
+    → moved_from shift file at rows ≡ take size (drop at file) ++ moved_from shift file (at + size) rows
+moved_from-later shift file at size [] behind =
+    moved_from-nil shift file at
+    ∙ sym (take-append-drop size (drop at file))
+    ∙ ap (λ (l : List ℕ). take size (drop at file) ++ l) (drop-drop size at file ∙ sym (moved_from-nil shift file (at + size)))
+moved_from-later shift file at size (row ∷ rows) behind =
+    let rest = moved_row_bytes shift file row ++ moved_from shift file (row_end row) rows in
+    let sum : row.offset - at ≡ size + (row.offset - (at + size)) = omega (arith, behind) in
+    moved_from-cons shift file at row rows
+    ∙ ap (λ n. take n (drop at file) ++ rest) sum
+    ∙ ap (λ (l : List ℕ). l ++ rest) (take-add size (row.offset - (at + size)) (drop at file) ∙ ap (λ (l : List ℕ). take size (drop at file) ++ take (row.offset - (at + size)) l) (drop-drop size at file))
+    ∙ append_assoc (take size (drop at file)) (bytes_between file (at + size) row.offset) rest
+    ∙ ap (λ (l : List ℕ). take size (drop at file) ++ l) (sym (moved_from-cons shift file (at + size) row rows))
+
+-- ---- the items one after another
+
+behind_earlier : (at later : ℕ) (rows : List Row) → at ≤ later → IsBehind later rows → IsBehind at rows
+behind_earlier at later [] le behind = tt
+behind_earlier at later (row ∷ rows) le behind = omega (arith, le, behind)
+
+behind_item : (file : List ℕ) (at : ℕ) (item : Item) (frames : List PlacedFrame) → IsBehind (at + size_of item) (rows_of file frames) → IsBehind at (rows_of file (option_to_list (frame_as at item) ++ frames))
+behind_item file at (Frame h) frames behind = omega arith
+behind_item file at Free frames behind = behind_earlier at (at + 0) (rows_of file frames) (omega arith) behind
+behind_item file at (Block b) frames behind = behind_earlier at (at + b.length) (rows_of file frames) (omega arith) behind
+behind_item file at Zero frames behind = behind_earlier at (at + 1) (rows_of file frames) (omega arith) behind
+behind_item file at End frames behind = behind_earlier at (at + 0) (rows_of file frames) (omega arith) behind
+behind_item file at Nothing frames behind = behind_earlier at (at + 0) (rows_of file frames) (omega arith) behind
+
+-- the frames of items that stand end to end
+frames_behind : (file : List ℕ) (part : Part) (ps : List Placed) (from to : ℕ) → AreEndToEnd part file from ps to → IsBehind from (rows_of file (frames_of ps))
+frames_behind file part [] from to e = tt
+frames_behind file part (p ∷ ps) from to e =
+    subst (λ n. IsBehind n (rows_of file (frames_of (p ∷ ps)))) e.0
+    (subst (λ l. IsBehind p.offset (rows_of file l)) (sym (cons_list (frame_as p.offset p.item) (frames_of ps)))
+    (behind_item file p.offset p.item (frames_of ps) (frames_behind file part ps (p.offset + size_of p.item) to e.2)))
+
+abbrev item_bytes : List ℕ → ℕ → Item → List ℕ
+item_bytes file at item = take (size_of item) (drop at file)
+
+-- an item that isn't a frame
+kept : (shift : Shift) (file : List ℕ) (frames : List PlacedFrame) (at : ℕ) (item : Item) → IsBehind (at + size_of item) (rows_of file frames)
+    → moved_from shift file at (rows_of file frames) ≡ item_bytes file at item ++ moved_from shift file (at + size_of item) (rows_of file frames)
+kept shift file frames at item behind = moved_from-later shift file at (size_of item) (rows_of file frames) behind
+
+-- a frame
+frame_step : (shift : Shift) (part : Part) (file : List ℕ) (frames : List PlacedFrame) (at : ℕ) (h : HeaderFields) → IsItemOf part file at (Frame h)
+    → moved_from shift file at (rows_of file (record { offset = at; header = h } ∷ frames)) ≡ moved_frame shift h (item_bytes file at (Frame h)) ++ moved_from shift file (at + size_of (Frame h)) (rows_of file frames)
+frame_step shift part file frames at h here =
+    let row : Row = record { offset = at; header = h; side = side_in h (drop at file) } in
+    let len = length_of (class_of h) h.slot in
+    let room = overhead-within h (header_front-in_range (drop at file) h (stands-at file at (Frame h) here.is)) in
+    let none : at - at ≡ 0 = omega arith in
+    moved_from-cons shift file at row (rows_of file frames)
+    ∙ ap (λ n. take n (drop at file) ++ (moved_row_bytes shift file row ++ moved_from shift file (row_end row) (rows_of file frames))) none
+    ∙ ap (λ (s : Side). frame_with h (moved_side shift s) (item_bytes file at (Frame h)) ++ moved_from shift file (at + len) (rows_of file frames)) (sym (side_in-take h len (drop at file) room))
+
+item_step : (shift : Shift) (part : Part) (file : List ℕ) (frames : List PlacedFrame) (at : ℕ) (item : Item) → IsItemOf part file at item → IsBehind (at + size_of item) (rows_of file frames)
+    → moved_from shift file at (rows_of file (option_to_list (frame_as at item) ++ frames)) ≡ moved_item shift item (item_bytes file at item) ++ moved_from shift file (at + size_of item) (rows_of file frames)
+item_step shift part file frames at (Frame h) here behind = frame_step shift part file frames at h here
+item_step shift part file frames at Free here behind = kept shift file frames at Free behind
+item_step shift part file frames at (Block b) here behind = kept shift file frames at (Block b) behind
+item_step shift part file frames at Zero here behind = kept shift file frames at Zero behind
+item_step shift part file frames at End here behind = kept shift file frames at End behind
+item_step shift part file frames at Nothing here behind = kept shift file frames at Nothing behind
+
+-- items that stand end to end are written as the moved items
+pub moved_from-items : (shift : Shift) (part : Part) (file : List ℕ) (ps : List Placed) (from to : ℕ) → AreEndToEnd part file from ps to
+    → moved_from shift file from (rows_of file (frames_of ps)) ≡ moved_items shift file ps ++ drop to file
+moved_from-items shift part file [] from to e =
+    moved_from-nil shift file from ∙ ap (λ n. drop n file) e ∙ ap (λ (l : List ℕ). l ++ drop to file) (sym (moved-nil shift file))
+moved_from-items shift part file (p ∷ ps) from to e =
+    let here = item_of-is part file p.offset p.item e.1 in
+    let next = p.offset + size_of p.item in
+    ap₂ (λ n (l : List PlacedFrame). moved_from shift file n (rows_of file l)) (sym e.0) (cons_list (frame_as p.offset p.item) (frames_of ps))
+    ∙ item_step shift part file (frames_of ps) p.offset p.item here (frames_behind file part ps next to e.2)
+    ∙ ap (λ (l : List ℕ). moved_item shift p.item (bytes_in file p) ++ l) (moved_from-items shift part file ps next to e.2)
+    ∙ sym (append_assoc (moved_item shift p.item (bytes_in file p)) (moved_items shift file ps) (drop to file))
+    ∙ ap (λ (l : List ℕ). l ++ drop to file) (sym (moved-cons shift file p ps))
+
+-- ---- the stream
+
+whole : (shift : Shift) (file : List ℕ) (ps : List Placed) (from to : ℕ) → AreEndToEnd Stream file from ps to → drop to file ≡ [] → moved_from shift file from (rows_of file (frames_of ps)) ≡ moved_items shift file ps
+whole shift file ps from to e nothing =
+    moved_from-items shift Stream file ps from to e
+    ∙ ap (λ (l : List ℕ). moved_items shift file ps ++ l) nothing
+    ∙ append-nil (moved_items shift file ps)
+
+-- behind the head, where the first frame is one
+behind_head : (shift : Shift) (file : List ℕ) (head : Option Head) (ps : List Placed) (from to : ℕ) (h : HeaderFields) → AreEndToEnd Stream file from ps to → drop to file ≡ [] → item_at file from ≡ Frame h
+    → moved_from shift file from (rows_of file (numbered head (frames_of ps))) ≡ moved_stream shift file head ps
+behind_head shift file None ps from to h e nothing first = whole shift file ps from to e nothing
+behind_head shift file (Some head) [] from to h e nothing first =
+    moved_from-nil shift file from ∙ ap (λ n. drop n file) e ∙ nothing ∙ sym (moved-nil shift file)
+behind_head shift file (Some head) (p ∷ ps) from to h e nothing first =
+    let here = item_of-is Stream file p.offset p.item e.1 in
+    let is : p.item ≡ Frame h = sym here.is ∙ ap (item_at file) e.0 ∙ first in
+    let size = size_of p.item in
+    let one : drop 1 (frames_of (p ∷ ps)) ≡ frames_of ps =
+    ap (drop 1) (cons_list (frame_as p.offset p.item) (frames_of ps) ∙ ap (λ i. option_to_list (frame_as p.offset i) ++ frames_of ps) is) in
+    ap₂ (λ n l. moved_from shift file n (rows_of file l)) (sym e.0) one
+    ∙ moved_from-later shift file p.offset size (rows_of file (frames_of ps)) (frames_behind file Stream ps (p.offset + size) to e.2)
+    ∙ ap₂ (λ (l m : List ℕ). l ++ m) (sym (append-nil (bytes_in file p))) (whole shift file ps (p.offset + size) to e.2 nothing)
+
+-- ---- the front
+
+stop_within : (part : Part) (file : List ℕ) (from : ℕ) (ps : List Placed) (to : ℕ) → AreEndToEnd part file from ps to → from ≤ length file → to ≤ length file
+stop_within part file from [] to e within = omega (arith, e, within)
+stop_within part file from (p ∷ ps) to e within = stop_within part file (p.offset + size_of p.item) ps to e.2 (item_of-is part file p.offset p.item e.1).within
+
+-- the items of the front are the bytes up to their end
+front_bytes : (file : List ℕ) → bytes_of file (run Front file 0).items ≡ take (run Front file 0).stop file
+front_bytes file =
+    let r = run Front file 0 in
+    let all = bytes-ends Front file 0 r.items r.stop (run-ends Front file 0) in
+    let within = stop_within Front file 0 r.items r.stop (run-ends Front file 0) (omega arith) in
+    let long : length (bytes_of file r.items) ≡ r.stop = omega (arith, ap length all, length-append (bytes_of file r.items) (drop r.stop file), length-drop r.stop file, within) in
+    sym (take_at (bytes_of file r.items) (drop r.stop file) r.stop long) ∙ ap (take r.stop) all
+
+front_end-is : (file : List ℕ) → front_end_of file ≡ (run Front file 0).stop
+unfolding front_end_of
+front_end-is file = refl
+
+-- ---- the whole file
+
+-- the bytes up to the junk, and from the first frame on with the gains of the frames moved
+pub written-edited : (shift : Shift) (file : List ℕ) (allowed : ℕ) (s : SurveyFields) → surveyed file allowed ≡ Ok s → take s.junk file ++ moved_from shift file s.first s.frames ≡ edited shift file s
+unfolding edited
+written-edited shift file allowed s e =
+    let is = surveyed-is file allowed s e in
+    let walk = walked file allowed s is in
+    let first = start-first file is.start is.begins in
+    let junk : s.junk ≡ (run Front file 0).stop = walk.junk_is ∙ start-front file is.start is.begins ∙ front_end-is file in
+    let moved : moved_from shift file s.first s.frames ≡ moved_stream shift file s.head (run Stream file s.first).items =
+    ap₂ (moved_from shift file) walk.first_is walk.frames_are
+    ∙ behind_head shift file s.head (stream_of file is.start).items is.start.first.offset (stream_of file is.start).stop is.start.first.header (run-ends Stream file is.start.first.offset) walk.nothing_behind first.frame.is
+    ∙ ap (λ n. moved_stream shift file s.head (run Stream file n).items) (sym walk.first_is) in
+    ap₂ (λ (l m : List ℕ). l ++ m) (ap (λ n. take n file) junk ∙ sym (front_bytes file)) moved
+
+-- ---- frames one behind the other
+
+-- they end where they may
+pub order_end : (from : ℕ) (rows : List Row) (to : ℕ) → AreInOrder from rows to → from ≤ to
+order_end from [] to order = order
+order_end from (row ∷ rows) to order = omega (arith, order.0, order_end (row_end row) rows to order.2)
+
+-- what is left to be written at the frame at i
+pub left_at : (shift : Shift) (file : List ℕ) (at : ℕ) (rows : List Row) (i : ℕ) (row : Row) → drop i rows ≡ row ∷ drop (i + 1) rows
+    → moved_from shift file at (drop i rows) ≡ bytes_between file at row.offset ++ (moved_row_bytes shift file row ++ moved_from shift file (row_end row) (drop (i + 1) rows))
+left_at shift file at rows i row is = ap (moved_from shift file at) is ∙ moved_from-cons shift file at row (drop (i + 1) rows)
+
+-- behind the last frame that is the rest of the file
+pub left_behind : (shift : Shift) (file : List ℕ) (at size : ℕ) (rows : List Row) → rows ≡ [] → length file ≡ size → moved_from shift file at rows ≡ bytes_between file at size
+left_behind shift file at size rows none is = ap (moved_from shift file at) none ∙ moved_from-nil shift file at ∙ sym (take_all (size - at) (drop at file) (omega (arith, is, length-drop at file)))
+
+-- ---- a survey over a folder
+
+surveyed_by : (long : Bool) (file : List ℕ) (size allowed : ℕ) (s : SurveyFields) → (if long then Err (TooLong size) else surveyed file allowed) ≡ Ok s → surveyed file allowed ≡ Ok s
+surveyed_by true file size allowed s e = absurd cc
+surveyed_by false file size allowed s e = e
+
+pub survey_of-surveyed : (file : List ℕ) (allowed : ℕ) (s : SurveyFields) → survey_of file allowed ≡ Ok s → surveyed file allowed ≡ Ok s
+unfolding survey_of
+survey_of-surveyed file allowed s e = surveyed_by (nat_lt longest_file (length file)) file (length file) allowed s e
+
+fields-length : (file : List ℕ) (start : Start) → (fields_from file start).length ≡ length file
+unfolding fields_from
+fields-length file start = refl
+
+pub survey_of-length : (file : List ℕ) (allowed : ℕ) (s : SurveyFields) → survey_of file allowed ≡ Ok s → length file ≡ s.length
+survey_of-length file allowed s e =
+    let is = surveyed-is file allowed s (survey_of-surveyed file allowed s e) in
+    sym (fields-length file is.start) ∙ ap (λ (t : SurveyFields). t.length) is.fields_are
+
+-- the edited file, by what is written first and what is written then
+pub survey_of-written : (shift : Shift) (file : List ℕ) (allowed : ℕ) (s : SurveyFields) → survey_of file allowed ≡ Ok s → edited shift file s ≡ bytes_between file 0 s.junk ++ moved_from shift file s.first s.frames
+survey_of-written shift file allowed s e =
+    let all : s.junk - 0 ≡ s.junk = omega arith in
+    sym (ap (λ n. take n file ++ moved_from shift file s.first s.frames) all ∙ written-edited shift file allowed s (survey_of-surveyed file allowed s e))

@@ -1,0 +1,40 @@
+-- A file that is read once from front to back and written with moved gains.
+use Rattle.std.specs.Prelude.{ℕ, ◌+◌, ◌-◌, ◌≤◌, List, [], ◌∷◌, ◌++◌, take, drop}
+use Rattle.frame_header.specs.Tables.{class_of, length_of}
+use Rattle.side_info.specs.Side.{SideFits}
+use Rattle.side_info.specs.Frame.{frame_with}
+use Rattle.sync_survey.specs.declared.rows.Row.{Row}
+use Rattle.sync_survey.specs.Faults.{SurveyFields, longest_file}
+use Rattle.edits.specs.declared.shift.Shift.{Shift}
+use Rattle.edits.specs.Gains.{moved_side}
+
+-- the length of a frame in bytes, and the offset where it ends
+abbrev pub row_length : Row → ℕ
+row_length row = length_of (class_of row.header) row.header.slot
+
+abbrev pub row_end : Row → ℕ
+row_end row = row.offset + row_length row
+
+-- These frames stand one behind the other between two offsets, and their side information is within its bits.
+abbrev pub AreInOrder : ℕ → List Row → ℕ → Type 0
+AreInOrder from [] to = from ≤ to
+AreInOrder from (row ∷ rows) to = (from ≤ row.offset) × SideFits (class_of row.header) row.side × AreInOrder (row_end row) rows to
+
+-- junk, first frame and frames stand in this order within the file, whose length is one that a file may have
+pub record IsInOrder (s : SurveyFields) : Type 0 where
+  pub junk : s.junk ≤ s.first
+  pub frames : AreInOrder s.first s.frames s.length
+  pub few : s.length ≤ longest_file
+
+-- a frame of the file with its gains moved
+abbrev pub moved_row_bytes : Shift → List ℕ → Row → List ℕ
+moved_row_bytes shift file row = frame_with row.header (moved_side shift row.side) (take (row_length row) (drop row.offset file))
+
+-- the bytes from one offset of the file to another
+abbrev pub bytes_between : List ℕ → ℕ → ℕ → List ℕ
+bytes_between file from to = take (to - from) (drop from file)
+
+-- the bytes of the file from an offset on, with the gains of these frames moved, which stand behind it in their order
+unfoldable pub moved_from : Shift → List ℕ → ℕ → List Row → List ℕ
+moved_from shift file at [] = drop at file
+moved_from shift file at (row ∷ rows) = bytes_between file at row.offset ++ (moved_row_bytes shift file row ++ moved_from shift file (row_end row) rows)

@@ -1,0 +1,286 @@
+//! The second pass over an input: it is read from front to back, and written with the gains of its frames moved.
+ghost use Rattle.std.specs.Prelude.{◌≡◌, ◌≢◌, ◌+◌, ◌≤◌, ◌++◌, List, ℕ, [], length, take, drop, IfErr, OnOk, OnErr, Ok};
+ghost use Rattle.frame_header.specs.Fields.{HeaderFields};
+ghost use Rattle.frame_header.specs.Tables.{class_of, length_of, overhead_of};
+ghost use Rattle.side_info.specs.Side.{SideFits};
+ghost use Rattle.side_info.specs.Frame.{frame_with};
+ghost use Rattle.outside.specs.Files.{appended, Holds, IsThere};
+ghost use Rattle.outside.specs.Feed.{IsFedFrom};
+ghost use Rattle.outside.specs.Passed.{PassedOn, AppendedPrefix};
+ghost use Rattle.sync_survey.specs.Faults.{tells};
+ghost use Rattle.sync_survey.specs.Survey.{survey_of};
+ghost use Rattle.edits.specs.Gains.{moved_side as moved_side_lem};
+ghost use Rattle.edits.specs.Edited.{most_frames, edited};
+ghost use Rattle.edits.specs.Moving.{row_length, row_end, AreInOrder, IsInOrder, moved_row_bytes, bytes_between, moved_from};
+ghost use Rattle.edits.specs.Pass.{IsReady, Writes, WritesPrefix, Appends, AppendsPrefix, HasCopyCause};
+
+use crate::gains::moved_side;
+use crate::shift::Shift;
+use frame_header::Header;
+use outside::{Feed, Folder, WriteBuffer};
+use side_info::put_side;
+use sync_survey::{Row, Survey};
+
+/// As many bytes as are copied at once.
+const PIECE: u64 = 4096;
+
+/// As many bytes as stand before the main data of a frame, at most: header, check word and side information.
+const MOST_OVERHEAD: usize = 38;
+
+/// Why a pass ended early.
+#[derive(Clone, Copy, Debug, PartialEq, Eq)]
+pub(crate) enum CopyFault {
+    /// The input could not be read.
+    Read,
+    /// The input was of the first length when it was found, and ended at the second when it was read.
+    Shrunk(u64, u64),
+    /// The output could not be written.
+    Write,
+}
+
+/// The bytes of a frame that stand before its main data.
+#[tactic(auto, unfolding(frame_header::specs::Tables::overhead_of))]
+fn overhead(header: &Header) -> usize
+    ensures overhead { result ≡ overhead_of (class_of header.now) header.now.protected }
+    ensures most { result ≤ 38 }
+{
+    let word = if header.protected { 2 } else { 0 };
+    4 + word + header.class().side_size() as usize
+}
+
+/// The length of a frame in bytes.
+fn frame_length(header: &Header) -> u32
+    ensures length { result ≡ length_of (class_of header.now) header.now.slot }
+    ensures most { result ≤ 1441 }
+    ensures room { overhead_of (class_of header.now) header.now.protected ≤ result }
+{
+    header.class().length_of(header.slot)
+}
+
+/// What a pass reads, and what it writes.
+#[derive(Drop)]
+struct Pass<'a> {
+    input: &'a str,
+    output: &'a str,
+    /// The length in bytes that the input was found with.
+    length: u64,
+    shift: &'a Shift,
+}
+
+impl<'a> Pass<'a> {
+    /// Gives these bytes of the input, which are within its length.
+    fn fill<D: Folder>(
+        &self,
+        folder: &mut D,
+        at: u64,
+        n: usize,
+        feed: &mut Feed,
+    ) -> Result<(), CopyFault>
+        requires ready { IsReady self.now.input.now self.now.output.now self.now.length (D.files folder.old) feed.old }
+        requires few { n ≤ 4096 }
+        requires within { at + n ≤ self.now.length }
+        ensures given { OnOk result (length feed.new.given ≡ n) }
+        ensures bytes { OnOk result ((file : List ℕ) → Holds (D.files folder.old) self.now.input.now file → feed.new.given ≡ take n (drop at file)) }
+        ensures done { OnOk result (D.counts folder.new ≡ D.counts folder.old) }
+        ensures cause { IfErr result (HasCopyCause self.now.length (D.files folder.old) (D.counts folder.old) (D.counts folder.new)) }
+        ensures files { D.files folder.new ≡ D.files folder.old }
+        ensures ready { IsReady self.now.input.now self.now.output.now self.now.length (D.files folder.new) feed.new }
+    {
+        match feed.fill(folder, self.input, at, n) {
+            Ok(got) if got < n => Err(CopyFault::Shrunk(self.length, at + got as u64)),
+            Ok(_) => Ok(()),
+            Err(_) => Err(CopyFault::Read),
+        }
+    }
+
+    /// Adds a piece to what waits for the output.
+    fn push<D: Folder>(
+        &self,
+        folder: &mut D,
+        piece: &[u8],
+        waiting: &mut WriteBuffer,
+    ) -> Result<(), CopyFault>
+        requires { IsThere (D.files folder.old) self.now.output.now }
+        ensures passed { OnOk result (PassedOn self.now.output.now (waiting.old ++ piece.now) waiting.new (D.files folder.old) (D.files folder.new)) }
+        ensures prefix { OnErr result (AppendedPrefix self.now.output.now (waiting.old ++ piece.now) (D.files folder.old) (D.files folder.new)) }
+        ensures done { OnOk result (D.counts folder.new ≡ D.counts folder.old) }
+        ensures cause { IfErr result (HasCopyCause self.now.length (D.files folder.old) (D.counts folder.old) (D.counts folder.new)) }
+    {
+        match waiting.push(folder, self.output, piece) {
+            Ok(()) => Ok(()),
+            Err(_) => Err(CopyFault::Write),
+        }
+    }
+
+    /// Copies at most 4,096 bytes.
+    fn copy_piece<D: Folder>(
+        &self,
+        folder: &mut D,
+        at: u64,
+        n: usize,
+        feed: &mut Feed,
+        waiting: &mut WriteBuffer,
+    ) -> Result<(), CopyFault>
+        requires ready { IsReady self.now.input.now self.now.output.now self.now.length (D.files folder.old) feed.old }
+        requires few { n ≤ 4096 }
+        requires within { at + n ≤ self.now.length }
+        ensures written { OnOk result (Writes self.now.input.now self.now.output.now (λ file. take n (drop at file)) waiting.old waiting.new (D.files folder.old) (D.files folder.new)) }
+        ensures prefix { OnErr result (WritesPrefix self.now.input.now self.now.output.now (λ file. take n (drop at file)) waiting.old (D.files folder.old) (D.files folder.new)) }
+        ensures done { OnOk result (D.counts folder.new ≡ D.counts folder.old) }
+        ensures cause { IfErr result (HasCopyCause self.now.length (D.files folder.old) (D.counts folder.old) (D.counts folder.new)) }
+        ensures ready { OnOk result (IsReady self.now.input.now self.now.output.now self.now.length (D.files folder.new) feed.new) }
+    {
+        self.fill(folder, at, n, feed)?;
+        self.push(folder, feed.bytes(), waiting)
+    }
+
+    /// Copies the bytes from one offset to another.
+    fn copy<D: Folder>(
+        &self,
+        folder: &mut D,
+        from: u64,
+        to: u64,
+        feed: &mut Feed,
+        waiting: &mut WriteBuffer,
+    ) -> Result<(), CopyFault>
+        requires ready { IsReady self.now.input.now self.now.output.now self.now.length (D.files folder.old) feed.old }
+        requires ordered { from ≤ to }
+        requires within { to ≤ self.now.length }
+        ensures written { OnOk result (Writes self.now.input.now self.now.output.now (λ file. bytes_between file from to) waiting.old waiting.new (D.files folder.old) (D.files folder.new)) }
+        ensures prefix { OnErr result (WritesPrefix self.now.input.now self.now.output.now (λ file. bytes_between file from to) waiting.old (D.files folder.old) (D.files folder.new)) }
+        ensures done { OnOk result (D.counts folder.new ≡ D.counts folder.old) }
+        ensures cause { IfErr result (HasCopyCause self.now.length (D.files folder.old) (D.counts folder.old) (D.counts folder.new)) }
+        ensures ready { OnOk result (IsReady self.now.input.now self.now.output.now self.now.length (D.files folder.new) feed.new) }
+    {
+        let mut at = from;
+        while at < to {
+            let n = (to - at).min(PIECE);
+            self.copy_piece(folder, at, n as usize, feed, waiting)?;
+            at += n;
+        }
+        Ok(())
+    }
+
+    /// Adds a frame with its gains moved to what waits, and of a protected frame the check word that is right for them.
+    fn push_frame<D: Folder>(
+        &self,
+        folder: &mut D,
+        row: &Row,
+        frame: &[u8],
+        waiting: &mut WriteBuffer,
+    ) -> Result<(), CopyFault>
+        requires target { IsThere (D.files folder.old) self.now.output.now }
+        requires room { overhead_of (class_of row.now.header) row.now.header.protected ≤ length frame.now }
+        requires fits { SideFits (class_of row.now.header) row.now.side }
+        ensures passed { OnOk result (PassedOn self.now.output.now (waiting.old ++ frame_with row.now.header (moved_side_lem self.now.shift.now row.now.side) frame.now) waiting.new (D.files folder.old) (D.files folder.new)) }
+        ensures prefix { OnErr result (AppendedPrefix self.now.output.now (waiting.old ++ frame_with row.now.header (moved_side_lem self.now.shift.now row.now.side) frame.now) (D.files folder.old) (D.files folder.new)) }
+        ensures done { OnOk result (D.counts folder.new ≡ D.counts folder.old) }
+        ensures cause { IfErr result (HasCopyCause self.now.length (D.files folder.old) (D.counts folder.old) (D.counts folder.new)) }
+    {
+        let size = overhead(&row.header);
+        let mut room = [0; MOST_OVERHEAD];
+        let front = &mut room[..size];
+        front.copy_from_slice(&frame[..size]);
+        put_side(&row.header, &moved_side(self.shift, &row.side), front);
+        self.push(folder, front, waiting)?;
+        self.push(folder, &frame[size..], waiting)
+    }
+
+    /// Copies a frame and moves its gains.
+    fn move_frame<D: Folder>(
+        &self,
+        folder: &mut D,
+        row: &Row,
+        feed: &mut Feed,
+        waiting: &mut WriteBuffer,
+    ) -> Result<(), CopyFault>
+        requires ready { IsReady self.now.input.now self.now.output.now self.now.length (D.files folder.old) feed.old }
+        requires within { row_end row.now ≤ self.now.length }
+        requires fits { SideFits (class_of row.now.header) row.now.side }
+        ensures written { OnOk result (Writes self.now.input.now self.now.output.now (λ file. moved_row_bytes self.now.shift.now file row.now) waiting.old waiting.new (D.files folder.old) (D.files folder.new)) }
+        ensures prefix { OnErr result (WritesPrefix self.now.input.now self.now.output.now (λ file. moved_row_bytes self.now.shift.now file row.now) waiting.old (D.files folder.old) (D.files folder.new)) }
+        ensures done { OnOk result (D.counts folder.new ≡ D.counts folder.old) }
+        ensures cause { IfErr result (HasCopyCause self.now.length (D.files folder.old) (D.counts folder.old) (D.counts folder.new)) }
+        ensures ready { OnOk result (IsReady self.now.input.now self.now.output.now self.now.length (D.files folder.new) feed.new) }
+    {
+        self.fill(folder, row.offset, frame_length(&row.header) as usize, feed)?;
+        self.push_frame(folder, row, feed.bytes(), waiting)
+    }
+
+    /// Copies what stands from an offset on, and moves the gains of these frames.
+    fn move_frames<D: Folder>(
+        &self,
+        folder: &mut D,
+        from: u64,
+        rows: &[Row],
+        feed: &mut Feed,
+        waiting: &mut WriteBuffer,
+    ) -> Result<(), CopyFault>
+        requires ready { IsReady self.now.input.now self.now.output.now self.now.length (D.files folder.old) feed.old }
+        requires ordered { AreInOrder from rows.now self.now.length }
+        ensures written { OnOk result (Writes self.now.input.now self.now.output.now (λ file. moved_from self.now.shift.now file from rows.now) waiting.old waiting.new (D.files folder.old) (D.files folder.new)) }
+        ensures prefix { OnErr result (WritesPrefix self.now.input.now self.now.output.now (λ file. moved_from self.now.shift.now file from rows.now) waiting.old (D.files folder.old) (D.files folder.new)) }
+        ensures done { OnOk result (D.counts folder.new ≡ D.counts folder.old) }
+        ensures cause { IfErr result (HasCopyCause self.now.length (D.files folder.old) (D.counts folder.old) (D.counts folder.new)) }
+    {
+        let mut at = from;
+        for row in rows {
+            self.copy(folder, at, row.offset, feed, waiting)?;
+            self.move_frame(folder, row, feed, waiting)?;
+            at = row.offset + u64::from(row.header.length());
+        }
+        self.copy(folder, at, self.length, feed, waiting)
+    }
+
+    /// Hands on what waits.
+    fn finish<D: Folder>(&self, folder: &mut D, waiting: &mut WriteBuffer) -> Result<(), CopyFault>
+        requires { IsThere (D.files folder.old) self.now.output.now }
+        ensures appended { OnOk result (D.files folder.new ≡ appended (D.files folder.old) self.now.output.now waiting.old) }
+        ensures prefix { OnErr result (AppendedPrefix self.now.output.now waiting.old (D.files folder.old) (D.files folder.new)) }
+        ensures done { OnOk result (D.counts folder.new ≡ D.counts folder.old) }
+        ensures cause { IfErr result (HasCopyCause self.now.length (D.files folder.old) (D.counts folder.old) (D.counts folder.new)) }
+    {
+        match waiting.finish(folder, self.output) {
+            Ok(()) => Ok(()),
+            Err(_) => Err(CopyFault::Write),
+        }
+    }
+}
+
+/// Appends the input to the output, with its gains moved by the shift and without its junk. It takes no memory.
+///
+/// Ends early with `Read` where a read failed; with `Shrunk`, the length that the input was found with and
+/// the one that it had when it was read, where a read gave no byte before that length; and with `Write` where
+/// a write failed. Then a prefix of the bytes, none to all of them, was appended.
+pub(crate) fn write_moved<D: Folder>(
+    folder: &mut D,
+    input: &str,
+    output: &str,
+    survey: &Survey,
+    shift: &Shift,
+    feed: &mut Feed,
+    waiting: &mut WriteBuffer,
+) -> Result<(), CopyFault>
+    requires apart { input.now ≢ output.now }
+    requires source { IsThere (D.files folder.old) input.now }
+    requires target { IsThere (D.files folder.old) output.now }
+    requires ordered { IsInOrder (tells survey.now) }
+    requires exact { (file : List ℕ) → Holds (D.files folder.old) input.now file → survey_of file most_frames ≡ Ok (tells survey.now) }
+    requires fed { IsFedFrom feed.old (D.files folder.old) input.now }
+    requires none { waiting.old ≡ [] }
+    ensures written { OnOk result (Appends input.now output.now (λ file. edited shift.now file (tells survey.now)) (D.files folder.old) (D.files folder.new)) }
+    ensures prefix { OnErr result (AppendsPrefix input.now output.now (λ file. edited shift.now file (tells survey.now)) (D.files folder.old) (D.files folder.new)) }
+    ensures done { OnOk result (D.counts folder.new ≡ D.counts folder.old) }
+    ensures cause { IfErr result (HasCopyCause (tells survey.now).length (D.files folder.old) (D.counts folder.old) (D.counts folder.new)) }
+{
+    let pass = Pass {
+        input,
+        output,
+        length: survey.length(),
+        shift,
+    };
+    let (junk, _) = survey.junk();
+    pass.copy(folder, 0, junk, feed, waiting)?;
+    pass.move_frames(folder, survey.first(), survey.frames(), feed, waiting)?;
+    pass.finish(folder, waiting)
+}
