@@ -3,6 +3,7 @@ pub mod GainsBack
 pub mod RangeLaws
 pub mod MovingLaws
 pub mod PassLaws
+pub mod OutputLaws
 pub mod GainLaws
 pub mod GainsLaws
 pub mod MovedFrame

@@ -227,7 +227,7 @@ pub cause_later : (size : ℕ) (old now : Files) (output more : List ℕ) (befor
     → HasCopyCause size now mid after fault → HasCopyCause size old before after fault
 cause_later size old now output more before mid after Read grown same cause = subst (λ counts. HasCopyCause size old counts after Read) same cause
 cause_later size old now output more before mid after (Shrunk first second) grown same cause =
-    subst (λ counts. HasCopyCause size old counts after (Shrunk first second)) same (appended_untold old output more (sym grown ∙ cause.0), cause.1, cause.2, cause.3, cause.4)
+    subst (λ counts. HasCopyCause size old counts after (Shrunk first second)) same (appended_untold old output more (sym grown ∙ cause.0), cause.1, cause.2, cause.3, cause.4, cause.5)
 cause_later size old now output more before mid after Write grown same cause = subst (λ counts. HasCopyCause size old counts after Write) same cause
 
 pub causes_later : {T : Type 0} (r : Result T CopyFault) (size : ℕ) (old now : Files) (output more : List ℕ) (before mid after : Counts) → now ≡ appended old output more → mid ≡ before

@@ -5,6 +5,9 @@ use Rattle.outside.specs.Counts.{Counts, Rose, OnlyReads, OnlyWrites, NothingFai
 use Rattle.outside.specs.Passed.{PassedOn}
 use Rattle.outside.specs.Feed.{Fed, IsFedFrom}
 use Rattle.sync_survey.specs.Faults.{longest_file}
+use Rattle.sync_survey.specs.declared.survey_fault.SurveyFault.TheVariants.{Read as Unread, Shrunk as Shorter}
+use Rattle.edits.specs.declared.fault.EditFault.{EditFault}
+use Rattle.edits.specs.declared.fault.EditFault.TheVariants.{Input, Write as Unwritten}
 use Rattle.edits.specs.declared.moving.CopyFault.{CopyFault}
 use Rattle.edits.specs.declared.moving.CopyFault.TheVariants.{Read, Shrunk, Write}
 
@@ -49,5 +52,11 @@ AppendsPrefix input output made old new = WritesPrefix input output made [] old 
 -- length, and a read at the second gave no byte.
 abbrev pub HasCopyCause : ℕ → Files → Counts → Counts → CopyFault → Type 0
 HasCopyCause size files before after Read = Rose before.read_faults after.read_faults × OnlyReads before after
-HasCopyCause size files before after (Shrunk first second) = (files ≡ untold) × (first ≡ size) × (second < first) × Rose before.ends after.ends × NothingFailed before after
+HasCopyCause size files before after (Shrunk first second) = (files ≡ untold) × (first ≡ size) × (second < first) × Rose before.ends after.ends × NothingFailed before after × OnlyReads before after
 HasCopyCause size files before after Write = Rose before.write_faults after.write_faults × OnlyWrites before after
+
+-- the fault of a command that makes one pass over one input
+abbrev pub of_pass : CopyFault → EditFault
+of_pass Read = Input 0 Unread
+of_pass (Shrunk first second) = Input 0 (Shorter first second)
+of_pass Write = Unwritten 0

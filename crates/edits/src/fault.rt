@@ -3,7 +3,9 @@
 ghost use Rattle.std.specs.Prelude.{◌≡◌};
 ghost use Rattle.edits.specs.declared.fault.EditFault.TheVariants.{Memory};
 ghost use Rattle.edits.specs.Kinds.{of_input};
+ghost use Rattle.edits.specs.Pass.{of_pass};
 
+use crate::moving::CopyFault;
 use std::alloc::{AllocError, AllocFailed};
 use sync_survey::SurveyFault;
 
@@ -47,6 +49,21 @@ impl From<SurveyFault> for EditFault {
         match fault {
             SurveyFault::Memory => EditFault::Memory,
             _ => EditFault::Input(0, fault),
+        }
+    }
+}
+
+/// The fault of a pass over the one input of a command, which writes its one output.
+impl From<CopyFault> for EditFault {
+    ghost from_gives = { λ fault e. e ≡ of_pass fault };
+
+    fn from(fault: CopyFault) -> EditFault {
+        match fault {
+            CopyFault::Read => EditFault::Input(0, SurveyFault::Read),
+            CopyFault::Shrunk(first, second) => {
+                EditFault::Input(0, SurveyFault::Shrunk(first, second))
+            }
+            CopyFault::Write => EditFault::Write(0),
         }
     }
 }

@@ -1,5 +1,5 @@
 //! The gain command over a folder.
-ghost use Rattle.std.specs.Prelude.{◌≡◌, ◌↔◌, List, ℕ, Ok, is_some, IfOk, IfErr, IfSome, OnOk, IsErrOf};
+ghost use Rattle.std.specs.Prelude.{◌≡◌, ◌≢◌, ◌↔◌, List, ℕ, Ok, is_some, IfOk, IfErr, IfSome, OnOk, IsErrOf};
 ghost use Rattle.bit_fields.specs.Bits.{AreBytes};
 ghost use Rattle.outside.specs.Files.{Holds, IsThere};
 ghost use Rattle.outside.specs.Counts.{NoneFell, OnlyReads};
@@ -8,12 +8,14 @@ ghost use Rattle.sync_survey.specs.Survey.{survey_of};
 ghost use Rattle.edits.specs.Command.{HoldsStreams};
 ghost use Rattle.edits.specs.Edited.{edited, gained, most_frames};
 ghost use Rattle.edits.specs.Gain.{gain_command, holding, IsInputFault, IsPassFault};
+ghost use Rattle.edits.specs.Moving.{IsInOrder};
 ghost use Rattle.edits.specs.Left.{seen, IsDone, Leaves, HasNumbers, IsOfInput, IsOfPass};
 
 use crate::edit::range_fault;
 use crate::fault::EditFault;
+use crate::moving::write_moved;
 use crate::shift::Shift;
-use outside::Folder;
+use outside::{Feed, Folder, WriteBuffer};
 use std::alloc::Global;
 use sync_survey::{Survey, survey};
 
@@ -30,6 +32,7 @@ fn survey_input<D: Folder>(
     ensures there { OnOk result (IsThere (D.files folder.old) name.now) }
     ensures gained { IfOk result (λ s. (bytes : List ℕ) → Holds (D.files folder.old) name.now bytes → gained shift.now bytes ≡ Ok (edited shift.now bytes (tells s))) }
     ensures surveyed { IfOk result (λ s. (bytes : List ℕ) → Holds (D.files folder.old) name.now bytes → survey_of bytes most_frames ≡ Ok (tells s)) }
+    ensures ordered { IfOk result (λ s. IsInOrder (tells s)) }
     ensures octets { OnOk result ((bytes : List ℕ) → Holds (D.files folder.old) name.now bytes → AreBytes bytes) }
     ensures refused { IfErr result (IsInputFault shift.now name.now (seen (D.files folder.old) (D.counts folder.old)) (seen (D.files folder.new) (D.counts folder.new))) }
     ensures numbers { IfErr result IsOfInput }
@@ -44,7 +47,7 @@ fn survey_input<D: Folder>(
     }
 }
 
-/// Writes the output. All memory is taken before it is created.
+/// Creates the output and writes it. All memory is taken before.
 fn write_output<D: Folder>(
     alloc: Global,
     folder: &mut D,
@@ -53,7 +56,9 @@ fn write_output<D: Folder>(
     survey: &Survey,
     shift: &Shift,
 ) -> Result<(), EditFault>
+    requires apart { input.now ≢ output.now }
     requires there { IsThere (D.files folder.old) input.now }
+    requires ordered { IsInOrder (tells survey.now) }
     requires surveyed { (bytes : List ℕ) → Holds (D.files folder.old) input.now bytes → survey_of bytes most_frames ≡ Ok (tells survey.now) }
     ensures written { OnOk result ((bytes : List ℕ) → Holds (D.files folder.old) input.now bytes → D.files folder.new ≡ holding (D.files folder.old) output.now (edited shift.now bytes (tells survey.now))) }
     ensures told { is_some (D.files folder.new) ≡ is_some (D.files folder.old) }
@@ -62,7 +67,15 @@ fn write_output<D: Folder>(
     ensures numbers { IfErr result IsOfPass }
     ensures counts { NoneFell (D.counts folder.old) (D.counts folder.new) }
 {
-    Err(EditFault::Memory)
+    let mut feed = Feed::new(alloc)?;
+    let mut waiting = WriteBuffer::new(alloc)?;
+    let Ok(()) = folder.create(output) else {
+        return Err(EditFault::Write(0));
+    };
+    match write_moved(folder, input, output, survey, shift, &mut feed, &mut waiting) {
+        Ok(()) => Ok(()),
+        Err(fault) => Err(fault.into()),
+    }
 }
 
 /// Writes the output, which is the input with its gains moved by the shift.

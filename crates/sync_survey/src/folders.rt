@@ -66,6 +66,8 @@ pub fn survey<D: Folder>(
 ) -> Result<Survey, SurveyFault>
     ensures exact { IfOk result (λ s. (bytes : List ℕ) → Holds (D.files folder.old) name.now bytes → survey_of bytes allowed ≡ Ok (tells s)) }
     ensures there { OnOk result (IsThere (D.files folder.old) name.now) }
+    // Whatever is told of it, it is the survey of some bytes.
+    ensures some { IfOk result (λ s. (bytes : List ℕ) × (survey_of bytes allowed ≡ Ok (tells s))) }
     ensures octets { OnOk result ((bytes : List ℕ) → Holds (D.files folder.old) name.now bytes → AreBytes bytes) }
     ensures refused { IfErr result (IsSurveyFault name.now (D.files folder.old) allowed (D.counts folder.old) (D.counts folder.new)) }
     ensures done { OnOk result (D.counts folder.new ≡ D.counts folder.old) }

@@ -1,7 +1,12 @@
 -- The survey of the bytes that were loaded is that of the file.
 use Rattle.std.proofs.Common.{sym, ◌∙◌, subst}
 use Rattle.bit_fields.specs.Bits.{AreBytes}
-use Rattle.std.specs.Prelude.{Result, Ok, Err, OnOk}
+use Rattle.std.specs.Prelude.{◌≡◌, ◌≤◌, ℕ, List, length, Result, Ok, Err, OnOk, IfOk, MatchResult}
+use Rattle.sync_survey.specs.declared.surveys.Survey.{Survey}
+use Rattle.sync_survey.specs.declared.survey_fault.SurveyFault.{SurveyFault}
+use Rattle.sync_survey.specs.Faults.{longest_file, surveyed, tells, IsSurveyRefusal}
+use Rattle.sync_survey.specs.Survey.{survey_of}
+use Rattle.sync_survey.proofs.FoldersLaws.{survey_of-short}
 use Rattle.sync_survey.proofs.FoldersLaws.{IsLoaded, survey_ok, survey_refused}
 use Rattle.sync_survey.proofs.folders.survey.Goals as goal
 
@@ -31,3 +36,12 @@ returns-clause-refused g c =
 
 pub returns-clause-octets : goal.returns-clause-octets
 returns-clause-octets g c = on_ok_holds c.survey_bytes.result (λ bytes holds. subst AreBytes (c.deref.ensures.value ∙ c.in_ok-bytes.ensures.bytes bytes holds) c.survey_bytes.ensures.octets)
+
+some_bytes : (file : List ℕ) (allowed : ℕ) → length file ≤ longest_file → (r : Result Survey SurveyFault) → MatchResult r (λ s. surveyed file allowed ≡ Ok (tells s)) (IsSurveyRefusal file allowed)
+    → IfOk r (λ s. (bytes : List ℕ) × (survey_of bytes allowed ≡ Ok (tells s)))
+some_bytes file allowed few (Ok s) is = (file, survey_of-short file allowed few ∙ is)
+some_bytes file allowed few (Err fault) is = tt
+
+pub returns-clause-some : goal.returns-clause-some
+returns-clause-some g c =
+    some_bytes c.deref.result.now c.args.allowed (subst (λ l. length l ≤ longest_file) (sym c.deref.ensures.value) c.in_ok-bytes.ensures.bound) c.survey_bytes.result c.survey_bytes.ensures.exact

@@ -13,4 +13,5 @@ returns-in-Ok-clause-cause g c =
       omega (arith, few, c.requires.within),
       c.in-Ok.ensures.ended few,
       c.in-Ok.ensures.done,
+      c.fill.ensures.counts,
     )
