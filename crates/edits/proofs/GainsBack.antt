@@ -18,11 +18,8 @@ use Rattle.edits.specs.declared.gains.Stuck.{Stuck}
 use Rattle.edits.specs.declared.shift.Shift.{Shift}
 use Rattle.edits.specs.declared.shift.Channels.{Channels}
 use Rattle.edits.specs.declared.shift.Channels.TheVariants.{Both, Left, Right}
+use Rattle.edits.specs.Undoing.{opposite}
 use Rattle.edits.specs.Gains.{left_steps_of, right_steps_of, left_steps, right_steps, is_silent, is_outside, moved_gain, moved, moved_side, stuck_at, stuck_in}
-
--- the same channels by as many steps the other way
-abbrev pub opposite : Shift → Shift
-opposite shift = record shift { steps = neg_ℤ shift.steps }
 
 left-opposite : (channels : Channels) (steps : ℤ) → left_steps_of channels (neg_ℤ steps) ≡ neg_ℤ (left_steps_of channels steps)
 left-opposite Both steps = refl

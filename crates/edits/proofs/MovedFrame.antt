@@ -22,7 +22,8 @@ use Rattle.edits.specs.declared.shift.Shift.{Shift}
 use Rattle.edits.specs.Gains.{left_steps, right_steps, is_silent, moved_gain, moved, moved_side}
 use Rattle.edits.specs.Edited.{moved_frame}
 use Rattle.edits.proofs.GainsLaws.{SideFits-moved_side}
-use Rattle.edits.proofs.GainsBack.{opposite, IsSideBack, IsShaped-moved}
+use Rattle.edits.specs.Undoing.{opposite}
+use Rattle.edits.proofs.GainsBack.{IsSideBack, IsShaped-moved}
 
 -- ---- the last two bytes of the side information
 

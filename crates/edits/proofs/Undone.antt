@@ -39,7 +39,8 @@ use Rattle.edits.specs.declared.shift.Shift.{Shift}
 use Rattle.edits.specs.Gains.{moved_side, stuck_in}
 use Rattle.edits.specs.Edited.{moved_frame, moved_item, moved_items, moved_stream, edited, stuck_fault, range_fault, most_frames, gained}
 use Rattle.edits.specs.Streams.{moved_row, without_junk}
-use Rattle.edits.proofs.GainsBack.{opposite, GainsFit, IsSideBack, side_back}
+use Rattle.edits.specs.Undoing.{opposite}
+use Rattle.edits.proofs.GainsBack.{GainsFit, IsSideBack, side_back}
 use Rattle.edits.proofs.MovedFrame.{whole_class, whole_room, frame_back}
 use Rattle.edits.proofs.EditedItems.{frame_whole, moved_own, moved-nil, moved-cons, IsMovedAt, AreMovedAt}
 use Rattle.edits.proofs.EditedRuns.{gap_of, moved_start, new_file, first_bytes, moved_first, front_low, stream_is, later_ends, items_bytes, front_stop, new-before, new-bytes, new-length, new-later, new-front, new-stream, new-head, near_own, first_frame, frames-moved}

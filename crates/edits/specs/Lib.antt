@@ -8,3 +8,4 @@ pub mod Streams
 pub mod Command
 pub mod Left
 pub mod Gain
+pub mod Undoing

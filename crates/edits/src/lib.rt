@@ -7,8 +7,10 @@ mod gain_file;
 mod gains;
 mod moving;
 mod shift;
+mod undoing;
 
 pub use fault::EditFault;
 pub use gain_file::gain;
 pub use gains::Stuck;
 pub use shift::{Channels, Shift};
+pub use undoing::opposite_gives_back;
