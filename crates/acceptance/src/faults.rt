@@ -34,50 +34,93 @@ static LOWER_FILE: [Stretch; 7] = [
     ID3V1_REST,
 ];
 
-/// The call that fails, the line, and what the output then holds, where it is there.
+/// The call that fails, counted from 1, the line, and what the output then holds, where it is there.
 struct Failing {
     call: Call,
+    number: u64,
     line: &'static str,
     output: Option<&'static [u8]>,
 }
 
-static FAILING: [Failing; 4] = [
+static FAILING: [Failing; 5] = [
     Failing {
         call: Call::Find,
+        number: 1,
         line: "g: read fault\n",
         output: None,
     },
     Failing {
         call: Call::Read,
+        number: 1,
         line: "g: read fault\n",
         output: None,
     },
+    // The input is read once more when the output is there.
+    Failing {
+        call: Call::Read,
+        number: 2,
+        line: "g: read fault\n",
+        output: Some(&[]),
+    },
     Failing {
         call: Call::Create,
+        number: 1,
         line: "o: write fault\n",
         output: None,
     },
     Failing {
         call: Call::Write,
+        number: 1,
         line: "o: write fault\n",
         output: Some(&[]),
     },
 ];
 
-// Each kind of call is made once: where the first fails it is told, and where the second would, nothing is.
 #[test]
 fn each_call_fails_once(rt: HostRuntime) -> Result<(), Fail> {
     for case in &FAILING {
         let mut folder = folder_of_file(rt.alloc(), "g", &FILE)?;
-        folder.fail(case.call, 1)?;
+        folder.fail(case.call, case.number)?;
         expect(&rt, &mut folder, WORDS, 3, case.line)?;
         assert!(rt; folder.get("o") == case.output, "{:?}", case.call);
         expect_file(&rt, &folder, "g", &FILE, case.line)?;
+    }
+    Ok(())
+}
 
+/// A call that isn't made.
+struct Further {
+    call: Call,
+    number: u64,
+}
+
+static FURTHER: [Further; 4] = [
+    Further {
+        call: Call::Find,
+        number: 2,
+    },
+    Further {
+        call: Call::Read,
+        number: 3,
+    },
+    Further {
+        call: Call::Create,
+        number: 2,
+    },
+    Further {
+        call: Call::Write,
+        number: 2,
+    },
+];
+
+// Where a call would fail that isn't made, nothing is told.
+#[test]
+fn no_more_calls_are_made(rt: HostRuntime) -> Result<(), Fail> {
+    for further in &FURTHER {
         let mut folder = folder_of_file(rt.alloc(), "g", &FILE)?;
-        folder.fail(case.call, 2)?;
+        folder.fail(further.call, further.number)?;
         expect(&rt, &mut folder, WORDS, 0, "")?;
-        expect_file(&rt, &folder, "o", &LOWER_FILE, "the second call")?;
+        expect_file(&rt, &folder, "o", &LOWER_FILE, "one call more")?;
     }
     Ok(())
 }
