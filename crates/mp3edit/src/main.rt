@@ -1,12 +1,18 @@
 //! The program.
 #![tactic(auto)]
 
-ghost use Rattle.std.specs.Prelude.{◌≡◌, ◌≢◌};
+ghost use Rattle.std.specs.Prelude.{◌≡◌, ◌≢◌, ◌↔◌, Some, map, string_bytes, IfOk, IfErr, OnErr};
 ghost use Rattle.std.specs.IoError.{error_kind};
 ghost use Rattle.std.specs.declared.io.ErrorKind.TheVariants.{OutOfMemory};
+ghost use Rattle.outside.specs.Counts.{Rose};
+ghost use Rattle.outside.specs.Files.{Contents};
+ghost use Rattle.edits.specs.Left.{seen};
+ghost use Rattle.mp3_cli.specs.Words.{job_of};
+ghost use Rattle.mp3_cli.specs.Run.{AnswersWords, IsAccepted, HoldsAllStreams};
 
 use mp3_cli::run;
-use outside::{DiskFolder, StdSink};
+use outside::{DiskFolder, Folder, Sink, StdSink};
+use std::alloc::Global;
 use std::process::ExitCode;
 use std::rt::Env;
 use std::{env, io};
@@ -27,13 +33,40 @@ fn status_without_words(error: &io::Error) -> u8
     }
 }
 
+/// Does what the words ask for, and answers the status. Where there are no words, nothing is done and nothing
+/// is sent.
+fn answer<D: Folder, T: Sink, E: Sink>(
+    alloc: Global,
+    words: io::Result<Vec<String>>,
+    folder: &mut D,
+    out: &mut T,
+    err: &mut E,
+) -> u8
+    // The clauses of `run`.
+    ensures answers { IfOk words (λ v. AnswersWords (map string_bytes v.items) (seen (D.files folder.old) (D.counts folder.old)) (seen (D.files folder.new) (D.counts folder.new))
+        (E.sent err.old) (E.sent err.new) (E.faults err.old) (E.faults err.new) result (job_of (map string_bytes v.items))) }
+    ensures accepted { IfOk words (λ v. (files : Contents) → D.files folder.old ≡ Some files → (Rose (D.counts folder.old).read_faults (D.counts folder.new).read_faults → ⊥)
+        → (Rose (D.counts folder.old).write_faults (D.counts folder.new).write_faults → ⊥) → result ≢ 4
+        → ((result ≡ 0) ↔ IsAccepted (map string_bytes v.items) files)) }
+    ensures streams { IfOk words (λ v. result ≡ 0 → HoldsAllStreams (map string_bytes v.items) (D.files folder.old)) }
+    ensures no_text { T.sent out.new ≡ T.sent out.old }
+
+    // The clauses of `status_without_words`.
+    ensures memory { IfErr words (λ error. error_kind error ≡ OutOfMemory → result ≡ 4) }
+    ensures other { IfErr words (λ error. error_kind error ≢ OutOfMemory → result ≡ 3) }
+    ensures untouched { OnErr words (seen (D.files folder.new) (D.counts folder.new) ≡ seen (D.files folder.old) (D.counts folder.old)) }
+    ensures silent { OnErr words (E.sent err.new ≡ E.sent err.old) }
+{
+    match words {
+        Ok(words) => run(alloc, &words, folder, out, err),
+        Err(error) => status_without_words(&error),
+    }
+}
+
 fn main(rt: HostRuntime) -> ExitCode {
-    let words = match words(&rt) {
-        Ok(words) => words,
-        Err(error) => return ExitCode::from(status_without_words(&error)),
-    };
+    let words = words(&rt);
     let mut folder = DiskFolder::new(&rt, rt.alloc());
     let mut out = StdSink::new(rt.stdout());
     let mut err = StdSink::new(rt.stderr());
-    ExitCode::from(run(rt.alloc(), &words, &mut folder, &mut out, &mut err))
+    ExitCode::from(answer(rt.alloc(), words, &mut folder, &mut out, &mut err))
 }
