@@ -14,3 +14,6 @@ pub use gain_file::gain;
 pub use gains::Stuck;
 pub use shift::{Channels, Shift};
 pub use undoing::opposite_gives_back;
+
+#[cfg(test)]
+mod tests;

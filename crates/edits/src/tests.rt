@@ -1,0 +1,5 @@
+//! Tests of the commands.
+
+mod files;
+mod pass;
+mod slow;
