@@ -155,7 +155,7 @@ behind_head shift file (Some head) (p ∷ ps) from to h e nothing first =
 
 -- ---- the front
 
-stop_within : (part : Part) (file : List ℕ) (from : ℕ) (ps : List Placed) (to : ℕ) → AreEndToEnd part file from ps to → from ≤ length file → to ≤ length file
+pub stop_within : (part : Part) (file : List ℕ) (from : ℕ) (ps : List Placed) (to : ℕ) → AreEndToEnd part file from ps to → from ≤ length file → to ≤ length file
 stop_within part file from [] to e within = omega (arith, e, within)
 stop_within part file from (p ∷ ps) to e within = stop_within part file (p.offset + size_of p.item) ps to e.2 (item_of-is part file p.offset p.item e.1).within
 

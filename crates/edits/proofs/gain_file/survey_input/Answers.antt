@@ -2,8 +2,9 @@
 use Rattle.std.proofs.Common.{◌≡◌, sym, ◌∙◌, ap, ap₂}
 use Rattle.std.proofs.lemmas.Result.{err_from_is_err_and}
 use Rattle.sync_survey.specs.Faults.{tells}
-use Rattle.edits.specs.Edited.{range_fault}
+use Rattle.edits.specs.Edited.{most_frames, range_fault}
 use Rattle.edits.specs.Left.{seen}
+use Rattle.edits.proofs.OrderLaws.{survey_of-in_order}
 use Rattle.edits.proofs.GainLaws.{survey_is_input, survey_numbers, range_is_input, range_of_input, gained-free}
 use Rattle.edits.proofs.gain_file.survey_input.Goals as goal
 
@@ -29,3 +30,8 @@ returns-in-Some-clause-numbers g c = range_of_input c.in-Some.fault c.in-Some.en
 pub returns-in-None-clause-gained : goal.returns-in-None-clause-gained
 returns-in-None-clause-gained g c bytes holds =
     gained-free c.args.shift.now bytes (tells c.in_ok-survey.survey) (c.in_ok-survey.ensures.exact bytes holds) (sym (c.in-None.ensures.fault ∙ ap (range_fault c.args.shift.now) c.frames.ensures))
+
+pub returns-in-None-clause-ordered : goal.returns-in-None-clause-ordered
+returns-in-None-clause-ordered g c =
+    let some = c.in_ok-survey.ensures.some in
+    survey_of-in_order some.0 most_frames (tells c.in_ok-survey.survey) some.1
