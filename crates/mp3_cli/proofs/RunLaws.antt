@@ -1,21 +1,20 @@
 -- What `run` promises, from the answer of a command.
-use Rattle.std.proofs.Common.{◌≡◌, ◌≢◌, ◌↔◌, ◌⊎◌, ℕ, ◌<◌, ◌≤◌, List, [], Option, Some, None, Result, Ok, Err, refl, sym, ◌∙◌, ap, subst, inl, inr, arith}
+use Rattle.std.proofs.Common.{◌≡◌, ◌≢◌, ◌↔◌, ◌⊎◌, ℕ, ◌≤◌, List, [], Option, Some, None, Result, Ok, Err, refl, sym, ◌∙◌, ap, subst, inl, inr, arith}
 use Rattle.std.proofs.Math.Seq.{take-nil}
 use Rattle.edits.specs.Edited.{gain_result}
-use Rattle.std.specs.Prelude.{OnOk, IfErr, IfSome, IfOk, IsErr, IsErrOf}
+use Rattle.std.specs.Prelude.{IfSome}
 use Rattle.outside.specs.Files.{Contents, Files, untold, Sent, sent_more}
-use Rattle.outside.specs.Counts.{Counts, Rose}
+use Rattle.outside.specs.Counts.{Rose}
 use Rattle.outside.proofs.FilesLaws.{sent_nothing}
 use Rattle.edits.specs.declared.fault.EditFault.{EditFault}
-use Rattle.edits.specs.declared.fault.EditFault.TheVariants.{EqualNames}
-use Rattle.edits.specs.Command.{Made, Command, clash_of, written, Gives}
+use Rattle.edits.specs.Command.{Made, Command, written, Gives}
 use Rattle.edits.specs.Gain.{made_of}
-use Rattle.edits.specs.Left.{Why, Refused, Missing, Unread, Shorter, Unwritten, NoMemory, why_of, Seen, IsDone, IsRefused, LeavesBy, Leaves, HasNumbers}
+use Rattle.edits.specs.Left.{Why, Refused, Missing, Unread, Shorter, Unwritten, NoMemory, why_of, Seen, IsRefused, LeavesBy, Leaves}
 use Rattle.mp3_cli.specs.declared.jobs.Job.{Job}
 use Rattle.mp3_cli.specs.declared.jobs.Job.TheVariants.{Gain}
 use Rattle.mp3_cli.specs.Words.{word_at, job_of}
-use Rattle.mp3_cli.specs.Texts.{status_by, status_of, fault_line, bad_word_line, GotWhole, GotFront, GotLine}
-use Rattle.mp3_cli.specs.Run.{command_of, fault_of, fault_status, result_line, line_of, Answers, AnswersBadWord, made_outcome, command_outcome, job_outcome, outcome, IsOutcome, IsAcceptedBy, IsAccepted}
+use Rattle.mp3_cli.specs.Texts.{status_by, bad_word_line, GotWhole, GotFront, GotLine}
+use Rattle.mp3_cli.specs.Run.{command_of, fault_status, line_of, Answers, made_outcome, command_outcome, job_outcome, outcome, IsOutcome, IsAcceptedBy, IsAccepted}
 
 -- ---- statuses
 
@@ -213,8 +212,7 @@ module _ (words : List (List ℕ)) (job : Job) (is : job_of words ≡ Ok job) (o
 
   pub is_accepted : (f : Contents) → old.files ≡ Some f → (Rose old.counts.read_faults new.counts.read_faults → ⊥) → (Rose old.counts.write_faults new.counts.write_faults → ⊥) → status ≢ 4
       → (status ≡ 0) ↔ IsAccepted words f
-  is_accepted f told reads writes found =
-      (
-        (λ zero_is. subst (IsAcceptedBy words f) (sym is) (made_where_done (command_of words job) old new sent_before sent_after faults_before faults_after status all f told zero_is)),
-        (λ accepted. done_where_made (command_of words job) old new sent_before sent_after faults_before faults_after status all f told reads writes found (subst (IsAcceptedBy words f) is accepted)),
-      )
+  is_accepted f told reads writes found = (
+    (λ zero_is. subst (IsAcceptedBy words f) (sym is) (made_where_done (command_of words job) old new sent_before sent_after faults_before faults_after status all f told zero_is)),
+    (λ accepted. done_where_made (command_of words job) old new sent_before sent_after faults_before faults_after status all f told reads writes found (subst (IsAcceptedBy words f) is accepted)),
+  )

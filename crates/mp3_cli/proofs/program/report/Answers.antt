@@ -1,7 +1,5 @@
 -- Nothing is sent where the command was done.
-use Rattle.std.proofs.Common.{sym, subst, map}
-use Rattle.mp3_cli.specs.Texts.{GotLine}
-use Rattle.mp3_cli.specs.Run.{fault_of, result_line}
+use Rattle.std.proofs.Common.{sym}
 use Rattle.mp3_cli.proofs.RunLaws.{sent_no_line}
 use Rattle.mp3_cli.proofs.program.report.Goals as goal
 

@@ -1,8 +1,7 @@
 -- A bad word is refused as it is defined, and each clause follows from the answer of the command.
-use Rattle.std.proofs.Common.{sym, ◌∙◌, subst, map, string_bytes}
+use Rattle.std.proofs.Common.{sym, ◌∙◌, map, string_bytes}
 use Rattle.edits.specs.Left.{seen}
-use Rattle.mp3_cli.specs.Run.{command_of, AnswersWords}
-use Rattle.mp3_cli.proofs.RunLaws.{bad_word_defined, is_defined, is_accepted, at_most_four, not_two, kept, counted, quiet}
+use Rattle.mp3_cli.proofs.RunLaws.{bad_word_defined, is_defined, is_accepted, quiet}
 use Rattle.mp3_cli.proofs.program.run.Goals as goal
 
 pub returns-in-Err-clause-defined : goal.returns-in-Err-clause-defined
