@@ -1,30 +1,33 @@
 -- The faults of a file are listed by their offsets, so that the first of them has the least.
-use Rattle.std.proofs.Common.{◌≡◌, ℕ, ◌+◌, ◌≤◌, ◌⊎◌, Bool, true, false, not, List, [], ◌∷◌, ◌++◌, length, drop, Option, Some, None, option_map, Result, Ok, Err, refl, sym, ◌∙◌, ap, subst, inl, inr, ⊎_elim, arith, append_assoc}
-use Rattle.std.specs.Prelude.{◌==◌, IfErr, MatchResult, option_to_list}
+use Rattle.std.proofs.Common.{◌≡◌, ℕ, ◌+◌, ◌≤◌, ◌⊎◌, Bool, true, false, cond, ltb, not, List, [], ◌∷◌, ◌++◌, length, drop, Option, Some, None, Result, Ok, Err, refl, sym, ◌∙◌, ap, subst, inl, inr, ⊎_elim, arith, append_assoc}
+use Rattle.std.specs.Prelude.{◌==◌, flat_map, IfErr, option_to_list}
+use Rattle.std.specs.List.{enumerate_from}
 use Rattle.frame_header.specs.Fields.{ClassFields}
 use Rattle.frame_header.specs.Tables.{class_of}
 use Rattle.side_info.specs.Side.{payload_bits}
 use Rattle.side_info.specs.CheckWord.{check_word_of}
 use Rattle.side_info.specs.Frame.{word_said}
+use Rattle.outside.specs.Files.{Files, Holds, IsMissing}
+use Rattle.outside.specs.Counts.{Counts, Rose}
 use Rattle.sync_survey.specs.declared.items.Item.{Item}
 use Rattle.sync_survey.specs.declared.items.Item.TheVariants.{Frame, Free, Block, Zero, End, Nothing}
 use Rattle.sync_survey.specs.declared.places.Head.{Head}
 use Rattle.sync_survey.specs.declared.places.PlacedFrame.{PlacedFrame}
 use Rattle.sync_survey.specs.declared.places.Start.{Start}
-use Rattle.sync_survey.specs.declared.places.WalkFault.{WalkFault}
-use Rattle.sync_survey.specs.declared.places.WalkFault.TheVariants.{LostSync as LostSyncInWalk, Truncated as TruncatedInWalk, FreeFormat as FreeFormatInWalk}
 use Rattle.sync_survey.specs.declared.rows.Row.{Row}
 use Rattle.sync_survey.specs.declared.runs.Part.{Part}
 use Rattle.sync_survey.specs.declared.runs.Part.TheVariants.{Stream}
 use Rattle.sync_survey.specs.declared.surveys.Survey.{Survey}
 use Rattle.sync_survey.specs.declared.survey_fault.SurveyFault.{SurveyFault}
-use Rattle.sync_survey.specs.declared.survey_fault.SurveyFault.TheVariants.{Mixed, CheckWord, BackPointer, Overlap, Overrun, TooManyFrames}
+use Rattle.sync_survey.specs.declared.survey_fault.SurveyFault.TheVariants.{Absent, TooLong, NoFrame, LostSync, Truncated, FreeFormat, Mixed, CheckWord, BackPointer, Overlap, Overrun, TooManyFrames, Shrunk, Read, Memory}
 use Rattle.sync_survey.specs.Items.{item_at, size_of, same_class}
 use Rattle.sync_survey.specs.Runs.{Placed, AreEndToEnd, frame_as, frames_of}
 use Rattle.sync_survey.specs.Start.{start_of}
-use Rattle.sync_survey.specs.Walk.{stream_of, head_of, numbered, fault_at, end_fault, walk_from}
-use Rattle.sync_survey.specs.MainData.{rows_of, place_behind, end_behind}
-use Rattle.sync_survey.specs.Faults.{where_true, has_wrong_word, points_too_far, overlaps, overruns, room_of, data_faults, faults_at, frame_faults, all_faults, as_survey, first_of, class_from, faults_from, fault_place, NoneBefore, SurveyFields, fields_from, unless_fault, survey_by, surveyed, tells, IsSurveyRefusal}
+use Rattle.sync_survey.specs.Walk.{stream_run, head_of, numbered, fault_at, end_fault, walk_from}
+use Rattle.sync_survey.specs.MainData.{rows_of, place, end_before}
+use Rattle.sync_survey.specs.Faults.{where_true, has_wrong_word, points_too_far, overlaps, overruns, room_of, data_faults, faults_at, frame_faults, all_faults, first_of, class_from, faults_from, fault_place, NoneBefore, SurveyFields, fields_from, unless_fault, survey_by, surveyed, longest_file}
+use Rattle.sync_survey.specs.Kinds.{IsRefused, kind_of, by_kind}
+use Rattle.sync_survey.specs.Survey.{survey_of, RefusesBytes, HasShrunk, AsksForMemory, IsSurveyFault, IsRefusal}
 use Rattle.sync_survey.proofs.RunsLaws.{cons_list, item_of-is, run-ends}
 use Rattle.sync_survey.proofs.StartLaws.{start-first}
 
@@ -66,15 +69,15 @@ data_at place ended r =
     all_at r.offset (far ++ over) (where_true (overruns place r) ends)
     (all_at r.offset far over (one_at r.offset (points_too_far place r) begins refl) (one_at r.offset (overlaps place ended r) (Overlap r.offset) refl)) (one_at r.offset (overruns place r) ends refl)
 
-frame_at : (file : List ℕ) (class : ClassFields) (allowed place ended count : ℕ) (r : Row) → AreAt r.offset (faults_at file class allowed place ended count r)
+frame_at : (said : ℕ) (class : ClassFields) (allowed place ended count : ℕ) (r : Row) → AreAt r.offset (faults_at said class allowed place ended count r)
 unfolding faults_at
-frame_at file class allowed place ended count r =
+frame_at said class allowed place ended count r =
     let other = not (same_class (class_of r.header) class) in
-    let word = CheckWord r.offset (word_said (drop r.offset file)) (check_word_of r.header r.side) in
+    let word = CheckWord r.offset said (check_word_of r.header r.side) in
     let mixed = where_true other (Mixed r.offset) in
-    let wrong = where_true (has_wrong_word file r) word in
+    let wrong = where_true (has_wrong_word said r) word in
     all_at r.offset ((mixed ++ wrong) ++ data_faults place ended r) (where_true (count == allowed) (TooManyFrames r.offset))
-    (all_at r.offset (mixed ++ wrong) (data_faults place ended r) (all_at r.offset mixed wrong (one_at r.offset other (Mixed r.offset) refl) (one_at r.offset (has_wrong_word file r) word refl)) (data_at place ended r))
+    (all_at r.offset (mixed ++ wrong) (data_faults place ended r) (all_at r.offset mixed wrong (one_at r.offset other (Mixed r.offset) refl) (one_at r.offset (has_wrong_word said r) word refl)) (data_at place ended r))
     (one_at r.offset (count == allowed) (TooManyFrames r.offset) refl)
 
 -- ---- the faults of frames that stand one behind the other
@@ -88,14 +91,18 @@ rising_ends : (at : ℕ) (rows : List Row) (to : ℕ) → AreRising at rows to �
 rising_ends at [] to rise = rise
 rising_ends at (r ∷ rows) to rise = omega (arith, rise.0, rising_ends r.offset rows to rise.1)
 
-rising_none : (file : List ℕ) (head : Option Head) (class : ClassFields) (allowed at to : ℕ) (earlier rows : List Row) → AreRising at rows to → NoneBefore at (all_faults file head class allowed earlier rows)
-unfolding all_faults
-rising_none file head class allowed at to earlier [] rise = tt
-rising_none file head class allowed at to earlier (r ∷ rows) rise =
-    none-append at (frame_faults file head class allowed earlier r) (all_faults file head class allowed (r ∷ earlier) rows)
-    (none-less at r.offset (frame_faults file head class allowed earlier r) rise.0
-    (at_none r.offset (frame_faults file head class allowed earlier r) (frame_at file class allowed (place_behind head earlier) (end_behind head earlier) (length earlier) r)))
-    (none-less at r.offset (all_faults file head class allowed (r ∷ earlier) rows) rise.0 (rising_none file head class allowed r.offset to (r ∷ earlier) rows rise.1))
+-- each frame of these has faults at its offset alone
+abbrev AreOfEach : (ℕ → Row → List SurveyFault) → Type 0
+AreOfEach each = (i : ℕ) (r : Row) → AreAt r.offset (each i r)
+
+abbrev in_turn : (ℕ → Row → List SurveyFault) → ℕ → List Row → List SurveyFault
+in_turn each n rows = flat_map (λ (p : ℕ × Row). each p.0 p.1) (enumerate_from n rows)
+
+rising_none : (each : ℕ → Row → List SurveyFault) (own : AreOfEach each) (at to n : ℕ) (rows : List Row) → AreRising at rows to → NoneBefore at (in_turn each n rows)
+rising_none each own at to n [] rise = tt
+rising_none each own at to n (r ∷ rows) rise =
+    none-append at (each n r) (in_turn each (n + 1) rows) (none-less at r.offset (each n r) rise.0 (at_none r.offset (each n r) (own n r)))
+    (none-less at r.offset (in_turn each (n + 1) rows) rise.0 (rising_none each own r.offset to (n + 1) rows rise.1))
 
 first_at : (at : ℕ) (xs ys : List SurveyFault) (fault : SurveyFault) → AreAt at xs → first_of (xs ++ ys) ≡ Some fault → NoneBefore at ys → (xs ≡ []) ⊎ ((fault_place fault ≡ at) × NoneBefore (fault_place fault) (xs ++ ys))
 first_at at [] ys fault all is later = inl refl
@@ -105,22 +112,27 @@ first_at at (x ∷ xs) ys fault all is later =
     inr (place, subst (λ n. NoneBefore n ((x ∷ xs) ++ ys)) (sym place) (none-append at (x ∷ xs) ys (at_none at (x ∷ xs) all) later))
 
 -- the first of the faults of frames and of what comes behind them
-least_first : (file : List ℕ) (head : Option Head) (class : ClassFields) (allowed at to : ℕ) (earlier rows : List Row) (later : List SurveyFault) (fault : SurveyFault) → AreRising at rows to → NoneBefore to later
-    → ((f : SurveyFault) → first_of later ≡ Some f → NoneBefore (fault_place f) later)
-    → first_of (all_faults file head class allowed earlier rows ++ later) ≡ Some fault → NoneBefore (fault_place fault) (all_faults file head class allowed earlier rows ++ later)
-unfolding all_faults
-least_first file head class allowed at to earlier [] later fault rise behind each is = each fault is
-least_first file head class allowed at to earlier (r ∷ rows) later fault rise behind each is =
-    let here = frame_faults file head class allowed earlier r in
-    let rest = all_faults file head class allowed (r ∷ earlier) rows in
+least_first : (each : ℕ → Row → List SurveyFault) (own : AreOfEach each) (at to n : ℕ) (rows : List Row) (later : List SurveyFault) (fault : SurveyFault) → AreRising at rows to → NoneBefore to later
+    → ((f : SurveyFault) → first_of later ≡ Some f → NoneBefore (fault_place f) later) → first_of (in_turn each n rows ++ later) ≡ Some fault → NoneBefore (fault_place fault) (in_turn each n rows ++ later)
+least_first each own at to n [] later fault rise behind last is = last fault is
+least_first each own at to n (r ∷ rows) later fault rise behind last is =
+    let here = each n r in
+    let rest = in_turn each (n + 1) rows in
     let regrouped : (here ++ rest) ++ later ≡ here ++ (rest ++ later) = append_assoc here rest later in
     let low : NoneBefore r.offset (rest ++ later) =
-    none-append r.offset rest later (rising_none file head class allowed r.offset to (r ∷ earlier) rows rise.1) (none-less r.offset to later (rising_ends r.offset rows to rise.1) behind) in
+    none-append r.offset rest later (rising_none each own r.offset to (n + 1) rows rise.1) (none-less r.offset to later (rising_ends r.offset rows to rise.1) behind) in
     ⊎_elim
     (λ none. let same : (here ++ rest) ++ later ≡ rest ++ later = ap (λ l. (l ++ rest) ++ later) none in
-    subst (NoneBefore (fault_place fault)) (sym same) (least_first file head class allowed r.offset to (r ∷ earlier) rows later fault rise.1 behind each (ap first_of (sym same) ∙ is)))
+    subst (NoneBefore (fault_place fault)) (sym same) (least_first each own r.offset to (n + 1) rows later fault rise.1 behind last (ap first_of (sym same) ∙ is)))
     (λ found. subst (NoneBefore (fault_place fault)) (sym regrouped) found.1)
-    (first_at r.offset here (rest ++ later) fault (frame_at file class allowed (place_behind head earlier) (end_behind head earlier) (length earlier) r) (ap first_of (sym regrouped) ∙ is) low)
+    (first_at r.offset here (rest ++ later) fault (own n r) (ap first_of (sym regrouped) ∙ is) low)
+
+all_least : (file : List ℕ) (head : Option Head) (class : ClassFields) (allowed at to : ℕ) (rows : List Row) (later : List SurveyFault) (fault : SurveyFault) → AreRising at rows to → NoneBefore to later
+    → ((f : SurveyFault) → first_of later ≡ Some f → NoneBefore (fault_place f) later)
+    → first_of (all_faults file head class allowed rows ++ later) ≡ Some fault → NoneBefore (fault_place fault) (all_faults file head class allowed rows ++ later)
+unfolding all_faults
+all_least file head class allowed at to rows later fault rise behind last is =
+    least_first (frame_faults file head class allowed rows) (λ i r. frame_at (word_said (drop r.offset file)) class allowed (place head rows i) (end_before head rows i) i r) at to 0 rows later fault rise behind last is
 
 -- ---- the frames of a walk stand one behind the other
 
@@ -153,23 +165,23 @@ rise_numbered file at (Some head) ps to rise = rise_behind file at ps to rise
 
 -- ---- the fault where the walk ends
 
-stop_place : (stop : ℕ) (item : Item) (fault : WalkFault) → fault_at stop item ≡ Some fault → fault_place (as_survey fault) ≡ stop
-stop_place stop (Frame h) fault e = let same : TruncatedInWalk stop ≡ fault = cc in sym (ap (λ f. fault_place (as_survey f)) same)
-stop_place stop Free fault e = let same : FreeFormatInWalk stop ≡ fault = cc in sym (ap (λ f. fault_place (as_survey f)) same)
-stop_place stop (Block b) fault e = let same : TruncatedInWalk stop ≡ fault = cc in sym (ap (λ f. fault_place (as_survey f)) same)
-stop_place stop Zero fault e = let same : LostSyncInWalk stop ≡ fault = cc in sym (ap (λ f. fault_place (as_survey f)) same)
+stop_place : (stop : ℕ) (item : Item) (fault : SurveyFault) → fault_at stop item ≡ Some fault → fault_place fault ≡ stop
+stop_place stop (Frame h) fault e = let same : Truncated stop ≡ fault = cc in sym (ap fault_place same)
+stop_place stop Free fault e = let same : FreeFormat stop ≡ fault = cc in sym (ap fault_place same)
+stop_place stop (Block b) fault e = let same : Truncated stop ≡ fault = cc in sym (ap fault_place same)
+stop_place stop Zero fault e = let same : LostSync stop ≡ fault = cc in sym (ap fault_place same)
 stop_place stop End fault e = absurd cc
-stop_place stop Nothing fault e = let same : LostSyncInWalk stop ≡ fault = cc in sym (ap (λ f. fault_place (as_survey f)) same)
+stop_place stop Nothing fault e = let same : LostSync stop ≡ fault = cc in sym (ap fault_place same)
 
-end_place : (file : List ℕ) (frames : List PlacedFrame) (stop : ℕ) (o : Option WalkFault) → stop ≤ length file → fault_at stop (item_at file stop) ≡ o → NoneBefore stop (option_to_list (option_map as_survey (end_fault file frames o)))
+end_place : (file : List ℕ) (frames : List PlacedFrame) (stop : ℕ) (o : Option SurveyFault) → stop ≤ length file → fault_at stop (item_at file stop) ≡ o → NoneBefore stop (option_to_list (end_fault file frames o))
 end_place file frames stop (Some fault) within is = (omega (arith, stop_place stop (item_at file stop) fault is), tt)
 end_place file (p ∷ ps) stop None within is = tt
 end_place file [] stop None within is = (within, tt)
 
-one_only : (o : Option WalkFault) (fault : SurveyFault) → first_of (option_to_list (option_map as_survey o)) ≡ Some fault → NoneBefore (fault_place fault) (option_to_list (option_map as_survey o))
+one_only : (o : Option SurveyFault) (fault : SurveyFault) → first_of (option_to_list o) ≡ Some fault → NoneBefore (fault_place fault) (option_to_list o)
 one_only None fault e = absurd cc
 one_only (Some f) fault e =
-    let same : as_survey f ≡ fault = cc in
+    let same : f ≡ fault = cc in
     (omega (arith, ap fault_place same), tt)
 
 stop_in : (part : Part) (file : List ℕ) (from : ℕ) (ps : List Placed) (to : ℕ) → AreEndToEnd part file from ps to → from ≤ length file → to ≤ length file
@@ -180,12 +192,12 @@ stop_in part file from (p ∷ ps) to ends within = stop_in part file (p.offset +
 pub first_is_least : (file : List ℕ) (allowed : ℕ) (start : Start) (fault : SurveyFault) → start.first.offset ≤ length file → first_of (faults_from file allowed start) ≡ Some fault → NoneBefore (fault_place fault) (faults_from file allowed start)
 unfolding faults_from walk_from
 first_is_least file allowed start fault within is =
-    let stream = stream_of file start in
+    let stream = stream_run file start in
     let ends = run-ends Stream file start.first.offset in
     let head = head_of file start.first in
     let frames = numbered head (frames_of stream.items) in
     let o = end_fault file frames (fault_at stream.stop (item_at file stream.stop)) in
-    least_first file head (class_from start) allowed start.first.offset stream.stop [] (rows_of file frames) (option_to_list (option_map as_survey o)) fault
+    all_least file head (class_from start) allowed start.first.offset stream.stop (rows_of file frames) (option_to_list o) fault
     (rise_numbered file start.first.offset head (frames_of stream.items) stream.stop (items_rise file Stream start.first.offset stream.items stream.stop ends))
     (end_place file frames stream.stop (fault_at stream.stop (item_at file stream.stop)) (stop_in Stream file start.first.offset stream.items stream.stop ends within) refl)
     (λ f found. one_only o f found) is
@@ -196,7 +208,7 @@ fault_is : (o : Option SurveyFault) (fields : SurveyFields) (fault : SurveyFault
 fault_is (Some f) fields fault e = cc
 fault_is None fields fault e = absurd cc
 
-start_is : (file : List ℕ) (allowed : ℕ) (start : Start) (fault : SurveyFault) (r : Result Start WalkFault) → start_of file ≡ r → r ≡ Ok start → survey_by file allowed r ≡ Err fault → NoneBefore (fault_place fault) (faults_from file allowed start)
+start_is : (file : List ℕ) (allowed : ℕ) (start : Start) (fault : SurveyFault) (r : Result Start SurveyFault) → start_of file ≡ r → r ≡ Ok start → survey_by file allowed r ≡ Err fault → NoneBefore (fault_place fault) (faults_from file allowed start)
 start_is file allowed start fault (Err f) begun same e = absurd cc
 start_is file allowed start fault (Ok s) begun same e =
     let one : s ≡ start = cc in
@@ -211,12 +223,54 @@ none_at_all : (xs : List SurveyFault) → NoneBefore 0 xs
 none_at_all [] = tt
 none_at_all (x ∷ xs) = (omega arith, none_at_all xs)
 
-pub refusal_first : (file : List ℕ) (allowed : ℕ) (fault : SurveyFault) → IsSurveyRefusal file allowed fault → (start : Start) → start_of file ≡ Ok start → NoneBefore (fault_place fault) (faults_from file allowed start)
-refusal_first file allowed fault (inl memory) start begun =
-    subst (λ f. NoneBefore (fault_place f) (faults_from file allowed start)) (sym memory) (none_at_all (faults_from file allowed start))
-refusal_first file allowed fault (inr is) start begun = surveyed_first file allowed fault is start begun
+-- a fault that stands nowhere, or one of the file
+nowhere : (fault : SurveyFault) → (fault_place fault ≡ 0) ⊎ (kind_of fault ≡ IsRefused)
+nowhere Absent = inl refl
+nowhere (TooLong size) = inl refl
+nowhere (NoFrame at) = inr refl
+nowhere (LostSync at) = inr refl
+nowhere (Truncated at) = inr refl
+nowhere (FreeFormat at) = inr refl
+nowhere (Mixed at) = inr refl
+nowhere (CheckWord at said right) = inr refl
+nowhere (BackPointer at begin present) = inr refl
+nowhere (Overlap at) = inr refl
+nowhere (Overrun at bits room) = inr refl
+nowhere (TooManyFrames at) = inr refl
+nowhere (Shrunk first second) = inl refl
+nowhere Read = inl refl
+nowhere Memory = inl refl
 
-pub refused_first : (file : List ℕ) (allowed : ℕ) (r : Result Survey SurveyFault) → MatchResult r (λ s. surveyed file allowed ≡ Ok (tells s)) (IsSurveyRefusal file allowed)
-    → IfErr r (λ fault. (start : Start) → start_of file ≡ Ok start → NoneBefore (fault_place fault) (faults_from file allowed start))
-refused_first file allowed (Ok s) is = tt
-refused_first file allowed (Err fault) is = refusal_first file allowed fault is
+long_by : (file : List ℕ) (allowed : ℕ) (fault : SurveyFault) (start : Start) (b : Bool) → start_of file ≡ Ok start → cond b (Err (TooLong (length file))) (surveyed file allowed) ≡ Err fault → NoneBefore (fault_place fault) (faults_from file allowed start)
+long_by file allowed fault start true begun e =
+    let same : TooLong (length file) ≡ fault = cc in
+    subst (λ f. NoneBefore (fault_place f) (faults_from file allowed start)) same (none_at_all (faults_from file allowed start))
+long_by file allowed fault start false begun e = surveyed_first file allowed fault e start begun
+
+of_file : (file : List ℕ) (allowed : ℕ) (fault : SurveyFault) (start : Start) → start_of file ≡ Ok start → survey_of file allowed ≡ Err fault → NoneBefore (fault_place fault) (faults_from file allowed start)
+unfolding survey_of
+of_file file allowed fault start begun is = long_by file allowed fault start (ltb longest_file (length file)) begun is
+
+abbrev IsFirstOf : Files → List ℕ → ℕ → SurveyFault → Type 0
+IsFirstOf files name allowed fault = (bytes : List ℕ) → Holds files name bytes → (start : Start) → start_of bytes ≡ Ok start → NoneBefore (fault_place fault) (faults_from bytes allowed start)
+
+refusal_first : (name : List ℕ) (files : Files) (allowed : ℕ) (before after : Counts) (fault : SurveyFault) → IsSurveyFault name files allowed before after fault → (fault_place fault ≡ 0) ⊎ (kind_of fault ≡ IsRefused)
+    → IsFirstOf files name allowed fault
+refusal_first name files allowed before after fault is (inl zero) = λ bytes holds start begun. subst (λ n. NoneBefore n (faults_from bytes allowed start)) (sym zero) (none_at_all (faults_from bytes allowed start))
+refusal_first name files allowed before after fault is (inr kind) =
+    let refuses : RefusesBytes name files allowed before after fault = subst
+    (λ k. by_kind
+    (record {
+      absent = IsMissing files name × Rose before.misses after.misses;
+      unread = Rose before.read_faults after.read_faults;
+      shorter = HasShrunk files before after;
+      too_much = AsksForMemory name files before after;
+      refused = RefusesBytes name files allowed before after fault;
+    })
+    k)
+    kind is in
+    λ bytes holds start begun. of_file bytes allowed fault start begun (refuses.bytes bytes holds)
+
+pub refused_first : (name : List ℕ) (files : Files) (allowed : ℕ) (before after : Counts) (r : Result Survey SurveyFault) → IfErr r (IsRefusal name files allowed before after) → IfErr r (IsFirstOf files name allowed)
+refused_first name files allowed before after (Ok s) is = tt
+refused_first name files allowed before after (Err fault) is = refusal_first name files allowed before after fault is.cause (nowhere fault)

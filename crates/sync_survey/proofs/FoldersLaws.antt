@@ -1,183 +1,145 @@
--- The survey of a file of a folder, from the survey of its bytes.
-use Rattle.std.proofs.Common.{◌≡◌, ℕ, ◌≤◌, Bool, true, false, not, ltb, List, [], ◌∷◌, ◌++◌, length, drop, Option, Some, None, option_map, Result, Ok, Err, refl, sym, ◌∙◌, subst, inl, inr}
-use Rattle.std.specs.Prelude.{◌==◌, IfOk, IfErr, MatchResult, option_to_list}
-use Rattle.std.proofs.lemmas.Bool.{le-ltb}
-use Rattle.frame_header.specs.Fields.{ClassFields}
-use Rattle.frame_header.specs.Tables.{class_of}
-use Rattle.side_info.specs.Side.{payload_bits}
-use Rattle.side_info.specs.CheckWord.{check_word_of}
-use Rattle.side_info.specs.Frame.{word_said}
-use Rattle.outside.specs.Files.{Files, untold, Holds, IsThere}
-use Rattle.outside.specs.Counts.{Counts}
+-- The refusals of a survey of a file of a folder.
+use Rattle.std.proofs.Common.{◌≡◌, ℕ, ◌+◌, ◌-◌, ◌<◌, ◌≤◌, min, Bool, true, false, cond, leb, ltb, List, length, take, drop, Some, None, Result, Ok, Err, refl, sym, ◌∙◌, ap, subst, arith, length-take, length-drop}
+use Rattle.std.specs.Prelude.{IfOk, IfErr}
+use Rattle.std.proofs.lemmas.Bool.{ltb-true, ltb-false, leb-true, leb-false, lt-ltb, le-ltb}
+use Rattle.std.proofs.lemmas.List.{take_all}
+use Rattle.bit_fields.specs.Bits.{AreBytes}
+use Rattle.bit_fields.proofs.BitsLaws.{AreBytes-from_slice}
+use Rattle.outside.specs.Files.{Files, untold, Holds, IsThere, IsMissing, AreOctets}
+use Rattle.outside.specs.Counts.{Counts, Rose, NothingFailed}
 use Rattle.outside.proofs.FilesLaws.{there_holds}
-use Rattle.sync_survey.specs.declared.places.Head.{Head}
 use Rattle.sync_survey.specs.declared.places.Start.{Start}
-use Rattle.sync_survey.specs.declared.places.WalkFault.{WalkFault}
-use Rattle.sync_survey.specs.declared.places.WalkFault.TheVariants.{NoFrame as NoFrameInWalk, LostSync as LostSyncInWalk, Truncated as TruncatedInWalk, FreeFormat as FreeFormatInWalk}
-use Rattle.sync_survey.specs.declared.rows.Row.{Row}
-use Rattle.sync_survey.specs.declared.surveys.Survey.{Survey}
 use Rattle.sync_survey.specs.declared.survey_fault.SurveyFault.{SurveyFault}
-use Rattle.sync_survey.specs.declared.survey_fault.SurveyFault.TheVariants.{Absent, TooLong, NoFrame, LostSync, Truncated, FreeFormat, Mixed, CheckWord, BackPointer, Overlap, Overrun, TooManyFrames, Shrunk, Read, Memory}
-use Rattle.sync_survey.specs.Items.{same_class}
+use Rattle.sync_survey.specs.declared.survey_fault.SurveyFault.TheVariants.{TooLong, Shrunk, Memory}
+use Rattle.sync_survey.specs.Looks.{look_size, Shows}
 use Rattle.sync_survey.specs.Start.{start_of}
-use Rattle.sync_survey.specs.MainData.{rows_of, place_behind, end_behind}
-use Rattle.sync_survey.specs.Walk.{walk_from}
-use Rattle.sync_survey.specs.Faults.{where_true, has_wrong_word, points_too_far, overlaps, overruns, room_of, data_faults, faults_at, frame_faults, all_faults, as_survey, first_of, class_from, faults_from, SurveyFields, fields_from, unless_fault, survey_by, surveyed, tells, IsSurveyRefusal, longest_file}
-use Rattle.sync_survey.specs.Survey.{survey_of, RefusesBytes, IsLoadFault, IsSurveyFault, IsOfBytes}
+use Rattle.sync_survey.specs.Faults.{survey_by, surveyed, longest_file}
+use Rattle.sync_survey.specs.Kinds.{by_kind, RefusesRightly}
+use Rattle.sync_survey.specs.Survey.{survey_of, RefusesBytes, HasShrunk, AsksForMemory, IsRefusal, HasLength}
 
--- ---- the faults of bytes
+-- ---- by the length
 
-abbrev AreOfBytes : List SurveyFault → Type 0
-AreOfBytes [] = Unit {0}
-AreOfBytes (fault ∷ later) = IsOfBytes fault × AreOfBytes later
-
-one_of_bytes : (b : Bool) (fault : SurveyFault) → IsOfBytes fault → AreOfBytes (where_true b fault)
-one_of_bytes true fault is = (is, tt)
-one_of_bytes false fault is = tt
-
-all_of_bytes : (xs ys : List SurveyFault) → AreOfBytes xs → AreOfBytes ys → AreOfBytes (xs ++ ys)
-all_of_bytes [] ys p q = q
-all_of_bytes (x ∷ xs) ys p q = (p.0, all_of_bytes xs ys p.1 q)
-
-first_of_bytes : (xs : List SurveyFault) (fault : SurveyFault) → AreOfBytes xs → first_of xs ≡ Some fault → IsOfBytes fault
-first_of_bytes [] fault all is = absurd cc
-first_of_bytes (x ∷ xs) fault all is = subst IsOfBytes (same x fault is) all.0
-  where
-    same : (f g : SurveyFault) → Some f ≡ Some g → f ≡ g
-    same f g e = cc
-
-two_of_bytes : (a b : Bool) (f g : SurveyFault) → IsOfBytes f → IsOfBytes g → AreOfBytes (where_true a f ++ where_true b g)
-two_of_bytes a b f g p q = all_of_bytes (where_true a f) (where_true b g) (one_of_bytes a f p) (one_of_bytes b g q)
-
-data_of_bytes : (place ended : ℕ) (r : Row) → AreOfBytes (data_faults place ended r)
-data_of_bytes place ended r =
-    let begins = BackPointer r.offset r.side.main_data_begin place in
-    let ends = Overrun r.offset (payload_bits r.side) (room_of r) in
-    all_of_bytes (where_true (points_too_far place r) begins ++ where_true (overlaps place ended r) (Overlap r.offset)) (where_true (overruns place r) ends)
-    (two_of_bytes (points_too_far place r) (overlaps place ended r) begins (Overlap r.offset) tt tt) (one_of_bytes (overruns place r) ends tt)
-
-frame_of_bytes : (file : List ℕ) (class : ClassFields) (allowed place ended count : ℕ) (r : Row) → AreOfBytes (faults_at file class allowed place ended count r)
-unfolding faults_at
-frame_of_bytes file class allowed place ended count r =
-    let other = not (same_class (class_of r.header) class) in
-    let word = CheckWord r.offset (word_said (drop r.offset file)) (check_word_of r.header r.side) in
-    let first = where_true other (Mixed r.offset) ++ where_true (has_wrong_word file r) word in
-    all_of_bytes (first ++ data_faults place ended r) (where_true (count == allowed) (TooManyFrames r.offset))
-    (all_of_bytes first (data_faults place ended r) (two_of_bytes other (has_wrong_word file r) (Mixed r.offset) word tt tt) (data_of_bytes place ended r))
-    (one_of_bytes (count == allowed) (TooManyFrames r.offset) tt)
-
-frames_of_bytes : (file : List ℕ) (head : Option Head) (class : ClassFields) (allowed : ℕ) (earlier rows : List Row) → AreOfBytes (all_faults file head class allowed earlier rows)
-unfolding all_faults
-frames_of_bytes file head class allowed earlier [] = tt
-frames_of_bytes file head class allowed earlier (r ∷ rows) =
-    all_of_bytes (frame_faults file head class allowed earlier r) (all_faults file head class allowed (r ∷ earlier) rows)
-    (frame_of_bytes file class allowed (place_behind head earlier) (end_behind head earlier) (length earlier) r) (frames_of_bytes file head class allowed (r ∷ earlier) rows)
-
-walk_of_bytes : (fault : WalkFault) → IsOfBytes (as_survey fault)
-walk_of_bytes (NoFrameInWalk at) = tt
-walk_of_bytes (LostSyncInWalk at) = tt
-walk_of_bytes (TruncatedInWalk at) = tt
-walk_of_bytes (FreeFormatInWalk at) = tt
-
-last_of_bytes : (o : Option WalkFault) → AreOfBytes (option_to_list (option_map as_survey o))
-last_of_bytes (Some fault) = (walk_of_bytes fault, tt)
-last_of_bytes None = tt
-
-file_of_bytes : (file : List ℕ) (allowed : ℕ) (start : Start) → AreOfBytes (faults_from file allowed start)
-unfolding faults_from
-file_of_bytes file allowed start =
-    let walk = walk_from file start in
-    all_of_bytes (all_faults file walk.head (class_from start) allowed [] (rows_of file walk.frames)) (option_to_list (option_map as_survey walk.fault))
-    (frames_of_bytes file walk.head (class_from start) allowed [] (rows_of file walk.frames)) (last_of_bytes walk.fault)
-
-fault_cases : (o : Option SurveyFault) (fields : SurveyFields) (fault : SurveyFault) → unless_fault o fields ≡ Err fault → o ≡ Some fault
-fault_cases (Some f) fields fault e = cc
-fault_cases None fields fault e = absurd cc
-
-abbrev err_of : SurveyFault → Result SurveyFields SurveyFault
-err_of f = Err f
-
-err_is : (f g : SurveyFault) → err_of f ≡ err_of g → f ≡ g
-err_is f g e = cc
-
-start_cases : (file : List ℕ) (allowed : ℕ) (r : Result Start WalkFault) (fault : SurveyFault) → survey_by file allowed r ≡ Err fault → IsOfBytes fault
-start_cases file allowed (Err f) fault e = subst IsOfBytes (err_is (as_survey f) fault e) (walk_of_bytes f)
-start_cases file allowed (Ok start) fault e =
-    first_of_bytes (faults_from file allowed start) fault (file_of_bytes file allowed start) (fault_cases (first_of (faults_from file allowed start)) (fields_from file start) fault e)
-
-pub surveyed_of_bytes : (file : List ℕ) (allowed : ℕ) (fault : SurveyFault) → surveyed file allowed ≡ Err fault → IsOfBytes fault
-unfolding surveyed
-surveyed_of_bytes file allowed fault e = start_cases file allowed (start_of file) fault e
-
--- ---- the answers of a survey
-
--- a fault of the bytes
-of_bytes : (name : List ℕ) (files : Files) (allowed : ℕ) (before after : Counts) (fault : SurveyFault) → IsOfBytes fault → RefusesBytes name files allowed before after fault → IsSurveyFault name files allowed before after fault
-of_bytes name files allowed before after Absent is h = absurd is
-of_bytes name files allowed before after (TooLong size) is h = absurd is
-of_bytes name files allowed before after (NoFrame at) is h = h
-of_bytes name files allowed before after (LostSync at) is h = h
-of_bytes name files allowed before after (Truncated at) is h = h
-of_bytes name files allowed before after (FreeFormat at) is h = h
-of_bytes name files allowed before after (Mixed at) is h = h
-of_bytes name files allowed before after (CheckWord at said right) is h = h
-of_bytes name files allowed before after (BackPointer at begin present) is h = h
-of_bytes name files allowed before after (Overlap at) is h = h
-of_bytes name files allowed before after (Overrun at bits room) is h = h
-of_bytes name files allowed before after (TooManyFrames at) is h = h
-of_bytes name files allowed before after (Shrunk first second) is h = absurd is
-of_bytes name files allowed before after Read is h = absurd is
-of_bytes name files allowed before after Memory is h = absurd is
-
--- a fault of loading is one of the survey
-pub load_fault : (name : List ℕ) (files : Files) (allowed : ℕ) (before after : Counts) (fault : SurveyFault) → IsLoadFault name files before after fault → IsSurveyFault name files allowed before after fault
-load_fault name files allowed before after Absent h = h
-load_fault name files allowed before after (TooLong size) h = h
-load_fault name files allowed before after (NoFrame at) h = absurd h
-load_fault name files allowed before after (LostSync at) h = absurd h
-load_fault name files allowed before after (Truncated at) h = absurd h
-load_fault name files allowed before after (FreeFormat at) h = absurd h
-load_fault name files allowed before after (Mixed at) h = absurd h
-load_fault name files allowed before after (CheckWord at said right) h = absurd h
-load_fault name files allowed before after (BackPointer at begin present) h = absurd h
-load_fault name files allowed before after (Overlap at) h = absurd h
-load_fault name files allowed before after (Overrun at bits room) h = absurd h
-load_fault name files allowed before after (TooManyFrames at) h = absurd h
-load_fault name files allowed before after (Shrunk first second) h = h
-load_fault name files allowed before after Read h = h
-load_fault name files allowed before after Memory h = h
+too_long : (file : List ℕ) (allowed size : ℕ) → size ≡ length file → longest_file < size → survey_of file allowed ≡ Err (TooLong size)
+unfolding survey_of
+too_long file allowed size is long =
+    let more : ltb longest_file (length file) ≡ true = lt-ltb longest_file (length file) (omega (arith, is, long)) in
+    ap (λ b. cond b (Err (TooLong (length file))) (surveyed file allowed)) more ∙ ap (λ n. Err (TooLong n)) (sym is)
 
 pub survey_of-short : (file : List ℕ) (allowed : ℕ) → length file ≤ longest_file → survey_of file allowed ≡ surveyed file allowed
 unfolding survey_of
 survey_of-short file allowed few = let short : ltb longest_file (length file) ≡ false = le-ltb longest_file (length file) few in rw short refl
 
--- the bytes that were loaded
-pub record IsLoaded (name : List ℕ) (files : Files) (before after : Counts) (loaded : List ℕ) : Type 0 where
-  pub there : IsThere files name
-  pub bytes : (bytes : List ℕ) → Holds files name bytes → loaded ≡ bytes
-  pub few : length loaded ≤ longest_file
-  pub counts : after ≡ before
+pub long_refusal : (name : List ℕ) (files : Files) (allowed : ℕ) (before after : Counts) (size : ℕ) → IsThere files name → ((bytes : List ℕ) → Holds files name bytes → size ≡ length bytes) → longest_file < size → after ≡ before
+    → IsRefusal name files allowed before after (TooLong size)
+long_refusal name files allowed before after size there is long same =
+    record { cause = record { there = there; bytes = λ bytes holds. too_long bytes allowed size (is bytes holds) long; counts = same }; numbers = long }
 
-module _ (name : List ℕ) (files : Files) (allowed : ℕ) (before after : Counts) (loaded : List ℕ) (all : IsLoaded name files before after loaded) where
-  is_of : (r : Result SurveyFields SurveyFault) → surveyed loaded allowed ≡ r → (bytes : List ℕ) → Holds files name bytes → survey_of bytes allowed ≡ r
-  is_of r is bytes holds = subst (λ b. survey_of b allowed ≡ r) (all.bytes bytes holds) (survey_of-short loaded allowed all.few ∙ is)
+pub octets_bytes : (bytes : List ℕ) → AreOctets bytes → AreBytes bytes
+octets_bytes bytes all = AreBytes-from_slice bytes (λ i. record { fits = all i })
 
-  pub survey_ok : (r : Result Survey SurveyFault) → MatchResult r (λ s. surveyed loaded allowed ≡ Ok (tells s)) (IsSurveyRefusal loaded allowed)
-      → IfOk r (λ s. (bytes : List ℕ) → Holds files name bytes → survey_of bytes allowed ≡ Ok (tells s))
-  survey_ok (Ok s) is = is_of (Ok (tells s)) is
-  survey_ok (Err fault) is = tt
-
-  refusal : (fault : SurveyFault) → IsSurveyRefusal loaded allowed fault → IsSurveyFault name files allowed before after fault
-  refusal fault (inl memory) = subst (IsSurveyFault name files allowed before after) (sym memory) (record { there = all.there; few = λ bytes holds. subst (λ b. length b ≤ longest_file) (all.bytes bytes holds) all.few; counts = all.counts })
-  refusal fault (inr is) = of_bytes name files allowed before after fault (surveyed_of_bytes loaded allowed fault is) (record { there = all.there; bytes = is_of (Err fault) is; counts = all.counts })
-
-  pub survey_refused : (r : Result Survey SurveyFault) → MatchResult r (λ s. surveyed loaded allowed ≡ Ok (tells s)) (IsSurveyRefusal loaded allowed) → IfErr r (IsSurveyFault name files allowed before after)
-  survey_refused (Ok s) is = tt
-  survey_refused (Err fault) is = refusal fault is
-
--- ---- a file that became shorter
+-- ---- by a read that ends early
 
 -- where the files are told, no bytes being those of the file is a contradiction
 pub nothing_told : (files : Files) (name : List ℕ) → IsThere files name → ((bytes : List ℕ) → Holds files name bytes → ⊥) → files ≡ untold
 nothing_told None name there none = refl
 nothing_told (Some f) name there none = let held = there_holds f name there in absurd (none held.0 held.1)
+
+shrunk_by : (name : List ℕ) (files : Files) (allowed : ℕ) (before after : Counts) (size at wanted got : ℕ) (given : List ℕ) → HasLength files name size → wanted ≤ size - at
+    → ((bytes : List ℕ) → Holds files name bytes → given ≡ take wanted (drop at bytes)) → length given ≡ got → got < wanted → Rose before.ends after.ends → NothingFailed before after
+    → IsRefusal name files allowed before after (Shrunk size (at + got))
+shrunk_by name files allowed before after size at wanted got given known within is many less rose done = record {
+  cause = record {
+    nothing_told = nothing_told files name known.there (λ bytes holds. omega (arith, ap length (is bytes holds), length-take wanted (drop at bytes), length-drop at bytes, known.long bytes holds, many, less, within));
+    ended = rose;
+    counts = done;
+  };
+  numbers = omega (arith, less, within);
+}
+
+pub shrunk_refusal : (name : List ℕ) (files : Files) (allowed : ℕ) (before after : Counts) (size at wanted got : ℕ) (given : List ℕ) (fault : SurveyFault) → HasLength files name size → wanted ≤ size - at
+    → ((bytes : List ℕ) → Holds files name bytes → given ≡ take wanted (drop at bytes)) → length given ≡ got → (got < wanted → Rose before.ends after.ends) → NothingFailed before after
+    → (short : Bool) → ltb got wanted ≡ short → Some fault ≡ cond short (Some (Shrunk size (at + got))) None → IsRefusal name files allowed before after fault
+shrunk_refusal name files allowed before after size at wanted got given fault known within is many rose done true less e =
+    let same : Shrunk size (at + got) ≡ fault = cc in
+    let short = ltb-true got wanted less in
+    subst (IsRefusal name files allowed before after) same (shrunk_by name files allowed before after size at wanted got given known within is many short (rose short) done)
+shrunk_refusal name files allowed before after size at wanted got given fault known within is many rose done false less e = absurd cc
+
+-- ---- what a look shows
+
+pub not_short : (got wanted : ℕ) (fault : SurveyFault) (short : Bool) → ltb got wanted ≡ short → None ≡ cond short (Some fault) None → wanted ≤ got
+not_short got wanted fault true less e = absurd cc
+not_short got wanted fault false less e = ltb-false got wanted less
+
+take_fewer : (m n : ℕ) (xs : List ℕ) → n ≡ min (length xs) m → (short : Bool) → leb (length xs) m ≡ short → take n xs ≡ take m xs
+take_fewer m n xs is true e =
+    let few = leb-true (length xs) m e in
+    take_all n xs (omega (arith, is, few)) ∙ sym (take_all m xs few)
+take_fewer m n xs is false e = let same : n ≡ m = omega (arith, is, leb-false (length xs) m e) in ap (λ k. take k xs) same
+
+pub shown : (file : List ℕ) (at left wanted size : ℕ) (given : List ℕ) → size ≡ length file → left ≡ size - at → wanted ≡ min left look_size → given ≡ take wanted (drop at file) → Shows file at given left
+shown file at left wanted size given whole is many bytes = record {
+  front_is = bytes ∙ take_fewer look_size wanted (drop at file) (omega (arith, whole, is, many, length-drop at file)) (leb (length (drop at file)) look_size) refl;
+  left_is = omega (arith, whole, is);
+}
+
+-- ---- want of memory
+
+pub memory_refusal : (name : List ℕ) (files : Files) (allowed : ℕ) (before after : Counts) (size : ℕ) → HasLength files name size → after ≡ before → IsRefusal name files allowed before after Memory
+memory_refusal name files allowed before after size known same = record {
+  cause = record { there = known.there; few = λ bytes holds. omega (arith, known.few, known.long bytes holds); counts = same };
+  numbers = tt;
+}
+
+-- ---- a refusal after calls that left the files and all counts
+
+pub refusal_later : (name : List ℕ) (files mid : Files) (allowed : ℕ) (before between after : Counts) (fault : SurveyFault) → mid ≡ files → between ≡ before → IsRefusal name mid allowed between after fault → IsRefusal name files allowed before after fault
+refusal_later name files mid allowed before between after fault same_files same_counts is =
+    subst (λ f. IsRefusal name f allowed before after fault) same_files (subst (λ n. IsRefusal name mid allowed n after fault) same_counts is)
+
+-- ---- by the bytes
+
+kind_refusal : (name : List ℕ) (files : Files) (allowed : ℕ) (before after : Counts) (fault : SurveyFault) → RefusesRightly fault → RefusesBytes name files allowed before after fault → IsRefusal name files allowed before after fault
+kind_refusal name files allowed before after fault rightly refuses = record {
+  cause = subst
+      (λ kind. by_kind
+      (record {
+        absent = IsMissing files name × Rose before.misses after.misses;
+        unread = Rose before.read_faults after.read_faults;
+        shorter = HasShrunk files before after;
+        too_much = AsksForMemory name files before after;
+        refused = RefusesBytes name files allowed before after fault;
+      })
+      kind)
+      (sym rightly.0) refuses;
+  numbers = rightly.1;
+}
+
+pub bytes_refusal : (name : List ℕ) (files : Files) (allowed : ℕ) (before after : Counts) (size : ℕ) (fault : SurveyFault) → HasLength files name size → after ≡ before → RefusesRightly fault
+    → ((bytes : List ℕ) → Holds files name bytes → surveyed bytes allowed ≡ Err fault) → IsRefusal name files allowed before after fault
+bytes_refusal name files allowed before after size fault known same rightly refused =
+    kind_refusal name files allowed before after fault rightly (record {
+      there = known.there;
+      bytes = λ bytes holds. survey_of-short bytes allowed (omega (arith, known.few, known.long bytes holds)) ∙ refused bytes holds;
+      counts = same;
+    })
+
+-- the stream doesn't begin
+surveyed_by : (file : List ℕ) (allowed : ℕ) (fault : SurveyFault) → start_of file ≡ Err fault → surveyed file allowed ≡ Err fault
+unfolding surveyed
+surveyed_by file allowed fault is = ap (survey_by file allowed) is
+
+pub start_refusal : (name : List ℕ) (files : Files) (allowed : ℕ) (before after : Counts) (size : ℕ) (fault : SurveyFault) → HasLength files name size → after ≡ before → RefusesRightly fault
+    → ((bytes : List ℕ) → Holds files name bytes → start_of bytes ≡ Err fault) → IsRefusal name files allowed before after fault
+start_refusal name files allowed before after size fault known same rightly none =
+    bytes_refusal name files allowed before after size fault known same rightly (λ bytes holds. surveyed_by bytes allowed fault (none bytes holds))
+
+-- the start, or why there is none
+pub start_ok : (r : Result Start SurveyFault) (files : Files) (name : List ℕ) → ((bytes : List ℕ) → Holds files name bytes → start_of bytes ≡ r) → IfOk r (λ s. (bytes : List ℕ) → Holds files name bytes → start_of bytes ≡ Ok s)
+start_ok (Ok s) files name is = is
+start_ok (Err fault) files name is = tt
+
+pub start_err : (r : Result Start SurveyFault) (name : List ℕ) (files : Files) (before after : Counts) (size : ℕ) → HasLength files name size → after ≡ before → IfErr r RefusesRightly
+    → ((bytes : List ℕ) → Holds files name bytes → start_of bytes ≡ r) → IfErr r (λ fault. (allowed : ℕ) → IsRefusal name files allowed before after fault)
+start_err (Ok s) name files before after size known same rightly is = tt
+start_err (Err fault) name files before after size known same rightly is = λ allowed. start_refusal name files allowed before after size fault known same rightly is

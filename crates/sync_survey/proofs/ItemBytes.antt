@@ -3,8 +3,6 @@ use Rattle.std.proofs.Common.{◌≡◌, ℕ, ◌+◌, ◌-◌, ◌≤◌, Bool,
 use Rattle.std.specs.Str.{bytes_eq}
 use Rattle.std.proofs.lemmas.Bool.{false≢true, leb-true, leb-false}
 use Rattle.std.proofs.lemmas.List.{length-take, length-drop, length-take-le, take-append-le, take-take, drop-take, get_or-take, take_at}
-use Rattle.bit_fields.specs.Bits.{AreBytes}
-use Rattle.bit_fields.proofs.BitsLaws.{AreBytes-append, AreBytes-take, AreBytes-drop}
 use Rattle.frame_header.specs.declared.header.NotHeader.TheVariants.{No}
 use Rattle.frame_header.specs.Fields.{HeaderFields, IsHeader}
 use Rattle.frame_header.specs.Tables.{class_of, length_of}
@@ -98,18 +96,16 @@ header_front-four xs ys same =
 -- These bytes are an item: they are as many as it has, and whatever bytes stand behind them, it is what stands at their front.
 pub record IsItem (item : Item) (own : List ℕ) : Type 0 where
   pub size : length own ≡ size_of item
-  pub bytes : AreBytes own
-  pub known : (rest : List ℕ) → AreBytes rest → item_front (own ++ rest) ≡ item
+  pub known : (rest : List ℕ) → item_front (own ++ rest) ≡ item
 
-known_by_standing : (item : Item) (own : List ℕ) → AreBytes own → ((rest : List ℕ) → Stands (own ++ rest) item) → (rest : List ℕ) → AreBytes rest → item_front (own ++ rest) ≡ item
-known_by_standing item own all stands rest behind = sym (stands-only (own ++ rest) item (AreBytes-append own rest all behind) (stands rest))
+known_by_standing : (item : Item) (own : List ℕ) → ((rest : List ℕ) → Stands (own ++ rest) item) → (rest : List ℕ) → item_front (own ++ rest) ≡ item
+known_by_standing item own stands rest = sym (stands-only (own ++ rest) item (stands rest))
 
 -- a frame has its header and its length
-pub frame_item : (h : HeaderFields) (own : List ℕ) → header_front own ≡ Ok h → length own ≡ length_of (class_of h) h.slot → 4 ≤ length own → AreBytes own → IsItem (Frame h) own
-frame_item h own header long least all = record {
+pub frame_item : (h : HeaderFields) (own : List ℕ) → header_front own ≡ Ok h → length own ≡ length_of (class_of h) h.slot → 4 ≤ length own → IsItem (Frame h) own
+frame_item h own header long least = record {
   size = long;
-  bytes = all;
-  known = known_by_standing (Frame h) own all (λ rest. header_front-four (own ++ rest) own (take-append-le 4 own rest least) ∙ header);
+  known = known_by_standing (Frame h) own (λ rest. header_front-four (own ++ rest) own (take-append-le 4 own rest least) ∙ header);
 }
 
 -- a frame has more than the four bytes of its header
@@ -131,13 +127,11 @@ stands_kept End bytes rest here is within = absurd (false≢true is)
 stands_kept Nothing bytes rest here is within = absurd (false≢true is)
 
 -- the bytes of a whole item of a file are that item
-pub kept_item : (file : List ℕ) (at : ℕ) (item : Item) → AreBytes file → item_at file at ≡ item → belongs Stream item ≡ true → at + size_of item ≤ length file → IsItem item (take (size_of item) (drop at file))
-kept_item file at item all is belongs within =
+pub kept_item : (file : List ℕ) (at : ℕ) (item : Item) → item_at file at ≡ item → belongs Stream item ≡ true → at + size_of item ≤ length file → IsItem item (take (size_of item) (drop at file))
+kept_item file at item is belongs within =
     let bytes = drop at file in
     let size = size_of item in
-    let room : size ≤ length bytes = omega (arith, within, length-drop at file) in
-    let own : AreBytes (take size bytes) = AreBytes-take size bytes (AreBytes-drop at file all) in record {
+    let room : size ≤ length bytes = omega (arith, within, length-drop at file) in record {
       size = length-take-le size bytes room;
-      bytes = own;
-      known = known_by_standing item (take size bytes) own (λ rest. stands_kept item bytes rest (stands-at file at item is) belongs room);
+      known = known_by_standing item (take size bytes) (λ rest. stands_kept item bytes rest (stands-at file at item is) belongs room);
     }

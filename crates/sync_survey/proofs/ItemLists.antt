@@ -1,9 +1,7 @@
 -- Bytes that are items, one behind the other: where they stand in a file, the items stand end to end.
-use Rattle.std.proofs.Common.{◌≡◌, ℕ, ◌+◌, ◌-◌, ◌<◌, ◌≤◌, true, List, [], ◌∷◌, ◌++◌, length, drop, map, None, refl, sym, ◌∙◌, ap, ap₂, subst, arith, append_assoc, length-append, length-drop}
+use Rattle.std.proofs.Common.{◌≡◌, ℕ, ◌+◌, ◌-◌, ◌<◌, ◌≤◌, true, List, [], ◌∷◌, ◌++◌, length, drop, map, None, refl, sym, ◌∙◌, ap, ap₂, arith, append_assoc, length-append, length-drop}
 use Rattle.std.specs.List.{cons_option}
 use Rattle.std.proofs.lemmas.List.{drop-drop, drop_at}
-use Rattle.bit_fields.specs.Bits.{AreBytes}
-use Rattle.bit_fields.proofs.BitsLaws.{AreBytes-append}
 use Rattle.sync_survey.specs.declared.items.Item.{Item}
 use Rattle.sync_survey.specs.declared.items.Item.TheVariants.{Frame, Free, Block, Zero, End, Nothing}
 use Rattle.sync_survey.specs.declared.places.PlacedFrame.{PlacedFrame}
@@ -49,10 +47,6 @@ abbrev pub AreItems : List Placed → List ℕ → Type 0
 AreItems [] bytes = bytes ≡ []
 AreItems (p ∷ ps) bytes = (own : List ℕ) × (rest : List ℕ) × (bytes ≡ own ++ rest) × IsItem p.item own × AreItems ps rest
 
-pub items-bytes : (ps : List Placed) (bytes : List ℕ) → AreItems ps bytes → AreBytes bytes
-items-bytes [] bytes are = subst AreBytes (sym are) tt
-items-bytes (p ∷ ps) bytes are = subst AreBytes (sym are.2) (AreBytes-append are.0 are.1 are.3.bytes (items-bytes ps are.1 are.4))
-
 -- they are as many as the items have
 pub items-length : (part : Part) (file : List ℕ) (from : ℕ) (ps : List Placed) (to : ℕ) (bytes : List ℕ) → AreEndToEnd part file from ps to → AreItems ps bytes → from + length bytes ≡ to
 items-length part file from [] to bytes ends are = omega (arith, ends, ap length are)
@@ -60,11 +54,11 @@ items-length part file from (p ∷ ps) to bytes ends are =
     omega (arith, ends.0, ap length are.2, length-append are.0 are.1, are.3.size, items-length part file (p.offset + size_of p.item) ps to are.1 ends.2 are.4)
 
 -- the bytes of items of a file are these items
-pub kept_items : (file : List ℕ) (from : ℕ) (ps : List Placed) (to : ℕ) → AreBytes file → AreEndToEnd Stream file from ps to → AreItems ps (bytes_of file ps)
-kept_items file from [] to all ends = refl
-kept_items file from (p ∷ ps) to all ends =
+pub kept_items : (file : List ℕ) (from : ℕ) (ps : List Placed) (to : ℕ) → AreEndToEnd Stream file from ps to → AreItems ps (bytes_of file ps)
+kept_items file from [] to ends = refl
+kept_items file from (p ∷ ps) to ends =
     let here = item_of-is Stream file p.offset p.item ends.1 in
-    (bytes_in file p, bytes_of file ps, refl, kept_item file p.offset p.item all here.is here.belongs here.within, kept_items file (p.offset + size_of p.item) ps to all ends.2)
+    (bytes_in file p, bytes_of file ps, refl, kept_item file p.offset p.item here.is here.belongs here.within, kept_items file (p.offset + size_of p.item) ps to ends.2)
 
 -- ---- where they stand
 
@@ -77,10 +71,10 @@ unfolding item_at
 item_at-known file place at bytes item same is known = ap (λ n. item_front (drop n file)) same ∙ ap item_front is ∙ known
 
 -- Where bytes that are items stand in another file, so many bytes nearer to its front, they stand there end to end.
-pub items-end : (part : Part) (old file : List ℕ) (gap from at : ℕ) (ps : List Placed) (to : ℕ) (bytes behind : List ℕ) → AreEndToEnd part old from ps to → from ≡ at + gap → AreItems ps bytes → AreBytes behind → at ≤ length file
+pub items-end : (part : Part) (old file : List ℕ) (gap from at : ℕ) (ps : List Placed) (to : ℕ) (bytes behind : List ℕ) → AreEndToEnd part old from ps to → from ≡ at + gap → AreItems ps bytes → at ≤ length file
     → drop at file ≡ bytes ++ behind → AreEndToEnd part file at (map (nearer gap) ps) (to - gap)
-items-end part old file gap from at [] to bytes behind ends there are all within is = omega (arith, ends, there)
-items-end part old file gap from at (p ∷ ps) to bytes behind ends there are all within is =
+items-end part old file gap from at [] to bytes behind ends there are within is = omega (arith, ends, there)
+items-end part old file gap from at (p ∷ ps) to bytes behind ends there are within is =
     let own = are.0 in
     let rest = are.1 in
     let size = size_of p.item in
@@ -88,12 +82,12 @@ items-end part old file gap from at (p ∷ ps) to bytes behind ends there are al
     let place : p.offset - gap ≡ at = omega (arith, ends.0, there) in
     let stands : drop at file ≡ own ++ (rest ++ behind) = is ∙ ap (λ l. l ++ behind) are.2 ∙ append_assoc own rest behind in
     let room : at + size ≤ length file = omega (arith, within, ap length stands, length-drop at file, length-append own (rest ++ behind), are.3.size) in
-    let known = item_at-known file (p.offset - gap) at (own ++ (rest ++ behind)) p.item place stands (are.3.known (rest ++ behind) (AreBytes-append rest behind (items-bytes ps rest are.4) all)) in
+    let known = item_at-known file (p.offset - gap) at (own ++ (rest ++ behind)) p.item place stands (are.3.known (rest ++ behind)) in
     let next : drop (p.offset - gap + size) file ≡ rest ++ behind =
     ap (λ n. drop (n + size) file) place ∙ sym (drop-drop size at file) ∙ ap (drop size) stands ∙ drop_at own (rest ++ behind) size are.3.size in (
       place,
       item_of-whole part file (p.offset - gap) p.item known here.belongs (omega (arith, place, room)),
-      items-end part old file gap (p.offset + size) (p.offset - gap + size) ps to rest behind ends.2 (omega (arith, place, ends.0, there)) are.4 all (omega (arith, place, room)) next,
+      items-end part old file gap (p.offset + size) (p.offset - gap + size) ps to rest behind ends.2 (omega (arith, place, ends.0, there)) are.4 (omega (arith, place, room)) next,
     )
 
 -- not nearer at all
@@ -104,10 +98,9 @@ nearer-none (p ∷ ps) =
     λ i. record p { offset = same i } ∷ nearer-none ps i
 
 -- they are the run there, where no further item of the part stands
-pub items-run : (part : Part) (old file : List ℕ) (gap from at : ℕ) (ps : List Placed) (to : ℕ) (bytes behind : List ℕ) → AreEndToEnd part old from ps to → from ≡ at + gap → AreItems ps bytes → AreBytes behind
-    → at ≤ length file → drop at file ≡ bytes ++ behind → item_of part file (to - gap) ≡ None → run part file at ≡ record { items = map (nearer gap) ps; stop = to - gap }
-items-run part old file gap from at ps to bytes behind ends there are all within is none =
-    run-only part file at (map (nearer gap) ps) (to - gap) (items-end part old file gap from at ps to bytes behind ends there are all within is) none
+pub items-run : (part : Part) (old file : List ℕ) (gap from at : ℕ) (ps : List Placed) (to : ℕ) (bytes behind : List ℕ) → AreEndToEnd part old from ps to → from ≡ at + gap → AreItems ps bytes → at ≤ length file → drop at file ≡ bytes ++ behind → item_of part file (to - gap) ≡ None → run part file at ≡ record { items = map (nearer gap) ps; stop = to - gap }
+items-run part old file gap from at ps to bytes behind ends there are within is none =
+    run-only part file at (map (nearer gap) ps) (to - gap) (items-end part old file gap from at ps to bytes behind ends there are within is) none
 
 -- ---- frames and blocks among them
 

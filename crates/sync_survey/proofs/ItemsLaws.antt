@@ -50,7 +50,7 @@ header_front-in_range bytes h e = IsHeader-header_at (take 4 bytes) h (header_ca
 frame_some : (h : HeaderFields) → IsHeader h → 0 < length_of (class_of h) h.slot
 frame_some h fields = omega (arith, area_some (class_of h) h.slot (IsClass-class_of h fields) fields.slot)
 
-some_by : (bytes : List ℕ) (part : Part) (item : Item) → Stands bytes item → belongs part item ≡ true → 0 < size_of item
+pub some_by : (bytes : List ℕ) (part : Part) (item : Item) → Stands bytes item → belongs part item ≡ true → 0 < size_of item
 some_by bytes part (Frame h) here is = frame_some h (header_front-in_range bytes h here)
 some_by bytes part Free here is = absurd (false≢true is)
 some_by bytes part (Block b) here is = omega (arith, block_front-least bytes b here)

@@ -1,14 +1,19 @@
 -- The lemmas of this crate.
 pub mod ItemsLaws
 pub mod RunsLaws
-pub mod StartLaws
-pub mod WalkLaws
-pub mod FaultsLaws
 pub mod OneItem
-pub mod SurveyLaws
-pub mod FirstFault
-pub mod FoldersLaws
 pub mod ItemBytes
+pub mod LooksLaws
+pub mod StartLaws
+pub mod FaultsLaws
+pub mod WalkLaws
+pub mod SurveyLaws
+pub mod Progress
+pub mod FoldersLaws
+pub mod FrontLaws
+pub mod BytesFaults
+pub mod StepLaws
+pub mod FirstFault
 pub mod ItemLists
 pub mod SurveyParts
 pub mod HeadSame

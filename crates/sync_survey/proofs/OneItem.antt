@@ -3,7 +3,7 @@ use Rattle.std.proofs.Common.{◌≡◌, ◌≢◌, ℕ, ◌+◌, ◌*◌, ◌^�
 use Rattle.std.proofs.lemmas.Bool.{eqb-true, leb-true}
 use Rattle.std.proofs.lemmas.List.{length-take}
 use Rattle.std.proofs.Math.Seq.{take-append-add}
-use Rattle.bit_fields.specs.Bits.{bits, bits_of, number, AreBytes}
+use Rattle.bit_fields.specs.Bits.{bits, bits_of, number}
 use Rattle.bit_fields.specs.Groups.{group}
 use Rattle.bit_fields.proofs.BitsLaws.{length-bits_of, length-bits, bits-cons, number-append, number-below, number-bits_of-below, AreBits-take, AreBits-bits}
 use Rattle.frame_header.specs.declared.header.NotHeader.{NotHeader}
@@ -11,9 +11,11 @@ use Rattle.frame_header.specs.declared.header.NotHeader.TheVariants.{Free as Fre
 use Rattle.frame_header.specs.Fields.{HeaderFields}
 use Rattle.frame_header.specs.Reading.{is_readable, header_in, header_at}
 use Rattle.frame_header.proofs.HeaderLaws.{header_in-no}
+use Rattle.tag_blocks.specs.declared.block.Kind.{Kind}
+use Rattle.tag_blocks.specs.declared.block.Kind.TheVariants.{Id3v2, Id3v1, Ape}
 use Rattle.tag_blocks.specs.declared.block.Block.{Block as TagBlock}
 use Rattle.tag_blocks.specs.Blocks.{block_front}
-use Rattle.tag_blocks.proofs.BlocksLaws.{block_front-not_zero, block_front-not_sync}
+use Rattle.tag_blocks.proofs.BlocksLaws.{first_byte, block_front-not_zero, block_front-first}
 use Rattle.sync_survey.specs.declared.items.Item.{Item}
 use Rattle.sync_survey.specs.declared.items.Item.TheVariants.{Frame, Free, Block, Zero, End, Nothing}
 use Rattle.sync_survey.specs.Items.{header_front, Stands, by_header, by_block, by_byte, item_front, item_at}
@@ -53,17 +55,26 @@ result_cases (Ok h) not = absurd (not (λ e. cc))
 result_cases (Err FreeHeader) not = absurd (not (λ e. cc))
 result_cases (Err No) not = refl
 
-four_bytes : (bytes : List ℕ) → AreBytes bytes → get_or bytes 0 0 ≢ 255 → 4 ≤ length bytes → header_at (take 4 bytes) ≡ Err No
+four_bytes : (bytes : List ℕ) → get_or bytes 0 0 < 255 → 4 ≤ length bytes → header_at (take 4 bytes) ≡ Err No
 unfolding header_at
-four_bytes [] are other long = absurd (omega (arith, long))
-four_bytes (a ∷ []) are other long = absurd (omega (arith, long))
-four_bytes (a ∷ b ∷ rest) are other long = result_cases _ (λ header. other (sync_byte a b (take 2 rest) are.0 (readable_sync _ (readable_cases _ _ refl header))))
+four_bytes [] below long = absurd (omega (arith, long))
+four_bytes (a ∷ []) below long = absurd (omega (arith, long))
+four_bytes (a ∷ b ∷ rest) below long =
+    result_cases _ (λ header. let ones = sync_byte a b (take 2 rest) (omega (arith, below)) (readable_sync _ (readable_cases _ _ refl header)) in omega (arith, ones, below))
 
-no_header : (bytes : List ℕ) → AreBytes bytes → get_or bytes 0 0 ≢ 255 → header_front bytes ≡ Err No
+no_header : (bytes : List ℕ) → get_or bytes 0 0 < 255 → header_front bytes ≡ Err No
 unfolding header_front
-no_header bytes are other = no_header_by _ _ (λ long. four_bytes bytes are other (leb-true 4 (length bytes) long))
+no_header bytes below = no_header_by _ _ (λ long. four_bytes bytes below (leb-true 4 (length bytes) long))
 
 -- ---- the first byte of a block
+
+below_ones : (kind : Kind) → first_byte kind < 255
+below_ones Id3v2 = omega arith
+below_ones Id3v1 = omega arith
+below_ones Ape = omega arith
+
+block_front-below : (bytes : List ℕ) (b : TagBlock) → block_front bytes ≡ Some b → get_or bytes 0 0 < 255
+block_front-below bytes b is = omega (arith, block_front-first bytes b is, below_ones b.kind)
 
 option_cases : (o : Option TagBlock) → ((b : TagBlock) → o ≡ Some b → ⊥) → o ≡ None
 option_cases None not = refl
@@ -87,26 +98,26 @@ by_byte-zero [] first = absurd cc
 by_byte-zero (b ∷ bs) first = let same : b ≡ 0 = cc in (same, ap (λ x. by_byte (x ∷ bs)) same)
 
 -- where an item stands, it is the one that the definition finds
-pub stands-only : (bytes : List ℕ) (item : Item) → AreBytes bytes → Stands bytes item → item ≡ item_front bytes
+pub stands-only : (bytes : List ℕ) (item : Item) → Stands bytes item → item ≡ item_front bytes
 unfolding item_front
-stands-only bytes (Frame h) are here = ap (λ r. by_header r (by_block (block_front bytes) (by_byte bytes))) (sym here)
-stands-only bytes Free are here = ap (λ r. by_header r (by_block (block_front bytes) (by_byte bytes))) (sym here)
-stands-only bytes (Block b) are here =
-    let header = no_header bytes are (block_front-not_sync bytes b here) in
+stands-only bytes (Frame h) here = ap (λ r. by_header r (by_block (block_front bytes) (by_byte bytes))) (sym here)
+stands-only bytes Free here = ap (λ r. by_header r (by_block (block_front bytes) (by_byte bytes))) (sym here)
+stands-only bytes (Block b) here =
+    let header = no_header bytes (block_front-below bytes b here) in
     sym (λ i. by_header (header i) (by_block (here i) (by_byte bytes)))
-stands-only bytes Zero are here =
+stands-only bytes Zero here =
     let first = by_byte-zero bytes here in
-    let header = no_header bytes are (λ e. let wrong : 0 ≡ 255 = sym first.0 ∙ e in absurd (omega (arith, wrong))) in
+    let header = no_header bytes (omega (arith, first.0)) in
     let block = no_block bytes first.0 in
     sym ((λ i. by_header (header i) (by_block (block i) (by_byte bytes))) ∙ first.1)
-stands-only bytes End are here =
+stands-only bytes End here =
     let first : get_or bytes 0 0 ≡ 0 = ap (λ xs. get_or xs 0 0) here in
-    let header = no_header bytes are (λ e. let wrong : 0 ≡ 255 = sym first ∙ e in absurd (omega (arith, wrong))) in
+    let header = no_header bytes (omega (arith, first)) in
     let block = no_block bytes first in
     sym (λ i. by_header (header i) (by_block (block i) (by_byte (here i))))
-stands-only bytes Nothing are here = sym ((λ i. by_header (here.0 i) (by_block (here.1 i) (by_byte bytes))) ∙ by_byte-nothing bytes here.2 here.3)
+stands-only bytes Nothing here = sym ((λ i. by_header (here.0 i) (by_block (here.1 i) (by_byte bytes))) ∙ by_byte-nothing bytes here.2 here.3)
 
 -- at an offset of a file
-pub stands-only_at : (file : List ℕ) (at : ℕ) (item : Item) → AreBytes (drop at file) → Stands (drop at file) item → item ≡ item_at file at
+pub stands-only_at : (file : List ℕ) (at : ℕ) (item : Item) → Stands (drop at file) item → item ≡ item_at file at
 unfolding item_at
-stands-only_at file at item are here = stands-only (drop at file) item are here
+stands-only_at file at item here = stands-only (drop at file) item here

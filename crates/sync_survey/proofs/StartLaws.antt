@@ -1,17 +1,23 @@
 -- The first anchored frame, and the start of the stream.
-use Rattle.std.proofs.Common.{◌≡◌, ℕ, zero, suc, ◌+◌, ◌<◌, ◌≤◌, Bool, true, false, cond, List, Option, Some, None, Result, Ok, Err, inl, inr, refl, sym, ◌∙◌, ap, subst, arith}
+use Rattle.std.proofs.Common.{◌≡◌, ℕ, zero, suc, ◌+◌, ◌<◌, ◌≤◌, Bool, true, false, cond, ◌&&◌, leb, min, List, length, drop, Option, Some, None, Result, Ok, Err, inl, inr, refl, sym, ◌∙◌, ap, subst, arith}
+use Rattle.std.proofs.lemmas.Bool.{lt-leb, le-leb, leb-true, leb-false}
+use Rattle.std.proofs.lemmas.List.{drop_all}
 use Rattle.std.specs.Prelude.{filter_map, slice_get, is_some, IfOk}
 use Rattle.std.specs.List.{range_with_len, cons_option}
 use Rattle.frame_header.specs.Fields.{HeaderFields}
+use Rattle.frame_header.specs.Tables.{class_of, length_of}
 use Rattle.sync_survey.specs.declared.items.Item.{Item}
 use Rattle.sync_survey.specs.declared.items.Item.TheVariants.{Frame, Free, Block, Zero, End, Nothing}
 use Rattle.sync_survey.specs.declared.places.PlacedFrame.{PlacedFrame}
-use Rattle.sync_survey.specs.declared.places.WalkFault.{WalkFault}
+use Rattle.sync_survey.specs.declared.survey_fault.SurveyFault.{SurveyFault}
 use Rattle.sync_survey.specs.declared.places.Start.{Start}
 use Rattle.sync_survey.specs.declared.runs.Part.TheVariants.{Stream}
-use Rattle.sync_survey.specs.Items.{item_at, fits}
-use Rattle.sync_survey.specs.Start.{has_anchor, anchored, anchored_frame, is_anchored, IsLeast, IsFirstAnchored, first_anchored, longest_junk, start_behind, start_at, front_end_of, start_of, IsLeastStart}
+use Rattle.sync_survey.specs.Items.{item_front, item_at, size_of, fits}
+use Rattle.sync_survey.specs.Looks.{Shows}
+use Rattle.sync_survey.specs.Start.{is_anchor, has_anchor, anchored, anchored_frame, is_anchored, IsLeast, IsFirstAnchored, first_anchored, longest_junk, start_behind, start_at, front_end_of, start_of, IsLeastStart}
 use Rattle.sync_survey.proofs.RunsLaws.{IsItemOf, within_file, both}
+use Rattle.sync_survey.proofs.OneItem.{stands-only_at}
+use Rattle.sync_survey.proofs.LooksLaws.{item_at-shown, item_at-behind, fits-left}
 
 -- ---- the first of so many offsets
 
@@ -142,7 +148,7 @@ pub record IsFirstFrame (file : List ℕ) (s : Start) : Type 0 where
   pub frame : IsItemOf Stream file s.first.offset (Frame s.first.header)
   pub least : IsLeastStart file s
 
-fits_cases : (file : List ℕ) (at : ℕ) (h : HeaderFields) (b : Bool) (fault : WalkFault) (s : Start) → item_at file at ≡ Frame h → fits file at (Frame h) ≡ b →
+fits_cases : (file : List ℕ) (at : ℕ) (h : HeaderFields) (b : Bool) (fault : SurveyFault) (s : Start) → item_at file at ≡ Frame h → fits file at (Frame h) ≡ b →
     cond b (Ok (record { front_end = at; first = record { offset = at; header = h } })) (Err fault) ≡ Ok s → IsFirstFrame file s
 fits_cases file at h true fault s is fit e =
     let same : record { front_end = at; first = record { offset = at; header = h } } ≡ s = cc in
@@ -171,13 +177,13 @@ unfolding start_of
 start-first file s e = start_cases file (front_end_of file) (item_at file (front_end_of file)) s refl e
 
 -- what holds of each value of an Ok
-pub if_ok : (r : Result Start WalkFault) (P : Start → Type 0) → ((s : Start) → r ≡ Ok s → P s) → IfOk r P
+pub if_ok : (r : Result Start SurveyFault) (P : Start → Type 0) → ((s : Start) → r ≡ Ok s → P s) → IfOk r P
 if_ok (Ok s) P holds = holds s refl
 if_ok (Err fault) P holds = tt
 
 -- ---- where the front ends
 
-front_fits : (at : ℕ) (p : PlacedFrame) (b : Bool) (fault : WalkFault) (s : Start) → cond b (Ok (record { front_end = at; first = p })) (Err fault) ≡ Ok s → s.front_end ≡ at
+front_fits : (at : ℕ) (p : PlacedFrame) (b : Bool) (fault : SurveyFault) (s : Start) → cond b (Ok (record { front_end = at; first = p })) (Err fault) ≡ Ok s → s.front_end ≡ at
 front_fits at p true fault s e =
     let same : record { front_end = at; first = p } ≡ s = cc in
     ap (λ t. t.front_end) (sym same)
@@ -201,3 +207,71 @@ front_cases file at Nothing s e = front_behind at _ s e
 pub start-front : (file : List ℕ) (s : Start) → start_of file ≡ Ok s → s.front_end ≡ front_end_of file
 unfolding start_of
 start-front file s e = front_cases file (front_end_of file) (item_at file (front_end_of file)) s e
+
+-- ---- a frame that a look shows
+
+module _ (file : List ℕ) (at : ℕ) (front : List ℕ) (left : ℕ) (shows : Shows file at front left) where
+  none_by : (item : Item) → item_at file at ≡ item → ((h : HeaderFields) → item ≡ Frame h → has_anchor file at h ≡ false) → anchored_frame file at ≡ None
+  unfolding anchored_frame
+  none_by (Frame h) is without = ap (anchored file at) is ∙ ap (λ b. cond b (Some (record { offset = at; header = h })) None) (without h refl)
+  none_by Free is without = ap (anchored file at) is
+  none_by (Block b) is without = ap (anchored file at) is
+  none_by Zero is without = ap (anchored file at) is
+  none_by End is without = ap (anchored file at) is
+  none_by Nothing is without = ap (anchored file at) is
+
+  -- no frame stands here
+  pub shown_none : (item : Item) → item ≡ item_front front → ((h : HeaderFields) → item ≡ Frame h → ⊥) → anchored_frame file at ≡ None
+  shown_none item is none = none_by item (sym (item_at-shown file at front left shows) ∙ sym is) (λ h e. absurd (none h e))
+
+  -- one that isn't whole
+  pub shown_over : (h : HeaderFields) → item_front front ≡ Frame h → left < length_of (class_of h) h.slot → anchored_frame file at ≡ None
+  shown_over h is past =
+      none_by (Frame h) (sym (item_at-shown file at front left shows) ∙ is) (λ g e.
+      let same : h ≡ g = cc in
+      let over : fits file at (Frame h) ≡ false = sym (fits-left file at front left shows (Frame h)) ∙ lt-leb (size_of (Frame h)) left past in
+      subst (λ x. has_anchor file at x ≡ false) same (ap (λ b. b && is_anchor (class_of h) (item_at file (at + length_of (class_of h) h.slot))) over))
+
+  -- one with this behind it
+  anchor_by : (h : HeaderFields) (behind : Item) → length_of (class_of h) h.slot ≤ left → length_of (class_of h) h.slot ≤ 4064 → behind ≡ item_front (drop (length_of (class_of h) h.slot) front)
+      → has_anchor file at h ≡ is_anchor (class_of h) behind
+  anchor_by h behind within few is =
+      let size = length_of (class_of h) h.slot in
+      let fit : fits file at (Frame h) ≡ true = sym (fits-left file at front left shows (Frame h)) ∙ le-leb size left within in
+      ap (λ b. b && is_anchor (class_of h) (item_at file (at + size))) fit ∙ ap (is_anchor (class_of h)) (sym (is ∙ item_at-behind file at front left shows size few))
+
+  pub shown_apart : (h : HeaderFields) (behind : Item) → item_front front ≡ Frame h → length_of (class_of h) h.slot ≤ left → length_of (class_of h) h.slot ≤ 4064 → behind ≡ item_front (drop (length_of (class_of h) h.slot) front)
+      → is_anchor (class_of h) behind ≡ false → anchored_frame file at ≡ None
+  shown_apart h behind is within few end apart =
+      none_by (Frame h) (sym (item_at-shown file at front left shows) ∙ is) (λ g e.
+      let same : h ≡ g = cc in
+      subst (λ x. has_anchor file at x ≡ false) same (anchor_by h behind within few end ∙ apart))
+
+  pub shown_anchored : (h : HeaderFields) (behind : Item) → item_front front ≡ Frame h → length_of (class_of h) h.slot ≤ left → length_of (class_of h) h.slot ≤ 4064 → behind ≡ item_front (drop (length_of (class_of h) h.slot) front)
+      → is_anchor (class_of h) behind ≡ true → anchored_frame file at ≡ Some (record { offset = at; header = h })
+  unfolding anchored_frame
+  shown_anchored h behind is within few end there =
+      ap (anchored file at) (sym (item_at-shown file at front left shows) ∙ is)
+      ∙ ap (λ b. cond b (Some (record { offset = at; header = h })) None) (anchor_by h behind within few end ∙ there)
+
+-- ---- where the search ends
+
+anchored_frame-past : (file : List ℕ) (at : ℕ) → length file ≤ at → anchored_frame file at ≡ None
+unfolding anchored_frame
+anchored_frame-past file at past = ap (anchored file at) (sym (stands-only_at file at End (drop_all at file past)))
+
+none_by_end : (file : List ℕ) (from to at : ℕ) → ((earlier : ℕ) → from ≤ earlier → earlier < to → anchored_frame file earlier ≡ None) → from ≤ at → (to ≤ at → length file ≤ at) → (b : Bool) → leb to at ≡ b → anchored_frame file at ≡ None
+none_by_end file from to at none low end true e = anchored_frame-past file at (end (leb-true to at e))
+none_by_end file from to at none low end false e = none at low (leb-false to at e)
+
+-- no anchored frame stands before the end of the file or of the search
+pub none_anchored : (file : List ℕ) (size from to : ℕ) → size ≡ length file → min size (from + longest_junk) ≤ to → ((earlier : ℕ) → from ≤ earlier → earlier < to → anchored_frame file earlier ≡ None)
+    → first_anchored longest_junk file from ≡ None
+none_anchored file size from to is end none =
+    first_anchored-none longest_junk file from (λ at low high. none_by_end file from to at none low (λ behind. omega (arith, is, end, behind, high)) (leb to at) refl)
+
+-- ---- the start, by what stands where the front ends
+
+pub start_is : (file : List ℕ) (at : ℕ) (item : Item) → at ≡ front_end_of file → item_at file at ≡ item → start_of file ≡ start_at file at item
+unfolding start_of
+start_is file at item end here = ap (λ n. start_at file n (item_at file n)) (sym end) ∙ ap (start_at file at) here

@@ -1,65 +1,31 @@
 -- The survey of a file's bytes, from what the parts of the code find.
-use Rattle.std.proofs.Common.{◌≡◌, ℕ, ◌+◌, ◌≤◌, List, [], ◌∷◌, ◌++◌, length, drop, Option, Some, None, option_map, Result, Ok, Err, refl, sym, ◌∙◌, ap, ap₂, subst, arith}
+use Rattle.std.proofs.Common.{◌≡◌, ℕ, ◌≤◌, List, [], ◌∷◌, ◌++◌, length, drop, Option, Some, None, Result, Ok, Err, refl, ◌∙◌, ap, ap₂, subst, arith}
 use Rattle.std.specs.Prelude.{option_to_list}
 use Rattle.frame_header.specs.Fields.{HeaderFields, IsHeader}
 use Rattle.frame_header.specs.Tables.{class_of, length_of, overhead_of}
 use Rattle.frame_header.proofs.Lengths.{area_some}
 use Rattle.frame_header.proofs.HeaderLaws.{IsClass-class_of}
 use Rattle.side_info.proofs.FrameLaws.{overhead-most}
-use Rattle.sync_survey.specs.declared.items.Item.{Item}
-use Rattle.sync_survey.specs.declared.items.Item.TheVariants.{Frame, Free, Block, Zero, End, Nothing}
 use Rattle.sync_survey.specs.declared.places.PlacedFrame.{PlacedFrame}
 use Rattle.sync_survey.specs.declared.places.Piece.{Piece}
 use Rattle.sync_survey.specs.declared.places.Head.{Head}
 use Rattle.sync_survey.specs.declared.places.Start.{Start}
-use Rattle.sync_survey.specs.declared.places.WalkFault.{WalkFault}
+use Rattle.sync_survey.specs.declared.survey_fault.SurveyFault.{SurveyFault}
 use Rattle.sync_survey.specs.declared.rows.Row.{Row}
 use Rattle.sync_survey.specs.declared.survey_fault.SurveyFault.{SurveyFault}
-use Rattle.sync_survey.specs.declared.runs.Part.{Part}
-use Rattle.sync_survey.specs.declared.runs.Part.TheVariants.{Stream}
-use Rattle.sync_survey.specs.Items.{item_at, size_of}
-use Rattle.sync_survey.specs.Runs.{Placed, AreEndToEnd, AreInFile, frame_as, frames_of}
+use Rattle.sync_survey.specs.Items.{item_at}
+use Rattle.sync_survey.specs.Runs.{frames_of}
 use Rattle.sync_survey.specs.Start.{start_of}
-use Rattle.sync_survey.specs.Walk.{stream_of, head_of, numbered, fault_at, end_fault, walk_from}
+use Rattle.sync_survey.specs.Walk.{stream_run, head_of, numbered, fault_at, end_fault, walk_from}
 use Rattle.sync_survey.specs.MainData.{rows_of}
-use Rattle.sync_survey.specs.Faults.{all_faults, as_survey, first_of, class_from, faults_from, SurveyFields, fields_from, unless_fault, survey_by, surveyed}
-use Rattle.sync_survey.proofs.ItemsLaws.{stands-at, header_front-in_range}
-use Rattle.sync_survey.proofs.RunsLaws.{cons_list, item_of-is, run-ends}
+use Rattle.sync_survey.specs.Faults.{all_faults, first_of, class_from, faults_from, SurveyFields, fields_from, unless_fault, survey_by, surveyed}
 use Rattle.sync_survey.proofs.WalkLaws.{IsFound, walk-is, no_fault, nothing_left}
 use Rattle.sync_survey.proofs.FaultsLaws.{some-append, none-of}
 
--- ---- the frames that were met are in the file
+-- ---- a frame is longer than what stands before its area
 
 pub overhead-within : (h : HeaderFields) → IsHeader h → overhead_of (class_of h) h.protected ≤ length_of (class_of h) h.slot
 overhead-within h fields = omega (arith, overhead-most (class_of h) h.protected, area_some (class_of h) h.slot (IsClass-class_of h fields) fields.slot)
-
-inside_more : (file : List ℕ) (at : ℕ) (item : Item) (frames : List PlacedFrame) → item_at file at ≡ item → at + size_of item ≤ length file → AreInFile file frames
-    → AreInFile file (option_to_list (frame_as at item) ++ frames)
-inside_more file at (Frame h) frames is within rest = (omega (arith, within, overhead-within h (header_front-in_range (drop at file) h (stands-at file at (Frame h) is))), rest)
-inside_more file at Free frames is within rest = rest
-inside_more file at (Block b) frames is within rest = rest
-inside_more file at Zero frames is within rest = rest
-inside_more file at End frames is within rest = rest
-inside_more file at Nothing frames is within rest = rest
-
-frames_inside : (part : Part) (file : List ℕ) (from : ℕ) (ps : List Placed) (to : ℕ) → AreEndToEnd part file from ps to → AreInFile file (frames_of ps)
-frames_inside part file from [] to e = tt
-frames_inside part file from (p ∷ ps) to e =
-    let here = item_of-is part file p.offset p.item e.1 in
-    subst (AreInFile file) (sym (cons_list (frame_as p.offset p.item) (frames_of ps)))
-    (inside_more file p.offset p.item (frames_of ps) here.is here.within (frames_inside part file (p.offset + size_of p.item) ps to e.2))
-
-inside_behind : (file : List ℕ) (frames : List PlacedFrame) → AreInFile file frames → AreInFile file (drop 1 frames)
-inside_behind file [] all = tt
-inside_behind file (p ∷ ps) all = all.1
-
-numbered_inside : (file : List ℕ) (head : Option Head) (frames : List PlacedFrame) → AreInFile file frames → AreInFile file (numbered head frames)
-numbered_inside file None frames all = all
-numbered_inside file (Some head) frames all = inside_behind file frames all
-
-pub found_inside : (file : List ℕ) (start : Start) (head : Option Head) (frames : List PlacedFrame) → frames ≡ numbered head (frames_of (stream_of file start).items) → AreInFile file frames
-found_inside file start head frames is =
-    subst (AreInFile file) (sym is) (numbered_inside file head _ (frames_inside Stream file start.first.offset _ _ (run-ends Stream file start.first.offset)))
 
 -- ---- the survey
 
@@ -75,20 +41,20 @@ told_by file start head rows blocks = record {
   length = length file;
 }
 
-survey-by : (file : List ℕ) (allowed : ℕ) (r : Result Start WalkFault) → start_of file ≡ r → surveyed file allowed ≡ survey_by file allowed r
+survey-by : (file : List ℕ) (allowed : ℕ) (r : Result Start SurveyFault) → start_of file ≡ r → surveyed file allowed ≡ survey_by file allowed r
 unfolding surveyed
 survey-by file allowed r is = ap (survey_by file allowed) is
 
 module _ (file : List ℕ) (allowed : ℕ) (start : Start) (head : Option Head) (frames : List PlacedFrame) (blocks : List Piece) (stop : ℕ) (found : IsFound file start head frames blocks stop) where
-  abbrev end : Option WalkFault
+  abbrev end : Option SurveyFault
   end = end_fault file frames (fault_at stop (item_at file stop))
 
   abbrev of_frames : List SurveyFault
-  of_frames = all_faults file head (class_from start) allowed [] (rows_of file frames)
+  of_frames = all_faults file head (class_from start) allowed (rows_of file frames)
 
-  faults-are : faults_from file allowed start ≡ of_frames ++ option_to_list (option_map as_survey end)
+  faults-are : faults_from file allowed start ≡ of_frames ++ option_to_list end
   unfolding faults_from
-  faults-are = ap (λ w. all_faults file w.head (class_from start) allowed [] (rows_of file w.frames) ++ option_to_list (option_map as_survey w.fault)) (walk-is file start head frames blocks stop found)
+  faults-are = ap (λ w. all_faults file w.head (class_from start) allowed (rows_of file w.frames) ++ option_to_list w.fault) (walk-is file start head frames blocks stop found)
 
   abbrev fields : SurveyFields
   fields = told_by file start head (rows_of file frames) blocks
@@ -101,14 +67,14 @@ module _ (file : List ℕ) (allowed : ℕ) (start : Start) (head : Option Head) 
   pub survey-frame : (fault : SurveyFault) → first_of of_frames ≡ Some fault → surveyed file allowed ≡ Err fault
   survey-frame fault is =
       survey-by file allowed (Ok start) found.start_is
-      ∙ ap (λ o. unless_fault o (fields_from file start)) (ap first_of faults-are ∙ some-append of_frames (option_to_list (option_map as_survey end)) fault is)
+      ∙ ap (λ o. unless_fault o (fields_from file start)) (ap first_of faults-are ∙ some-append of_frames (option_to_list end) fault is)
 
-  last-fault : first_of of_frames ≡ None → (o : Option WalkFault) → end ≡ o → first_of (faults_from file allowed start) ≡ first_of (option_to_list (option_map as_survey o))
+  last-fault : first_of of_frames ≡ None → (o : Option SurveyFault) → end ≡ o → first_of (faults_from file allowed start) ≡ first_of (option_to_list o)
   last-fault none o is =
-      ap first_of (faults-are ∙ ap₂ (λ (xs : List SurveyFault) (e : Option WalkFault). xs ++ option_to_list (option_map as_survey e)) (none-of of_frames none) is)
+      ap first_of (faults-are ∙ ap₂ (λ (xs : List SurveyFault) (e : Option SurveyFault). xs ++ option_to_list e) (none-of of_frames none) is)
 
   -- the walk stops before the end, or has no frame
-  pub survey-stopped : (fault : WalkFault) → first_of of_frames ≡ None → end ≡ Some fault → surveyed file allowed ≡ Err (as_survey fault)
+  pub survey-stopped : (fault : SurveyFault) → first_of of_frames ≡ None → end ≡ Some fault → surveyed file allowed ≡ Err fault
   survey-stopped fault none is =
       survey-by file allowed (Ok start) found.start_is ∙ ap (λ o. unless_fault o (fields_from file start)) (last-fault none (Some fault) is)
 
@@ -132,7 +98,7 @@ fields_cases : (file : List ℕ) (allowed : ℕ) (start : Start) (s : SurveyFiel
 fields_cases file allowed start s (Some fault) begins is e = absurd cc
 fields_cases file allowed start s None begins is e = record { start = start; begins = begins; fields_are = cc; none = is }
 
-start_cases : (file : List ℕ) (allowed : ℕ) (s : SurveyFields) (r : Result Start WalkFault) → start_of file ≡ r → survey_by file allowed r ≡ Ok s → IsSurveyed file allowed s
+start_cases : (file : List ℕ) (allowed : ℕ) (s : SurveyFields) (r : Result Start SurveyFault) → start_of file ≡ r → survey_by file allowed r ≡ Ok s → IsSurveyed file allowed s
 start_cases file allowed s (Err fault) begins e = absurd cc
 start_cases file allowed s (Ok start) begins e = fields_cases file allowed start s (first_of (faults_from file allowed start)) begins refl e
 
@@ -140,7 +106,7 @@ pub surveyed-is : (file : List ℕ) (allowed : ℕ) (s : SurveyFields) → surve
 unfolding surveyed
 surveyed-is file allowed s e = start_cases file allowed s (start_of file) refl e
 
-last_none : (xs : List SurveyFault) (o : Option WalkFault) → first_of (xs ++ option_to_list (option_map as_survey o)) ≡ None → o ≡ None
+last_none : (xs : List SurveyFault) (o : Option SurveyFault) → first_of (xs ++ option_to_list o) ≡ None → o ≡ None
 last_none [] None e = refl
 last_none [] (Some fault) e = absurd cc
 last_none (x ∷ xs) o e = absurd cc
@@ -148,16 +114,16 @@ last_none (x ∷ xs) o e = absurd cc
 -- the frames and the head that the survey tells are those of the walk, which goes to the file's end
 pub record IsWalked (file : List ℕ) (s : SurveyFields) (start : Start) : Type 0 where
   pub head_is : s.head ≡ head_of file start.first
-  pub frames_are : s.frames ≡ rows_of file (numbered s.head (frames_of (stream_of file start).items))
+  pub frames_are : s.frames ≡ rows_of file (numbered s.head (frames_of (stream_run file start).items))
   pub junk_is : s.junk ≡ start.front_end
   pub first_is : s.first ≡ start.first.offset
-  pub nothing_behind : drop (stream_of file start).stop file ≡ []
+  pub nothing_behind : drop (stream_run file start).stop file ≡ []
 
-walk_fault : (file : List ℕ) (start : Start) → (walk_from file start).fault ≡ None → drop (stream_of file start).stop file ≡ []
+walk_fault : (file : List ℕ) (start : Start) → (walk_from file start).fault ≡ None → drop (stream_run file start).stop file ≡ []
 unfolding walk_from
-walk_fault file start none = nothing_left file (stream_of file start).stop (no_fault file _ _ none)
+walk_fault file start none = nothing_left file (stream_run file start).stop (no_fault file _ _ none)
 
-walked_by : (file : List ℕ) (start : Start) → drop (stream_of file start).stop file ≡ [] → IsWalked file (fields_from file start) start
+walked_by : (file : List ℕ) (start : Start) → drop (stream_run file start).stop file ≡ [] → IsWalked file (fields_from file start) start
 unfolding fields_from walk_from
 walked_by file start left = record { head_is = refl; frames_are = refl; junk_is = refl; first_is = refl; nothing_behind = left }
 

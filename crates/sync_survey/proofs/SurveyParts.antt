@@ -1,23 +1,26 @@
 -- What a survey without fault says of a file: where its stream starts, and that nothing is at fault from there on.
-use Rattle.std.proofs.Common.{◌≡◌, ℕ, ◌+◌, ◌<◌, ◌≤◌, ◌==◌, Bool, true, false, List, [], ◌∷◌, ◌++◌, length, Option, Some, None, option_map, Ok, refl, sym, ◌∙◌, ap, ap₂, arith}
-use Rattle.std.specs.Prelude.{option_to_list, not}
+use Rattle.std.proofs.Common.{◌≡◌, ℕ, zero, suc, ◌+◌, ◌<◌, ◌≤◌, ◌==◌, Bool, true, false, List, [], ◌∷◌, ◌++◌, length, drop, Option, Some, None, Ok, refl, sym, ◌∙◌, ap, ap₂, arith, zero-add}
+use Rattle.std.specs.Prelude.{option_to_list, not, flat_map, slice_get}
+use Rattle.std.specs.List.{enumerate_from}
+use Rattle.std.proofs.lemmas.Option.{slice_get_within}
 use Rattle.std.proofs.lemmas.Bool.{ne_eqb}
 use Rattle.std.proofs.lemmas.List.{length-map}
 use Rattle.frame_header.specs.Fields.{ClassFields}
 use Rattle.frame_header.specs.Tables.{class_of}
+use Rattle.side_info.specs.Frame.{word_said}
 use Rattle.sync_survey.specs.declared.places.PlacedFrame.{PlacedFrame}
 use Rattle.sync_survey.specs.declared.places.Head.{Head}
 use Rattle.sync_survey.specs.declared.places.Start.{Start}
-use Rattle.sync_survey.specs.declared.places.WalkFault.{WalkFault}
+use Rattle.sync_survey.specs.declared.survey_fault.SurveyFault.{SurveyFault}
 use Rattle.sync_survey.specs.declared.rows.Row.{Row}
 use Rattle.sync_survey.specs.declared.survey_fault.SurveyFault.{SurveyFault}
 use Rattle.sync_survey.specs.declared.runs.Part.TheVariants.{Stream}
 use Rattle.sync_survey.specs.Items.{item_at, same_class}
 use Rattle.sync_survey.specs.Runs.{frames_of}
 use Rattle.sync_survey.specs.Start.{start_of}
-use Rattle.sync_survey.specs.Walk.{stream_of, head_of, numbered, all_blocks, fault_at, end_fault, walk_from}
-use Rattle.sync_survey.specs.MainData.{row_of, rows_of, place_behind, end_behind}
-use Rattle.sync_survey.specs.Faults.{where_true, has_wrong_word, points_too_far, overlaps, overruns, faults_at, all_faults, as_survey, first_of, class_from, faults_from, SurveyFields, fields_from, surveyed}
+use Rattle.sync_survey.specs.Walk.{stream_run, head_of, numbered, all_blocks, fault_at, end_fault, walk_from}
+use Rattle.sync_survey.specs.MainData.{row_of, rows_of, place, end_before}
+use Rattle.sync_survey.specs.Faults.{where_true, has_wrong_word, points_too_far, overlaps, overruns, faults_at, frame_faults, all_faults, first_of, class_from, faults_from, SurveyFields, fields_from, surveyed, surveyed_freely, stream_of_survey, stream_by, stream_of, HoldsStream}
 use Rattle.sync_survey.proofs.FaultsLaws.{none-of}
 use Rattle.sync_survey.proofs.SurveyLaws.{told_by, survey-whole, surveyed-is}
 use Rattle.sync_survey.proofs.RunsLaws.{run-ends}
@@ -28,7 +31,7 @@ use Rattle.sync_survey.proofs.ItemLists.{ends-within, frames-few}
 
 -- the frames that are numbered in a file with this start
 abbrev pub frames_from : List ℕ → Start → List PlacedFrame
-frames_from file start = numbered (head_of file start.first) (frames_of (stream_of file start).items)
+frames_from file start = numbered (head_of file start.first) (frames_of (stream_run file start).items)
 
 -- the survey of a file with this start that has no fault
 abbrev pub told_from : List ℕ → Start → SurveyFields
@@ -37,21 +40,21 @@ told_from file start = told_by file start (head_of file start.first) (rows_of fi
 -- the stream of the file starts so, and nothing is at fault in it
 pub record IsRead (file : List ℕ) (allowed : ℕ) (start : Start) : Type 0 where
   pub start_is : start_of file ≡ Ok start
-  pub frames : all_faults file (head_of file start.first) (class_from start) allowed [] (rows_of file (frames_from file start)) ≡ []
-  pub end : end_fault file (frames_from file start) (fault_at (stream_of file start).stop (item_at file (stream_of file start).stop)) ≡ None
+  pub frames : all_faults file (head_of file start.first) (class_from start) allowed (rows_of file (frames_from file start)) ≡ []
+  pub end : end_fault file (frames_from file start) (fault_at (stream_run file start).stop (item_at file (stream_run file start).stop)) ≡ None
 
 pub surveyed-told : (file : List ℕ) (allowed : ℕ) (start : Start) → IsRead file allowed start → surveyed file allowed ≡ Ok (told_from file start)
 surveyed-told file allowed start read =
-    survey-whole file allowed start (head_of file start.first) (frames_from file start) (all_blocks file start) (stream_of file start).stop
+    survey-whole file allowed start (head_of file start.first) (frames_from file start) (all_blocks file start) (stream_run file start).stop
     (record { start_is = read.start_is; head_is = refl; frames_are = refl; blocks_are = refl; stop_is = refl }) (ap first_of read.frames) read.end
 
 empty_parts : (xs ys : List SurveyFault) → xs ++ ys ≡ [] → (xs ≡ []) × (ys ≡ [])
 empty_parts [] ys e = (refl, e)
 empty_parts (x ∷ xs) ys e = absurd cc
 
-no_walk_fault : (o : Option WalkFault) → option_to_list (option_map as_survey o) ≡ [] → o ≡ None
-no_walk_fault (Some fault) e = absurd cc
-no_walk_fault None e = refl
+no_last : (o : Option SurveyFault) → option_to_list o ≡ [] → o ≡ None
+no_last (Some fault) e = absurd cc
+no_last None e = refl
 
 fields_from-told : (file : List ℕ) (start : Start) → fields_from file start ≡ told_from file start
 unfolding fields_from walk_from
@@ -61,7 +64,7 @@ is_read : (file : List ℕ) (allowed : ℕ) (start : Start) → start_of file �
 unfolding faults_from walk_from
 is_read file allowed start is none =
     let parts = empty_parts _ _ none in
-    record { start_is = is; frames = parts.0; end = no_walk_fault _ parts.1 }
+    record { start_is = is; frames = parts.0; end = no_last _ parts.1 }
 
 -- what a survey says
 pub surveyed-parts : (file : List ℕ) (allowed : ℕ) (s : SurveyFields) → surveyed file allowed ≡ Ok s → (start : Start) × IsRead file allowed start × (told_from file start ≡ s)
@@ -82,17 +85,17 @@ empty_both : (xs ys : List SurveyFault) → xs ≡ [] → ys ≡ [] → xs ++ ys
 empty_both xs ys e f = ap₂ (λ (us vs : List SurveyFault). us ++ vs) e f
 
 -- it is of the class, its check word is right, its main data stand where they may, and it isn't one too many
-pub record IsSound (file : List ℕ) (class : ClassFields) (allowed place ended count : ℕ) (r : Row) : Type 0 where
+pub record IsSound (said : ℕ) (class : ClassFields) (allowed place ended count : ℕ) (r : Row) : Type 0 where
   pub same : not (same_class (class_of r.header) class) ≡ false
-  pub word : has_wrong_word file r ≡ false
+  pub word : has_wrong_word said r ≡ false
   pub begins : points_too_far place r ≡ false
   pub apart : overlaps place ended r ≡ false
   pub within : overruns place r ≡ false
   pub few : (count == allowed) ≡ false
 
-pub faults-none_sound : (file : List ℕ) (class : ClassFields) (allowed place ended count : ℕ) (r : Row) → faults_at file class allowed place ended count r ≡ [] → IsSound file class allowed place ended count r
+pub faults-none_sound : (said : ℕ) (class : ClassFields) (allowed place ended count : ℕ) (r : Row) → faults_at said class allowed place ended count r ≡ [] → IsSound said class allowed place ended count r
 unfolding faults_at
-faults-none_sound file class allowed place ended count r none =
+faults-none_sound said class allowed place ended count r none =
     let all = empty_parts _ _ none in
     let front = empty_parts _ _ all.0 in
     let word = empty_parts _ _ front.0 in
@@ -107,48 +110,62 @@ faults-none_sound file class allowed place ended count r none =
       few = nothing_true _ _ all.1;
     }
 
-pub sound-no_faults : (file : List ℕ) (class : ClassFields) (allowed place ended count : ℕ) (r : Row) → IsSound file class allowed place ended count r → faults_at file class allowed place ended count r ≡ []
+pub sound-no_faults : (said : ℕ) (class : ClassFields) (allowed place ended count : ℕ) (r : Row) → IsSound said class allowed place ended count r → faults_at said class allowed place ended count r ≡ []
 unfolding faults_at
-sound-no_faults file class allowed place ended count r sound =
+sound-no_faults said class allowed place ended count r sound =
     empty_both _ _
     (empty_both _ _ (empty_both _ _ (nothing_false _ _ sound.same) (nothing_false _ _ sound.word))
     (empty_both _ _ (empty_both _ _ (nothing_false _ _ sound.begins) (nothing_false _ _ sound.apart)) (nothing_false _ _ sound.within)))
     (nothing_false _ _ sound.few)
 
--- these frames are without fault, the frames before them being given, the last first
-abbrev pub AreSound : List ℕ → Option Head → ClassFields → ℕ → List Row → List Row → Type 0
-AreSound file head class allowed earlier [] = Unit {0}
-AreSound file head class allowed earlier (r ∷ rows) =
-    IsSound file class allowed (place_behind head earlier) (end_behind head earlier) (length earlier) r × AreSound file head class allowed (r ∷ earlier) rows
+-- ---- all frames
 
-pub all_faults-none_sound : (file : List ℕ) (head : Option Head) (class : ClassFields) (allowed : ℕ) (earlier rows : List Row) → all_faults file head class allowed earlier rows ≡ [] → AreSound file head class allowed earlier rows
-unfolding all_faults
-all_faults-none_sound file head class allowed earlier [] none = tt
-all_faults-none_sound file head class allowed earlier (r ∷ rows) none =
-    let parts = empty_parts _ _ none in
-    (faults-none_sound file class allowed _ _ _ r parts.0, all_faults-none_sound file head class allowed (r ∷ earlier) rows parts.1)
+-- frame i of these is without fault
+abbrev pub IsSoundAt : List ℕ → Option Head → ClassFields → ℕ → List Row → ℕ → Row → Type 0
+IsSoundAt file head class allowed rows i r = IsSound (word_said (drop r.offset file)) class allowed (place head rows i) (end_before head rows i) i r
 
-pub sound-no_all_faults : (file : List ℕ) (head : Option Head) (class : ClassFields) (allowed : ℕ) (earlier rows : List Row) → AreSound file head class allowed earlier rows → all_faults file head class allowed earlier rows ≡ []
+-- so is each
+abbrev pub AreSound : List ℕ → Option Head → ClassFields → ℕ → List Row → Type 0
+AreSound file head class allowed rows = (i : ℕ) (r : Row) → slice_get rows i ≡ Some r → IsSoundAt file head class allowed rows i r
+
+-- what is made of each in turn is nothing
+none_each : (each : ℕ → Row → List SurveyFault) (n : ℕ) (rows : List Row) → flat_map (λ (p : ℕ × Row). each p.0 p.1) (enumerate_from n rows) ≡ [] → (i : ℕ) (r : Row) → slice_get rows i ≡ Some r → each (n + i) r ≡ []
+none_each each n [] none i r is = absurd cc
+none_each each n (q ∷ rows) none zero r is =
+    let same : q ≡ r = cc in
+    ap₂ each (omega arith) (sym same) ∙ (empty_parts (each n q) _ none).0
+none_each each n (q ∷ rows) none (suc i) r is = ap (λ m. each m r) (omega arith) ∙ none_each each (n + 1) rows (empty_parts (each n q) _ none).1 i r is
+
+each_none : (each : ℕ → Row → List SurveyFault) (n : ℕ) (rows : List Row) → ((i : ℕ) (r : Row) → slice_get rows i ≡ Some r → each (n + i) r ≡ []) → flat_map (λ (p : ℕ × Row). each p.0 p.1) (enumerate_from n rows) ≡ []
+each_none each n [] none = refl
+each_none each n (q ∷ rows) none =
+    empty_both (each n q) _ (ap (λ m. each m q) (omega arith) ∙ none zero q refl) (each_none each (n + 1) rows (λ i r is. ap (λ m. each m r) (omega arith) ∙ none (suc i) r is))
+
+pub all_faults-none_sound : (file : List ℕ) (head : Option Head) (class : ClassFields) (allowed : ℕ) (rows : List Row) → all_faults file head class allowed rows ≡ [] → AreSound file head class allowed rows
 unfolding all_faults
-sound-no_all_faults file head class allowed earlier [] sound = refl
-sound-no_all_faults file head class allowed earlier (r ∷ rows) sound =
-    empty_both _ _ (sound-no_faults file class allowed _ _ _ r sound.0) (sound-no_all_faults file head class allowed (r ∷ earlier) rows sound.1)
+all_faults-none_sound file head class allowed rows none = λ i r is.
+    faults-none_sound (word_said (drop r.offset file)) class allowed (place head rows i) (end_before head rows i) i r
+    (ap (λ m. frame_faults file head class allowed rows m r) (sym (zero-add i)) ∙ none_each (frame_faults file head class allowed rows) 0 rows none i r is)
+
+pub sound-no_all_faults : (file : List ℕ) (head : Option Head) (class : ClassFields) (allowed : ℕ) (rows : List Row) → AreSound file head class allowed rows → all_faults file head class allowed rows ≡ []
+unfolding all_faults
+sound-no_all_faults file head class allowed rows sound =
+    each_none (frame_faults file head class allowed rows) 0 rows (λ i r is.
+    ap (λ m. frame_faults file head class allowed rows m r) (zero-add i) ∙ sound-no_faults (word_said (drop r.offset file)) class allowed (place head rows i) (end_before head rows i) i r (sound i r is))
 
 -- ---- however many frames are allowed
 
-sound_allowed : (file : List ℕ) (head : Option Head) (class : ClassFields) (allowed other : ℕ) (earlier rows : List Row) → length earlier + length rows ≤ other → AreSound file head class allowed earlier rows → AreSound file head class other earlier rows
-sound_allowed file head class allowed other earlier [] few sound = tt
-sound_allowed file head class allowed other earlier (r ∷ rows) few sound = (
-  record {
-    same = sound.0.same;
-    word = sound.0.word;
-    begins = sound.0.begins;
-    apart = sound.0.apart;
-    within = sound.0.within;
-    few = ne_eqb (length earlier) other (λ e. omega (arith, few, e));
-  },
-  sound_allowed file head class allowed other (r ∷ earlier) rows (omega (arith, few)) sound.1,
-)
+sound_allowed : (file : List ℕ) (head : Option Head) (class : ClassFields) (allowed other : ℕ) (rows : List Row) → length rows ≤ other → AreSound file head class allowed rows → AreSound file head class other rows
+sound_allowed file head class allowed other rows few sound = λ i r is.
+    let here = sound i r is in
+    record {
+      same = here.same;
+      word = here.word;
+      begins = here.begins;
+      apart = here.apart;
+      within = here.within;
+      few = ne_eqb i other (λ e. omega (arith, few, e, slice_get_within rows i r is));
+    }
 
 numbered_few : (head : Option Head) (frames : List PlacedFrame) → length (numbered head frames) ≤ length frames
 numbered_few None frames = omega arith
@@ -158,7 +175,7 @@ numbered_few (Some head) (p ∷ ps) = omega arith
 -- there are no more frames than bytes
 pub numbered-few : (file : List ℕ) (start : Start) → start_of file ≡ Ok start → length (rows_of file (frames_from file start)) ≤ length file
 numbered-few file start is =
-    let stream = stream_of file start in
+    let stream = stream_run file start in
     let first = start.first.offset in
     let frame = (start-first file start is).frame in
     let ends = run-ends Stream file first in
@@ -177,11 +194,18 @@ surveyed-allowed file allowed other s many e =
     let start = parts.0 in
     let read = parts.1 in
     let rows = rows_of file (frames_from file start) in
-    let sound = all_faults-none_sound file (head_of file start.first) (class_from start) allowed [] rows read.frames in
+    let sound = all_faults-none_sound file (head_of file start.first) (class_from start) allowed rows read.frames in
     surveyed-told file other start (record {
       start_is = read.start_is;
-      frames = sound-no_all_faults file (head_of file start.first) (class_from start) other [] rows
-          (sound_allowed file (head_of file start.first) (class_from start) allowed other [] rows (omega (arith, many, numbered-few file start read.start_is)) sound);
+      frames = sound-no_all_faults file (head_of file start.first) (class_from start) other rows
+          (sound_allowed file (head_of file start.first) (class_from start) allowed other rows (omega (arith, many, numbered-few file start read.start_is)) sound);
       end = read.end;
     })
     ∙ ap Ok parts.2
+
+-- a file without fault is well-formed, and holds the stream that its survey tells
+pub surveyed-stream : (file : List ℕ) (allowed : ℕ) (s : SurveyFields) → surveyed file allowed ≡ Ok s → HoldsStream file (stream_of_survey file s)
+unfolding stream_of
+surveyed-stream file allowed s e =
+    let freely : surveyed_freely file ≡ Ok s = surveyed-allowed file allowed (length file + 1) s (omega arith) e in
+    record { well_formed = (s, freely); stream_is = ap (stream_by file) freely }

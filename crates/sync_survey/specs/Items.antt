@@ -1,5 +1,5 @@
 -- What stands at an offset of a file: frames (ISO/IEC 11172-3 and 13818-3, 2.4.1), blocks of tags, single zero bytes.
-use Rattle.std.specs.Prelude.{◌≡◌, ◌≢◌, ℕ, ◌-◌, ◌==◌, ◌&&◌, nat_le, if◌then◌else◌, Bool, true, false, List, [], ◌∷◌, length, take, drop, Option, Some, None, Result, Ok, Err}
+use Rattle.std.specs.Prelude.{◌≡◌, ◌≢◌, ℕ, ◌-◌, ◌==◌, ◌&&◌, nat_le, if◌then◌else◌, Bool, List, [], ◌∷◌, length, take, drop, Option, Some, None, Result, Ok, Err}
 use Rattle.frame_header.specs.declared.version.Version.{Version}
 use Rattle.frame_header.specs.declared.version.Version.TheVariants.{One, Two}
 use Rattle.frame_header.specs.declared.header.NotHeader.{NotHeader}
@@ -62,12 +62,11 @@ size_of Nothing = 0
 abbrev pub fits : List ℕ → ℕ → Item → Bool
 fits file at item = nat_le (size_of item) (length file - at)
 
-abbrev pub same_version : Version → Version → Bool
-same_version One One = true
-same_version One Two = false
-same_version Two One = false
-same_version Two Two = true
+-- the number of a version: 1 for MPEG-1, 2 for MPEG-2
+abbrev pub version_number : Version → ℕ
+version_number One = 1
+version_number Two = 2
 
 -- version, sampling frequency and number of channels are the same
 unfoldable pub same_class : ClassFields → ClassFields → Bool
-same_class c d = same_version c.version d.version && (c.frequency_index == d.frequency_index) && (c.channels == d.channels)
+same_class c d = (version_number c.version == version_number d.version) && (c.frequency_index == d.frequency_index) && (c.channels == d.channels)

@@ -1,8 +1,10 @@
 -- What the contracts of this crate cite.
 pub mod Items
 pub mod Runs
+pub mod Looks
 pub mod Start
 pub mod Walk
 pub mod MainData
 pub mod Faults
+pub mod Kinds
 pub mod Survey

@@ -1,7 +1,8 @@
 -- Where the main data of the frames stand in the file (main_data_begin, ISO/IEC 11172-3 and 13818-3, 2.4.2.7). The areas of the head and
 -- of all frames, one behind the other, are the main data of the file; a frame's own begin so many bytes before its own area as its
 -- main_data_begin says, counted in areas alone.
-use Rattle.std.specs.Prelude.{ℕ, ◌+◌, ◌-◌, ◌*◌, ◌==◌, if◌then◌else◌, Bool, false, List, [], ◌∷◌, ◌++◌, take, drop, map, sum_by, flat_map, Option, Some, None}
+use Rattle.std.specs.Prelude.{ℕ, zero, suc, ◌+◌, ◌-◌, ◌*◌, ◌==◌, if◌then◌else◌, Bool, false, List, [], ◌∷◌, ◌++◌, take, drop, map, sum_by, flat_map, slice_get, Option, Some, None}
+use Rattle.std.specs.List.{enumerate_from}
 use Rattle.bit_fields.specs.Bits.{bits}
 use Rattle.frame_header.specs.Fields.{HeaderFields, SlotFields}
 use Rattle.frame_header.specs.Tables.{class_of, area_of, overhead_of}
@@ -15,9 +16,13 @@ use Rattle.sync_survey.specs.declared.rows.Row.{Row}
 
 -- ---- frames with their side information
 
+-- a frame with the side information that stands in these bytes, the first of which are the frame's
+abbrev pub row_in : ℕ → HeaderFields → List ℕ → Row
+row_in offset h bytes = record { offset = offset; header = h; side = side_in h bytes }
+
 -- a frame of the file with the side information that stands in it
 abbrev pub row_of : List ℕ → PlacedFrame → Row
-row_of file p = record { offset = p.offset; header = p.header; side = side_in p.header (drop p.offset file) }
+row_of file p = row_in p.offset p.header (drop p.offset file)
 
 abbrev pub rows_of : List ℕ → List PlacedFrame → List Row
 rows_of file ps = map (row_of file) ps
@@ -33,22 +38,30 @@ abbrev pub head_area : Option Head → ℕ
 head_area None = 0
 head_area (Some head) = own_area head.header
 
--- the place among the main data where the own area of a frame begins that has these frames before it
-unfoldable pub place_behind : Option Head → List Row → ℕ
-place_behind head earlier = head_area head + sum_by (λ (r : Row). own_area r.header) earlier
+-- the place among the main data where the own area of frame i begins: behind the head's and those of the frames before
+unfoldable pub place : Option Head → List Row → ℕ → ℕ
+place head rows i = head_area head + sum_by (λ (r : Row). own_area r.header) (take i rows)
 
--- the place where its main data begin
-abbrev pub start_of_data : Option Head → List Row → Row → ℕ
-start_of_data head earlier r = place_behind head earlier - r.side.main_data_begin
+-- the place where the main data of a frame begin, and where they end, by the place of its own area
+abbrev pub start_of_data : ℕ → Row → ℕ
+start_of_data place r = place - r.side.main_data_begin
+
+abbrev pub end_of_data : ℕ → Row → ℕ
+end_of_data place r = start_of_data place r + payload_bytes r.side
 
 -- it has no main data
 abbrev pub is_silent : Row → Bool
 is_silent r = payload_bits r.side == 0
 
--- the place where the main data end that stand before a frame, the frame right before it first: those of the last frame that isn't silent
-unfoldable pub end_behind : Option Head → List Row → ℕ
-end_behind head [] = 0
-end_behind head (r ∷ earlier) = if is_silent r then end_behind head earlier else start_of_data head earlier r + payload_bytes r.side
+-- where the main data end behind a frame, by the place of its own area and where those before it end: a silent frame moves no end
+abbrev pub end_behind : ℕ → ℕ → Option Row → ℕ
+end_behind place ended None = ended
+end_behind place ended (Some r) = if is_silent r then ended else end_of_data place r
+
+-- the place where the main data end that stand before frame i: those of the last frame before it that isn't silent
+unfoldable pub end_before : Option Head → List Row → ℕ → ℕ
+end_before head rows zero = 0
+end_before head rows (suc i) = end_behind (place head rows i) (end_before head rows i) (slice_get rows i)
 
 -- ---- the main data themselves
 
@@ -89,14 +102,14 @@ no_slot = record { rate_index = 0; padding = false }
 abbrev pub part_lengths : HeaderFields → Side → List ℕ
 part_lengths h s = map (λ (g : Granule). g.part2_3_length) (granules_in (class_of h) s)
 
-abbrev pub stream_frame : List ℕ → Option Head → List Row → Row → StreamFrame
-stream_frame main head earlier r = record {
+-- frame i
+abbrev pub stream_frame : List ℕ → Option Head → List Row → ℕ → Row → StreamFrame
+stream_frame main head rows i r = record {
   header = record r.header { slot = no_slot };
   side = record r.side { main_data_begin = 0 };
-  payload = parts_of (part_lengths r.header r.side) (payload_at main (start_of_data head earlier r) r.side);
+  payload = parts_of (part_lengths r.header r.side) (payload_at main (start_of_data (place head rows i) r) r.side);
 }
 
--- these frames, the frames before them being given, the last first
-unfoldable pub stream_behind : List ℕ → Option Head → List Row → List Row → List StreamFrame
-stream_behind main head earlier [] = []
-stream_behind main head earlier (r ∷ rows) = stream_frame main head earlier r ∷ stream_behind main head (r ∷ earlier) rows
+-- all frames
+unfoldable pub stream_frames : List ℕ → Option Head → List Row → List StreamFrame
+stream_frames main head rows = map (λ (p : ℕ × Row). stream_frame main head rows p.0 p.1) (enumerate_from 0 rows)

@@ -1,6 +1,5 @@
 -- Items that stand end to end.
-use Rattle.std.specs.Prelude.{◌≡◌, ℕ, zero, suc, ◌+◌, ◌&&◌, ◌≤◌, if◌then◌else◌, Bool, true, false, List, [], ◌∷◌, length, take, drop, flat_map, filter_map, Option, Some, None}
-use Rattle.frame_header.specs.Tables.{class_of, overhead_of}
+use Rattle.std.specs.Prelude.{◌≡◌, ℕ, zero, suc, ◌+◌, ◌&&◌, if◌then◌else◌, Bool, true, false, List, [], ◌∷◌, length, take, drop, flat_map, filter_map, Option, Some, None}
 use Rattle.sync_survey.specs.declared.items.Item.{Item}
 use Rattle.sync_survey.specs.declared.items.Item.TheVariants.{Frame, Free, Block, Zero, End, Nothing}
 use Rattle.sync_survey.specs.declared.places.PlacedFrame.{PlacedFrame}
@@ -97,8 +96,3 @@ frames_of ps = filter_map (λ p. frame_as p.offset p.item) ps
 -- the blocks among them
 abbrev pub blocks_of : List Placed → List Piece
 blocks_of ps = filter_map (λ p. block_as p.offset p.item) ps
-
--- each of these frames is in the file, up to its area at least
-abbrev pub AreInFile : List ℕ → List PlacedFrame → Type 0
-AreInFile file [] = Unit {0}
-AreInFile file (p ∷ ps) = (p.offset + overhead_of (class_of p.header) p.header.protected ≤ length file) × AreInFile file ps

@@ -5,8 +5,8 @@ use Rattle.frame_header.specs.Fields.{HeaderFields, ClassFields}
 use Rattle.frame_header.specs.Tables.{class_of, length_of}
 use Rattle.sync_survey.specs.declared.items.Item.{Item}
 use Rattle.sync_survey.specs.declared.items.Item.TheVariants.{Frame, Free, Block, Zero, End, Nothing}
-use Rattle.sync_survey.specs.declared.places.WalkFault.{WalkFault}
-use Rattle.sync_survey.specs.declared.places.WalkFault.TheVariants.{NoFrame, Truncated, FreeFormat}
+use Rattle.sync_survey.specs.declared.survey_fault.SurveyFault.{SurveyFault}
+use Rattle.sync_survey.specs.declared.survey_fault.SurveyFault.TheVariants.{NoFrame, Truncated, FreeFormat}
 use Rattle.sync_survey.specs.declared.places.PlacedFrame.{PlacedFrame}
 use Rattle.sync_survey.specs.declared.places.Start.{Start}
 use Rattle.sync_survey.specs.declared.runs.Part.TheVariants.{Front}
@@ -55,12 +55,12 @@ unfoldable pub first_anchored : ℕ → List ℕ → ℕ → Option PlacedFrame
 first_anchored count file from = slice_get (filter_map (anchored_frame file) (range_with_len from count)) 0
 
 -- the bytes from here on are junk up to the first frame, where there is one
-abbrev pub start_behind : ℕ → Option PlacedFrame → Result Start WalkFault
+abbrev pub start_behind : ℕ → Option PlacedFrame → Result Start SurveyFault
 start_behind front_end (Some frame) = Ok (record { front_end = front_end; first = frame })
 start_behind front_end None = Err (NoFrame front_end)
 
 -- the start by what stands where the blocks and zero bytes at the front end; a header there needs no anchor
-abbrev pub start_at : List ℕ → ℕ → Item → Result Start WalkFault
+abbrev pub start_at : List ℕ → ℕ → Item → Result Start SurveyFault
 start_at file at (Frame h) = if fits file at (Frame h) then Ok (record { front_end = at; first = record { offset = at; header = h } }) else Err (Truncated at)
 start_at file at Free = Err (FreeFormat at)
 start_at file at (Block b) = Err (Truncated at)
@@ -73,7 +73,7 @@ unfoldable pub front_end_of : List ℕ → ℕ
 front_end_of file = (run Front file 0).stop
 
 -- the start of the stream, or why there is none
-unfoldable pub start_of : List ℕ → Result Start WalkFault
+unfoldable pub start_of : List ℕ → Result Start SurveyFault
 start_of file = start_at file (front_end_of file) (item_at file (front_end_of file))
 
 -- ---- what a start says, without the list of offsets

@@ -1,26 +1,22 @@
 -- The walk over a whole file: the frames and blocks from the start on, and where it stops.
-use Rattle.std.specs.Prelude.{◌≡◌, ℕ, ◌+◌, List, [], ◌∷◌, ◌++◌, length, take, drop, Option, Some, None, option_map, Result, Ok, Err, IsOk}
+use Rattle.std.specs.Prelude.{ℕ, ◌+◌, List, [], ◌∷◌, ◌++◌, length, take, drop, Option, Some, None, option_map}
 use Rattle.frame_header.specs.Tables.{class_of, length_of}
 use Rattle.info_header.specs.HeadText.{head_text_of}
 use Rattle.sync_survey.specs.declared.items.Item.{Item}
 use Rattle.sync_survey.specs.declared.items.Item.TheVariants.{Frame, Free, Block, Zero, End, Nothing}
-use Rattle.sync_survey.specs.declared.places.WalkFault.{WalkFault}
-use Rattle.sync_survey.specs.declared.places.WalkFault.TheVariants.{NoFrame, LostSync, Truncated, FreeFormat}
+use Rattle.sync_survey.specs.declared.survey_fault.SurveyFault.{SurveyFault}
+use Rattle.sync_survey.specs.declared.survey_fault.SurveyFault.TheVariants.{NoFrame, LostSync, Truncated, FreeFormat}
 use Rattle.sync_survey.specs.declared.places.PlacedFrame.{PlacedFrame}
 use Rattle.sync_survey.specs.declared.places.Piece.{Piece}
 use Rattle.sync_survey.specs.declared.places.Head.{Head}
 use Rattle.sync_survey.specs.declared.places.Start.{Start}
-use Rattle.sync_survey.specs.declared.walks.Walk.{Walk}
-use Rattle.sync_survey.specs.declared.walks.WalkRefusal.{WalkRefusal}
-use Rattle.sync_survey.specs.declared.walks.WalkRefusal.TheVariants.{Fault, Memory}
 use Rattle.sync_survey.specs.declared.runs.Part.TheVariants.{Front, Stream}
 use Rattle.sync_survey.specs.Items.{item_at}
-use Rattle.sync_survey.specs.Runs.{Run, run, bytes_of, frames_of, blocks_of}
-use Rattle.sync_survey.specs.Start.{start_of}
+use Rattle.sync_survey.specs.Runs.{Run, run, frames_of, blocks_of}
 
 -- the items from the first frame on
-abbrev pub stream_of : List ℕ → Start → Run
-stream_of file start = run Stream file start.first.offset
+abbrev pub stream_run : List ℕ → Start → Run
+stream_run file start = run Stream file start.first.offset
 
 -- ---- the head
 
@@ -44,12 +40,12 @@ numbered_at first (Some head) = first.offset + length_of (class_of first.header)
 
 -- the blocks at the front of the file, and those from the first frame on
 abbrev pub all_blocks : List ℕ → Start → List Piece
-all_blocks file start = blocks_of (run Front file 0).items ++ blocks_of (stream_of file start).items
+all_blocks file start = blocks_of (run Front file 0).items ++ blocks_of (stream_run file start).items
 
 -- ---- where the walk ends
 
 -- why the walk stops at an offset with this item, which is not whole where it is a frame or a block; at the end of the file all is well
-abbrev pub fault_at : ℕ → Item → Option WalkFault
+abbrev pub fault_at : ℕ → Item → Option SurveyFault
 fault_at at (Frame h) = Some (Truncated at)
 fault_at at Free = Some (FreeFormat at)
 fault_at at (Block b) = Some (Truncated at)
@@ -58,7 +54,7 @@ fault_at at End = None
 fault_at at Nothing = Some (LostSync at)
 
 -- a walk that reaches the end of the file has to have a frame
-abbrev pub end_fault : List ℕ → List PlacedFrame → Option WalkFault → Option WalkFault
+abbrev pub end_fault : List ℕ → List PlacedFrame → Option SurveyFault → Option SurveyFault
 end_fault file frames (Some fault) = Some fault
 end_fault file (p ∷ ps) None = None
 end_fault file [] None = Some (NoFrame (length file))
@@ -72,11 +68,11 @@ pub record WalkFields : Type 0 where
   pub head : Option Head
   pub frames : List PlacedFrame
   pub blocks : List Piece
-  pub fault : Option WalkFault
+  pub fault : Option SurveyFault
 
 unfoldable pub walk_from : List ℕ → Start → WalkFields
 walk_from file start =
-    let stream = stream_of file start in
+    let stream = stream_run file start in
     let head = head_of file start.first in
     let frames = numbered head (frames_of stream.items) in record {
       start = start;
@@ -85,45 +81,3 @@ walk_from file start =
       blocks = all_blocks file start;
       fault = end_fault file frames (fault_at stream.stop (item_at file stream.stop));
     }
-
--- the walk, where nothing stops it before the end of the file
-abbrev pub without_fault : WalkFields → Option WalkFault → Result WalkFields WalkFault
-without_fault walk (Some fault) = Err fault
-without_fault walk None = Ok walk
-
-abbrev pub walk_by : List ℕ → Result Start WalkFault → Result WalkFields WalkFault
-walk_by file (Ok start) = without_fault (walk_from file start) (walk_from file start).fault
-walk_by file (Err fault) = Err fault
-
--- the walk over a whole file, or its fault
-unfoldable pub walk_of : List ℕ → Result WalkFields WalkFault
-walk_of file = walk_by file (start_of file)
-
--- ---- what a walk says of the file's bytes
-
--- where a fault stands
-abbrev pub offset_of : WalkFault → ℕ
-offset_of (NoFrame at) = at
-offset_of (LostSync at) = at
-offset_of (Truncated at) = at
-offset_of (FreeFormat at) = at
-
--- the items from the first frame on, one behind the other, are the file's bytes from there to this offset
-abbrev pub ReachesTo : List ℕ → Start → ℕ → Type 0
-ReachesTo file start to = bytes_of file (stream_of file start).items ++ drop to file ≡ drop start.first.offset file
-
--- ---- the walk of the code
-
--- a walk of the code, as the definition has it
-abbrev pub shown : Walk → WalkFields
-shown w = record { start = w.start; head = w.head; frames = w.frames.items; blocks = w.blocks.items; fault = None }
-
--- why there is no walk: the fault of the file, or memory, which is asked for only where a stream begins
-abbrev pub IsRefusal : List ℕ → WalkRefusal → Type 0
-IsRefusal file (Fault fault) = walk_of file ≡ Err fault
-IsRefusal file Memory = IsOk (start_of file)
-
--- where there is a stream, it reaches to its fault
-abbrev pub ReachesFault : List ℕ → WalkRefusal → Type 0
-ReachesFault file (Fault fault) = (start : Start) → start_of file ≡ Ok start → ReachesTo file start (offset_of fault)
-ReachesFault file Memory = Unit {0}

@@ -1,7 +1,10 @@
-//! What stands at an offset of a file.
-ghost use Rattle.std.specs.Prelude.{◌≡◌, ◌+◌, ◌≤◌, ◌<◌, drop, length, IsTrue};
-ghost use Rattle.sync_survey.specs.Items.{header_front as header_front_lem, item_front as item_front_lem, item_at as item_at_lem, Stands, size_of, fits as fits_lem, same_class};
+//! What stands at the front of bytes.
+ghost use Rattle.std.specs.Prelude.{◌≡◌, ◌≤◌};
+ghost use Rattle.frame_header.specs.Fields.{HeaderFields};
+ghost use Rattle.sync_survey.specs.Items.{header_front as header_front_lem, item_front as item_front_lem, size_of, same_class};
+ghost use Rattle.sync_survey.specs.Walk.{fault_at as fault_at_lem};
 
+use crate::survey_fault::SurveyFault;
 use frame_header::{Class, Header, NotHeader};
 use tag_blocks::{Block, block_at};
 
@@ -35,7 +38,7 @@ fn header_front(bytes: &[u8]) -> Result<Header, NotHeader>
 
 /// The item at the front of the bytes.
 #[tactic(auto, unfolding(crate::specs::Items::item_front))]
-fn item_front(bytes: &[u8]) -> Item
+pub(crate) fn item_front(bytes: &[u8]) -> Item
     ensures { result ≡ item_front_lem bytes.now }
 {
     match header_front(bytes) {
@@ -53,27 +56,11 @@ fn item_front(bytes: &[u8]) -> Item
     }
 }
 
-/// The bytes from an offset on; none past the end.
-fn rest_of(file: &[u8], at: usize) -> &[u8]
-    ensures { result.now ≡ drop at file.now }
-{
-    file.get(at..).unwrap_or(&[])
-}
-
-/// The item at an offset of a file, in bytes. At the end of the file and past it that is `End`.
-#[tactic(auto, unfolding(crate::specs::Items::item_at))]
-pub fn item_at(file: &[u8], at: usize) -> Item
-    ensures item { result ≡ item_at_lem file.now at }
-    ensures stands { Stands (drop at file.now) result }
-    ensures only { (other : Item) → Stands (drop at file.now) other → other ≡ result }
-{
-    item_front(rest_of(file, at))
-}
-
 impl Item {
     /// The length in bytes of a frame, a block or a zero byte; 0 for all else.
-    pub fn size(&self) -> u64
-        ensures { result ≡ size_of self.now }
+    pub(crate) fn size(&self) -> u64
+        ensures size { result ≡ size_of self.now }
+        ensures most { (h : HeaderFields) → self.now ≡ Item.Frame h → result ≤ 1441 }
     {
         match self {
             Item::Frame(header) => u64::from(header.length()),
@@ -82,13 +69,18 @@ impl Item {
             Item::Free | Item::End | Item::Nothing => 0,
         }
     }
-}
 
-/// Whether the item at this offset doesn't pass the end of the file.
-pub(crate) fn fits(file: &[u8], at: usize, item: &Item) -> bool
-    ensures fits { result ≡ fits_lem file.now at item.now }
-{
-    item.size() <= file.len().saturating_sub(at) as u64
+    /// Why a walk stops at this offset, where the item stands there and isn't whole.
+    pub(crate) fn fault(&self, at: u64) -> Option<SurveyFault>
+        ensures { result ≡ fault_at_lem at self.now }
+    {
+        match self {
+            Item::Frame(_) | Item::Block(_) => Some(SurveyFault::Truncated(at)),
+            Item::Free => Some(SurveyFault::FreeFormat(at)),
+            Item::Zero | Item::Nothing => Some(SurveyFault::LostSync(at)),
+            Item::End => None,
+        }
+    }
 }
 
 /// Whether version, sampling frequency and number of channels are the same.

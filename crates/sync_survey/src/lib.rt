@@ -2,24 +2,22 @@
 #![tactic(auto)]
 
 mod folders;
+mod found;
+mod fronts;
+mod heads;
 mod items;
+mod looks;
 mod places;
 mod rows;
 mod runs;
 mod starts;
 mod survey_fault;
 mod surveys;
-mod walks;
 
-pub use folders::{load, survey};
-pub use items::{Item, item_at};
-pub use places::{Head, Piece, PlacedFrame, Start, WalkFault};
+pub use folders::survey;
+pub use items::Item;
+pub use places::{Head, Piece, PlacedFrame, Start};
 pub use rows::Row;
-pub use runs::{Part, item_of, run_stop};
-pub use starts::find_start;
+pub use runs::Part;
 pub use survey_fault::SurveyFault;
-pub use surveys::{Survey, survey_bytes};
-pub use walks::{Walk, WalkRefusal, walk_file};
-
-#[cfg(test)]
-mod tests;
+pub use surveys::Survey;

@@ -1,4 +1,4 @@
-//! Where things stand in a file, and what is at fault there. Offsets and lengths are in bytes.
+//! Where things stand in a file. Offsets and lengths are in bytes.
 
 use frame_header::Header;
 use tag_blocks::Block;
@@ -34,18 +34,4 @@ pub struct Start {
     pub front_end: u64,
     /// The first frame, which may be a head.
     pub first: PlacedFrame,
-}
-
-/// What is at fault in a file, and at which offset.
-#[derive(Clone, Copy, Debug, PartialEq, Eq)]
-pub enum WalkFault {
-    /// No frame begins where the blocks and zero bytes at the front of the file end, nor behind junk; or,
-    /// with the file's length, the only frame is a head.
-    NoFrame(u64),
-    /// Neither a frame nor a block nor a zero byte stands here.
-    LostSync(u64),
-    /// The frame or block that begins here passes the end of the file.
-    Truncated(u64),
-    /// A header of free format stands here.
-    FreeFormat(u64),
 }

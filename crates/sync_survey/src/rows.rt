@@ -1,14 +1,13 @@
 //! The frames of a stream with their side information, and the faults of their main data.
-ghost use Rattle.std.specs.Prelude.{◌≡◌, ◌+◌, ◌-◌, ◌^◌, ◌==◌, ◌≤◌, length, drop, if◌then◌else◌};
+ghost use Rattle.std.specs.Prelude.{◌≡◌, ◌+◌, ◌^◌, ◌==◌, ◌≤◌, length};
 ghost use Rattle.frame_header.specs.Tables.{class_of, overhead_of};
-ghost use Rattle.side_info.specs.Side.{SideFits, payload_bytes};
+ghost use Rattle.side_info.specs.Side.{SideFits};
 ghost use Rattle.side_info.specs.CheckWord.{check_word_of};
 ghost use Rattle.side_info.specs.Frame.{word_said as word_said_lem};
-ghost use Rattle.sync_survey.specs.MainData.{row_of, own_area, is_silent};
+ghost use Rattle.sync_survey.specs.MainData.{row_in as row_in_lem, own_area, end_behind};
 ghost use Rattle.sync_survey.specs.Faults.{where_true, has_wrong_word, data_faults, faults_at, first_of};
 
 use crate::items::is_same_class;
-use crate::places::PlacedFrame;
 use crate::survey_fault::SurveyFault;
 use frame_header::{Class, Header};
 use side_info::{Side, check_word, side_of_frame, word_said};
@@ -21,24 +20,16 @@ pub struct Row {
     pub side: Side,
 }
 
-/// The bytes of the file from a frame on.
-fn bytes_from(file: &[u8], offset: u64) -> &[u8]
-    requires { offset ≤ length file.now }
-    ensures { result.now ≡ drop offset file.now }
-{
-    &file[offset as usize..]
-}
-
-/// The frame with its side information.
-pub(crate) fn row_at(file: &[u8], frame: &PlacedFrame) -> Row
-    requires { frame.now.offset + overhead_of (class_of frame.now.header) frame.now.header.protected ≤ length file.now }
-    ensures row { result ≡ row_of file.now frame.now }
-    ensures fits { SideFits (class_of result.header) result.side }
+/// The frame at the offset with its side information. The first of the bytes are the frame's.
+pub(crate) fn row_in(offset: u64, header: Header, bytes: &[u8]) -> Row
+    requires { overhead_of (class_of header) header.protected ≤ length bytes.now }
+    ensures row { result ≡ row_in_lem offset header bytes.now }
+    ensures fits { SideFits (class_of header) result.side }
 {
     Row {
-        offset: frame.offset,
-        header: frame.header,
-        side: side_of_frame(&frame.header, bytes_from(file, frame.offset)),
+        offset,
+        header,
+        side: side_of_frame(&header, bytes),
     }
 }
 
@@ -52,15 +43,15 @@ pub(crate) struct Before {
 }
 
 /// The fault of the frame's check word, where it has one and it isn't the right one.
-fn word_fault(file: &[u8], row: &Row) -> Option<SurveyFault>
-    requires room { row.now.offset + overhead_of (class_of row.now.header) row.now.header.protected ≤ length file.now }
+fn word_fault(row: &Row, bytes: &[u8]) -> Option<SurveyFault>
+    requires room { overhead_of (class_of row.now.header) row.now.header.protected ≤ length bytes.now }
     requires fits { SideFits (class_of row.now.header) row.now.side }
-    ensures { result ≡ first_of (where_true (has_wrong_word file.now row.now) (SurveyFault.CheckWord row.now.offset (word_said_lem (drop row.now.offset file.now)) (check_word_of row.now.header row.now.side))) }
+    ensures { result ≡ first_of (where_true (has_wrong_word (word_said_lem bytes.now) row.now) (SurveyFault.CheckWord row.now.offset (word_said_lem bytes.now) (check_word_of row.now.header row.now.side))) }
 {
     if !row.header.protected {
         return None;
     }
-    let said = word_said(bytes_from(file, row.offset));
+    let said = word_said(bytes);
     let right = check_word(&row.header, &row.side);
     if said == right {
         return None;
@@ -105,8 +96,7 @@ impl Before {
     pub(crate) fn behind(&self, row: &Row) -> Before
         requires { self.now.place ≤ 2 ^ 62 }
         ensures place { result.place ≡ self.now.place + own_area row.now.header }
-        ensures most { result.place ≤ self.now.place + 1441 }
-        ensures ended { result.ended ≡ (if is_silent row.now then self.now.ended else self.now.place - row.now.side.main_data_begin + payload_bytes row.now.side) }
+        ensures ended { result.ended ≡ end_behind self.now.place self.now.ended (Some row.now) }
     {
         let place = self.place + u64::from(row.header.area());
         if row.side.bits() == 0 {
@@ -124,25 +114,25 @@ impl Before {
         }
     }
 
-    /// The first fault of a frame that so many frames stand before.
+    /// The first fault of a frame that so many frames stand before. The first of the bytes are its own.
     #[tactic(auto, unfolding(crate::specs::Faults::faults_at))]
     pub(crate) fn fault(
         &self,
-        file: &[u8],
         row: &Row,
+        bytes: &[u8],
         class: Class,
         count: u64,
         allowed: u64,
     ) -> Option<SurveyFault>
-        requires room { row.now.offset + overhead_of (class_of row.now.header) row.now.header.protected ≤ length file.now }
+        requires room { overhead_of (class_of row.now.header) row.now.header.protected ≤ length bytes.now }
         requires fits { SideFits (class_of row.now.header) row.now.side }
         requires bound { self.now.place ≤ 2 ^ 62 }
-        ensures { result ≡ first_of (faults_at file.now class allowed self.now.place self.now.ended count row.now) }
+        ensures { result ≡ first_of (faults_at (word_said_lem bytes.now) class allowed self.now.place self.now.ended count row.now) }
     {
         if !is_same_class(row.header.class(), class) {
             return Some(SurveyFault::Mixed(row.offset));
         }
-        word_fault(file, row)
+        word_fault(row, bytes)
             .or(self.data_fault(row))
             .or(count_fault(row, count, allowed))
     }

@@ -1,9 +1,12 @@
 //! Items that stand end to end.
-ghost use Rattle.std.specs.Prelude.{◌≡◌, ℕ, List, ◌+◌, ◌++◌, ◌≤◌, ◌<◌, drop, length, IfSome};
-ghost use Rattle.sync_survey.specs.Items.{size_of};
-ghost use Rattle.sync_survey.specs.Runs.{belongs as belongs_lem, item_of as item_of_lem, Placed, run, AreEndToEnd, bytes_of};
+ghost use Rattle.std.specs.Prelude.{◌≡◌, ℕ, List, ◌≤◌, ◌<◌, ◌==◌, length, IfSome};
+ghost use Rattle.std.specs.List.{prefix_len};
+ghost use Rattle.frame_header.specs.Fields.{HeaderFields};
+ghost use Rattle.sync_survey.specs.Items.{size_of, item_front as item_front_lem};
+ghost use Rattle.sync_survey.specs.Runs.{belongs as belongs_lem};
+ghost use Rattle.sync_survey.specs.Looks.{Shows, IsStep};
 
-use crate::items::{Item, fits, item_at};
+use crate::items::{Item, item_front};
 
 /// A part of a file, by the items that it is made of.
 #[derive(Clone, Copy, Debug, PartialEq, Eq)]
@@ -25,34 +28,51 @@ fn belongs(part: Part, item: &Item) -> bool
     }
 }
 
-/// The item of the part at an offset in bytes, where one stands there and is whole.
-#[tactic(auto, unfolding(crate::specs::Runs::item_of))]
-pub fn item_of(part: Part, file: &[u8], at: usize) -> Option<Item>
-    ensures item { result ≡ item_of_lem part file.now at }
-    ensures within { IfSome result (λ item. at + size_of item ≤ length file.now) }
-    ensures some { IfSome result (λ item. 0 < size_of item) }
+/// A whole item, and how many bytes are passed with it: its own, and behind a zero byte all zero bytes that
+/// were seen.
+#[derive(Clone, Copy)]
+pub(crate) struct Step {
+    pub(crate) item: Item,
+    pub(crate) size: u64,
+}
+
+/// How many zero bytes stand at the front.
+fn zeros(bytes: &[u8]) -> usize
+    ensures count { result ≡ prefix_len (λ b. b == 0) bytes.now }
+    ensures within { result ≤ length bytes.now }
 {
-    let item = item_at(file, at);
-    if belongs(part, &item) && fits(file, at, &item) {
-        Some(item)
-    } else {
-        None
+    bytes.iter().take_while(|byte| **byte == 0).count()
+}
+
+/// How many bytes are passed with the item at the front of the bytes.
+fn passed(item: &Item, front: &[u8]) -> u64
+    ensures zeros { item.now ≡ Item.Zero → result ≡ prefix_len (λ b. b == 0) front.now }
+    ensures size { (item.now ≡ Item.Zero → ⊥) → result ≡ size_of item.now }
+{
+    match item {
+        Item::Zero => zeros(front) as u64,
+        _ => item.size(),
     }
 }
 
-/// The offset in bytes where the items of the part that stand end to end from an offset on stop.
-pub fn run_stop(part: Part, file: &[u8], from: usize) -> usize
-    ensures stop { result ≡ (run part file.now from).stop }
-    ensures items { AreEndToEnd part file.now from (run part file.now from).items result }
-    ensures last { item_of_lem part file.now result ≡ None }
-    ensures bytes { bytes_of file.now (run part file.now from).items ++ drop result file.now ≡ drop from file.now }
-    // No other items of the part stand so and go as far.
-    ensures only { (items : List Placed) (stop : ℕ) → AreEndToEnd part file.now from items stop → item_of_lem part file.now stop ≡ None → stop ≡ result }
-    ensures within { from ≤ length file.now → result ≤ length file.now }
+/// The item of the part at the front of the bytes that a look has shown, where it is whole: so many bytes
+/// are left of the file there.
+pub(crate) fn step_at(part: Part, front: &[u8], left: u64) -> Option<Step>
+    requires { length front.now ≤ left }
+    ensures step { (file : List ℕ) (at : ℕ) → Shows file at front.now left → IsStep part file at result }
+    ensures item { IfSome result (λ s. s.item ≡ item_front_lem front.now) }
+    ensures least { IfSome result (λ s. size_of s.item ≤ s.size) }
+    ensures most { IfSome result (λ s. (h : HeaderFields) → s.item ≡ Item.Frame h → size_of s.item ≤ 1441) }
+    ensures some { IfSome result (λ s. 0 < s.size) }
+    ensures within { IfSome result (λ s. s.size ≤ left) }
 {
-    let mut at = from;
-    while let Some(item) = item_of(part, file, at) {
-        at += item.size() as usize;
+    let item = item_front(front);
+    if !belongs(part, &item) {
+        return None;
     }
-    at
+    if item.size() > left {
+        return None;
+    }
+    let size = passed(&item, front);
+    Some(Step { item, size })
 }

@@ -1,15 +1,23 @@
 //! Where the stream of frames begins.
-ghost use Rattle.std.specs.Prelude.{◌≡◌, ◌+◌, ◌≤◌, ◌<◌, length, IfOk};
-ghost use Rattle.sync_survey.specs.Items.{item_at as item_at_lem, size_of};
-ghost use Rattle.sync_survey.specs.Start.{is_anchor as is_anchor_lem, anchored_frame as anchored_frame_lem, first_anchored as first_anchored_lem, longest_junk, start_of, start_behind as start_behind_lem, IsFirstAnchored, IsLeastStart};
+ghost use Rattle.std.specs.Prelude.{◌≡◌, ℕ, List, ◌+◌, ◌-◌, ◌≤◌, length, drop, Ok, IfOk, IfErr, IfSome, OnOk, MatchOption};
+ghost use Rattle.outside.specs.Files.{Holds};
+ghost use Rattle.outside.specs.Counts.{OnlyReads};
+ghost use Rattle.outside.specs.Feed.{IsFedFrom};
+ghost use Rattle.sync_survey.specs.Items.{size_of, item_front as item_front_lem};
+ghost use Rattle.sync_survey.specs.Start.{is_anchor as is_anchor_lem, anchored_frame as anchored_frame_lem, first_anchored as first_anchored_lem, longest_junk, start_behind as start_behind_lem, start_at, front_end_of, start_of};
+ghost use Rattle.sync_survey.specs.Looks.{Shows};
+ghost use Rattle.sync_survey.specs.Kinds.{RefusesRightly};
+ghost use Rattle.sync_survey.specs.Survey.{HasLength, IsRefusal};
 
-use crate::items::{Item, fits, is_same_class, item_at};
-use crate::places::{PlacedFrame, Start, WalkFault};
-use crate::runs::{Part, run_stop};
+use crate::items::{Item, is_same_class, item_front};
+use crate::looks::look;
+use crate::places::{PlacedFrame, Start};
+use crate::survey_fault::SurveyFault;
 use frame_header::Class;
+use outside::{Feed, Folder};
 
 /// So many bytes of junk may stand before the first frame.
-const LONGEST_JUNK: usize = 65_536;
+const LONGEST_JUNK: u64 = 65_536;
 
 /// Whether the item may stand at the end of an anchored frame of the class.
 fn is_anchor(class: Class, item: &Item) -> bool
@@ -22,82 +30,116 @@ fn is_anchor(class: Class, item: &Item) -> bool
     }
 }
 
-/// The anchored frame at the offset: it is whole, and at its end stands a header of its class, the
-/// beginning of a block, or the end of the file.
-#[tactic(auto, unfolding(crate::specs::Start::anchored_frame))]
-fn anchored_frame(file: &[u8], at: usize) -> Option<PlacedFrame>
-    ensures { result ≡ anchored_frame_lem file.now at }
+/// The bytes from a place on; none past their end.
+fn bytes_behind(bytes: &[u8], place: usize) -> &[u8]
+    ensures { result.now ≡ drop place bytes.now }
 {
-    let item = item_at(file, at);
-    let Item::Frame(header) = item else {
+    bytes.get(place..).unwrap_or(&[])
+}
+
+/// The anchored frame at the offset where a look has shown these bytes, and so many are left: it is whole,
+/// and at its end stands a header of its class, the beginning of a block, or the end of the file.
+#[tactic(auto, unfolding(crate::specs::Start::anchored_frame))]
+pub(crate) fn anchored_frame(front: &[u8], offset: u64, left: u64) -> Option<PlacedFrame>
+    ensures frame { (file : List ℕ) → Shows file offset front.now left → result ≡ anchored_frame_lem file offset }
+    ensures offset { IfSome result (λ p. p.offset ≡ offset) }
+    ensures header { IfSome result (λ p. item_front_lem front.now ≡ Item.Frame p.header) }
+    ensures within { IfSome result (λ p. size_of (Item.Frame p.header) ≤ left) }
+{
+    let Item::Frame(header) = item_front(front) else {
         return None;
     };
-    if !fits(file, at, &item) {
+    let length = header.length();
+    if u64::from(length) > left {
         return None;
     }
-    let end = at + header.length() as usize;
-    if !is_anchor(header.class(), &item_at(file, end)) {
+    let behind = item_front(bytes_behind(front, length as usize));
+    if !is_anchor(header.class(), &behind) {
         return None;
     }
-    Some(PlacedFrame {
-        offset: at as u64,
-        header,
-    })
+    Some(PlacedFrame { offset, header })
 }
 
-/// The anchored frame at the first of so many offsets where one stands.
-fn first_anchored(count: usize, file: &[u8], from: usize) -> Option<PlacedFrame>
-    requires { from + count ≤ usize.MAX }
-    ensures first { result ≡ first_anchored_lem count file.now from }
-    ensures least { IsFirstAnchored file.now from (from + count) result }
+/// The start that the item at an offset makes, where so many bytes are left; none where junk begins there.
+fn start_here(item: &Item, offset: u64, left: u64) -> Option<Result<Start, SurveyFault>>
+    ensures start { (file : List ℕ) → left ≡ length file - offset → MatchOption result (start_at file offset item.now ≡ start_behind_lem offset (first_anchored_lem longest_junk file (offset + 1))) (λ r. start_at file offset item.now ≡ r) }
+    ensures refused { IfSome result (λ r. IfErr r RefusesRightly) }
+    ensures first { IfSome result (λ r. IfOk r (λ s. (s.front_end ≡ offset) × (s.first.offset ≡ offset) × (item.now ≡ Item.Frame s.first.header) × (size_of item.now ≤ left))) }
 {
-    for at in from..from + count {
-        if let Some(frame) = anchored_frame(file, at) {
-            return Some(frame);
-        }
-    }
-    None
-}
-
-/// The start behind junk that begins at this offset.
-fn start_behind(file: &[u8], front_end: usize) -> Result<Start, WalkFault>
-    requires { front_end ≤ length file.now }
-    ensures { result ≡ start_behind_lem front_end (first_anchored_lem longest_junk file.now (front_end + 1)) }
-{
-    let front_end_offset = front_end as u64;
-    match first_anchored(LONGEST_JUNK, file, front_end + 1) {
-        Some(first) => Ok(Start {
-            front_end: front_end_offset,
-            first,
-        }),
-        None => Err(WalkFault::NoFrame(front_end_offset)),
-    }
-}
-
-/// Where the stream of frames begins. Blocks and zero bytes are passed from offset 0. A frame that stands
-/// there is the first one. Else the bytes from there are junk, at most 65,536 of them, and the first frame
-/// is at the least offset from the next byte on where an anchored frame stands.
-///
-/// Refuses with `Truncated` where a block on the way, or the frame that stands there, passes the end of
-/// the file; with `FreeFormat` where a header of free format stands there; and with `NoFrame` where no
-/// anchored frame follows.
-#[tactic(auto, unfolding(crate::specs::Start::start_of, crate::specs::Start::front_end_of))]
-pub fn find_start(file: &[u8]) -> Result<Start, WalkFault>
-    ensures start { result ≡ start_of file.now }
-    ensures first { IfOk result (λ s. item_at_lem file.now s.first.offset ≡ Item.Frame s.first.header) }
-    ensures whole { IfOk result (λ s. s.first.offset + size_of (Item.Frame s.first.header) ≤ length file.now) }
-    ensures least { IfOk result (IsLeastStart file.now) }
-{
-    let at = run_stop(Part::Front, file, 0);
-    let offset = at as u64;
-    let item = item_at(file, at);
-    match item {
-        Item::Frame(header) if fits(file, at, &item) => Ok(Start {
+    match *item {
+        Item::Frame(header) if item.size() <= left => Some(Ok(Start {
             front_end: offset,
             first: PlacedFrame { offset, header },
-        }),
-        Item::Frame(_) | Item::Block(_) => Err(WalkFault::Truncated(offset)),
-        Item::Free => Err(WalkFault::FreeFormat(offset)),
-        Item::Zero | Item::End | Item::Nothing => start_behind(file, at),
+        })),
+        Item::Frame(_) | Item::Block(_) => Some(Err(SurveyFault::Truncated(offset))),
+        Item::Free => Some(Err(SurveyFault::FreeFormat(offset))),
+        Item::Zero | Item::End | Item::Nothing => None,
+    }
+}
+
+/// The anchored frame at the first offset behind the first byte of junk, where one stands among 65,536.
+fn first_anchored<D: Folder>(
+    feed: &mut Feed,
+    folder: &mut D,
+    name: &str,
+    size: u64,
+    from: u64,
+) -> Result<Option<PlacedFrame>, SurveyFault>
+    requires known { HasLength (D.files folder.old) name.now size }
+    requires fed { IsFedFrom feed.old (D.files folder.old) name.now }
+    requires early { from ≤ size + 1 }
+    ensures first { IfOk result (λ o. (bytes : List ℕ) → Holds (D.files folder.old) name.now bytes → o ≡ first_anchored_lem longest_junk bytes from) }
+    ensures whole { IfOk result (λ o. IfSome o (λ p. p.offset + size_of (Item.Frame p.header) ≤ size)) }
+    ensures behind { IfOk result (λ o. IfSome o (λ p. from ≤ p.offset)) }
+    ensures done { OnOk result (D.counts folder.new ≡ D.counts folder.old) }
+    ensures refused { IfErr result (λ fault. (allowed : ℕ) → IsRefusal name.now (D.files folder.old) allowed (D.counts folder.old) (D.counts folder.new) fault) }
+    ensures fed { IsFedFrom feed.new (D.files folder.new) name.now }
+    ensures files { D.files folder.new ≡ D.files folder.old }
+    ensures counts { OnlyReads (D.counts folder.old) (D.counts folder.new) }
+{
+    for at in from..size.min(from + LONGEST_JUNK) {
+        let left = look(feed, folder, name, size, at)?;
+        if let Some(first) = anchored_frame(feed.bytes(), at, left) {
+            return Ok(Some(first));
+        }
+    }
+    Ok(None)
+}
+
+/// Where the stream of frames begins, by where the blocks and zero bytes at the front end. A frame that stands
+/// there is the first one. Else the bytes from there are junk, at most 65,536 of them, and the first frame is
+/// at the least offset from the next byte on where an anchored frame stands.
+///
+/// Refuses with `Truncated` where a block or a frame stands there that passes the end of the file; with
+/// `FreeFormat` where a header of free format stands there; and with `NoFrame` where no anchored frame
+/// follows.
+#[tactic(auto, unfolding(crate::specs::Start::start_of))]
+pub(crate) fn find_start<D: Folder>(
+    feed: &mut Feed,
+    folder: &mut D,
+    name: &str,
+    size: u64,
+    front_end: u64,
+) -> Result<Start, SurveyFault>
+    requires known { HasLength (D.files folder.old) name.now size }
+    requires fed { IsFedFrom feed.old (D.files folder.old) name.now }
+    requires within { front_end ≤ size }
+    requires front { (bytes : List ℕ) → Holds (D.files folder.old) name.now bytes → front_end ≡ front_end_of bytes }
+    ensures start { IfOk result (λ s. (bytes : List ℕ) → Holds (D.files folder.old) name.now bytes → start_of bytes ≡ Ok s) }
+    ensures whole { IfOk result (λ s. s.first.offset + size_of (Item.Frame s.first.header) ≤ size) }
+    ensures junk { IfOk result (λ s. (s.front_end ≡ front_end) × (front_end ≤ s.first.offset)) }
+    ensures done { OnOk result (D.counts folder.new ≡ D.counts folder.old) }
+    ensures refused { IfErr result (λ fault. (allowed : ℕ) → IsRefusal name.now (D.files folder.old) allowed (D.counts folder.old) (D.counts folder.new) fault) }
+    ensures fed { IsFedFrom feed.new (D.files folder.new) name.now }
+    ensures files { D.files folder.new ≡ D.files folder.old }
+    ensures counts { OnlyReads (D.counts folder.old) (D.counts folder.new) }
+{
+    let left = look(feed, folder, name, size, front_end)?;
+    if let Some(start) = start_here(&item_front(feed.bytes()), front_end, left) {
+        return start;
+    }
+    match first_anchored(feed, folder, name, size, front_end + 1)? {
+        Some(first) => Ok(Start { front_end, first }),
+        None => Err(SurveyFault::NoFrame(front_end)),
     }
 }

@@ -1,9 +1,7 @@
 //! Why there is no survey of a file. Offsets and lengths are in bytes.
 ghost use Rattle.std.specs.Prelude.{◌≡◌};
 ghost use Rattle.sync_survey.specs.declared.survey_fault.SurveyFault.TheVariants.{Memory};
-ghost use Rattle.sync_survey.specs.Faults.{as_survey};
 
-use crate::places::WalkFault;
 use std::alloc::{AllocError, AllocFailed};
 
 /// Why there is no survey of a file.
@@ -58,18 +56,5 @@ impl<T: Drop> From<AllocFailed<T>> for SurveyFault {
 
     fn from(_: AllocFailed<T>) -> SurveyFault {
         SurveyFault::Memory
-    }
-}
-
-impl From<WalkFault> for SurveyFault {
-    ghost from_gives = { λ fault e. e ≡ as_survey fault };
-
-    fn from(fault: WalkFault) -> SurveyFault {
-        match fault {
-            WalkFault::NoFrame(at) => SurveyFault::NoFrame(at),
-            WalkFault::LostSync(at) => SurveyFault::LostSync(at),
-            WalkFault::Truncated(at) => SurveyFault::Truncated(at),
-            WalkFault::FreeFormat(at) => SurveyFault::FreeFormat(at),
-        }
     }
 }

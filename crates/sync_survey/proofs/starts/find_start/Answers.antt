@@ -1,22 +1,58 @@
--- The first frame behind junk is whole, and stands at the least offset.
-use Rattle.std.proofs.Common.{◌≡◌, ◌+◌, ◌≤◌, length, sym, ◌∙◌}
-use Rattle.sync_survey.specs.Items.{item_at, size_of}
-use Rattle.sync_survey.specs.declared.items.Item.TheVariants.{Frame}
-use Rattle.sync_survey.specs.Start.{IsLeastStart}
-use Rattle.sync_survey.proofs.StartLaws.{start_behind-first, if_ok}
+-- The start is by what stands where the front ends.
+use Rattle.std.proofs.Common.{◌≡◌, ℕ, List, refl, sym, ◌∙◌, ap, subst}
+use Rattle.std.proofs.lemmas.Result.{err_from_is_err_and}
+use Rattle.outside.specs.Files.{Holds}
+use Rattle.sync_survey.specs.Items.{item_front}
+use Rattle.sync_survey.specs.Start.{start_behind, start_at, front_end_of, start_of}
+use Rattle.sync_survey.specs.Looks.{Shows}
+use Rattle.sync_survey.proofs.LooksLaws.{item_at-shown}
+use Rattle.sync_survey.proofs.FoldersLaws.{refusal_later, start_ok, start_err, start_refusal}
+use Rattle.sync_survey.proofs.StartLaws.{start_is}
 use Rattle.sync_survey.proofs.starts.find_start.Goals as goal
 
-pub returns-in-Zero-clause-first : goal.returns-in-Zero-clause-first
-returns-in-Zero-clause-first c =
-    if_ok c.start_behind.result (λ s. item_at c.args.file.now s.first.offset ≡ Frame s.first.header)
-    (λ s is. (start_behind-first c.args.file.now c.run_stop-at.result s (sym c.start_behind.ensures ∙ is)).frame.is)
+-- where this many bytes are left, and this item stands at the front of what is shown
+started : (file front : List ℕ) (at left : ℕ) → at ≡ front_end_of file → Shows file at front left → start_of file ≡ start_at file at (item_front front)
+started file front at left end shows = start_is file at (item_front front) end (sym (item_at-shown file at front left shows))
 
-pub returns-in-Zero-clause-whole : goal.returns-in-Zero-clause-whole
-returns-in-Zero-clause-whole c =
-    if_ok c.start_behind.result (λ s. s.first.offset + size_of (Frame s.first.header) ≤ length c.args.file.now)
-    (λ s is. (start_behind-first c.args.file.now c.run_stop-at.result s (sym c.start_behind.ensures ∙ is)).frame.within)
+pub returns-in-Some-clause-start : goal.returns-in-Some-clause-start
+returns-in-Some-clause-start g c =
+    start_ok c.in-Some.start (g.D.Folder.files c.args.folder.now) c.args.name.now (λ bytes holds.
+    let shows = c.in_ok-left.ensures.shows bytes holds in
+    started bytes c.look.new.feed.given c.args.front_end c.in_ok-left.left (c.requires.front bytes holds) shows
+    ∙ ap (start_at bytes c.args.front_end) (ap item_front (sym c.bytes.ensures) ∙ sym c.item_front.ensures)
+    ∙ c.in-Some.ensures.start bytes shows.left_is)
 
-pub returns-in-Zero-clause-least : goal.returns-in-Zero-clause-least
-returns-in-Zero-clause-least c =
-    if_ok c.start_behind.result (IsLeastStart c.args.file.now)
-    (λ s is. (start_behind-first c.args.file.now c.run_stop-at.result s (sym c.start_behind.ensures ∙ is)).least)
+pub returns-in-Some-clause-refused : goal.returns-in-Some-clause-refused
+returns-in-Some-clause-refused g c =
+    start_err c.in-Some.start c.args.name.now (g.D.Folder.files c.args.folder.now) (g.D.Folder.counts c.args.folder.now) (g.D.Folder.counts c.look.new.folder) c.args.size c.requires.known c.in_ok-left.ensures.done
+    c.in-Some.ensures.refused (λ bytes holds.
+    let shows = c.in_ok-left.ensures.shows bytes holds in
+    started bytes c.look.new.feed.given c.args.front_end c.in_ok-left.left (c.requires.front bytes holds) shows
+    ∙ ap (start_at bytes c.args.front_end) (ap item_front (sym c.bytes.ensures) ∙ sym c.item_front.ensures)
+    ∙ c.in-Some.ensures.start bytes shows.left_is)
+
+pub returns-in_err-first-clause-refused : goal.returns-in_err-first-clause-refused
+returns-in_err-first-clause-refused g c =
+    let p = err_from_is_err_and c.from_residual-in_err-first.result c.from_residual-in_err-first.ensures.1 in
+    rw (p.1, p.2) (λ allowed. refusal_later c.args.name.now (g.D.Folder.files c.args.folder.now) (g.D.Folder.files c.look.new.folder) allowed (g.D.Folder.counts c.args.folder.now) (g.D.Folder.counts c.look.new.folder)
+    (g.D.Folder.counts c.first_anchored.new.folder) c.in_err-first.field-0.0 c.in_ok-left.ensures.files c.in_ok-left.ensures.done (c.in_err-first.ensures.refused allowed))
+
+pub returns-in-Some-2-clause-start : goal.returns-in-Some-2-clause-start
+returns-in-Some-2-clause-start g c = λ bytes holds.
+    let shows = c.in_ok-left.ensures.shows bytes holds in
+    let there = subst (λ f. Holds f c.args.name.now bytes) (sym c.in_ok-left.ensures.files) holds in
+    started bytes c.look.new.feed.given c.args.front_end c.in_ok-left.left (c.requires.front bytes holds) shows
+    ∙ ap (start_at bytes c.args.front_end) (ap item_front (sym c.bytes.ensures) ∙ sym c.item_front.ensures)
+    ∙ c.in_default.ensures.start bytes shows.left_is
+    ∙ ap (start_behind c.args.front_end) (sym (c.in_ok-first.ensures.first bytes there) ∙ c.in-Some-2.is)
+
+pub returns-in-None-clause-refused : goal.returns-in-None-clause-refused
+returns-in-None-clause-refused g c = λ allowed.
+    start_refusal c.args.name.now (g.D.Folder.files c.args.folder.now) allowed (g.D.Folder.counts c.args.folder.now) (g.D.Folder.counts c.first_anchored.new.folder) c.args.size _ c.requires.known
+    (c.in_ok-first.ensures.done ∙ c.in_ok-left.ensures.done) (refl, tt) (λ bytes holds.
+    let shows = c.in_ok-left.ensures.shows bytes holds in
+    let there = subst (λ f. Holds f c.args.name.now bytes) (sym c.in_ok-left.ensures.files) holds in
+    started bytes c.look.new.feed.given c.args.front_end c.in_ok-left.left (c.requires.front bytes holds) shows
+    ∙ ap (start_at bytes c.args.front_end) (ap item_front (sym c.bytes.ensures) ∙ sym c.item_front.ensures)
+    ∙ c.in_default.ensures.start bytes shows.left_is
+    ∙ ap (start_behind c.args.front_end) (sym (c.in_ok-first.ensures.first bytes there) ∙ c.in-None.is))

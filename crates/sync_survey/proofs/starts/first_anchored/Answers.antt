@@ -1,19 +1,25 @@
--- The first anchored frame is the one that the loop meets first.
-use Rattle.std.proofs.Common.{◌≡◌, Some, sym, ◌∙◌, arith}
-use Rattle.sync_survey.specs.Start.{anchored_frame}
-use Rattle.sync_survey.proofs.StartLaws.{first_anchored-some, first_anchored-none, first_anchored-least}
+-- The first offset where an anchored frame stands.
+use Rattle.std.proofs.Common.{sym, subst, arith}
+use Rattle.std.proofs.lemmas.Result.{err_from_is_err_and}
+use Rattle.outside.specs.Files.{Holds}
+use Rattle.sync_survey.specs.Start.{longest_junk}
+use Rattle.sync_survey.specs.Looks.{Shows}
+use Rattle.sync_survey.proofs.FoldersLaws.{refusal_later}
+use Rattle.sync_survey.proofs.StartLaws.{first_anchored-some, none_anchored}
 use Rattle.sync_survey.proofs.starts.first_anchored.Goals as goal
 
-pub returns-in-Some-clause-first : goal.returns-in-Some-clause-first
-returns-in-Some-clause-first c =
-    let here : anchored_frame c.args.file.now c.loop-at.at ≡ Some c.in-Some.frame = sym c.anchored_frame.ensures ∙ c.in-Some.is in
-    sym (first_anchored-some c.args.count c.args.file.now c.args.from c.loop-at.at c.in-Some.frame c.loop-at.auto.at c.loop-at-test.true here c.loop-at.invariant)
+pub returns-in_err-left-clause-refused : goal.returns-in_err-left-clause-refused
+returns-in_err-left-clause-refused g c =
+    let p = err_from_is_err_and c.from_residual.result c.from_residual.ensures.1 in
+    rw (p.1, p.2) (λ allowed. refusal_later c.args.name.now (g.D.Folder.files c.args.folder.now) (g.D.Folder.files c.loop-at.folder) allowed (g.D.Folder.counts c.args.folder.now) (g.D.Folder.counts c.loop-at.folder)
+    (g.D.Folder.counts c.look.new.folder) c.in_err-left.field-0.0 c.loop-at.invariant.files c.loop-at.invariant.counts (c.in_err-left.ensures.refused allowed))
 
-pub returns-in-Some-clause-least : goal.returns-in-Some-clause-least
-returns-in-Some-clause-least c =
-    let here : anchored_frame c.args.file.now c.loop-at.at ≡ Some c.in-Some.frame = sym c.anchored_frame.ensures ∙ c.in-Some.is in
-    first_anchored-least c.args.count c.args.file.now c.args.from (Some c.in-Some.frame)
-    (first_anchored-some c.args.count c.args.file.now c.args.from c.loop-at.at c.in-Some.frame c.loop-at.auto.at c.loop-at-test.true here c.loop-at.invariant)
+pub returns-in-Some-clause-first : goal.returns-in-Some-clause-first
+returns-in-Some-clause-first g c = λ bytes holds.
+    let shows = c.in_ok-left.ensures.shows bytes (subst (λ f. Holds f c.args.name.now bytes) (sym c.loop-at.invariant.files) holds) in
+    sym (first_anchored-some longest_junk bytes c.args.from c.loop-at.at c.in-Some.first c.loop-at.auto.at (omega (arith, c.loop-at-test.true, c.min-at-end.ensures))
+    (sym (c.in-Some.ensures.frame bytes (subst (λ front. Shows bytes c.loop-at.at front c.in_ok-left.left) (sym c.bytes.ensures) shows))) (c.loop-at.invariant.none bytes holds))
 
 pub returns-clause-first : goal.returns-clause-first
-returns-clause-first c = sym (first_anchored-none c.args.count c.args.file.now c.args.from (λ at low high. c.loop-at.invariant at low (omega (arith, high, c.loop-at-test.false))))
+returns-clause-first g c = λ bytes holds.
+    sym (none_anchored bytes c.args.size c.args.from c.loop-at.at (c.requires.known.long bytes holds) (omega (arith, c.loop-at-test.false, c.min-at-end.ensures)) (c.loop-at.invariant.none bytes holds))

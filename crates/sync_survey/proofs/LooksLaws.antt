@@ -1,0 +1,173 @@
+-- What a look at a file shows of it.
+use Rattle.std.proofs.Common.{◌≡◌, ℕ, zero, suc, ◌+◌, ◌-◌, ◌<◌, ◌≤◌, Bool, true, false, cond, leb, ◌==◌, List, [], ◌∷◌, ◌++◌, length, take, drop, Some, None, refl, sym, ◌∙◌, ap, subst, arith, length-drop}
+use Rattle.std.specs.List.{prefix_len}
+use Rattle.std.proofs.lemmas.Bool.{false≢true, eqb-true, lt-leb}
+use Rattle.std.proofs.lemmas.List.Sums.{prefix_len-le-length}
+use Rattle.std.proofs.lemmas.List.{take-take, drop-take, drop-drop, take-append-drop}
+use Rattle.tag_blocks.proofs.BlocksLaws.{block_front-take}
+use Rattle.sync_survey.specs.declared.items.Item.{Item}
+use Rattle.sync_survey.specs.declared.items.Item.TheVariants.{Frame, Free, Block, Zero, End, Nothing}
+use Rattle.sync_survey.specs.declared.runs.Part.{Part}
+use Rattle.sync_survey.specs.Items.{Stands, by_header, by_block, by_byte, item_front, item_at, size_of, fits}
+use Rattle.sync_survey.specs.Runs.{belongs, whole, item_of, run, frames_of, blocks_of}
+use Rattle.sync_survey.specs.Looks.{look_size, Shows, Passes}
+use Rattle.sync_survey.proofs.ItemsLaws.{stands, some_by}
+use Rattle.sync_survey.proofs.OneItem.{stands-only_at}
+use Rattle.sync_survey.proofs.RunsLaws.{item_of-whole, run-next, frames-next, blocks-next}
+use Rattle.sync_survey.proofs.ItemBytes.{header_front-four}
+
+-- ---- 32 bytes and the length decide what stands at an offset
+
+by_byte-take : (n : ℕ) (bytes : List ℕ) → 1 ≤ n → by_byte (take n bytes) ≡ by_byte bytes
+by_byte-take zero bytes some = absurd (omega (arith, some))
+by_byte-take (suc n) [] some = refl
+by_byte-take (suc n) (b ∷ bs) some = refl
+
+pub item_front-take : (n : ℕ) (bytes : List ℕ) → 32 ≤ n → item_front (take n bytes) ≡ item_front bytes
+unfolding item_front
+item_front-take n bytes many =
+    let header = header_front-four (take n bytes) bytes (take-take 4 n bytes (omega (arith, many))) in
+    let block = block_front-take n bytes many in
+    let byte = by_byte-take n bytes (omega (arith, many)) in
+    λ i. by_header (header i) (by_block (block i) (byte i))
+
+-- ---- zero bytes
+
+-- what stands between two offsets of a run is neither a frame nor a block
+record IsSkipped (part : Part) (file : List ℕ) (at to : ℕ) : Type 0 where
+  frames : frames_of (run part file at).items ≡ frames_of (run part file to).items
+  blocks : blocks_of (run part file at).items ≡ blocks_of (run part file to).items
+  stop : (run part file at).stop ≡ (run part file to).stop
+
+skipped_none : (part : Part) (file : List ℕ) (at to : ℕ) → at ≡ to → IsSkipped part file at to
+skipped_none part file at to same = record {
+  frames = ap (λ n. frames_of (run part file n).items) same;
+  blocks = ap (λ n. blocks_of (run part file n).items) same;
+  stop = ap (λ n. (run part file n).stop) same;
+}
+
+skipped_then : (part : Part) (file : List ℕ) (at mid to : ℕ) → IsSkipped part file at mid → IsSkipped part file mid to → IsSkipped part file at to
+skipped_then part file at mid to first later = record { frames = first.frames ∙ later.frames; blocks = first.blocks ∙ later.blocks; stop = first.stop ∙ later.stop }
+
+zero_at : (part : Part) (file bytes : List ℕ) (at : ℕ) → drop at file ≡ 0 ∷ bytes → item_of part file at ≡ Some Zero
+zero_at part file bytes at is =
+    item_of-whole part file at Zero (sym (stands-only_at file at Zero (ap (take 1) is))) refl (omega (arith, ap length is, length-drop at file))
+
+one_skipped : (part : Part) (file bytes : List ℕ) (at : ℕ) → drop at file ≡ 0 ∷ bytes → IsSkipped part file at (at + 1)
+one_skipped part file bytes at is =
+    let here = zero_at part file bytes at is in record {
+      frames = frames-next part file at Zero here;
+      blocks = blocks-next part file at Zero here;
+      stop = ap (λ r. r.stop) (run-next part file at Zero here);
+    }
+
+abbrev zero_test : ℕ → Bool
+zero_test b = b == 0
+
+skip_more : (part : Part) (file rest : List ℕ) (at n b : ℕ) → drop at file ≡ b ∷ rest → (drop (at + 1) file ≡ rest → IsSkipped part file (at + 1) (at + 1 + n)) → (zero : Bool) → zero_test b ≡ zero
+    → IsSkipped part file at (at + cond zero (1 + n) 0)
+skip_more part file rest at n b is later false e = skipped_none part file at (at + 0) (omega arith)
+skip_more part file rest at n b is later true e =
+    let first : b ≡ 0 = eqb-true b 0 e in
+    skipped_then part file at (at + 1) (at + (1 + n)) (one_skipped part file rest at (is ∙ ap (λ x. x ∷ rest) first))
+    (skipped_then part file (at + 1) (at + 1 + n) (at + (1 + n)) (later (sym (drop-drop 1 at file) ∙ ap (drop 1) is)) (skipped_none part file (at + 1 + n) (at + (1 + n)) (omega arith)))
+
+zeros_skipped : (part : Part) (file front rest : List ℕ) (at : ℕ) → drop at file ≡ front ++ rest → IsSkipped part file at (at + prefix_len zero_test front)
+zeros_skipped part file [] rest at is = skipped_none part file at (at + 0) (omega arith)
+zeros_skipped part file (b ∷ bs) rest at is =
+    skip_more part file (bs ++ rest) at (prefix_len zero_test bs) b is (zeros_skipped part file bs rest (at + 1)) (zero_test b) refl
+
+-- ---- how many bytes are passed
+
+-- so many bytes are passed with an item where so many are left
+pub record IsSized (item : Item) (left size : ℕ) : Type 0 where
+  pub least : size_of item ≤ size
+  pub some : 0 < size
+  pub within : size ≤ left
+
+zero_counted : (front : List ℕ) → take 1 front ≡ 0 ∷ [] → 1 ≤ prefix_len zero_test front
+zero_counted [] first = absurd cc
+zero_counted (b ∷ bs) first =
+    let zero : b ≡ 0 = cc in
+    let counts : (t : Bool) → t ≡ true → 1 ≤ cond t (1 + prefix_len zero_test bs) 0 = λ t is. subst (λ t. 1 ≤ cond t (1 + prefix_len zero_test bs) 0) (sym is) (omega arith) in
+    counts (zero_test b) (ap zero_test zero)
+
+abbrev Counts : Item → List ℕ → ℕ → Type 0
+Counts item front size = (item ≡ Zero → size ≡ prefix_len zero_test front) × ((item ≡ Zero → ⊥) → size ≡ size_of item)
+
+own_size : (item : Item) (left size : ℕ) → 0 < size_of item → size_of item ≤ left → size ≡ size_of item → IsSized item left size
+own_size item left size some within is = record { least = omega (arith, is); some = omega (arith, is, some); within = omega (arith, is, within) }
+
+sized_by : (part : Part) (front : List ℕ) (left size : ℕ) (item : Item) → Stands front item → belongs part item ≡ true → size_of item ≤ left → length front ≤ left → Counts item front size → IsSized item left size
+sized_by part front left size (Frame h) here is within all counts = own_size (Frame h) left size (some_by front part (Frame h) here is) within (counts.1 (λ e. cc))
+sized_by part front left size Free here is within all counts = absurd (false≢true is)
+sized_by part front left size (Block b) here is within all counts = own_size (Block b) left size (some_by front part (Block b) here is) within (counts.1 (λ e. cc))
+sized_by part front left size Zero here is within all counts =
+    let many = zero_counted front here in
+    let size_is = counts.0 refl in
+    record { least = omega (arith, many, size_is); some = omega (arith, many, size_is); within = omega (arith, all, size_is, prefix_len-le-length zero_test front) }
+sized_by part front left size End here is within all counts = absurd (false≢true is)
+sized_by part front left size Nothing here is within all counts = absurd (false≢true is)
+
+pub sized : (part : Part) (front : List ℕ) (left size : ℕ) (item : Item) → item ≡ item_front front → belongs part item ≡ true → size_of item ≤ left → length front ≤ left → (item ≡ Zero → size ≡ prefix_len zero_test front)
+    → ((item ≡ Zero → ⊥) → size ≡ size_of item) → IsSized item left size
+sized part front left size item is here within all zeros other = sized_by part front left size item (subst (Stands front) (sym is) (stands front)) here within all (zeros, other)
+
+module _ (file : List ℕ) (at : ℕ) (front : List ℕ) (left : ℕ) (shows : Shows file at front left) where
+  pub item_at-shown : item_front front ≡ item_at file at
+  unfolding item_at
+  item_at-shown = ap item_front shows.front_is ∙ item_front-take look_size (drop at file) (omega arith)
+
+  -- what stands so many bytes behind, where 32 bytes are shown from there on
+  pub item_at-behind : (size : ℕ) → size ≤ 4064 → item_front (drop size front) ≡ item_at file (at + size)
+  unfolding item_at
+  item_at-behind size few =
+      let split : look_size ≡ size + (look_size - size) = omega (arith, few) in
+      ap (λ l. item_front (drop size l)) shows.front_is
+      ∙ ap (λ n. item_front (drop size (take n (drop at file)))) split
+      ∙ ap item_front (drop-take size (look_size - size) (drop at file))
+      ∙ item_front-take (look_size - size) (drop size (drop at file)) (omega (arith, few))
+      ∙ ap item_front (drop-drop size at file)
+
+  pub fits-left : (item : Item) → leb (size_of item) left ≡ fits file at item
+  fits-left item = ap (leb (size_of item)) shows.left_is
+
+  -- ---- a step
+
+  none_by : (part : Part) (item : Item) → item_at file at ≡ item → (b : Bool) → belongs part item ≡ b → (b ≡ true → left < size_of item) → item_of part file at ≡ None
+  unfolding item_of
+  none_by part item is true here past =
+      let over : fits file at item ≡ false = sym (fits-left item) ∙ lt-leb (size_of item) left (past refl) in
+      ap (whole part file at) is ∙ rw (here, over) refl
+  none_by part item is false here past = ap (whole part file at) is ∙ rw here refl
+
+  pub not_here : (part : Part) (item : Item) → item ≡ item_front front → (belongs part item ≡ true → left < size_of item) → item_of part file at ≡ None
+  not_here part item is past = none_by part item (sym item_at-shown ∙ sym is) (belongs part item) refl past
+
+  whole_here : (part : Part) (item : Item) → item ≡ item_front front → belongs part item ≡ true → 0 < size_of item → size_of item ≤ left → item_of part file at ≡ Some item
+  whole_here part item is here some within = item_of-whole part file at item (sym item_at-shown ∙ sym is) here (omega (arith, some, within, shows.left_is))
+
+  -- a whole item and all zero bytes that are shown behind a zero byte are passed
+  pub passes_zeros : (part : Part) (item : Item) (size : ℕ) → item ≡ Zero → size ≡ prefix_len zero_test front → Passes part file at item size
+  passes_zeros part item size is many =
+      let split : drop at file ≡ front ++ drop look_size (drop at file) = sym (take-append-drop look_size (drop at file)) ∙ ap (λ l. l ++ drop look_size (drop at file)) (sym shows.front_is) in
+      let skipped = zeros_skipped part file front (drop look_size (drop at file)) at split in
+      subst (λ (i : Item). Passes part file at i size) (sym is) (subst (Passes part file at Zero) (sym many) (record { frames = skipped.frames; blocks = skipped.blocks; stop = skipped.stop }))
+
+  pub passes_whole : (part : Part) (item : Item) (size : ℕ) → item_of part file at ≡ Some item → size ≡ size_of item → Passes part file at item size
+  passes_whole part item size here is =
+      subst (Passes part file at item) (sym is)
+      (record { frames = frames-next part file at item here; blocks = blocks-next part file at item here; stop = ap (λ r. r.stop) (run-next part file at item here) })
+
+  step_by : (part : Part) (item : Item) (size : ℕ) → item_of part file at ≡ Some item → Counts item front size → Passes part file at item size
+  step_by part (Frame h) size here counts = passes_whole part (Frame h) size here (counts.1 (λ e. cc))
+  step_by part Free size here counts = passes_whole part Free size here (counts.1 (λ e. cc))
+  step_by part (Block b) size here counts = passes_whole part (Block b) size here (counts.1 (λ e. cc))
+  step_by part Zero size here counts = passes_zeros part Zero size refl (counts.0 refl)
+  step_by part End size here counts = passes_whole part End size here (counts.1 (λ e. cc))
+  step_by part Nothing size here counts = passes_whole part Nothing size here (counts.1 (λ e. cc))
+
+  pub step_passes : (part : Part) (size : ℕ) (item : Item) → item ≡ item_front front → belongs part item ≡ true → size_of item ≤ left → (item ≡ Zero → size ≡ prefix_len zero_test front)
+      → ((item ≡ Zero → ⊥) → size ≡ size_of item) → Passes part file at item size
+  step_passes part size item is here within zeros other =
+      step_by part item size (whole_here part item is here (some_by front part item (subst (Stands front) (sym is) (stands front)) here) within) (zeros, other)

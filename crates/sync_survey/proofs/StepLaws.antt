@@ -1,0 +1,189 @@
+-- One item more is judged and kept.
+use Rattle.std.proofs.Common.{◌≡◌, ℕ, ◌+◌, ◌≤◌, ◌⊎◌, min, List, [], ◌∷◌, ◌++◌, length, drop, Option, Some, None, Err, refl, sym, ◌∙◌, ap, ap₂, subst, inl, inr, arith, append-nil}
+use Rattle.std.specs.Prelude.{option_to_list}
+use Rattle.frame_header.specs.Fields.{HeaderFields, ClassFields}
+use Rattle.frame_header.specs.Tables.{class_of, length_of, overhead_of, area_of}
+use Rattle.side_info.specs.Side.{SideFits}
+use Rattle.side_info.specs.Frame.{side_in, word_said}
+use Rattle.side_info.proofs.FrameLaws.{side_in-take, word_said-take}
+use Rattle.outside.specs.Files.{Files, Holds}
+use Rattle.outside.specs.Counts.{Counts}
+use Rattle.sync_survey.specs.declared.found.Found.{Found}
+use Rattle.sync_survey.specs.declared.items.Item.{Item}
+use Rattle.sync_survey.specs.declared.items.Item.TheVariants.{Frame, Free, Block, Zero, End, Nothing}
+use Rattle.sync_survey.specs.declared.places.Piece.{Piece}
+use Rattle.sync_survey.specs.declared.places.Head.{Head}
+use Rattle.sync_survey.specs.declared.places.Start.{Start}
+use Rattle.sync_survey.specs.declared.rows.Row.{Row}
+use Rattle.sync_survey.specs.declared.runs.Part.TheVariants.{Stream}
+use Rattle.sync_survey.specs.declared.survey_fault.SurveyFault.{SurveyFault}
+use Rattle.sync_survey.specs.declared.survey_fault.SurveyFault.TheVariants.{Memory}
+use Rattle.sync_survey.specs.Items.{Stands, item_front, size_of}
+use Rattle.sync_survey.specs.Runs.{run, frame_as, block_as, frames_of, blocks_of}
+use Rattle.sync_survey.specs.Looks.{look_size, Shows, Passes, KeepsFrame, KeepsBlocks, Keeps, IsFrameFault}
+use Rattle.sync_survey.specs.MainData.{row_in, row_of, own_area, end_behind}
+use Rattle.sync_survey.specs.Faults.{faults_at, first_of, class_from, surveyed}
+use Rattle.sync_survey.specs.Kinds.{RefusesRightly}
+use Rattle.sync_survey.specs.Survey.{AreLaid, BlocksAreLaid, HasLength, IsRefusal}
+use Rattle.sync_survey.proofs.ItemsLaws.{stands, header_front-in_range}
+use Rattle.sync_survey.proofs.SurveyLaws.{overhead-within}
+use Rattle.sync_survey.proofs.BytesFaults.{frame_rightly}
+use Rattle.sync_survey.proofs.FrontLaws.{blocks_more}
+use Rattle.sync_survey.proofs.FoldersLaws.{memory_refusal, bytes_refusal}
+use Rattle.sync_survey.proofs.Progress.{IsSurveyedTo, IsBegun, passed_zeros, passed_block, passed_frame, first_fault}
+
+-- ---- a whole frame is shown up to its area
+
+pub overhead_few : (front : List ℕ) (item : Item) (h : HeaderFields) → item ≡ item_front front → item ≡ Frame h → overhead_of (class_of h) h.protected ≤ length_of (class_of h) h.slot
+overhead_few front item h is frame = overhead-within h (header_front-in_range front h (subst (Stands front) (sym is ∙ frame) (stands front)))
+
+pub shown_room : (front : List ℕ) (item : Item) (h : HeaderFields) (size left : ℕ) → item ≡ item_front front → item ≡ Frame h → size_of item ≤ 1441 → size_of item ≤ size → size ≤ left → length front ≡ min look_size left
+    → overhead_of (class_of h) h.protected ≤ length front
+shown_room front item h size left is frame few least within many = omega (arith, overhead_few front item h is frame, ap size_of frame, few, least, within, many)
+
+-- ---- the side information and the check word that a look shows
+
+module _ (file : List ℕ) (at : ℕ) (front : List ℕ) (left : ℕ) (shows : Shows file at front left) (h : HeaderFields) (few : overhead_of (class_of h) h.protected ≤ look_size) where
+  row_shown : row_in at h front ≡ row_of file (record { offset = at; header = h })
+  row_shown = ap (λ s. record { offset = at; header = h; side = s }) (ap (side_in h) shows.front_is ∙ side_in-take h look_size (drop at file) few)
+
+  word_shown : word_said front ≡ word_said (drop at file)
+  word_shown = ap word_said shows.front_is ∙ word_said-take look_size (drop at file) (omega arith)
+
+  faults_shown : (class : ClassFields) (allowed place ended count : ℕ)
+      → first_of (faults_at (word_said front) class allowed place ended count (row_in at h front)) ≡ first_of (faults_at (word_said (drop at file)) class allowed place ended count (row_of file (record { offset = at; header = h })))
+  faults_shown class allowed place ended count = ap₂ (λ said r. first_of (faults_at said class allowed place ended count r)) word_shown row_shown
+
+-- ---- one item more
+
+abbrev few_before : Item → Type 0
+few_before (Frame h) = overhead_of (class_of h) h.protected ≤ look_size
+few_before _ = Unit {0}
+
+pub few_by : (front : List ℕ) (item : Item) → item ≡ item_front front → ((h : HeaderFields) → item ≡ Frame h → size_of item ≤ 1441) → few_before item
+few_by front (Frame h) is few = omega (arith, overhead_few front (Frame h) h is refl, few h refl)
+few_by front Free is few = tt
+few_by front (Block b) is few = tt
+few_by front Zero is few = tt
+few_by front End is few = tt
+few_by front Nothing is few = tt
+
+module _ (file : List ℕ) (start : Start) (head : Option Head) (allowed : ℕ) (old : Found) (at : ℕ)
+    (so_far : IsSurveyedTo file start head allowed old.rows.items old.pieces.items old.before.place old.before.ended at) (front : List ℕ) (left : ℕ) (shows : Shows file at front left) where
+  abbrev IsOn : Found → ℕ → Type 0
+  IsOn new size = IsSurveyedTo file start head allowed new.rows.items new.pieces.items new.before.place new.before.ended (at + size)
+
+  same : (rows : List Row) (pieces : List Piece) (place ended : ℕ) (new : Found) (size : ℕ) → new.rows.items ≡ rows → new.pieces.items ≡ pieces → new.before.place ≡ place → new.before.ended ≡ ended
+      → IsSurveyedTo file start head allowed rows pieces place ended (at + size) → IsOn new size
+  same rows pieces place ended new size rows_are pieces_are place_is ended_is there =
+      subst (λ n. IsSurveyedTo file start head allowed new.rows.items new.pieces.items new.before.place n (at + size)) (sym ended_is)
+      (subst (λ n. IsSurveyedTo file start head allowed new.rows.items new.pieces.items n ended (at + size)) (sym place_is)
+      (subst (λ l. IsSurveyedTo file start head allowed new.rows.items l place ended (at + size)) (sym pieces_are)
+      (subst (λ l. IsSurveyedTo file start head allowed l pieces place ended (at + size)) (sym rows_are) there)))
+
+  blocks_kept : (blocks : List Piece) (new : Found) (size : ℕ) → KeepsBlocks blocks old new
+      → IsSurveyedTo file start head allowed old.rows.items (old.pieces.items ++ blocks) old.before.place old.before.ended (at + size) → IsOn new size
+  blocks_kept blocks new size keeps there =
+      same old.rows.items (old.pieces.items ++ blocks) old.before.place old.before.ended new size keeps.rows keeps.pieces (ap (λ b. b.place) keeps.before) (ap (λ b. b.ended) keeps.before) there
+
+  none_kept : (item : Item) (new : Found) (size : ℕ) → Passes Stream file at Zero size → KeepsBlocks [] old new → IsOn new size
+  none_kept item new size passes keeps =
+      blocks_kept [] new size keeps
+      (subst (λ l. IsSurveyedTo file start head allowed old.rows.items l old.before.place old.before.ended (at + size)) (sym (append-nil old.pieces.items))
+      (passed_zeros file start head allowed old.rows.items old.pieces.items old.before.place old.before.ended at so_far size passes))
+
+  frame_kept : (h : HeaderFields) (new : Found) (size : ℕ) → overhead_of (class_of h) h.protected ≤ look_size → Passes Stream file at (Frame h) size
+      → KeepsFrame (word_said front) (class_from start) allowed (row_in at h front) old new → IsOn new size
+  frame_kept h new size few passes keeps =
+      let row = row_shown file at front left shows h few in
+      same (old.rows.items ++ row_of file (record { offset = at; header = h }) ∷ []) old.pieces.items new.before.place new.before.ended new size (keeps.rows ∙ ap (λ r. old.rows.items ++ r ∷ []) row) keeps.pieces refl refl
+      (passed_frame file start head allowed old.rows.items old.pieces.items old.before.place old.before.ended at so_far h size new.before.place new.before.ended passes
+      (sym (faults_shown file at front left shows h few (class_from start) allowed old.before.place old.before.ended (length old.rows.items)) ∙ keeps.sound) keeps.place
+      (keeps.ended ∙ ap (λ r. end_behind old.before.place old.before.ended (Some r)) row))
+
+  -- what is neither a frame nor a block is passed as a zero byte is
+  as_zero : (item : Item) (size : ℕ) → Passes Stream file at item size → frame_as at item ≡ None → block_as at item ≡ None → Passes Stream file at Zero size
+  as_zero item size passes no_frame no_block = record {
+    frames = passes.frames ∙ ap (λ o. option_to_list o ++ frames_of (run Stream file (at + size)).items) no_frame;
+    blocks = passes.blocks ∙ ap (λ o. option_to_list o ++ blocks_of (run Stream file (at + size)).items) no_block;
+    stop = passes.stop;
+  }
+
+  pub kept : (item : Item) (new : Found) (size : ℕ) → few_before item → Passes Stream file at item size → Keeps (class_from start) allowed at item front old new → IsOn new size
+  kept (Frame h) new size few passes keeps = frame_kept h new size few passes keeps
+  kept Free new size few passes keeps = none_kept Free new size (as_zero Free size passes refl refl) keeps
+  kept (Block b) new size few passes keeps =
+      blocks_kept (record { offset = at; block = b } ∷ []) new size keeps
+      (passed_block file start head allowed old.rows.items old.pieces.items old.before.place old.before.ended at so_far (record { offset = at; block = b }) size refl passes)
+  kept Zero new size few passes keeps = none_kept Zero new size passes keeps
+  kept End new size few passes keeps = none_kept End new size (as_zero End size passes refl refl) keeps
+  kept Nothing new size few passes keeps = none_kept Nothing new size (as_zero Nothing size passes refl refl) keeps
+
+  pub refused : (begun : IsBegun file start head) (item : Item) (size : ℕ) (fault : SurveyFault) → few_before item → Passes Stream file at item size → IsFrameFault (class_from start) allowed at item front old fault → surveyed file allowed ≡ Err fault
+  refused begun (Frame h) size fault few passes is =
+      first_fault file start head allowed old.rows.items old.pieces.items old.before.place old.before.ended at so_far begun h size fault passes
+      (sym (faults_shown file at front left shows h few (class_from start) allowed old.before.place old.before.ended (length old.rows.items)) ∙ is)
+  refused begun Free size fault few passes is = absurd is
+  refused begun (Block b) size fault few passes is = absurd is
+  refused begun Zero size fault few passes is = absurd is
+  refused begun End size fault few passes is = absurd is
+  refused begun Nothing size fault few passes is = absurd is
+
+pub fault_rightly : (class : ClassFields) (allowed at : ℕ) (item : Item) (front : List ℕ) (old : Found) (fault : SurveyFault) → IsFrameFault class allowed at item front old fault → RefusesRightly fault
+fault_rightly class allowed at (Frame h) front old fault is =
+    frame_rightly (word_said front) class allowed old.before.place old.before.ended (length old.rows.items) (row_in at h front) fault is
+fault_rightly class allowed at Free front old fault is = absurd is
+fault_rightly class allowed at (Block b) front old fault is = absurd is
+fault_rightly class allowed at Zero front old fault is = absurd is
+fault_rightly class allowed at End front old fault is = absurd is
+fault_rightly class allowed at Nothing front old fault is = absurd is
+
+-- ---- where frames and blocks stand
+
+laid_push : (from : ℕ) (rows : List Row) (to later : ℕ) (r : Row) → AreLaid from rows to → SideFits (class_of r.header) r.side → to ≤ r.offset → r.offset + length_of (class_of r.header) r.header.slot ≤ later → AreLaid from (rows ++ r ∷ []) later
+laid_push from [] to later r laid fits low high = (omega (arith, laid, low), fits, high)
+laid_push from (q ∷ rows) to later r laid fits low high = (laid.0, laid.1, laid_push (q.offset + length_of (class_of q.header) q.header.slot) rows to later r laid.2 fits low high)
+
+laid_later : (from : ℕ) (rows : List Row) (to later : ℕ) → AreLaid from rows to → to ≤ later → AreLaid from rows later
+laid_later from [] to later laid low = omega (arith, laid, low)
+laid_later from (q ∷ rows) to later laid low = (laid.0, laid.1, laid_later (q.offset + length_of (class_of q.header) q.header.slot) rows to later laid.2 low)
+
+area_within : (h : HeaderFields) → own_area h ≤ length_of (class_of h) h.slot
+unfolding area_of
+area_within h = omega arith
+
+-- what is known of the frames and blocks, whatever is told of the file
+pub record IsLaidTo (first : ℕ) (found : Found) (at : ℕ) : Type 0 where
+  pub rows : AreLaid first found.rows.items at
+  pub pieces : BlocksAreLaid 0 found.pieces.items at
+  pub low : found.before.place ≤ 1441 + at
+
+module _ (first : ℕ) (class : ClassFields) (allowed at : ℕ) (front : List ℕ) (old new : Found) (size : ℕ) (laid : IsLaidTo first old at) where
+  laid_blocks : (item : Item) (blocks : List Piece) → option_to_list (block_as at item) ≡ blocks → size_of item ≤ size → KeepsBlocks blocks old new → IsLaidTo first new (at + size)
+  laid_blocks item blocks are least keeps = record {
+    rows = subst (λ l. AreLaid first l (at + size)) (sym keeps.rows) (laid_later first old.rows.items at (at + size) laid.rows (omega arith));
+    pieces = blocks_more old.pieces.items new.pieces.items at size item laid.pieces least (keeps.pieces ∙ ap (λ l. old.pieces.items ++ l) (sym are));
+    low = omega (arith, ap (λ b. b.place) keeps.before, laid.low);
+  }
+
+  pub laid_more : (item : Item) → size_of item ≤ size → Keeps class allowed at item front old new → IsLaidTo first new (at + size)
+  laid_more (Frame h) least keeps = record {
+    rows = subst (λ l. AreLaid first l (at + size)) (sym keeps.rows) (laid_push first old.rows.items at (at + size) (row_in at h front) laid.rows keeps.fits (omega arith) (omega (arith, least)));
+    pieces = blocks_more old.pieces.items new.pieces.items at size (Frame h) laid.pieces least (keeps.pieces ∙ sym (append-nil old.pieces.items));
+    low = omega (arith, keeps.place, area_within h, laid.low, least);
+  }
+  laid_more Free least keeps = laid_blocks Free [] refl least keeps
+  laid_more (Block b) least keeps = laid_blocks (Block b) (record { offset = at; block = b } ∷ []) refl least keeps
+  laid_more Zero least keeps = laid_blocks Zero [] refl least keeps
+  laid_more End least keeps = laid_blocks End [] refl least keeps
+  laid_more Nothing least keeps = laid_blocks Nothing [] refl least keeps
+
+-- ---- the refusal of one item
+
+pub keep_refusal : (name : List ℕ) (files : Files) (allowed : ℕ) (before after : Counts) (size : ℕ) (fault : SurveyFault) (class : ClassFields) (at : ℕ) (item : Item) (front : List ℕ) (old : Found) → HasLength files name size → after ≡ before
+    → ((bytes : List ℕ) → Holds files name bytes → IsFrameFault class allowed at item front old fault → surveyed bytes allowed ≡ Err fault) → (fault ≡ Memory) ⊎ IsFrameFault class allowed at item front old fault
+    → IsRefusal name files allowed before after fault
+keep_refusal name files allowed before after size fault class at item front old known same refuses (inl memory) =
+    subst (IsRefusal name files allowed before after) (sym memory) (memory_refusal name files allowed before after size known same)
+keep_refusal name files allowed before after size fault class at item front old known same refuses (inr is) =
+    bytes_refusal name files allowed before after size fault known same (fault_rightly class allowed at item front old fault is) (λ bytes holds. refuses bytes holds is)

@@ -1,0 +1,123 @@
+-- One item more is judged and kept, until the file ends.
+use Rattle.std.proofs.Common.{◌≡◌, ◌≤◌, List, [], ◌∷◌, length, Ok, Err, refl, sym, ◌∙◌, ap, subst, arith}
+use Rattle.std.specs.Prelude.{vec_len}
+use Rattle.std.proofs.lemmas.Bool.{true≢false, eq-eqb, eqb-true}
+use Rattle.std.proofs.lemmas.Result.{err_from_is_err_and}
+use Rattle.frame_header.specs.Tables.{class_of, overhead_of}
+use Rattle.outside.specs.Files.{Holds}
+use Rattle.sync_survey.specs.declared.rows.Row.{Row}
+use Rattle.sync_survey.specs.declared.survey_fault.SurveyFault.TheVariants.{NoFrame}
+use Rattle.sync_survey.specs.Items.{item_front}
+use Rattle.sync_survey.specs.Walk.{fault_at}
+use Rattle.sync_survey.specs.Faults.{class_from}
+use Rattle.sync_survey.specs.Looks.{Shows, Keeps, IsFrameFault}
+use Rattle.sync_survey.specs.Survey.{AreLaid}
+use Rattle.sync_survey.proofs.FrontLaws.{pieces_later}
+use Rattle.sync_survey.proofs.SurveyLaws.{told_by}
+use Rattle.sync_survey.proofs.LooksLaws.{item_at-shown}
+use Rattle.sync_survey.proofs.FoldersLaws.{refusal_later, bytes_refusal, survey_of-short}
+use Rattle.sync_survey.proofs.Progress.{IsSurveyedTo, surveyed_none, stopped_fault, no_frame, whole}
+use Rattle.sync_survey.proofs.StepLaws.{shown_room, few_by, kept, refused, laid_more, keep_refusal}
+use Rattle.sync_survey.proofs.folders.judge_frames.Goals as goal
+
+nothing_in : (rows : List Row) → length rows ≡ 0 → rows ≡ []
+nothing_in [] none = refl
+nothing_in (r ∷ rows) none = absurd (omega (arith, none))
+
+pub loop-at-init : goal.loop-at-init
+loop-at-init g c = record {
+  surveyed = λ bytes holds.
+      subst (λ rows. IsSurveyedTo bytes c.args.start c.args.head c.args.allowed rows c.args.pieces.items c.head_area.result 0 c.numbered_from-at.result) (sym c.new.ensures.items)
+      (subst (IsSurveyedTo bytes c.args.start c.args.head c.args.allowed [] c.args.pieces.items c.head_area.result 0) (sym c.numbered_from-at.ensures.at)
+      (surveyed_none bytes c.args.start c.args.head c.args.allowed (record { start_is = c.requires.start bytes holds; head_is = c.requires.head bytes holds }) c.args.pieces.items c.head_area.result
+      (c.requires.kept bytes holds) c.head_area.ensures.area));
+  laid = record {
+    rows = subst (λ rows. AreLaid c.args.start.first.offset rows c.numbered_from-at.result) (sym c.new.ensures.items) c.numbered_from-at.ensures.behind;
+    pieces = pieces_later 0 c.args.pieces.items c.args.start.front_end c.numbered_from-at.result c.requires.laid (omega (arith, c.requires.junk, c.numbered_from-at.ensures.behind));
+    low = omega (arith, c.head_area.ensures.most);
+  };
+  within = omega (arith, c.numbered_from-at.ensures.within, c.requires.whole);
+  fed = c.requires.fed;
+  files = refl;
+  counts = refl;
+}
+
+pub returns-in_err-left-clause-refused : goal.returns-in_err-left-clause-refused
+returns-in_err-left-clause-refused g c =
+    let p = err_from_is_err_and c.from_residual.result c.from_residual.ensures.1 in
+    rw (p.1, p.2) (refusal_later c.args.name.now (g.D.Folder.files c.args.folder.now) (g.D.Folder.files c.loop-at.folder) c.args.allowed (g.D.Folder.counts c.args.folder.now) (g.D.Folder.counts c.loop-at.folder)
+    (g.D.Folder.counts c.look.new.folder) c.in_err-left.field-0.0 c.loop-at.invariant.files c.loop-at.invariant.counts (c.in_err-left.ensures.refused c.args.allowed))
+
+pub returns-in_default-clause-refused : goal.returns-in_default-clause-refused
+returns-in_default-clause-refused g c =
+    bytes_refusal c.args.name.now (g.D.Folder.files c.args.folder.now) c.args.allowed (g.D.Folder.counts c.args.folder.now) (g.D.Folder.counts c.look.new.folder) c.args.size c.stop_fault.result c.requires.known
+    (c.in_ok-left.ensures.done ∙ c.loop-at.invariant.counts) c.stop_fault.ensures.refused (λ bytes holds.
+    let now = c.loop-at.found in
+    let shows = c.in_ok-left.ensures.shows bytes (subst (λ f. Holds f c.args.name.now bytes) (sym c.loop-at.invariant.files) holds) in
+    let seen = subst (λ front. Shows bytes c.loop-at.at front c.in_ok-left.left) (sym c.bytes.ensures) shows in
+    stopped_fault bytes c.args.start c.args.head c.args.allowed now.rows.items now.pieces.items now.before.place now.before.ended c.loop-at.at (c.loop-at.invariant.surveyed bytes holds)
+    (record { start_is = c.requires.start bytes holds; head_is = c.requires.head bytes holds }) c.stop_fault.result (c.in_default.ensures.step bytes c.loop-at.at seen)
+    (ap (fault_at c.loop-at.at) (sym (item_at-shown bytes c.loop-at.at c.look.new.feed.given c.in_ok-left.left shows) ∙ ap item_front (sym c.bytes-in_default.ensures)) ∙ c.stop_fault.ensures.fault))
+
+pub keep-requires-clause-room : goal.keep-requires-clause-room
+keep-requires-clause-room g c = λ h frame.
+    subst (λ front. overhead_of (class_of h) h.protected ≤ length front) (c.bytes.ensures ∙ sym c.bytes-in-loop-at.ensures)
+    (shown_room c.bytes.result.now c.in-Some.step.item h c.in-Some.step.size c.in_ok-left.left c.in-Some.ensures.item frame (c.in-Some.ensures.most h frame) c.in-Some.ensures.least c.in-Some.ensures.within
+    (ap length c.bytes.ensures ∙ c.in_ok-left.ensures.many))
+
+pub returns-in_err-keep-clause-refused : goal.returns-in_err-keep-clause-refused
+returns-in_err-keep-clause-refused g c =
+    let p = err_from_is_err_and c.from_residual-in_err-keep.result c.from_residual-in_err-keep.ensures.1 in
+    let now = c.loop-at.found in
+    let item = c.in-Some.step.item in
+    let front = c.bytes.result.now in
+    rw (p.1, p.2)
+    (keep_refusal c.args.name.now (g.D.Folder.files c.args.folder.now) c.args.allowed (g.D.Folder.counts c.args.folder.now) (g.D.Folder.counts c.look.new.folder) c.args.size c.in_err-keep.field-0.0 c.class-class.result c.loop-at.at
+    item c.bytes-in-loop-at.result.now now c.requires.known (c.in_ok-left.ensures.done ∙ c.loop-at.invariant.counts) (λ bytes holds is.
+    let shows = c.in_ok-left.ensures.shows bytes (subst (λ f. Holds f c.args.name.now bytes) (sym c.loop-at.invariant.files) holds) in
+    let seen = subst (λ l. Shows bytes c.loop-at.at l c.in_ok-left.left) (sym c.bytes.ensures) shows in
+    refused bytes c.args.start c.args.head c.args.allowed now c.loop-at.at (c.loop-at.invariant.surveyed bytes holds) front c.in_ok-left.left seen
+    (record { start_is = c.requires.start bytes holds; head_is = c.requires.head bytes holds }) item c.in-Some.step.size c.in_err-keep.field-0.0 (few_by front item c.in-Some.ensures.item c.in-Some.ensures.most)
+    (c.in-Some.ensures.step bytes c.loop-at.at seen)
+    (subst (λ l. IsFrameFault (class_from c.args.start) c.args.allowed c.loop-at.at item l now c.in_err-keep.field-0.0) (c.bytes-in-loop-at.ensures ∙ sym c.bytes.ensures)
+    (subst (λ class. IsFrameFault class c.args.allowed c.loop-at.at item c.bytes-in-loop-at.result.now now c.in_err-keep.field-0.0) c.class-class.ensures is))) c.in_err-keep.ensures)
+
+pub loop-at-preserved : goal.loop-at-preserved
+loop-at-preserved g c =
+    let now = c.loop-at.found in
+    let item = c.in-Some.step.item in
+    let front = c.bytes.result.now in
+    let keeps : Keeps (class_from c.args.start) c.args.allowed c.loop-at.at item front now c.keep.new.self =
+    subst (λ l. Keeps (class_from c.args.start) c.args.allowed c.loop-at.at item l now c.keep.new.self) (c.bytes-in-loop-at.ensures ∙ sym c.bytes.ensures)
+    (subst (λ class. Keeps class c.args.allowed c.loop-at.at item c.bytes-in-loop-at.result.now now c.keep.new.self) c.class-class.ensures c.in_ok-keep.ensures) in
+    record {
+      surveyed = λ bytes holds.
+          let shows = c.in_ok-left.ensures.shows bytes (subst (λ f. Holds f c.args.name.now bytes) (sym c.loop-at.invariant.files) holds) in
+          let seen = subst (λ l. Shows bytes c.loop-at.at l c.in_ok-left.left) (sym c.bytes.ensures) shows in
+          kept bytes c.args.start c.args.head c.args.allowed now c.loop-at.at (c.loop-at.invariant.surveyed bytes holds) front c.in_ok-left.left seen item c.keep.new.self c.in-Some.step.size
+          (few_by front item c.in-Some.ensures.item c.in-Some.ensures.most) (c.in-Some.ensures.step bytes c.loop-at.at seen) keeps;
+      laid = laid_more c.args.start.first.offset (class_from c.args.start) c.args.allowed c.loop-at.at front now c.keep.new.self c.in-Some.step.size c.loop-at.invariant.laid item c.in-Some.ensures.least keeps;
+      within = omega (arith, c.in-Some.ensures.within, c.in_ok-left.ensures.left, c.loop-at.invariant.within);
+      fed = c.in_ok-left.ensures.fed;
+      files = c.in_ok-left.ensures.files ∙ c.loop-at.invariant.files;
+      counts = c.in_ok-left.ensures.done ∙ c.loop-at.invariant.counts;
+    }
+
+pub returns-then-is_empty-clause-refused : goal.returns-then-is_empty-clause-refused
+returns-then-is_empty-clause-refused g c =
+    bytes_refusal c.args.name.now (g.D.Folder.files c.args.folder.now) c.args.allowed (g.D.Folder.counts c.args.folder.now) (g.D.Folder.counts c.loop-at.folder) c.args.size (NoFrame c.args.size) c.requires.known c.loop-at.invariant.counts
+    (refl, tt) (λ bytes holds.
+    let now = c.loop-at.found in
+    let is_size = c.requires.known.long bytes holds in
+    no_frame bytes c.args.start c.args.head c.args.allowed now.rows.items now.pieces.items now.before.place now.before.ended c.loop-at.at (c.loop-at.invariant.surveyed bytes holds)
+    (record { start_is = c.requires.start bytes holds; head_is = c.requires.head bytes holds }) (omega (arith, c.loop-at-test.false, is_size)) (nothing_in now.rows.items (omega (arith, eqb-true (vec_len now.rows) 0 (sym c.is_empty.ensures ∙ c.if-is_empty.true), now.rows.ok.0)))
+    ∙ ap (λ n. Err (NoFrame n)) (sym is_size))
+
+pub returns-clause-exact : goal.returns-clause-exact
+returns-clause-exact g c = λ bytes holds.
+    let now = c.loop-at.found in
+    survey_of-short bytes c.args.allowed (omega (arith, c.requires.known.few, c.requires.known.long bytes holds))
+    ∙ whole bytes c.args.start c.args.head c.args.allowed now.rows.items now.pieces.items now.before.place now.before.ended c.loop-at.at (c.loop-at.invariant.surveyed bytes holds)
+    (record { start_is = c.requires.start bytes holds; head_is = c.requires.head bytes holds }) (omega (arith, c.loop-at-test.false, c.requires.known.long bytes holds))
+    (λ none. true≢false (sym (eq-eqb (vec_len now.rows) 0 (omega (arith, ap length none, now.rows.ok.0))) ∙ sym c.is_empty.ensures ∙ c.if-is_empty.false))
+    ∙ ap (λ n. Ok (record (told_by bytes c.args.start c.args.head now.rows.items now.pieces.items) { length = n })) (sym (c.requires.known.long bytes holds))

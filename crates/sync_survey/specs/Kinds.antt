@@ -1,0 +1,51 @@
+-- The kinds of a survey's faults.
+use Rattle.std.specs.Prelude.{◌≡◌, ◌<◌}
+use Rattle.sync_survey.specs.declared.survey_fault.SurveyFault.{SurveyFault}
+use Rattle.sync_survey.specs.declared.survey_fault.SurveyFault.TheVariants.{Absent, TooLong, Shrunk, Read, Memory}
+use Rattle.sync_survey.specs.Faults.{longest_file}
+
+pub data InputKind : Type 0 where
+  -- the file isn't there
+  IsAbsent : InputKind
+  -- it could not be read
+  IsUnread : InputKind
+  -- it became shorter while it was read
+  IsShorter : InputKind
+  -- want of memory
+  IsTooMuch : InputKind
+  -- it is there, and refused: it is too long, or its bytes are at fault
+  IsRefused : InputKind
+
+-- the kind of a fault
+abbrev pub kind_of : SurveyFault → InputKind
+kind_of Absent = IsAbsent
+kind_of (Shrunk first second) = IsShorter
+kind_of Read = IsUnread
+kind_of Memory = IsTooMuch
+kind_of _ = IsRefused
+
+-- the numbers that a fault carries, whatever is told of the file: it is too long above the limit alone, and it ended before the length
+-- that it was found with
+abbrev pub HasRightNumbers : SurveyFault → Type 0
+HasRightNumbers (TooLong size) = longest_file < size
+HasRightNumbers (Shrunk first second) = second < first
+HasRightNumbers _ = Unit {0}
+
+-- what stands for each kind
+pub record ByKind {ℓ} (A : Type ℓ) : Type ℓ where
+  pub absent : A
+  pub unread : A
+  pub shorter : A
+  pub too_much : A
+  pub refused : A
+
+abbrev pub by_kind {ℓ} : {A : Type ℓ} → ByKind A → InputKind → A
+by_kind k IsAbsent = k.absent
+by_kind k IsUnread = k.unread
+by_kind k IsShorter = k.shorter
+by_kind k IsTooMuch = k.too_much
+by_kind k IsRefused = k.refused
+
+-- the file is refused, with the right numbers
+abbrev pub RefusesRightly : SurveyFault → Type 0
+RefusesRightly fault = (kind_of fault ≡ IsRefused) × HasRightNumbers fault

@@ -1,0 +1,66 @@
+-- What is seen of a file through a look at so many of its bytes.
+use Rattle.std.specs.Prelude.{◌≡◌, ℕ, ◌+◌, ◌-◌, List, [], ◌∷◌, ◌++◌, length, take, drop, Option, Some, None, option_to_list}
+use Rattle.frame_header.specs.Fields.{ClassFields}
+use Rattle.frame_header.specs.Tables.{class_of}
+use Rattle.side_info.specs.Side.{SideFits}
+use Rattle.side_info.specs.Frame.{word_said}
+use Rattle.sync_survey.specs.declared.found.Found.{Found}
+use Rattle.sync_survey.specs.declared.items.Item.{Item}
+use Rattle.sync_survey.specs.declared.items.Item.TheVariants.{Frame, Block}
+use Rattle.sync_survey.specs.declared.places.Piece.{Piece}
+use Rattle.sync_survey.specs.declared.rows.Row.{Row}
+use Rattle.sync_survey.specs.declared.survey_fault.SurveyFault.{SurveyFault}
+use Rattle.sync_survey.specs.MainData.{row_in, own_area, end_behind}
+use Rattle.sync_survey.specs.Faults.{faults_at, first_of}
+use Rattle.sync_survey.specs.declared.runs.Part.{Part}
+use Rattle.sync_survey.specs.declared.runs.Step.{Step}
+use Rattle.sync_survey.specs.Runs.{item_of, run, frame_as, block_as, frames_of, blocks_of}
+
+-- a look shows so many bytes, where the file has them: more than a frame and the 32 bytes behind it that tell what stands there
+abbrev pub look_size : ℕ
+look_size = 4096
+
+-- a look at an offset of the file shows these bytes, and so many are left there
+pub record Shows (file : List ℕ) (at : ℕ) (front : List ℕ) (left : ℕ) : Type 0 where
+  pub front_is : front ≡ take look_size (drop at file)
+  pub left_is : left ≡ length file - at
+
+-- the items of the part that stand end to end from the offset on are this one and those so many bytes later, but for zero bytes between them
+pub record Passes (part : Part) (file : List ℕ) (at : ℕ) (item : Item) (size : ℕ) : Type 0 where
+  pub frames : frames_of (run part file at).items ≡ option_to_list (frame_as at item) ++ frames_of (run part file (at + size)).items
+  pub blocks : blocks_of (run part file at).items ≡ option_to_list (block_as at item) ++ blocks_of (run part file (at + size)).items
+  pub stop : (run part file at).stop ≡ (run part file (at + size)).stop
+
+-- this is passed at the offset, or nothing of the part stands there whole
+abbrev pub IsStep : Part → List ℕ → ℕ → Option Step → Type 0
+IsStep part file at None = item_of part file at ≡ None
+IsStep part file at (Some step) = Passes part file at step.item step.size
+
+-- ---- what is kept of an item
+
+-- a frame has no fault, and is kept behind the others
+pub record KeepsFrame (said : ℕ) (class : ClassFields) (allowed : ℕ) (r : Row) (old new : Found) : Type 0 where
+  pub sound : first_of (faults_at said class allowed old.before.place old.before.ended (length old.rows.items) r) ≡ None
+  pub fits : SideFits (class_of r.header) r.side
+  pub rows : new.rows.items ≡ old.rows.items ++ r ∷ []
+  pub pieces : new.pieces.items ≡ old.pieces.items
+  pub place : new.before.place ≡ old.before.place + own_area r.header
+  pub ended : new.before.ended ≡ end_behind old.before.place old.before.ended (Some r)
+
+-- these blocks are kept behind the others
+pub record KeepsBlocks (blocks : List Piece) (old new : Found) : Type 0 where
+  pub rows : new.rows.items ≡ old.rows.items
+  pub pieces : new.pieces.items ≡ old.pieces.items ++ blocks
+  pub before : new.before ≡ old.before
+
+-- what is kept of an item at an offset, by the bytes from there on
+abbrev pub Keeps : ClassFields → ℕ → ℕ → Item → List ℕ → Found → Found → Type 0
+Keeps class allowed offset (Frame h) bytes old new = KeepsFrame (word_said bytes) class allowed (row_in offset h bytes) old new
+Keeps class allowed offset (Block b) bytes old new = KeepsBlocks (record { offset = offset; block = b } ∷ []) old new
+Keeps class allowed offset _ bytes old new = KeepsBlocks [] old new
+
+-- the first fault of a frame
+abbrev pub IsFrameFault : ClassFields → ℕ → ℕ → Item → List ℕ → Found → SurveyFault → Type 0
+IsFrameFault class allowed offset (Frame h) bytes old fault =
+    first_of (faults_at (word_said bytes) class allowed old.before.place old.before.ended (length old.rows.items) (row_in offset h bytes)) ≡ Some fault
+IsFrameFault class allowed offset _ bytes old fault = ⊥

@@ -1,0 +1,64 @@
+//! The front of a file.
+ghost use Rattle.std.specs.Prelude.{◌≡◌, ℕ, List, ◌+◌, ◌++◌, [], ◌≤◌, IfOk, IfErr, OnOk, option_to_list};
+ghost use Rattle.outside.specs.Files.{Holds};
+ghost use Rattle.outside.specs.Counts.{OnlyReads};
+ghost use Rattle.outside.specs.Feed.{IsFedFrom};
+ghost use Rattle.sync_survey.specs.Runs.{run, block_as, blocks_of};
+ghost use Rattle.sync_survey.specs.Start.{front_end_of};
+ghost use Rattle.sync_survey.specs.Survey.{HasLength, IsRefusal, BlocksAreLaid};
+
+use crate::items::Item;
+use crate::looks::look;
+use crate::places::Piece;
+use crate::runs::{Part, step_at};
+use crate::survey_fault::SurveyFault;
+use outside::{Feed, Folder};
+use std::alloc::AllocError;
+
+/// Keeps the item, where it is a block.
+pub(crate) fn keep_block(
+    pieces: &mut Vec<Piece>,
+    offset: u64,
+    item: &Item,
+) -> Result<(), AllocError>
+    ensures { OnOk result (pieces.new.items ≡ pieces.old.items ++ option_to_list (block_as offset item.now)) }
+{
+    if let Item::Block(block) = *item {
+        pieces.push(Piece { offset, block })?;
+    }
+    Ok(())
+}
+
+/// Passes the blocks and zero bytes at the front of the file, keeps the blocks, and answers where neither
+/// stands.
+pub(crate) fn pass_front<D: Folder>(
+    feed: &mut Feed,
+    folder: &mut D,
+    name: &str,
+    size: u64,
+    pieces: &mut Vec<Piece>,
+) -> Result<u64, SurveyFault>
+    requires known { HasLength (D.files folder.old) name.now size }
+    requires fed { IsFedFrom feed.old (D.files folder.old) name.now }
+    requires none { pieces.old.items ≡ [] }
+    ensures front_end { IfOk result (λ at. (bytes : List ℕ) → Holds (D.files folder.old) name.now bytes → at ≡ front_end_of bytes) }
+    ensures blocks { OnOk result ((bytes : List ℕ) → Holds (D.files folder.old) name.now bytes → pieces.new.items ≡ blocks_of (run Part.Front bytes 0).items) }
+    ensures laid { IfOk result (λ at. BlocksAreLaid 0 pieces.new.items at) }
+    ensures within { IfOk result (λ at. at ≤ size) }
+    ensures done { OnOk result (D.counts folder.new ≡ D.counts folder.old) }
+    ensures refused { IfErr result (λ fault. (allowed : ℕ) → IsRefusal name.now (D.files folder.old) allowed (D.counts folder.old) (D.counts folder.new) fault) }
+    ensures fed { IsFedFrom feed.new (D.files folder.new) name.now }
+    ensures files { D.files folder.new ≡ D.files folder.old }
+    ensures counts { OnlyReads (D.counts folder.old) (D.counts folder.new) }
+{
+    let mut at = 0;
+    while at < size {
+        let left = look(feed, folder, name, size, at)?;
+        let Some(step) = step_at(Part::Front, feed.bytes(), left) else {
+            return Ok(at);
+        };
+        keep_block(pieces, at, &step.item)?;
+        at += step.size;
+    }
+    Ok(at)
+}

@@ -1,0 +1,80 @@
+//! The head of a file.
+ghost use Rattle.std.specs.Prelude.{◌≡◌, ℕ, List, ◌+◌, ◌^◌, ◌≤◌, take, option_map, IfOk, IfErr, IfSome, OnOk};
+ghost use Rattle.frame_header.specs.Tables.{class_of, length_of};
+ghost use Rattle.info_header.specs.HeadText.{head_text_of};
+ghost use Rattle.outside.specs.Files.{Holds};
+ghost use Rattle.outside.specs.Counts.{OnlyReads};
+ghost use Rattle.outside.specs.Feed.{IsFedFrom};
+ghost use Rattle.sync_survey.specs.declared.items.Item.TheVariants.{Frame};
+ghost use Rattle.sync_survey.specs.Items.{size_of};
+ghost use Rattle.sync_survey.specs.Walk.{head_of as head_of_lem, numbered_at};
+ghost use Rattle.sync_survey.specs.MainData.{head_area as head_area_lem};
+ghost use Rattle.sync_survey.specs.Survey.{HasLength, IsRefusal};
+
+use crate::looks::look;
+use crate::places::{Head, PlacedFrame};
+use crate::survey_fault::SurveyFault;
+use info_header::head_text;
+use outside::{Feed, Folder};
+
+/// The head that the frame is, where it is one. The first of the bytes are the frame's, all of them.
+fn head_in(frame: &PlacedFrame, bytes: &[u8]) -> Option<Head>
+    ensures most { length_of (class_of frame.now.header) frame.now.header.slot ≤ 1441 }
+    ensures head { result ≡ option_map (λ at. record { offset = frame.now.offset; header = frame.now.header; text_at = at }) (head_text_of frame.now.header (take (length_of (class_of frame.now.header) frame.now.header.slot) bytes.now)) }
+{
+    let length = frame.header.length() as usize;
+    let own = bytes.get(..length).unwrap_or(bytes);
+    let text_at = head_text(&frame.header, own)?;
+    Some(Head {
+        offset: frame.offset,
+        header: frame.header,
+        text_at,
+    })
+}
+
+/// The head that the first frame is, where it is one.
+#[tactic(auto, unfolding(crate::specs::Walk::head_of))]
+pub(crate) fn find_head<D: Folder>(
+    feed: &mut Feed,
+    folder: &mut D,
+    name: &str,
+    size: u64,
+    first: &PlacedFrame,
+) -> Result<Option<Head>, SurveyFault>
+    requires known { HasLength (D.files folder.old) name.now size }
+    requires fed { IsFedFrom feed.old (D.files folder.old) name.now }
+    requires whole { first.now.offset + size_of (Frame first.now.header) ≤ size }
+    ensures head { IfOk result (λ o. (bytes : List ℕ) → Holds (D.files folder.old) name.now bytes → o ≡ head_of_lem bytes first.now) }
+    ensures done { OnOk result (D.counts folder.new ≡ D.counts folder.old) }
+    ensures refused { IfErr result (λ fault. (allowed : ℕ) → IsRefusal name.now (D.files folder.old) allowed (D.counts folder.old) (D.counts folder.new) fault) }
+    ensures fed { IsFedFrom feed.new (D.files folder.new) name.now }
+    ensures files { D.files folder.new ≡ D.files folder.old }
+    ensures counts { OnlyReads (D.counts folder.old) (D.counts folder.new) }
+{
+    look(feed, folder, name, size, first.offset)?;
+    Ok(head_in(first, feed.bytes()))
+}
+
+/// The bytes of the head that count as main data.
+pub(crate) fn head_area(head: &Option<Head>) -> u64
+    ensures area { result ≡ head_area_lem head.now }
+    ensures most { result ≤ 1441 }
+{
+    match head {
+        Some(head) => u64::from(head.header.area()),
+        None => 0,
+    }
+}
+
+/// Where the numbered frames begin: at the first frame, or behind it where that is the head.
+pub(crate) fn numbered_from(first: &PlacedFrame, head: &Option<Head>) -> u64
+    requires { first.now.offset + size_of (Frame first.now.header) ≤ 2 ^ 62 }
+    ensures at { result ≡ numbered_at first.now head.now }
+    ensures within { result ≤ first.now.offset + size_of (Frame first.now.header) }
+    ensures behind { first.now.offset ≤ result }
+{
+    match head {
+        Some(_) => first.offset + u64::from(first.header.length()),
+        None => first.offset,
+    }
+}

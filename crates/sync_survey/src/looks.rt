@@ -1,0 +1,79 @@
+//! Looks at a file of a folder.
+ghost use Rattle.std.specs.Prelude.{◌≡◌, ℕ, List, Some, None, ◌+◌, ◌-◌, ◌^◌, ◌<◌, ◌≤◌, min, length, nat_lt, if◌then◌else◌, IfOk, IfErr, OnOk};
+ghost use Rattle.bit_fields.specs.Bits.{AreBytes};
+ghost use Rattle.outside.specs.Files.{Holds};
+ghost use Rattle.outside.specs.Counts.{OnlyReads};
+ghost use Rattle.outside.specs.Feed.{IsFedFrom};
+ghost use Rattle.sync_survey.specs.Looks.{look_size, Shows};
+ghost use Rattle.sync_survey.specs.Survey.{HasLength, IsRefusal};
+
+use crate::survey_fault::SurveyFault;
+use outside::{Feed, FindFault, Folder};
+
+/// An input may have so many bytes.
+const LONGEST_FILE: u64 = 1_073_741_824;
+
+/// A look is at so many bytes.
+const LOOK_SIZE: u64 = 4096;
+
+/// The length of the file in bytes, where it may have it.
+pub(crate) fn find_length<D: Folder>(folder: &mut D, name: &str) -> Result<u64, SurveyFault>
+    ensures found { IfOk result (HasLength (D.files folder.old) name.now) }
+    ensures octets { IfOk result (λ _. (bytes : List ℕ) → Holds (D.files folder.old) name.now bytes → AreBytes bytes) }
+    ensures done { OnOk result (D.counts folder.new ≡ D.counts folder.old) }
+    ensures refused { IfErr result (λ fault. (allowed : ℕ) → IsRefusal name.now (D.files folder.old) allowed (D.counts folder.old) (D.counts folder.new) fault) }
+    ensures files { D.files folder.new ≡ D.files folder.old }
+    ensures counts { OnlyReads (D.counts folder.old) (D.counts folder.new) }
+{
+    match folder.find(name) {
+        Ok(length) if length > LONGEST_FILE => Err(SurveyFault::TooLong(length)),
+        Ok(length) => Ok(length),
+        Err(FindFault::Absent) => Err(SurveyFault::Absent),
+        Err(FindFault::Failed) => Err(SurveyFault::Read),
+    }
+}
+
+/// The fault of a file that was found with so many bytes, where fewer came from an offset on than were asked
+/// for.
+fn cut_short(size: u64, at: u64, wanted: usize, got: usize) -> Option<SurveyFault>
+    requires { at + got < 2 ^ 64 }
+    ensures { result ≡ (if nat_lt got wanted then Some (SurveyFault.Shrunk size (at + got)) else None) }
+{
+    if got < wanted {
+        Some(SurveyFault::Shrunk(size, at + got as u64))
+    } else {
+        None
+    }
+}
+
+/// Looks at the file, which was found with so many bytes, from an offset on, and answers how many are left
+/// there. The feed gives 4,096 of them, or all where there are fewer.
+pub(crate) fn look<D: Folder>(
+    feed: &mut Feed,
+    folder: &mut D,
+    name: &str,
+    size: u64,
+    at: u64,
+) -> Result<u64, SurveyFault>
+    requires known { HasLength (D.files folder.old) name.now size }
+    requires early { at ≤ 2 ^ 31 }
+    requires fed { IsFedFrom feed.old (D.files folder.old) name.now }
+    ensures shows { IfOk result (λ left. (bytes : List ℕ) → Holds (D.files folder.old) name.now bytes → Shows bytes at feed.new.given left) }
+    ensures left { IfOk result (λ left. left ≡ size - at) }
+    ensures many { IfOk result (λ left. length feed.new.given ≡ min look_size left) }
+    ensures done { OnOk result (D.counts folder.new ≡ D.counts folder.old) }
+    ensures refused { IfErr result (λ fault. (allowed : ℕ) → IsRefusal name.now (D.files folder.old) allowed (D.counts folder.old) (D.counts folder.new) fault) }
+    ensures fed { IsFedFrom feed.new (D.files folder.new) name.now }
+    ensures files { D.files folder.new ≡ D.files folder.old }
+    ensures counts { OnlyReads (D.counts folder.old) (D.counts folder.new) }
+{
+    let left = size.saturating_sub(at);
+    let wanted = left.min(LOOK_SIZE) as usize;
+    let Ok(got) = feed.fill(folder, name, at, wanted) else {
+        return Err(SurveyFault::Read);
+    };
+    match cut_short(size, at, wanted, got) {
+        Some(fault) => Err(fault),
+        None => Ok(left),
+    }
+}
