@@ -41,8 +41,8 @@ moved_own shift file at (Frame h) all is belongs within =
     let frame = take (size_of (Frame h)) (drop at file) in
     whole_item h (moved_frame shift h frame) (moved_whole shift h frame (frame_whole file at h all is within)).whole
 moved_own shift file at Free all is belongs within = absurd (false≢true belongs)
-moved_own shift file at (Block b) all is belongs within = kept_item file at (Block b) all is belongs within
-moved_own shift file at Zero all is belongs within = kept_item file at Zero all is belongs within
+moved_own shift file at (Block b) all is belongs within = kept_item file at (Block b) is belongs within
+moved_own shift file at Zero all is belongs within = kept_item file at Zero is belongs within
 moved_own shift file at End all is belongs within = absurd (false≢true belongs)
 moved_own shift file at Nothing all is belongs within = absurd (false≢true belongs)
 

@@ -4,7 +4,6 @@ use Rattle.std.proofs.lemmas.Bool.{le-leb}
 use Rattle.std.proofs.lemmas.List.{drop-drop, take_at, drop_at}
 use Rattle.std.proofs.Math.Seq.{drop-length}
 use Rattle.bit_fields.specs.Bits.{AreBytes}
-use Rattle.bit_fields.proofs.BitsLaws.{AreBytes-append}
 use Rattle.frame_header.specs.Fields.{HeaderFields}
 use Rattle.frame_header.specs.Tables.{class_of, overhead_of}
 use Rattle.sync_survey.specs.declared.items.Item.TheVariants.{Frame}
@@ -16,12 +15,12 @@ use Rattle.sync_survey.specs.declared.runs.Part.TheVariants.{Front, Stream}
 use Rattle.sync_survey.specs.Items.{item_at, size_of, fits}
 use Rattle.sync_survey.specs.Runs.{Placed, Run, whole, item_of, run, AreEndToEnd, bytes_of, frames_of, blocks_of}
 use Rattle.sync_survey.specs.Start.{start_at, front_end_of, start_of, IsLeastStart}
-use Rattle.sync_survey.specs.Walk.{ReachesTo, stream_of, frame_bytes, head_of, numbered, all_blocks}
+use Rattle.sync_survey.specs.Walk.{stream_run, frame_bytes, head_of, numbered, all_blocks}
 use Rattle.sync_survey.proofs.RunsLaws.{IsItemOf, item_of-past, run-next, run-ends}
 use Rattle.sync_survey.proofs.StartLaws.{start-first, start-front}
-use Rattle.sync_survey.proofs.WalkLaws.{first_item, reach-end}
+use Rattle.sync_survey.proofs.WalkLaws.{ReachesTo, first_item, reach-end}
 use Rattle.sync_survey.proofs.ItemBytes.{IsItem}
-use Rattle.sync_survey.proofs.ItemLists.{AreItems, ends-stream, items-bytes, items-length, kept_items, nearer, item_at-known, items-run, nearer-none, nearer_frame, nearer_piece, frames-nearer, blocks-nearer}
+use Rattle.sync_survey.proofs.ItemLists.{AreItems, ends-stream, items-length, kept_items, nearer, item_at-known, items-run, nearer-none, nearer_frame, nearer_piece, frames-nearer, blocks-nearer}
 use Rattle.sync_survey.proofs.HeadSame.{nearer_head, head_of-nearer}
 use Rattle.sync_survey.proofs.SurveyParts.{frames_from, told_from, IsRead}
 use Rattle.edits.specs.declared.shift.Shift.{Shift}
@@ -121,7 +120,7 @@ module _ (shift : Shift) (file : List ℕ) (allowed : ℕ) (start : Start) (all 
   first_there : item_of Stream file first ≡ Some (Frame h)
   first_there = first_item file start.first first_whole.is first_whole.within
 
-  pub stream_is : stream_of file start ≡ record { items = items; stop = later.stop }
+  pub stream_is : stream_run file start ≡ record { items = items; stop = later.stop }
   stream_is = run-next Stream file first (Frame h) first_there
 
   pub front_ends : AreEndToEnd Front file 0 front.items front.stop
@@ -135,15 +134,15 @@ module _ (shift : Shift) (file : List ℕ) (allowed : ℕ) (start : Start) (all 
 
   pub items_bytes : bytes_of file items ≡ drop first file
   items_bytes =
-      let reached : ReachesTo file start (length file) = reach-end file start (frames_from file start) (stream_of file start).stop refl read.end in
+      let reached : ReachesTo file start (length file) = reach-end file start (frames_from file start) (stream_run file start).stop refl read.end in
       ap (λ (r : Run). bytes_of file r.items) (sym stream_is)
-      ∙ sym (append-nil (bytes_of file (stream_of file start).items))
-      ∙ ap (λ l. bytes_of file (stream_of file start).items ++ l) (sym (drop-length file))
+      ∙ sym (append-nil (bytes_of file (stream_run file start).items))
+      ∙ ap (λ l. bytes_of file (stream_run file start).items ++ l) (sym (drop-length file))
       ∙ reached
 
   pub stop_is : later.stop ≡ length file
   stop_is =
-      omega (arith, items-length Stream file first items later.stop (bytes_of file items) ends (kept_items file first items later.stop all ends), ap length items_bytes, length-drop first file, first_whole.within, first_whole.some)
+      omega (arith, items-length Stream file first items later.stop (bytes_of file items) ends (kept_items file first items later.stop ends), ap length items_bytes, length-drop first file, first_whole.within, first_whole.some)
 
   -- ---- the bytes
 
@@ -164,7 +163,7 @@ module _ (shift : Shift) (file : List ℕ) (allowed : ℕ) (start : Start) (all 
   own_by (Some found) = whole_item h (frame_bytes file start.first) first_frame
 
   before_are : AreItems front.items before
-  before_are = kept_items file 0 front.items front.stop all (ends-stream Front file 0 front.items front.stop front_ends)
+  before_are = kept_items file 0 front.items front.stop (ends-stream Front file 0 front.items front.stop front_ends)
 
   after_are : AreItems later.items after
   after_are = moved_are shift file (first + size) later.items later.stop all later_ends
@@ -184,12 +183,6 @@ module _ (shift : Shift) (file : List ℕ) (allowed : ℕ) (start : Start) (all 
   pub new-before : take front_end new_file ≡ before
   new-before = ap (take front_end) new-is ∙ take_at before (own ++ after) front_end before_long
 
-  rest_bytes : AreBytes (own ++ after)
-  rest_bytes = AreBytes-append own after (own_by head).bytes (items-bytes later.items after after_are)
-
-  pub new-bytes : AreBytes new_file
-  new-bytes = subst AreBytes (sym new-is) (AreBytes-append before (own ++ after) (items-bytes front.items before before_are) rest_bytes)
-
   pub new-length : length new_file ≡ length file - gap
   new-length =
       omega (
@@ -208,7 +201,7 @@ module _ (shift : Shift) (file : List ℕ) (allowed : ℕ) (start : Start) (all 
   -- ---- the runs of the edited file
 
   new_first : item_at new_file front_end ≡ Frame h
-  new_first = item_at-known new_file front_end front_end (own ++ after) (Frame h) refl new-stands ((own_by head).known after (items-bytes later.items after after_are))
+  new_first = item_at-known new_file front_end front_end (own ++ after) (Frame h) refl new-stands ((own_by head).known after)
 
   new_room : front_end + size ≤ length new_file
   new_room = omega (arith, new-length, front_low, first_whole.within)
@@ -216,14 +209,14 @@ module _ (shift : Shift) (file : List ℕ) (allowed : ℕ) (start : Start) (all 
   pub new-front : run Front new_file 0 ≡ record { items = front.items; stop = front_end }
   new-front =
       let stop : front.stop - 0 ≡ front_end = omega (arith, front_stop) in
-      items-run Front file new_file 0 0 0 front.items front.stop before (own ++ after) front_ends (omega arith) before_are rest_bytes (omega arith) new-is
+      items-run Front file new_file 0 0 0 front.items front.stop before (own ++ after) front_ends (omega arith) before_are (omega arith) new-is
       (not_in_front new_file (front.stop - 0) h (ap (item_at new_file) stop ∙ new_first))
       ∙ (λ i. record { items = nearer-none front.items i; stop = stop i })
 
   pub new-stream : run Stream new_file front_end ≡ record { items = map (nearer gap) items; stop = later.stop - gap }
   new-stream =
       items-run Stream file new_file gap first front_end items later.stop (own ++ after) [] ends (omega (arith, front_low))
-      (own, after, refl, own_by head, after_are) tt (omega (arith, new_room)) (new-stands ∙ sym (append-nil (own ++ after)))
+      (own, after, refl, own_by head, after_are) (omega (arith, new_room)) (new-stands ∙ sym (append-nil (own ++ after)))
       (item_of-past Stream new_file (later.stop - gap) (omega (arith, new-length, stop_is)))
 
   pub new-start : start_of new_file ≡ Ok (moved_start start)
@@ -280,7 +273,7 @@ module _ (shift : Shift) (file : List ℕ) (allowed : ℕ) (start : Start) (all 
       ∙ numbered-mapped gap head (frames_of items)
       ∙ ap (λ (r : Run). map (nearer_frame gap) (numbered head (frames_of r.items))) (sym stream_is)
 
-  pub new-blocks : all_blocks new_file (moved_start start) ≡ blocks_of front.items ++ map (nearer_piece gap) (blocks_of (stream_of file start).items)
+  pub new-blocks : all_blocks new_file (moved_start start) ≡ blocks_of front.items ++ map (nearer_piece gap) (blocks_of (stream_run file start).items)
   new-blocks =
       ap₂ (λ (a b : List Piece). a ++ b) (ap (λ (r : Run). blocks_of r.items) new-front)
       (ap (λ (r : Run). blocks_of r.items) new-stream ∙ blocks-nearer gap items ∙ ap (λ (r : Run). map (nearer_piece gap) (blocks_of r.items)) (sym stream_is))

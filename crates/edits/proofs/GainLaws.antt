@@ -1,16 +1,16 @@
 -- Steps of the gain command, and what it leaves by them.
-use Rattle.std.proofs.Common.{◌≡◌, ◌≢◌, ◌⊎◌, ℕ, ◌+◌, ◌<◌, ◌≤◌, Bool, true, false, ltb, cond, List, [], ◌∷◌, ◌++◌, length, take, Option, Some, None, refl, sym, ◌∙◌, ap, ap₂, subst, bytes_eq, Result, Ok, Err, inl, inr, arith}
+use Rattle.std.proofs.Common.{◌≡◌, ℕ, ◌+◌, ◌≤◌, true, false, List, [], ◌∷◌, length, Option, Some, None, refl, sym, ◌∙◌, ap, ap₂, subst, bytes_eq, Result, Ok, Err, inl, inr, arith}
 use Rattle.std.specs.Prelude.{IfSome, IfErr, OnOk, is_some, map, unwrap_or}
-use Rattle.std.proofs.lemmas.Bool.{lt-ltb}
 use Rattle.bit_fields.specs.Bits.{AreBytes}
-use Rattle.outside.specs.Files.{Contents, Files, untold, with_file, Holds, IsThere, IsMissing}
-use Rattle.outside.specs.Counts.{Counts, Rose, NothingFailed}
+use Rattle.outside.specs.Files.{Contents, Files, Holds, IsThere, IsMissing}
+use Rattle.outside.specs.Counts.{Counts}
 use Rattle.outside.proofs.FilesLaws.{there_holds}
 use Rattle.sync_survey.specs.declared.survey_fault.SurveyFault.{SurveyFault}
 use Rattle.sync_survey.specs.declared.survey_fault.SurveyFault.TheVariants.{Absent, TooLong, NoFrame, LostSync, Truncated, FreeFormat, Mixed, CheckWord, BackPointer, Overlap, Overrun, TooManyFrames, Shrunk, Read, Memory as NoRoom}
-use Rattle.sync_survey.specs.Faults.{longest_file, SurveyFields, surveyed, stream_of_survey}
-use Rattle.sync_survey.specs.Survey.{survey_of, RefusesBytes as SurveyRefuses, IsSurveyFault, IsOfBytes}
-use Rattle.sync_survey.proofs.FoldersLaws.{surveyed_of_bytes, survey_of-short}
+use Rattle.sync_survey.specs.Faults.{longest_file, SurveyFields, surveyed, stream_of_survey, HoldsStream, stream_by, stream_of}
+use Rattle.sync_survey.specs.Survey.{survey_of, RefusesBytes as SurveyRefuses, IsSurveyFault}
+use Rattle.sync_survey.proofs.BytesFaults.{IsOfBytes, surveyed_of_bytes}
+use Rattle.sync_survey.proofs.FoldersLaws.{survey_of-short}
 use Rattle.edits.specs.declared.fault.EditFault.{EditFault}
 use Rattle.edits.specs.declared.fault.EditFault.TheVariants.{EqualNames, Input, GainRange, Write, Memory}
 use Rattle.edits.specs.declared.shift.Shift.{Shift}
@@ -19,8 +19,8 @@ use Rattle.edits.specs.declared.gains.Stuck.{Stuck}
 use Rattle.edits.specs.Gains.{stuck_in}
 use Rattle.sync_survey.specs.declared.rows.Row.{Row}
 use Rattle.edits.specs.Edited.{stuck_fault, most_frames, unless, edited, range_fault, IsRangeFault, gained_by, gained, gained_where, gain_result}
-use Rattle.edits.specs.Streams.{IsStreamMoved, HoldsStream, stream_by, stream_in, moved_stream_frame}
-use Rattle.edits.specs.Command.{Made, Command, clash_of, Gives, written, written_to, MakesStreams, HoldsStreams}
+use Rattle.edits.specs.Streams.{IsStreamMoved, moved_stream_frame}
+use Rattle.edits.specs.Command.{Made, clash_of, Gives, written, written_to, MakesStreams, HoldsStreams}
 use Rattle.edits.specs.Left.{Why, Refused, Missing, Unread, Shorter, Unwritten, NoMemory, why_of, Seen, seen, IsDone, IsWrittenTo, TakesMemory, is_before_memory, LeavesBy, Leaves, HasNumbers, IsOfInput, IsOfPass}
 use Rattle.edits.specs.Gain.{made_of, gain_command, holding, RefusesBytes, IsInputFaultBy, IsInputFault, HoldsPrefix, IsPassFaultBy, IsPassFault}
 use Rattle.edits.proofs.GainedStream.{survey_of-parts, gained-stream}
@@ -60,12 +60,6 @@ pub gained-survey : (shift : Shift) (bytes : List ℕ) (s : SurveyFields) → su
 unfolding gained
 gained-survey shift bytes s is = ap (gained_by shift bytes) is
 
-too_long : (size : ℕ) (bytes : List ℕ) → size ≡ length bytes → longest_file < size → survey_of bytes most_frames ≡ Err (TooLong size)
-unfolding survey_of
-too_long size bytes is long =
-    let more : ltb longest_file (length bytes) ≡ true = lt-ltb longest_file (length bytes) (omega (arith, is, long)) in
-    rw more (ap (λ n. Err (TooLong n)) (sym is))
-
 module _ (shift : Shift) (name : List ℕ) (files new : Files) (before after : Counts) (same : new ≡ files) where
   refused : (fault : SurveyFault) → SurveyRefuses name files most_frames before after fault → RefusesBytes shift name (seen files before) (seen new after) (Input 0 fault)
   refused fault h = record { there = h.there; bytes = λ bytes holds. gained-fault shift bytes fault (h.bytes bytes holds); stays = ap₂ seen same h.counts }
@@ -73,8 +67,7 @@ module _ (shift : Shift) (name : List ℕ) (files new : Files) (before after : C
   -- a fault of the survey is one of the input
   pub survey_is_input : (fault : SurveyFault) → IsSurveyFault name files most_frames before after fault → IsInputFault shift name (seen files before) (seen new after) (of_input fault)
   survey_is_input Absent h = record { is = refl; missing = h.0; rose = h.1; files = same }
-  survey_is_input (TooLong size) h =
-      record { there = h.there; bytes = λ bytes holds. gained-fault shift bytes (TooLong size) (too_long size bytes (h.size_is bytes holds) h.long); stays = ap₂ seen same h.counts }
+  survey_is_input (TooLong size) h = refused (TooLong size) h
   survey_is_input (NoFrame at) h = refused (NoFrame at) h
   survey_is_input (LostSync at) h = refused (LostSync at) h
   survey_is_input (Truncated at) h = refused (Truncated at) h
@@ -89,22 +82,22 @@ module _ (shift : Shift) (name : List ℕ) (files new : Files) (before after : C
   survey_is_input Read h = record { rose = h; files = same }
   survey_is_input NoRoom h = record { there = h.there; few = h.few; stays = ap₂ seen same h.counts }
 
-  pub survey_numbers : (fault : SurveyFault) → IsSurveyFault name files most_frames before after fault → IsOfInput (of_input fault)
-  survey_numbers Absent h = (refl, (λ e. cc), tt)
-  survey_numbers (TooLong size) h = (refl, (λ e. cc), h.long)
-  survey_numbers (NoFrame at) h = (refl, (λ e. cc), tt)
-  survey_numbers (LostSync at) h = (refl, (λ e. cc), tt)
-  survey_numbers (Truncated at) h = (refl, (λ e. cc), tt)
-  survey_numbers (FreeFormat at) h = (refl, (λ e. cc), tt)
-  survey_numbers (Mixed at) h = (refl, (λ e. cc), tt)
-  survey_numbers (CheckWord at said right) h = (refl, (λ e. cc), tt)
-  survey_numbers (BackPointer at begin present) h = (refl, (λ e. cc), tt)
-  survey_numbers (Overlap at) h = (refl, (λ e. cc), tt)
-  survey_numbers (Overrun at bits room) h = (refl, (λ e. cc), tt)
-  survey_numbers (TooManyFrames at) h = (refl, (λ e. cc), tt)
-  survey_numbers (Shrunk first second) h = (refl, (λ e. cc), h.less)
-  survey_numbers Read h = (refl, (λ e. cc), tt)
-  survey_numbers NoRoom h = tt
+pub survey_numbers : (fault : SurveyFault) → HasRightNumbers fault → IsOfInput (of_input fault)
+survey_numbers Absent right = (refl, (λ e. cc), right)
+survey_numbers (TooLong size) right = (refl, (λ e. cc), right)
+survey_numbers (NoFrame at) right = (refl, (λ e. cc), right)
+survey_numbers (LostSync at) right = (refl, (λ e. cc), right)
+survey_numbers (Truncated at) right = (refl, (λ e. cc), right)
+survey_numbers (FreeFormat at) right = (refl, (λ e. cc), right)
+survey_numbers (Mixed at) right = (refl, (λ e. cc), right)
+survey_numbers (CheckWord at said word) right = (refl, (λ e. cc), right)
+survey_numbers (BackPointer at begin present) right = (refl, (λ e. cc), right)
+survey_numbers (Overlap at) right = (refl, (λ e. cc), right)
+survey_numbers (Overrun at bits room) right = (refl, (λ e. cc), right)
+survey_numbers (TooManyFrames at) right = (refl, (λ e. cc), right)
+survey_numbers (Shrunk first second) right = (refl, (λ e. cc), right)
+survey_numbers Read right = (refl, (λ e. cc), right)
+survey_numbers NoRoom right = tt
 
 -- ---- a gain that would leave its range
 
@@ -276,14 +269,14 @@ module _ (shift : Shift) (input output : List ℕ) (differ : bytes_eq input outp
 abbrev ok_made : Made → Result Made EditFault
 ok_made made = Ok made
 
-stream_in-survey : (file : List ℕ) (s : SurveyFields) → surveyed file (length file + 1) ≡ Ok s → stream_in file ≡ stream_of_survey file s
-unfolding stream_in
-stream_in-survey file s is = ap (stream_by file) is
+stream_of-survey : (file : List ℕ) (s : SurveyFields) → surveyed file (length file + 1) ≡ Ok s → stream_of file ≡ stream_of_survey file s
+unfolding stream_of
+stream_of-survey file s is = ap (stream_by file) is
 
-pub moved_holds : (shift : Shift) (file new : List ℕ) → IsStreamMoved shift file new → HoldsStream new (map (moved_stream_frame shift) (stream_in file))
+pub moved_holds : (shift : Shift) (file new : List ℕ) → IsStreamMoved shift file new → HoldsStream new (map (moved_stream_frame shift) (stream_of file))
 moved_holds shift file new h = record {
   well_formed = h.after;
-  stream_is = stream_in-survey new h.after.0 h.after.1 ∙ h.stream ∙ ap (map (moved_stream_frame shift)) (sym (stream_in-survey file h.before.0 h.before.1));
+  stream_is = stream_of-survey new h.after.0 h.after.1 ∙ h.stream ∙ ap (map (moved_stream_frame shift)) (sym (stream_of-survey file h.before.0 h.before.1));
 }
 
 pub makes_streams : (shift : Shift) (input output : List ℕ) (f : Contents) (bytes : List ℕ) → bytes_eq input output ≡ false → f input ≡ Some bytes → AreBytes bytes → (made : Made)
@@ -297,7 +290,7 @@ makes_streams shift input output f bytes differ holds octets made is = at (gaine
         subst (MakesStreams (gain_command shift input output) f) (made_is _ made is)
         (record {
           sources = ((bytes, holds, moved.before), tt);
-          streams = (subst (λ o. HoldsStream new (map (moved_stream_frame shift) (stream_in (unwrap_or o [])))) (sym holds) (moved_holds shift bytes new moved), tt);
+          streams = (subst (λ o. HoldsStream new (map (moved_stream_frame shift) (stream_of (unwrap_or o [])))) (sym holds) (moved_holds shift bytes new moved), tt);
         })
       where
         made_is : (a b : Made) → ok_made a ≡ ok_made b → a ≡ b

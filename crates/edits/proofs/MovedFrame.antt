@@ -114,7 +114,7 @@ moved_whole shift h frame whole =
 
 -- it is an item of its own
 pub whole_item : (h : HeaderFields) (frame : List ℕ) → IsWhole h frame → IsItem (Frame h) frame
-whole_item h frame whole = frame_item h frame whole.header whole.size (omega (arith, (whole_room h frame whole).1)) whole.all
+whole_item h frame whole = frame_item h frame whole.header whole.size (omega (arith, (whole_room h frame whole).1))
 
 -- moved back it is the frame
 pub frame_back : (shift : Shift) (h : HeaderFields) (frame : List ℕ) → IsWhole h frame → IsRight h frame → IsSideBack shift (side_in h frame) → moved_frame (opposite shift) h (moved_frame shift h frame) ≡ frame

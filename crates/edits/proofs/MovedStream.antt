@@ -1,6 +1,7 @@
 -- The stream of the edited file is that of the file, with the gains of each frame moved.
-use Rattle.std.proofs.Common.{◌≡◌, ℕ, ◌-◌, ◌*◌, ◌≤◌, List, [], ◌∷◌, ◌++◌, take, drop, map, Option, option_map, Ok, refl, sym, ◌∙◌, ap, ap₂, subst, arith}
+use Rattle.std.proofs.Common.{◌≡◌, ℕ, ◌+◌, ◌-◌, ◌*◌, ◌≤◌, List, [], ◌∷◌, ◌++◌, take, drop, map, Option, option_map, Ok, refl, sym, ◌∙◌, ap, ap₂, subst, arith}
 use Rattle.std.specs.Prelude.{flat_map}
+use Rattle.std.specs.List.{enumerate_from}
 use Rattle.bit_fields.specs.Bits.{bits, AreBytes}
 use Rattle.frame_header.specs.Tables.{class_of, length_of, overhead_of}
 use Rattle.side_info.specs.declared.side.Side.{Side}
@@ -10,7 +11,7 @@ use Rattle.sync_survey.specs.declared.places.Head.{Head}
 use Rattle.sync_survey.specs.declared.places.Start.{Start}
 use Rattle.sync_survey.specs.declared.rows.Row.{Row}
 use Rattle.sync_survey.specs.Walk.{frame_bytes, head_of}
-use Rattle.sync_survey.specs.MainData.{rows_of, area_bytes, head_bytes, main_bytes, parts_of, StreamFrame, stream_frame, stream_behind}
+use Rattle.sync_survey.specs.MainData.{rows_of, area_bytes, head_bytes, main_bytes, parts_of, StreamFrame, stream_frame, stream_frames}
 use Rattle.sync_survey.specs.Faults.{SurveyFields, surveyed, stream_of_survey}
 use Rattle.sync_survey.proofs.ItemLists.{nearer_frame}
 use Rattle.sync_survey.proofs.HeadSame.{head_bytes-nearer, area-frame}
@@ -47,22 +48,28 @@ side-moved : (shift : Shift) (s : Side) → record (moved_side shift s) { main_d
 unfolding moved_side
 side-moved shift s = refl
 
-frame-moved : (shift : Shift) (gap : ℕ) (main : List ℕ) (o : Option Head) (earlier : List Row) (r : Row) → IsShaped r.side
-    → stream_frame main (option_map (moved_head gap) o) (map (moved_row shift gap) earlier) (moved_row shift gap r) ≡ moved_stream_frame shift (stream_frame main o earlier r)
-frame-moved shift gap main o earlier r shaped =
-    let begin = start-moved shift gap o earlier r in
+frame-moved : (shift : Shift) (gap : ℕ) (main : List ℕ) (o : Option Head) (rows : List Row) (i : ℕ) (r : Row) → IsShaped r.side
+    → stream_frame main (option_map (moved_head gap) o) (map (moved_row shift gap) rows) i (moved_row shift gap r) ≡ moved_stream_frame shift (stream_frame main o rows i r)
+frame-moved shift gap main o rows i r shaped =
+    let begin = start-moved shift gap o rows i r in
     let lengths = lengths-moved shift r.header r.side shaped in
     let payload = payload_bits-moved shift r.side shaped in
-    λ i. record (stream_frame main o earlier r) {
-      side = side-moved shift r.side i;
-      payload = parts_of (lengths i) (take (payload i) (drop (8 * begin i) (bits main)));
+    λ j. record (stream_frame main o rows i r) {
+      side = side-moved shift r.side j;
+      payload = parts_of (lengths j) (take (payload j) (drop (8 * begin j) (bits main)));
     }
 
-frames_moved : (shift : Shift) (gap : ℕ) (main : List ℕ) (o : Option Head) (earlier rows : List Row) → AreShaped rows
-    → stream_behind main (option_map (moved_head gap) o) (map (moved_row shift gap) earlier) (map (moved_row shift gap) rows) ≡ map (moved_stream_frame shift) (stream_behind main o earlier rows)
-unfolding stream_behind
-frames_moved shift gap main o earlier [] shaped = refl
-frames_moved shift gap main o earlier (r ∷ rows) shaped = ap₂ (λ (f : StreamFrame) (fs : List StreamFrame). f ∷ fs) (frame-moved shift gap main o earlier r shaped.0) (frames_moved shift gap main o (r ∷ earlier) rows shaped.1)
+frames_moved : (shift : Shift) (gap : ℕ) (main : List ℕ) (o : Option Head) (rows : List Row) (n : ℕ) (more : List Row) → AreShaped more
+    → map (λ (p : ℕ × Row). stream_frame main (option_map (moved_head gap) o) (map (moved_row shift gap) rows) p.0 p.1) (enumerate_from n (map (moved_row shift gap) more))
+    ≡ map (moved_stream_frame shift) (map (λ (p : ℕ × Row). stream_frame main o rows p.0 p.1) (enumerate_from n more))
+frames_moved shift gap main o rows n [] shaped = refl
+frames_moved shift gap main o rows n (r ∷ more) shaped =
+    ap₂ (λ (f : StreamFrame) (fs : List StreamFrame). f ∷ fs) (frame-moved shift gap main o rows n r shaped.0) (frames_moved shift gap main o rows (n + 1) more shaped.1)
+
+all_moved : (shift : Shift) (gap : ℕ) (main : List ℕ) (o : Option Head) (rows : List Row) → AreShaped rows
+    → stream_frames main (option_map (moved_head gap) o) (map (moved_row shift gap) rows) ≡ map (moved_stream_frame shift) (stream_frames main o rows)
+unfolding stream_frames
+all_moved shift gap main o rows shaped = frames_moved shift gap main o rows 0 rows shaped
 
 -- ---- the stream
 
@@ -95,8 +102,8 @@ module _ (shift : Shift) (file : List ℕ) (allowed : ℕ) (start : Start) (all 
   stream-from : stream_of_survey new (moved_survey shift (told_from file start)) ≡ map (moved_stream_frame shift) (stream_of_survey file (told_from file start))
   unfolding stream_of_survey moved_survey
   stream-from =
-      ap (λ main. stream_behind main (option_map (moved_head gap) head) [] (map (moved_row shift gap) rows)) main_same
-      ∙ frames_moved shift gap (main_bytes file head rows) head [] rows (rows_shaped file (frames_from file start))
+      ap (λ main. stream_frames main (option_map (moved_head gap) head) (map (moved_row shift gap) rows)) main_same
+      ∙ all_moved shift gap (main_bytes file head rows) head rows (rows_shaped file (frames_from file start))
 
 -- The stream of the edited file: each frame with its gains moved, and all else as it was.
 pub stream-edited : (shift : Shift) (file : List ℕ) (allowed : ℕ) (s : SurveyFields) → AreBytes file → surveyed file allowed ≡ Ok s

@@ -1,14 +1,14 @@
 -- The survey of the edited file is that of the file, with moved gains and without the junk.
-use Rattle.std.proofs.Common.{◌≡◌, ℕ, ◌+◌, ◌-◌, ◌<◌, ◌≤◌, ◌==◌, ltb, Bool, true, false, cond, ◌&&◌, not, List, [], ◌∷◌, ◌++◌, length, take, drop, map, Option, Some, None, option_map, Ok, refl, sym, ◌∙◌, ap, ap₂, subst, arith}
-use Rattle.std.specs.Prelude.{sum_by}
+use Rattle.std.proofs.Common.{◌≡◌, ℕ, zero, suc, ◌+◌, ◌-◌, ◌<◌, ◌≤◌, ◌==◌, ltb, Bool, true, false, cond, ◌&&◌, not, List, [], ◌∷◌, ◌++◌, length, take, drop, map, Option, Some, None, option_map, Ok, refl, sym, ◌∙◌, ap, ap₂, subst, arith}
+use Rattle.std.specs.Prelude.{sum_by, slice_get, IfSome}
+use Rattle.std.proofs.lemmas.Option.{slice_get-map}
 use Rattle.std.proofs.lemmas.Bool.{eq-eqb, lt-ltb, le-ltb}
-use Rattle.std.proofs.lemmas.List.{take_at, map-append, map-id, length-map, drop_all}
+use Rattle.std.proofs.lemmas.List.{take_at, take-map, map-append, map-id, drop_all}
 use Rattle.std.proofs.lemmas.List.Sums.{sum_by-cons}
 use Rattle.bit_fields.specs.Bits.{AreBytes}
 use Rattle.frame_header.specs.Fields.{ClassFields}
 use Rattle.frame_header.specs.Tables.{class_of, length_of}
 use Rattle.side_info.specs.declared.side.Side.{Side}
-use Rattle.side_info.specs.Side.{payload_bytes}
 use Rattle.side_info.specs.CheckWord.{check_word_of}
 use Rattle.side_info.specs.Frame.{side_in, word_said}
 use Rattle.side_info.proofs.SideLaws.{IsShaped}
@@ -18,18 +18,18 @@ use Rattle.sync_survey.specs.declared.places.PlacedFrame.{PlacedFrame}
 use Rattle.sync_survey.specs.declared.places.Piece.{Piece}
 use Rattle.sync_survey.specs.declared.places.Head.{Head}
 use Rattle.sync_survey.specs.declared.places.Start.{Start}
-use Rattle.sync_survey.specs.declared.places.WalkFault.{WalkFault}
+use Rattle.sync_survey.specs.declared.survey_fault.SurveyFault.{SurveyFault}
 use Rattle.sync_survey.specs.declared.rows.Row.{Row}
 use Rattle.sync_survey.specs.declared.runs.Part.TheVariants.{Front, Stream}
 use Rattle.sync_survey.specs.Items.{item_at}
 use Rattle.sync_survey.specs.Runs.{Run, run, blocks_of}
-use Rattle.sync_survey.specs.Walk.{stream_of, frame_bytes, head_of, all_blocks, fault_at, end_fault}
-use Rattle.sync_survey.specs.MainData.{row_of, rows_of, own_area, head_area, is_silent, start_of_data, place_behind, end_behind}
+use Rattle.sync_survey.specs.Walk.{stream_run, frame_bytes, head_of, all_blocks, fault_at, end_fault}
+use Rattle.sync_survey.specs.MainData.{row_of, rows_of, own_area, head_area, is_silent, start_of_data, end_of_data, place, end_behind, end_before}
 use Rattle.sync_survey.specs.Faults.{has_wrong_word, all_faults, class_from, SurveyFields, surveyed}
 use Rattle.sync_survey.proofs.OneItem.{stands-only_at}
 use Rattle.sync_survey.proofs.RunsLaws.{run-ends}
 use Rattle.sync_survey.proofs.ItemLists.{nearer_frame, nearer_piece, blocks-between}
-use Rattle.sync_survey.proofs.SurveyParts.{frames_from, told_from, IsRead, surveyed-told, surveyed-parts, IsSound, AreSound, all_faults-none_sound, sound-no_all_faults}
+use Rattle.sync_survey.proofs.SurveyParts.{frames_from, told_from, IsRead, surveyed-told, surveyed-parts, IsSound, IsSoundAt, AreSound, all_faults-none_sound, sound-no_all_faults}
 use Rattle.edits.specs.declared.shift.Shift.{Shift}
 use Rattle.edits.specs.Gains.{moved_side}
 use Rattle.edits.specs.Edited.{moved_frame, edited}
@@ -80,7 +80,7 @@ module _ (shift : Shift) (file new : List ℕ) (gap : ℕ) (p : PlacedFrame) (at
   right_cases s is true protected = ap not (eq-eqb _ _ (right_there protected ∙ ap (check_word_of p.header) is))
   right_cases s is false protected = refl
 
-  pub right_word : has_wrong_word new (moved_row shift gap (row_of file p)) ≡ false
+  pub right_word : has_wrong_word (word_said (drop (p.offset - gap) new)) (moved_row shift gap (row_of file p)) ≡ false
   right_word = right_cases (moved_side shift (side_in p.header (drop p.offset file))) side_there p.header.protected refl
 
 pub rows-moved : (shift : Shift) (file new : List ℕ) (gap : ℕ) (ps : List PlacedFrame) → AreMovedAt shift file new gap ps → rows_of new (map (nearer_frame gap) ps) ≡ map (moved_row shift gap) (rows_of file ps)
@@ -98,45 +98,63 @@ pub rows_shaped : (file : List ℕ) (ps : List PlacedFrame) → AreShaped (rows_
 rows_shaped file [] = tt
 rows_shaped file (p ∷ ps) = (shaped-side_in p.header (drop p.offset file), rows_shaped file ps)
 
-areas-moved : (shift : Shift) (gap : ℕ) (earlier : List Row) → sum_by (λ (r : Row). own_area r.header) (map (moved_row shift gap) earlier) ≡ sum_by (λ (r : Row). own_area r.header) earlier
+areas-moved : (shift : Shift) (gap : ℕ) (rows : List Row) → sum_by (λ (r : Row). own_area r.header) (map (moved_row shift gap) rows) ≡ sum_by (λ (r : Row). own_area r.header) rows
 areas-moved shift gap [] = refl
-areas-moved shift gap (r ∷ earlier) =
-    sum_by-cons (λ (q : Row). own_area q.header) (moved_row shift gap r) (map (moved_row shift gap) earlier)
-    ∙ ap (λ n. own_area r.header + n) (areas-moved shift gap earlier)
-    ∙ sym (sum_by-cons (λ (q : Row). own_area q.header) r earlier)
+areas-moved shift gap (r ∷ rows) =
+    sum_by-cons (λ (q : Row). own_area q.header) (moved_row shift gap r) (map (moved_row shift gap) rows)
+    ∙ ap (λ n. own_area r.header + n) (areas-moved shift gap rows)
+    ∙ sym (sum_by-cons (λ (q : Row). own_area q.header) r rows)
 
 head_area-moved : (gap : ℕ) (o : Option Head) → head_area (option_map (moved_head gap) o) ≡ head_area o
 head_area-moved gap None = refl
 head_area-moved gap (Some head) = refl
 
-pub place-moved : (shift : Shift) (gap : ℕ) (o : Option Head) (earlier : List Row) → place_behind (option_map (moved_head gap) o) (map (moved_row shift gap) earlier) ≡ place_behind o earlier
-unfolding place_behind
-place-moved shift gap o earlier = ap₂ (λ m n. m + n) (head_area-moved gap o) (areas-moved shift gap earlier)
+pub place-moved : (shift : Shift) (gap : ℕ) (o : Option Head) (rows : List Row) (i : ℕ) → place (option_map (moved_head gap) o) (map (moved_row shift gap) rows) i ≡ place o rows i
+unfolding place
+place-moved shift gap o rows i =
+    ap₂ (λ m n. m + n) (head_area-moved gap o) (ap (sum_by (λ (r : Row). own_area r.header)) (take-map (moved_row shift gap) i rows) ∙ areas-moved shift gap (take i rows))
 
-pub start-moved : (shift : Shift) (gap : ℕ) (o : Option Head) (earlier : List Row) (r : Row) → start_of_data (option_map (moved_head gap) o) (map (moved_row shift gap) earlier) (moved_row shift gap r) ≡ start_of_data o earlier r
-start-moved shift gap o earlier r = ap₂ (λ m n. m - n) (place-moved shift gap o earlier) (begin-moved shift r.side)
+pub start-moved : (shift : Shift) (gap : ℕ) (o : Option Head) (rows : List Row) (i : ℕ) (r : Row)
+    → start_of_data (place (option_map (moved_head gap) o) (map (moved_row shift gap) rows) i) (moved_row shift gap r) ≡ start_of_data (place o rows i) r
+start-moved shift gap o rows i r = ap₂ (λ m n. m - n) (place-moved shift gap o rows i) (begin-moved shift r.side)
 
-end-moved : (shift : Shift) (gap : ℕ) (o : Option Head) (earlier : List Row) → AreShaped earlier → end_behind (option_map (moved_head gap) o) (map (moved_row shift gap) earlier) ≡ end_behind o earlier
-unfolding end_behind
-end-moved shift gap o [] shaped = refl
-end-moved shift gap o (r ∷ earlier) shaped =
-    let silent : is_silent (moved_row shift gap r) ≡ is_silent r = ap (λ n. n == 0) (payload_bits-moved shift r.side shaped.0) in
-    let loud : start_of_data (option_map (moved_head gap) o) (map (moved_row shift gap) earlier) (moved_row shift gap r) + payload_bytes (moved_side shift r.side) ≡ start_of_data o earlier r + payload_bytes r.side =
-    ap₂ (λ m n. m + n) (start-moved shift gap o earlier r) (payload-moved shift r.side shaped.0) in
-    λ i. cond (silent i) (end-moved shift gap o earlier shaped.1 i) (loud i)
+behind-moved : (shift : Shift) (gap place_now new_place ended new_ended : ℕ) (r : Option Row) → new_place ≡ place_now → new_ended ≡ ended → IfSome r (λ q. IsShaped q.side)
+    → end_behind new_place new_ended (option_map (moved_row shift gap) r) ≡ end_behind place_now ended r
+behind-moved shift gap place_now new_place ended new_ended None same_place same_ended shaped = same_ended
+behind-moved shift gap place_now new_place ended new_ended (Some r) same_place same_ended shaped =
+    let silent : is_silent (moved_row shift gap r) ≡ is_silent r = ap (λ n. n == 0) (payload_bits-moved shift r.side shaped) in
+    let loud : end_of_data new_place (moved_row shift gap r) ≡ end_of_data place_now r = ap₂ (λ m n. m + n) (ap₂ (λ m n. m - n) same_place (begin-moved shift r.side)) (payload-moved shift r.side shaped) in
+    λ i. cond (silent i) (same_ended i) (loud i)
+
+shaped_get : (rows : List Row) (i : ℕ) → AreShaped rows → IfSome (slice_get rows i) (λ q. IsShaped q.side)
+shaped_get [] i shaped = tt
+shaped_get (r ∷ rows) zero shaped = shaped.0
+shaped_get (r ∷ rows) (suc i) shaped = shaped_get rows i shaped.1
+
+pub end-moved : (shift : Shift) (gap : ℕ) (o : Option Head) (rows : List Row) (i : ℕ) → AreShaped rows → end_before (option_map (moved_head gap) o) (map (moved_row shift gap) rows) i ≡ end_before o rows i
+unfolding end_before
+end-moved shift gap o rows zero shaped = refl
+end-moved shift gap o rows (suc i) shaped =
+    ap (end_behind _ _) (slice_get-map (moved_row shift gap) rows i)
+    ∙ behind-moved shift gap _ _ _ _ (slice_get rows i) (place-moved shift gap o rows i) (end-moved shift gap o rows i shaped) (shaped_get rows i shaped)
 
 -- the check words are right
 abbrev AreRight : List ℕ → List Row → Type 0
 AreRight file [] = Unit {0}
-AreRight file (r ∷ rows) = (has_wrong_word file r ≡ false) × AreRight file rows
+AreRight file (r ∷ rows) = (has_wrong_word (word_said (drop r.offset file)) r ≡ false) × AreRight file rows
+
+right_get : (file : List ℕ) (rows : List Row) (i : ℕ) (r : Row) → AreRight file rows → slice_get rows i ≡ Some r → has_wrong_word (word_said (drop r.offset file)) r ≡ false
+right_get file [] i r right is = absurd cc
+right_get file (q ∷ rows) zero r right is = let same : q ≡ r = cc in subst (λ x. has_wrong_word (word_said (drop x.offset file)) x ≡ false) same right.0
+right_get file (q ∷ rows) (suc i) r right is = right_get file rows i r right.1 is
 
 rows_right : (shift : Shift) (file new : List ℕ) (gap : ℕ) (ps : List PlacedFrame) → AreMovedAt shift file new gap ps → AreRight new (map (moved_row shift gap) (rows_of file ps))
 rows_right shift file new gap [] at = tt
 rows_right shift file new gap (p ∷ ps) at = (right_word shift file new gap p at.0, rows_right shift file new gap ps at.1)
 
-sound-moved : (shift : Shift) (file new : List ℕ) (gap : ℕ) (class : ClassFields) (allowed place ended count new_place new_ended new_count : ℕ) (r : Row) → new_place ≡ place → new_ended ≡ ended → new_count ≡ count → IsShaped r.side
-    → has_wrong_word new (moved_row shift gap r) ≡ false → IsSound file class allowed place ended count r → IsSound new class allowed new_place new_ended new_count (moved_row shift gap r)
-sound-moved shift file new gap class allowed place ended count new_place new_ended new_count r same_place same_ended same_count shaped word sound =
+sound-moved : (shift : Shift) (said new_said : ℕ) (gap : ℕ) (class : ClassFields) (allowed place_now ended count new_place new_ended : ℕ) (r : Row) → new_place ≡ place_now → new_ended ≡ ended → IsShaped r.side
+    → has_wrong_word new_said (moved_row shift gap r) ≡ false → IsSound said class allowed place_now ended count r → IsSound new_said class allowed new_place new_ended count (moved_row shift gap r)
+sound-moved shift said new_said gap class allowed place_now ended count new_place new_ended r same_place same_ended shaped word sound =
     let begin = begin-moved shift r.side in
     let payload = payload-moved shift r.side shaped in
     record {
@@ -145,16 +163,27 @@ sound-moved shift file new gap class allowed place ended count new_place new_end
       begins = ap₂ ltb same_place begin ∙ sound.begins;
       apart = ap₂ ltb (ap₂ (λ m n. m - n) same_place begin) same_ended ∙ sound.apart;
       within = ap₂ ltb (ap (λ n. n + own_area r.header) same_place) (ap₂ (λ m n. m + n) (ap₂ (λ m n. m - n) same_place begin) payload) ∙ sound.within;
-      few = ap (λ n. n == allowed) same_count ∙ sound.few;
+      few = sound.few;
     }
 
-all_sound : (shift : Shift) (file new : List ℕ) (gap : ℕ) (o : Option Head) (class : ClassFields) (allowed : ℕ) (earlier rows : List Row) → AreShaped earlier → AreShaped rows → AreRight new (map (moved_row shift gap) rows)
-    → AreSound file o class allowed earlier rows → AreSound new (option_map (moved_head gap) o) class allowed (map (moved_row shift gap) earlier) (map (moved_row shift gap) rows)
-all_sound shift file new gap o class allowed earlier [] before shaped right sound = tt
-all_sound shift file new gap o class allowed earlier (r ∷ rows) before shaped right sound = (
-  sound-moved shift file new gap class allowed _ _ _ _ _ _ r (place-moved shift gap o earlier) (end-moved shift gap o earlier before) (length-map earlier (moved_row shift gap)) shaped.0 right.0 sound.0,
-  all_sound shift file new gap o class allowed (r ∷ earlier) rows (shaped.0, before) shaped.1 right.1 sound.1,
-)
+-- what stands at i among moved rows is the row there, moved
+moved_get : (shift : Shift) (gap : ℕ) (rows : List Row) (i : ℕ) (r : Row) → slice_get (map (moved_row shift gap) rows) i ≡ Some r → (q : Row) × (slice_get rows i ≡ Some q) × (moved_row shift gap q ≡ r)
+moved_get shift gap [] i r is = absurd cc
+moved_get shift gap (q ∷ rows) zero r is = (q, refl, cc)
+moved_get shift gap (q ∷ rows) (suc i) r is = moved_get shift gap rows i r is
+
+some_shaped : (rows : List Row) (i : ℕ) (q : Row) → AreShaped rows → slice_get rows i ≡ Some q → IsShaped q.side
+some_shaped rows i q shaped is = subst (λ (o : Option Row). IfSome o (λ x. IsShaped x.side)) is (shaped_get rows i shaped)
+
+all_sound : (shift : Shift) (file new : List ℕ) (gap : ℕ) (o : Option Head) (class : ClassFields) (allowed : ℕ) (rows : List Row) → AreShaped rows → AreRight new (map (moved_row shift gap) rows)
+    → AreSound file o class allowed rows → AreSound new (option_map (moved_head gap) o) class allowed (map (moved_row shift gap) rows)
+all_sound shift file new gap o class allowed rows shaped right sound = λ i r is.
+    let found = moved_get shift gap rows i r is in
+    let q = found.0 in
+    let word = right_get new (map (moved_row shift gap) rows) i r right is in
+    subst (IsSoundAt new (option_map (moved_head gap) o) class allowed (map (moved_row shift gap) rows) i) found.2
+    (sound-moved shift (word_said (drop q.offset file)) (word_said (drop (q.offset - gap) new)) gap class allowed (place o rows i) (end_before o rows i) i _ _ q (place-moved shift gap o rows i)
+    (end-moved shift gap o rows i shaped) (some_shaped rows i q shaped found.1) (subst (λ x. has_wrong_word (word_said (drop x.offset new)) x ≡ false) (sym found.2) word) (sound i q found.1))
 
 -- ---- blocks
 
@@ -169,7 +198,7 @@ behind_first first gap b above = let is : ltb b.offset first ≡ false = le-ltb 
 
 -- ---- the end
 
-end_cases : (file new : List ℕ) (gap : ℕ) (frames : List PlacedFrame) (o : Option WalkFault) → end_fault file frames o ≡ None → end_fault new (map (nearer_frame gap) frames) None ≡ None
+end_cases : (file new : List ℕ) (gap : ℕ) (frames : List PlacedFrame) (o : Option SurveyFault) → end_fault file frames o ≡ None → end_fault new (map (nearer_frame gap) frames) None ≡ None
 end_cases file new gap [] (Some fault) e = absurd cc
 end_cases file new gap [] None e = absurd cc
 end_cases file new gap (p ∷ ps) o e = refl
@@ -190,25 +219,25 @@ module _ (shift : Shift) (file : List ℕ) (allowed : ℕ) (start : Start) (all 
   pub new-rows : rows_of new (frames_from new (moved_start start)) ≡ map (moved_row shift gap) rows
   new-rows = ap (rows_of new) (new-frames shift file allowed start all read) ∙ rows-moved shift file new gap (frames_from file start) moved_frames
 
-  no_faults : all_faults new (head_of new (moved_start start).first) (class_from (moved_start start)) allowed [] (rows_of new (frames_from new (moved_start start))) ≡ []
+  no_faults : all_faults new (head_of new (moved_start start).first) (class_from (moved_start start)) allowed (rows_of new (frames_from new (moved_start start))) ≡ []
   no_faults =
-      let sound = all_faults-none_sound file (head_of file start.first) (class_from start) allowed [] rows read.frames in
-      ap₂ (λ (o : Option Head) (rs : List Row). all_faults new o (class_from start) allowed [] rs) (new-head shift file allowed start all read) new-rows
-      ∙ sound-no_all_faults new (option_map (moved_head gap) (head_of file start.first)) (class_from start) allowed [] (map (moved_row shift gap) rows)
-      (all_sound shift file new gap (head_of file start.first) (class_from start) allowed [] rows tt (rows_shaped file (frames_from file start)) (rows_right shift file new gap (frames_from file start) moved_frames) sound)
+      let sound = all_faults-none_sound file (head_of file start.first) (class_from start) allowed rows read.frames in
+      ap₂ (λ (o : Option Head) (rs : List Row). all_faults new o (class_from start) allowed rs) (new-head shift file allowed start all read) new-rows
+      ∙ sound-no_all_faults new (option_map (moved_head gap) (head_of file start.first)) (class_from start) allowed (map (moved_row shift gap) rows)
+      (all_sound shift file new gap (head_of file start.first) (class_from start) allowed rows (rows_shaped file (frames_from file start)) (rows_right shift file new gap (frames_from file start) moved_frames) sound)
 
   ended : (stop : ℕ) → length new ≤ stop → fault_at stop (item_at new stop) ≡ None
   ended stop past =
       let nothing : drop stop new ≡ [] = drop_all stop new past in
-      ap (fault_at stop) (sym (stands-only_at new stop End (subst AreBytes (sym nothing) tt) nothing))
+      ap (fault_at stop) (sym (stands-only_at new stop End nothing))
 
-  whole_end : end_fault new (frames_from new (moved_start start)) (fault_at (stream_of new (moved_start start)).stop (item_at new (stream_of new (moved_start start)).stop)) ≡ None
+  whole_end : end_fault new (frames_from new (moved_start start)) (fault_at (stream_run new (moved_start start)).stop (item_at new (stream_run new (moved_start start)).stop)) ≡ None
   whole_end =
-      let stop : (stream_of new (moved_start start)).stop ≡ (stream_of file start).stop - gap =
+      let stop : (stream_run new (moved_start start)).stop ≡ (stream_run file start).stop - gap =
       ap (λ (r : Run). r.stop) (new-stream shift file allowed start all read) ∙ sym (ap (λ (r : Run). r.stop - gap) (stream_is shift file allowed start all read)) in
-      let full : length new ≤ (stream_of new (moved_start start)).stop =
+      let full : length new ≤ (stream_run new (moved_start start)).stop =
       omega (arith, stop, new-length shift file allowed start all read, ap (λ (r : Run). r.stop) (stream_is shift file allowed start all read), stop_is shift file allowed start all read) in
-      ap₂ (end_fault new) (new-frames shift file allowed start all read) (ended (stream_of new (moved_start start)).stop full)
+      ap₂ (end_fault new) (new-frames shift file allowed start all read) (ended (stream_run new (moved_start start)).stop full)
       ∙ end_cases file new gap (frames_from file start) _ read.end
 
   -- nothing is at fault in the edited file
@@ -218,7 +247,7 @@ module _ (shift : Shift) (file : List ℕ) (allowed : ℕ) (start : Start) (all 
   blocks_same : all_blocks new (moved_start start) ≡ map (moved_block start.first.offset gap) (all_blocks file start)
   blocks_same =
       let front = run Front file 0 in
-      let stream = stream_of file start in
+      let stream = stream_run file start in
       let first = start.first.offset in
       let low = front_low shift file allowed start all read in
       let front_blocks : map (moved_block first gap) (blocks_of front.items) ≡ blocks_of front.items =

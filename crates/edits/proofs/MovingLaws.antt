@@ -18,7 +18,7 @@ use Rattle.sync_survey.specs.declared.runs.Part.TheVariants.{Front, Stream}
 use Rattle.sync_survey.specs.Items.{item_at, size_of}
 use Rattle.sync_survey.specs.Runs.{Placed, AreEndToEnd, run, bytes_in, bytes_of, frame_as, frames_of}
 use Rattle.sync_survey.specs.Start.{front_end_of}
-use Rattle.sync_survey.specs.Walk.{stream_of, numbered}
+use Rattle.sync_survey.specs.Walk.{stream_run, numbered}
 use Rattle.sync_survey.specs.MainData.{rows_of}
 use Rattle.sync_survey.specs.declared.places.Start.{Start}
 use Rattle.sync_survey.specs.declared.survey_fault.SurveyFault.TheVariants.{TooLong}
@@ -184,7 +184,7 @@ written-edited shift file allowed s e =
     let junk : s.junk ≡ (run Front file 0).stop = walk.junk_is ∙ start-front file is.start is.begins ∙ front_end-is file in
     let moved : moved_from shift file s.first s.frames ≡ moved_stream shift file s.head (run Stream file s.first).items =
     ap₂ (moved_from shift file) walk.first_is walk.frames_are
-    ∙ behind_head shift file s.head (stream_of file is.start).items is.start.first.offset (stream_of file is.start).stop is.start.first.header (run-ends Stream file is.start.first.offset) walk.nothing_behind first.frame.is
+    ∙ behind_head shift file s.head (stream_run file is.start).items is.start.first.offset (stream_run file is.start).stop is.start.first.header (run-ends Stream file is.start.first.offset) walk.nothing_behind first.frame.is
     ∙ ap (λ n. moved_stream shift file s.head (run Stream file n).items) (sym walk.first_is) in
     ap₂ (λ (l m : List ℕ). l ++ m) (ap (λ n. take n file) junk ∙ sym (front_bytes file)) moved
 

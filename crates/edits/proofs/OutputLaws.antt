@@ -1,19 +1,15 @@
 -- The output is created and then written by a pass over the input.
-use Rattle.std.proofs.Common.{◌≡◌, ◌≢◌, ◌⊎◌, ℕ, List, [], ◌++◌, length, take, Option, Some, None, refl, sym, ◌∙◌, ap, subst, unwrap_or, is_some, Result, Ok, Err, inl, inr, arith}
-use Rattle.std.specs.Prelude.{IfErr, OnOk, OnErr}
-use Rattle.outside.specs.Files.{Files, untold, emptied, appended, with_file, Holds, IsThere}
-use Rattle.outside.specs.Counts.{Counts, Rose, NoneFell, NothingFailed, OnlyWrites}
-use Rattle.outside.proofs.FilesLaws.{with_file_here, with_file_other, with_file_twice, emptied_told, appended_told, emptied_keeps}
-use Rattle.sync_survey.specs.Faults.{SurveyFields, longest_file}
-use Rattle.sync_survey.specs.Survey.{survey_of}
-use Rattle.edits.specs.declared.fault.EditFault.{EditFault}
+use Rattle.std.proofs.Common.{◌≡◌, ◌≢◌, ℕ, List, [], ◌++◌, length, Option, Some, None, refl, sym, ◌∙◌, ap, subst, unwrap_or, is_some, inl, inr, arith}
+use Rattle.outside.specs.Files.{Files, untold, emptied, appended, with_file, Holds}
+use Rattle.outside.specs.Counts.{Counts, Rose, NoneFell, NothingFailed}
+use Rattle.outside.proofs.FilesLaws.{with_file_here, with_file_other, with_file_twice, emptied_told, appended_told}
+use Rattle.sync_survey.specs.Faults.{SurveyFields}
 use Rattle.edits.specs.declared.moving.CopyFault.{CopyFault}
 use Rattle.edits.specs.declared.moving.CopyFault.TheVariants.{Read, Shrunk, Write}
 use Rattle.edits.specs.declared.shift.Shift.{Shift}
-use Rattle.edits.specs.Edited.{edited, most_frames}
-use Rattle.edits.specs.Gain.{holding, HoldsPrefix, IsBegun, IsPassFault}
-use Rattle.edits.specs.Left.{Seen, seen, IsOfPass}
-use Rattle.edits.specs.Moving.{IsInOrder}
+use Rattle.edits.specs.Edited.{edited}
+use Rattle.edits.specs.Gain.{holding, IsBegun, IsPassFault}
+use Rattle.edits.specs.Left.{seen, IsOfPass}
 use Rattle.edits.specs.Pass.{Appends, AppendsPrefix, HasCopyCause, of_pass}
 
 -- emptied and then appended to, the output holds these bytes

@@ -1,6 +1,6 @@
 -- A change of gains without wrap is undone by the opposite one: all bytes of the file come back, but for the junk.
-use Rattle.std.proofs.Common.{◌≡◌, ℕ, ◌+◌, ◌-◌, ◌<◌, ◌≤◌, ◌==◌, Bool, true, false, ◌&&◌, not, List, [], ◌∷◌, ◌++◌, length, take, drop, map, Option, Some, None, option_map, Result, Ok, refl, sym, ◌∙◌, ap, ap₂, subst, arith, append_assoc, take-append-drop}
-use Rattle.std.specs.Prelude.{MatchBool}
+use Rattle.std.proofs.Common.{◌≡◌, ℕ, suc, ◌+◌, ◌-◌, ◌<◌, ◌≤◌, ◌==◌, Bool, true, false, ◌&&◌, not, List, [], ◌∷◌, ◌++◌, length, take, drop, map, Option, Some, None, option_map, Result, Ok, refl, sym, ◌∙◌, ap, ap₂, subst, arith, append_assoc, take-append-drop}
+use Rattle.std.specs.Prelude.{MatchBool, slice_get}
 use Rattle.std.specs.List.{cons_option}
 use Rattle.std.proofs.lemmas.Bool.{eqb-true}
 use Rattle.std.proofs.lemmas.List.{take_at, drop_at, drop-drop}
@@ -32,7 +32,7 @@ use Rattle.sync_survey.proofs.RunsLaws.{item_of-is, run-ends, bytes-ends}
 use Rattle.sync_survey.proofs.FoldersLaws.{survey_of-short}
 use Rattle.sync_survey.proofs.ItemLists.{nearer, nearer_frame, ends-stream, items-length, kept_items}
 use Rattle.sync_survey.proofs.HeadSame.{nearer_head}
-use Rattle.sync_survey.proofs.SurveyParts.{frames_from, told_from, IsRead, surveyed-told, surveyed-parts, AreSound, all_faults-none_sound}
+use Rattle.sync_survey.proofs.SurveyParts.{frames_from, told_from, IsRead, surveyed-told, surveyed-parts, all_faults-none_sound}
 use Rattle.edits.specs.declared.fault.EditFault.{EditFault}
 use Rattle.edits.specs.declared.gains.Stuck.{Stuck}
 use Rattle.edits.specs.declared.shift.Shift.{Shift}
@@ -43,7 +43,7 @@ use Rattle.edits.specs.Undoing.{opposite}
 use Rattle.edits.proofs.GainsBack.{GainsFit, IsSideBack, side_back}
 use Rattle.edits.proofs.MovedFrame.{whole_class, whole_room, frame_back}
 use Rattle.edits.proofs.EditedItems.{frame_whole, moved_own, moved-nil, moved-cons, IsMovedAt, AreMovedAt}
-use Rattle.edits.proofs.EditedRuns.{gap_of, moved_start, new_file, first_bytes, moved_first, front_low, stream_is, later_ends, items_bytes, front_stop, new-before, new-bytes, new-length, new-later, new-front, new-stream, new-head, near_own, first_frame, frames-moved}
+use Rattle.edits.proofs.EditedRuns.{gap_of, moved_start, new_file, first_bytes, moved_first, front_low, stream_is, later_ends, items_bytes, front_stop, new-before, new-length, new-later, new-front, new-stream, new-head, near_own, first_frame, frames-moved}
 use Rattle.edits.proofs.MovedSurvey.{new-rows, new-read}
 use Rattle.edits.proofs.GainedStream.{gained-parts, gained-ok, survey_of-parts}
 
@@ -81,7 +81,7 @@ right_cases true said right e is = eqb-true said right (not_cases (said == right
     not_cases false h = absurd cc
 right_cases false said right e is = absurd cc
 
-is_back : (shift : Shift) (file new : List ℕ) (gap : ℕ) (p : PlacedFrame) → shift.wrap ≡ false → IsMovedAt shift file new gap p → has_wrong_word file (row_of file p) ≡ false → stuck_in shift (row_of file p).side ≡ None → IsBack shift file p
+is_back : (shift : Shift) (file new : List ℕ) (gap : ℕ) (p : PlacedFrame) → shift.wrap ≡ false → IsMovedAt shift file new gap p → has_wrong_word (word_said (drop p.offset file)) (row_of file p) ≡ false → stuck_in shift (row_of file p).side ≡ None → IsBack shift file p
 is_back shift file new gap p strict at word free =
     let h = p.header in
     let frame = frame_bytes file p in
@@ -113,12 +113,20 @@ stuck_none at None later e = (refl, e)
 none_stuck : (at : ℕ) (s : Option Stuck) (later : Option EditFault) → s ≡ None → later ≡ None → stuck_fault at s later ≡ None
 none_stuck at s later e rest = ap (λ x. stuck_fault at x later) e ∙ rest
 
-all_back : (shift : Shift) (file new : List ℕ) (gap : ℕ) (o : Option Head) (class : ClassFields) (allowed : ℕ) (earlier : List Row) (ps : List PlacedFrame) → shift.wrap ≡ false → AreMovedAt shift file new gap ps
-    → AreSound file o class allowed earlier (rows_of file ps) → range_fault shift (rows_of file ps) ≡ None → AreBack shift file ps
-all_back shift file new gap o class allowed earlier [] strict at sound free = tt
-all_back shift file new gap o class allowed earlier (p ∷ ps) strict at sound free =
+-- the check word of each of these frames is right
+abbrev WordsAreRight : List ℕ → List PlacedFrame → Type 0
+WordsAreRight file [] = Unit {0}
+WordsAreRight file (p ∷ ps) = (has_wrong_word (word_said (drop p.offset file)) (row_of file p) ≡ false) × WordsAreRight file ps
+
+words_right : (file : List ℕ) (ps : List PlacedFrame) → ((i : ℕ) (r : Row) → slice_get (rows_of file ps) i ≡ Some r → has_wrong_word (word_said (drop r.offset file)) r ≡ false) → WordsAreRight file ps
+words_right file [] each = tt
+words_right file (p ∷ ps) each = (each 0 (row_of file p) refl, words_right file ps (λ i r is. each (suc i) r is))
+
+all_back : (shift : Shift) (file new : List ℕ) (gap : ℕ) (ps : List PlacedFrame) → shift.wrap ≡ false → AreMovedAt shift file new gap ps → WordsAreRight file ps → range_fault shift (rows_of file ps) ≡ None → AreBack shift file ps
+all_back shift file new gap [] strict at right free = tt
+all_back shift file new gap (p ∷ ps) strict at right free =
     let parts = stuck_none p.offset (stuck_in shift (row_of file p).side) (range_fault shift (rows_of file ps)) (sym (range-cons shift (row_of file p) (rows_of file ps)) ∙ free) in
-    (is_back shift file new gap p strict at.0 sound.0.word parts.0, all_back shift file new gap o class allowed (row_of file p ∷ earlier) ps strict at.1 sound.1 parts.1)
+    (is_back shift file new gap p strict at.0 right.0 parts.0, all_back shift file new gap ps strict at.1 right.1 parts.1)
 
 -- no gain leaves its range on the way back
 free_back : (shift : Shift) (file : List ℕ) (gap : ℕ) (ps : List PlacedFrame) → AreBack shift file ps → range_fault (opposite shift) (map (moved_row shift gap) (rows_of file ps)) ≡ None
@@ -163,12 +171,12 @@ items_back shift file new gap from at (p ∷ ps) to behind all ends there is bac
     (items_back shift file new gap (p.offset + size) (p.offset - gap + size) ps to behind all ends.2 (omega (arith, place, ends.0, there)) next here.1)
 
 -- blocks and zero bytes at the front of a file are its front
-front_bytes : (file : List ℕ) → AreBytes file → bytes_of file (run Front file 0).items ≡ take (run Front file 0).stop file
-front_bytes file all =
+front_bytes : (file : List ℕ) → bytes_of file (run Front file 0).items ≡ take (run Front file 0).stop file
+front_bytes file =
     let front = run Front file 0 in
     let bytes = bytes_of file front.items in
     let ends = run-ends Front file 0 in
-    let long = items-length Front file 0 front.items front.stop bytes ends (kept_items file 0 front.items front.stop all (ends-stream Front file 0 front.items front.stop ends)) in
+    let long = items-length Front file 0 front.items front.stop bytes ends (kept_items file 0 front.items front.stop (ends-stream Front file 0 front.items front.stop ends)) in
     sym (ap (take front.stop) (sym (bytes-ends Front file 0 front.items front.stop ends)) ∙ take_at bytes (drop front.stop file) front.stop (omega (arith, long)))
 
 -- ---- the file back
@@ -194,8 +202,8 @@ module _ (shift : Shift) (file : List ℕ) (allowed : ℕ) (start : Start) (all 
 
   back : AreBack shift file (frames_from file start)
   back =
-      all_back shift file new gap head (class_from start) allowed [] (frames_from file start) strict (frames-moved shift file allowed start all read)
-      (all_faults-none_sound file head (class_from start) allowed [] (rows_of file (frames_from file start)) read.frames) free
+      let sound = all_faults-none_sound file head (class_from start) allowed (rows_of file (frames_from file start)) read.frames in
+      all_back shift file new gap (frames_from file start) strict (frames-moved shift file allowed start all read) (words_right file (frames_from file start) (λ i r is. (sound i r is).word)) free
 
   numbered_back : AreBack shift file (numbered head (start.first ∷ frames_of later.items))
   numbered_back = subst (λ (r : Run). AreBack shift file (numbered head (frames_of r.items))) (stream_is shift file allowed start all read) back
@@ -222,10 +230,10 @@ module _ (shift : Shift) (file : List ℕ) (allowed : ℕ) (start : Start) (all 
   front_back : bytes_of new (run Front new 0).items ≡ take start.front_end file
   front_back =
       let stop : (run Front new 0).stop ≡ start.front_end = ap (λ (r : Run). r.stop) (new-front shift file allowed start all read) in
-      front_bytes new (new-bytes shift file allowed start all read)
+      front_bytes new
       ∙ ap (λ n. take n new) stop
       ∙ new-before shift file allowed start all read
-      ∙ front_bytes file all
+      ∙ front_bytes file
       ∙ ap (λ n. take n file) (front_stop shift file allowed start all read)
 
   bytes_back : edited (opposite shift) new (told_from new (moved_start start)) ≡ take start.front_end file ++ drop start.first.offset file

@@ -1,7 +1,7 @@
 -- The gain command.
-use Rattle.std.specs.Prelude.{◌≡◌, ◌⊎◌, ℕ, ◌≤◌, take, List, [], ◌∷◌, length, map, Option, None, Some, unwrap_or, Result, Ok, Err, option_map}
-use Rattle.outside.specs.Files.{Contents, Files, untold, with_file, Holds, IsThere, IsMissing}
-use Rattle.outside.specs.Counts.{Counts, Rose, NothingFailed}
+use Rattle.std.specs.Prelude.{◌≡◌, ◌⊎◌, ℕ, ◌≤◌, take, List, [], ◌∷◌, length, map, unwrap_or, Result, Ok, Err, option_map}
+use Rattle.outside.specs.Files.{Files, untold, with_file, Holds, IsThere, IsMissing}
+use Rattle.outside.specs.Counts.{Rose, NothingFailed}
 use Rattle.sync_survey.specs.Faults.{longest_file}
 use Rattle.sync_survey.specs.declared.survey_fault.SurveyFault.TheVariants.{Absent}
 use Rattle.edits.specs.declared.fault.EditFault.{EditFault}

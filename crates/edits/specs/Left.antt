@@ -1,8 +1,7 @@
 -- What a command leaves of the files, by its answer, and the cause of each refusal.
-use Rattle.std.specs.Prelude.{◌≡◌, ◌≢◌, ◌⊎◌, ℕ, ◌<◌, ◌==◌, ◌&&◌, List, length, Bool, true, false, Option, Some, None, Result, Ok, Err, IfSome, is_some}
-use Rattle.outside.specs.Files.{Contents, Files, untold}
+use Rattle.std.specs.Prelude.{◌≡◌, ◌≢◌, ◌⊎◌, ℕ, ◌<◌, ◌==◌, length, Bool, true, false, Option, Some, None, Result, Ok, Err, IfSome, is_some}
+use Rattle.outside.specs.Files.{Files, untold}
 use Rattle.outside.specs.Counts.{Counts, Rose, NothingFailed}
-use Rattle.sync_survey.specs.declared.survey_fault.SurveyFault.{SurveyFault}
 use Rattle.sync_survey.specs.declared.survey_fault.SurveyFault.TheVariants.{Absent, TooLong, Memory as NoRoom}
 use Rattle.edits.specs.Kinds.{kind_of, by_kind, HasRightNumbers}
 use Rattle.edits.specs.declared.fault.EditFault.{EditFault}

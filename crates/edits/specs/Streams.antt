@@ -1,11 +1,11 @@
 -- What a change of gains makes of the survey of a file, and of the stream that the file holds.
-use Rattle.std.specs.Prelude.{◌≡◌, ℕ, ◌+◌, ◌-◌, nat_lt, if◌then◌else◌, List, [], ◌++◌, length, take, drop, map, option_map, Result, Ok, Err}
+pub use Rattle.sync_survey.specs.Faults.{HoldsStream, stream_by, stream_of as stream_in}
+use Rattle.std.specs.Prelude.{◌≡◌, ℕ, ◌-◌, nat_lt, if◌then◌else◌, List, ◌++◌, take, drop, map, option_map}
 use Rattle.sync_survey.specs.declared.places.Head.{Head}
 use Rattle.sync_survey.specs.declared.places.Piece.{Piece}
 use Rattle.sync_survey.specs.declared.rows.Row.{Row}
 use Rattle.sync_survey.specs.MainData.{StreamFrame}
-use Rattle.sync_survey.specs.Faults.{SurveyFields, surveyed, IsWellFormed, stream_of_survey}
-use Rattle.sync_survey.specs.declared.survey_fault.SurveyFault.{SurveyFault}
+use Rattle.sync_survey.specs.Faults.{SurveyFields, IsWellFormed, stream_of_survey}
 use Rattle.edits.specs.declared.shift.Shift.{Shift}
 use Rattle.edits.specs.Gains.{moved_side}
 
@@ -56,18 +56,3 @@ pub record IsStreamMoved (shift : Shift) (file new : List ℕ) : Type 0 where
   pub before : IsWellFormed file
   pub after : IsWellFormed new
   pub stream : stream_of_survey new after.0 ≡ map (moved_stream_frame shift) (stream_of_survey file before.0)
-
--- ---- the stream of a file
-
-abbrev pub stream_by : List ℕ → Result SurveyFields SurveyFault → List StreamFrame
-stream_by file (Ok s) = stream_of_survey file s
-stream_by file (Err fault) = []
-
--- the stream of a well-formed file
-unfoldable pub stream_in : List ℕ → List StreamFrame
-stream_in file = stream_by file (surveyed file (length file + 1))
-
--- the file is well-formed, and this is its stream
-pub record HoldsStream (file : List ℕ) (stream : List StreamFrame) : Type 0 where
-  pub well_formed : IsWellFormed file
-  pub stream_is : stream_in file ≡ stream

@@ -72,7 +72,15 @@ fn write_output<D: Folder>(
     let Ok(()) = folder.create(output) else {
         return Err(EditFault::Write(0));
     };
-    match write_moved(folder, input, output, survey, shift, &mut feed, &mut waiting) {
+    match write_moved(
+        folder,
+        input,
+        output,
+        survey,
+        shift,
+        &mut feed,
+        &mut waiting,
+    ) {
         Ok(()) => Ok(()),
         Err(fault) => Err(fault.into()),
     }

@@ -5,5 +5,4 @@ ghost use Rattle.edits.specs.Undoing.{OppositeGivesBack};
 /// but for its junk. A proof that needs it calls this function.
 pub fn opposite_gives_back()
     ensures { OppositeGivesBack }
-{
-}
+{}

@@ -3,7 +3,7 @@ use Rattle.std.proofs.Common.{◌≡◌, true, false, bytes_eq, ap₂, rules}
 use Rattle.std.proofs.lemmas.Result.{err_from_is_err_and}
 use Rattle.sync_survey.specs.Faults.{tells}
 use Rattle.edits.specs.Left.{seen}
-use Rattle.edits.proofs.GainLaws.{IsFree, equal_left, clashes, input_left, input_numbers, pass_numbers, done_behind, left_behind, streams_behind}
+use Rattle.edits.proofs.GainLaws.{IsFree, equal_left, clashes, input_left, input_numbers, done_behind, left_behind, streams_behind}
 use Rattle.edits.proofs.gain_file.gain.Goals as goal
 
 pub returns-then-eq-clause-left : goal.returns-then-eq-clause-left

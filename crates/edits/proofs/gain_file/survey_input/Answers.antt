@@ -1,10 +1,10 @@
 -- A fault of the survey is one of the input, and so is a gain that would leave its range.
-use Rattle.std.proofs.Common.{◌≡◌, sym, ◌∙◌, ap, ap₂}
+use Rattle.std.proofs.Common.{sym, ◌∙◌, ap, ap₂}
 use Rattle.std.proofs.lemmas.Result.{err_from_is_err_and}
 use Rattle.sync_survey.specs.Faults.{tells}
-use Rattle.edits.specs.Edited.{most_frames, range_fault}
+use Rattle.edits.specs.Edited.{range_fault}
 use Rattle.edits.specs.Left.{seen}
-use Rattle.edits.proofs.OrderLaws.{survey_of-in_order}
+use Rattle.edits.proofs.OrderLaws.{in_order}
 use Rattle.edits.proofs.GainLaws.{survey_is_input, survey_numbers, range_is_input, range_of_input, gained-free}
 use Rattle.edits.proofs.gain_file.survey_input.Goals as goal
 
@@ -16,7 +16,7 @@ returns-in_err-survey-clause-refused g c =
 pub returns-in_err-survey-clause-numbers : goal.returns-in_err-survey-clause-numbers
 returns-in_err-survey-clause-numbers g c =
     let p = err_from_is_err_and c.from_residual.result c.from_residual.ensures.1 in
-    rw (p.1, p.2) (survey_numbers c.args.shift.now c.args.name.now (g.D.Folder.files c.args.folder.now) _ _ _ c.survey.ensures.files _ c.in_err-survey.ensures.refused)
+    rw (p.1, p.2) (survey_numbers _ c.in_err-survey.ensures.numbers)
 
 pub returns-in-Some-clause-refused : goal.returns-in-Some-clause-refused
 returns-in-Some-clause-refused g c =
@@ -33,5 +33,4 @@ returns-in-None-clause-gained g c bytes holds =
 
 pub returns-in-None-clause-ordered : goal.returns-in-None-clause-ordered
 returns-in-None-clause-ordered g c =
-    let some = c.in_ok-survey.ensures.some in
-    survey_of-in_order some.0 most_frames (tells c.in_ok-survey.survey) some.1
+    in_order (tells c.in_ok-survey.survey) c.in_ok-survey.ensures.laid

@@ -1,5 +1,5 @@
 -- The output is created, and then written by a pass over the input, which stays.
-use Rattle.std.proofs.Common.{◌≡◌, sym, ◌∙◌, ap, subst}
+use Rattle.std.proofs.Common.{sym, subst}
 use Rattle.outside.specs.Files.{IsThere, Holds}
 use Rattle.outside.proofs.FilesLaws.{emptied_there, emptied_keeps}
 use Rattle.outside.specs.Counts.{NoneFell}
