@@ -1,4 +1,7 @@
 //! What no clause says: that calls succeed, and what the system does.
+mod buffers;
+mod slow;
+
 use crate::{
     Call, DiskFolder, Failed, FindFault, Folder, MemFolder, MemSink, StdSink, read_full, send_all,
     write_all,
