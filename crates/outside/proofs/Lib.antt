@@ -3,4 +3,5 @@ pub mod CountsLaws
 pub mod Pieces
 pub mod FeedLaws
 pub mod PassedLaws
+pub mod KnownLaws
 mod SlotsLaws

@@ -5,6 +5,7 @@ pub mod Plan
 pub mod Slots
 pub mod Memory
 pub mod Real
+pub mod Opening
 pub mod Faults
 pub mod Feed
 pub mod Passed

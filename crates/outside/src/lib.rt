@@ -10,6 +10,7 @@ mod helpers;
 mod memory_folder;
 mod memory_sink;
 mod noted;
+mod reading;
 mod schedule;
 mod sink;
 mod slots;

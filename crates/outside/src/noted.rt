@@ -1,6 +1,7 @@
 //! The files that a folder found, so that none of them is emptied.
 ghost use Rattle.std.specs.Prelude.{◌≡◌, [], ◌∷◌, ◌++◌, length, ◌||◌, ◌&&◌, not, nat_lt, if◌then◌else◌};
 ghost use Rattle.std.specs.List.{list_any};
+ghost use Rattle.outside.specs.Opening.{opening_of_lem};
 
 use arrayvec::ArrayVec;
 use std::fs::Metadata;
@@ -52,5 +53,27 @@ impl Noted {
         ensures noted { self.new.files.items ≡ (if result && not (list_any (λ noted. ⟦<FileId as PartialEq>⟧.eq noted file) self.old.files.items) then self.old.files.items ++ file ∷ [] else self.old.files.items) }
     {
         self.has(&file) || self.files.try_push(file).is_ok()
+    }
+}
+
+/// What `create` does with a file that it opened.
+#[derive(Clone, Copy, Debug, PartialEq, Eq)]
+pub enum Opening {
+    /// The file was found before: it is left as it is, and the call fails.
+    Refused,
+    /// A regular file loses its bytes.
+    Emptied,
+    /// What isn't a regular file, as a terminal, is left as it is.
+    Kept,
+}
+
+/// Whether a file may be emptied.
+pub fn opening_of(noted: &Noted, file: &FileId, is_regular: bool) -> Opening
+    ensures { result ≡ opening_of_lem (list_any (λ found. ⟦<FileId as PartialEq>⟧.eq found file.now) noted.now.files.items) is_regular }
+{
+    match (noted.has(file), is_regular) {
+        (true, _) => Opening::Refused,
+        (false, true) => Opening::Emptied,
+        (false, false) => Opening::Kept,
     }
 }

@@ -6,8 +6,7 @@ ghost use Rattle.std.specs.Io.KnownBytes.{Appends};
 
 use crate::folder::Failed;
 use crate::sink::Sink;
-use crate::writing::write_once;
-use std::io;
+use crate::writing::write_some;
 use std::io::Write;
 
 /// A sink over a writer of the library, as standard output. Each write is followed by a flush. It tells
@@ -19,28 +18,31 @@ pub struct StdSink<W: Write + Drop> {
 }
 
 impl<W: Write + Drop> StdSink<W> {
-    ghost use Rattle.outside.specs.Real.{stream_faults};
+    ghost use Rattle.outside.specs.Real.{stream_faults, GrewByPrefix};
 
     /// A sink over this writer, with count 0.
     pub fn new(writer: W) -> Self
-        ensures { stream_faults result ≡ 0 }
+        ensures faults { stream_faults result ≡ 0 }
+        ensures writer { result.writer ≡ writer }
     {
         StdSink { writer, faults: 0 }
     }
 
-    fn pass_on(&mut self, bytes: &[u8]) -> io::Result<usize>
+    fn pass_on(&mut self, bytes: &[u8]) -> Result<usize, Failed>
         ensures bound { IfOk result (λ k. k ≤ length bytes.now) }
+        ensures some { IfOk result (λ k. 0 < length bytes.now → 0 < k) }
         ensures passed { IfOk result (λ k. Appends (W.contents self.old.writer) (W.contents self.new.writer) (take k bytes.now)) }
+        ensures prefix { OnErr result (GrewByPrefix (W.contents self.old.writer) (W.contents self.new.writer) bytes.now) }
         ensures faults { stream_faults self.new ≡ stream_faults self.old }
     {
-        let count = write_once(&mut self.writer, bytes)?;
+        let count = write_some(&mut self.writer, bytes)?;
         self.writer.flush()?;
         Ok(count)
     }
 }
 
 impl<W: Write + Drop> Sink for StdSink<W> {
-    ghost use Rattle.outside.specs.Real.{stream_faults};
+    ghost use Rattle.outside.specs.Real.{stream_faults, GrewByPrefix};
 
     ghost sent = { λ _. untold_bytes };
 
@@ -54,17 +56,17 @@ impl<W: Write + Drop> Sink for StdSink<W> {
         ensures written { IfOk result (λ k. untold_bytes ≡ sent_more untold_bytes (take k bytes.now)) }
         ensures kept { OnErr result (untold_bytes ≡ untold_bytes) }
         ensures cause { HasCause (stream_faults self.old) (stream_faults self.new) result }
-        // Where the library knows what the writer holds, exactly these bytes came to it.
+        // Where the library knows what the writer holds, exactly these bytes came to it, or in a call that
+        // fails a prefix of the piece.
         ensures passed { IfOk result (λ k. Appends (W.contents self.old.writer) (W.contents self.new.writer) (take k bytes.now)) }
+        ensures prefix { OnErr result (GrewByPrefix (W.contents self.old.writer) (W.contents self.new.writer) bytes.now) }
         ensures written_faults { OnOk result (stream_faults self.new ≡ stream_faults self.old) }
         ensures failed_faults { OnErr result (stream_faults self.new ≡ one_more (stream_faults self.old)) }
     {
-        match self.pass_on(bytes) {
-            Ok(count) if count > 0 || bytes.is_empty() => Ok(count),
-            _ => {
-                self.faults = self.faults.saturating_add(1);
-                Err(Failed)
-            }
-        }
+        let Ok(count) = self.pass_on(bytes) else {
+            self.faults = self.faults.saturating_add(1);
+            return Err(Failed);
+        };
+        Ok(count)
     }
 }

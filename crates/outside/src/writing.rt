@@ -1,12 +1,26 @@
 //! One write to a real file or stream.
-ghost use Rattle.std.specs.Prelude.{◌≤◌, length, IfOk};
+ghost use Rattle.std.specs.Prelude.{◌<◌, ◌≤◌, length, IfOk};
 ghost use Rattle.std.specs.Io.KnownBytes.{WriteAppends};
 
+use crate::folder::Failed;
 use std::io;
 use std::io::{ErrorKind, Write};
 
-/// Writes a front of the bytes, again where a signal came first.
-pub fn write_once<W: Write>(writer: &mut W, bytes: &[u8]) -> io::Result<usize>
+/// Writes a front of the bytes, at least one where there are any, again where a signal came first.
+#[tactic(auto, using(crate::proofs::KnownLaws::none_appended))]
+pub fn write_some<W: Write>(writer: &mut W, bytes: &[u8]) -> Result<usize, Failed>
+    ensures bound { IfOk result (λ k. k ≤ length bytes.now) }
+    ensures some { IfOk result (λ k. 0 < length bytes.now → 0 < k) }
+    ensures passed { WriteAppends (W.contents writer.old) (W.contents writer.new) result bytes.now }
+{
+    let count = write_once(writer, bytes)?;
+    if count == 0 && !bytes.is_empty() {
+        return Err(Failed);
+    }
+    Ok(count)
+}
+
+fn write_once<W: Write>(writer: &mut W, bytes: &[u8]) -> io::Result<usize>
     ensures bound { IfOk result (λ k. k ≤ length bytes.now) }
     ensures passed { WriteAppends (W.contents writer.old) (W.contents writer.new) result bytes.now }
 {

@@ -1,0 +1,11 @@
+-- Laws of the bytes that the library knows of a writer.
+use Rattle.std.proofs.Common.{◌≡◌, ℕ, List, ◌++◌, take, ◌∙◌, ap}
+use Rattle.std.specs.Prelude.{Option, Some, None}
+use Rattle.std.specs.Io.KnownBytes.{Appends, Keeps}
+use Rattle.std.proofs.lemmas.List.{append-nil}
+
+-- to append none of the bytes is to keep those that are there
+pub none_appended : (old new : Option (List ℕ)) (n : ℕ) (bytes : List ℕ) → n ≡ 0 → Appends old new (take n bytes) → Keeps old new
+none_appended None new n bytes zero grew = tt
+none_appended (Some xs) None n bytes zero grew = grew
+none_appended (Some xs) (Some ys) n bytes zero grew = grew ∙ ap (λ k. xs ++ take k bytes) zero ∙ append-nil xs
