@@ -3,7 +3,7 @@
 use crate::tests::files::{Stretch, file_of};
 use crate::tests::slow::{Slow, Trouble};
 use crate::{Channels, EditFault, Shift, gain};
-use outside::{Call, MemFolder};
+use outside::MemFolder;
 use std::alloc::AllocGlobal;
 use std::process::Abort;
 use std::test::Fail;

@@ -102,12 +102,14 @@ impl Folder for Slow {
         Ok(count)
     }
 
+    #[tactic(auto, unfolding(outside::specs::Files::emptied))]
     fn create(&mut self, _name: &str) -> Result<(), Failed> {
         self.output.clear();
         self.created = true;
         Ok(())
     }
 
+    #[tactic(auto, unfolding(outside::specs::Files::appended))]
     fn write(&mut self, _name: &str, bytes: &[u8]) -> Result<usize, Failed> {
         let count = bytes.len().min(700);
         if self.fails_to_write() || self.output.extend_from_slice(&bytes[..count]).is_err() {
