@@ -31,7 +31,7 @@ use Rattle.sync_survey.proofs.SurveyLaws.{surveyed-is, walked, overhead-within}
 use Rattle.edits.specs.declared.shift.Shift.{Shift}
 use Rattle.edits.specs.Gains.{moved_side}
 use Rattle.edits.specs.Edited.{moved_frame, moved_item, moved_items, moved_stream, edited}
-use Rattle.edits.specs.Moving.{row_end, AreInOrder, moved_row_bytes, bytes_between, moved_from}
+use Rattle.edits.specs.Moving.{row_length, row_end, AreInOrder, AreRowsOf, moved_row_bytes, bytes_between, moved_from}
 use Rattle.edits.proofs.EditedItems.{moved-nil, moved-cons}
 
 pub moved_from-nil : (shift : Shift) (file : List ℕ) (at : ℕ) → moved_from shift file at [] ≡ drop at file
@@ -228,3 +228,15 @@ pub survey_of-written : (shift : Shift) (file : List ℕ) (allowed : ℕ) (s : S
 survey_of-written shift file allowed s e =
     let all : s.junk - 0 ≡ s.junk = omega arith in
     sym (ap (λ n. take n file ++ moved_from shift file s.first s.frames) all ∙ written-edited shift file allowed s (survey_of-surveyed file allowed s e))
+
+-- ---- the rows are those of the file
+
+are_rows : (file : List ℕ) (frames : List PlacedFrame) → AreRowsOf file (rows_of file frames)
+are_rows file [] = tt
+are_rows file (p ∷ ps) = (refl, are_rows file ps)
+
+pub survey_of-rows : (file : List ℕ) (allowed : ℕ) (s : SurveyFields) → survey_of file allowed ≡ Ok s → AreRowsOf file s.frames
+survey_of-rows file allowed s e =
+    let is = surveyed-is file allowed s (survey_of-surveyed file allowed s e) in
+    let walk = walked file allowed s is in
+    subst (AreRowsOf file) (sym walk.frames_are) (are_rows file (numbered s.head (frames_of (stream_of file is.start).items)))

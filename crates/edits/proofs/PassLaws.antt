@@ -55,6 +55,9 @@ module _ (input output : List ℕ) (apart : input ≢ output) where
     pub writes_holds : (file : List ℕ) → Holds old input file → Holds new input file
     writes_holds file holds = appended_holds old new input output step.passed.passed file apart step.passed.files holds
 
+    pub writes_held : (file : List ℕ) → Holds new input file → Holds old input file
+    writes_held file holds = appended_held old input output step.passed.passed file apart (subst (λ f. Holds f input file) step.passed.files holds)
+
     pub writes_there : (name : List ℕ) → IsThere old name → IsThere new name
     writes_there name there = appended_is_there old new output step.passed.passed name step.passed.files there
 
@@ -154,6 +157,10 @@ module _ (input output : List ℕ) (apart : input ≢ output) where
   up_to_begun whole waiting files there = record { made = λ file. []; written = writes_nothing (λ file. []) waiting files there (λ file holds. refl); left = λ file holds. refl }
 
   module _ (whole rest : List ℕ → List ℕ) (before mid : List ℕ) (old now : Files) (sofar : WritesUpTo input output whole rest before mid old now) where
+    -- the input is as it was
+    pub up_to_held : (file : List ℕ) → Holds now input file → Holds old input file
+    up_to_held file holds = writes_held sofar.made before mid old now sofar.written file holds
+
     module _ (next later : List ℕ → List ℕ) (is : (file : List ℕ) → Holds old input file → rest file ≡ next file ++ later file) where
       both : (file : List ℕ) → Holds old input file → whole file ≡ (sofar.made file ++ next file) ++ later file
       both file holds = sofar.left file holds ∙ ap (λ (l : List ℕ). sofar.made file ++ l) (is file holds) ∙ sym (append_assoc (sofar.made file) (next file) (later file))

@@ -1,8 +1,8 @@
 -- A file that is read once from front to back and written with moved gains.
-use Rattle.std.specs.Prelude.{ℕ, ◌+◌, ◌-◌, ◌≤◌, List, [], ◌∷◌, ◌++◌, take, drop}
+use Rattle.std.specs.Prelude.{◌≡◌, ℕ, ◌+◌, ◌-◌, ◌≤◌, List, [], ◌∷◌, ◌++◌, take, drop}
 use Rattle.frame_header.specs.Tables.{class_of, length_of}
 use Rattle.side_info.specs.Side.{SideFits}
-use Rattle.side_info.specs.Frame.{frame_with}
+use Rattle.side_info.specs.Frame.{side_in, frame_with}
 use Rattle.sync_survey.specs.declared.rows.Row.{Row}
 use Rattle.sync_survey.specs.Faults.{SurveyFields, longest_file}
 use Rattle.edits.specs.declared.shift.Shift.{Shift}
@@ -25,6 +25,14 @@ pub record IsInOrder (s : SurveyFields) : Type 0 where
   pub junk : s.junk ≤ s.first
   pub frames : AreInOrder s.first s.frames s.length
   pub few : s.length ≤ longest_file
+
+-- the side information of the row is what stands in the file
+abbrev pub IsRowOf : List ℕ → Row → Type 0
+IsRowOf file row = side_in row.header (drop row.offset file) ≡ row.side
+
+abbrev pub AreRowsOf : List ℕ → List Row → Type 0
+AreRowsOf file [] = Unit {0}
+AreRowsOf file (row ∷ rows) = IsRowOf file row × AreRowsOf file rows
 
 -- a frame of the file with its gains moved
 abbrev pub moved_row_bytes : Shift → List ℕ → Row → List ℕ

@@ -3,7 +3,7 @@ ghost use Rattle.std.specs.Prelude.{◌≡◌, ◌≢◌, ◌+◌, ◌≤◌, �
 ghost use Rattle.frame_header.specs.Fields.{HeaderFields};
 ghost use Rattle.frame_header.specs.Tables.{class_of, length_of, overhead_of};
 ghost use Rattle.side_info.specs.Side.{SideFits};
-ghost use Rattle.side_info.specs.Frame.{frame_with};
+ghost use Rattle.side_info.specs.Frame.{side_in, frame_with};
 ghost use Rattle.outside.specs.Files.{appended, Holds, IsThere};
 ghost use Rattle.outside.specs.Feed.{IsFedFrom};
 ghost use Rattle.outside.specs.Passed.{PassedOn, AppendedPrefix};
@@ -11,7 +11,7 @@ ghost use Rattle.sync_survey.specs.Faults.{tells};
 ghost use Rattle.sync_survey.specs.Survey.{survey_of};
 ghost use Rattle.edits.specs.Gains.{moved_side as moved_side_lem};
 ghost use Rattle.edits.specs.Edited.{most_frames, edited};
-ghost use Rattle.edits.specs.Moving.{row_length, row_end, AreInOrder, IsInOrder, moved_row_bytes, bytes_between, moved_from};
+ghost use Rattle.edits.specs.Moving.{row_length, row_end, AreInOrder, IsInOrder, IsRowOf, AreRowsOf, moved_row_bytes, bytes_between, moved_from};
 ghost use Rattle.edits.specs.Pass.{IsReady, Writes, WritesPrefix, Appends, AppendsPrefix, HasCopyCause};
 
 use crate::gains::moved_side;
@@ -55,6 +55,16 @@ fn frame_length(header: &Header) -> u32
     ensures room { overhead_of (class_of header.now) header.now.protected ≤ result }
 {
     header.class().length_of(header.slot)
+}
+
+/// Moves the gains in the bytes of a frame that stand before its main data, and in a protected frame puts
+/// the check word that is right for them.
+fn move_front(shift: &Shift, row: &Row, front: &mut [u8])
+    requires room { overhead_of (class_of row.now.header) row.now.header.protected ≤ length front.old }
+    requires fits { SideFits (class_of row.now.header) row.now.side }
+    ensures { side_in row.now.header front.old ≡ row.now.side → front.new ≡ frame_with row.now.header (moved_side_lem shift.now row.now.side) front.old }
+{
+    put_side(&row.header, &moved_side(shift, &row.side), front);
 }
 
 /// What a pass reads, and what it writes.
@@ -161,31 +171,6 @@ impl<'a> Pass<'a> {
         Ok(())
     }
 
-    /// Adds a frame with its gains moved to what waits, and of a protected frame the check word that is right for them.
-    fn push_frame<D: Folder>(
-        &self,
-        folder: &mut D,
-        row: &Row,
-        frame: &[u8],
-        waiting: &mut WriteBuffer,
-    ) -> Result<(), CopyFault>
-        requires target { IsThere (D.files folder.old) self.now.output.now }
-        requires room { overhead_of (class_of row.now.header) row.now.header.protected ≤ length frame.now }
-        requires fits { SideFits (class_of row.now.header) row.now.side }
-        ensures passed { OnOk result (PassedOn self.now.output.now (waiting.old ++ frame_with row.now.header (moved_side_lem self.now.shift.now row.now.side) frame.now) waiting.new (D.files folder.old) (D.files folder.new)) }
-        ensures prefix { OnErr result (AppendedPrefix self.now.output.now (waiting.old ++ frame_with row.now.header (moved_side_lem self.now.shift.now row.now.side) frame.now) (D.files folder.old) (D.files folder.new)) }
-        ensures done { OnOk result (D.counts folder.new ≡ D.counts folder.old) }
-        ensures cause { IfErr result (HasCopyCause self.now.length (D.files folder.old) (D.counts folder.old) (D.counts folder.new)) }
-    {
-        let size = overhead(&row.header);
-        let mut room = [0; MOST_OVERHEAD];
-        let front = &mut room[..size];
-        front.copy_from_slice(&frame[..size]);
-        put_side(&row.header, &moved_side(self.shift, &row.side), front);
-        self.push(folder, front, waiting)?;
-        self.push(folder, &frame[size..], waiting)
-    }
-
     /// Copies a frame and moves its gains.
     fn move_frame<D: Folder>(
         &self,
@@ -197,6 +182,7 @@ impl<'a> Pass<'a> {
         requires ready { IsReady self.now.input.now self.now.output.now self.now.length (D.files folder.old) feed.old }
         requires within { row_end row.now ≤ self.now.length }
         requires fits { SideFits (class_of row.now.header) row.now.side }
+        requires told { (file : List ℕ) → Holds (D.files folder.old) self.now.input.now file → IsRowOf file row.now }
         ensures written { OnOk result (Writes self.now.input.now self.now.output.now (λ file. moved_row_bytes self.now.shift.now file row.now) waiting.old waiting.new (D.files folder.old) (D.files folder.new)) }
         ensures prefix { OnErr result (WritesPrefix self.now.input.now self.now.output.now (λ file. moved_row_bytes self.now.shift.now file row.now) waiting.old (D.files folder.old) (D.files folder.new)) }
         ensures done { OnOk result (D.counts folder.new ≡ D.counts folder.old) }
@@ -204,7 +190,14 @@ impl<'a> Pass<'a> {
         ensures ready { OnOk result (IsReady self.now.input.now self.now.output.now self.now.length (D.files folder.new) feed.new) }
     {
         self.fill(folder, row.offset, frame_length(&row.header) as usize, feed)?;
-        self.push_frame(folder, row, feed.bytes(), waiting)
+        let frame = feed.bytes();
+        let size = overhead(&row.header);
+        let mut room = [0; MOST_OVERHEAD];
+        let front = &mut room[..size];
+        front.copy_from_slice(&frame[..size]);
+        move_front(self.shift, row, front);
+        self.push(folder, front, waiting)?;
+        self.push(folder, &frame[size..], waiting)
     }
 
     /// Copies what stands from an offset on, and moves the gains of these frames.
@@ -218,6 +211,7 @@ impl<'a> Pass<'a> {
     ) -> Result<(), CopyFault>
         requires ready { IsReady self.now.input.now self.now.output.now self.now.length (D.files folder.old) feed.old }
         requires ordered { AreInOrder from rows.now self.now.length }
+        requires told { (file : List ℕ) → Holds (D.files folder.old) self.now.input.now file → AreRowsOf file rows.now }
         ensures written { OnOk result (Writes self.now.input.now self.now.output.now (λ file. moved_from self.now.shift.now file from rows.now) waiting.old waiting.new (D.files folder.old) (D.files folder.new)) }
         ensures prefix { OnErr result (WritesPrefix self.now.input.now self.now.output.now (λ file. moved_from self.now.shift.now file from rows.now) waiting.old (D.files folder.old) (D.files folder.new)) }
         ensures done { OnOk result (D.counts folder.new ≡ D.counts folder.old) }

@@ -7,10 +7,10 @@ use Rattle.sync_survey.specs.Faults.{SurveyFields, tells, longest_file}
 use Rattle.sync_survey.specs.Survey.{survey_of}
 use Rattle.edits.specs.declared.shift.Shift.{Shift}
 use Rattle.edits.specs.Edited.{most_frames, edited}
-use Rattle.edits.specs.Moving.{bytes_between, moved_from}
+use Rattle.edits.specs.Moving.{AreRowsOf, bytes_between, moved_from}
 use Rattle.edits.specs.Pass.{Writes, WritesPrefix, HasCopyCause}
-use Rattle.edits.proofs.MovingLaws.{order_end, survey_of-length, survey_of-written}
-use Rattle.edits.proofs.PassLaws.{on_err, writes_there, writes_then, writes_as, writes_all, writes_end, prefix_as, prefix_then, cause_later, causes_later}
+use Rattle.edits.proofs.MovingLaws.{order_end, survey_of-length, survey_of-rows, survey_of-written}
+use Rattle.edits.proofs.PassLaws.{on_err, writes_held, writes_there, writes_then, writes_as, writes_all, writes_end, prefix_as, prefix_then, cause_later, causes_later}
 use Rattle.edits.proofs.moving.write_moved.Goals as goal
 
 -- the bytes up to the junk, and those from the first frame on
@@ -49,6 +49,12 @@ returns-in_err-copy-clause-prefix g c =
     (prefix_as input output c.requires.apart (λ file. bytes_between file 0 junk) (λ file. edited shift file s) (λ file. moved_from shift file s.first s.frames) [] _ _
     (λ file holds. sym (are_edited shift file s junk s.first s.frames (ap (λ r. r.0) c.junk-junk.ensures) refl refl (c.requires.exact file holds)))
     (subst (λ l. WritesPrefix input output (λ file. bytes_between file 0 junk) l (g.D.Folder.files c.args.folder.now) (g.D.Folder.files c.copy.new.folder)) c.requires.none c.in_err-copy.ensures.prefix))
+
+pub move_frames-requires-clause-told : goal.move_frames-requires-clause-told
+move_frames-requires-clause-told g c file holds =
+    let s = tells c.args.survey.now in
+    let held = writes_held c.args.input.now c.args.output.now c.requires.apart _ _ _ _ _ c.in_ok-copy.ensures.written file holds in
+    subst (AreRowsOf file) (sym c.frames.ensures) (survey_of-rows file most_frames s (c.requires.exact file held))
 
 pub returns-in_err-move_frames-clause-prefix : goal.returns-in_err-move_frames-clause-prefix
 returns-in_err-move_frames-clause-prefix g c =

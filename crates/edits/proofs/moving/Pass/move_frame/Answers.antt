@@ -1,9 +1,48 @@
--- A frame that was read goes on with moved gains, and all is ready for the next.
-use Rattle.std.proofs.Common.{arith, ap, length}
-use Rattle.std.proofs.lemmas.Result.{on_ok_weaker}
-use Rattle.edits.specs.Moving.{moved_row_bytes}
-use Rattle.edits.proofs.PassLaws.{on_err, prefix_nothing, passed_ready}
+-- The bytes before the main data with moved gains, and then the rest of the frame.
+use Rattle.std.proofs.Common.{◌≡◌, ◌≤◌, ◌++◌, ◌-◌, List, ℕ, take, drop, refl, subst, sym, arith, ap, ap₂, ◌∙◌, length, length-drop}
+use Rattle.std.proofs.lemmas.List.{take_all, take-take}
+use Rattle.std.proofs.lemmas.Result.{err_from_is_err_and, on_ok_weaker, on_err_weaker}
+use Rattle.frame_header.specs.Fields.{HeaderFields}
+use Rattle.frame_header.specs.Tables.{class_of, overhead_of}
+use Rattle.side_info.specs.declared.side.Side.{Side}
+use Rattle.side_info.specs.Frame.{side_in, frame_with}
+use Rattle.side_info.proofs.FrameLaws.{side_in-take, frame_with-take}
+use Rattle.sync_survey.specs.declared.rows.Row.{Row}
+use Rattle.outside.specs.Files.{Files, Holds, IsThere}
+use Rattle.edits.specs.declared.shift.Shift.{Shift}
+use Rattle.edits.specs.Gains.{moved_side}
+use Rattle.edits.specs.Moving.{row_length, IsRowOf, moved_row_bytes}
+use Rattle.edits.specs.Pass.{HasCopyCause}
+use Rattle.outside.specs.Passed.{PassedOn, AppendedPrefix}
+use Rattle.std.specs.Prelude.{IfErr}
+use Rattle.edits.proofs.PassLaws.{on_err, prefix_nothing, passed_ready, appended_is_there, writes_piece, prefix_piece, pushed_both, pushed_front, pushed_part, causes_later}
 use Rattle.edits.proofs.moving.Pass.move_frame.Goals as goal
+
+-- the frame as it stands, and its front with moved gains
+abbrev frame_of : List ℕ → Row → List ℕ
+frame_of file row = take (row_length row) (drop row.offset file)
+
+abbrev front_of : Shift → ℕ → Row → List ℕ → List ℕ
+front_of shift size row file = frame_with row.header (moved_side shift row.side) (take size (frame_of file row))
+
+-- what was put before the rest is the front of the frame, where its row is one of the file
+front_is : (shift : Shift) (file given old new : List ℕ) (size : ℕ) (row : Row) → overhead_of (class_of row.header) row.header.protected ≤ size → overhead_of (class_of row.header) row.header.protected ≤ row_length row
+    → IsRowOf file row → given ≡ frame_of file row → old ≡ take size given
+    → (side_in row.header old ≡ row.side → new ≡ frame_with row.header (moved_side shift row.side) old) → new ≡ front_of shift size row file
+front_is shift file given old new size row room whole told given_is old_is moved =
+    let is : old ≡ take size (frame_of file row) = old_is ∙ ap (take size) given_is in
+    let side : side_in row.header old ≡ row.side =
+    ap (side_in row.header) is ∙ side_in-take row.header size (frame_of file row) room ∙ side_in-take row.header (row_length row) (drop row.offset file) whole ∙ told in
+    moved side ∙ ap (frame_with row.header (moved_side shift row.side)) is
+
+-- the two are the frame with moved gains
+are_moved : (shift : Shift) (file given old new : List ℕ) (size : ℕ) (row : Row) → overhead_of (class_of row.header) row.header.protected ≤ size → overhead_of (class_of row.header) row.header.protected ≤ row_length row
+    → IsRowOf file row → given ≡ frame_of file row → old ≡ take size given
+    → (side_in row.header old ≡ row.side → new ≡ frame_with row.header (moved_side shift row.side) old) → new ++ take (length given - size) (drop size given) ≡ moved_row_bytes shift file row
+are_moved shift file given old new size row room whole told given_is old_is moved =
+    let rest_is : take (length given - size) (drop size given) ≡ drop size (frame_of file row) = take_all (length given - size) (drop size given) (omega (arith, length-drop size given)) ∙ ap (drop size) given_is in
+    ap₂ (λ (l m : List ℕ). l ++ m) (front_is shift file given old new size row room whole told given_is old_is moved) rest_is
+    ∙ frame_with-take row.header (moved_side shift row.side) size (frame_of file row) room
 
 pub returns-in_err-fill-clause-prefix : goal.returns-in_err-fill-clause-prefix
 returns-in_err-fill-clause-prefix g c =
@@ -11,12 +50,86 @@ returns-in_err-fill-clause-prefix g c =
     on_err c.from_residual.result
     (rw c.in_err-fill.ensures.files (prefix_nothing self.input.now self.output.now c.requires.ready.apart (λ file. moved_row_bytes self.shift.now file c.args.row.now) c.args.waiting.now (g.D.Folder.files c.args.folder.now) c.requires.ready.target))
 
-pub push_frame-requires-clause-room : goal.push_frame-requires-clause-room
-push_frame-requires-clause-room g c = omega (arith, ap length c.bytes.ensures, c.in_ok-fill.ensures.given, c.frame_length.ensures.room)
+pub returns-in_err-push-clause-prefix : goal.returns-in_err-push-clause-prefix
+returns-in_err-push-clause-prefix g c =
+    let self = c.args.self.now in
+    let shift = self.shift.now in
+    let row = c.args.row.now in
+    let files = g.D.Folder.files in
+    let old = files c.args.folder.now in
+    let size = c.overhead-size.result in
+    let frame = c.bytes-frame.result.now in
+    let front = c.move_front.new.front in
+    let rest = take (length frame - size) (drop size frame) in
+    let whole : (file : List ℕ) → Holds old self.input.now file → front ++ rest ≡ moved_row_bytes shift file row =
+    λ file holds.
+    are_moved shift file frame c.copy_from_slice.new.self front size row (omega (arith, c.overhead-size.ensures.overhead)) (omega (arith, c.frame_length.ensures.room, c.frame_length.ensures.length)) (c.requires.told file holds)
+    (c.bytes-frame.ensures ∙ c.in_ok-fill.ensures.bytes file holds ∙ ap (λ n. take n (drop row.offset file)) c.frame_length.ensures.length) c.copy_from_slice.ensures.after c.move_front.ensures in
+    on_err c.from_residual-in_err-push.result
+    (prefix_piece self.input.now self.output.now c.requires.ready.apart (λ file. moved_row_bytes shift file row) (front ++ rest) c.args.waiting.now old (files c.push.new.folder) whole
+    (pushed_front self.output.now c.args.waiting.now front rest (front ++ rest) refl _ _
+    (subst (λ f. AppendedPrefix self.output.now (c.args.waiting.now ++ front) f (files c.push.new.folder)) c.in_ok-fill.ensures.files c.in_err-push.ensures.prefix)))
+
+pub push-requires-2 : goal.push-requires-2
+push-requires-2 g c =
+    let passed = c.in_ok-push.ensures.passed in
+    appended_is_there _ _ c.args.self.now.output.now passed.passed c.args.self.now.output.now passed.files c.in_ok-fill.ensures.ready.target
+
+pub returns-clause-written : goal.returns-clause-written
+returns-clause-written g c =
+    let self = c.args.self.now in
+    let shift = self.shift.now in
+    let row = c.args.row.now in
+    let files = g.D.Folder.files in
+    let old = files c.args.folder.now in
+    let size = c.overhead-size.result in
+    let frame = c.bytes-frame.result.now in
+    let front = c.move_front.new.front in
+    let rest = take (length frame - size) (drop size frame) in
+    let whole : (file : List ℕ) → Holds old self.input.now file → front ++ rest ≡ moved_row_bytes shift file row =
+    λ file holds.
+    are_moved shift file frame c.copy_from_slice.new.self front size row (omega (arith, c.overhead-size.ensures.overhead)) (omega (arith, c.frame_length.ensures.room, c.frame_length.ensures.length)) (c.requires.told file holds)
+    (c.bytes-frame.ensures ∙ c.in_ok-fill.ensures.bytes file holds ∙ ap (λ n. take n (drop row.offset file)) c.frame_length.ensures.length) c.copy_from_slice.ensures.after c.move_front.ensures in
+    let first = subst (λ f. PassedOn self.output.now (c.args.waiting.now ++ front) c.push.new.waiting f (files c.push.new.folder)) c.in_ok-fill.ensures.files c.in_ok-push.ensures.passed in
+    on_ok_weaker c.push-2.result
+    (λ second. writes_piece self.input.now self.output.now c.requires.ready.apart (λ file. moved_row_bytes shift file row) (front ++ rest) c.args.waiting.now c.push-2.new.waiting old (files c.push-2.new.folder) whole
+    (pushed_both self.output.now c.args.waiting.now front rest (front ++ rest) refl _ _ _ _ _ first second))
+    c.push-2.ensures.passed
+
+pub returns-clause-prefix : goal.returns-clause-prefix
+returns-clause-prefix g c =
+    let self = c.args.self.now in
+    let shift = self.shift.now in
+    let row = c.args.row.now in
+    let files = g.D.Folder.files in
+    let old = files c.args.folder.now in
+    let size = c.overhead-size.result in
+    let frame = c.bytes-frame.result.now in
+    let front = c.move_front.new.front in
+    let rest = take (length frame - size) (drop size frame) in
+    let whole : (file : List ℕ) → Holds old self.input.now file → front ++ rest ≡ moved_row_bytes shift file row =
+    λ file holds.
+    are_moved shift file frame c.copy_from_slice.new.self front size row (omega (arith, c.overhead-size.ensures.overhead)) (omega (arith, c.frame_length.ensures.room, c.frame_length.ensures.length)) (c.requires.told file holds)
+    (c.bytes-frame.ensures ∙ c.in_ok-fill.ensures.bytes file holds ∙ ap (λ n. take n (drop row.offset file)) c.frame_length.ensures.length) c.copy_from_slice.ensures.after c.move_front.ensures in
+    let first = subst (λ f. PassedOn self.output.now (c.args.waiting.now ++ front) c.push.new.waiting f (files c.push.new.folder)) c.in_ok-fill.ensures.files c.in_ok-push.ensures.passed in
+    on_err_weaker c.push-2.result
+    (λ second. prefix_piece self.input.now self.output.now c.requires.ready.apart (λ file. moved_row_bytes shift file row) (front ++ rest) c.args.waiting.now old (files c.push-2.new.folder) whole
+    (pushed_part self.output.now c.args.waiting.now front rest (front ++ rest) refl _ _ _ _ first second))
+    c.push-2.ensures.prefix
+
+pub returns-clause-cause : goal.returns-clause-cause
+returns-clause-cause g c =
+    let passed = c.in_ok-push.ensures.passed in
+    let files = c.in_ok-fill.ensures.files in
+    let cause = causes_later c.push-2.result c.args.self.now.length _ _ c.args.self.now.output.now passed.passed _ _ _ passed.files c.in_ok-push.ensures.done c.push-2.ensures.cause in
+    subst (λ f. IfErr c.push-2.result (HasCopyCause c.args.self.now.length f (g.D.Folder.counts c.args.folder.now) (g.D.Folder.counts c.push-2.new.folder))) files
+    (subst (λ counts. IfErr c.push-2.result (HasCopyCause c.args.self.now.length (g.D.Folder.files c.fill.new.folder) counts (g.D.Folder.counts c.push-2.new.folder))) c.in_ok-fill.ensures.done cause)
 
 pub returns-clause-ready : goal.returns-clause-ready
 returns-clause-ready g c =
     let self = c.args.self.now in
-    on_ok_weaker c.push_frame.result
-    (λ passed. passed_ready self.input.now self.output.now self.length c.requires.ready.apart _ _ _ _ _ passed c.in_ok-fill.ensures.ready)
-    c.push_frame.ensures.passed
+    let first = c.in_ok-push.ensures.passed in
+    on_ok_weaker c.push-2.result
+    (λ second. passed_ready self.input.now self.output.now self.length c.requires.ready.apart _ _ _ _ _ second
+    (passed_ready self.input.now self.output.now self.length c.requires.ready.apart _ _ _ _ _ first c.in_ok-fill.ensures.ready))
+    c.push-2.ensures.passed
