@@ -1,5 +1,5 @@
 //! The second pass over an input: it is read from front to back, and written with the gains of its frames moved.
-ghost use Rattle.std.specs.Prelude.{◌≡◌, ◌≢◌, ◌+◌, ◌≤◌, ◌++◌, List, ℕ, [], length, take, drop, IfErr, OnOk, OnErr, Ok};
+ghost use Rattle.std.specs.Prelude.{◌≡◌, ◌≢◌, ◌+◌, ◌≤◌, ◌++◌, List, ℕ, [], length, take, drop, IfOk, IfErr, OnOk, OnErr, Ok};
 ghost use Rattle.frame_header.specs.Fields.{HeaderFields};
 ghost use Rattle.frame_header.specs.Tables.{class_of, length_of, overhead_of};
 ghost use Rattle.side_info.specs.Side.{SideFits};
@@ -171,25 +171,27 @@ impl<'a> Pass<'a> {
         Ok(())
     }
 
-    /// Copies a frame and moves its gains.
+    /// Copies a frame and moves its gains. The answer is the offset where it ends.
     fn move_frame<D: Folder>(
         &self,
         folder: &mut D,
         row: &Row,
         feed: &mut Feed,
         waiting: &mut WriteBuffer,
-    ) -> Result<(), CopyFault>
+    ) -> Result<u64, CopyFault>
         requires ready { IsReady self.now.input.now self.now.output.now self.now.length (D.files folder.old) feed.old }
         requires within { row_end row.now ≤ self.now.length }
         requires fits { SideFits (class_of row.now.header) row.now.side }
         requires told { (file : List ℕ) → Holds (D.files folder.old) self.now.input.now file → IsRowOf file row.now }
         ensures written { OnOk result (Writes self.now.input.now self.now.output.now (λ file. moved_row_bytes self.now.shift.now file row.now) waiting.old waiting.new (D.files folder.old) (D.files folder.new)) }
         ensures prefix { OnErr result (WritesPrefix self.now.input.now self.now.output.now (λ file. moved_row_bytes self.now.shift.now file row.now) waiting.old (D.files folder.old) (D.files folder.new)) }
+        ensures end { IfOk result (λ end. end ≡ row_end row.now) }
         ensures done { OnOk result (D.counts folder.new ≡ D.counts folder.old) }
         ensures cause { IfErr result (HasCopyCause self.now.length (D.files folder.old) (D.counts folder.old) (D.counts folder.new)) }
         ensures ready { OnOk result (IsReady self.now.input.now self.now.output.now self.now.length (D.files folder.new) feed.new) }
     {
-        self.fill(folder, row.offset, frame_length(&row.header) as usize, feed)?;
+        let length = frame_length(&row.header);
+        self.fill(folder, row.offset, length as usize, feed)?;
         let frame = feed.bytes();
         let size = overhead(&row.header);
         let mut room = [0; MOST_OVERHEAD];
@@ -197,7 +199,8 @@ impl<'a> Pass<'a> {
         front.copy_from_slice(&frame[..size]);
         move_front(self.shift, row, front);
         self.push(folder, front, waiting)?;
-        self.push(folder, &frame[size..], waiting)
+        self.push(folder, &frame[size..], waiting)?;
+        Ok(row.offset + u64::from(length))
     }
 
     /// Copies what stands from an offset on, and moves the gains of these frames.
@@ -220,8 +223,7 @@ impl<'a> Pass<'a> {
         let mut at = from;
         for row in rows {
             self.copy(folder, at, row.offset, feed, waiting)?;
-            self.move_frame(folder, row, feed, waiting)?;
-            at = row.offset + u64::from(row.header.length());
+            at = self.move_frame(folder, row, feed, waiting)?;
         }
         self.copy(folder, at, self.length, feed, waiting)
     }

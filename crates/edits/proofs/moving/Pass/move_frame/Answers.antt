@@ -8,14 +8,14 @@ use Rattle.side_info.specs.declared.side.Side.{Side}
 use Rattle.side_info.specs.Frame.{side_in, frame_with}
 use Rattle.side_info.proofs.FrameLaws.{side_in-take, frame_with-take}
 use Rattle.sync_survey.specs.declared.rows.Row.{Row}
-use Rattle.outside.specs.Files.{Files, Holds, IsThere}
+use Rattle.outside.specs.Files.{Files, Holds, IsThere, appended}
 use Rattle.edits.specs.declared.shift.Shift.{Shift}
 use Rattle.edits.specs.Gains.{moved_side}
 use Rattle.edits.specs.Moving.{row_length, IsRowOf, moved_row_bytes}
 use Rattle.edits.specs.Pass.{HasCopyCause}
 use Rattle.outside.specs.Passed.{PassedOn, AppendedPrefix}
 use Rattle.std.specs.Prelude.{IfErr}
-use Rattle.edits.proofs.PassLaws.{on_err, prefix_nothing, passed_ready, appended_is_there, writes_piece, prefix_piece, pushed_both, pushed_front, pushed_part, causes_later}
+use Rattle.edits.proofs.PassLaws.{on_err, prefix_nothing, passed_ready, appended_is_there, writes_piece, prefix_piece, pushed_both, pushed_front, pushed_part, cause_later}
 use Rattle.edits.proofs.moving.Pass.move_frame.Goals as goal
 
 -- the frame as it stands, and its front with moved gains
@@ -63,8 +63,8 @@ returns-in_err-push-clause-prefix g c =
     let rest = take (length frame - size) (drop size frame) in
     let whole : (file : List ℕ) → Holds old self.input.now file → front ++ rest ≡ moved_row_bytes shift file row =
     λ file holds.
-    are_moved shift file frame c.copy_from_slice.new.self front size row (omega (arith, c.overhead-size.ensures.overhead)) (omega (arith, c.frame_length.ensures.room, c.frame_length.ensures.length)) (c.requires.told file holds)
-    (c.bytes-frame.ensures ∙ c.in_ok-fill.ensures.bytes file holds ∙ ap (λ n. take n (drop row.offset file)) c.frame_length.ensures.length) c.copy_from_slice.ensures.after c.move_front.ensures in
+    are_moved shift file frame c.copy_from_slice.new.self front size row (omega (arith, c.overhead-size.ensures.overhead)) (omega (arith, c.frame_length-length.ensures.room, c.frame_length-length.ensures.length)) (c.requires.told file holds)
+    (c.bytes-frame.ensures ∙ c.in_ok-fill.ensures.bytes file holds ∙ ap (λ n. take n (drop row.offset file)) c.frame_length-length.ensures.length) c.copy_from_slice.ensures.after c.move_front.ensures in
     on_err c.from_residual-in_err-push.result
     (prefix_piece self.input.now self.output.now c.requires.ready.apart (λ file. moved_row_bytes shift file row) (front ++ rest) c.args.waiting.now old (files c.push.new.folder) whole
     (pushed_front self.output.now c.args.waiting.now front rest (front ++ rest) refl _ _
@@ -74,6 +74,36 @@ pub push-requires-2 : goal.push-requires-2
 push-requires-2 g c =
     let passed = c.in_ok-push.ensures.passed in
     appended_is_there _ _ c.args.self.now.output.now passed.passed c.args.self.now.output.now passed.files c.in_ok-fill.ensures.ready.target
+
+pub returns-in_err-push-2-clause-prefix : goal.returns-in_err-push-2-clause-prefix
+returns-in_err-push-2-clause-prefix g c =
+    let self = c.args.self.now in
+    let shift = self.shift.now in
+    let row = c.args.row.now in
+    let files = g.D.Folder.files in
+    let old = files c.args.folder.now in
+    let size = c.overhead-size.result in
+    let frame = c.bytes-frame.result.now in
+    let front = c.move_front.new.front in
+    let rest = take (length frame - size) (drop size frame) in
+    let whole : (file : List ℕ) → Holds old self.input.now file → front ++ rest ≡ moved_row_bytes shift file row =
+    λ file holds.
+    are_moved shift file frame c.copy_from_slice.new.self front size row (omega (arith, c.overhead-size.ensures.overhead)) (omega (arith, c.frame_length-length.ensures.room, c.frame_length-length.ensures.length)) (c.requires.told file holds)
+    (c.bytes-frame.ensures ∙ c.in_ok-fill.ensures.bytes file holds ∙ ap (λ n. take n (drop row.offset file)) c.frame_length-length.ensures.length) c.copy_from_slice.ensures.after c.move_front.ensures in
+    let first = subst (λ f. PassedOn self.output.now (c.args.waiting.now ++ front) c.push.new.waiting f (files c.push.new.folder)) c.in_ok-fill.ensures.files c.in_ok-push.ensures.passed in
+    on_err c.from_residual-in_err-push-2.result
+    (prefix_piece self.input.now self.output.now c.requires.ready.apart (λ file. moved_row_bytes shift file row) (front ++ rest) c.args.waiting.now old (files c.push-2.new.folder) whole
+    (pushed_part self.output.now c.args.waiting.now front rest (front ++ rest) refl _ _ _ _ first c.in_err-push-2.ensures.prefix))
+
+pub returns-in_err-push-2-clause-cause : goal.returns-in_err-push-2-clause-cause
+returns-in_err-push-2-clause-cause g c =
+    let size = c.args.self.now.length in
+    let passed = c.in_ok-push.ensures.passed in
+    let filled = c.in_ok-fill.ensures.files in
+    let counts = c.in_ok-push.ensures.done ∙ c.in_ok-fill.ensures.done in
+    let p = err_from_is_err_and c.from_residual-in_err-push-2.result c.from_residual-in_err-push-2.ensures.1 in
+    rw (p.1, p.2)
+    (cause_later size (g.D.Folder.files c.args.folder.now) _ c.args.self.now.output.now passed.passed _ _ _ _ (passed.files ∙ ap (λ f. appended f c.args.self.now.output.now passed.passed) filled) counts c.in_err-push-2.ensures.cause)
 
 pub returns-clause-written : goal.returns-clause-written
 returns-clause-written g c =
@@ -88,48 +118,14 @@ returns-clause-written g c =
     let rest = take (length frame - size) (drop size frame) in
     let whole : (file : List ℕ) → Holds old self.input.now file → front ++ rest ≡ moved_row_bytes shift file row =
     λ file holds.
-    are_moved shift file frame c.copy_from_slice.new.self front size row (omega (arith, c.overhead-size.ensures.overhead)) (omega (arith, c.frame_length.ensures.room, c.frame_length.ensures.length)) (c.requires.told file holds)
-    (c.bytes-frame.ensures ∙ c.in_ok-fill.ensures.bytes file holds ∙ ap (λ n. take n (drop row.offset file)) c.frame_length.ensures.length) c.copy_from_slice.ensures.after c.move_front.ensures in
+    are_moved shift file frame c.copy_from_slice.new.self front size row (omega (arith, c.overhead-size.ensures.overhead)) (omega (arith, c.frame_length-length.ensures.room, c.frame_length-length.ensures.length)) (c.requires.told file holds)
+    (c.bytes-frame.ensures ∙ c.in_ok-fill.ensures.bytes file holds ∙ ap (λ n. take n (drop row.offset file)) c.frame_length-length.ensures.length) c.copy_from_slice.ensures.after c.move_front.ensures in
     let first = subst (λ f. PassedOn self.output.now (c.args.waiting.now ++ front) c.push.new.waiting f (files c.push.new.folder)) c.in_ok-fill.ensures.files c.in_ok-push.ensures.passed in
-    on_ok_weaker c.push-2.result
-    (λ second. writes_piece self.input.now self.output.now c.requires.ready.apart (λ file. moved_row_bytes shift file row) (front ++ rest) c.args.waiting.now c.push-2.new.waiting old (files c.push-2.new.folder) whole
-    (pushed_both self.output.now c.args.waiting.now front rest (front ++ rest) refl _ _ _ _ _ first second))
-    c.push-2.ensures.passed
-
-pub returns-clause-prefix : goal.returns-clause-prefix
-returns-clause-prefix g c =
-    let self = c.args.self.now in
-    let shift = self.shift.now in
-    let row = c.args.row.now in
-    let files = g.D.Folder.files in
-    let old = files c.args.folder.now in
-    let size = c.overhead-size.result in
-    let frame = c.bytes-frame.result.now in
-    let front = c.move_front.new.front in
-    let rest = take (length frame - size) (drop size frame) in
-    let whole : (file : List ℕ) → Holds old self.input.now file → front ++ rest ≡ moved_row_bytes shift file row =
-    λ file holds.
-    are_moved shift file frame c.copy_from_slice.new.self front size row (omega (arith, c.overhead-size.ensures.overhead)) (omega (arith, c.frame_length.ensures.room, c.frame_length.ensures.length)) (c.requires.told file holds)
-    (c.bytes-frame.ensures ∙ c.in_ok-fill.ensures.bytes file holds ∙ ap (λ n. take n (drop row.offset file)) c.frame_length.ensures.length) c.copy_from_slice.ensures.after c.move_front.ensures in
-    let first = subst (λ f. PassedOn self.output.now (c.args.waiting.now ++ front) c.push.new.waiting f (files c.push.new.folder)) c.in_ok-fill.ensures.files c.in_ok-push.ensures.passed in
-    on_err_weaker c.push-2.result
-    (λ second. prefix_piece self.input.now self.output.now c.requires.ready.apart (λ file. moved_row_bytes shift file row) (front ++ rest) c.args.waiting.now old (files c.push-2.new.folder) whole
-    (pushed_part self.output.now c.args.waiting.now front rest (front ++ rest) refl _ _ _ _ first second))
-    c.push-2.ensures.prefix
-
-pub returns-clause-cause : goal.returns-clause-cause
-returns-clause-cause g c =
-    let passed = c.in_ok-push.ensures.passed in
-    let files = c.in_ok-fill.ensures.files in
-    let cause = causes_later c.push-2.result c.args.self.now.length _ _ c.args.self.now.output.now passed.passed _ _ _ passed.files c.in_ok-push.ensures.done c.push-2.ensures.cause in
-    subst (λ f. IfErr c.push-2.result (HasCopyCause c.args.self.now.length f (g.D.Folder.counts c.args.folder.now) (g.D.Folder.counts c.push-2.new.folder))) files
-    (subst (λ counts. IfErr c.push-2.result (HasCopyCause c.args.self.now.length (g.D.Folder.files c.fill.new.folder) counts (g.D.Folder.counts c.push-2.new.folder))) c.in_ok-fill.ensures.done cause)
+    writes_piece self.input.now self.output.now c.requires.ready.apart (λ file. moved_row_bytes shift file row) (front ++ rest) c.args.waiting.now c.push-2.new.waiting old (files c.push-2.new.folder) whole
+    (pushed_both self.output.now c.args.waiting.now front rest (front ++ rest) refl _ _ _ _ _ first c.in_ok-push-2.ensures.passed)
 
 pub returns-clause-ready : goal.returns-clause-ready
 returns-clause-ready g c =
     let self = c.args.self.now in
-    let first = c.in_ok-push.ensures.passed in
-    on_ok_weaker c.push-2.result
-    (λ second. passed_ready self.input.now self.output.now self.length c.requires.ready.apart _ _ _ _ _ second
-    (passed_ready self.input.now self.output.now self.length c.requires.ready.apart _ _ _ _ _ first c.in_ok-fill.ensures.ready))
-    c.push-2.ensures.passed
+    passed_ready self.input.now self.output.now self.length c.requires.ready.apart _ _ _ _ _ c.in_ok-push-2.ensures.passed
+    (passed_ready self.input.now self.output.now self.length c.requires.ready.apart _ _ _ _ _ c.in_ok-push.ensures.passed c.in_ok-fill.ensures.ready)

@@ -79,8 +79,8 @@ move_frame-requires-clause-told g c file holds =
     (λ file. bytes_between file c.loop-row.at row.offset) (left self.shift.now rows i row) (λ file holds. left_at self.shift.now file c.loop-row.at rows i row is) _ _ c.in_ok-copy.ensures.written in
     (told file rows i row is (c.loop-row.invariant.told file (up_to_held self.input.now self.output.now c.requires.ready.apart _ _ _ _ _ _ before file holds))).0
 
-pub returns-in_err-move_frame-clause-prefix : goal.returns-in_err-move_frame-clause-prefix
-returns-in_err-move_frame-clause-prefix g c =
+pub returns-in_err-at-clause-prefix : goal.returns-in_err-at-clause-prefix
+returns-in_err-at-clause-prefix g c =
     let self = c.args.self.now in
     let apart = c.requires.ready.apart in
     let rows = c.args.rows.now in
@@ -89,12 +89,12 @@ returns-in_err-move_frame-clause-prefix g c =
     let is = here rows i row (omega (arith, c.loop-row-test.true)) c.row-item.is in
     let before = up_to_more self.input.now self.output.now apart _ (λ file. moved_from self.shift.now file c.loop-row.at (drop i rows)) _ _ _ _ c.loop-row.invariant.up_to
     (λ file. bytes_between file c.loop-row.at row.offset) (left self.shift.now rows i row) (λ file holds. left_at self.shift.now file c.loop-row.at rows i row is) _ _ c.in_ok-copy.ensures.written in
-    on_err c.from_residual-in_err-move_frame.result
+    on_err c.from_residual-in_err-at.result
     (up_to_prefix self.input.now self.output.now apart _ (left self.shift.now rows i row) _ _ _ _ before
-    (λ file. moved_row_bytes self.shift.now file row) (λ file. moved_from self.shift.now file (row_end row) (drop (i + 1) rows)) (λ file holds. refl) _ c.in_err-move_frame.ensures.prefix)
+    (λ file. moved_row_bytes self.shift.now file row) (λ file. moved_from self.shift.now file (row_end row) (drop (i + 1) rows)) (λ file holds. refl) _ c.in_err-at.ensures.prefix)
 
-pub returns-in_err-move_frame-clause-cause : goal.returns-in_err-move_frame-clause-cause
-returns-in_err-move_frame-clause-cause g c =
+pub returns-in_err-at-clause-cause : goal.returns-in_err-at-clause-cause
+returns-in_err-at-clause-cause g c =
     let self = c.args.self.now in
     let apart = c.requires.ready.apart in
     let rows = c.args.rows.now in
@@ -103,16 +103,8 @@ returns-in_err-move_frame-clause-cause g c =
     let is = here rows i row (omega (arith, c.loop-row-test.true)) c.row-item.is in
     let before = up_to_more self.input.now self.output.now apart _ (λ file. moved_from self.shift.now file c.loop-row.at (drop i rows)) _ _ _ _ c.loop-row.invariant.up_to
     (λ file. bytes_between file c.loop-row.at row.offset) (left self.shift.now rows i row) (λ file holds. left_at self.shift.now file c.loop-row.at rows i row is) _ _ c.in_ok-copy.ensures.written in
-    let p = err_from_is_err_and c.from_residual-in_err-move_frame.result c.from_residual-in_err-move_frame.ensures.1 in
-    rw (p.1, p.2) (cause_behind self.input.now self.output.now _ _ _ _ _ _ before self.length _ _ _ _ (c.in_ok-copy.ensures.done ∙ c.loop-row.invariant.counts) c.in_err-move_frame.ensures.cause)
-
-pub overflow_add-at : goal.overflow_add-at
-overflow_add-at g c =
-    let rows = c.args.rows.now in
-    let row = c.row-item.result in
-    let i = c.loop-row.row-index in
-    let order = in_order c.loop-row.at c.args.self.now.length rows i row (here rows i row (omega (arith, c.loop-row-test.true)) c.row-item.is) c.loop-row.invariant.in_order in
-    omega (arith, order_end (row_end row) (drop (i + 1) rows) c.args.self.now.length order.2, c.requires.ready.few, c.from.ensures, c.length.ensures.most)
+    let p = err_from_is_err_and c.from_residual-in_err-at.result c.from_residual-in_err-at.ensures.1 in
+    rw (p.1, p.2) (cause_behind self.input.now self.output.now _ _ _ _ _ _ before self.length _ _ _ _ (c.in_ok-copy.ensures.done ∙ c.loop-row.invariant.counts) c.in_err-at.ensures.cause)
 
 pub loop-row-preserved : goal.loop-row-preserved
 loop-row-preserved g c =
@@ -123,8 +115,8 @@ loop-row-preserved g c =
     let i = c.loop-row.row-index in
     let is = here rows i row (omega (arith, c.loop-row-test.true)) c.row-item.is in
     let order = in_order c.loop-row.at self.length rows i row is c.loop-row.invariant.in_order in
-    let end = row.offset + c.from.result in
-    let end_is : row_end row ≡ end = omega (arith, c.from.ensures, c.length.ensures.length) in
+    let end = c.in_ok-at.at in
+    let end_is : row_end row ≡ end = sym c.in_ok-at.ensures.end in
     let before = up_to_more self.input.now self.output.now apart _ (λ file. moved_from self.shift.now file c.loop-row.at (drop i rows)) _ _ _ _ c.loop-row.invariant.up_to
     (λ file. bytes_between file c.loop-row.at row.offset) (left self.shift.now rows i row) (λ file holds. left_at self.shift.now file c.loop-row.at rows i row is) _ _ c.in_ok-copy.ensures.written in
     record {
@@ -132,9 +124,9 @@ loop-row-preserved g c =
       told = λ file holds. (told file rows i row is (c.loop-row.invariant.told file holds)).1;
       up_to = up_to_more self.input.now self.output.now apart _ (left self.shift.now rows i row) _ _ _ _ before
           (λ file. moved_row_bytes self.shift.now file row) (λ file. moved_from self.shift.now file end (drop (i + 1) rows))
-          (λ file holds. ap (λ n. moved_row_bytes self.shift.now file row ++ moved_from self.shift.now file n (drop (i + 1) rows)) end_is) _ _ c.in_ok-move_frame.ensures.written;
-      ready = c.in_ok-move_frame.ensures.ready;
-      counts = c.in_ok-move_frame.ensures.done ∙ c.in_ok-copy.ensures.done ∙ c.loop-row.invariant.counts;
+          (λ file holds. ap (λ n. moved_row_bytes self.shift.now file row ++ moved_from self.shift.now file n (drop (i + 1) rows)) end_is) _ _ c.in_ok-at.ensures.written;
+      ready = c.in_ok-at.ensures.ready;
+      counts = c.in_ok-at.ensures.done ∙ c.in_ok-copy.ensures.done ∙ c.loop-row.invariant.counts;
     }
 
 pub returns-clause-written : goal.returns-clause-written
