@@ -239,4 +239,4 @@ pub survey_of-rows : (file : List ℕ) (allowed : ℕ) (s : SurveyFields) → su
 survey_of-rows file allowed s e =
     let is = surveyed-is file allowed s (survey_of-surveyed file allowed s e) in
     let walk = walked file allowed s is in
-    subst (AreRowsOf file) (sym walk.frames_are) (are_rows file (numbered s.head (frames_of (stream_of file is.start).items)))
+    subst (AreRowsOf file) (sym walk.frames_are) (are_rows file (numbered s.head (frames_of (stream_run file is.start).items)))
