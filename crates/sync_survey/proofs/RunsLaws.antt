@@ -118,6 +118,22 @@ pub run-ends : (part : Part) (file : List ℕ) (from : ℕ) → AreEndToEnd part
 unfolding run
 run-ends part file from = ends_up_to (length file) part file from
 
+-- none stands behind them: there are no more items than bytes
+last_onward : (part : Part) (file : List ℕ) (at : ℕ) (next : ℕ → Run) (o : Option Item) → item_of part file at ≡ o → ((item : Item) → o ≡ Some item → item_of part file (next (at + size_of item)).stop ≡ None)
+    → item_of part file (onward at next o).stop ≡ None
+last_onward part file at next None is last = is
+last_onward part file at next (Some item) is last = last item refl
+
+last_up_to : (n : ℕ) (part : Part) (file : List ℕ) (at : ℕ) → length file ≤ n + at → item_of part file (run_up_to n part file at).stop ≡ None
+unfolding run_up_to
+last_up_to zero part file at le = item_of-past part file at (omega (arith, le))
+last_up_to (suc n) part file at le =
+    last_onward part file at (λ later. run_up_to n part file later) (item_of part file at) refl (λ item is. last_up_to n part file (at + size_of item) (omega (arith, le, (item_of-is part file at item is).some)))
+
+pub run-last : (part : Part) (file : List ℕ) (from : ℕ) → item_of part file (run part file from).stop ≡ None
+unfolding run
+run-last part file from = last_up_to (length file) part file from (omega arith)
+
 -- items that stand end to end, where no further one stands, are the run
 pub run-only : (part : Part) (file : List ℕ) (from : ℕ) (ps : List Placed) (to : ℕ) → AreEndToEnd part file from ps to → item_of part file to ≡ None → run part file from ≡ record { items = ps; stop = to }
 run-only part file from [] to ends none = run-stopped part file from (ap (item_of part file) ends ∙ none) ∙ ap stopped ends

@@ -8,3 +8,4 @@ pub mod MainData
 pub mod Faults
 pub mod Kinds
 pub mod Survey
+pub mod Laws

@@ -6,6 +6,7 @@ mod found;
 mod fronts;
 mod heads;
 mod items;
+mod laws;
 mod looks;
 mod places;
 mod rows;
@@ -16,8 +17,12 @@ mod surveys;
 
 pub use folders::survey;
 pub use items::Item;
+pub use laws::{one_item_stands, runs_are_only, starts_are_least, surveys_hold_streams};
 pub use places::{Head, Piece, PlacedFrame, Start};
 pub use rows::Row;
 pub use runs::Part;
 pub use survey_fault::SurveyFault;
 pub use surveys::Survey;
+
+#[cfg(test)]
+mod tests;

@@ -1,0 +1,9 @@
+-- The item that is found stands there, and is the only one.
+use Rattle.std.proofs.Common.{sym, subst}
+use Rattle.sync_survey.specs.Items.{Stands}
+use Rattle.sync_survey.proofs.ItemsLaws.{stands}
+use Rattle.sync_survey.proofs.OneItem.{stands-only}
+use Rattle.sync_survey.proofs.laws.one_item_stands.Goals as goal
+
+pub returns : goal.returns
+returns c = λ bytes item. (stands-only bytes item, (λ is. subst (Stands bytes) (sym is) (stands bytes)))

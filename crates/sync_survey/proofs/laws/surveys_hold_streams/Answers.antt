@@ -1,0 +1,6 @@
+-- The stream that a survey tells.
+use Rattle.sync_survey.proofs.SurveyParts.{surveyed-stream}
+use Rattle.sync_survey.proofs.laws.surveys_hold_streams.Goals as goal
+
+pub returns : goal.returns
+returns c = surveyed-stream

@@ -1,0 +1,39 @@
+-- What the definitions of the survey say, without their recursions.
+use Rattle.std.specs.Prelude.{◌≡◌, ◌↔◌, ℕ, ◌+◌, ◌≤◌, List, ◌++◌, length, drop, None, Ok}
+use Rattle.sync_survey.specs.declared.items.Item.{Item}
+use Rattle.sync_survey.specs.declared.items.Item.TheVariants.{Frame}
+use Rattle.sync_survey.specs.declared.places.Start.{Start}
+use Rattle.sync_survey.specs.declared.runs.Part.{Part}
+use Rattle.sync_survey.specs.Items.{Stands, item_front, item_at, size_of}
+use Rattle.sync_survey.specs.Runs.{Placed, run, item_of, AreEndToEnd, bytes_of}
+use Rattle.sync_survey.specs.Start.{start_of, IsLeastStart}
+use Rattle.sync_survey.specs.Faults.{SurveyFields, surveyed, stream_of_survey, HoldsStream}
+
+-- at the front of bytes one item stands, and no other
+abbrev pub OneItemStands : Type 0
+OneItemStands = (bytes : List ℕ) (item : Item) → Stands bytes item ↔ (item ≡ item_front bytes)
+
+-- The items of a run are whole and stand end to end, and none stands behind them; with the bytes behind them they are the file's bytes;
+-- and no other items of the part stand so.
+pub record IsOnlyRun (part : Part) (file : List ℕ) (from : ℕ) : Type 0 where
+  pub items : AreEndToEnd part file from (run part file from).items (run part file from).stop
+  pub last : item_of part file (run part file from).stop ≡ None
+  pub bytes : bytes_of file (run part file from).items ++ drop (run part file from).stop file ≡ drop from file
+  pub only : (others : List Placed) (stop : ℕ) → AreEndToEnd part file from others stop → item_of part file stop ≡ None → run part file from ≡ record { items = others; stop = stop }
+
+abbrev pub RunsAreOnly : Type 0
+RunsAreOnly = (part : Part) (file : List ℕ) (from : ℕ) → IsOnlyRun part file from
+
+-- The first frame of a stream is whole. It stands where the blocks and zero bytes at the front end, or behind junk at the least offset
+-- where an anchored frame stands.
+pub record IsFirstOfStream (file : List ℕ) (start : Start) : Type 0 where
+  pub item : item_at file start.first.offset ≡ Frame start.first.header
+  pub whole : start.first.offset + size_of (Frame start.first.header) ≤ length file
+  pub least : IsLeastStart file start
+
+abbrev pub StartsAreLeast : Type 0
+StartsAreLeast = (file : List ℕ) (start : Start) → start_of file ≡ Ok start → IsFirstOfStream file start
+
+-- a file without fault holds the stream that its survey tells, and is well-formed whatever number of frames was allowed
+abbrev pub SurveysHoldStreams : Type 0
+SurveysHoldStreams = (file : List ℕ) (allowed : ℕ) (s : SurveyFields) → surveyed file allowed ≡ Ok s → HoldsStream file (stream_of_survey file s)

@@ -1,0 +1,27 @@
+//! Laws of the definitions that the survey's contract cites. Each function does nothing: a proof that needs
+//! its law calls it.
+ghost use Rattle.sync_survey.specs.Laws.{OneItemStands, RunsAreOnly, StartsAreLeast, SurveysHoldStreams};
+
+/// At the front of bytes one item stands, and no other: a header, a block, a zero byte, the end, or nothing
+/// of these.
+pub fn one_item_stands()
+    ensures { OneItemStands }
+{}
+
+/// The items of a run are whole, stand end to end, and are all that stand so; with the bytes behind them they
+/// are the file's bytes.
+pub fn runs_are_only()
+    ensures { RunsAreOnly }
+{}
+
+/// The first frame of a stream is whole, and behind junk it stands at the least offset where an anchored frame
+/// does.
+pub fn starts_are_least()
+    ensures { StartsAreLeast }
+{}
+
+/// A file without fault is well-formed, and its stream is that of its survey, whatever number of frames was
+/// allowed.
+pub fn surveys_hold_streams()
+    ensures { SurveysHoldStreams }
+{}
