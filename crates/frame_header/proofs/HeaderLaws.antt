@@ -12,11 +12,11 @@ use Rattle.bit_fields.proofs.GroupsLaws.{group-below, joined, spelled-joined, le
 use Rattle.frame_header.specs.declared.header.NotHeader.{NotHeader}
 use Rattle.frame_header.specs.declared.header.NotHeader.TheVariants.{Free, No}
 use Rattle.frame_header.specs.Reading.{is_readable, version_of, protection_bit, rate_bits, frequency_bits, header_in, header_at, header_fields}
-use Rattle.frame_header.specs.Fields.{HeaderFields, IsHeader, IsClass}
+use Rattle.frame_header.specs.Fields.{HeaderFields, IsHeader, IsClass, version_number}
 use Rattle.frame_header.specs.Tables.{class_of}
 use Rattle.frame_header.specs.declared.version.Version.{Version}
-use Rattle.frame_header.specs.declared.version.Version.TheVariants.{One, Two}
-use Rattle.frame_header.specs.HeaderBits.{header_widths, version_bit_of, flag_of, protection_of, header_numbers, header_bits}
+use Rattle.frame_header.specs.declared.version.Version.TheVariants.{One, Two, TwoFive}
+use Rattle.frame_header.specs.HeaderBits.{header_widths, flag_of, protection_of, header_numbers, header_bits}
 
 abbrev pub good : HeaderFields → Result HeaderFields NotHeader
 good fields = Ok fields
@@ -94,7 +94,8 @@ header_in-ok h fields is = by_cases (is_readable h) (eqb (rate_bits h) 0) refl r
 
 -- the tests of a readable header, as facts
 record IsReadable (h : List ℕ) : Type 0 where
-  pub sync : group 0 12 h ≡ 4095
+  pub sync : group 0 11 h ≡ 2047
+  pub version : group 11 2 h ≢ 1
   pub layer : group 13 2 h ≡ 1
   pub rate : rate_bits h ≢ 15
   pub frequency : frequency_bits h ≢ 3
@@ -105,7 +106,14 @@ readable h passes =
     let parts = both _ _ passes in
     let first = both _ _ parts.0 in
     let front = both _ _ first.0 in
-    record { sync = eqb-true _ _ front.0; layer = eqb-true _ _ front.1; rate = eqb-false _ _ (is_not _ first.1); frequency = eqb-false _ _ (is_not _ parts.1) }
+    let marks = both _ _ front.0 in
+    record {
+      sync = eqb-true _ _ marks.0;
+      version = eqb-false _ _ (is_not _ marks.1);
+      layer = eqb-true _ _ front.1;
+      rate = eqb-false _ _ (is_not _ first.1);
+      frequency = eqb-false _ _ (is_not _ parts.1);
+    }
 
 fields_in_range : (h : List ℕ) → AreBits h → IsReadable h → rate_bits h ≢ 0 → IsHeader (header_fields h)
 unfolding header_fields
@@ -152,9 +160,10 @@ numbers_at-groups at [] bs = refl
 numbers_at-groups at (width ∷ widths) bs =
     ap (λ ns. number (take width (drop at bs)) ∷ ns) (ap (numbers_at widths) (drop-drop width at bs) ∙ numbers_at-groups (at + width) widths bs)
 
-version_bit-below : (v : Version) → version_bit_of v < 2
-version_bit-below One = lit< tt
-version_bit-below Two = lit< tt
+version_number-below : (v : Version) → version_number v < 4
+version_number-below One = lit< tt
+version_number-below Two = lit< tt
+version_number-below TwoFive = lit< tt
 
 flag-below : (flag : Bool) → flag_of flag < 2
 flag-below true = lit< tt
@@ -170,7 +179,7 @@ unfolding header_numbers
 Fits-header_numbers h is = (
   lit< tt,
   (
-    version_bit-below h.version,
+    version_number-below h.version,
     (
       lit< tt,
       (
@@ -212,7 +221,7 @@ flag-byte false = refl
 -- the number that has the header's numbers in its groups
 abbrev pub header_number : HeaderFields → ℕ
 header_number h =
-    4293918720 + version_bit_of h.version * 524288 + 131072 + bool_byte (not h.protected) * 65536 + h.slot.rate_index * 4096 + h.frequency_index * 1024 + bool_byte h.slot.padding * 512
+    4292870144 + version_number h.version * 524288 + 131072 + bool_byte (not h.protected) * 65536 + h.slot.rate_index * 4096 + h.frequency_index * 1024 + bool_byte h.slot.padding * 512
     + bool_byte h.private_bit * 256 + h.mode * 64 + h.mode_extension * 16 + bool_byte h.copyright * 8 + bool_byte h.original * 4 + h.emphasis
 
 header_number-joined : (h : HeaderFields) → header_number h ≡ joined header_widths (header_numbers h)
@@ -227,9 +236,15 @@ groups_written : (h : HeaderFields) → IsHeader h → groups_from 0 header_widt
 unfolding header_bits
 groups_written h is = sym (numbers_at-groups 0 header_widths (header_bits h)) ∙ numbers_at-spelled header_widths (header_numbers h) (Fits-header_numbers h is)
 
-version_back : (v : Version) → v ≡ cond (eqb (version_bit_of v) 1) One Two
+version_back : (v : Version) → v ≡ cond (eqb (version_number v) 3) One (cond (eqb (version_number v) 2) Two TwoFive)
 version_back One = refl
 version_back Two = refl
+version_back TwoFive = refl
+
+version_some : (v : Version) → eqb (version_number v) 1 ≡ false
+version_some One = refl
+version_some Two = refl
+version_some TwoFive = refl
 
 flag_back : (flag : Bool) → flag ≡ eqb (flag_of flag) 1
 flag_back true = refl
@@ -245,16 +260,18 @@ unfolding is_readable header_numbers
 header_in-header_bits h is =
     let bs : List ℕ = header_bits h in
     let g = λ (k : ℕ). ap (λ ns. get_or ns k 0) (groups_written h is) in
-    let sync : group 0 12 bs ≡ 4095 = g 0 in
+    let sync : group 0 11 bs ≡ 2047 = g 0 in
+    let version : group 11 2 bs ≡ version_number h.version = g 1 in
+    let not_reserved : eqb (version_number h.version) 1 ≡ false = version_some h.version in
     let layer : group 13 2 bs ≡ 1 = g 2 in
     let rate : group 16 4 bs ≡ h.slot.rate_index = g 4 in
     let frequency : group 20 2 bs ≡ h.frequency_index = g 5 in
     let not_15 : eqb h.slot.rate_index 15 ≡ false = ne_eqb _ _ (omega (arith, is.slot.1)) in
     let not_3 : eqb h.frequency_index 3 ≡ false = ne_eqb _ _ (omega (arith, is.frequency_index)) in
-    let readable : is_readable bs ≡ true = rw (sync, layer, rate, frequency, not_15, not_3) refl in
+    let readable : is_readable bs ≡ true = rw (sync, version, layer, rate, frequency, not_reserved, not_15, not_3) refl in
     header_in-good bs readable (omega (arith, is.slot.0))
     ∙ ap good (sym (header_fields-groups bs h.version h.protected h.slot.rate_index h.slot.padding h.frequency_index h.private_bit h.mode h.mode_extension h.copyright h.original h.emphasis
-    (version_back h.version ∙ ap (λ n. cond (eqb n 1) One Two) (sym (g 1)))
+    (version_back h.version ∙ ap (λ n. cond (eqb n 3) One (cond (eqb n 2) Two TwoFive)) (sym (g 1)))
     (protection_back h.protected ∙ ap (λ n. eqb n 0) (sym (g 3)))
     (sym rate)
     (flag_back h.slot.padding ∙ ap (λ n. eqb n 1) (sym (g 6)))
@@ -271,10 +288,12 @@ flag_again zero h = refl
 flag_again (suc zero) h = refl
 flag_again (suc (suc bit)) h = absurd (omega arith)
 
-version_again : (bit : ℕ) → bit < 2 → version_bit_of (cond (eqb bit 1) One Two) ≡ bit
-version_again zero h = refl
-version_again (suc zero) h = refl
-version_again (suc (suc bit)) h = absurd (omega arith)
+version_again : (n : ℕ) → n < 4 → n ≢ 1 → version_number (cond (eqb n 3) One (cond (eqb n 2) Two TwoFive)) ≡ n
+version_again zero h some = refl
+version_again (suc zero) h some = absurd (omega arith)
+version_again (suc (suc zero)) h some = refl
+version_again (suc (suc (suc zero))) h some = refl
+version_again (suc (suc (suc (suc n)))) h some = absurd (omega arith)
 
 protection_again : (bit : ℕ) → bit < 2 → protection_of (eqb bit 0) ≡ bit
 protection_again zero h = refl
@@ -285,7 +304,7 @@ numbers_read : (bs : List ℕ) → AreBits bs → IsReadable bs → header_numbe
 unfolding header_numbers header_fields
 numbers_read bs all is =
     let below = λ (from : ℕ). group-below from 1 bs all in
-    λ i. sym is.sync i ∷ version_again _ (below 12) i ∷ sym is.layer i ∷ protection_again _ (below 15) i ∷ group 16 4 bs ∷ group 20 2 bs ∷ flag_again _ (below 22) i ∷ flag_again _ (below 23) i ∷
+    λ i. sym is.sync i ∷ version_again _ (group-below 11 2 bs all) is.version i ∷ sym is.layer i ∷ protection_again _ (below 15) i ∷ group 16 4 bs ∷ group 20 2 bs ∷ flag_again _ (below 22) i ∷ flag_again _ (below 23) i ∷
     group 24 2 bs ∷ group 26 2 bs ∷ flag_again _ (below 28) i ∷ flag_again _ (below 29) i ∷ group 30 2 bs ∷ []
 
 -- a header that was read is written as the bits that it was read from

@@ -1,2 +1,5 @@
 pub mod Lengths
 pub mod HeaderLaws
+pub mod SlotLaws
+pub mod Below
+mod Comparing

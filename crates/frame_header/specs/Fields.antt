@@ -1,6 +1,7 @@
 -- What contracts see of a header, a class and a slot.
-use Rattle.std.specs.Prelude.{ℕ, Bool, ◌≤◌}
+use Rattle.std.specs.Prelude.{ℕ, Bool, ◌≤◌, ◌==◌, ◌&&◌}
 use Rattle.frame_header.specs.declared.version.Version.{Version}
+use Rattle.frame_header.specs.declared.version.Version.TheVariants.{One, Two, TwoFive}
 
 -- what a bit rate index and a padding bit choose
 pub record SlotFields : Type 0 where
@@ -12,6 +13,16 @@ pub record ClassFields : Type 0 where
   pub version : Version
   pub frequency_index : ℕ
   pub channels : ℕ
+
+-- the two bits of a header that tell the versions apart: the twelfth, which is 0 in MPEG-2.5 alone, and ID, which is 1 in MPEG-1 alone
+abbrev pub version_number : Version → ℕ
+version_number One = 3
+version_number Two = 2
+version_number TwoFive = 0
+
+-- version, sampling frequency and number of channels are the same
+unfoldable pub same_class : ClassFields → ClassFields → Bool
+same_class c d = (version_number c.version == version_number d.version) && (c.frequency_index == d.frequency_index) && (c.channels == d.channels)
 
 -- the fields of a header, but the sync word, the layer and what its readability fixes
 pub record HeaderFields : Type 0 where

@@ -1,19 +1,12 @@
 -- The 32 bits that a header is written as (ISO/IEC 11172-3 and 13818-3, 2.4.1.3 and 2.4.2.3).
 use Rattle.std.specs.Prelude.{ℕ, if◌then◌else◌, Bool, List, [], ◌∷◌}
 use Rattle.bit_fields.specs.Groups.{spelled}
-use Rattle.frame_header.specs.declared.version.Version.{Version}
-use Rattle.frame_header.specs.declared.version.Version.TheVariants.{One, Two}
-use Rattle.frame_header.specs.Fields.{HeaderFields}
+use Rattle.frame_header.specs.Fields.{HeaderFields, version_number}
 
--- the width in bits of syncword, ID, layer, protection_bit, bitrate_index, sampling_frequency, padding_bit, private_bit,
--- mode, mode_extension, copyright, original and emphasis
+-- the width in bits of the first 11 bits of the syncword, its twelfth with ID, layer, protection_bit, bitrate_index,
+-- sampling_frequency, padding_bit, private_bit, mode, mode_extension, copyright, original and emphasis
 abbrev pub header_widths : List ℕ
-header_widths = 12 ∷ 1 ∷ 2 ∷ 1 ∷ 4 ∷ 2 ∷ 1 ∷ 1 ∷ 2 ∷ 2 ∷ 1 ∷ 1 ∷ 2 ∷ []
-
--- ID is 1 for MPEG-1
-abbrev pub version_bit_of : Version → ℕ
-version_bit_of One = 1
-version_bit_of Two = 0
+header_widths = 11 ∷ 2 ∷ 2 ∷ 1 ∷ 4 ∷ 2 ∷ 1 ∷ 1 ∷ 2 ∷ 2 ∷ 1 ∷ 1 ∷ 2 ∷ []
 
 -- a truth as a bit
 abbrev pub flag_of : Bool → ℕ
@@ -23,10 +16,10 @@ flag_of flag = if flag then 1 else 0
 abbrev pub protection_of : Bool → ℕ
 protection_of protected = if protected then 0 else 1
 
--- the numbers of the groups; the sync word is all ones, and layer III is 01
+-- the numbers of the groups; the first 11 bits are ones, and layer III is 01
 unfoldable pub header_numbers : HeaderFields → List ℕ
 header_numbers h =
-    4095 ∷ version_bit_of h.version ∷ 1 ∷ protection_of h.protected ∷ h.slot.rate_index ∷ h.frequency_index ∷ flag_of h.slot.padding ∷ flag_of h.private_bit ∷
+    2047 ∷ version_number h.version ∷ 1 ∷ protection_of h.protected ∷ h.slot.rate_index ∷ h.frequency_index ∷ flag_of h.slot.padding ∷ flag_of h.private_bit ∷
     h.mode ∷ h.mode_extension ∷ flag_of h.copyright ∷ flag_of h.original ∷ h.emphasis ∷ []
 
 unfoldable pub header_bits : HeaderFields → List ℕ

@@ -1,5 +1,6 @@
 pub mod Fields
 pub mod Tables
+pub mod Slots
 pub mod Reading
 pub mod HeaderBits
 pub mod HeaderView

@@ -3,17 +3,18 @@ use Rattle.std.specs.Prelude.{ℕ, ◌==◌, ◌&&◌, not, if◌then◌else◌,
 use Rattle.bit_fields.specs.Bits.{bits}
 use Rattle.bit_fields.specs.Groups.{group}
 use Rattle.frame_header.specs.declared.version.Version.{Version}
-use Rattle.frame_header.specs.declared.version.Version.TheVariants.{One, Two}
+use Rattle.frame_header.specs.declared.version.Version.TheVariants.{One, Two, TwoFive}
 use Rattle.frame_header.specs.declared.header.NotHeader.{NotHeader}
 use Rattle.frame_header.specs.declared.header.NotHeader.TheVariants.{Free, No}
 use Rattle.frame_header.specs.Fields.{HeaderFields}
 
 -- the groups of the 32 bits
 abbrev pub sync_word : List ℕ → ℕ
-sync_word h = group 0 12 h
+sync_word h = group 0 11 h
 
-abbrev pub version_bit : List ℕ → ℕ
-version_bit h = group 12 1 h
+-- the twelfth bit and ID
+abbrev pub version_bits : List ℕ → ℕ
+version_bits h = group 11 2 h
 
 abbrev pub layer_bits : List ℕ → ℕ
 layer_bits h = group 13 2 h
@@ -27,12 +28,13 @@ rate_bits h = group 16 4 h
 abbrev pub frequency_bits : List ℕ → ℕ
 frequency_bits h = group 20 2 h
 
--- all twelve sync bits are ones, the layer is III, and neither the forbidden bit rate nor the reserved frequency stands
+-- the first 11 bits are ones; the twelfth is 1, or it and ID are both 0; the layer is III; and neither the forbidden bit rate nor the
+-- reserved frequency stands
 unfoldable pub is_readable : List ℕ → Bool
-is_readable h = (sync_word h == 4095) && (layer_bits h == 1) && not (rate_bits h == 15) && not (frequency_bits h == 3)
+is_readable h = (sync_word h == 2047) && not (version_bits h == 1) && (layer_bits h == 1) && not (rate_bits h == 15) && not (frequency_bits h == 3)
 
 abbrev pub version_of : List ℕ → Version
-version_of h = if version_bit h == 1 then One else Two
+version_of h = if version_bits h == 3 then One else (if version_bits h == 2 then Two else TwoFive)
 
 unfoldable pub header_fields : List ℕ → HeaderFields
 header_fields h = record {

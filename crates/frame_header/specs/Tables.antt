@@ -2,23 +2,26 @@
 -- the size of the side information (2.4.1.7) and how far back main data may begin (2.4.2.7).
 use Rattle.std.specs.Prelude.{ℕ, ◌+◌, ◌-◌, ◌*◌, ◌/◌, ◌==◌, if◌then◌else◌, Bool, List, [], ◌∷◌, slice_index}
 use Rattle.frame_header.specs.declared.version.Version.{Version}
-use Rattle.frame_header.specs.declared.version.Version.TheVariants.{One, Two}
+use Rattle.frame_header.specs.declared.version.Version.TheVariants.{One, Two, TwoFive}
 use Rattle.frame_header.specs.Fields.{SlotFields, ClassFields, HeaderFields}
 
 -- bit rates in kbit/s, for the indexes 1 to 14
 abbrev pub rates : Version → List ℕ
 rates One = 32 ∷ 40 ∷ 48 ∷ 56 ∷ 64 ∷ 80 ∷ 96 ∷ 112 ∷ 128 ∷ 160 ∷ 192 ∷ 224 ∷ 256 ∷ 320 ∷ []
 rates Two = 8 ∷ 16 ∷ 24 ∷ 32 ∷ 40 ∷ 48 ∷ 56 ∷ 64 ∷ 80 ∷ 96 ∷ 112 ∷ 128 ∷ 144 ∷ 160 ∷ []
+rates TwoFive = 8 ∷ 16 ∷ 24 ∷ 32 ∷ 40 ∷ 48 ∷ 56 ∷ 64 ∷ 80 ∷ 96 ∷ 112 ∷ 128 ∷ 144 ∷ 160 ∷ []
 
 -- sampling frequencies in Hz, for the indexes 0 to 2
 abbrev pub frequencies : Version → List ℕ
 frequencies One = 44100 ∷ 48000 ∷ 32000 ∷ []
 frequencies Two = 22050 ∷ 24000 ∷ 16000 ∷ []
+frequencies TwoFive = 11025 ∷ 12000 ∷ 8000 ∷ []
 
 -- the granules of a frame
 abbrev pub granules_of : Version → ℕ
 granules_of One = 2
 granules_of Two = 1
+granules_of TwoFive = 1
 
 -- the samples of a frame in each channel, 576 for each granule
 abbrev pub samples_of : Version → ℕ
@@ -28,11 +31,13 @@ samples_of version = 576 * granules_of version
 abbrev pub window_of : Version → ℕ
 window_of One = 511
 window_of Two = 255
+window_of TwoFive = 255
 
 -- the bytes of the side information, by version and channels
 abbrev pub side_bytes_of : Version → ℕ → ℕ
 side_bytes_of One channels = if channels == 1 then 17 else 32
 side_bytes_of Two channels = if channels == 1 then 9 else 17
+side_bytes_of TwoFive channels = if channels == 1 then 9 else 17
 
 unfoldable pub rate_of : ClassFields → SlotFields → ℕ
 rate_of c s = slice_index (rates c.version) (s.rate_index - 1)
@@ -43,10 +48,17 @@ frequency_of c = slice_index (frequencies c.version) c.frequency_index
 unfoldable pub side_size_of : ClassFields → ℕ
 side_size_of c = side_bytes_of c.version c.channels
 
+-- the place of a version among the versions, in a table that has rows for each
+abbrev pub version_place : Version → ℕ
+version_place One = 0
+version_place Two = 1
+version_place TwoFive = 2
+
 -- an eighth of the samples of a frame: its bytes at one bit per sample
 abbrev pub length_factor : Version → ℕ
 length_factor One = 144
 length_factor Two = 72
+length_factor TwoFive = 72
 
 -- the length of a frame in bytes: the factor times the bit rate in bit/s, divided by the frequency and rounded down, and the padding
 unfoldable pub length_of : ClassFields → SlotFields → ℕ

@@ -1,9 +1,12 @@
 //! What all frames of one stream share.
-ghost use Rattle.std.specs.Prelude.{◌≡◌, ◌+◌, ◌<◌, ◌≤◌};
-ghost use Rattle.frame_header.specs.Tables.{rate_of, frequency_of, samples_of, side_size_of, window_of, length_of, overhead_of, area_of};
+ghost use Rattle.std.specs.Prelude.{◌≡◌, ◌+◌, ◌<◌, ◌≤◌, ◌↔◌, Bool, false, IsTrue, Contains, AllPairs};
+ghost use Rattle.frame_header.specs.Fields.{SlotFields, IsSlot, same_class};
+ghost use Rattle.frame_header.specs.Tables.{rate_of, frequency_of, samples_of, side_size_of, window_of, version_place as version_place_lem, length_of, overhead_of, area_of};
+ghost use Rattle.frame_header.specs.Slots.{all_slots, areas_of, largest_slot};
 
 use crate::slot::Slot;
 use crate::version::Version;
+use arrayvec::ArrayVec;
 use std::marker::Model;
 
 /// Version, frequency index (0 to 2) and number of channels (1 or 2).
@@ -26,9 +29,9 @@ impl Model for Class {
     ghost inverse = { λ v. record { version = v.version; frequency_index = v.frequency_index; channels = v.channels } };
 }
 
-#[tactic(auto, unfolding(crate::specs::Tables::frequency_of, crate::specs::Tables::rate_of, crate::specs::Tables::side_size_of, crate::specs::Tables::length_of, crate::specs::Tables::area_of, crate::specs::Tables::overhead_of))]
+#[tactic(auto, unfolding(crate::specs::Fields::same_class, crate::specs::Tables::frequency_of, crate::specs::Tables::rate_of, crate::specs::Tables::side_size_of, crate::specs::Tables::length_of, crate::specs::Tables::area_of, crate::specs::Tables::overhead_of))]
 impl Class {
-    /// The sampling frequency in Hz, from 16,000 to 48,000 (ISO/IEC 11172-3 and 13818-3, 2.4.2.3).
+    /// The sampling frequency in Hz, from 8,000 to 48,000 (ISO/IEC 11172-3 and 13818-3, 2.4.2.3).
     pub fn frequency(&self) -> u32
         ensures frequency { result ≡ frequency_of self.now }
         ensures some { 0 < result }
@@ -41,6 +44,9 @@ impl Class {
             (Version::Two, 0) => 22_050,
             (Version::Two, 1) => 24_000,
             (Version::Two, _) => 16_000,
+            (Version::TwoFive, 0) => 11_025,
+            (Version::TwoFive, 1) => 12_000,
+            (Version::TwoFive, _) => 8_000,
         }
     }
 
@@ -50,12 +56,12 @@ impl Class {
     {
         match self.version {
             Version::One => 1152,
-            Version::Two => 576,
+            Version::Two | Version::TwoFive => 576,
         }
     }
 
-    /// The length of the side information in bytes: 32 or 17, and 17 or 9 in MPEG-2 (ISO/IEC 11172-3 and
-    /// 13818-3, 2.4.1.7).
+    /// The length of the side information in bytes: 32 or 17, and 17 or 9 in MPEG-2 and MPEG-2.5
+    /// (ISO/IEC 11172-3 and 13818-3, 2.4.1.7).
     pub fn side_size(&self) -> u32
         ensures size { result ≡ side_size_of self.now }
         ensures least { 9 ≤ result }
@@ -64,19 +70,21 @@ impl Class {
         match (self.version, self.channels) {
             (Version::One, 1) => 17,
             (Version::One, _) => 32,
-            (Version::Two, 1) => 9,
-            (Version::Two, _) => 17,
+            (Version::Two | Version::TwoFive, 1) => 9,
+            (Version::Two | Version::TwoFive, _) => 17,
         }
     }
 
-    /// How many bytes back main data may begin, the greatest main_data_begin: 511, and 255 in MPEG-2
-    /// (ISO/IEC 11172-3 and 13818-3, 2.4.2.7).
+    /// How many bytes back main data may begin, the greatest main_data_begin: 511, and 255 in MPEG-2 and
+    /// MPEG-2.5 (ISO/IEC 11172-3 and 13818-3, 2.4.2.7).
     pub fn window(&self) -> u32
-        ensures { result ≡ window_of self.now.version }
+        ensures window { result ≡ window_of self.now.version }
+        // The largest frame without a check word has room for so many bytes of main data.
+        ensures spanned { result ≤ area_of self.now largest_slot false }
     {
         match self.version {
             Version::One => 511,
-            Version::Two => 255,
+            Version::Two | Version::TwoFive => 255,
         }
     }
 
@@ -89,7 +97,7 @@ impl Class {
         let index = slot.rate_index as usize - 1;
         let rate = match self.version {
             Version::One => MPEG_1_RATES[index],
-            Version::Two => MPEG_2_RATES[index],
+            Version::Two | Version::TwoFive => MPEG_2_RATES[index],
         };
         u32::from(rate)
     }
@@ -101,12 +109,9 @@ impl Class {
         // Header, check word and side information leave room for main data.
         ensures room { 6 + side_size_of self.now < result }
     {
-        let factor = match self.version {
-            Version::One => 144,
-            Version::Two => 72,
-        };
-        let rate = 1000 * self.rate(slot);
-        factor * rate / self.frequency() + u32::from(slot.padding)
+        let row = 3 * version_place(self.version) + self.frequency_index as usize;
+        let length = LENGTHS[row][slot.rate_index as usize - 1];
+        u32::from(length) + u32::from(slot.padding)
     }
 
     /// The bytes of a frame that hold main data: its length without header, check word and side
@@ -121,6 +126,49 @@ impl Class {
         let check_word = if protected { 2 } else { 0 };
         self.length_of(slot) - 4 - check_word - self.side_size()
     }
+
+    /// All slots, the areas ascending, whether or not the frames have check words.
+    pub fn slots(&self) -> ArrayVec<Slot, 28>
+        ensures slots { result.items ≡ all_slots }
+        ensures all { (slot : SlotFields) → IsSlot slot → Contains all_slots slot }
+        ensures ascending { (protected : Bool) → AllPairs (λ m n. m < n) (areas_of self.now protected) }
+    {
+        // The areas are those of a class.
+        let _ = &self.version;
+        let mut slots = ArrayVec::new();
+        for rate_index in 1..15 {
+            slots.push(Slot {
+                rate_index,
+                padding: false,
+            });
+            slots.push(Slot {
+                rate_index,
+                padding: true,
+            });
+        }
+        slots
+    }
+
+    /// Whether version, sampling frequency and number of channels are the same.
+    pub fn is_same(&self, other: Class) -> bool
+        ensures same { result ≡ same_class self.now other }
+        ensures equal { IsTrue result ↔ (self.now ≡ other) }
+    {
+        self.version == other.version
+            && self.frequency_index == other.frequency_index
+            && self.channels == other.channels
+    }
+}
+
+/// The place of a version among the versions.
+fn version_place(version: Version) -> usize
+    ensures { result ≡ version_place_lem version }
+{
+    match version {
+        Version::One => 0,
+        Version::Two => 1,
+        Version::TwoFive => 2,
+    }
 }
 
 /// Bit rates in kbit/s for the indexes 1 to 14 (ISO/IEC 11172-3, 2.4.2.3).
@@ -130,3 +178,34 @@ const MPEG_1_RATES: [u16; 14] = [
 
 /// The same for the lower sampling frequencies (ISO/IEC 13818-3, 2.4.2.3).
 const MPEG_2_RATES: [u16; 14] = [8, 16, 24, 32, 40, 48, 56, 64, 80, 96, 112, 128, 144, 160];
+
+/// Lengths in bytes without padding for the bit rate indexes 1 to 14, a row for each version and frequency.
+static LENGTHS: [[u16; 14]; 9] = [
+    [
+        104, 130, 156, 182, 208, 261, 313, 365, 417, 522, 626, 731, 835, 1044,
+    ],
+    [
+        96, 120, 144, 168, 192, 240, 288, 336, 384, 480, 576, 672, 768, 960,
+    ],
+    [
+        144, 180, 216, 252, 288, 360, 432, 504, 576, 720, 864, 1008, 1152, 1440,
+    ],
+    [
+        26, 52, 78, 104, 130, 156, 182, 208, 261, 313, 365, 417, 470, 522,
+    ],
+    [
+        24, 48, 72, 96, 120, 144, 168, 192, 240, 288, 336, 384, 432, 480,
+    ],
+    [
+        36, 72, 108, 144, 180, 216, 252, 288, 360, 432, 504, 576, 648, 720,
+    ],
+    [
+        52, 104, 156, 208, 261, 313, 365, 417, 522, 626, 731, 835, 940, 1044,
+    ],
+    [
+        48, 96, 144, 192, 240, 288, 336, 384, 480, 576, 672, 768, 864, 960,
+    ],
+    [
+        72, 144, 216, 288, 360, 432, 504, 576, 720, 864, 1008, 1152, 1296, 1440,
+    ],
+];

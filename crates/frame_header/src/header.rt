@@ -1,10 +1,11 @@
 //! The 32 bits at the front of a frame.
-ghost use Rattle.std.specs.Prelude.{◌≡◌, ℕ, ◌+◌, ◌^◌, ◌<◌, ◌≤◌, ◌==◌, List, length};
+ghost use Rattle.std.specs.Prelude.{◌≡◌, ℕ, ◌+◌, ◌^◌, ◌<◌, ◌≤◌, ◌==◌, false, List, length};
 ghost use Rattle.bit_fields.specs.Bits.{bits, bits_of, AreBytes};
 ghost use Rattle.bit_fields.specs.Groups.{group};
 ghost use Rattle.frame_header.specs.Tables.{class_of, length_of, overhead_of, area_of};
 ghost use Rattle.frame_header.specs.Reading.{header_at, header_in, is_readable as is_readable_lem, version_of as version_of_lem};
-ghost use Rattle.frame_header.specs.HeaderBits.{header_bits, version_bit_of};
+ghost use Rattle.frame_header.specs.Fields.{version_number};
+ghost use Rattle.frame_header.specs.HeaderBits.{header_bits};
 
 use crate::class::Class;
 use crate::slot::Slot;
@@ -38,12 +39,14 @@ fn is_set(word: u32, at: u32) -> bool
     group_of(word, at, 1) == 1
 }
 
-/// All sync bits are ones, the layer is III, and no forbidden bit rate and no reserved frequency stands.
+/// The first 11 bits are ones and the two behind them aren't 01, the layer is III, and no forbidden bit rate
+/// and no reserved frequency stands.
 #[tactic(auto, unfolding(crate::specs::Reading::is_readable))]
 fn is_readable(word: u32) -> bool
     ensures { result ≡ is_readable_lem (bits_of 32 word) }
 {
-    group_of(word, 0, 12) == 0xfff
+    group_of(word, 0, 11) == 0x7ff
+        && group_of(word, 11, 2) != 1
         && group_of(word, 13, 2) == 1
         && group_of(word, 16, 4) != 15
         && group_of(word, 20, 2) != 3
@@ -91,10 +94,10 @@ impl Model for Header {
 fn version_of(word: u32) -> Version
     ensures { result ≡ version_of_lem (bits_of 32 word) }
 {
-    if is_set(word, 12) {
-        Version::One
-    } else {
-        Version::Two
+    match group_of(word, 11, 2) {
+        3 => Version::One,
+        2 => Version::Two,
+        _ => Version::TwoFive,
     }
 }
 
@@ -126,24 +129,25 @@ fn read_word(word: u32) -> Result<Header, NotHeader>
     })
 }
 
-/// The bit ID, 1 for MPEG-1.
-fn version_bit(version: Version) -> u32
-    ensures { result ≡ version_bit_of version }
+/// The twelfth bit of a header and ID, which is 1 for MPEG-1.
+fn version_bits(version: Version) -> u32
+    ensures { result ≡ version_number version }
 {
     match version {
-        Version::One => 1,
-        Version::Two => 0,
+        Version::One => 3,
+        Version::Two => 2,
+        Version::TwoFive => 0,
     }
 }
 
-/// The 32 bits of a header as one number, the sync word and the layer as the standard wants them.
+/// The 32 bits of a header as one number, the sync bits and the layer as the standard wants them.
 fn word_of(header: &Header) -> u32
     ensures bits { bits_of 32 result ≡ header_bits header.now }
     ensures back { header_in (bits_of 32 result) ≡ Ok header.now }
 {
     let slot = header.slot;
-    0xfff * (1 << 20)
-        + version_bit(header.version) * (1 << 19)
+    0x7ff * (1 << 21)
+        + version_bits(header.version) * (1 << 19)
         + (1 << 17)
         + u32::from(!header.protected) * (1 << 16)
         + u32::from(slot.rate_index) * (1 << 12)
@@ -174,6 +178,25 @@ impl Header {
         ensures same { (four : List ℕ) → AreBytes four → length four ≡ 4 → header_at four ≡ Ok self.now → result ≡ four }
     {
         word_of(self).to_be_bytes()
+    }
+
+    /// The same frame in another slot.
+    pub fn with_slot(&self, slot: Slot) -> Header
+        ensures { result ≡ record self.now { slot = slot } }
+    {
+        let mut header = *self;
+        header.slot = slot;
+        header
+    }
+
+    /// The same frame in another slot and without a check word: protection_bit is 1.
+    pub fn unprotected(&self, slot: Slot) -> Header
+        ensures { result ≡ record self.now { protected = false; slot = slot } }
+    {
+        let mut header = *self;
+        header.protected = false;
+        header.slot = slot;
+        header
     }
 
     /// Version, frequency and number of channels.

@@ -1,17 +1,18 @@
 //! Headers and lengths from the tables of the standard.
 
 use super::*;
-use std::process::Abort;
 use std::test::Fail;
 
 const MPEG_1: Version = Version::One;
 
 const MPEG_2: Version = Version::Two;
 
+const MPEG_2_5: Version = Version::TwoFive;
+
 #[test]
 fn headers(rt: HostRuntime) -> Result<(), Fail> {
     // Four bytes, and the version, the channels, the frequency, the length and the area that they say.
-    let cases: [([u8; 4], (Version, u8, u32), u32, u32); 7] = [
+    let cases: [([u8; 4], (Version, u8, u32), u32, u32); 10] = [
         ([0xff, 0xfb, 0x90, 0x00], (MPEG_1, 2, 44_100), 417, 381),
         ([0xff, 0xfa, 0x90, 0x40], (MPEG_1, 2, 44_100), 417, 379),
         ([0xff, 0xfb, 0xe2, 0x00], (MPEG_1, 2, 44_100), 1045, 1009),
@@ -19,6 +20,9 @@ fn headers(rt: HostRuntime) -> Result<(), Fail> {
         ([0xff, 0xfb, 0x14, 0xc0], (MPEG_1, 1, 48_000), 96, 75),
         ([0xff, 0xf3, 0x14, 0xc0], (MPEG_2, 1, 24_000), 24, 11),
         ([0xff, 0xf2, 0x14, 0xc0], (MPEG_2, 1, 24_000), 24, 9),
+        ([0xff, 0xe3, 0x18, 0xc0], (MPEG_2_5, 1, 8_000), 72, 59),
+        ([0xff, 0xe3, 0x16, 0x00], (MPEG_2_5, 2, 12_000), 49, 28),
+        ([0xff, 0xe2, 0x90, 0x40], (MPEG_2_5, 2, 11_025), 522, 499),
     ];
     for (bytes, (version, channels, frequency), length, area) in cases {
         let header = Header::read(bytes)?;
@@ -38,6 +42,7 @@ fn written_headers(rt: HostRuntime) -> Result<(), Fail> {
         [0xff, 0xfb, 0x90, 0x00],
         [0xff, 0xf3, 0x14, 0xc0],
         [0xff, 0xfb, 0xe2, 0x64],
+        [0xff, 0xe2, 0x9a, 0xc4],
     ];
     for bytes in cases {
         assert_eq!(rt; Header::read(bytes)?.bytes(), bytes);
@@ -57,10 +62,14 @@ fn written_headers(rt: HostRuntime) -> Result<(), Fail> {
 
 #[test]
 fn bytes_that_are_no_header(rt: HostRuntime) -> Result<(), Fail> {
-    let cases: [([u8; 4], NotHeader); 8] = [
+    let cases: [([u8; 4], NotHeader); 11] = [
         ([0xff, 0xfb, 0x00, 0x00], NotHeader::Free),
         ([0xff, 0xf2, 0x08, 0xc0], NotHeader::Free),
+        ([0xff, 0xe3, 0x08, 0xc0], NotHeader::Free),
+        // The twelfth bit is 0 and ID is 1.
         ([0xff, 0xeb, 0x90, 0x00], NotHeader::No),
+        ([0xff, 0xe5, 0x90, 0x00], NotHeader::No),
+        ([0xff, 0xd3, 0x90, 0x00], NotHeader::No),
         ([0x7f, 0xfb, 0x90, 0x00], NotHeader::No),
         ([0xff, 0xfd, 0x90, 0x00], NotHeader::No),
         ([0xff, 0xfb, 0xf0, 0x00], NotHeader::No),
@@ -76,7 +85,7 @@ fn bytes_that_are_no_header(rt: HostRuntime) -> Result<(), Fail> {
 #[test]
 fn lengths(rt: HostRuntime) -> Result<(), Fail> {
     // Without padding, for the bit rate indexes 1 to 14.
-    let cases: [(Version, u8, u32, [u16; 14]); 6] = [
+    let cases: [(Version, u8, u32, [u16; 14]); 9] = [
         (
             MPEG_1,
             0,
@@ -125,6 +134,30 @@ fn lengths(rt: HostRuntime) -> Result<(), Fail> {
                 36, 72, 108, 144, 180, 216, 252, 288, 360, 432, 504, 576, 648, 720,
             ],
         ),
+        (
+            MPEG_2_5,
+            0,
+            11_025,
+            [
+                52, 104, 156, 208, 261, 313, 365, 417, 522, 626, 731, 835, 940, 1044,
+            ],
+        ),
+        (
+            MPEG_2_5,
+            1,
+            12_000,
+            [
+                48, 96, 144, 192, 240, 288, 336, 384, 480, 576, 672, 768, 864, 960,
+            ],
+        ),
+        (
+            MPEG_2_5,
+            2,
+            8_000,
+            [
+                72, 144, 216, 288, 360, 432, 504, 576, 720, 864, 1008, 1152, 1296, 1440,
+            ],
+        ),
     ];
     for (version, frequency_index, frequency, lengths) in cases {
         assert!(rt; frequency_index <= 2);
@@ -149,64 +182,66 @@ fn lengths(rt: HostRuntime) -> Result<(), Fail> {
     Ok(())
 }
 
-/// A version, the factor of its frame lengths, its bit rates in kbit/s for the indexes 1 to 14, and its
-/// sampling frequencies in Hz.
-struct Rates {
-    version: Version,
-    factor: u8,
-    rates: [u16; 14],
-    frequencies: [u16; 3],
-}
-
-static RATES: [Rates; 2] = [
-    Rates {
-        version: MPEG_1,
-        factor: 144,
-        rates: [
-            32, 40, 48, 56, 64, 80, 96, 112, 128, 160, 192, 224, 256, 320,
-        ],
-        frequencies: [44_100, 48_000, 32_000],
-    },
-    Rates {
-        version: MPEG_2,
-        factor: 72,
-        rates: [8, 16, 24, 32, 40, 48, 56, 64, 80, 96, 112, 128, 144, 160],
-        frequencies: [22_050, 24_000, 16_000],
-    },
-];
-
-// The factor times the bit rate in bit/s, divided by the frequency and rounded down, and the byte of padding.
-fn expect_lengths<R: Abort + AllocGlobal>(rt: &R, class: Class, table: &Rates) {
-    let frequency = u64::from(table.frequencies[class.frequency_index as usize]);
-    assert!(rt; frequency > 0);
-    for rate_index in 1..15 {
-        let rate = table.rates[rate_index as usize - 1];
-        let bytes = u64::from(table.factor) * 1000 * u64::from(rate) / frequency;
-        for padding in [false, true] {
+#[test]
+fn rates(rt: HostRuntime) -> Result<(), Fail> {
+    // In kbit/s, for the bit rate indexes 1 to 14; the samples of a frame, and the window.
+    let lower = [8, 16, 24, 32, 40, 48, 56, 64, 80, 96, 112, 128, 144, 160];
+    let cases: [(Version, [u16; 14], u32, u32); 3] = [
+        (
+            MPEG_1,
+            [
+                32, 40, 48, 56, 64, 80, 96, 112, 128, 160, 192, 224, 256, 320,
+            ],
+            1152,
+            511,
+        ),
+        (MPEG_2, lower, 576, 255),
+        (MPEG_2_5, lower, 576, 255),
+    ];
+    for (version, rates, samples, window) in cases {
+        let class = Class {
+            version,
+            frequency_index: 0,
+            channels: 2,
+        };
+        assert_eq!(rt; class.samples(), samples);
+        assert_eq!(rt; class.window(), window);
+        for rate_index in 1..15 {
             let slot = Slot {
                 rate_index,
-                padding,
+                padding: false,
             };
-            let length = u64::from(class.length_of(slot));
-            assert_eq!(rt; class.rate(slot), u32::from(rate), "{class:?}, {slot:?}");
-            assert_eq!(rt; length, bytes + u64::from(padding), "{class:?}, {slot:?}");
+            let wanted = u32::from(rates[rate_index as usize - 1]);
+            assert_eq!(rt; class.rate(slot), wanted, "{version:?}, {slot:?}");
         }
     }
+    Ok(())
 }
 
 #[test]
-fn lengths_by_the_formula(rt: HostRuntime) -> Result<(), Fail> {
-    for table in &RATES {
-        for frequency_index in 0..3 {
-            for channels in 1..3 {
-                let class = Class {
-                    version: table.version,
-                    frequency_index,
-                    channels,
-                };
-                expect_lengths(&rt, class, table);
-            }
+fn slots(rt: HostRuntime) -> Result<(), Fail> {
+    // A protected joint stereo frame of 128 kbit/s and 44,100 Hz: area 379.
+    let header = Header::read([0xff, 0xfa, 0x90, 0x64])?;
+    let class = header.class();
+    let slots = class.slots();
+    assert_eq!(rt; slots.len(), 28);
+    let first = header.unprotected(slots[0]);
+    assert_eq!(rt; first.bytes(), [0xff, 0xfb, 0x10, 0x64]);
+    assert_eq!(rt; first.area(), 68);
+    let last = header.with_slot(slots[27]);
+    assert_eq!(rt; last.bytes(), [0xff, 0xfa, 0xe2, 0x64]);
+    assert_eq!(rt; last.area(), 1007);
+    assert_eq!(rt;
+        slots[17],
+        Slot {
+            rate_index: 9,
+            padding: true
         }
-    }
+    );
+    assert_eq!(rt; slots[0], Slot::default());
+    // One channel less is another class.
+    let mono = Header::read([0xff, 0xfa, 0x90, 0xc4])?;
+    assert!(rt; class.is_same(first.class()));
+    assert!(rt; !class.is_same(mono.class()));
     Ok(())
 }

@@ -8,11 +8,11 @@ use Rattle.frame_header.specs.HeaderView.{fields_of}
 use Rattle.frame_header.proofs.HeaderLaws.{good, header_number, bits_of-header_number, header_in-header_bits}
 use Rattle.frame_header.proofs.header.word_of.Goals as goal
 
-number : (c : goal.After-from-10) → 4293918720 + c.version_bit.result * 524288 + 131072 + c.from.result * 65536 + c.from-2.result * 4096 + c.from-3.result * 1024 + c.from-4.result * 512 + c.from-5.result * 256 + c.from-6.result * 64 + c.from-7.result * 16 + c.from-8.result * 8 + c.from-9.result * 4 + c.from-10.result ≡ header_number (fields_of c.header.inside)
+number : (c : goal.After-from-10) → 4292870144 + c.version_bits.result * 524288 + 131072 + c.from.result * 65536 + c.from-2.result * 4096 + c.from-3.result * 1024 + c.from-4.result * 512 + c.from-5.result * 256 + c.from-6.result * 64 + c.from-7.result * 16 + c.from-8.result * 8 + c.from-9.result * 4 + c.from-10.result ≡ header_number (fields_of c.header.inside)
 number c =
     let rate : c.slot.inside.rate_index ≡ c.header.inside.slot.rate_index = ap (λ s. s.rate_index) c.slot.view_is in
     let padding : bool_byte c.slot.inside.padding ≡ bool_byte c.header.inside.slot.padding = ap (λ s. bool_byte s.padding) c.slot.view_is in
-    omega (arith, c.version_bit.ensures, c.from.ensures, c.from-2.ensures, c.from-3.ensures, c.from-4.ensures, c.from-5.ensures, c.from-6.ensures, c.from-7.ensures, c.from-8.ensures, c.from-9.ensures, c.from-10.ensures)
+    omega (arith, c.version_bits.ensures, c.from.ensures, c.from-2.ensures, c.from-3.ensures, c.from-4.ensures, c.from-5.ensures, c.from-6.ensures, c.from-7.ensures, c.from-8.ensures, c.from-9.ensures, c.from-10.ensures)
 
 pub returns-clause-bits : goal.returns-clause-bits
 returns-clause-bits c = ap (bits_of 32) (number c) ∙ bits_of-header_number (fields_of c.header.inside) c.header.invariant ∙ ap header_bits c.header.view_is

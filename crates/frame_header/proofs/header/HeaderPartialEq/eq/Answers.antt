@@ -1,0 +1,7 @@
+-- The fields are compared in turn, the version and the slot last.
+use Rattle.std.proofs.Common.{rules}
+use Rattle.frame_header.proofs.Comparing.{compared_last}
+use Rattle.frame_header.proofs.header.HeaderPartialEq.eq.Goals as goal
+
+pub returns : goal.returns
+returns c = search (rules, compared_last) depth 12

@@ -1,0 +1,23 @@
+-- The slots of a class, which are those of every class, in the order of their areas.
+use Rattle.std.specs.Prelude.{ℕ, zero, suc, Bool, true, false, List, [], ◌∷◌, ◌++◌, map}
+use Rattle.frame_header.specs.Fields.{SlotFields, ClassFields}
+use Rattle.frame_header.specs.Tables.{area_of}
+
+abbrev pub slot_of : ℕ → Bool → SlotFields
+slot_of rate_index padding = record { rate_index = rate_index; padding = padding }
+
+-- the slots of the bit rate indexes from 1 on, so many of them; at one index without padding before with padding
+unfoldable pub slots_to : ℕ → List SlotFields
+slots_to zero = []
+slots_to (suc n) = slots_to n ++ slot_of (suc n) false ∷ slot_of (suc n) true ∷ []
+
+-- the 28 slots
+unfoldable pub all_slots : List SlotFields
+all_slots = slots_to 14
+
+abbrev pub largest_slot : SlotFields
+largest_slot = slot_of 14 true
+
+-- their areas
+unfoldable pub areas_of : ClassFields → Bool → List ℕ
+areas_of c protected = map (λ s. area_of c s protected) all_slots
