@@ -60,6 +60,12 @@ pub overhead-is : (c : ClassFields) (protected : Bool) → overhead_of c protect
 unfolding overhead_of
 overhead-is c protected = refl
 
+pub overhead-protected : (h : HeaderFields) → h.protected ≡ true → overhead_of (class_of h) h.protected ≡ 6 + side_size_of (class_of h)
+overhead-protected h is = overhead-is (class_of h) h.protected ∙ ap (λ b. side_place b + side_size_of (class_of h)) is
+
+pub overhead-unprotected : (h : HeaderFields) → h.protected ≡ false → overhead_of (class_of h) h.protected ≡ 4 + side_size_of (class_of h)
+overhead-unprotected h is = overhead-is (class_of h) h.protected ∙ ap (λ b. side_place b + side_size_of (class_of h)) is
+
 place-least : (protected : Bool) → 4 ≤ side_place protected
 place-least true = omega arith
 place-least false = omega arith
@@ -85,10 +91,15 @@ room-protected h frame is room = omega (arith, room, overhead-is (class_of h) h.
 pub length-word : (n : ℕ) → length (bytes (bits_of 16 n)) ≡ 2
 length-word n = length-bytes 2 (bits_of 16 n) (length-bits_of 16 n)
 
-frame_with-protected : (h : HeaderFields) (s : Side) (frame : List ℕ) → h.protected ≡ true
+pub frame_with-protected : (h : HeaderFields) (s : Side) (frame : List ℕ) → h.protected ≡ true
     → frame_with h s frame ≡ take 4 frame ++ (bytes (bits_of 16 (check_word_of h s)) ++ (bytes (side_bits (class_of h) s) ++ drop (6 + side_size_of (class_of h)) frame))
 unfolding frame_with overhead_of
 frame_with-protected h s frame is = rw is refl
+
+pub frame_with-unprotected : (h : HeaderFields) (s : Side) (frame : List ℕ) → h.protected ≡ false
+    → frame_with h s frame ≡ take 4 frame ++ (bytes (side_bits (class_of h) s) ++ drop (4 + side_size_of (class_of h)) frame)
+unfolding frame_with overhead_of
+frame_with-unprotected h s frame is = rw is refl
 
 -- a check word was put behind the header, and then the side information behind it
 put_both : (frame word part : List ℕ) (size : ℕ) → 6 ≤ length frame → length word ≡ 2

@@ -1,17 +1,17 @@
 -- The laws of a granule's side information: fields and bits give each other back.
-use Rattle.std.proofs.Common.{◌≡◌, ℕ, zero, suc, ◌+◌, ◌*◌, ◌<◌, ◌≤◌, Bool, true, false, List, [], ◌∷◌, ◌++◌, length, get_or, take, drop, refl, sym, ap, ap₂, ◌∙◌, arith, one-add, length-append, length-drop, append_assoc}
+use Rattle.std.proofs.Common.{◌≡◌, ℕ, zero, suc, ◌+◌, ◌*◌, ◌^◌, ◌<◌, ◌≤◌, Bool, true, false, List, [], ◌∷◌, ◌++◌, length, get_or, take, drop, refl, sym, ap, subst, ap₂, ◌∙◌, arith, one-add, length-append, length-drop, append_assoc}
 use Rattle.std.specs.List.{flat_map}
 use Rattle.std.proofs.Math.Nat.{add_comm, add_assoc, add-mul, suc-mul, zero-mul, one-mul}
 use Rattle.std.proofs.Math.Seq.{take-add, drop-append-add}
 use Rattle.std.proofs.lemmas.List.{drop-drop}
-use Rattle.bit_fields.specs.Bits.{AreBits}
+use Rattle.bit_fields.specs.Bits.{bits_of, AreBits}
 use Rattle.bit_fields.specs.Groups.{numbers_at, spelled, Fits}
 use Rattle.bit_fields.proofs.BitsLaws.{AreBits-append, AreBits-drop}
-use Rattle.bit_fields.proofs.GroupsLaws.{length-Fits, length-spelled, AreBits-spelled, Fits-numbers_at, numbers_at-spelled_more, spelled-numbers_at_front}
+use Rattle.bit_fields.proofs.GroupsLaws.{spelled-append, spelled-cons, length-Fits, length-spelled, AreBits-spelled, Fits-numbers_at, numbers_at-spelled_more, spelled-numbers_at_front}
 use Rattle.frame_header.specs.declared.version.Version.{Version}
-use Rattle.frame_header.specs.declared.version.Version.TheVariants.{One, Two}
+use Rattle.frame_header.specs.declared.version.Version.TheVariants.{One, Two, TwoFive}
 use Rattle.side_info.specs.declared.granule.Granule.{Granule}
-use Rattle.side_info.specs.Granule.{granule_widths, granule_size, is_set, bit_of, no_granule, granule_of, granule_numbers, granule_at, granule_bits, GranuleFits}
+use Rattle.side_info.specs.Granule.{compress_width, preflag_width, granule_widths, granule_size, is_set, bit_of, no_granule, granule_of, granule_numbers, granule_at, granule_bits, GranuleFits}
 use Rattle.side_info.specs.Side.{nth_granule}
 
 -- ---- one bit as a truth
@@ -29,14 +29,13 @@ bit_of-below true = omega arith
 bit_of-below false = omega arith
 
 -- ---- fields and the numbers of the groups
-pub Fits-granule : (version : Version) (g : Granule) → GranuleFits version g → Fits (granule_widths version) (granule_numbers version g)
+pub Fits-granule : (version : Version) (g : Granule) → GranuleFits version g → Fits (granule_widths version) (granule_numbers g)
 unfolding granule_numbers
-Fits-granule One g h = (h.part2_3_length, (h.big_values, (h.global_gain, (h.scalefac_compress, (bit_of-below g.window_switching, (h.detail, (bit_of-below g.preflag, (bit_of-below g.scalefac_scale, (bit_of-below g.count1table_select, tt)))))))))
-Fits-granule Two g h = (h.part2_3_length, (h.big_values, (h.global_gain, (h.scalefac_compress, (bit_of-below g.window_switching, (h.detail, (bit_of-below g.scalefac_scale, (bit_of-below g.count1table_select, tt))))))))
+Fits-granule version g h = (h.part2_3_length, (h.big_values, (h.global_gain, (h.scalefac_compress, (bit_of-below g.window_switching, (h.detail, (h.preflag, (bit_of-below g.scalefac_scale, (bit_of-below g.count1table_select, tt)))))))))
 
-pub granule_of-numbers : (version : Version) (g : Granule) → GranuleFits version g → granule_of version (granule_numbers version g) ≡ g
+pub granule_of-numbers : (g : Granule) → granule_of (granule_numbers g) ≡ g
 unfolding granule_of granule_numbers
-granule_of-numbers One g h = λ i. record {
+granule_of-numbers g = λ i. record {
   part2_3_length = g.part2_3_length;
   big_values = g.big_values;
   global_gain = g.global_gain;
@@ -47,65 +46,49 @@ granule_of-numbers One g h = λ i. record {
   scalefac_scale = is_set-bit_of g.scalefac_scale i;
   count1table_select = is_set-bit_of g.count1table_select i;
 }
-granule_of-numbers Two g h = λ i. record {
-  part2_3_length = g.part2_3_length;
-  big_values = g.big_values;
-  global_gain = g.global_gain;
-  scalefac_compress = g.scalefac_compress;
-  window_switching = is_set-bit_of g.window_switching i;
-  detail = g.detail;
-  preflag = sym h.preflag i;
-  scalefac_scale = is_set-bit_of g.scalefac_scale i;
-  count1table_select = is_set-bit_of g.count1table_select i;
-}
 
-numbers_same : (version : Version) (ns : List ℕ) → Fits (granule_widths version) ns → length ns ≡ length (granule_widths version) → granule_numbers version (granule_of version ns) ≡ ns
+-- preflag is at most one bit
+preflag-below : (version : Version) (n : ℕ) → n < 2 ^ preflag_width version → n < 2
+preflag-below One n h = omega arith
+preflag-below Two n h = omega arith
+preflag-below TwoFive n h = omega arith
+
+numbers_same : (version : Version) (ns : List ℕ) → Fits (granule_widths version) ns → length ns ≡ 9 → granule_numbers (granule_of ns) ≡ ns
 unfolding granule_of granule_numbers
-numbers_same One (a ∷ b ∷ c ∷ d ∷ e ∷ f ∷ g ∷ h ∷ k ∷ []) fit l =
-    λ i. a ∷ b ∷ c ∷ d ∷ bit_of-is_set e fit.1.1.1.1.0 i ∷ f ∷ bit_of-is_set g fit.1.1.1.1.1.1.0 i ∷ bit_of-is_set h fit.1.1.1.1.1.1.1.0 i ∷ bit_of-is_set k fit.1.1.1.1.1.1.1.1.0 i ∷ []
-numbers_same Two (a ∷ b ∷ c ∷ d ∷ e ∷ f ∷ g ∷ h ∷ []) fit l =
-    λ i. a ∷ b ∷ c ∷ d ∷ bit_of-is_set e fit.1.1.1.1.0 i ∷ f ∷ bit_of-is_set g fit.1.1.1.1.1.1.0 i ∷ bit_of-is_set h fit.1.1.1.1.1.1.1.0 i ∷ []
+numbers_same version (a ∷ b ∷ c ∷ d ∷ e ∷ f ∷ g ∷ h ∷ k ∷ []) fit l =
+    λ i. a ∷ b ∷ c ∷ d ∷ bit_of-is_set e fit.1.1.1.1.0 i ∷ f ∷ bit_of-is_set g (preflag-below version g fit.1.1.1.1.1.1.0) i ∷ bit_of-is_set h fit.1.1.1.1.1.1.1.0 i ∷ bit_of-is_set k fit.1.1.1.1.1.1.1.1.0 i ∷ []
 numbers_same version ns fit l = absurd (omega arith)
 
-pub numbers-granule_of : (version : Version) (ns : List ℕ) → Fits (granule_widths version) ns → granule_numbers version (granule_of version ns) ≡ ns
+pub numbers-granule_of : (version : Version) (ns : List ℕ) → Fits (granule_widths version) ns → granule_numbers (granule_of ns) ≡ ns
 numbers-granule_of version ns fit = numbers_same version ns fit (length-Fits (granule_widths version) ns fit)
 
-fields_fit : (version : Version) (ns : List ℕ) → Fits (granule_widths version) ns → length ns ≡ length (granule_widths version) → GranuleFits version (granule_of version ns)
+fields_fit : (version : Version) (ns : List ℕ) → Fits (granule_widths version) ns → length ns ≡ 9 → GranuleFits version (granule_of ns)
 unfolding granule_of
-fields_fit One (a ∷ b ∷ c ∷ d ∷ e ∷ f ∷ g ∷ h ∷ k ∷ []) fit l = record {
+fields_fit version (a ∷ b ∷ c ∷ d ∷ e ∷ f ∷ g ∷ h ∷ k ∷ []) fit l = record {
   part2_3_length = fit.0;
   big_values = fit.1.0;
   global_gain = fit.1.1.0;
   scalefac_compress = fit.1.1.1.0;
   detail = fit.1.1.1.1.1.0;
-  preflag = tt;
-}
-fields_fit Two (a ∷ b ∷ c ∷ d ∷ e ∷ f ∷ g ∷ h ∷ []) fit l = record {
-  part2_3_length = fit.0;
-  big_values = fit.1.0;
-  global_gain = fit.1.1.0;
-  scalefac_compress = fit.1.1.1.0;
-  detail = fit.1.1.1.1.1.0;
-  preflag = refl;
+  preflag = subst (λ n. n < 2 ^ preflag_width version) (sym (bit_of-is_set g (preflag-below version g fit.1.1.1.1.1.1.0))) fit.1.1.1.1.1.1.0;
 }
 fields_fit version ns fit l = absurd (omega arith)
 
-pub GranuleFits-granule_of : (version : Version) (ns : List ℕ) → Fits (granule_widths version) ns → GranuleFits version (granule_of version ns)
+pub GranuleFits-granule_of : (version : Version) (ns : List ℕ) → Fits (granule_widths version) ns → GranuleFits version (granule_of ns)
 GranuleFits-granule_of version ns fit = fields_fit version ns fit (length-Fits (granule_widths version) ns fit)
 
 -- ---- fields and bits
-pub length-granule_numbers : (version : Version) (g : Granule) → length (granule_numbers version g) ≡ length (granule_widths version)
+pub length-granule_numbers : (g : Granule) → length (granule_numbers g) ≡ 9
 unfolding granule_numbers
-length-granule_numbers One g = refl
-length-granule_numbers Two g = refl
+length-granule_numbers g = refl
 
 pub length-granule_bits : (version : Version) (g : Granule) → length (granule_bits version g) ≡ granule_size version
 unfolding granule_bits
-length-granule_bits version g = length-spelled (granule_widths version) (granule_numbers version g) (length-granule_numbers version g)
+length-granule_bits version g = length-spelled (granule_widths version) (granule_numbers g) (length-granule_numbers g)
 
 pub AreBits-granule_bits : (version : Version) (g : Granule) → AreBits (granule_bits version g)
 unfolding granule_bits
-AreBits-granule_bits version g = AreBits-spelled (granule_widths version) (granule_numbers version g)
+AreBits-granule_bits version g = AreBits-spelled (granule_widths version) (granule_numbers g)
 
 pub GranuleFits-granule_at : (version : Version) (bs : List ℕ) → AreBits bs → GranuleFits version (granule_at version bs)
 unfolding granule_at
@@ -115,8 +98,8 @@ GranuleFits-granule_at version bs h =
 pub granule_at-granule_bits : (version : Version) (g : Granule) (more : List ℕ) → GranuleFits version g → granule_at version (granule_bits version g ++ more) ≡ g
 unfolding granule_at granule_bits
 granule_at-granule_bits version g more h =
-    ap (granule_of version) (numbers_at-spelled_more (granule_widths version) (granule_numbers version g) more (Fits-granule version g h))
-    ∙ granule_of-numbers version g h
+    ap granule_of (numbers_at-spelled_more (granule_widths version) (granule_numbers g) more (Fits-granule version g h))
+    ∙ granule_of-numbers g
 
 pub granule_bits-granule_at : (version : Version) (bs : List ℕ) → AreBits bs → granule_size version ≤ length bs → granule_bits version (granule_at version bs) ≡ take (granule_size version) bs
 unfolding granule_at granule_bits
@@ -174,3 +157,13 @@ flat-granules_from version n (suc count) bs all h =
     ap₂ (λ cs ds. cs ++ ds) one others
     ∙ sym (take-add size (count * size) (drop (n * size) bs))
     ∙ ap (λ k. take k (drop (n * size) bs)) (add_comm size (count * size) ∙ sym more)
+
+-- ---- another gain
+-- a granule with another gain has another number in its third group alone
+pub bits-parts : (version : Version) (g : Granule) → granule_bits version g ≡ spelled (12 ∷ 9 ∷ []) (g.part2_3_length ∷ g.big_values ∷ []) ++ (bits_of 8 g.global_gain ++ spelled (compress_width version ∷ 1 ∷ 22 ∷ preflag_width version ∷ 1 ∷ 1 ∷ []) (g.scalefac_compress ∷ bit_of g.window_switching ∷ g.detail ∷ bit_of g.preflag ∷ bit_of g.scalefac_scale ∷ bit_of g.count1table_select ∷ []))
+unfolding granule_bits granule_numbers
+bits-parts version g =
+    spelled-append (12 ∷ 9 ∷ []) (8 ∷ compress_width version ∷ 1 ∷ 22 ∷ preflag_width version ∷ 1 ∷ 1 ∷ []) (g.part2_3_length ∷ g.big_values ∷ [])
+    (g.global_gain ∷ g.scalefac_compress ∷ bit_of g.window_switching ∷ g.detail ∷ bit_of g.preflag ∷ bit_of g.scalefac_scale ∷ bit_of g.count1table_select ∷ []) refl
+    ∙ ap (λ bs. spelled (12 ∷ 9 ∷ []) (g.part2_3_length ∷ g.big_values ∷ []) ++ bs)
+    (spelled-cons 8 g.global_gain (compress_width version ∷ 1 ∷ 22 ∷ preflag_width version ∷ 1 ∷ 1 ∷ []) (g.scalefac_compress ∷ bit_of g.window_switching ∷ g.detail ∷ bit_of g.preflag ∷ bit_of g.scalefac_scale ∷ bit_of g.count1table_select ∷ []))

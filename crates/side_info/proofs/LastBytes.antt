@@ -9,23 +9,21 @@ use Rattle.bit_fields.specs.Groups.{spelled}
 use Rattle.bit_fields.proofs.BitsLaws.{drop-bytes}
 use Rattle.bit_fields.proofs.GroupsLaws.{spelled-append, length-spelled}
 use Rattle.frame_header.specs.declared.version.Version.{Version}
-use Rattle.frame_header.specs.declared.version.Version.TheVariants.{One, Two}
+use Rattle.frame_header.specs.declared.version.Version.TheVariants.{One, Two, TwoFive}
 use Rattle.frame_header.specs.Fields.{HeaderFields, ClassFields, IsClass}
 use Rattle.frame_header.specs.Tables.{class_of, granules_of, side_size_of, overhead_of}
 use Rattle.side_info.specs.declared.granule.Granule.{Granule}
 use Rattle.side_info.specs.declared.side.Side.{Side}
+pub use Rattle.side_info.specs.Granule.{AreAlike}
+use Rattle.side_info.specs.Parts.{class_with}
 use Rattle.side_info.specs.Granule.{granule_size, granule_numbers, granule_bits}
 use Rattle.side_info.specs.Side.{front_widths, granule_in, granules_in, side_bits}
 use Rattle.side_info.specs.Frame.{side_place, side_part, side_in, frame_with}
 use Rattle.side_info.proofs.GranuleLaws.{length-flat}
-use Rattle.side_info.proofs.SideLaws.{IsShaped, side_with, each_shaped, class_with, each_class, length-side_bits}
+use Rattle.side_info.proofs.SideLaws.{IsShaped, side_with, each_shaped, each_class, length-side_bits}
 use Rattle.side_info.proofs.FrameLaws.{HasRoom, overhead-is, drop-take-append, side_there, side_part-frame_with, area-frame_with, shaped-side_in}
 
 -- ---- behind the gain of a granule
-
--- the two granules differ in no field but global_gain
-abbrev pub AreAlike : Granule → Granule → Type 0
-AreAlike g h = record g { global_gain = h.global_gain } ≡ h
 
 -- the groups behind the first three, which have 29 bits
 behind_three : (more ms : List ℕ) (a b gain : ℕ) → drop 29 (spelled (12 ∷ 9 ∷ 8 ∷ more) (a ∷ b ∷ gain ∷ ms)) ≡ spelled more ms
@@ -37,8 +35,7 @@ behind_three more ms a b gain =
 -- with another gain
 behind_gain : (version : Version) (g : Granule) (gain : ℕ) → drop 29 (granule_bits version (record g { global_gain = gain })) ≡ drop 29 (granule_bits version g)
 unfolding granule_bits granule_numbers
-behind_gain One g gain = behind_three _ _ g.part2_3_length g.big_values gain ∙ sym (behind_three _ _ g.part2_3_length g.big_values g.global_gain)
-behind_gain Two g gain = behind_three _ _ g.part2_3_length g.big_values gain ∙ sym (behind_three _ _ g.part2_3_length g.big_values g.global_gain)
+behind_gain version g gain = behind_three _ _ g.part2_3_length g.big_values gain ∙ sym (behind_three _ _ g.part2_3_length g.big_values g.global_gain)
 
 -- the bits behind global_gain are the same
 pub bits_behind_gain : (version : Version) (g h : Granule) → AreAlike g h → drop 29 (granule_bits version h) ≡ drop 29 (granule_bits version g)
@@ -50,6 +47,8 @@ last_16 One g h alike =
     sym (drop-drop 14 29 (granule_bits One h)) ∙ ap (drop 14) (bits_behind_gain One g h alike) ∙ drop-drop 14 29 (granule_bits One g)
 last_16 Two g h alike =
     sym (drop-drop 18 29 (granule_bits Two h)) ∙ ap (drop 18) (bits_behind_gain Two g h alike) ∙ drop-drop 18 29 (granule_bits Two g)
+last_16 TwoFive g h alike =
+    sym (drop-drop 18 29 (granule_bits TwoFive h)) ∙ ap (drop 18) (bits_behind_gain TwoFive g h alike) ∙ drop-drop 18 29 (granule_bits TwoFive g)
 
 -- ---- the last granule and channel
 
@@ -73,26 +72,30 @@ abbrev EndsWithLast : ClassFields → Side → Type 0
 EndsWithLast c s = drop (8 * side_size_of c - granule_size c.version) (side_bits c s) ≡ granule_bits c.version (last_granule c s)
 
 ends_one_mono : (f m p a b : ℕ) (g h k l : Granule) → EndsWithLast (class_with One f 1) (side_with m p a b g h k l)
-unfolding side_bits granules_in spelled side_size_of
-ends_one_mono f m p a b g h k l = behind_others (class_with One f 1) (m ∷ p ∷ a ∷ []) (g ∷ []) k refl
+unfolding side_bits granules_in side_size_of
+ends_one_mono f m p a b g h k l = behind_others (class_with One f 1) (m ∷ p ∷ a ∷ b ∷ []) (g ∷ []) k refl
 
 ends_one_stereo : (f m p a b : ℕ) (g h k l : Granule) → EndsWithLast (class_with One f 2) (side_with m p a b g h k l)
 unfolding side_bits granules_in side_size_of
 ends_one_stereo f m p a b g h k l = behind_others (class_with One f 2) (m ∷ p ∷ a ∷ b ∷ []) (g ∷ h ∷ k ∷ []) l refl
 
 ends_two_mono : (f m p a b : ℕ) (g h k l : Granule) → EndsWithLast (class_with Two f 1) (side_with m p a b g h k l)
-unfolding side_bits granules_in spelled side_size_of
-ends_two_mono f m p a b g h k l = behind_others (class_with Two f 1) (m ∷ p ∷ []) [] g refl
+unfolding side_bits granules_in side_size_of
+ends_two_mono f m p a b g h k l = behind_others (class_with Two f 1) (m ∷ p ∷ a ∷ b ∷ []) [] g refl
 
 ends_two_stereo : (f m p a b : ℕ) (g h k l : Granule) → EndsWithLast (class_with Two f 2) (side_with m p a b g h k l)
-unfolding side_bits granules_in spelled side_size_of
-ends_two_stereo f m p a b g h k l = behind_others (class_with Two f 2) (m ∷ p ∷ []) (g ∷ []) h refl
+unfolding side_bits granules_in side_size_of
+ends_two_stereo f m p a b g h k l = behind_others (class_with Two f 2) (m ∷ p ∷ a ∷ b ∷ []) (g ∷ []) h refl
+
+ends_as_two : (f channels : ℕ) (s : Side) → EndsWithLast (class_with Two f channels) s → EndsWithLast (class_with TwoFive f channels) s
+unfolding side_bits granules_in granule_bits side_size_of
+ends_as_two f channels s two = two
 
 -- side information ends with the bits of its last granule and channel
 pub last_granule-side_bits : (c : ClassFields) → IsClass c → (s : Side) → IsShaped s → drop (8 * side_size_of c - granule_size c.version) (side_bits c s) ≡ granule_bits c.version (last_granule c s)
 last_granule-side_bits c class s shaped =
     each_shaped (EndsWithLast c)
-    (each_class (λ d. (m p a b : ℕ) (g h k l : Granule) → EndsWithLast d (side_with m p a b g h k l)) ends_one_mono ends_one_stereo ends_two_mono ends_two_stereo c class)
+    (each_class (λ d. (m p a b : ℕ) (g h k l : Granule) → EndsWithLast d (side_with m p a b g h k l)) ends_one_mono ends_one_stereo ends_two_mono ends_two_stereo (λ f channels two m p a b g h k l. ends_as_two f channels (side_with m p a b g h k l) (two m p a b g h k l)) c class)
     s shaped
 
 -- ---- the last two bytes
@@ -101,7 +104,7 @@ least_size : (c : ClassFields) → IsClass c → (16 ≤ granule_size c.version)
 unfolding side_size_of
 least_size =
     each_class (λ c. (16 ≤ granule_size c.version) × (granule_size c.version ≤ 8 * side_size_of c))
-    (λ f. (omega arith, omega arith)) (λ f. (omega arith, omega arith)) (λ f. (omega arith, omega arith)) (λ f. (omega arith, omega arith))
+    (λ f. (omega arith, omega arith)) (λ f. (omega arith, omega arith)) (λ f. (omega arith, omega arith)) (λ f. (omega arith, omega arith)) (λ f channels h. h)
 
 -- the same bits, where the last granules differ in no field but global_gain
 last_bits : (c : ClassFields) → IsClass c → (s t : Side) → IsShaped s → IsShaped t → AreAlike (last_granule c s) (last_granule c t) → drop (8 * (side_size_of c - 2)) (side_bits c t) ≡ drop (8 * (side_size_of c - 2)) (side_bits c s)

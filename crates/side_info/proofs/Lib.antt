@@ -6,4 +6,4 @@ pub mod LastBytes
 mod DivisionLaws
 mod ReadLaws
 mod WriteLaws
-mod LowerLaws
+pub mod GainsLaws

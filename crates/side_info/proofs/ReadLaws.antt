@@ -1,135 +1,151 @@
--- Side fields as parts of the numbers that are taken from the bits.
-use Rattle.std.proofs.Common.{◌≡◌, ℕ, ◌+◌, ◌*◌, ◌/◌, ◌%◌, ◌≤◌, eqb, true, false, cond, lit≤, List, [], ◌∷◌, ◌++◌, length, get_or, take, drop, refl, sym, ap, ap₂, ◌∙◌, arith, length-drop}
-use Rattle.std.proofs.Math.Nat.{div-one}
+-- Side fields as parts of the numbers that are read.
+use Rattle.std.proofs.Common.{◌≡◌, ℕ, ◌+◌, ◌-◌, ◌*◌, ◌/◌, ◌%◌, ◌^◌, ◌<◌, ◌≤◌, true, false, cond, eqb, List, [], ◌∷◌, ◌++◌, length, take, drop, refl, sym, ap, ap₂, ◌∙◌, arith, lit≤, mod-eq_of_lt, length-drop, sum}
+use Rattle.std.proofs.Math.Nat.{div-one, zero-mul}
+use Rattle.std.proofs.lemmas.Nat.{shr-shr, shr_below}
 use Rattle.std.proofs.lemmas.List.{drop-drop}
-use Rattle.std.proofs.lemmas.Bool.{ne_eqb}
-use Rattle.bit_fields.specs.Bits.{number, bits, AreBits}
-use Rattle.bit_fields.specs.Groups.{numbers_at}
-use Rattle.bit_fields.proofs.BitsLaws.{AreBits-drop, length-bits}
-use Rattle.bit_fields.proofs.GroupsLaws.{sliced, numbers_at-append, numbers_at-number_front}
+use Rattle.bit_fields.specs.Bits.{number, AreBits}
+use Rattle.bit_fields.specs.Groups.{group, numbers_at}
+use Rattle.bit_fields.proofs.BitsLaws.{AreBits-drop}
+use Rattle.bit_fields.proofs.GroupsLaws.{sliced, sum-cons, numbers_at-append, numbers_at-number_front}
 use Rattle.frame_header.specs.declared.version.Version.{Version}
-use Rattle.frame_header.specs.declared.version.Version.TheVariants.{One, Two}
+use Rattle.frame_header.specs.declared.version.Version.TheVariants.{One, Two, TwoFive}
+use Rattle.frame_header.specs.Fields.{ClassFields, IsClass}
+use Rattle.frame_header.specs.Tables.{side_size_of, side_bytes_of, granules_of}
 use Rattle.side_info.specs.declared.granule.Granule.{Granule}
 use Rattle.side_info.specs.declared.front.Front.{Front}
-use Rattle.frame_header.specs.Fields.{ClassFields, IsClass}
-use Rattle.frame_header.specs.Tables.{side_size_of, side_bytes_of}
 use Rattle.side_info.specs.declared.side.Side.{Side}
-use Rattle.side_info.specs.Granule.{granule_size, granule_of, granule_at}
-use Rattle.side_info.specs.Side.{side_at}
-use Rattle.side_info.proofs.SideLaws.{class_with, each_class}
-use Rattle.side_info.specs.Parts.{front_at, front_size, pair_at}
+use Rattle.side_info.specs.Granule.{compress_width, preflag_width, granule_size, granule_of, granule_at, no_granule}
+use Rattle.side_info.specs.Parts.{front_of, front_at, front_size, no_pair, pair_at, second_at, class_with}
+use Rattle.side_info.specs.Side.{channels_at, side_at}
+use Rattle.side_info.proofs.SideLaws.{each_class}
 
 -- ---- the front
-front_of : List ℕ → Front
-front_of front = record { main_data_begin = get_or front 0 0; private_bits = get_or front 1 0; scfsi = get_or front 2 0 ∷ get_or front 3 0 ∷ [] }
+total : (a b c d : ℕ) → sum (a ∷ b ∷ c ∷ d ∷ []) ≡ a + b + c + d
+total a b c d = omega (arith, sum-cons a (b ∷ c ∷ d ∷ []), sum-cons b (c ∷ d ∷ []), sum-cons c (d ∷ []), sum-cons d [])
 
-pub front_of_one : (bs : List ℕ) (n : ℕ) → AreBits bs → 18 ≤ length bs → n ≡ number (take 18 bs) → ◌≡◌ {A = Front} (record { main_data_begin = n / 512 % 512; private_bits = n / 16 % 32; scfsi = n % 16 ∷ 0 ∷ [] }) (front_at One 1 bs)
-unfolding front_at front_of sliced
-front_of_one bs n all h e =
-    let last : n % 16 ≡ n / 1 % 16 = ap (λ m. m % 16) (sym (div-one n)) in
-    (λ i. record { main_data_begin = n / 512 % 512; private_bits = n / 16 % 32; scfsi = last i ∷ 0 ∷ [] })
-    ∙ ap front_of (ap (sliced (9 ∷ 5 ∷ 4 ∷ [])) e ∙ sym (numbers_at-number_front (9 ∷ 5 ∷ 4 ∷ []) bs all h))
+module _ (bs : List ℕ) (begin private first second n : ℕ) (all : AreBits bs) (enough : begin + private + first + second ≤ length bs) (small : n < 2 ^ (begin + private + first + second)) (is : n ≡ group 0 (begin + private + first + second) bs) where
+  pub begin-below : n / 2 ^ second / 2 ^ first / 2 ^ private < 2 ^ begin
+  begin-below =
+      let e : begin + private + first + second ≡ begin + (second + first + private) = omega arith in
+      rw (shr-shr n second first, shr-shr n (second + first) private) (shr_below n begin (second + first + private) (rw (← e) small))
 
-pub front_of_two : (bs : List ℕ) (n : ℕ) → AreBits bs → 20 ≤ length bs → n ≡ number (take 20 bs) → ◌≡◌ {A = Front} (record { main_data_begin = n / 2048 % 512; private_bits = n / 256 % 8; scfsi = n / 16 % 16 ∷ n % 16 ∷ [] }) (front_at One 2 bs)
-unfolding front_at front_of sliced
-front_of_two bs n all h e =
-    let last : n % 16 ≡ n / 1 % 16 = ap (λ m. m % 16) (sym (div-one n)) in
-    (λ i. record { main_data_begin = n / 2048 % 512; private_bits = n / 256 % 8; scfsi = n / 16 % 16 ∷ last i ∷ [] })
-    ∙ ap front_of (ap (sliced (9 ∷ 3 ∷ 4 ∷ 4 ∷ [])) e ∙ sym (numbers_at-number_front (9 ∷ 3 ∷ 4 ∷ 4 ∷ []) bs all h))
+  pub front_fields : ◌≡◌ {A = Front} (record { main_data_begin = n / 2 ^ second / 2 ^ first / 2 ^ private; private_bits = n / 2 ^ second / 2 ^ first % 2 ^ private; scfsi = n / 2 ^ second % 2 ^ first ∷ n % 2 ^ second ∷ [] })
+      (front_of (numbers_at (begin ∷ private ∷ first ∷ second ∷ []) bs))
+  unfolding front_of sliced group
+  front_fields =
+      let widths : List ℕ = begin ∷ private ∷ first ∷ second ∷ [] in
+      let whole = total begin private first second in
+      let above_begin : second + first + private ≡ sum (private ∷ first ∷ second ∷ []) = omega (arith, sum-cons private (first ∷ second ∷ []), sum-cons first (second ∷ []), sum-cons second []) in
+      let above_private : second + first ≡ sum (first ∷ second ∷ []) = omega (arith, sum-cons first (second ∷ []), sum-cons second []) in
+      let above_first : second ≡ sum (second ∷ []) = omega (arith, sum-cons second []) in
+      let e0 : n / 2 ^ second / 2 ^ first / 2 ^ private ≡ n / 2 ^ sum (private ∷ first ∷ second ∷ []) % 2 ^ begin =
+      sym (mod-eq_of_lt begin-below) ∙ ap (λ m. m % 2 ^ begin) (ap (λ m. m / 2 ^ private) (shr-shr n second first) ∙ shr-shr n (second + first) private ∙ ap (λ k. n / 2 ^ k) above_begin) in
+      let e1 : n / 2 ^ second / 2 ^ first % 2 ^ private ≡ n / 2 ^ sum (first ∷ second ∷ []) % 2 ^ private = ap (λ m. m % 2 ^ private) (shr-shr n second first ∙ ap (λ k. n / 2 ^ k) above_private) in
+      let e2 : n / 2 ^ second % 2 ^ first ≡ n / 2 ^ sum (second ∷ []) % 2 ^ first = ap (λ k. n / 2 ^ k % 2 ^ first) above_first in
+      let e3 : n % 2 ^ second ≡ n / 2 ^ sum [] % 2 ^ second = ap (λ m. m % 2 ^ second) (sym (div-one n)) in
+      (λ i. record { main_data_begin = e0 i; private_bits = e1 i; scfsi = e2 i ∷ e3 i ∷ [] })
+      ∙ ap front_of (ap (sliced widths) (is ∙ ap (λ k. number (take k bs)) (sym whole)) ∙ sym (numbers_at-number_front widths bs all (omega (arith, whole, enough))))
 
-pub front_of_others : (channels : ℕ) (bs : List ℕ) → (channels ≡ 1 → ⊥) → front_at One 2 bs ≡ front_at One channels bs
-unfolding front_at
-front_of_others channels bs h = let test : eqb channels 1 ≡ false = ne_eqb channels 1 h in rw test refl
+-- ---- a granule, from three numbers
+pub size-is : (version : Version) → granule_size version ≡ 54 + compress_width version + preflag_width version
+size-is One = refl
+size-is Two = refl
+size-is TwoFive = refl
 
--- ---- a granule, from its first 29 bits and the rest
-pub granule_from : (bs : List ℕ) (first rest : ℕ) → AreBits bs → 59 ≤ length bs → first ≡ number (take 29 bs) → rest ≡ number (take 30 (drop 29 bs)) → ◌≡◌ {A = Granule} (record {
-  part2_3_length = first / 131072 % 4096;
-  big_values = first / 256 % 512;
-  global_gain = first % 256;
-  scalefac_compress = rest / 67108864 % 16;
-  window_switching = eqb (rest / 33554432 % 2) 1;
-  detail = rest / 8 % 4194304;
-  preflag = eqb (rest / 4 % 2) 1;
-  scalefac_scale = eqb (rest / 2 % 2) 1;
-  count1table_select = eqb (rest % 2) 1;
-}) (granule_at One bs)
-unfolding granule_at granule_of sliced
-granule_from bs first rest all h e d =
-    let gain : first % 256 ≡ first / 1 % 256 = ap (λ m. m % 256) (sym (div-one first)) in
-    let last : rest % 2 ≡ rest / 1 % 2 = ap (λ m. m % 2) (sym (div-one rest)) in
-    let more : 30 ≤ length (drop 29 bs) = simp length-drop (omega arith) in
-    let front : sliced (12 ∷ 9 ∷ 8 ∷ []) first ≡ numbers_at (12 ∷ 9 ∷ 8 ∷ []) bs = ap (sliced (12 ∷ 9 ∷ 8 ∷ [])) e ∙ sym (numbers_at-number_front (12 ∷ 9 ∷ 8 ∷ []) bs all (omega arith)) in
-    let behind : sliced (4 ∷ 1 ∷ 22 ∷ 1 ∷ 1 ∷ 1 ∷ []) rest ≡ numbers_at (4 ∷ 1 ∷ 22 ∷ 1 ∷ 1 ∷ 1 ∷ []) (drop 29 bs) = ap (sliced (4 ∷ 1 ∷ 22 ∷ 1 ∷ 1 ∷ 1 ∷ [])) d ∙ sym (numbers_at-number_front (4 ∷ 1 ∷ 22 ∷ 1 ∷ 1 ∷ 1 ∷ []) (drop 29 bs) (AreBits-drop 29 bs all) more) in
-    (λ i. record {
-      part2_3_length = first / 131072 % 4096;
-      big_values = first / 256 % 512;
-      global_gain = gain i;
-      scalefac_compress = rest / 67108864 % 16;
-      window_switching = eqb (rest / 33554432 % 2) 1;
-      detail = rest / 8 % 4194304;
-      preflag = eqb (rest / 4 % 2) 1;
-      scalefac_scale = eqb (rest / 2 % 2) 1;
-      count1table_select = eqb (last i) 1;
-    })
-    ∙ ap (granule_of One) (ap₂ (λ xs ys. xs ++ ys) front behind ∙ sym (numbers_at-append (12 ∷ 9 ∷ 8 ∷ []) (4 ∷ 1 ∷ 22 ∷ 1 ∷ 1 ∷ 1 ∷ []) bs))
+module _ (version : Version) (bs : List ℕ) (at first middle last : ℕ) (all : AreBits bs) (enough : at + granule_size version ≤ length bs) (first_small : first < 2 ^ 29) (middle_small : middle < 2 ^ (compress_width version + 23)) (last_small : last < 2 ^ (preflag_width version + 2)) (first_is : first ≡ group at 29 bs) (middle_is : middle ≡ group (at + 29) (compress_width version + 23) bs) (last_is : last ≡ group (at + 52 + compress_width version) (preflag_width version + 2) bs) where
+  compress-below : middle / 2 ^ 23 < 2 ^ compress_width version
+  compress-below = shr_below middle (compress_width version) 23 middle_small
+
+  preflag-below : last / 2 ^ 2 < 2 ^ preflag_width version
+  preflag-below = shr_below last (preflag_width version) 2 last_small
+
+  length-below : first / 2 ^ 17 < 2 ^ 12
+  length-below = shr_below first 12 17 first_small
+
+  pub granule_from : ◌≡◌ {A = Granule} (record {
+    part2_3_length = first / 131072;
+    big_values = first / 256 % 512;
+    global_gain = first % 256;
+    scalefac_compress = middle / 8388608;
+    window_switching = eqb (middle / 4194304 % 2) 1;
+    detail = middle % 4194304;
+    preflag = eqb (last / 4) 1;
+    scalefac_scale = eqb (last / 2 % 2) 1;
+    count1table_select = eqb (last % 2) 1;
+  }) (granule_at version (drop at bs))
+  unfolding granule_at granule_of sliced group
+  granule_from =
+      let cw : ℕ = compress_width version in
+      let pw : ℕ = preflag_width version in
+      let rest : List ℕ = drop at bs in
+      let long : granule_size version ≤ length rest = simp length-drop (omega arith) in
+      let size = size-is version in
+      let middle_sum : sum (cw ∷ 1 ∷ 22 ∷ []) ≡ cw + 23 = omega (arith, sum-cons cw (1 ∷ 22 ∷ []), sum-cons 1 (22 ∷ []), sum-cons 22 []) in
+      let last_sum : sum (pw ∷ 1 ∷ 1 ∷ []) ≡ pw + 2 = omega (arith, sum-cons pw (1 ∷ 1 ∷ []), sum-cons 1 (1 ∷ []), sum-cons 1 []) in
+      let behind_middle : drop (sum (cw ∷ 1 ∷ 22 ∷ [])) (drop 29 rest) ≡ drop (at + 52 + cw) bs =
+      ap (λ k. drop k (drop 29 rest)) middle_sum ∙ drop-drop (cw + 23) 29 rest ∙ drop-drop (29 + (cw + 23)) at bs ∙ ap (λ k. drop k bs) (omega arith) in
+      let one : first / 131072 ∷ first / 256 % 512 ∷ first % 256 ∷ [] ≡ numbers_at (12 ∷ 9 ∷ 8 ∷ []) rest =
+      (λ i. sym (mod-eq_of_lt length-below) i ∷ first / 256 % 512 ∷ ap (λ m. m % 256) (sym (div-one first)) i ∷ [])
+      ∙ ap (sliced (12 ∷ 9 ∷ 8 ∷ [])) first_is ∙ sym (numbers_at-number_front (12 ∷ 9 ∷ 8 ∷ []) rest (AreBits-drop at bs all) (omega arith)) in
+      let two : middle / 8388608 ∷ middle / 4194304 % 2 ∷ middle % 4194304 ∷ [] ≡ numbers_at (cw ∷ 1 ∷ 22 ∷ []) (drop 29 rest) =
+      (λ i. sym (mod-eq_of_lt compress-below) i ∷ middle / 4194304 % 2 ∷ ap (λ m. m % 4194304) (sym (div-one middle)) i ∷ [])
+      ∙ ap (sliced (cw ∷ 1 ∷ 22 ∷ [])) (middle_is ∙ ap₂ (λ k ds. number (take k ds)) (sym middle_sum) (sym (drop-drop 29 at bs)))
+      ∙ sym (numbers_at-number_front (cw ∷ 1 ∷ 22 ∷ []) (drop 29 rest) (AreBits-drop 29 rest (AreBits-drop at bs all)) (simp length-drop (omega arith))) in
+      let three : last / 4 ∷ last / 2 % 2 ∷ last % 2 ∷ [] ≡ numbers_at (pw ∷ 1 ∷ 1 ∷ []) (drop (sum (cw ∷ 1 ∷ 22 ∷ [])) (drop 29 rest)) =
+      (λ i. sym (mod-eq_of_lt preflag-below) i ∷ last / 2 % 2 ∷ ap (λ m. m % 2) (sym (div-one last)) i ∷ [])
+      ∙ ap (sliced (pw ∷ 1 ∷ 1 ∷ [])) (last_is ∙ ap₂ (λ k ds. number (take k ds)) (sym last_sum) (sym behind_middle))
+      ∙ sym (numbers_at-number_front (pw ∷ 1 ∷ 1 ∷ []) (drop (sum (cw ∷ 1 ∷ 22 ∷ [])) (drop 29 rest)) (AreBits-drop (sum (cw ∷ 1 ∷ 22 ∷ [])) (drop 29 rest) (AreBits-drop 29 rest (AreBits-drop at bs all))) (rw behind_middle (simp length-drop (omega arith)))) in
+      ap granule_of
+      (ap₂ (λ xs ys. xs ++ ys) one (ap₂ (λ xs ys. xs ++ ys) two three ∙ sym (numbers_at-append (cw ∷ 1 ∷ 22 ∷ []) (pw ∷ 1 ∷ 1 ∷ []) (drop 29 rest)))
+      ∙ sym (numbers_at-append (12 ∷ 9 ∷ 8 ∷ []) (cw ∷ 1 ∷ 22 ∷ pw ∷ 1 ∷ 1 ∷ []) rest))
 
 -- ---- the whole, from its parts
-abbrev Whole : ClassFields → Type 0
-Whole c = c.version ≡ One → (bs : List ℕ) (front : Front) (first second : List Granule) → front ≡ front_at One c.channels bs → first ≡ pair_at One c.channels (drop (front_size One c.channels) bs) → second ≡ pair_at One c.channels (drop (c.channels * granule_size One) (drop (front_size One c.channels) bs)) → ◌≡◌ {A = Side} (record { main_data_begin = front.main_data_begin; private_bits = front.private_bits; scfsi = front.scfsi; granules = first ∷ second ∷ [] }) (side_at c bs)
-
-whole_one_mono : (f : ℕ) → Whole (class_with One f 1)
-unfolding side_at front_at
-whole_one_mono f version bs front first second e0 e1 e2 = λ i. record { main_data_begin = (e0 i).main_data_begin; private_bits = (e0 i).private_bits; scfsi = (e0 i).scfsi; granules = e1 i ∷ e2 i ∷ [] }
-
-whole_one_stereo : (f : ℕ) → Whole (class_with One f 2)
-unfolding side_at front_at
-whole_one_stereo f version bs front first second e0 e1 e2 =
-    let last : granule_at One (drop 59 (drop 118 (drop 20 bs))) ≡ granule_at One (drop 177 (drop 20 bs)) = ap (granule_at One) (drop-drop 59 118 (drop 20 bs)) in
-    (λ i. record { main_data_begin = (e0 i).main_data_begin; private_bits = (e0 i).private_bits; scfsi = (e0 i).scfsi; granules = e1 i ∷ e2 i ∷ [] })
-    ∙ (λ i. record {
-      main_data_begin = (front_at One 2 bs).main_data_begin;
-      private_bits = (front_at One 2 bs).private_bits;
-      scfsi = (front_at One 2 bs).scfsi;
-      granules = pair_at One 2 (drop 20 bs) ∷ (granule_at One (drop 118 (drop 20 bs)) ∷ last i ∷ []) ∷ [];
-    })
-
-pub whole : (c : ClassFields) → IsClass c → Whole c
-whole = each_class Whole whole_one_mono whole_one_stereo (λ f version. absurd cc) (λ f version. absurd cc)
-
--- the parts take all the bits
-abbrev Room : ClassFields → Type 0
-Room c = c.version ≡ One → front_size One c.channels + (c.channels * granule_size One + c.channels * granule_size One) ≡ 8 * side_size_of c
-
-pub room : (c : ClassFields) → IsClass c → Room c
-unfolding side_size_of
-room = each_class Room (λ f version. refl) (λ f version. refl) (λ f version. absurd cc) (λ f version. absurd cc)
-
 sizes : (version : Version) (channels : ℕ) → side_bytes_of version channels ≤ 32
 sizes One channels = elim (eqb channels 1) as (λ b. cond b 17 32 ≤ 32) [ true ↦ lit≤ tt | false ↦ lit≤ tt ]
 sizes Two channels = elim (eqb channels 1) as (λ b. cond b 9 17 ≤ 32) [ true ↦ lit≤ tt | false ↦ lit≤ tt ]
+sizes TwoFive channels = elim (eqb channels 1) as (λ b. cond b 9 17 ≤ 32) [ true ↦ lit≤ tt | false ↦ lit≤ tt ]
 
 -- a side information is short
 pub side_size-small : (c : ClassFields) → side_size_of c ≤ 32
 unfolding side_size_of
 side_size-small c = sizes c.version c.channels
 
--- ---- the parts within the bytes of a frame's side information
-module _ (c d : ClassFields) (same : c ≡ d) (class : IsClass c) (version : d.version ≡ One) (xs : List ℕ) (size : length xs ≡ side_size_of d) where
-  parts : front_size One c.channels + (c.channels * granule_size One + c.channels * granule_size One) ≡ length (bits xs)
-  parts = room c class (ap (λ k. k.version) same ∙ version) ∙ ap (λ k. 8 * side_size_of k) same ∙ ap (λ n. 8 * n) (sym size) ∙ sym (length-bits xs)
+-- the parts take all the bits
+pub parts_size : (c : ClassFields) → IsClass c → front_size c.version c.channels + (c.channels * granule_size c.version + (granules_of c.version - 1) * (c.channels * granule_size c.version)) ≡ 8 * side_size_of c
+unfolding side_size_of
+parts_size =
+    each_class (λ c. front_size c.version c.channels + (c.channels * granule_size c.version + (granules_of c.version - 1) * (c.channels * granule_size c.version)) ≡ 8 * side_size_of c)
+    (λ f. refl) (λ f. refl) (λ f. refl) (λ f. refl) (λ f channels h. h)
 
-  pub parts_room : front_size One c.channels + (c.channels * granule_size One + c.channels * granule_size One) ≡ 8 * length xs
-  parts_room = parts ∙ length-bits xs
+channels-pair : (c : ClassFields) (n : ℕ) (bs : List ℕ) → channels_at c n bs ≡ pair_at c.version c.channels (drop (n * granule_size c.version) bs)
+channels-pair c n bs =
+    let size : ℕ = granule_size c.version in
+    let next : (n + 1) * size ≡ n * size + size = omega arith in
+    let other : granule_at c.version (drop ((n + 1) * size) bs) ≡ granule_at c.version (drop size (drop (n * size) bs)) = ap (granule_at c.version) (ap (λ k. drop k bs) next ∙ sym (drop-drop size (n * size) bs)) in
+    λ i. granule_at c.version (drop (n * size) bs) ∷ cond (eqb c.channels 1) no_granule (other i) ∷ []
 
-  pub enough_front : front_size One c.channels ≤ length (bits xs)
-  enough_front = omega (arith, parts)
+pub side_is : (c : ClassFields) (bs : List ℕ) (front : Front) (first second : List Granule) → front ≡ front_at c.version c.channels bs → first ≡ pair_at c.version c.channels (drop (front_size c.version c.channels) bs)
+    → second ≡ second_at c.version c.channels (drop (front_size c.version c.channels + c.channels * granule_size c.version) bs)
+    → ◌≡◌ {A = Side} (record { main_data_begin = front.main_data_begin; private_bits = front.private_bits; scfsi = front.scfsi; granules = first ∷ second ∷ [] }) (side_at c bs)
+unfolding side_at front_of
+side_is c bs front first second e0 e1 e2 =
+    let rest : List ℕ = drop (front_size c.version c.channels) bs in
+    let size : ℕ = granule_size c.version in
+    let g0 : first ≡ channels_at c 0 rest = e1 ∙ sym (channels-pair c 0 rest ∙ ap (λ k. pair_at c.version c.channels (drop k rest)) (zero-mul size)) in
+    let g1 : second ≡ cond (eqb (granules_of c.version) 1) no_pair (channels_at c c.channels rest) =
+    e2 ∙ ap (cond (eqb (granules_of c.version) 1) no_pair) (ap (pair_at c.version c.channels) (sym (drop-drop (c.channels * size) (front_size c.version c.channels) bs)) ∙ sym (channels-pair c c.channels rest)) in
+    λ i. record { main_data_begin = (e0 i).main_data_begin; private_bits = (e0 i).private_bits; scfsi = (e0 i).scfsi; granules = g0 i ∷ g1 i ∷ [] }
 
-  pub enough_first : c.channels * granule_size One ≤ length (drop (front_size One c.channels) (bits xs))
-  enough_first = simp length-drop (omega (arith, parts))
+-- the side information goes by version and channels alone
+pub side_at-class : (c : ClassFields) (bs : List ℕ) → side_at (class_with c.version 0 c.channels) bs ≡ side_at c bs
+unfolding side_at
+side_at-class c bs = refl
 
-  pub enough_second : c.channels * granule_size One ≤ length (drop (c.channels * granule_size One) (drop (front_size One c.channels) (bits xs)))
-  enough_second = simp length-drop (omega (arith, parts))
+pub second_room : (granules front size total next : ℕ) → granules ≡ 2 → next ≡ front + size → total ≡ front + (size + (granules - 1) * size) → next + size ≤ total
+second_room granules front size total next two e d =
+    let one : (granules - 1) * size ≡ 1 * size = ap (λ n. (n - 1) * size) two in
+    omega arith
 
-  pub side_is : (front : Front) (first second : List Granule) → front ≡ front_at One c.channels (bits xs) → first ≡ pair_at One c.channels (drop (front_size One c.channels) (bits xs)) → second ≡ pair_at One c.channels (drop (c.channels * granule_size One) (drop (front_size One c.channels) (bits xs))) → ◌≡◌ {A = Side} (record { main_data_begin = front.main_data_begin; private_bits = front.private_bits; scfsi = front.scfsi; granules = first ∷ second ∷ [] }) (side_at d (bits xs))
-  side_is front first second e0 e1 e2 =
-      whole c class (ap (λ k. k.version) same ∙ version) (bits xs) front first second e0 e1 e2 ∙ ap (λ k. side_at k (bits xs)) same
+pub side_size-class : (c : ClassFields) → side_size_of (class_with c.version 0 c.channels) ≡ side_size_of c
+unfolding side_size_of
+side_size-class c = refl

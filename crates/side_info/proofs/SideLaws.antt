@@ -11,26 +11,27 @@ use Rattle.bit_fields.specs.Groups.{numbers_at, spelled, Fits}
 use Rattle.bit_fields.proofs.BitsLaws.{AreBits-append, AreBits-drop}
 use Rattle.bit_fields.proofs.GroupsLaws.{length-spelled, AreBits-spelled, Fits-numbers_at, numbers_at-spelled_more, spelled-numbers_at_front}
 use Rattle.frame_header.specs.declared.version.Version.{Version}
-use Rattle.frame_header.specs.declared.version.Version.TheVariants.{One, Two}
+use Rattle.frame_header.specs.declared.version.Version.TheVariants.{One, Two, TwoFive}
 use Rattle.frame_header.specs.Fields.{ClassFields, IsClass}
 use Rattle.frame_header.specs.Tables.{side_size_of, granules_of}
 use Rattle.side_info.specs.declared.granule.Granule.{Granule}
 use Rattle.side_info.specs.declared.side.Side.{Side}
-use Rattle.side_info.specs.Granule.{granule_size, granule_bits, no_granule, GranuleFits}
+use Rattle.side_info.specs.Parts.{class_with}
+use Rattle.side_info.specs.Granule.{compress_width, preflag_width, granule_size, granule_at, granule_bits, no_granule, GranuleFits}
 use Rattle.side_info.specs.Side.{front_widths, front_width, nth_granule, channels_at, granules_at, side_at, granules_in, side_bits, no_side, payload_bits, granule_in, has_granule, SideFits}
 use Rattle.side_info.proofs.GranuleLaws.{granules_from, length-flat, AreBits-flat, nth_granule-flat, flat-granules_from, GranuleFits-granule_at}
 
--- ---- the four combinations of version and channels
-abbrev pub class_with : Version → ℕ → ℕ → ClassFields
-class_with version frequency_index channels = record { version = version; frequency_index = frequency_index; channels = channels }
-
-module _ (P : ClassFields → Type 0) (one_mono : (f : ℕ) → P (class_with One f 1)) (one_stereo : (f : ℕ) → P (class_with One f 2)) (two_mono : (f : ℕ) → P (class_with Two f 1)) (two_stereo : (f : ℕ) → P (class_with Two f 2)) where
+-- ---- the combinations of version and channels
+-- MPEG-2.5 has the side information of MPEG-2
+module _ (P : ClassFields → Type 0) (one_mono : (f : ℕ) → P (class_with One f 1)) (one_stereo : (f : ℕ) → P (class_with One f 2)) (two_mono : (f : ℕ) → P (class_with Two f 1)) (two_stereo : (f : ℕ) → P (class_with Two f 2)) (as_two : (f channels : ℕ) → P (class_with Two f channels) → P (class_with TwoFive f channels)) where
   by_channels : (version : Version) (f channels : ℕ) → 1 ≤ channels → channels ≤ 2 → P (class_with version f channels)
   by_channels version f zero low high = absurd (omega arith)
   by_channels One f (suc zero) low high = one_mono f
   by_channels Two f (suc zero) low high = two_mono f
+  by_channels TwoFive f (suc zero) low high = as_two f 1 (two_mono f)
   by_channels One f (suc (suc zero)) low high = one_stereo f
   by_channels Two f (suc (suc zero)) low high = two_stereo f
+  by_channels TwoFive f (suc (suc zero)) low high = as_two f 2 (two_stereo f)
   by_channels version f (suc (suc (suc channels))) low high = absurd (omega arith)
 
   -- what holds of each combination holds of every class
@@ -44,16 +45,16 @@ granule_count c = granules_of c.version * c.channels
 
 pub widths_sum : (c : ClassFields) → IsClass c → sum (front_widths c) + granule_count c * granule_size c.version ≡ 8 * side_size_of c
 unfolding side_size_of
-widths_sum = each_class (λ c. sum (front_widths c) + granule_count c * granule_size c.version ≡ 8 * side_size_of c) (λ f. refl) (λ f. refl) (λ f. refl) (λ f. refl)
+widths_sum = each_class (λ c. sum (front_widths c) + granule_count c * granule_size c.version ≡ 8 * side_size_of c) (λ f. refl) (λ f. refl) (λ f. refl) (λ f. refl) (λ f channels h. h)
 
 -- ---- bits to fields and back
 granules_in-side_at : (c : ClassFields) → IsClass c → (bs : List ℕ) → granules_in c (side_at c bs) ≡ granules_from c.version 0 (granule_count c) (drop (sum (front_widths c)) bs)
-unfolding granules_in side_at granules_from
-granules_in-side_at = each_class (λ c. (bs : List ℕ) → granules_in c (side_at c bs) ≡ granules_from c.version 0 (granule_count c) (drop (sum (front_widths c)) bs)) (λ f bs. refl) (λ f bs. refl) (λ f bs. refl) (λ f bs. refl)
+unfolding granules_in side_at granules_from granule_at
+granules_in-side_at = each_class (λ c. (bs : List ℕ) → granules_in c (side_at c bs) ≡ granules_from c.version 0 (granule_count c) (drop (sum (front_widths c)) bs)) (λ f bs. refl) (λ f bs. refl) (λ f bs. refl) (λ f bs. refl) (λ f channels h. h)
 
 front-side_at : (c : ClassFields) → IsClass c → (bs : List ℕ) → spelled (front_widths c) ((side_at c bs).main_data_begin ∷ (side_at c bs).private_bits ∷ (side_at c bs).scfsi) ≡ spelled (front_widths c) (numbers_at (front_widths c) bs)
 unfolding side_at spelled numbers_at
-front-side_at = each_class (λ c. (bs : List ℕ) → spelled (front_widths c) ((side_at c bs).main_data_begin ∷ (side_at c bs).private_bits ∷ (side_at c bs).scfsi) ≡ spelled (front_widths c) (numbers_at (front_widths c) bs)) (λ f bs. refl) (λ f bs. refl) (λ f bs. refl) (λ f bs. refl)
+front-side_at = each_class (λ c. (bs : List ℕ) → spelled (front_widths c) ((side_at c bs).main_data_begin ∷ (side_at c bs).private_bits ∷ (side_at c bs).scfsi) ≡ spelled (front_widths c) (numbers_at (front_widths c) bs)) (λ f bs. refl) (λ f bs. refl) (λ f bs. refl) (λ f bs. refl) (λ f channels h. h)
 
 pub side_bits-side_at : (c : ClassFields) → IsClass c → (bs : List ℕ) → AreBits bs → length bs ≡ 8 * side_size_of c → side_bits c (side_at c bs) ≡ bs
 unfolding side_bits
@@ -128,20 +129,17 @@ nth : (version : Version) (gs : List Granule) (n : ℕ) → n < length gs → Gr
 nth version gs n h fits =
     ap (nth_granule version n) (sym (append-nil (flat_map (granule_bits version) gs))) ∙ nth_granule-flat version gs n [] h fits
 
-zero_alone : (n : ℕ) → n < 2 ^ 0 → 0 ≡ n
-zero_alone n h = omega arith
-
 abbrev GivesBack : ClassFields → Side → Type 0
 GivesBack c s = SideFits c s → side_at c (side_bits c s) ≡ s
 
 back_one_mono : (f m p a b : ℕ) (g h k l : Granule) → GivesBack (class_with One f 1) (side_with m p a b g h k l)
-unfolding side_bits granules_in spelled built
+unfolding side_bits granules_in built
 back_one_mono f m p a b g h k l fits =
     let gs : List Granule = g ∷ k ∷ [] in
     let q0 : nth_granule One 0 (flat_map (granule_bits One) gs) ≡ g = nth One gs 0 (omega arith) (fits.granules 0 0) in
     let q1 : nth_granule One 1 (flat_map (granule_bits One) gs) ≡ k = nth One gs 1 (omega arith) (fits.granules 1 0) in
-    back (class_with One f 1) (m ∷ p ∷ a ∷ []) gs (fits.main_data_begin, (fits.private_bits, (fits.scfsi 0, tt))) refl
-    ∙ (λ i. side_with m p a (zero_alone b (fits.scfsi 1) i) (q0 i) (sym (fits.granules 0 1) i) (q1 i) (sym (fits.granules 1 1) i))
+    back (class_with One f 1) (m ∷ p ∷ a ∷ b ∷ []) gs (fits.main_data_begin, (fits.private_bits, (fits.scfsi 0, (fits.scfsi 1, tt)))) refl
+    ∙ (λ i. side_with m p a b (q0 i) (sym (fits.granules 0 1) i) (q1 i) (sym (fits.granules 1 1) i))
 
 back_one_stereo : (f m p a b : ℕ) (g h k l : Granule) → GivesBack (class_with One f 2) (side_with m p a b g h k l)
 unfolding side_bits granules_in built
@@ -155,26 +153,37 @@ back_one_stereo f m p a b g h k l fits =
     ∙ (λ i. side_with m p a b (q0 i) (q1 i) (q2 i) (q3 i))
 
 back_two_mono : (f m p a b : ℕ) (g h k l : Granule) → GivesBack (class_with Two f 1) (side_with m p a b g h k l)
-unfolding side_bits granules_in spelled built
+unfolding side_bits granules_in built
 back_two_mono f m p a b g h k l fits =
     let gs : List Granule = g ∷ [] in
     let q0 : nth_granule Two 0 (flat_map (granule_bits Two) gs) ≡ g = nth Two gs 0 (omega arith) (fits.granules 0 0) in
-    back (class_with Two f 1) (m ∷ p ∷ []) gs (fits.main_data_begin, (fits.private_bits, tt)) refl
-    ∙ (λ i. side_with m p (zero_alone a (fits.scfsi 0) i) (zero_alone b (fits.scfsi 1) i) (q0 i) (sym (fits.granules 0 1) i) (sym (fits.granules 1 0) i) (sym (fits.granules 1 1) i))
+    back (class_with Two f 1) (m ∷ p ∷ a ∷ b ∷ []) gs (fits.main_data_begin, (fits.private_bits, (fits.scfsi 0, (fits.scfsi 1, tt)))) refl
+    ∙ (λ i. side_with m p a b (q0 i) (sym (fits.granules 0 1) i) (sym (fits.granules 1 0) i) (sym (fits.granules 1 1) i))
 
 back_two_stereo : (f m p a b : ℕ) (g h k l : Granule) → GivesBack (class_with Two f 2) (side_with m p a b g h k l)
-unfolding side_bits granules_in spelled built
+unfolding side_bits granules_in built
 back_two_stereo f m p a b g h k l fits =
     let gs : List Granule = g ∷ h ∷ [] in
     let q0 : nth_granule Two 0 (flat_map (granule_bits Two) gs) ≡ g = nth Two gs 0 (omega arith) (fits.granules 0 0) in
     let q1 : nth_granule Two 1 (flat_map (granule_bits Two) gs) ≡ h = nth Two gs 1 (omega arith) (fits.granules 0 1) in
-    back (class_with Two f 2) (m ∷ p ∷ []) gs (fits.main_data_begin, (fits.private_bits, tt)) refl
-    ∙ (λ i. side_with m p (zero_alone a (fits.scfsi 0) i) (zero_alone b (fits.scfsi 1) i) (q0 i) (q1 i) (sym (fits.granules 1 0) i) (sym (fits.granules 1 1) i))
+    back (class_with Two f 2) (m ∷ p ∷ a ∷ b ∷ []) gs (fits.main_data_begin, (fits.private_bits, (fits.scfsi 0, (fits.scfsi 1, tt)))) refl
+    ∙ (λ i. side_with m p a b (q0 i) (q1 i) (sym (fits.granules 1 0) i) (sym (fits.granules 1 1) i))
+
+-- what fits MPEG-2.5 fits MPEG-2, and back
+fits_two : (f channels : ℕ) (s : Side) → SideFits (class_with TwoFive f channels) s → SideFits (class_with Two f channels) s
+fits_two f channels s fits = record { main_data_begin = fits.main_data_begin; private_bits = fits.private_bits; scfsi = fits.scfsi; granules = fits.granules }
+
+fits_two_five : (f channels : ℕ) (s : Side) → SideFits (class_with Two f channels) s → SideFits (class_with TwoFive f channels) s
+fits_two_five f channels s fits = record { main_data_begin = fits.main_data_begin; private_bits = fits.private_bits; scfsi = fits.scfsi; granules = fits.granules }
+
+back_as_two : (f channels m p a b : ℕ) (g h k l : Granule) → GivesBack (class_with Two f channels) (side_with m p a b g h k l) → GivesBack (class_with TwoFive f channels) (side_with m p a b g h k l)
+unfolding side_at side_bits granules_in granule_at granule_bits
+back_as_two f channels m p a b g h k l two fits = two (fits_two f channels (side_with m p a b g h k l) fits)
 
 pub side_at-side_bits : (c : ClassFields) → IsClass c → (s : Side) → IsShaped s → SideFits c s → side_at c (side_bits c s) ≡ s
 side_at-side_bits c class s shaped =
     each_shaped (GivesBack c)
-    (each_class (λ d. (m p a b : ℕ) (g h k l : Granule) → GivesBack d (side_with m p a b g h k l)) back_one_mono back_one_stereo back_two_mono back_two_stereo c class)
+    (each_class (λ d. (m p a b : ℕ) (g h k l : Granule) → GivesBack d (side_with m p a b g h k l)) back_one_mono back_one_stereo back_two_mono back_two_stereo (λ f channels two m p a b g h k l. back_as_two f channels m p a b g h k l (two m p a b g h k l)) c class)
     s shaped
 
 -- ---- what side information and bits are
@@ -194,25 +203,29 @@ long c ns gs l =
     ∙ ap₂ (λ m n. m + n) (length-spelled (front_widths c) ns l) (length-flat c.version gs)
 
 long_one_mono : (f m p a b : ℕ) (g h k l : Granule) → Long (class_with One f 1) (side_with m p a b g h k l)
-unfolding side_bits granules_in spelled side_size_of
-long_one_mono f m p a b g h k l = long (class_with One f 1) (m ∷ p ∷ a ∷ []) (g ∷ k ∷ []) refl
+unfolding side_bits granules_in side_size_of
+long_one_mono f m p a b g h k l = long (class_with One f 1) (m ∷ p ∷ a ∷ b ∷ []) (g ∷ k ∷ []) refl
 
 long_one_stereo : (f m p a b : ℕ) (g h k l : Granule) → Long (class_with One f 2) (side_with m p a b g h k l)
 unfolding side_bits granules_in side_size_of
 long_one_stereo f m p a b g h k l = long (class_with One f 2) (m ∷ p ∷ a ∷ b ∷ []) (g ∷ h ∷ k ∷ l ∷ []) refl
 
 long_two_mono : (f m p a b : ℕ) (g h k l : Granule) → Long (class_with Two f 1) (side_with m p a b g h k l)
-unfolding side_bits granules_in spelled side_size_of
-long_two_mono f m p a b g h k l = long (class_with Two f 1) (m ∷ p ∷ []) (g ∷ []) refl
+unfolding side_bits granules_in side_size_of
+long_two_mono f m p a b g h k l = long (class_with Two f 1) (m ∷ p ∷ a ∷ b ∷ []) (g ∷ []) refl
 
 long_two_stereo : (f m p a b : ℕ) (g h k l : Granule) → Long (class_with Two f 2) (side_with m p a b g h k l)
-unfolding side_bits granules_in spelled side_size_of
-long_two_stereo f m p a b g h k l = long (class_with Two f 2) (m ∷ p ∷ []) (g ∷ h ∷ []) refl
+unfolding side_bits granules_in side_size_of
+long_two_stereo f m p a b g h k l = long (class_with Two f 2) (m ∷ p ∷ a ∷ b ∷ []) (g ∷ h ∷ []) refl
+
+long_as_two : (f channels : ℕ) (s : Side) → Long (class_with Two f channels) s → Long (class_with TwoFive f channels) s
+unfolding side_bits granules_in granule_bits side_size_of
+long_as_two f channels s two = two
 
 pub length-side_bits : (c : ClassFields) → IsClass c → (s : Side) → IsShaped s → length (side_bits c s) ≡ 8 * side_size_of c
 length-side_bits c class s shaped =
     each_shaped (Long c)
-    (each_class (λ d. (m p a b : ℕ) (g h k l : Granule) → Long d (side_with m p a b g h k l)) long_one_mono long_one_stereo long_two_mono long_two_stereo c class)
+    (each_class (λ d. (m p a b : ℕ) (g h k l : Granule) → Long d (side_with m p a b g h k l)) long_one_mono long_one_stereo long_two_mono long_two_stereo (λ f channels two m p a b g h k l. long_as_two f channels (side_with m p a b g h k l) (two m p a b g h k l)) c class)
     s shaped
 
 pub IsShaped-side_at : (c : ClassFields) (bs : List ℕ) → IsShaped (side_at c bs)
@@ -225,8 +238,14 @@ IsShaped-side_at c bs = record {
 }
 
 no_granule-fits : (version : Version) → GranuleFits version no_granule
-no_granule-fits One = record { part2_3_length = lit< tt; big_values = lit< tt; global_gain = lit< tt; scalefac_compress = lit< tt; detail = lit< tt; preflag = tt }
-no_granule-fits Two = record { part2_3_length = lit< tt; big_values = lit< tt; global_gain = lit< tt; scalefac_compress = lit< tt; detail = lit< tt; preflag = refl }
+no_granule-fits version = record {
+  part2_3_length = lit< tt;
+  big_values = lit< tt;
+  global_gain = lit< tt;
+  scalefac_compress = pow_pos (compress_width version);
+  detail = lit< tt;
+  preflag = pow_pos (preflag_width version);
+}
 
 none_fits : (version : Version) (has : Bool) → MatchBool has (GranuleFits version no_granule) (◌≡◌ {A = Granule} no_granule no_granule)
 none_fits version true = no_granule-fits version
@@ -261,7 +280,7 @@ fits_one_mono f bs all =
     record {
       main_data_begin = front.0;
       private_bits = front.1.0;
-      scfsi = scfsi_fit (class_with One f 1) _ 0 front.1.1.0 (lit< tt);
+      scfsi = scfsi_fit (class_with One f 1) _ _ front.1.1.0 front.1.1.1.0;
       granules = granules_fit (class_with One f 1) 0 0 0 0 _ no_granule _ no_granule (some_fits One (drop 18 bs) 0 rest) refl (some_fits One (drop 18 bs) 1 rest) refl;
     }
 
@@ -285,7 +304,7 @@ fits_two_mono f bs all =
     record {
       main_data_begin = front.0;
       private_bits = front.1.0;
-      scfsi = scfsi_fit (class_with Two f 1) 0 0 (lit< tt) (lit< tt);
+      scfsi = scfsi_fit (class_with Two f 1) _ _ front.1.1.0 front.1.1.1.0;
       granules = granules_fit (class_with Two f 1) 0 0 0 0 _ no_granule no_granule no_granule (some_fits Two (drop 9 bs) 0 rest) refl refl refl;
     }
 
@@ -297,12 +316,16 @@ fits_two_stereo f bs all =
     record {
       main_data_begin = front.0;
       private_bits = front.1.0;
-      scfsi = scfsi_fit (class_with Two f 2) 0 0 (lit< tt) (lit< tt);
+      scfsi = scfsi_fit (class_with Two f 2) _ _ front.1.1.0 front.1.1.1.0;
       granules = granules_fit (class_with Two f 2) 0 0 0 0 _ _ no_granule no_granule (some_fits Two (drop 10 bs) 0 rest) (some_fits Two (drop 10 bs) 1 rest) refl refl;
     }
 
+fits_as_two : (f channels : ℕ) (bs : List ℕ) → SideFits (class_with Two f channels) (side_at (class_with Two f channels) bs) → SideFits (class_with TwoFive f channels) (side_at (class_with TwoFive f channels) bs)
+unfolding side_at granule_at
+fits_as_two f channels bs two = fits_two_five f channels (side_at (class_with Two f channels) bs) two
+
 pub SideFits-side_at : (c : ClassFields) → IsClass c → (bs : List ℕ) → AreBits bs → SideFits c (side_at c bs)
-SideFits-side_at = each_class (λ c. (bs : List ℕ) → AreBits bs → SideFits c (side_at c bs)) fits_one_mono fits_one_stereo fits_two_mono fits_two_stereo
+SideFits-side_at = each_class (λ c. (bs : List ℕ) → AreBits bs → SideFits c (side_at c bs)) fits_one_mono fits_one_stereo fits_two_mono fits_two_stereo (λ f channels two bs all. fits_as_two f channels bs (two bs all))
 
 -- nothing in it is out of its bits
 pub SideFits-no_side : (c : ClassFields) → SideFits c no_side

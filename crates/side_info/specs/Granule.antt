@@ -2,14 +2,25 @@
 use Rattle.std.specs.Prelude.{◌≡◌, ℕ, ◌^◌, ◌<◌, ◌==◌, if◌then◌else◌, Bool, false, List, [], ◌∷◌, slice_index, sum}
 use Rattle.bit_fields.specs.Groups.{numbers_at, spelled}
 use Rattle.frame_header.specs.declared.version.Version.{Version}
-use Rattle.frame_header.specs.declared.version.Version.TheVariants.{One, Two}
+use Rattle.frame_header.specs.declared.version.Version.TheVariants.{One, Two, TwoFive}
 use Rattle.side_info.specs.declared.granule.Granule.{Granule}
 
+-- the bits of scalefac_compress
+abbrev pub compress_width : Version → ℕ
+compress_width One = 4
+compress_width Two = 9
+compress_width TwoFive = 9
+
+-- the bits of preflag, which MPEG-1 alone has
+abbrev pub preflag_width : Version → ℕ
+preflag_width One = 1
+preflag_width Two = 0
+preflag_width TwoFive = 0
+
 -- the width in bits of part2_3_length, big_values, global_gain, scalefac_compress, window_switching_flag, the 22 bits of
--- detail behind it, preflag (MPEG-1 alone), scalefac_scale and count1table_select
+-- detail behind it, preflag, scalefac_scale and count1table_select; 0 for a field that the version lacks
 abbrev pub granule_widths : Version → List ℕ
-granule_widths One = 12 ∷ 9 ∷ 8 ∷ 4 ∷ 1 ∷ 22 ∷ 1 ∷ 1 ∷ 1 ∷ []
-granule_widths Two = 12 ∷ 9 ∷ 8 ∷ 9 ∷ 1 ∷ 22 ∷ 1 ∷ 1 ∷ []
+granule_widths version = 12 ∷ 9 ∷ 8 ∷ compress_width version ∷ 1 ∷ 22 ∷ preflag_width version ∷ 1 ∷ 1 ∷ []
 
 -- the bits of one granule and channel
 abbrev pub granule_size : Version → ℕ
@@ -36,9 +47,9 @@ no_granule = record {
   count1table_select = false;
 }
 
--- the fields that the numbers of the groups are; MPEG-2 has no preflag
-unfoldable pub granule_of : Version → List ℕ → Granule
-granule_of One ns = record {
+-- the fields that the numbers of the groups are
+unfoldable pub granule_of : List ℕ → Granule
+granule_of ns = record {
   part2_3_length = slice_index ns 0;
   big_values = slice_index ns 1;
   global_gain = slice_index ns 2;
@@ -49,48 +60,33 @@ granule_of One ns = record {
   scalefac_scale = is_set (slice_index ns 7);
   count1table_select = is_set (slice_index ns 8);
 }
-granule_of Two ns = record {
-  part2_3_length = slice_index ns 0;
-  big_values = slice_index ns 1;
-  global_gain = slice_index ns 2;
-  scalefac_compress = slice_index ns 3;
-  window_switching = is_set (slice_index ns 4);
-  detail = slice_index ns 5;
-  preflag = false;
-  scalefac_scale = is_set (slice_index ns 6);
-  count1table_select = is_set (slice_index ns 7);
-}
 
 -- the numbers of the groups that the fields are
-unfoldable pub granule_numbers : Version → Granule → List ℕ
-granule_numbers One g =
+unfoldable pub granule_numbers : Granule → List ℕ
+granule_numbers g =
     g.part2_3_length ∷ g.big_values ∷ g.global_gain ∷ g.scalefac_compress ∷ bit_of g.window_switching ∷ g.detail ∷
     bit_of g.preflag ∷ bit_of g.scalefac_scale ∷ bit_of g.count1table_select ∷ []
-granule_numbers Two g =
-    g.part2_3_length ∷ g.big_values ∷ g.global_gain ∷ g.scalefac_compress ∷ bit_of g.window_switching ∷ g.detail ∷
-    bit_of g.scalefac_scale ∷ bit_of g.count1table_select ∷ []
 
 -- the granule at the front of these bits, and its bits
 unfoldable pub granule_at : Version → List ℕ → Granule
-granule_at version bs = granule_of version (numbers_at (granule_widths version) bs)
+granule_at version bs = granule_of (numbers_at (granule_widths version) bs)
 
 unfoldable pub granule_bits : Version → Granule → List ℕ
-granule_bits version g = spelled (granule_widths version) (granule_numbers version g)
+granule_bits version g = spelled (granule_widths version) (granule_numbers g)
 
--- the bits of scalefac_compress
-abbrev pub compress_width : Version → ℕ
-compress_width One = 4
-compress_width Two = 9
-
-abbrev pub LacksPreflag : Version → Granule → Type 0
-LacksPreflag One g = Unit {0}
-LacksPreflag Two g = g.preflag ≡ false
-
--- each field is within its bits, and one that the version lacks is 0
-pub record GranuleFits (version : Version) (g : Granule) : Type 0 where
+-- each field is within its bits, of which scalefac_compress and preflag have so many
+pub record FieldsFit (compress_bits preflag_bits : ℕ) (g : Granule) : Type 0 where
   pub part2_3_length : g.part2_3_length < 2 ^ 12
   pub big_values : g.big_values < 2 ^ 9
   pub global_gain : g.global_gain < 2 ^ 8
-  pub scalefac_compress : g.scalefac_compress < 2 ^ compress_width version
+  pub scalefac_compress : g.scalefac_compress < 2 ^ compress_bits
   pub detail : g.detail < 2 ^ 22
-  pub preflag : LacksPreflag version g
+  pub preflag : bit_of g.preflag < 2 ^ preflag_bits
+
+-- each field is within its bits, and one that the version lacks is 0
+abbrev pub GranuleFits : Version → Granule → Type 0
+GranuleFits version g = FieldsFit (compress_width version) (preflag_width version) g
+
+-- the two granules differ in no field but global_gain
+abbrev pub AreAlike : Granule → Granule → Type 0
+AreAlike g h = record g { global_gain = h.global_gain } ≡ h

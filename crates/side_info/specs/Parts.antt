@@ -1,24 +1,50 @@
 -- The parts of the side information that are read and written in turn (ISO/IEC 11172-3 and 13818-3, 2.4.1.7 and 2.4.2.7).
-use Rattle.std.specs.Prelude.{ℕ, ◌==◌, if◌then◌else◌, List, [], ◌∷◌, drop, slice_index, sum}
+use Rattle.std.specs.Prelude.{ℕ, ◌==◌, if◌then◌else◌, List, [], ◌∷◌, take, drop, slice_index, sum, flat_map}
 use Rattle.bit_fields.specs.Groups.{numbers_at}
 use Rattle.frame_header.specs.declared.version.Version.{Version}
+use Rattle.frame_header.specs.Fields.{ClassFields}
+use Rattle.frame_header.specs.Tables.{granules_of}
 use Rattle.side_info.specs.declared.front.Front.{Front}
 use Rattle.side_info.specs.declared.granule.Granule.{Granule}
-use Rattle.side_info.specs.Granule.{no_granule, granule_at, granule_size}
+use Rattle.side_info.specs.Granule.{no_granule, granule_at, granule_bits, granule_size}
 use Rattle.side_info.specs.Side.{front_widths_of}
 
--- the fields at the front of these bits; what the class lacks is 0
-unfoldable pub front_at : Version → ℕ → List ℕ → Front
-front_at version channels bs = let front = numbers_at (front_widths_of version channels) bs in record {
+-- the fields that these numbers are
+unfoldable pub front_of : List ℕ → Front
+front_of front = record {
   main_data_begin = slice_index front 0;
   private_bits = slice_index front 1;
   scfsi = slice_index front 2 ∷ slice_index front 3 ∷ [];
 }
 
+-- the fields at the front of these bits; what the class lacks is 0
+abbrev pub front_at : Version → ℕ → List ℕ → Front
+front_at version channels bs = front_of (numbers_at (front_widths_of version channels) bs)
+
 -- how many bits these fields take
 abbrev pub front_size : Version → ℕ → ℕ
 front_size version channels = sum (front_widths_of version channels)
 
+-- no channel of a granule
+abbrev pub no_pair : List Granule
+no_pair = no_granule ∷ no_granule ∷ []
+
 -- the channels of the granule at the front of these bits; one that the class lacks is all 0
 abbrev pub pair_at : Version → ℕ → List ℕ → List Granule
 pair_at version channels bs = granule_at version bs ∷ (if channels == 1 then no_granule else granule_at version (drop (granule_size version) bs)) ∷ []
+
+-- the same of the second granule, which MPEG-1 alone has
+abbrev pub second_at : Version → ℕ → List ℕ → List Granule
+second_at version channels bs = if granules_of version == 1 then no_pair else pair_at version channels bs
+
+-- a class of this version with so many channels; the side information goes by nothing else
+abbrev pub class_with : Version → ℕ → ℕ → ClassFields
+class_with version frequency_index channels = record { version = version; frequency_index = frequency_index; channels = channels }
+
+-- the bits of a granule's channels
+abbrev pub pair_bits : Version → ℕ → List Granule → List ℕ
+pair_bits version channels gs = flat_map (granule_bits version) (take channels gs)
+
+-- the same of the second granule
+abbrev pub second_bits : Version → ℕ → List Granule → List ℕ
+second_bits version channels gs = if granules_of version == 1 then [] else pair_bits version channels gs

@@ -2,17 +2,18 @@
 use Rattle.std.specs.Prelude.{◌≡◌, ℕ, ◌+◌, ◌*◌, ◌/◌, ◌^◌, ◌<◌, ◌==◌, ◌&&◌, nat_lt, if◌then◌else◌, Bool, List, [], ◌∷◌, ◌++◌, take, drop, slice_index, slice_index_or, sum, sum_by, flat_map, MatchBool}
 use Rattle.bit_fields.specs.Groups.{numbers_at, spelled}
 use Rattle.frame_header.specs.declared.version.Version.{Version}
-use Rattle.frame_header.specs.declared.version.Version.TheVariants.{One, Two}
+use Rattle.frame_header.specs.declared.version.Version.TheVariants.{One, Two, TwoFive}
 use Rattle.frame_header.specs.Fields.{ClassFields}
 use Rattle.frame_header.specs.Tables.{granules_of}
 use Rattle.side_info.specs.declared.granule.Granule.{Granule}
 use Rattle.side_info.specs.declared.side.Side.{Side}
-use Rattle.side_info.specs.Granule.{no_granule, granule_at, granule_bits, granule_size, GranuleFits}
+use Rattle.side_info.specs.Granule.{no_granule, granule_at, granule_bits, granule_size, GranuleFits, AreAlike}
 
--- the widths in bits of main_data_begin, the private bits, and (MPEG-1 alone) the scfsi of each channel
+-- the widths in bits of main_data_begin, the private bits, and the scfsi of each channel; 0 for one that the class lacks
 abbrev pub front_widths_of : Version → ℕ → List ℕ
-front_widths_of One channels = if channels == 1 then 9 ∷ 5 ∷ 4 ∷ [] else 9 ∷ 3 ∷ 4 ∷ 4 ∷ []
-front_widths_of Two channels = if channels == 1 then 8 ∷ 1 ∷ [] else 8 ∷ 2 ∷ []
+front_widths_of One channels = if channels == 1 then 9 ∷ 5 ∷ 4 ∷ 0 ∷ [] else 9 ∷ 3 ∷ 4 ∷ 4 ∷ []
+front_widths_of Two channels = if channels == 1 then 8 ∷ 1 ∷ 0 ∷ 0 ∷ [] else 8 ∷ 2 ∷ 0 ∷ 0 ∷ []
+front_widths_of TwoFive channels = if channels == 1 then 8 ∷ 1 ∷ 0 ∷ 0 ∷ [] else 8 ∷ 2 ∷ 0 ∷ 0 ∷ []
 
 abbrev pub front_widths : ClassFields → List ℕ
 front_widths c = front_widths_of c.version c.channels
@@ -29,7 +30,7 @@ nth_granule version n bs = granule_at version (drop (n * granule_size version) b
 abbrev pub channels_at : ClassFields → ℕ → List ℕ → List Granule
 channels_at c n bs = nth_granule c.version n bs ∷ (if c.channels == 1 then no_granule else nth_granule c.version (n + 1) bs) ∷ []
 
--- granule 0 with its channels, then granule 1, which MPEG-2 lacks
+-- granule 0 with its channels, then granule 1, which MPEG-1 alone has
 abbrev pub granules_at : ClassFields → List ℕ → List (List Granule)
 granules_at c bs = channels_at c 0 bs ∷ (if granules_of c.version == 1 then no_granule ∷ no_granule ∷ [] else channels_at c c.channels bs) ∷ []
 
@@ -69,6 +70,13 @@ pub record SideFits (c : ClassFields) (s : Side) : Type 0 where
   pub private_bits : s.private_bits < 2 ^ front_width c 1
   pub scfsi : (channel : ℕ) → slice_index s.scfsi channel < 2 ^ front_width c (2 + channel)
   pub granules : (granule channel : ℕ) → MatchBool (has_granule c granule channel) (GranuleFits c.version (granule_in s granule channel)) (granule_in s granule channel ≡ no_granule)
+
+-- the two differ in no field but the gains
+pub record HasOtherGains (s t : Side) : Type 0 where
+  pub main_data_begin : t.main_data_begin ≡ s.main_data_begin
+  pub private_bits : t.private_bits ≡ s.private_bits
+  pub scfsi : t.scfsi ≡ s.scfsi
+  pub granules : (granule channel : ℕ) → AreAlike (granule_in s granule channel) (granule_in t granule channel)
 
 -- the main data of a frame in bits: the sum of its part2_3_length
 unfoldable pub payload_bits : Side → ℕ

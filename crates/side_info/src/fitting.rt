@@ -14,8 +14,8 @@ fn front_limits(class: Class) -> [u16; 4]
     match (class.version, class.channels == 1) {
         (Version::One, true) => [512, 32, 16, 1],
         (Version::One, false) => [512, 8, 16, 16],
-        (Version::Two, true) => [256, 2, 1, 1],
-        (Version::Two, false) => [256, 4, 1, 1],
+        (Version::Two | Version::TwoFive, true) => [256, 2, 1, 1],
+        (Version::Two | Version::TwoFive, false) => [256, 4, 1, 1],
     }
 }
 
@@ -36,7 +36,7 @@ fn has_granule(class: Class, granule: u8, channel: u8) -> bool
 {
     let granules = match class.version {
         Version::One => 2,
-        Version::Two => 1,
+        Version::Two | Version::TwoFive => 1,
     };
     granule < granules && channel < class.channels
 }

@@ -10,10 +10,10 @@ use crate::side::Side;
 use frame_header::{Class, Header};
 
 /// The bytes of a header.
-const HEADER_SIZE: usize = 4;
+pub(crate) const HEADER_SIZE: usize = 4;
 
 /// The bytes of a header and a check word.
-const PROTECTED_SIZE: usize = 6;
+pub(crate) const PROTECTED_SIZE: usize = 6;
 
 /// The side information at this place in a frame.
 fn side_at_place(class: Class, place: usize, frame: &[u8]) -> Side
@@ -51,7 +51,7 @@ pub fn word_said(frame: &[u8]) -> u16
 }
 
 /// Puts a check word behind the header.
-fn put_word(word: u16, frame: &mut [u8])
+pub(crate) fn put_word(word: u16, frame: &mut [u8])
     requires { 6 ≤ length frame.old }
     ensures { frame.new ≡ take 4 frame.old ++ (bytes (bits_of 16 word) ++ drop 6 frame.old) }
 {

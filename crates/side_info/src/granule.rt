@@ -4,20 +4,21 @@ use frame_header::Version;
 
 /// The fields of one granule and channel (ISO/IEC 11172-3 and 13818-3, 2.4.1.7). All 0 where the
 /// class lacks the granule or the channel.
+// The widest first, so that no room is lost between them.
 #[derive(Clone, Copy, Debug, PartialEq, Eq)]
 pub struct Granule {
+    /// The 22 bits behind `window_switching`, unread: block type and table numbers, as the flag says.
+    pub detail: u32,
     /// The bits of main data: scale factors and Huffman codes, 12 bits.
     pub part2_3_length: u16,
     /// Pairs of spectral values in the big values, 9 bits.
     pub big_values: u16,
+    /// 4 bits, in MPEG-2 and MPEG-2.5 9.
+    pub scalefac_compress: u16,
     /// The quantiser step in steps of 1.5 dB, 8 bits.
     pub global_gain: u8,
-    /// 4 bits, in MPEG-2 9.
-    pub scalefac_compress: u16,
     pub window_switching: bool,
-    /// The 22 bits behind `window_switching`, unread: block type and table numbers, as the flag says.
-    pub detail: u32,
-    /// False in MPEG-2, which lacks it.
+    /// False in MPEG-2 and MPEG-2.5, which lack it.
     pub preflag: bool,
     pub scalefac_scale: bool,
     pub count1table_select: bool,
@@ -27,7 +28,7 @@ impl Granule {
     ghost use Rattle.std.specs.Prelude.{◌↔◌, IsTrue};
     ghost use Rattle.side_info.specs.Granule.{GranuleFits};
 
-    /// Whether each field is within its bits, and preflag is false in MPEG-2, which lacks it.
+    /// Whether each field is within its bits, and preflag is false in MPEG-2 and MPEG-2.5, which lack it.
     pub fn fits(&self, version: Version) -> bool
         ensures { IsTrue result ↔ GranuleFits version self.now }
     {
@@ -37,19 +38,19 @@ impl Granule {
         }
         match version {
             Version::One => self.scalefac_compress < 1 << 4,
-            Version::Two => self.scalefac_compress < 1 << 9 && !self.preflag,
+            Version::Two | Version::TwoFive => self.scalefac_compress < 1 << 9 && !self.preflag,
         }
     }
 }
 
 /// All fields 0.
 pub(crate) const NO_GRANULE: Granule = Granule {
+    detail: 0,
     part2_3_length: 0,
     big_values: 0,
-    global_gain: 0,
     scalefac_compress: 0,
+    global_gain: 0,
     window_switching: false,
-    detail: 0,
     preflag: false,
     scalefac_scale: false,
     count1table_select: false,

@@ -1,103 +1,113 @@
-//! Side fields taken from bits in turn.
-ghost use Rattle.std.specs.Prelude.{◌≡◌, ◌+◌, ◌*◌, ◌^◌, ◌<◌, ◌≤◌, ◌==◌, [], ◌∷◌, if◌then◌else◌, length, take};
-ghost use Rattle.bit_fields.specs.Bits.{number, AreBits};
-ghost use Rattle.bit_fields.specs.Cursor.{advanced};
-ghost use Rattle.frame_header.specs.declared.version.Version.TheVariants.{One};
-ghost use Rattle.side_info.specs.Granule.{granule_at, granule_size, no_granule};
-ghost use Rattle.side_info.specs.Parts.{front_at, front_size, pair_at};
+//! Side fields read where they stand.
+ghost use Rattle.std.specs.Prelude.{◌≡◌, ◌+◌, ◌*◌, ◌^◌, ◌<◌, ◌≤◌, [], ◌∷◌, length, drop};
+ghost use Rattle.bit_fields.specs.Bits.{bits};
+ghost use Rattle.bit_fields.specs.Groups.{numbers_at};
+ghost use Rattle.frame_header.specs.Tables.{granules_of};
+ghost use Rattle.side_info.specs.Granule.{granule_at, granule_size};
+ghost use Rattle.side_info.specs.Parts.{front_of, front_at, front_size as front_size_lem, pair_at, second_at};
 
 use crate::front::Front;
 use crate::granule::{Granule, NO_GRANULE};
-use bit_fields::Bits;
+use crate::widths::{compress_width, granule_width, preflag_width};
+use bit_fields::number_at;
+use frame_header::Version;
 
-/// The number of the next n bits, which are there.
-pub(crate) fn next(source: &mut Bits, n: u32) -> u32
-    requires few { n ≤ 32 }
-    requires enough { n ≤ length source.old.left }
-    ensures value { result ≡ number (take n source.old.left) }
-    ensures below { result < 2 ^ n }
-    ensures moves { source.new ≡ advanced source.old n }
+/// The fields before the granules.
+#[inline]
+pub(crate) fn read_front(version: Version, channels: u8, bytes: &[u8]) -> Front
+    requires enough { front_size_lem version channels ≤ 8 * length bytes.now }
+    requires short { length bytes.now ≤ 2 ^ 28 }
+    ensures { result ≡ front_at version channels (bits bytes.now) }
 {
-    source.take(n).unwrap()
-}
-
-/// The fields before the granules of an MPEG-1 frame.
-pub(crate) fn read_front(source: &mut Bits, channels: u8) -> Front
-    requires bits { AreBits source.old.left }
-    requires enough { front_size One channels ≤ length source.old.left }
-    ensures front { result ≡ front_at One channels source.old.left }
-    ensures moves { source.new ≡ advanced source.old (front_size One channels) }
-{
-    if channels == 1 {
-        read_front_of_one(source)
-    } else {
-        read_front_of_two(source)
+    match (version, channels == 1) {
+        (Version::One, true) => front_with(bytes, 9, 5, 4, 0),
+        (Version::One, false) => front_with(bytes, 9, 3, 4, 4),
+        (Version::Two | Version::TwoFive, true) => front_with(bytes, 8, 1, 0, 0),
+        (Version::Two | Version::TwoFive, false) => front_with(bytes, 8, 2, 0, 0),
     }
 }
 
-fn read_front_of_one(source: &mut Bits) -> Front
-    requires bits { AreBits source.old.left }
-    requires enough { 18 ≤ length source.old.left }
-    ensures front { result ≡ front_at One 1 source.old.left }
-    ensures moves { source.new ≡ advanced source.old 18 }
+/// The fields before the granules, of so many bits for main_data_begin, for the private bits and for the
+/// scfsi of each channel.
+#[inline]
+fn front_with(bytes: &[u8], begin: u32, private_bits: u32, first: u32, second: u32) -> Front
+    requires begin { begin ≤ 9 }
+    requires private_bits { private_bits ≤ 5 }
+    requires first { first ≤ 4 }
+    requires second { second ≤ 4 }
+    requires enough { begin + private_bits + first + second ≤ 8 * length bytes.now }
+    requires short { length bytes.now ≤ 2 ^ 28 }
+    ensures { result ≡ front_of (numbers_at (begin ∷ private_bits ∷ first ∷ second ∷ []) (bits bytes.now)) }
 {
-    let fields = next(source, 18);
+    let fields = number_at(bytes, 0, begin + private_bits + first + second);
+    let above_second = fields >> second;
+    let above_first = above_second >> first;
     Front {
-        main_data_begin: ((fields >> 9) % 512) as u16,
-        private_bits: ((fields >> 4) % 32) as u8,
-        scfsi: [(fields % 16) as u8, 0],
+        main_data_begin: (above_first >> private_bits) as u16,
+        private_bits: (above_first % (1 << private_bits)) as u8,
+        scfsi: [
+            (above_second % (1 << first)) as u8,
+            (fields % (1 << second)) as u8,
+        ],
     }
 }
 
-fn read_front_of_two(source: &mut Bits) -> Front
-    requires bits { AreBits source.old.left }
-    requires enough { 20 ≤ length source.old.left }
-    ensures front { result ≡ front_at One 2 source.old.left }
-    ensures moves { source.new ≡ advanced source.old 20 }
+/// The granule and channel whose side information begins at this bit.
+#[inline]
+fn read_granule(version: Version, bytes: &[u8], at: usize) -> Granule
+    requires enough { at + granule_size version ≤ 8 * length bytes.now }
+    requires short { length bytes.now ≤ 2 ^ 28 }
+    ensures { result ≡ granule_at version (drop at (bits bytes.now)) }
 {
-    let fields = next(source, 20);
-    Front {
-        main_data_begin: ((fields >> 11) % 512) as u16,
-        private_bits: ((fields >> 8) % 8) as u8,
-        scfsi: [((fields >> 4) % 16) as u8, (fields % 16) as u8],
-    }
-}
-
-/// One granule and channel of an MPEG-1 frame.
-fn read_granule(source: &mut Bits) -> Granule
-    requires bits { AreBits source.old.left }
-    requires enough { granule_size One ≤ length source.old.left }
-    ensures granule { result ≡ granule_at One source.old.left }
-    ensures moves { source.new ≡ advanced source.old (granule_size One) }
-{
-    let first = next(source, 29);
-    let rest = next(source, 30);
+    let compress = compress_width(version);
+    let first = number_at(bytes, at, 29);
+    let middle = number_at(bytes, at + 29, compress + 23);
+    let last = number_at(
+        bytes,
+        at + 52 + compress as usize,
+        preflag_width(version) + 2,
+    );
     Granule {
-        part2_3_length: ((first >> 17) % 4096) as u16,
+        detail: middle % (1 << 22),
+        part2_3_length: (first >> 17) as u16,
         big_values: ((first >> 8) % 512) as u16,
+        scalefac_compress: (middle >> 23) as u16,
         global_gain: (first % 256) as u8,
-        scalefac_compress: ((rest >> 26) % 16) as u16,
-        window_switching: (rest >> 25) % 2 == 1,
-        detail: (rest >> 3) % (1 << 22),
-        preflag: (rest >> 2) % 2 == 1,
-        scalefac_scale: (rest >> 1) % 2 == 1,
-        count1table_select: rest % 2 == 1,
+        window_switching: (middle >> 22) % 2 == 1,
+        preflag: last >> 2 == 1,
+        scalefac_scale: (last >> 1) % 2 == 1,
+        count1table_select: last % 2 == 1,
     }
 }
 
-/// The channels of one granule of an MPEG-1 frame.
-pub(crate) fn read_pair(source: &mut Bits, channels: u8) -> [Granule; 2]
+/// The channels of the granule whose side information begins at this bit.
+#[inline]
+pub(crate) fn read_pair(version: Version, channels: u8, bytes: &[u8], at: usize) -> [Granule; 2]
     requires some { 1 ≤ channels }
     requires few { channels ≤ 2 }
-    requires bits { AreBits source.old.left }
-    requires enough { channels * granule_size One ≤ length source.old.left }
-    ensures pair { result ≡ pair_at One channels source.old.left }
-    ensures moves { source.new ≡ advanced source.old (channels * granule_size One) }
+    requires enough { at + channels * granule_size version ≤ 8 * length bytes.now }
+    requires short { length bytes.now ≤ 2 ^ 28 }
+    ensures { result ≡ pair_at version channels (drop at (bits bytes.now)) }
 {
-    let first = read_granule(source);
+    let first = read_granule(version, bytes, at);
     if channels == 1 {
         return [first, NO_GRANULE];
     }
-    let second = read_granule(source);
+    let second = read_granule(version, bytes, at + granule_width(version));
     [first, second]
+}
+
+/// The channels of the second granule, where the version has one.
+#[inline]
+pub(crate) fn read_second(version: Version, channels: u8, bytes: &[u8], at: usize) -> [Granule; 2]
+    requires some { 1 ≤ channels }
+    requires few { channels ≤ 2 }
+    requires enough { granules_of version ≡ 2 → at + channels * granule_size version ≤ 8 * length bytes.now }
+    requires short { length bytes.now ≤ 2 ^ 28 }
+    ensures { result ≡ second_at version channels (drop at (bits bytes.now)) }
+{
+    match version {
+        Version::One => read_pair(version, channels, bytes, at),
+        Version::Two | Version::TwoFive => [NO_GRANULE, NO_GRANULE],
+    }
 }

@@ -1,16 +1,15 @@
 //! The side information of a frame.
-ghost use Rattle.std.specs.Prelude.{◌≡◌, ◌↔◌, IsTrue, ◌^◌, ◌<◌, length, sum_by};
-ghost use Rattle.frame_header.specs.declared.version.Version.TheVariants.{One, Two};
+ghost use Rattle.std.specs.Prelude.{◌≡◌, ◌↔◌, IsTrue, ◌^◌, ◌<◌, ◌≤◌, length, sum_by};
 ghost use Rattle.bit_fields.specs.Bits.{bits};
 ghost use Rattle.frame_header.specs.Tables.{side_size_of};
+ghost use Rattle.side_info.specs.Parts.{class_with};
 ghost use Rattle.side_info.specs.Side.{no_side, side_at, side_bits, payload_bits, payload_bytes, SideFits};
 
 use crate::fitting::{front_fits, pair_fits};
 use crate::granule::{Granule, NO_GRANULE};
-use crate::lower;
-use crate::reading::{read_front, read_pair};
-use crate::writing::{front_bits, write_front, write_pair};
-use bit_fields::Bits;
+use crate::reading::{read_front, read_pair, read_second};
+use crate::widths::{front_size, granule_width, side_size};
+use crate::writing::{write_front, write_pair, write_second};
 use frame_header::{Class, Version};
 
 /// The side fields of a frame. What the class of the frame lacks is 0.
@@ -19,7 +18,7 @@ pub struct Side {
     /// How many bytes before the frame's own area its main data begin, counted over areas alone.
     pub main_data_begin: u16,
     pub private_bits: u8,
-    /// The scale factor selection of each channel, 4 bits; 0 in MPEG-2.
+    /// The scale factor selection of each channel, 4 bits; 0 in MPEG-2 and MPEG-2.5.
     pub scfsi: [u8; 2],
     /// `granules[g][c]` is granule g, channel c.
     pub granules: [[Granule; 2]; 2],
@@ -36,17 +35,21 @@ fn pair_bits(pair: &[Granule; 2]) -> u32
     u32::from(first) + u32::from(second)
 }
 
-/// Reads the side information of an MPEG-1 frame.
-fn read_two_granules(class: Class, bytes: &[u8]) -> Side
-    requires size { length bytes.now ≡ side_size_of class }
-    requires version { class.version ≡ One }
-    ensures side { result ≡ side_at class (bits bytes.now) }
-    ensures fits { SideFits class result }
+/// Reads the side information of a frame of this version with so many channels, from its parts.
+#[inline]
+fn read_parts(version: Version, channels: u8, bytes: &[u8]) -> Side
+    requires some { 1 ≤ channels }
+    requires few { channels ≤ 2 }
+    requires size { length bytes.now ≡ side_size_of (class_with version 0 channels) }
+    ensures { result ≡ side_at (class_with version 0 channels) (bits bytes.now) }
 {
-    let mut source = Bits::new(bytes);
-    let front = read_front(&mut source, class.channels);
-    let first = read_pair(&mut source, class.channels);
-    let second = read_pair(&mut source, class.channels);
+    // All of them; where the arguments are constants, so is the length.
+    let part = &bytes[..side_size(version, channels)];
+    let begin = front_size(version, channels);
+    let next = begin + granule_width(version) * usize::from(channels);
+    let front = read_front(version, channels, part);
+    let first = read_pair(version, channels, part, begin);
+    let second = read_second(version, channels, part, next);
     let scfsi = front.scfsi;
     let granules = [first, second];
     Side {
@@ -57,61 +60,21 @@ fn read_two_granules(class: Class, bytes: &[u8]) -> Side
     }
 }
 
-/// Reads the side information of an MPEG-2 frame.
-fn read_one_granule(class: Class, bytes: &[u8]) -> Side
-    requires size { length bytes.now ≡ side_size_of class }
-    requires version { class.version ≡ Two }
-    ensures side { result ≡ side_at class (bits bytes.now) }
-    ensures fits { SideFits class result }
+/// Reads the side information of a frame of this version with so many channels. In most arms the places of
+/// the fields are known.
+fn read_shape(version: Version, channels: u8, bytes: &[u8]) -> Side
+    requires some { 1 ≤ channels }
+    requires few { channels ≤ 2 }
+    requires size { length bytes.now ≡ side_size_of (class_with version 0 channels) }
+    ensures { result ≡ side_at (class_with version 0 channels) (bits bytes.now) }
 {
-    let mut source = Bits::new(bytes);
-    let front = lower::read_front(&mut source, class.channels);
-    let first = lower::read_pair(&mut source, class.channels);
-    let second = [NO_GRANULE, NO_GRANULE];
-    let scfsi = front.scfsi;
-    let granules = [first, second];
-    Side {
-        main_data_begin: front.main_data_begin,
-        private_bits: front.private_bits,
-        scfsi,
-        granules,
+    match (version, channels == 1) {
+        (Version::One, true) => read_parts(Version::One, 1, bytes),
+        (Version::One, false) => read_parts(Version::One, 2, bytes),
+        (Version::Two, true) => read_parts(Version::Two, 1, bytes),
+        (Version::Two, false) => read_parts(Version::Two, 2, bytes),
+        (Version::TwoFive, _) => read_parts(Version::TwoFive, channels, bytes),
     }
-}
-
-/// Writes the side information of an MPEG-1 frame over all the bytes.
-fn write_two_granules(side: &Side, class: Class, bytes: &mut [u8])
-    requires fits { SideFits class side.now }
-    requires size { length bytes.old ≡ side_size_of class }
-    requires version { class.version ≡ One }
-    ensures written { bits bytes.new ≡ side_bits class side.now }
-    ensures back { side_at class (bits bytes.new) ≡ side.now }
-{
-    let first = front_bits(class.channels);
-    let second = first + 59 * usize::from(class.channels);
-    write_front(side, class.channels, bytes);
-    write_pair(&side.granules[0], class.channels, bytes, first);
-    write_pair(&side.granules[1], class.channels, bytes, second);
-}
-
-/// Writes the side information of an MPEG-2 frame over all the bytes.
-fn write_one_granule(side: &Side, class: Class, bytes: &mut [u8])
-    requires fits { SideFits class side.now }
-    requires size { length bytes.old ≡ side_size_of class }
-    requires version { class.version ≡ Two }
-    ensures written { bits bytes.new ≡ side_bits class side.now }
-    ensures back { side_at class (bits bytes.new) ≡ side.now }
-{
-    let first = lower::front_bits(class.channels);
-    lower::write_front(side, class.channels, bytes);
-    lower::write_pair(&side.granules[0], class.channels, bytes, first);
-    has_two(&side.granules[1]);
-}
-
-/// The type says that a granule has two channels.
-fn has_two(pair: &[Granule; 2])
-    ensures { length pair.now ≡ 2 }
-{
-    let _ = pair;
 }
 
 impl Side {
@@ -154,10 +117,7 @@ impl Side {
         ensures side { result ≡ side_at class (bits bytes.now) }
         ensures fits { SideFits class result }
     {
-        match class.version {
-            Version::One => read_two_granules(class, bytes),
-            Version::Two => read_one_granule(class, bytes),
-        }
+        read_shape(class.version, class.channels, bytes)
     }
 
     /// Writes the side information of a frame over all the bytes.
@@ -168,10 +128,23 @@ impl Side {
         // What is read back is what was written.
         ensures back { side_at class (bits bytes.new) ≡ self.now }
     {
-        match class.version {
-            Version::One => write_two_granules(self, class, bytes),
-            Version::Two => write_one_granule(self, class, bytes),
-        }
+        let begin = front_size(class.version, class.channels);
+        let next = begin + granule_width(class.version) * usize::from(class.channels);
+        write_front(self, class.version, class.channels, bytes);
+        write_pair(
+            &self.granules[0],
+            class.version,
+            class.channels,
+            bytes,
+            begin,
+        );
+        write_second(
+            &self.granules[1],
+            class.version,
+            class.channels,
+            bytes,
+            next,
+        );
     }
 
     /// The main data of the frame in bits: the sum of the part2_3_length.

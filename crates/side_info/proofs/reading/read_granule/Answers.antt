@@ -1,18 +1,14 @@
--- The fields are parts of two numbers.
-use Rattle.std.proofs.Common.{arith, ap, ◌∙◌}
-use Rattle.std.proofs.lemmas.List.{length-drop}
-use Rattle.bit_fields.specs.Cursor.{advanced}
-use Rattle.bit_fields.proofs.CursorLaws.{advanced-advanced}
+-- The fields are parts of three numbers.
+use Rattle.bit_fields.specs.Bits.{bits}
+use Rattle.bit_fields.proofs.BitsLaws.{AreBits-bits, length-bits}
 use Rattle.side_info.proofs.ReadLaws.{granule_from}
 use Rattle.side_info.proofs.reading.read_granule.Goals as goal
 
-pub next-rest-requires-clause-enough : goal.next-rest-requires-clause-enough
-next-rest-requires-clause-enough c = rw c.next-first.ensures.moves (simp length-drop (omega (arith, c.requires.enough)))
-
-pub returns-clause-granule : goal.returns-clause-granule
-returns-clause-granule c =
-    granule_from c.args.source.now.left c.next-first.result c.next-rest.result c.requires.bits c.requires.enough c.next-first.ensures.value
-    (rw c.next-first.ensures.moves at c.next-rest.ensures.value)
-
-pub returns-clause-moves : goal.returns-clause-moves
-returns-clause-moves c = c.next-rest.ensures.moves ∙ ap (λ s. advanced s 30) c.next-first.ensures.moves ∙ advanced-advanced c.args.source.now 29 30
+pub returns : goal.returns
+returns c =
+    let compress = c.compress_width-compress.ensures.width in
+    let preflag = c.preflag_width.ensures.width in
+    granule_from c.args.version (bits c.args.bytes.now) c.args.at c.number_at-first.result c.number_at-middle.result c.number_at-last.result
+    (AreBits-bits c.args.bytes.now) (rw length-bits c.requires.enough)
+    c.number_at-first.ensures.below (rw compress at c.number_at-middle.ensures.below) (rw preflag at c.number_at-last.ensures.below)
+    c.number_at-first.ensures.value (rw compress at c.number_at-middle.ensures.value) (rw (compress, preflag) at c.number_at-last.ensures.value)

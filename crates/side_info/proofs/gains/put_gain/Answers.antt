@@ -1,0 +1,8 @@
+-- The eight bits are those of the gain.
+use Rattle.bit_fields.specs.Bits.{bits}
+use Rattle.side_info.proofs.GainsLaws.{gain_put}
+use Rattle.side_info.proofs.gains.put_gain.Goals as goal
+
+pub returns : goal.returns
+returns c version g before after l e =
+    gain_put version g c.args.gain c.args.at before after (bits c.args.bytes.now) (bits c.put.new.bytes) (rw c.from.ensures at c.put.ensures) l e

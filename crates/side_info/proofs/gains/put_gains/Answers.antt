@@ -1,0 +1,90 @@
+-- The side information and the check word, where there is one, are those of the other gains.
+use Rattle.std.proofs.Common.{◌≡◌, ◌+◌, take, drop, true, false, sym, ap, ap₂, ◌∙◌, subst, arith}
+use Rattle.std.proofs.lemmas.List.{drop-drop}
+use Rattle.bit_fields.specs.Bits.{bits, AreBytes}
+use Rattle.bit_fields.proofs.BitsLaws.{AreBytes-from_places, AreBytes-drop}
+use Rattle.frame_header.specs.Fields.{ClassFields}
+use Rattle.frame_header.specs.Tables.{class_of, side_size_of, overhead_of}
+use Rattle.side_info.specs.Side.{side_at, side_bits, HasOtherGains}
+use Rattle.side_info.specs.Frame.{side_place, side_in, side_part}
+use Rattle.side_info.proofs.FrameLaws.{overhead-protected, overhead-unprotected}
+use Rattle.side_info.proofs.GainsLaws.{gains-protected, gains-unprotected}
+use Rattle.side_info.proofs.gains.put_gains.Goals as goal
+use Rattle.side_info.proofs.gains.put_gains.Goals.{After-put_at_place-arg-1, After-put_at_place-arg-else-header-1}
+
+pub put_at_place-requires : goal.put_at_place-requires
+put_at_place-requires c =
+    let is : c.args.header.now.protected ≡ true = sym (ap (λ h. h.protected) c.header.view_is) ∙ c.if-header.true in
+    record { room = omega (arith, c.requires, overhead-protected c.args.header.now is, ap side_size_of c.class-class.ensures) }
+
+pub put_right_word-requires : goal.put_right_word-requires
+put_right_word-requires c =
+    let is : c.args.header.now.protected ≡ true = sym (ap (λ h. h.protected) c.header.view_is) ∙ c.if-header.true in
+    omega (arith, c.requires, overhead-protected c.args.header.now is, c.put_at_place.auto.frame)
+
+pub put_at_place-requires-else-header : goal.put_at_place-requires-else-header
+put_at_place-requires-else-header c =
+    let is : c.args.header.now.protected ≡ false = sym (ap (λ h. h.protected) c.header.view_is) ∙ c.if-header.false in
+    record { room = omega (arith, c.requires, overhead-unprotected c.args.header.now is, ap side_size_of c.class-class.ensures) }
+
+pub returns-then-header-clause-behind : goal.returns-then-header-clause-behind
+returns-then-header-clause-behind c =
+    let h = c.args.header.now in
+    let old = c.args.frame.now in
+    let middle = c.put_at_place.new.frame in
+    let new = c.put_right_word.new.frame in
+    let size = side_size_of (class_of h) in
+    let class = c.class-class.ensures in
+    let is : h.protected ≡ true = sym (ap (λ h. h.protected) c.header.view_is) ∙ c.if-header.true in
+    let over : overhead_of (class_of h) h.protected ≡ 6 + size = overhead-protected h is in
+    ap (λ n. drop n new) over
+    ∙ sym (drop-drop size 6 new)
+    ∙ ap (drop size) c.put_right_word.ensures.behind
+    ∙ drop-drop size 6 middle
+    ∙ subst (λ d. drop (6 + side_size_of d) middle ≡ drop (6 + side_size_of d) old) class c.put_at_place.ensures.behind
+    ∙ sym (ap (λ n. drop n old) over)
+
+pub returns-else-header-clause-behind : goal.returns-else-header-clause-behind
+returns-else-header-clause-behind c =
+    let h = c.args.header.now in
+    let old = c.args.frame.now in
+    let new = c.put_at_place-else-header.new.frame in
+    let is : h.protected ≡ false = sym (ap (λ h. h.protected) c.header.view_is) ∙ c.if-header.false in
+    let over : overhead_of (class_of h) h.protected ≡ 4 + side_size_of (class_of h) = overhead-unprotected h is in
+    ap (λ n. drop n new) over
+    ∙ subst (λ d. drop (4 + side_size_of d) new ≡ drop (4 + side_size_of d) old) c.class-class.ensures c.put_at_place-else-header.ensures.behind
+    ∙ sym (ap (λ n. drop n old) over)
+
+pub returns-then-header-clause-gains : goal.returns-then-header-clause-gains
+unfolding side_in side_part
+returns-then-header-clause-gains c other =
+    let h = c.args.header.now in
+    let t = c.args.side.now in
+    let old = c.args.frame.now in
+    let middle = c.put_at_place.new.frame in
+    let new = c.put_right_word.new.frame in
+    let class = c.class-class.ensures in
+    let is : h.protected ≡ true = sym (ap (λ h. h.protected) c.header.view_is) ∙ c.if-header.true in
+    let same : side_in h old ≡ side_at c.class-class.result (bits (take (side_size_of c.class-class.result) (drop 6 old))) =
+    ap₂ (λ (d : ClassFields) k. side_at d (bits (take (side_size_of d) (drop k old)))) (sym class) (ap side_place is) in
+    let side = subst (λ d. bits (take (side_size_of d) (drop 6 middle)) ≡ side_bits d t) class (c.put_at_place.ensures.side (subst (λ s. HasOtherGains s t) same other)) in
+    let all : AreBytes (drop 6 middle) = subst AreBytes c.put_right_word.ensures.behind (AreBytes-drop 6 new (AreBytes-from_places new (λ i. omega (arith, c.type_inv.frame i)))) in
+    gains-protected h t old middle new is all c.put_at_place.ensures.before
+    (subst (λ d. drop (6 + side_size_of d) middle ≡ drop (6 + side_size_of d) old) class c.put_at_place.ensures.behind)
+    side (c.put_right_word.ensures.word t side)
+
+pub returns-else-header-clause-gains : goal.returns-else-header-clause-gains
+unfolding side_in side_part
+returns-else-header-clause-gains c other =
+    let h = c.args.header.now in
+    let t = c.args.side.now in
+    let old = c.args.frame.now in
+    let new = c.put_at_place-else-header.new.frame in
+    let class = c.class-class.ensures in
+    let is : h.protected ≡ false = sym (ap (λ h. h.protected) c.header.view_is) ∙ c.if-header.false in
+    let same : side_in h old ≡ side_at c.class-class.result (bits (take (side_size_of c.class-class.result) (drop 4 old))) =
+    ap₂ (λ (d : ClassFields) k. side_at d (bits (take (side_size_of d) (drop k old)))) (sym class) (ap side_place is) in
+    let all : AreBytes new = AreBytes-from_places new (λ i. omega (arith, c.type_inv.frame i)) in
+    gains-unprotected h t old new is all c.put_at_place-else-header.ensures.before
+    (subst (λ d. drop (4 + side_size_of d) new ≡ drop (4 + side_size_of d) old) class c.put_at_place-else-header.ensures.behind)
+    (subst (λ d. bits (take (side_size_of d) (drop 4 new)) ≡ side_bits d t) class (c.put_at_place-else-header.ensures.side (subst (λ s. HasOtherGains s t) same other)))

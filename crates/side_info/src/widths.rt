@@ -1,0 +1,69 @@
+//! The widths in bits of what a version has of a field, 0 where it lacks it.
+ghost use Rattle.std.specs.Prelude.{◌≡◌, ◌≤◌};
+ghost use Rattle.side_info.specs.Granule.{compress_width as compress_width_lem, preflag_width as preflag_width_lem, granule_size};
+ghost use Rattle.side_info.specs.Parts.{class_with, front_size as front_size_lem};
+ghost use Rattle.frame_header.specs.Tables.{side_size_of};
+
+use frame_header::Version;
+
+/// The bits of scalefac_compress.
+#[inline]
+pub(crate) fn compress_width(version: Version) -> u32
+    ensures width { result ≡ compress_width_lem version }
+    ensures most { result ≤ 9 }
+{
+    match version {
+        Version::One => 4,
+        Version::Two | Version::TwoFive => 9,
+    }
+}
+
+/// The bits of preflag.
+#[inline]
+pub(crate) fn preflag_width(version: Version) -> u32
+    ensures width { result ≡ preflag_width_lem version }
+    ensures most { result ≤ 1 }
+{
+    match version {
+        Version::One => 1,
+        Version::Two | Version::TwoFive => 0,
+    }
+}
+
+/// The bits of one granule and channel.
+#[inline]
+pub(crate) fn granule_width(version: Version) -> usize
+    ensures { result ≡ granule_size version }
+{
+    match version {
+        Version::One => 59,
+        Version::Two | Version::TwoFive => 63,
+    }
+}
+
+/// The bits of the fields before the granules.
+#[inline]
+pub(crate) fn front_size(version: Version, channels: u8) -> usize
+    ensures { result ≡ front_size_lem version channels }
+{
+    match (version, channels == 1) {
+        (Version::One, true) => 18,
+        (Version::One, false) => 20,
+        (Version::Two | Version::TwoFive, true) => 9,
+        (Version::Two | Version::TwoFive, false) => 10,
+    }
+}
+
+/// The bytes of the side information.
+#[inline]
+#[tactic(auto, unfolding(frame_header::specs::Tables::side_size_of))]
+pub(crate) fn side_size(version: Version, channels: u8) -> usize
+    ensures { result ≡ side_size_of (class_with version 0 channels) }
+{
+    match (version, channels == 1) {
+        (Version::One, true) => 17,
+        (Version::One, false) => 32,
+        (Version::Two | Version::TwoFive, true) => 9,
+        (Version::Two | Version::TwoFive, false) => 17,
+    }
+}
