@@ -23,23 +23,23 @@ use Rattle.sync_survey.proofs.RunsLaws.{both}
 
 -- ---- the first byte of a header
 
--- twelve ones begin with a byte of ones
-sync_byte : (byte next : ℕ) (rest : List ℕ) → byte < 256 → group 0 12 (bits (byte ∷ next ∷ rest)) ≡ 4095 → byte ≡ 255
+-- eleven ones begin with a byte of ones
+sync_byte : (byte next : ℕ) (rest : List ℕ) → byte < 256 → group 0 11 (bits (byte ∷ next ∷ rest)) ≡ 2047 → byte ≡ 255
 unfolding group
 sync_byte byte next rest below sync =
     let eight : length (bits_of 8 byte) ≡ 8 = length-bits_of 8 byte in
     let behind = bits (next ∷ rest) in
-    let front : take 12 (bits (byte ∷ next ∷ rest)) ≡ bits_of 8 byte ++ take 4 behind =
-    ap (take 12) (bits-cons byte (next ∷ rest)) ∙ ap (λ n. take (n + 4) (bits_of 8 byte ++ behind)) (sym eight) ∙ take-append-add (bits_of 8 byte) behind 4 in
-    let four : length (take 4 behind) ≡ 4 = omega (arith, length-take 4 behind, length-bits (next ∷ rest)) in
-    let whole : number (take 12 (bits (byte ∷ next ∷ rest))) ≡ byte * 16 + number (take 4 behind) =
-    ap number front ∙ number-append (bits_of 8 byte) (take 4 behind) ∙ (λ i. number-bits_of-below 8 byte below i * 2 ^ four i + number (take 4 behind)) in
-    let few : number (take 4 behind) < 16 = subst (λ n. number (take 4 behind) < 2 ^ n) four (number-below (take 4 behind) (AreBits-take 4 behind (AreBits-bits (next ∷ rest)))) in
+    let front : take 11 (bits (byte ∷ next ∷ rest)) ≡ bits_of 8 byte ++ take 3 behind =
+    ap (take 11) (bits-cons byte (next ∷ rest)) ∙ ap (λ n. take (n + 3) (bits_of 8 byte ++ behind)) (sym eight) ∙ take-append-add (bits_of 8 byte) behind 3 in
+    let three : length (take 3 behind) ≡ 3 = omega (arith, length-take 3 behind, length-bits (next ∷ rest)) in
+    let whole : number (take 11 (bits (byte ∷ next ∷ rest))) ≡ byte * 8 + number (take 3 behind) =
+    ap number front ∙ number-append (bits_of 8 byte) (take 3 behind) ∙ (λ i. number-bits_of-below 8 byte below i * 2 ^ three i + number (take 3 behind)) in
+    let few : number (take 3 behind) < 8 = subst (λ n. number (take 3 behind) < 2 ^ n) three (number-below (take 3 behind) (AreBits-take 3 behind (AreBits-bits (next ∷ rest)))) in
     omega (arith, few, sym whole ∙ sync)
 
-readable_sync : (h : List ℕ) → is_readable h ≡ true → group 0 12 h ≡ 4095
+readable_sync : (h : List ℕ) → is_readable h ≡ true → group 0 11 h ≡ 2047
 unfolding is_readable
-readable_sync h is = eqb-true _ _ (both _ _ (both _ _ (both _ _ is).0).0).0
+readable_sync h is = eqb-true _ _ (both _ _ (both _ _ (both _ _ (both _ _ is).0).0).0).0
 
 readable_cases : (h : List ℕ) (b : Bool) → is_readable h ≡ b → header_in h ≢ Err No → is_readable h ≡ true
 readable_cases h true is header = is

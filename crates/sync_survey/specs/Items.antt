@@ -1,10 +1,9 @@
 -- What stands at an offset of a file: frames (ISO/IEC 11172-3 and 13818-3, 2.4.1), blocks of tags, single zero bytes.
 use Rattle.std.specs.Prelude.{◌≡◌, ◌≢◌, ℕ, ◌-◌, ◌==◌, ◌&&◌, nat_le, if◌then◌else◌, Bool, List, [], ◌∷◌, length, take, drop, Option, Some, None, Result, Ok, Err}
-use Rattle.frame_header.specs.declared.version.Version.{Version}
-use Rattle.frame_header.specs.declared.version.Version.TheVariants.{One, Two}
 use Rattle.frame_header.specs.declared.header.NotHeader.{NotHeader}
 use Rattle.frame_header.specs.declared.header.NotHeader.TheVariants.{Free as FreeHeader, No}
-use Rattle.frame_header.specs.Fields.{HeaderFields, ClassFields}
+use Rattle.frame_header.specs.Fields.{HeaderFields}
+pub use Rattle.frame_header.specs.Fields.{same_class}
 use Rattle.frame_header.specs.Tables.{class_of, length_of}
 use Rattle.frame_header.specs.Reading.{header_at}
 use Rattle.tag_blocks.specs.declared.block.Block.{Block as TagBlock}
@@ -61,12 +60,3 @@ size_of Nothing = 0
 -- the item at the offset doesn't pass the end of the file
 abbrev pub fits : List ℕ → ℕ → Item → Bool
 fits file at item = nat_le (size_of item) (length file - at)
-
--- the number of a version: 1 for MPEG-1, 2 for MPEG-2
-abbrev pub version_number : Version → ℕ
-version_number One = 1
-version_number Two = 2
-
--- version, sampling frequency and number of channels are the same
-unfoldable pub same_class : ClassFields → ClassFields → Bool
-same_class c d = (version_number c.version == version_number d.version) && (c.frequency_index == d.frequency_index) && (c.channels == d.channels)

@@ -84,9 +84,8 @@ impl Item {
 }
 
 /// Whether version, sampling frequency and number of channels are the same.
-#[tactic(auto, unfolding(crate::specs::Items::same_class))]
 pub(crate) fn is_same_class(a: Class, b: Class) -> bool
     ensures { result ≡ same_class a b }
 {
-    a.version == b.version && a.frequency_index == b.frequency_index && a.channels == b.channels
+    a.is_same(b)
 }
