@@ -6,7 +6,7 @@ use Rattle.std.specs.Option.{option_or}
 use Rattle.std.proofs.Math.IntN.{neg_ℤ, +ℤ-neg_ℤ_cancel}
 use Rattle.std.proofs.lemmas.Bool.{false≢true, ltb-false, le-ltb}
 use Rattle.frame_header.specs.declared.version.Version.{Version}
-use Rattle.frame_header.specs.declared.version.Version.TheVariants.{One, Two}
+use Rattle.frame_header.specs.declared.version.Version.TheVariants.{One, Two, TwoFive}
 use Rattle.frame_header.specs.Fields.{HeaderFields}
 use Rattle.frame_header.specs.Tables.{granules_of}
 use Rattle.side_info.specs.declared.granule.Granule.{Granule}
@@ -224,6 +224,8 @@ lengths-with shift One true m p a b g h k l = λ i. moved-payload (left_steps sh
 lengths-with shift One false m p a b g h k l = λ i. moved-payload (left_steps shift) g i ∷ moved-payload (right_steps shift) h i ∷ moved-payload (left_steps shift) k i ∷ moved-payload (right_steps shift) l i ∷ []
 lengths-with shift Two true m p a b g h k l = λ i. moved-payload (left_steps shift) g i ∷ []
 lengths-with shift Two false m p a b g h k l = λ i. moved-payload (left_steps shift) g i ∷ moved-payload (right_steps shift) h i ∷ []
+lengths-with shift TwoFive true m p a b g h k l = λ i. moved-payload (left_steps shift) g i ∷ []
+lengths-with shift TwoFive false m p a b g h k l = λ i. moved-payload (left_steps shift) g i ∷ moved-payload (right_steps shift) h i ∷ []
 
 pub lengths-moved : (shift : Shift) (h : HeaderFields) (s : Side) → IsShaped s → part_lengths h (moved_side shift s) ≡ part_lengths h s
 unfolding granules_in

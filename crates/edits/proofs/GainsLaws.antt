@@ -2,8 +2,6 @@
 use Rattle.std.proofs.Common.{◌≡◌, ℕ, ◌<◌, Bool, true, false, cond, ap, arith, ℤ, pos, negsuc, ◌+ℤ◌}
 use Rattle.std.specs.Prelude.{MatchBool, unsigned_abs}
 use Rattle.std.specs.Int.{int_rem_euclid}
-use Rattle.frame_header.specs.declared.version.Version.TheVariants.{One, Two}
-use Rattle.side_info.specs.Granule.{LacksPreflag}
 use Rattle.frame_header.specs.declared.version.Version.{Version}
 use Rattle.frame_header.specs.Fields.{ClassFields}
 use Rattle.side_info.specs.declared.granule.Granule.{Granule}
@@ -18,10 +16,6 @@ below : (sum : ℤ) → unsigned_abs (int_rem_euclid sum (pos 256)) < 256
 below (pos n) = omega arith
 below (negsuc n) = omega arith
 
-same_preflag : (version : Version) (g : Granule) (gain : ℕ) → LacksPreflag version g → LacksPreflag version (record g { global_gain = gain })
-same_preflag One g gain lacks = tt
-same_preflag Two g gain lacks = lacks
-
 moved-fits : (version : Version) (steps : ℤ) (g : Granule) → GranuleFits version g → GranuleFits version (moved steps g)
 moved-fits version steps g fits =
     elim (is_silent g) as (λ b. GranuleFits version (cond b g (record g { global_gain = moved_gain steps g.global_gain }))) [
@@ -32,7 +26,7 @@ moved-fits version steps g fits =
         global_gain = below (pos g.global_gain +ℤ steps);
         scalefac_compress = fits.scalefac_compress;
         detail = fits.detail;
-        preflag = same_preflag version g (moved_gain steps g.global_gain) fits.preflag;
+        preflag = fits.preflag;
       }
     ]
 

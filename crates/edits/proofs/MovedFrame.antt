@@ -40,6 +40,7 @@ last_granule-moved shift =
     (λ f s. moved-alike (right_steps shift) (granule_in s 1 1))
     (λ f s. moved-alike (left_steps shift) (granule_in s 0 0))
     (λ f s. moved-alike (right_steps shift) (granule_in s 0 1))
+    (λ f channels two. two)
 
 -- moved gains leave a frame as it is from two bytes before its area on
 last_bytes-moved : (shift : Shift) (h : HeaderFields) (frame : List ℕ) → IsClass (class_of h) → AreBytes frame → HasRoom h frame
