@@ -1,5 +1,5 @@
 #!/usr/bin/env python3
-"""Reads MP3 files (Layer III of MPEG-1 and MPEG-2), apart from the program that it helps to check.
+"""Reads MP3 files (Layer III of MPEG-1, MPEG-2 and MPEG-2.5), apart from the program that it helps to check.
 
   frames.py survey FILE            what stands in the file; or why it is refused, and status 1
   frames.py refusal FILE           of a file that is refused: what the program's line says behind the name
@@ -20,7 +20,7 @@ header, check word and side information) end to end; a frame's main data begin m
 import array
 import sys
 import wave
-from dataclasses import dataclass, field
+from dataclasses import dataclass, field, replace
 
 MODES = ("stereo", "joint", "dual", "mono")
 MOST_JUNK = 65_536
@@ -30,7 +30,7 @@ MOST_FRAMES = 2_900_000
 
 @dataclass(frozen=True)
 class Version:
-    """What the two versions have apart. Pairs are for one channel and for two."""
+    """What the versions have apart. Pairs are for one channel and for two."""
 
     name: str
     rates: tuple  # kbit/s
@@ -65,6 +65,9 @@ MPEG_2 = Version(
     granules=1,
     granule_bits=63,
 )
+
+# The side information and the rates of MPEG-2, at half its frequencies.
+MPEG_2_5 = replace(MPEG_2, name="MPEG-2.5", frequencies=(11025, 12000, 8000))
 
 
 class Refused(Exception):
@@ -101,7 +104,7 @@ class Frame:
     def __init__(self, header, offset):
         self.offset = offset
         self.header = header
-        self.version = MPEG_1 if header[1] & 8 else MPEG_2
+        self.version = MPEG_1 if header[1] & 8 else MPEG_2 if header[1] & 16 else MPEG_2_5
         self.protected = not header[1] & 1
         self.rate = self.version.rates[(header[2] >> 4) - 1]
         self.frequency = self.version.frequencies[header[2] >> 2 & 3]
@@ -158,7 +161,7 @@ class Free:
 def header_at(data, at):
     """A frame by its header, or a header of free format."""
     header = data[at : at + 4]
-    if len(header) < 4 or header[0] != 0xFF or header[1] & 0xF6 != 0xF2:
+    if len(header) < 4 or header[0] != 0xFF or header[1] & 0xE6 != 0xE2 or header[1] & 0x18 == 0x08:
         return None
     rate, frequency = header[2] >> 4, header[2] >> 2 & 3
     if rate == 15 or frequency == 3:
