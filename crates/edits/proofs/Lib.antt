@@ -2,7 +2,6 @@
 pub mod GainsBack
 pub mod RangeLaws
 pub mod MovingLaws
-pub mod OrderLaws
 pub mod PassLaws
 pub mod OutputLaws
 pub mod GainLaws

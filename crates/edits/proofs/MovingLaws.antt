@@ -23,7 +23,7 @@ use Rattle.sync_survey.specs.MainData.{rows_of}
 use Rattle.sync_survey.specs.declared.places.Start.{Start}
 use Rattle.sync_survey.specs.declared.survey_fault.SurveyFault.TheVariants.{TooLong}
 use Rattle.sync_survey.specs.Faults.{SurveyFields, fields_from, surveyed, longest_file}
-use Rattle.sync_survey.specs.Survey.{survey_of}
+use Rattle.sync_survey.specs.Survey.{survey_of, AreLaid}
 use Rattle.sync_survey.proofs.ItemsLaws.{stands-at, header_front-in_range}
 use Rattle.sync_survey.proofs.RunsLaws.{cons_list, IsItemOf, item_of-is, run-ends, bytes-ends}
 use Rattle.sync_survey.proofs.StartLaws.{start-first, start-front}
@@ -31,7 +31,7 @@ use Rattle.sync_survey.proofs.SurveyLaws.{surveyed-is, walked, overhead-within}
 use Rattle.edits.specs.declared.shift.Shift.{Shift}
 use Rattle.edits.specs.Gains.{moved_side}
 use Rattle.edits.specs.Edited.{moved_frame, moved_item, moved_items, moved_stream, edited}
-use Rattle.edits.specs.Moving.{row_length, row_end, AreInOrder, AreRowsOf, moved_row_bytes, bytes_between, moved_from}
+use Rattle.edits.specs.Moving.{row_end, AreRowsOf, moved_row_bytes, bytes_between, moved_from}
 use Rattle.edits.proofs.EditedItems.{moved-nil, moved-cons}
 
 pub moved_from-nil : (shift : Shift) (file : List ℕ) (at : ℕ) → moved_from shift file at [] ≡ drop at file
@@ -191,9 +191,9 @@ written-edited shift file allowed s e =
 -- ---- frames one behind the other
 
 -- they end where they may
-pub order_end : (from : ℕ) (rows : List Row) (to : ℕ) → AreInOrder from rows to → from ≤ to
-order_end from [] to order = order
-order_end from (row ∷ rows) to order = omega (arith, order.0, order_end (row_end row) rows to order.2)
+pub laid_end : (from : ℕ) (rows : List Row) (to : ℕ) → AreLaid from rows to → from ≤ to
+laid_end from [] to laid = laid
+laid_end from (row ∷ rows) to laid = omega (arith, laid.0, laid_end (row_end row) rows to laid.2)
 
 -- what is left to be written at the frame at i
 pub left_at : (shift : Shift) (file : List ℕ) (at : ℕ) (rows : List Row) (i : ℕ) (row : Row) → drop i rows ≡ row ∷ drop (i + 1) rows

@@ -1,10 +1,8 @@
 -- A file that is read once from front to back and written with moved gains.
-use Rattle.std.specs.Prelude.{◌≡◌, ℕ, ◌+◌, ◌-◌, ◌≤◌, List, [], ◌∷◌, ◌++◌, take, drop}
+use Rattle.std.specs.Prelude.{◌≡◌, ℕ, ◌+◌, ◌-◌, List, [], ◌∷◌, ◌++◌, take, drop}
 use Rattle.frame_header.specs.Tables.{class_of, length_of}
-use Rattle.side_info.specs.Side.{SideFits}
 use Rattle.side_info.specs.Frame.{side_in, frame_with}
 use Rattle.sync_survey.specs.declared.rows.Row.{Row}
-use Rattle.sync_survey.specs.Faults.{SurveyFields, longest_file}
 use Rattle.edits.specs.declared.shift.Shift.{Shift}
 use Rattle.edits.specs.Gains.{moved_side}
 
@@ -14,17 +12,6 @@ row_length row = length_of (class_of row.header) row.header.slot
 
 abbrev pub row_end : Row → ℕ
 row_end row = row.offset + row_length row
-
--- These frames stand one behind the other between two offsets, and their side information is within its bits.
-abbrev pub AreInOrder : ℕ → List Row → ℕ → Type 0
-AreInOrder from [] to = from ≤ to
-AreInOrder from (row ∷ rows) to = (from ≤ row.offset) × SideFits (class_of row.header) row.side × AreInOrder (row_end row) rows to
-
--- junk, first frame and frames stand in this order within the file, whose length is one that a file may have
-pub record IsInOrder (s : SurveyFields) : Type 0 where
-  pub junk : s.junk ≤ s.first
-  pub frames : AreInOrder s.first s.frames s.length
-  pub few : s.length ≤ longest_file
 
 -- the side information of the row is what stands in the file
 abbrev pub IsRowOf : List ℕ → Row → Type 0

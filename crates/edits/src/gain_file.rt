@@ -4,11 +4,10 @@ ghost use Rattle.bit_fields.specs.Bits.{AreBytes};
 ghost use Rattle.outside.specs.Files.{Holds, IsThere};
 ghost use Rattle.outside.specs.Counts.{NoneFell, OnlyReads};
 ghost use Rattle.sync_survey.specs.Faults.{tells};
-ghost use Rattle.sync_survey.specs.Survey.{survey_of};
+ghost use Rattle.sync_survey.specs.Survey.{survey_of, IsLaidOut};
 ghost use Rattle.edits.specs.Command.{HoldsStreams};
 ghost use Rattle.edits.specs.Edited.{edited, gained, most_frames};
 ghost use Rattle.edits.specs.Gain.{gain_command, holding, IsInputFault, IsPassFault};
-ghost use Rattle.edits.specs.Moving.{IsInOrder};
 ghost use Rattle.edits.specs.Left.{seen, IsDone, Leaves, HasNumbers, IsOfInput, IsOfPass};
 
 use crate::edit::range_fault;
@@ -32,7 +31,7 @@ fn survey_input<D: Folder>(
     ensures there { OnOk result (IsThere (D.files folder.old) name.now) }
     ensures gained { IfOk result (λ s. (bytes : List ℕ) → Holds (D.files folder.old) name.now bytes → gained shift.now bytes ≡ Ok (edited shift.now bytes (tells s))) }
     ensures surveyed { IfOk result (λ s. (bytes : List ℕ) → Holds (D.files folder.old) name.now bytes → survey_of bytes most_frames ≡ Ok (tells s)) }
-    ensures ordered { IfOk result (λ s. IsInOrder (tells s)) }
+    ensures laid { IfOk result (λ s. IsLaidOut (tells s)) }
     ensures octets { OnOk result ((bytes : List ℕ) → Holds (D.files folder.old) name.now bytes → AreBytes bytes) }
     ensures refused { IfErr result (IsInputFault shift.now name.now (seen (D.files folder.old) (D.counts folder.old)) (seen (D.files folder.new) (D.counts folder.new))) }
     ensures numbers { IfErr result IsOfInput }
@@ -58,7 +57,7 @@ fn write_output<D: Folder>(
 ) -> Result<(), EditFault>
     requires apart { input.now ≢ output.now }
     requires there { IsThere (D.files folder.old) input.now }
-    requires ordered { IsInOrder (tells survey.now) }
+    requires laid { IsLaidOut (tells survey.now) }
     requires surveyed { (bytes : List ℕ) → Holds (D.files folder.old) input.now bytes → survey_of bytes most_frames ≡ Ok (tells survey.now) }
     ensures written { OnOk result ((bytes : List ℕ) → Holds (D.files folder.old) input.now bytes → D.files folder.new ≡ holding (D.files folder.old) output.now (edited shift.now bytes (tells survey.now))) }
     ensures told { is_some (D.files folder.new) ≡ is_some (D.files folder.old) }

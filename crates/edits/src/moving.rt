@@ -8,10 +8,10 @@ ghost use Rattle.outside.specs.Files.{appended, Holds, IsThere};
 ghost use Rattle.outside.specs.Feed.{IsFedFrom};
 ghost use Rattle.outside.specs.Passed.{PassedOn, AppendedPrefix};
 ghost use Rattle.sync_survey.specs.Faults.{tells};
-ghost use Rattle.sync_survey.specs.Survey.{survey_of};
+ghost use Rattle.sync_survey.specs.Survey.{survey_of, AreLaid, IsLaidOut};
 ghost use Rattle.edits.specs.Gains.{moved_side as moved_side_lem};
 ghost use Rattle.edits.specs.Edited.{most_frames, edited};
-ghost use Rattle.edits.specs.Moving.{row_length, row_end, AreInOrder, IsInOrder, IsRowOf, AreRowsOf, moved_row_bytes, bytes_between, moved_from};
+ghost use Rattle.edits.specs.Moving.{row_length, row_end, IsRowOf, AreRowsOf, moved_row_bytes, bytes_between, moved_from};
 ghost use Rattle.edits.specs.Pass.{IsReady, Writes, WritesPrefix, Appends, AppendsPrefix, HasCopyCause};
 
 use crate::gains::moved_side;
@@ -213,7 +213,7 @@ impl<'a> Pass<'a> {
         waiting: &mut WriteBuffer,
     ) -> Result<(), CopyFault>
         requires ready { IsReady self.now.input.now self.now.output.now self.now.length (D.files folder.old) feed.old }
-        requires ordered { AreInOrder from rows.now self.now.length }
+        requires laid { AreLaid from rows.now self.now.length }
         requires told { (file : List ℕ) → Holds (D.files folder.old) self.now.input.now file → AreRowsOf file rows.now }
         ensures written { OnOk result (Writes self.now.input.now self.now.output.now (λ file. moved_from self.now.shift.now file from rows.now) waiting.old waiting.new (D.files folder.old) (D.files folder.new)) }
         ensures prefix { OnErr result (WritesPrefix self.now.input.now self.now.output.now (λ file. moved_from self.now.shift.now file from rows.now) waiting.old (D.files folder.old) (D.files folder.new)) }
@@ -260,7 +260,7 @@ pub(crate) fn write_moved<D: Folder>(
     requires apart { input.now ≢ output.now }
     requires source { IsThere (D.files folder.old) input.now }
     requires target { IsThere (D.files folder.old) output.now }
-    requires ordered { IsInOrder (tells survey.now) }
+    requires laid { IsLaidOut (tells survey.now) }
     requires exact { (file : List ℕ) → Holds (D.files folder.old) input.now file → survey_of file most_frames ≡ Ok (tells survey.now) }
     requires fed { IsFedFrom feed.old (D.files folder.old) input.now }
     requires none { waiting.old ≡ [] }

@@ -4,7 +4,6 @@ use Rattle.std.proofs.lemmas.Result.{err_from_is_err_and}
 use Rattle.sync_survey.specs.Faults.{tells}
 use Rattle.edits.specs.Edited.{range_fault}
 use Rattle.edits.specs.Left.{seen}
-use Rattle.edits.proofs.OrderLaws.{in_order}
 use Rattle.edits.proofs.GainLaws.{survey_is_input, survey_numbers, range_is_input, range_of_input, gained-free}
 use Rattle.edits.proofs.gain_file.survey_input.Goals as goal
 
@@ -30,7 +29,3 @@ returns-in-Some-clause-numbers g c = range_of_input c.in-Some.fault c.in-Some.en
 pub returns-in-None-clause-gained : goal.returns-in-None-clause-gained
 returns-in-None-clause-gained g c bytes holds =
     gained-free c.args.shift.now bytes (tells c.in_ok-survey.survey) (c.in_ok-survey.ensures.exact bytes holds) (sym (c.in-None.ensures.fault ∙ ap (range_fault c.args.shift.now) c.frames.ensures))
-
-pub returns-in-None-clause-ordered : goal.returns-in-None-clause-ordered
-returns-in-None-clause-ordered g c =
-    in_order (tells c.in_ok-survey.survey) c.in_ok-survey.ensures.laid

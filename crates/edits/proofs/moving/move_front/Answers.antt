@@ -1,5 +1,5 @@
 -- Moved gains fit as those before.
-use Rattle.std.proofs.Common.{◌∙◌, ap, subst, sym}
+use Rattle.std.proofs.Common.{subst, sym}
 use Rattle.frame_header.specs.Tables.{class_of}
 use Rattle.side_info.specs.Side.{SideFits}
 use Rattle.edits.proofs.GainsLaws.{SideFits-moved_side}

@@ -9,7 +9,7 @@ use Rattle.edits.specs.declared.shift.Shift.{Shift}
 use Rattle.edits.specs.Edited.{most_frames, edited}
 use Rattle.edits.specs.Moving.{AreRowsOf, bytes_between, moved_from}
 use Rattle.edits.specs.Pass.{Writes, WritesPrefix, HasCopyCause}
-use Rattle.edits.proofs.MovingLaws.{order_end, survey_of-length, survey_of-rows, survey_of-written}
+use Rattle.edits.proofs.MovingLaws.{laid_end, survey_of-length, survey_of-rows, survey_of-written}
 use Rattle.edits.proofs.PassLaws.{on_err, writes_held, writes_there, writes_then, writes_as, writes_all, writes_end, prefix_as, prefix_then, cause_later, causes_later}
 use Rattle.edits.proofs.moving.write_moved.Goals as goal
 
@@ -29,14 +29,14 @@ copy-requires-clause-ready g c = record {
   source = c.requires.source;
   target = c.requires.target;
   length_is = λ file holds. survey_of-length file most_frames (tells c.args.survey.now) (c.requires.exact file holds) ∙ sym c.length.ensures;
-  few = subst (λ n. n ≤ longest_file) (sym c.length.ensures) c.requires.ordered.few;
+  few = subst (λ n. n ≤ longest_file) (sym c.length.ensures) c.requires.laid.few;
   fed_from = c.requires.fed;
 }
 
 pub copy-requires-clause-within : goal.copy-requires-clause-within
 copy-requires-clause-within g c =
     let s = tells c.args.survey.now in
-    omega (arith, c.length.ensures, ap (λ r. r.0) c.junk-junk.ensures, c.requires.ordered.junk, order_end s.first s.frames s.length c.requires.ordered.frames)
+    omega (arith, c.length.ensures, ap (λ r. r.0) c.junk-junk.ensures, c.requires.laid.junk, laid_end s.first s.frames s.length c.requires.laid.frames)
 
 pub returns-in_err-copy-clause-prefix : goal.returns-in_err-copy-clause-prefix
 returns-in_err-copy-clause-prefix g c =

@@ -1,20 +1,16 @@
 -- The bytes before the main data with moved gains, and then the rest of the frame.
-use Rattle.std.proofs.Common.{◌≡◌, ◌≤◌, ◌++◌, ◌-◌, List, ℕ, take, drop, refl, subst, sym, arith, ap, ap₂, ◌∙◌, length, length-drop}
-use Rattle.std.proofs.lemmas.List.{take_all, take-take}
-use Rattle.std.proofs.lemmas.Result.{err_from_is_err_and, on_ok_weaker, on_err_weaker}
-use Rattle.frame_header.specs.Fields.{HeaderFields}
+use Rattle.std.proofs.Common.{◌≡◌, ◌≤◌, ◌++◌, ◌-◌, List, ℕ, take, drop, refl, subst, arith, ap, ap₂, ◌∙◌, length, length-drop}
+use Rattle.std.proofs.lemmas.List.{take_all}
+use Rattle.std.proofs.lemmas.Result.{err_from_is_err_and}
 use Rattle.frame_header.specs.Tables.{class_of, overhead_of}
-use Rattle.side_info.specs.declared.side.Side.{Side}
 use Rattle.side_info.specs.Frame.{side_in, frame_with}
 use Rattle.side_info.proofs.FrameLaws.{side_in-take, frame_with-take}
 use Rattle.sync_survey.specs.declared.rows.Row.{Row}
-use Rattle.outside.specs.Files.{Files, Holds, IsThere, appended}
+use Rattle.outside.specs.Files.{Holds, appended}
 use Rattle.edits.specs.declared.shift.Shift.{Shift}
 use Rattle.edits.specs.Gains.{moved_side}
 use Rattle.edits.specs.Moving.{row_length, IsRowOf, moved_row_bytes}
-use Rattle.edits.specs.Pass.{HasCopyCause}
 use Rattle.outside.specs.Passed.{PassedOn, AppendedPrefix}
-use Rattle.std.specs.Prelude.{IfErr}
 use Rattle.edits.proofs.PassLaws.{on_err, prefix_nothing, passed_ready, appended_is_there, writes_piece, prefix_piece, pushed_both, pushed_front, pushed_part, cause_later}
 use Rattle.edits.proofs.moving.Pass.move_frame.Goals as goal
 

@@ -3,10 +3,11 @@ use Rattle.std.proofs.Common.{◌≡◌, ◌+◌, ◌<◌, ◌++◌, ◌∷◌, 
 use Rattle.std.proofs.lemmas.List.{drop_all}
 use Rattle.std.proofs.lemmas.Result.{err_from_is_err_and, on_ok_weaker, on_err_weaker}
 use Rattle.sync_survey.specs.declared.rows.Row.{Row}
+use Rattle.sync_survey.specs.Survey.{AreLaid}
 use Rattle.edits.specs.declared.shift.Shift.{Shift}
-use Rattle.edits.specs.Moving.{row_end, AreInOrder, AreRowsOf, moved_row_bytes, bytes_between, moved_from}
+use Rattle.edits.specs.Moving.{row_end, AreRowsOf, moved_row_bytes, bytes_between, moved_from}
 use Rattle.edits.proofs.RangeLaws.{next_row}
-use Rattle.edits.proofs.MovingLaws.{order_end, left_at, left_behind}
+use Rattle.edits.proofs.MovingLaws.{laid_end, left_at, left_behind}
 use Rattle.edits.proofs.PassLaws.{on_err, up_to_begun, up_to_held, up_to_more, up_to_prefix, up_to_last, up_to_last_prefix, cause_behind, causes_behind}
 use Rattle.edits.proofs.moving.Pass.move_frames.Goals as goal
 
@@ -14,8 +15,8 @@ use Rattle.edits.proofs.moving.Pass.move_frames.Goals as goal
 here : (rows : List Row) (i : ℕ) (row : Row) → i < length rows → row ≡ get_or rows i row → drop i rows ≡ row ∷ drop (i + 1) rows
 here rows i row lt is = next_row rows i row lt ∙ ap (λ r. r ∷ drop (i + 1) rows) (sym is)
 
-in_order : (at size : ℕ) (rows : List Row) (i : ℕ) (row : Row) → drop i rows ≡ row ∷ drop (i + 1) rows → AreInOrder at (drop i rows) size → AreInOrder at (row ∷ drop (i + 1) rows) size
-in_order at size rows i row is order = subst (λ l. AreInOrder at l size) is order
+laid : (at size : ℕ) (rows : List Row) (i : ℕ) (row : Row) → drop i rows ≡ row ∷ drop (i + 1) rows → AreLaid at (drop i rows) size → AreLaid at (row ∷ drop (i + 1) rows) size
+laid at size rows i row is before = subst (λ l. AreLaid at l size) is before
 
 told : (file : List ℕ) (rows : List Row) (i : ℕ) (row : Row) → drop i rows ≡ row ∷ drop (i + 1) rows → AreRowsOf file (drop i rows) → AreRowsOf file (row ∷ drop (i + 1) rows)
 told file rows i row is all = subst (AreRowsOf file) is all
@@ -28,7 +29,7 @@ pub loop-row-init : goal.loop-row-init
 loop-row-init g c =
     let self = c.args.self.now in
     record {
-      in_order = c.requires.ordered;
+      laid = c.requires.laid;
       told = c.requires.told;
       up_to = up_to_begun self.input.now self.output.now c.requires.ready.apart (λ file. moved_from self.shift.now file c.args.from c.args.rows.now) c.args.waiting.now (g.D.Folder.files c.args.folder.now) c.requires.ready.target;
       ready = c.requires.ready;
@@ -40,8 +41,8 @@ copy-requires-clause-within g c =
     let rows = c.args.rows.now in
     let row = c.row-item.result in
     let i = c.loop-row.row-index in
-    let order = in_order c.loop-row.at c.args.self.now.length rows i row (here rows i row (omega (arith, c.loop-row-test.true)) c.row-item.is) c.loop-row.invariant.in_order in
-    omega (arith, order_end (row_end row) (drop (i + 1) rows) c.args.self.now.length order.2)
+    let all_laid = laid c.loop-row.at c.args.self.now.length rows i row (here rows i row (omega (arith, c.loop-row-test.true)) c.row-item.is) c.loop-row.invariant.laid in
+    omega (arith, laid_end (row_end row) (drop (i + 1) rows) c.args.self.now.length all_laid.2)
 
 pub returns-in_err-copy-clause-prefix : goal.returns-in_err-copy-clause-prefix
 returns-in_err-copy-clause-prefix g c =
@@ -65,8 +66,8 @@ move_frame-requires-clause-within g c =
     let rows = c.args.rows.now in
     let row = c.row-item.result in
     let i = c.loop-row.row-index in
-    let order = in_order c.loop-row.at c.args.self.now.length rows i row (here rows i row (omega (arith, c.loop-row-test.true)) c.row-item.is) c.loop-row.invariant.in_order in
-    order_end (row_end row) (drop (i + 1) rows) c.args.self.now.length order.2
+    let all_laid = laid c.loop-row.at c.args.self.now.length rows i row (here rows i row (omega (arith, c.loop-row-test.true)) c.row-item.is) c.loop-row.invariant.laid in
+    laid_end (row_end row) (drop (i + 1) rows) c.args.self.now.length all_laid.2
 
 pub move_frame-requires-clause-told : goal.move_frame-requires-clause-told
 move_frame-requires-clause-told g c file holds =
@@ -114,13 +115,13 @@ loop-row-preserved g c =
     let row = c.row-item.result in
     let i = c.loop-row.row-index in
     let is = here rows i row (omega (arith, c.loop-row-test.true)) c.row-item.is in
-    let order = in_order c.loop-row.at self.length rows i row is c.loop-row.invariant.in_order in
+    let all_laid = laid c.loop-row.at self.length rows i row is c.loop-row.invariant.laid in
     let end = c.in_ok-at.at in
     let end_is : row_end row ≡ end = sym c.in_ok-at.ensures.end in
     let before = up_to_more self.input.now self.output.now apart _ (λ file. moved_from self.shift.now file c.loop-row.at (drop i rows)) _ _ _ _ c.loop-row.invariant.up_to
     (λ file. bytes_between file c.loop-row.at row.offset) (left self.shift.now rows i row) (λ file holds. left_at self.shift.now file c.loop-row.at rows i row is) _ _ c.in_ok-copy.ensures.written in
     record {
-      in_order = subst (λ n. AreInOrder n (drop (i + 1) rows) self.length) end_is order.2;
+      laid = subst (λ n. AreLaid n (drop (i + 1) rows) self.length) end_is all_laid.2;
       told = λ file holds. (told file rows i row is (c.loop-row.invariant.told file holds)).1;
       up_to = up_to_more self.input.now self.output.now apart _ (left self.shift.now rows i row) _ _ _ _ before
           (λ file. moved_row_bytes self.shift.now file row) (λ file. moved_from self.shift.now file end (drop (i + 1) rows))

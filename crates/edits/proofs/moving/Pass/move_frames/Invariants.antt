@@ -1,13 +1,14 @@
 -- The frames before went on, with their gains moved, and so did what stands before and between them.
 use Rattle.std.proofs.Common.{◌≡◌, ℕ, List, drop}
 use Rattle.outside.specs.Files.{Holds}
-use Rattle.edits.specs.Moving.{AreInOrder, AreRowsOf, moved_from}
+use Rattle.edits.specs.Moving.{AreRowsOf, moved_from}
+use Rattle.sync_survey.specs.Survey.{AreLaid}
 use Rattle.edits.specs.Pass.{IsReady, WritesUpTo}
 use Rattle.edits.proofs.moving.Pass.move_frames.Given as goal
 
 abbrev pub invariant-loop-row : goal.invariant-loop-row
 invariant-loop-row g l = record {
-  in_order : AreInOrder l.at (drop l.row-index l.rows) l.self.length;
+  laid : AreLaid l.at (drop l.row-index l.rows) l.self.length;
   told : (file : List ℕ) → Holds (g.D.Folder.files l.fn.folder) l.self.input.now file → AreRowsOf file (drop l.row-index l.rows);
   up_to : WritesUpTo l.self.input.now l.self.output.now (λ file. moved_from l.self.shift.now file l.fn.from l.fn.rows) (λ file. moved_from l.self.shift.now file l.at (drop l.row-index l.rows)) l.fn.waiting l.waiting
       (g.D.Folder.files l.fn.folder) (g.D.Folder.files l.folder);
