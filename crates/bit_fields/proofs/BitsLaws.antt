@@ -1,12 +1,12 @@
 -- The laws of the bits of bytes and of the numbers that bits spell, general in their widths.
-use Rattle.std.proofs.Common.{◌≡◌, ℕ, zero, suc, ◌+◌, ◌-◌, ◌*◌, ◌/◌, ◌%◌, ◌^◌, ◌<◌, ◌≤◌, List, [], ◌∷◌, ◌++◌, length, get_or, take, drop, refl, sym, ap, ap₂, ◌∙◌, append_assoc, arith, add_assoc, append-nil, one-add, mul_assoc, mod-eq_of_lt, length-append, length-drop, take-append-drop}
+use Rattle.std.proofs.Common.{◌≡◌, ℕ, zero, suc, ◌+◌, ◌-◌, ◌*◌, ◌/◌, ◌%◌, ◌^◌, ◌<◌, ◌≤◌, List, [], ◌∷◌, ◌++◌, length, get_or, take, drop, refl, sym, ap, ap₂, ◌∙◌, append_assoc, arith, add_assoc, append-nil, one-add, mul_assoc, mod-eq_of_lt, length-append, length-drop, take-append-drop, lit<}
 use Rattle.std.proofs.Math.Nat.{add_comm, zero-add, suc-add, pow-suc, mod-one, add-mul}
 use Rattle.std.proofs.Math.Seq.{take-nil, take-append-add, drop-append-add}
 use Rattle.std.proofs.lemmas.List.{take_at, drop_at, length-take-le, drop_all, nil_from_length}
-use Rattle.std.specs.Int.{from_be_bytes, w32, w64}
+use Rattle.std.specs.Int.{from_be_bytes, to_be_bytes, w32, w64}
 use mir.Val.{Fits}
 use mir.Syntax.{w8}
-use Rattle.std.proofs.lemmas.Nat.{pow-add, shr-shr, shr_split, mod-pow-add, shr_high, mul-add-lt}
+use Rattle.std.proofs.lemmas.Nat.{pow-add, shr-shr, shr_split, mod-pow-add, shr_high, mul-add-lt, mod_below, from_be_bytes-to_be_bytes_8}
 use Rattle.std.proofs.lemmas.Nat.Bits.{bit_at-lt, bit_at_cat_low}
 use Rattle.bit_fields.specs.Bits.{bits_of, number, bits, bytes, AreBits, AreBytes}
 
@@ -329,3 +329,11 @@ number-eight a b c d e f g h all =
 pub number-bits-be_bytes_8 : (xs : List ℕ) → length xs ≡ 8 → AreBytes xs → number (bits xs) ≡ from_be_bytes w64 xs
 number-bits-be_bytes_8 (a ∷ b ∷ c ∷ d ∷ e ∷ f ∷ g ∷ h ∷ []) l all = number-eight a b c d e f g h all
 number-bits-be_bytes_8 xs l all = absurd (omega arith)
+
+AreBytes-to_be_bytes_8 : (n : ℕ) → AreBytes (to_be_bytes w64 n)
+AreBytes-to_be_bytes_8 n =
+    (mod_below _ 256 (lit< tt), (mod_below _ 256 (lit< tt), (mod_below _ 256 (lit< tt), (mod_below _ 256 (lit< tt), (mod_below _ 256 (lit< tt), (mod_below _ 256 (lit< tt), (mod_below _ 256 (lit< tt), (mod_below _ 256 (lit< tt), tt))))))))
+
+pub bits-to_be_bytes_8 : (n : ℕ) → n < 2 ^ 64 → bits (to_be_bytes w64 n) ≡ bits_of 64 n
+bits-to_be_bytes_8 n h =
+    bits-bits_of (to_be_bytes w64 n) ∙ ap (bits_of 64) (number-bits-be_bytes_8 (to_be_bytes w64 n) refl (AreBytes-to_be_bytes_8 n) ∙ from_be_bytes-to_be_bytes_8 n h)

@@ -7,11 +7,11 @@ mod writer;
 
 pub use reader::Bits;
 pub use window::number_at;
-pub use writer::put;
+pub use writer::{put, put_byte};
 
 #[cfg(test)]
 mod tests {
-    use super::{Bits, number_at, put};
+    use super::{Bits, number_at, put, put_byte};
 
     // The first eight side bytes of an MPEG-1 frame of two channels, ISO/IEC 11172-3, 2.4.1.7.
     const SIDE: [u8; 8] = [0x00, 0x00, 0x00, 0x08, 0x00, 0x32, 0x00, 0x00];
@@ -47,5 +47,19 @@ mod tests {
         let mut bytes = SIDE;
         put(&mut bytes, 41, 8, 101);
         assert_eq!(rt; bytes, [0x00, 0x00, 0x00, 0x08, 0x00, 0x32, 0x80, 0x00]);
+        put_byte(&mut bytes, 41, 100);
+        assert_eq!(rt; bytes, SIDE);
+        // Among few bytes, and near the end of more than eight.
+        let mut few = [0xff; 3];
+        put(&mut few, 5, 17, 0);
+        assert_eq!(rt; few, [0xf8, 0x00, 0x03]);
+        put_byte(&mut few, 8, 0xab);
+        assert_eq!(rt; few, [0xf8, 0xab, 0x03]);
+        let mut more = [0xff; 10];
+        put(&mut more, 47, 32, 0x8000_0001);
+        assert_eq!(rt;
+            more,
+            [0xff, 0xff, 0xff, 0xff, 0xff, 0xff, 0x00, 0x00, 0x00, 0x03]
+        );
     }
 }

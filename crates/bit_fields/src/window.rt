@@ -29,20 +29,22 @@ pub(crate) fn set_number(bytes: &mut [u8], window: u64)
 }
 
 /// The number with the value in place of the n bits above its lowest `low` bits.
+#[inline]
 pub(crate) fn with_group(window: u64, n: u32, low: u32, value: u32) -> u64
-    requires small { window < 2 ^ 40 }
     requires few { n ≤ 32 }
-    requires part { low < 8 }
+    requires part { low < 64 }
+    requires within { n + low ≤ 64 }
     requires fits { value < 2 ^ n }
     ensures { result ≡ (window / 2 ^ (n + low) * 2 ^ n + value) * 2 ^ low + window % 2 ^ low }
 {
-    let above = window >> (n + low);
+    let above = window >> low >> n;
     let below = window % (1 << low);
     (((above << n) + u64::from(value)) << low) + below
 }
 
 /// The number of eight bytes, the most significant first.
-fn word_at(bytes: &[u8], first: usize) -> u64
+#[inline]
+pub(crate) fn word_at(bytes: &[u8], first: usize) -> u64
     requires { first + 8 ≤ length bytes.now }
     ensures { result ≡ number (bits (take 8 (drop first bytes.now))) }
 {

@@ -1,8 +1,8 @@
 //! A group of bits put in place.
-ghost use Rattle.std.specs.Prelude.{◌≡◌, ◌+◌, ◌*◌, ◌^◌, ◌<◌, ◌≤◌, ◌++◌, length, take, drop};
+ghost use Rattle.std.specs.Prelude.{◌≡◌, ◌+◌, ◌*◌, ◌/◌, ◌^◌, ◌<◌, ◌≤◌, ◌++◌, length, take, drop};
 ghost use Rattle.bit_fields.specs.Bits.{bits, bits_of};
 
-use crate::window::{number_of, set_number, with_group};
+use crate::window::{number_of, set_number, with_group, word_at};
 
 /// The n bits from bit `at` on, at most 32 of them, become the value, the most significant bit first;
 /// all other bits stay.
@@ -13,11 +13,58 @@ pub fn put(bytes: &mut [u8], at: usize, n: u32, value: u32)
     requires short { length bytes.old ≤ 2 ^ 28 }
     ensures { bits bytes.new ≡ take at (bits bytes.old) ++ bits_of n value ++ drop (at + n) (bits bytes.old) }
 {
+    if n > 0 && bytes.len() >= 8 {
+        put_in_word(bytes, at, n, value);
+    } else {
+        let end = at + n as usize;
+        put_in_bytes(bytes, at, n, value, (end + 7) / 8);
+    }
+}
+
+/// The eight bits from bit `at` on become the value, where two bytes are there from the first of them on;
+/// all other bits stay.
+#[inline]
+pub fn put_byte(bytes: &mut [u8], at: usize, value: u8)
+    requires room { at + 16 ≤ 8 * length bytes.old }
+    requires short { length bytes.old ≤ 2 ^ 28 }
+    ensures { bits bytes.new ≡ take at (bits bytes.old) ++ bits_of 8 value ++ drop (at + 8) (bits bytes.old) }
+{
+    put_in_bytes(bytes, at, 8, u32::from(value), at / 8 + 2);
+}
+
+/// A group of bits put in place by the bytes from its first on, up to this end.
+#[inline]
+fn put_in_bytes(bytes: &mut [u8], at: usize, n: u32, value: u32, last: usize)
+    requires few { n ≤ 32 }
+    requires reached { at + n ≤ 8 * last }
+    requires near { last ≤ at / 8 + 5 }
+    requires ordered { at / 8 ≤ last }
+    requires room { last ≤ length bytes.old }
+    requires fits { value < 2 ^ n }
+    requires short { length bytes.old ≤ 2 ^ 28 }
+    ensures { bits bytes.new ≡ take at (bits bytes.old) ++ bits_of n value ++ drop (at + n) (bits bytes.old) }
+{
     let end = at + n as usize;
-    let first = at / 8;
-    let last = (end + 7) / 8;
     let low = (8 * last - end) as u32;
-    let part = &mut bytes[first..last];
+    let part = &mut bytes[at / 8..last];
     let window = with_group(number_of(part), n, low, value);
     set_number(part, window);
+}
+
+/// A group of bits put in place by eight bytes that hold it.
+#[inline]
+fn put_in_word(bytes: &mut [u8], at: usize, n: u32, value: u32)
+    requires some { 1 ≤ n }
+    requires few { n ≤ 32 }
+    requires room { at + n ≤ 8 * length bytes.old }
+    requires long { 8 ≤ length bytes.old }
+    requires fits { value < 2 ^ n }
+    requires short { length bytes.old ≤ 2 ^ 28 }
+    ensures { bits bytes.new ≡ take at (bits bytes.old) ++ bits_of n value ++ drop (at + n) (bits bytes.old) }
+{
+    let end = at + n as usize;
+    let first = (at / 8).min(bytes.len() - 8);
+    let spare = (8 * (first + 8) - end) as u32;
+    let window = with_group(word_at(bytes, first), n, spare, value);
+    bytes[first..first + 8].copy_from_slice(&window.to_be_bytes());
 }

@@ -16,18 +16,18 @@ use crate::frame::{HEADER_SIZE, PROTECTED_SIZE, put_word};
 use crate::granule::Granule;
 use crate::side::Side;
 use crate::widths::{front_size, granule_width};
-use bit_fields::put;
+use bit_fields::put_byte;
 use frame_header::{Class, Header, Version};
 
 /// Puts the gain of a granule and channel whose side information begins at this bit: behind the 12 bits of
 /// part2_3_length and the 9 of big_values.
 #[inline]
 fn put_gain(gain: u8, bytes: &mut [u8], at: usize)
-    requires room { at + 29 ≤ 8 * length bytes.old }
+    requires room { at + 37 ≤ 8 * length bytes.old }
     requires short { length bytes.old ≤ 2 ^ 28 }
     ensures { (version : Version) (g : Granule) (before after : List ℕ) → length before ≡ at → bits bytes.old ≡ before ++ (granule_bits version g ++ after) → bits bytes.new ≡ before ++ (granule_bits version (record g { global_gain = gain }) ++ after) }
 {
-    put(bytes, at + 21, 8, u32::from(gain));
+    put_byte(bytes, at + 21, gain);
 }
 
 /// Puts the gains of the channels of a granule whose side information begins at this bit.
