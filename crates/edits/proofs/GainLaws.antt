@@ -22,7 +22,7 @@ use Rattle.edits.specs.Edited.{stuck_fault, most_frames, unless, edited, range_f
 use Rattle.edits.specs.Streams.{IsStreamMoved, moved_stream_frame}
 use Rattle.edits.specs.Command.{Made, clash_of, Gives, written, written_to, MakesStreams, HoldsStreams}
 use Rattle.edits.specs.Left.{Why, Refused, Missing, Unread, Shorter, Unwritten, NoMemory, why_of, Seen, seen, IsDone, IsWrittenTo, TakesMemory, is_before_memory, LeavesBy, Leaves, HasNumbers, IsOfInput, IsOfPass}
-use Rattle.edits.specs.Gain.{made_of, gain_command, holding, RefusesBytes, IsInputFaultBy, IsInputFault, HoldsPrefix, IsPassFaultBy, IsPassFault}
+use Rattle.edits.specs.Gain.{made_of, gain_command, holding, RefusesInput, IsInputFaultBy, IsInputFault, HoldsPrefix, IsPassFaultBy, IsPassFault}
 use Rattle.edits.proofs.GainedStream.{survey_of-parts, gained-stream}
 
 -- ---- what the told files make of the command
@@ -61,7 +61,7 @@ unfolding gained
 gained-survey shift bytes s is = ap (gained_by shift bytes) is
 
 module _ (shift : Shift) (name : List ℕ) (files new : Files) (before after : Counts) (same : new ≡ files) where
-  refused : (fault : SurveyFault) → SurveyRefuses name files most_frames before after fault → RefusesBytes shift name (seen files before) (seen new after) (Input 0 fault)
+  refused : (fault : SurveyFault) → SurveyRefuses name files most_frames before after fault → RefusesInput shift name (seen files before) (seen new after) (Input 0 fault)
   refused fault h = record { there = h.there; bytes = λ bytes holds. gained-fault shift bytes fault (h.bytes bytes holds); stays = ap₂ seen same h.counts }
 
   -- a fault of the survey is one of the input

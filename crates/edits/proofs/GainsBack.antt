@@ -19,7 +19,7 @@ use Rattle.edits.specs.declared.shift.Shift.{Shift}
 use Rattle.edits.specs.declared.shift.Channels.{Channels}
 use Rattle.edits.specs.declared.shift.Channels.TheVariants.{Both, Left, Right}
 use Rattle.edits.specs.Undoing.{opposite}
-use Rattle.edits.specs.Gains.{left_steps_of, right_steps_of, left_steps, right_steps, is_silent, is_outside, moved_gain, moved, moved_side, stuck_at, stuck_in}
+use Rattle.edits.specs.Gains.{left_steps_of, right_steps_of, left_steps, right_steps, is_silent_granule, is_outside, moved_gain, moved, moved_side, stuck_at, stuck_in}
 
 left-opposite : (channels : Channels) (steps : ℤ) → left_steps_of channels (neg_ℤ steps) ≡ neg_ℤ (left_steps_of channels steps)
 left-opposite Both steps = refl
@@ -67,27 +67,27 @@ gain_back steps gain small inside =
 
 -- ---- one granule
 
-moved-silent : (steps : ℤ) (g : Granule) → is_silent g ≡ true → moved steps g ≡ g
+moved-silent : (steps : ℤ) (g : Granule) → is_silent_granule g ≡ true → moved steps g ≡ g
 moved-silent steps g silent = ap (λ b. cond b g (record g { global_gain = moved_gain steps g.global_gain })) silent
 
-moved-loud : (steps : ℤ) (g : Granule) → is_silent g ≡ false → moved steps g ≡ record g { global_gain = moved_gain steps g.global_gain }
+moved-loud : (steps : ℤ) (g : Granule) → is_silent_granule g ≡ false → moved steps g ≡ record g { global_gain = moved_gain steps g.global_gain }
 moved-loud steps g loud = ap (λ b. cond b g (record g { global_gain = moved_gain steps g.global_gain })) loud
 
 -- the gain would leave the range
 abbrev is_stuck : ℤ → Granule → Bool
-is_stuck steps g = not (is_silent g) && is_outside (pos g.global_gain +ℤ steps)
+is_stuck steps g = not (is_silent_granule g) && is_outside (pos g.global_gain +ℤ steps)
 
 record IsGranuleBack (steps : ℤ) (g : Granule) : Type 0 where
   back : moved (neg_ℤ steps) (moved steps g) ≡ g
   free : is_stuck (neg_ℤ steps) (moved steps g) ≡ false
 
-silent_back : (steps : ℤ) (g : Granule) → is_silent g ≡ true → IsGranuleBack steps g
+silent_back : (steps : ℤ) (g : Granule) → is_silent_granule g ≡ true → IsGranuleBack steps g
 silent_back steps g silent = record {
   back = ap (moved (neg_ℤ steps)) (moved-silent steps g silent) ∙ moved-silent (neg_ℤ steps) g silent;
   free = ap (is_stuck (neg_ℤ steps)) (moved-silent steps g silent) ∙ ap (λ b. not b && is_outside (pos g.global_gain +ℤ neg_ℤ steps)) silent;
 }
 
-loud_back : (steps : ℤ) (g : Granule) → is_silent g ≡ false → IsMovedBack steps g.global_gain → IsGranuleBack steps g
+loud_back : (steps : ℤ) (g : Granule) → is_silent_granule g ≡ false → IsMovedBack steps g.global_gain → IsGranuleBack steps g
 loud_back steps g loud gains =
     let h : Granule = record g { global_gain = moved_gain steps g.global_gain } in
     let to : moved steps g ≡ h = moved-loud steps g loud in
@@ -97,16 +97,16 @@ loud_back steps g loud gains =
     }
 
 granule_back : (steps : ℤ) (g : Granule) → g.global_gain < 256 → is_stuck steps g ≡ false → IsGranuleBack steps g
-granule_back steps g small free = by_silence (is_silent g) refl
+granule_back steps g small free = by_silence (is_silent_granule g) refl
   where
-    by_silence : (b : Bool) → is_silent g ≡ b → IsGranuleBack steps g
+    by_silence : (b : Bool) → is_silent_granule g ≡ b → IsGranuleBack steps g
     by_silence true silent = silent_back steps g silent
     by_silence false loud =
         loud_back steps g loud
         (gain_back steps g.global_gain small (sym (ap (λ b. not b && is_outside (pos g.global_gain +ℤ steps)) loud) ∙ free))
 
 moved-payload : (steps : ℤ) (g : Granule) → (moved steps g).part2_3_length ≡ g.part2_3_length
-moved-payload steps g = elim (is_silent g) as (λ b. (cond b g (record g { global_gain = moved_gain steps g.global_gain })).part2_3_length ≡ g.part2_3_length) [ true ↦ refl | false ↦ refl ]
+moved-payload steps g = elim (is_silent_granule g) as (λ b. (cond b g (record g { global_gain = moved_gain steps g.global_gain })).part2_3_length ≡ g.part2_3_length) [ true ↦ refl | false ↦ refl ]
 
 -- ---- the gains of a frame
 

@@ -10,7 +10,7 @@ use Rattle.side_info.specs.Granule.{no_granule, GranuleFits}
 use Rattle.side_info.specs.Side.{granule_in, has_granule, SideFits}
 use Rattle.side_info.proofs.SideLaws.{granules_fit}
 use Rattle.edits.specs.declared.shift.Shift.{Shift}
-use Rattle.edits.specs.Gains.{left_steps, right_steps, is_silent, moved_gain, moved, moved_side}
+use Rattle.edits.specs.Gains.{left_steps, right_steps, is_silent_granule, moved_gain, moved, moved_side}
 
 below : (sum : ℤ) → unsigned_abs (int_rem_euclid sum (pos 256)) < 256
 below (pos n) = omega arith
@@ -18,7 +18,7 @@ below (negsuc n) = omega arith
 
 moved-fits : (version : Version) (steps : ℤ) (g : Granule) → GranuleFits version g → GranuleFits version (moved steps g)
 moved-fits version steps g fits =
-    elim (is_silent g) as (λ b. GranuleFits version (cond b g (record g { global_gain = moved_gain steps g.global_gain }))) [
+    elim (is_silent_granule g) as (λ b. GranuleFits version (cond b g (record g { global_gain = moved_gain steps g.global_gain }))) [
       | true ↦ fits
       | false ↦ record {
         part2_3_length = fits.part2_3_length;

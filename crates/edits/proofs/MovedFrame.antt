@@ -19,7 +19,7 @@ use Rattle.sync_survey.specs.Items.{header_front}
 use Rattle.sync_survey.proofs.ItemsLaws.{header_front-in_range}
 use Rattle.sync_survey.proofs.ItemBytes.{IsItem, header_front-four, frame_item}
 use Rattle.edits.specs.declared.shift.Shift.{Shift}
-use Rattle.edits.specs.Gains.{left_steps, right_steps, is_silent, moved_gain, moved, moved_side}
+use Rattle.edits.specs.Gains.{left_steps, right_steps, is_silent_granule, moved_gain, moved, moved_side}
 use Rattle.edits.specs.Edited.{moved_frame}
 use Rattle.edits.proofs.GainsLaws.{SideFits-moved_side}
 use Rattle.edits.specs.Undoing.{opposite}
@@ -29,7 +29,7 @@ use Rattle.edits.proofs.GainsBack.{IsSideBack, IsShaped-moved}
 
 -- a moved granule differs in no field but global_gain
 moved-alike : (steps : ℤ) (g : Granule) → AreAlike g (moved steps g)
-moved-alike steps g = elim (is_silent g) as (λ b. AreAlike g (cond b g (record g { global_gain = moved_gain steps g.global_gain }))) [ true ↦ refl | false ↦ refl ]
+moved-alike steps g = elim (is_silent_granule g) as (λ b. AreAlike g (cond b g (record g { global_gain = moved_gain steps g.global_gain }))) [ true ↦ refl | false ↦ refl ]
 
 -- nor does the last granule and channel of moved side information
 last_granule-moved : (shift : Shift) (c : ClassFields) → IsClass c → (s : Side) → AreAlike (last_granule c s) (last_granule c (moved_side shift s))

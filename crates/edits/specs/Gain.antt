@@ -36,7 +36,7 @@ unfoldable pub holding : Files → List ℕ → List ℕ → Files
 holding files name bytes = option_map (λ f. with_file f name bytes) files
 
 -- the input is there, and its bytes are refused
-pub record RefusesBytes (shift : Shift) (name : List ℕ) (old new : Seen) (fault : EditFault) : Type 0 where
+pub record RefusesInput (shift : Shift) (name : List ℕ) (old new : Seen) (fault : EditFault) : Type 0 where
   pub there : IsThere old.files name
   pub bytes : (bytes : List ℕ) → Holds old.files name bytes → gained shift bytes ≡ Err fault
   pub stays : new ≡ old
@@ -64,7 +64,7 @@ pub record NeedsMemory (name : List ℕ) (old new : Seen) : Type 0 where
   pub stays : new ≡ old
 
 abbrev pub IsInputFaultBy : Shift → List ℕ → Seen → Seen → EditFault → Why → Type 0
-IsInputFaultBy shift name old new fault Refused = RefusesBytes shift name old new fault
+IsInputFaultBy shift name old new fault Refused = RefusesInput shift name old new fault
 IsInputFaultBy shift name old new fault Missing = MissesInput name old new fault
 IsInputFaultBy shift name old new fault Unread = ReadsNothing old new
 IsInputFaultBy shift name old new fault Shorter = LosesInput old new

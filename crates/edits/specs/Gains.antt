@@ -29,15 +29,15 @@ abbrev pub right_steps : Shift → ℤ
 right_steps shift = right_steps_of shift.channels shift.steps
 
 -- silent: no main data, so that the gain is of no account
-abbrev pub is_silent : Granule → Bool
-is_silent g = g.part2_3_length == 0
+abbrev pub is_silent_granule : Granule → Bool
+is_silent_granule g = g.part2_3_length == 0
 
 -- a gain by so many steps; without wrap no sum outside 0 to 255 comes here
 abbrev pub moved_gain : ℤ → ℕ → ℕ
 moved_gain steps gain = unsigned_abs (int_rem_euclid (pos gain +ℤ steps) (pos 256))
 
 abbrev pub moved : ℤ → Granule → Granule
-moved steps g = if is_silent g then g else record g { global_gain = moved_gain steps g.global_gain }
+moved steps g = if is_silent_granule g then g else record g { global_gain = moved_gain steps g.global_gain }
 
 -- a granule with channel 0 moved by the steps of the left and channel 1 by those of the right
 abbrev pub moved_channels : Shift → Side → ℕ → List Granule
@@ -57,7 +57,7 @@ is_outside (negsuc n) = true
 -- the gain of this granule and channel would leave the range
 abbrev pub stuck_at : ℤ → Side → ℕ → ℕ → Option Stuck
 stuck_at steps s granule channel = let g = granule_in s granule channel in
-    if not (is_silent g) && is_outside (pos g.global_gain +ℤ steps)
+    if not (is_silent_granule g) && is_outside (pos g.global_gain +ℤ steps)
     then Some (record { granule = granule; channel = channel; gain = g.global_gain }) else None
 
 -- the first gain of a frame that would leave the range, in order of granules and channels; none with wrap

@@ -1,6 +1,6 @@
 //! Gains of one frame, moved by steps of 1.5 dB.
 ghost use Rattle.std.specs.Prelude.{◌≡◌, ◌+ℤ◌, ◌<◌, ◌&&◌, not, pos};
-ghost use Rattle.edits.specs.Gains.{left_steps as left_steps_lem, right_steps as right_steps_lem, is_silent, is_outside, moved as moved_lem, moved_side as moved_side_lem, stuck_at as stuck_at_lem, stuck_in as stuck_in_lem};
+ghost use Rattle.edits.specs.Gains.{left_steps as left_steps_lem, right_steps as right_steps_lem, is_silent_granule, is_outside, moved as moved_lem, moved_side as moved_side_lem, stuck_at as stuck_at_lem, stuck_in as stuck_in_lem};
 
 use crate::shift::{Channels, Shift};
 use side_info::{Granule, Side};
@@ -70,7 +70,7 @@ pub(crate) fn moved_side(shift: &Shift, side: &Side) -> Side
 
 /// Whether the gain would leave the range from 0 to 255.
 fn is_stuck(steps: i16, granule: &Granule) -> bool
-    ensures { result ≡ (not (is_silent granule.now) && is_outside (pos granule.now.global_gain +ℤ steps)) }
+    ensures { result ≡ (not (is_silent_granule granule.now) && is_outside (pos granule.now.global_gain +ℤ steps)) }
 {
     granule.part2_3_length != 0 && !(0..=255).contains(&sum(steps, granule.global_gain))
 }

@@ -6,7 +6,7 @@ use Rattle.std.specs.Str.Parse.{AllDigits, digits_value}
 use Rattle.std.proofs.lemmas.Bool.{le-leb, lt-leb}
 use Rattle.std.proofs.lemmas.Str.Parse.{IsNumeralModel, numerals_by_value, tells_all_ascii_digits, digit_at, digits_value_short}
 use Rattle.std.proofs.lemmas.List.{length-take-le}
-use Rattle.mp3_cli.specs.Words.{size_of}
+use Rattle.mp3_cli.specs.Words.{step_count}
 
 pub digits_model : IsNumeralModel (λ ds. all_ascii_digits ds ≡ true) (digits_value 10)
 digits_model = numerals_by_value _ tells_all_ascii_digits
@@ -28,7 +28,7 @@ no_last true false c x = refl
 no_last false b c x = refl
 
 -- the digits are read
-pub size_of_digits : (digits : List ℕ) → 0 < length digits → length digits ≤ 3 → AllDigits 10 digits → digits_value 10 digits ≤ 255 → size_of digits ≡ Some (digits_value 10 digits)
+pub size_of_digits : (digits : List ℕ) → 0 < length digits → length digits ≤ 3 → AllDigits 10 digits → digits_value 10 digits ≤ 255 → step_count digits ≡ Some (digits_value 10 digits)
 size_of_digits digits some few all small =
     let low : leb 1 (length digits) ≡ true = le-leb _ _ some in
     let high : leb (length digits) 3 ≡ true = le-leb _ _ few in
@@ -37,24 +37,24 @@ size_of_digits digits some few all small =
     rw (low, high, each, top) refl
 
 -- and what isn't read
-pub size_of_nothing : (digits : List ℕ) → length digits ≡ 0 → size_of digits ≡ None
+pub size_of_nothing : (digits : List ℕ) → length digits ≡ 0 → step_count digits ≡ None
 size_of_nothing digits none =
     let low : leb 1 (length digits) ≡ false = lt-leb _ _ (omega arith) in
     rw low refl
 
-pub size_of_many : (digits : List ℕ) → 3 < length digits → size_of digits ≡ None
+pub size_of_many : (digits : List ℕ) → 3 < length digits → step_count digits ≡ None
 size_of_many digits many =
     let high : leb (length digits) 3 ≡ false = lt-leb _ _ many in
     rw high (no_second (leb 1 (length digits)) (all_ascii_digits digits) (leb (digits_value 10 digits) 255) (Some (digits_value 10 digits)))
 
-pub size_of_others : (digits : List ℕ) (i : ℕ) → i < length digits → (IsInRange 48 57 (get_or digits i 0) → ⊥) → size_of digits ≡ None
+pub size_of_others : (digits : List ℕ) (i : ℕ) → i < length digits → (IsInRange 48 57 (get_or digits i 0) → ⊥) → step_count digits ≡ None
 size_of_others digits i lt other =
-    elim (all_ascii_digits digits) as (λ b. all_ascii_digits digits ≡ b → size_of digits ≡ None) [
+    elim (all_ascii_digits digits) as (λ b. all_ascii_digits digits ≡ b → step_count digits ≡ None) [
       | true ↦ λ each. absurd (other (digit_at digits i (digits_model.to digits each) lt))
       | false ↦ λ each. rw each (no_third (leb 1 (length digits)) (leb (length digits) 3) (leb (digits_value 10 digits) 255) (Some (digits_value 10 digits)))
     ] refl
 
-pub size_of_great : (digits : List ℕ) → 255 < digits_value 10 digits → size_of digits ≡ None
+pub size_of_great : (digits : List ℕ) → 255 < digits_value 10 digits → step_count digits ≡ None
 size_of_great digits great =
     let top : leb (digits_value 10 digits) 255 ≡ false = lt-leb _ _ great in
     rw top (no_last (leb 1 (length digits)) (leb (length digits) 3) (all_ascii_digits digits) (Some (digits_value 10 digits)))

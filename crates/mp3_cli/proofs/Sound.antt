@@ -6,14 +6,14 @@ use Rattle.std.specs.Str.Parse.{digits_value}
 use Rattle.std.proofs.lemmas.Int.{ints}
 use Rattle.std.proofs.lemmas.Bool.{leb-true}
 use Rattle.mp3_cli.specs.declared.jobs.Job.{Job}
-use Rattle.mp3_cli.specs.Words.{Kind, Name, Form, fits_kind, forms, gain_without_tags, have_kinds, job_of, size_of, steps_of, word_at, IsStepCount, IsSound}
+use Rattle.mp3_cli.specs.Words.{Kind, Name, Form, fits_kind, forms, gain_without_tags, have_kinds, job_of, step_count, steps_of, word_at, IsStepCount, IsSound}
 use Rattle.mp3_cli.proofs.Places.{reading_ok}
 
 and_last : (x d : Bool) → (x && d) ≡ true → d ≡ true
 and_last true d h = h
 and_last false d h = absurd cc
 
-size_small : (digits : List ℕ) → IfSome (size_of digits) (λ size. size ≤ 255)
+size_small : (digits : List ℕ) → IfSome (step_count digits) (λ size. size ≤ 255)
 size_small digits =
     let x = leb 1 (length digits) && leb (length digits) 3 && all_ascii_digits digits in
     let d = leb (digits_value 10 digits) 255 in
@@ -33,11 +33,11 @@ sized_down (Some size) h = record { low = omega (arith, ints); high = omega (ari
 pub steps_in_range : (word : List ℕ) → IsStepCount (unwrap_or (steps_of word) (pos 0))
 steps_in_range [] = sized None tt
 steps_in_range (first ∷ rest) =
-    elim (first == 43) as (λ b. IsStepCount (unwrap_or (cond b (option_map pos (size_of rest)) (cond (first == 45) (option_map (λ size. neg_ℤ (pos size)) (size_of rest)) (option_map pos (size_of (first ∷ rest))))) (pos 0))) [
-      | true ↦ sized (size_of rest) (size_small rest)
-      | false ↦ elim (first == 45) as (λ b. IsStepCount (unwrap_or (cond b (option_map (λ size. neg_ℤ (pos size)) (size_of rest)) (option_map pos (size_of (first ∷ rest)))) (pos 0))) [
-        | true ↦ sized_down (size_of rest) (size_small rest)
-        | false ↦ sized (size_of (first ∷ rest)) (size_small (first ∷ rest))
+    elim (first == 43) as (λ b. IsStepCount (unwrap_or (cond b (option_map pos (step_count rest)) (cond (first == 45) (option_map (λ size. neg_ℤ (pos size)) (step_count rest)) (option_map pos (step_count (first ∷ rest))))) (pos 0))) [
+      | true ↦ sized (step_count rest) (size_small rest)
+      | false ↦ elim (first == 45) as (λ b. IsStepCount (unwrap_or (cond b (option_map (λ size. neg_ℤ (pos size)) (step_count rest)) (option_map pos (step_count (first ∷ rest)))) (pos 0))) [
+        | true ↦ sized_down (step_count rest) (size_small rest)
+        | false ↦ sized (step_count (first ∷ rest)) (size_small (first ∷ rest))
       ]
     ]
 

@@ -6,10 +6,10 @@ use Rattle.mp3_cli.specs.declared.words.WordKind.TheVariants as code
 use Rattle.mp3_cli.specs.declared.words.FormName.{FormName}
 use Rattle.mp3_cli.specs.declared.words.FormName.TheVariants.{GainWithoutTags}
 
-abbrev pub kind_of : WordKind → Kind
-kind_of (code.Fixed text) = Fixed text.now
-kind_of code.Name = Name
-kind_of code.Steps = Steps
+abbrev pub word_kind : WordKind → Kind
+word_kind (code.Fixed text) = Fixed text.now
+word_kind code.Name = Name
+word_kind code.Steps = Steps
 
 abbrev pub form_named : FormName → Form
 form_named GainWithoutTags = gain_without_tags

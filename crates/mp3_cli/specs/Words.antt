@@ -25,8 +25,8 @@ is_name [] = false
 is_name (first ∷ rest) = not (first == 45)
 
 -- one to three digits, of a number up to 255
-abbrev pub size_of : List ℕ → Option ℕ
-size_of digits =
+abbrev pub step_count : List ℕ → Option ℕ
+step_count digits =
     if nat_le 1 (length digits) && nat_le (length digits) 3 && all_ascii_digits digits && nat_le (digits_value 10 digits) 255
     then Some (digits_value 10 digits) else None
 
@@ -34,9 +34,9 @@ size_of digits =
 abbrev pub steps_of : List ℕ → Option ℤ
 steps_of [] = None
 steps_of (first ∷ rest) =
-    if first == 43 then option_map pos (size_of rest)
-    else if first == 45 then option_map (λ size. neg_ℤ (pos size)) (size_of rest)
-    else option_map pos (size_of (first ∷ rest))
+    if first == 43 then option_map pos (step_count rest)
+    else if first == 45 then option_map (λ size. neg_ℤ (pos size)) (step_count rest)
+    else option_map pos (step_count (first ∷ rest))
 
 -- the word is of the kind
 abbrev pub fits_kind : Kind → List ℕ → Bool

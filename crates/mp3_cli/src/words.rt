@@ -1,8 +1,8 @@
 //! The program's words.
 ghost use Rattle.std.specs.Prelude.{◌≡◌, ◌≤◌, List, length, map, string_bytes, option_map, pos, IfOk, IfErr};
 ghost use Rattle.std.specs.List.{common_prefix_len};
-ghost use Rattle.mp3_cli.specs.Words.{is_name, size_of, steps_of, fits_kind, job_of, IsReading, IsBadWord, IsSound};
-ghost use Rattle.mp3_cli.specs.Table.{kind_of, form_named};
+ghost use Rattle.mp3_cli.specs.Words.{is_name, step_count, steps_of, fits_kind, job_of, IsReading, IsBadWord, IsSound};
+ghost use Rattle.mp3_cli.specs.Table.{word_kind, form_named};
 
 use crate::jobs::Job;
 use edits::{Channels, Shift};
@@ -45,7 +45,7 @@ fn is_name(word: &str) -> bool
 
 // One to three digits, of a number up to 255.
 fn read_size(digits: &[u8]) -> Option<i16>
-    ensures { result ≡ option_map pos (size_of digits.now) }
+    ensures { result ≡ option_map pos (step_count digits.now) }
 {
     if digits.is_empty() || digits.len() > 3 {
         return None;
@@ -72,7 +72,7 @@ fn read_steps(word: &str) -> Option<i16>
 }
 
 fn fits(word: &str, kind: &WordKind) -> bool
-    ensures { result ≡ fits_kind (kind_of kind.now) word.now }
+    ensures { result ≡ fits_kind (word_kind kind.now) word.now }
 {
     match kind {
         WordKind::Fixed(text) => word == *text,
@@ -83,7 +83,7 @@ fn fits(word: &str, kind: &WordKind) -> bool
 
 // How many words there are in front that have the first of these kinds.
 fn follow(words: &[String], kinds: &[WordKind]) -> usize
-    ensures { result ≡ common_prefix_len fits_kind (map kind_of kinds.now) (map string_bytes words.now) }
+    ensures { result ≡ common_prefix_len fits_kind (map word_kind kinds.now) (map string_bytes words.now) }
 {
     let mut count = 0;
     while count < kinds.len() && count < words.len() && fits(words[count].as_str(), &kinds[count]) {
@@ -94,7 +94,7 @@ fn follow(words: &[String], kinds: &[WordKind]) -> usize
 
 impl FormName {
     fn kinds(self) -> &'static [WordKind]
-        ensures { map kind_of result.now ≡ (form_named self).kinds }
+        ensures { map word_kind result.now ≡ (form_named self).kinds }
     {
         match self {
             FormName::GainWithoutTags => &GAIN_WITHOUT_TAGS,
