@@ -2,7 +2,7 @@
 use Rattle.std.proofs.Common.{◌≡◌, ℕ, zero, suc, ◌+◌, ◌<◌, ◌≤◌, Bool, true, false, cond, ◌&&◌, leb, min, List, length, drop, Option, Some, None, Result, Ok, Err, inl, inr, refl, sym, ◌∙◌, ap, subst, arith}
 use Rattle.std.proofs.lemmas.Bool.{lt-leb, le-leb, leb-true, leb-false}
 use Rattle.std.proofs.lemmas.List.{drop_all}
-use Rattle.std.specs.Prelude.{filter_map, slice_get, is_some, IfOk}
+use Rattle.std.specs.Prelude.{MatchOption, filter_map, slice_get, is_some, IfOk}
 use Rattle.std.specs.List.{range_with_len, cons_option}
 use Rattle.frame_header.specs.Fields.{HeaderFields}
 use Rattle.frame_header.specs.Tables.{class_of, length_of}
@@ -14,7 +14,7 @@ use Rattle.sync_survey.specs.declared.places.Start.{Start}
 use Rattle.sync_survey.specs.declared.runs.Part.TheVariants.{Stream}
 use Rattle.sync_survey.specs.Items.{item_front, item_at, size_of, fits}
 use Rattle.sync_survey.specs.Looks.{Shows}
-use Rattle.sync_survey.specs.Start.{is_anchor, has_anchor, anchored, anchored_frame, is_anchored, IsLeast, IsFirstAnchored, first_anchored, longest_junk, start_behind, start_at, front_end_of, start_of, IsLeastStart}
+use Rattle.sync_survey.specs.Start.{is_anchor, has_anchor, anchored, anchored_frame, is_anchored, IsLeast, first_anchored, longest_junk, start_behind, start_at, front_end_of, start_of, IsLeastStart}
 use Rattle.sync_survey.proofs.RunsLaws.{IsItemOf, within_file, both}
 use Rattle.sync_survey.proofs.OneItem.{stands-only_at}
 use Rattle.sync_survey.proofs.LooksLaws.{item_at-shown, item_at-behind, fits-left}
@@ -123,6 +123,10 @@ first_anchored-some count file from at p low high here none = first_of-some (anc
 pub first_anchored-none : (count : ℕ) (file : List ℕ) (from : ℕ) → ((at : ℕ) → from ≤ at → at < from + count → anchored_frame file at ≡ None) → first_anchored count file from ≡ None
 unfolding first_anchored
 first_anchored-none count file from none = first_of-none (anchored_frame file) count from none
+
+-- the frame at the least offset of the range where an anchored one stands; none where none does
+abbrev IsFirstAnchored : List ℕ → ℕ → ℕ → Option PlacedFrame → Type 0
+IsFirstAnchored file from to r = MatchOption r ((at : ℕ) → from ≤ at → at < to → is_anchored file at ≡ false) (λ p. IsLeast (is_anchored file) from to p.offset)
 
 -- and it stands at the least offset
 least_at : (file : List ℕ) (from to at : ℕ) (p : PlacedFrame) → IsFirstAt (anchored_frame file) from to at p → IsLeast (is_anchored file) from to at

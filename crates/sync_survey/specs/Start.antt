@@ -1,5 +1,5 @@
 -- Where the stream of frames begins.
-use Rattle.std.specs.Prelude.{◌≡◌, ℕ, ◌+◌, ◌≤◌, ◌<◌, ◌&&◌, if◌then◌else◌, Bool, true, false, List, Option, Some, None, is_some, Result, Ok, Err, filter_map, slice_get, MatchOption, ◌⊎◌}
+use Rattle.std.specs.Prelude.{◌≡◌, ℕ, ◌+◌, ◌≤◌, ◌<◌, ◌&&◌, if◌then◌else◌, Bool, true, false, List, Option, Some, None, is_some, Result, Ok, Err, filter_map, slice_get, ◌⊎◌}
 use Rattle.std.specs.List.{range_with_len}
 use Rattle.frame_header.specs.Fields.{HeaderFields, ClassFields}
 use Rattle.frame_header.specs.Tables.{class_of, length_of}
@@ -81,10 +81,6 @@ start_of file = start_at file (front_end_of file) (item_at file (front_end_of fi
 -- the least offset of a range where a test holds
 abbrev pub IsLeast : (ℕ → Bool) → ℕ → ℕ → ℕ → Type 0
 IsLeast test from to at = (from ≤ at) × (at < to) × (test at ≡ true) × ((earlier : ℕ) → from ≤ earlier → earlier < at → test earlier ≡ false)
-
--- the frame at the least offset of the range where an anchored one stands; none where none does
-abbrev pub IsFirstAnchored : List ℕ → ℕ → ℕ → Option PlacedFrame → Type 0
-IsFirstAnchored file from to r = MatchOption r ((at : ℕ) → from ≤ at → at < to → is_anchored file at ≡ false) (λ p. IsLeast (is_anchored file) from to p.offset)
 
 -- no junk stands before the first frame, or it stands at the least offset behind the junk where an anchored frame does
 abbrev pub IsLeastStart : List ℕ → Start → Type 0
