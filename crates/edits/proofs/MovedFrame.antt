@@ -1,5 +1,5 @@
 -- A frame with moved gains: what it has in common with the frame, and that moved back it is the frame.
-use Rattle.std.proofs.Common.{◌≡◌, ℕ, ◌+◌, ◌-◌, ◌<◌, Bool, true, false, cond, List, [], ◌++◌, length, take, drop, refl, sym, ◌∙◌, ap, arith, ℤ, Ok}
+use Rattle.std.proofs.Common.{◌≡◌, ℕ, zero, suc, ◌+◌, ◌-◌, ◌<◌, Bool, true, false, cond, List, [], ◌++◌, length, take, drop, refl, sym, ◌∙◌, ap, arith, ℤ, Ok}
 use Rattle.bit_fields.specs.Bits.{bits_of, bytes, AreBytes}
 use Rattle.bit_fields.proofs.BitsLaws.{AreBits-bits_of, AreBytes-bytes, AreBytes-append, AreBytes-take, AreBytes-drop}
 use Rattle.frame_header.specs.Fields.{HeaderFields, ClassFields, IsClass}
@@ -8,10 +8,10 @@ use Rattle.frame_header.proofs.HeaderLaws.{IsClass-class_of}
 use Rattle.frame_header.proofs.Lengths.{area_some}
 use Rattle.side_info.specs.declared.granule.Granule.{Granule}
 use Rattle.side_info.specs.declared.side.Side.{Side}
-use Rattle.side_info.specs.Side.{granule_in, side_bits}
+use Rattle.side_info.specs.Side.{granule_in, side_bits, HasOtherGains}
 use Rattle.side_info.specs.Frame.{side_in, word_part, frame_with}
 use Rattle.side_info.specs.CheckWord.{check_word_of}
-use Rattle.side_info.proofs.SideLaws.{AreBits-side_bits, each_class}
+use Rattle.side_info.proofs.SideLaws.{AreBits-side_bits, each_class, IsShaped, side_with, each_shaped}
 use Rattle.side_info.proofs.FrameLaws.{HasRoom, IsRight, overhead-most, shaped-side_in, fits-side_in, length-frame_with, header-frame_with, area-frame_with, side_in-frame_with, word_said-frame_with, frame_with-again, frame_with-own}
 use Rattle.side_info.proofs.LastBytes.{AreAlike, last_granule, last_bytes-frame_with}
 use Rattle.sync_survey.specs.declared.items.Item.TheVariants.{Frame}
@@ -30,6 +30,23 @@ use Rattle.edits.proofs.GainsBack.{IsSideBack, IsShaped-moved}
 -- a moved granule differs in no field but global_gain
 moved-alike : (steps : ℤ) (g : Granule) → AreAlike g (moved steps g)
 moved-alike steps g = elim (is_silent_granule g) as (λ b. AreAlike g (cond b g (record g { global_gain = moved_gain steps g.global_gain }))) [ true ↦ refl | false ↦ refl ]
+
+moved_granules : (shift : Shift) (m p a b : ℕ) (g h k l : Granule) (granule channel : ℕ) → AreAlike (granule_in (side_with m p a b g h k l) granule channel) (granule_in (moved_side shift (side_with m p a b g h k l)) granule channel)
+unfolding moved_side
+moved_granules shift m p a b g h k l zero zero = moved-alike (left_steps shift) g
+moved_granules shift m p a b g h k l zero (suc zero) = moved-alike (right_steps shift) h
+moved_granules shift m p a b g h k l zero (suc (suc channel)) = refl
+moved_granules shift m p a b g h k l (suc zero) zero = moved-alike (left_steps shift) k
+moved_granules shift m p a b g h k l (suc zero) (suc zero) = moved-alike (right_steps shift) l
+moved_granules shift m p a b g h k l (suc zero) (suc (suc channel)) = refl
+moved_granules shift m p a b g h k l (suc (suc granule)) channel = refl
+
+-- moved side information differs from its own in gains alone
+pub other_gains : (shift : Shift) (s : Side) → IsShaped s → HasOtherGains s (moved_side shift s)
+unfolding moved_side
+other_gains shift =
+    each_shaped (λ s. HasOtherGains s (moved_side shift s))
+    (λ m p a b g h k l. record { main_data_begin = refl; private_bits = refl; scfsi = refl; granules = moved_granules shift m p a b g h k l })
 
 -- nor does the last granule and channel of moved side information
 last_granule-moved : (shift : Shift) (c : ClassFields) → IsClass c → (s : Side) → AreAlike (last_granule c s) (last_granule c (moved_side shift s))

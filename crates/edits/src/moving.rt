@@ -2,7 +2,6 @@
 ghost use Rattle.std.specs.Prelude.{◌≡◌, ◌≢◌, ◌+◌, ◌≤◌, ◌++◌, List, ℕ, [], length, take, drop, IfOk, IfErr, OnOk, OnErr, Ok};
 ghost use Rattle.frame_header.specs.Fields.{HeaderFields};
 ghost use Rattle.frame_header.specs.Tables.{class_of, length_of, overhead_of};
-ghost use Rattle.side_info.specs.Side.{SideFits};
 ghost use Rattle.side_info.specs.Frame.{side_in, frame_with};
 ghost use Rattle.outside.specs.Files.{appended, Holds, IsThere};
 ghost use Rattle.outside.specs.Feed.{IsFedFrom};
@@ -18,7 +17,7 @@ use crate::gains::moved_side;
 use crate::shift::Shift;
 use frame_header::Header;
 use outside::{Feed, Folder, WriteBuffer};
-use side_info::put_side;
+use side_info::put_gains;
 use sync_survey::{Row, Survey};
 
 /// As many bytes as are copied at once.
@@ -60,11 +59,10 @@ fn frame_length(header: &Header) -> u32
 /// Moves the gains in the bytes of a frame that stand before its main data, and in a protected frame puts
 /// the check word that is right for them.
 fn move_front(shift: &Shift, row: &Row, front: &mut [u8])
-    requires room { overhead_of (class_of row.now.header) row.now.header.protected ≤ length front.old }
-    requires fits { SideFits (class_of row.now.header) row.now.side }
+    requires { overhead_of (class_of row.now.header) row.now.header.protected ≤ length front.old }
     ensures { side_in row.now.header front.old ≡ row.now.side → front.new ≡ frame_with row.now.header (moved_side_lem shift.now row.now.side) front.old }
 {
-    put_side(&row.header, &moved_side(shift, &row.side), front);
+    put_gains(&row.header, &moved_side(shift, &row.side), front);
 }
 
 /// What a pass reads, and what it writes.
@@ -181,7 +179,6 @@ impl<'a> Pass<'a> {
     ) -> Result<u64, CopyFault>
         requires ready { IsReady self.now.input.now self.now.output.now self.now.length (D.files folder.old) feed.old }
         requires within { row_end row.now ≤ self.now.length }
-        requires fits { SideFits (class_of row.now.header) row.now.side }
         requires told { (file : List ℕ) → Holds (D.files folder.old) self.now.input.now file → IsRowOf file row.now }
         ensures written { OnOk result (Writes self.now.input.now self.now.output.now (λ file. moved_row_bytes self.now.shift.now file row.now) waiting.old waiting.new (D.files folder.old) (D.files folder.new)) }
         ensures prefix { OnErr result (WritesPrefix self.now.input.now self.now.output.now (λ file. moved_row_bytes self.now.shift.now file row.now) waiting.old (D.files folder.old) (D.files folder.new)) }

@@ -1,11 +1,18 @@
--- Moved gains fit as those before.
-use Rattle.std.proofs.Common.{subst, sym}
-use Rattle.frame_header.specs.Tables.{class_of}
-use Rattle.side_info.specs.Side.{SideFits}
-use Rattle.edits.proofs.GainsLaws.{SideFits-moved_side}
+-- Moved side information differs from what stands in the frame in gains alone.
+use Rattle.std.proofs.Common.{◌≡◌, sym, ◌∙◌, ap, subst}
+use Rattle.side_info.specs.Side.{HasOtherGains}
+use Rattle.side_info.specs.Frame.{side_in, frame_with}
+use Rattle.side_info.proofs.FrameLaws.{shaped-side_in}
+use Rattle.edits.specs.Gains.{moved_side}
+use Rattle.edits.proofs.MovedFrame.{other_gains}
 use Rattle.edits.proofs.moving.move_front.Goals as goal
 
-pub put_side-requires-clause-fits : goal.put_side-requires-clause-fits
-put_side-requires-clause-fits c =
-    let class = class_of c.args.row.now.header in
-    subst (SideFits class) (sym c.moved_side.ensures) (SideFits-moved_side class c.args.shift.now c.args.row.now.side c.requires.fits)
+pub returns : goal.returns
+returns c is =
+    let h = c.args.row.now.header in
+    let shift = c.args.shift.now in
+    let front = c.args.front.now in
+    let moved = c.moved_side.ensures in
+    let other : HasOtherGains (side_in h front) c.moved_side.result =
+    subst (HasOtherGains (side_in h front)) (ap (moved_side shift) is ∙ sym moved) (other_gains shift (side_in h front) (shaped-side_in h front)) in
+    c.put_gains.ensures.gains other ∙ ap (λ s. frame_with h s front) moved
