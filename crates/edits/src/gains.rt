@@ -42,13 +42,11 @@ fn sum(steps: i16, gain: u8) -> i32
 fn moved(steps: i16, granule: Granule) -> Granule
     ensures { result ≡ moved_lem steps granule }
 {
-    if granule.part2_3_length == 0 {
-        return granule;
+    let mut moved = granule;
+    if granule.part2_3_length != 0 {
+        moved.global_gain = sum(steps, granule.global_gain).rem_euclid(256) as u8;
     }
-    Granule {
-        global_gain: sum(steps, granule.global_gain).rem_euclid(256) as u8,
-        ..granule
-    }
+    moved
 }
 
 #[tactic(auto, unfolding(crate::specs::Gains::moved_side))]
