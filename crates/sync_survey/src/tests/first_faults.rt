@@ -126,6 +126,13 @@ const LOWER_OF_25: Stretch = Stretch::Bytes(&[
     0x00, 0x00, 0x00, 0x00, 0x00, 0, 0, 0,
 ]);
 
+/// Frames of MPEG-2.5, 12,000 Hz, 8 kbit/s, one channel: 48 bytes, with an area of 35. The first has 280 bits.
+const SLOW_OF_280: Stretch = Stretch::Bytes(&[0xff, 0xe3, 0x14, 0xc0, 0x00, 0x08, 0xc0]);
+
+const SLOW_OF_281: Stretch = Stretch::Bytes(&[0xff, 0xe3, 0x14, 0xc0, 0x00, 0x08, 0xc8]);
+
+const SLOW_REST: Stretch = Stretch::Fill(0, 41);
+
 /// The front of a protected head, whose area has 379 bytes. Its check word is wrong.
 const PROTECTED_HEAD_FRONT: Stretch = Stretch::Bytes(
     b"\xff\xfa\x90\0\x12\x34\0\0\0\0\0\0\0\0\0\0\0\0\0\0\0\0\0\0\0\0\0\0\0\0\0\0\0\0\0\0\0\0Xing",
@@ -133,7 +140,7 @@ const PROTECTED_HEAD_FRONT: Stretch = Stretch::Bytes(
 
 const PROTECTED_HEAD_REST: Stretch = Stretch::Fill(0, 375);
 
-static CASES: [Case; 46] = [
+static CASES: [Case; 49] = [
     Case {
         name: "main data one behind the other",
         file: TWO_FRAMES,
@@ -303,6 +310,24 @@ static CASES: [Case; 46] = [
         file: &[LOWER_OF_25],
         allowed: MANY,
         answer: Some(SurveyFault::Overrun(0, 25, 24)),
+    },
+    Case {
+        name: "MPEG-2.5: an area filled",
+        file: &[SLOW_OF_280, SLOW_REST],
+        allowed: MANY,
+        answer: None,
+    },
+    Case {
+        name: "one bit more",
+        file: &[SLOW_OF_281, SLOW_REST],
+        allowed: MANY,
+        answer: Some(SurveyFault::Overrun(0, 281, 280)),
+    },
+    Case {
+        name: "MPEG-2.5 behind MPEG-2",
+        file: &[SHORT, SLOW_OF_280, SLOW_REST],
+        allowed: MANY,
+        answer: Some(SurveyFault::Mixed(24)),
     },
     Case {
         name: "a wrong check word",

@@ -18,6 +18,8 @@ static FREQUENCIES_OF_MPEG_1: [u64; 3] = [44_100, 48_000, 32_000];
 
 static FREQUENCIES_OF_MPEG_2: [u64; 3] = [22_050, 24_000, 16_000];
 
+static FREQUENCIES_OF_MPEG_2_5: [u64; 3] = [11_025, 12_000, 8_000];
+
 /// Version, frequency in Hz, and number of channels.
 #[derive(Clone, Copy, PartialEq, Eq)]
 struct Class {
@@ -68,12 +70,14 @@ fn bytes_from(file: &[u8], at: usize) -> &[u8] {
     file.get(at..).unwrap_or(&[])
 }
 
+/// The twelfth bit is 0 in MPEG-2.5 alone, where ID is 0 too.
 fn class_at(bytes: &[u8]) -> Option<Class> {
     let is_mpeg_1 = bit(bytes, 12);
-    let frequencies = if is_mpeg_1 {
-        &FREQUENCIES_OF_MPEG_1
-    } else {
-        &FREQUENCIES_OF_MPEG_2
+    let frequencies = match (bit(bytes, 11), is_mpeg_1) {
+        (true, true) => &FREQUENCIES_OF_MPEG_1,
+        (true, false) => &FREQUENCIES_OF_MPEG_2,
+        (false, false) => &FREQUENCIES_OF_MPEG_2_5,
+        (false, true) => return None,
     };
     let frequency = *frequencies.get(number(bytes, 20, 2) as usize)?;
     let is_single = number(bytes, 24, 2) == 3;
@@ -117,7 +121,7 @@ fn frame_at(at: usize, bytes: &[u8], class: Class, rate: u16) -> Frame {
 
 /// The frame, or free format, where a header of layer III stands.
 fn header_at(at: usize, bytes: &[u8]) -> Option<Found> {
-    if bytes.len() < 4 || number(bytes, 0, 12) != 0xfff || number(bytes, 13, 2) != 1 {
+    if bytes.len() < 4 || number(bytes, 0, 11) != 0x7ff || number(bytes, 13, 2) != 1 {
         return None;
     }
     let class = class_at(bytes)?;
