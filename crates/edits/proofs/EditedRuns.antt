@@ -13,7 +13,7 @@ use Rattle.sync_survey.specs.declared.places.Head.{Head}
 use Rattle.sync_survey.specs.declared.places.Start.{Start}
 use Rattle.sync_survey.specs.declared.runs.Part.TheVariants.{Front, Stream}
 use Rattle.sync_survey.specs.Items.{item_at, size_of, fits}
-use Rattle.sync_survey.specs.Runs.{Placed, Run, whole, item_of, run, AreEndToEnd, bytes_of, frames_of, blocks_of}
+use Rattle.sync_survey.specs.Runs.{Placed, Run, whole, item_of, run, AreEndToEnd, bytes_of_items, frames_of, blocks_of}
 use Rattle.sync_survey.specs.Start.{start_at, front_end_of, start_of, IsLeastStart}
 use Rattle.sync_survey.specs.Walk.{stream_run, frame_bytes, head_of, numbered, all_blocks}
 use Rattle.sync_survey.proofs.RunsLaws.{IsItemOf, item_of-past, run-next, run-ends}
@@ -132,22 +132,22 @@ module _ (shift : Shift) (file : List ℕ) (allowed : ℕ) (start : Start) (all 
   ends : AreEndToEnd Stream file first items later.stop
   ends = (refl, first_there, later_ends)
 
-  pub items_bytes : bytes_of file items ≡ drop first file
+  pub items_bytes : bytes_of_items file items ≡ drop first file
   items_bytes =
       let reached : ReachesTo file start (length file) = reach-end file start (frames_from file start) (stream_run file start).stop refl read.end in
-      ap (λ (r : Run). bytes_of file r.items) (sym stream_is)
-      ∙ sym (append-nil (bytes_of file (stream_run file start).items))
-      ∙ ap (λ l. bytes_of file (stream_run file start).items ++ l) (sym (drop-length file))
+      ap (λ (r : Run). bytes_of_items file r.items) (sym stream_is)
+      ∙ sym (append-nil (bytes_of_items file (stream_run file start).items))
+      ∙ ap (λ l. bytes_of_items file (stream_run file start).items ++ l) (sym (drop-length file))
       ∙ reached
 
   pub stop_is : later.stop ≡ length file
   stop_is =
-      omega (arith, items-length Stream file first items later.stop (bytes_of file items) ends (kept_items file first items later.stop ends), ap length items_bytes, length-drop first file, first_whole.within, first_whole.some)
+      omega (arith, items-length Stream file first items later.stop (bytes_of_items file items) ends (kept_items file first items later.stop ends), ap length items_bytes, length-drop first file, first_whole.within, first_whole.some)
 
   -- ---- the bytes
 
   abbrev before : List ℕ
-  before = bytes_of file front.items
+  before = bytes_of_items file front.items
 
   abbrev own : List ℕ
   own = first_bytes shift file start.first head

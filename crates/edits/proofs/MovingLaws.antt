@@ -16,7 +16,7 @@ use Rattle.sync_survey.specs.declared.rows.Row.{Row}
 use Rattle.sync_survey.specs.declared.runs.Part.{Part}
 use Rattle.sync_survey.specs.declared.runs.Part.TheVariants.{Front, Stream}
 use Rattle.sync_survey.specs.Items.{item_at, size_of}
-use Rattle.sync_survey.specs.Runs.{Placed, AreEndToEnd, run, bytes_in, bytes_of, frame_as, frames_of}
+use Rattle.sync_survey.specs.Runs.{Placed, AreEndToEnd, run, bytes_in, bytes_of_items, frame_as, frames_of}
 use Rattle.sync_survey.specs.Start.{front_end_of}
 use Rattle.sync_survey.specs.Walk.{stream_run, numbered}
 use Rattle.sync_survey.specs.MainData.{rows_of}
@@ -160,13 +160,13 @@ stop_within part file from [] to e within = omega (arith, e, within)
 stop_within part file from (p ∷ ps) to e within = stop_within part file (p.offset + size_of p.item) ps to e.2 (item_of-is part file p.offset p.item e.1).within
 
 -- the items of the front are the bytes up to their end
-front_bytes : (file : List ℕ) → bytes_of file (run Front file 0).items ≡ take (run Front file 0).stop file
+front_bytes : (file : List ℕ) → bytes_of_items file (run Front file 0).items ≡ take (run Front file 0).stop file
 front_bytes file =
     let r = run Front file 0 in
     let all = bytes-ends Front file 0 r.items r.stop (run-ends Front file 0) in
     let within = stop_within Front file 0 r.items r.stop (run-ends Front file 0) (omega arith) in
-    let long : length (bytes_of file r.items) ≡ r.stop = omega (arith, ap length all, length-append (bytes_of file r.items) (drop r.stop file), length-drop r.stop file, within) in
-    sym (take_at (bytes_of file r.items) (drop r.stop file) r.stop long) ∙ ap (take r.stop) all
+    let long : length (bytes_of_items file r.items) ≡ r.stop = omega (arith, ap length all, length-append (bytes_of_items file r.items) (drop r.stop file), length-drop r.stop file, within) in
+    sym (take_at (bytes_of_items file r.items) (drop r.stop file) r.stop long) ∙ ap (take r.stop) all
 
 front_end-is : (file : List ℕ) → front_end_of file ≡ (run Front file 0).stop
 unfolding front_end_of

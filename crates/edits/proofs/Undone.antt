@@ -23,7 +23,7 @@ use Rattle.sync_survey.specs.declared.rows.Row.{Row}
 use Rattle.sync_survey.specs.declared.runs.Part.TheVariants.{Front, Stream}
 use Rattle.sync_survey.specs.declared.survey_fault.SurveyFault.{SurveyFault}
 use Rattle.sync_survey.specs.Items.{item_at, size_of}
-use Rattle.sync_survey.specs.Runs.{Placed, Run, run, AreEndToEnd, bytes_in, bytes_of, frame_as, frames_of}
+use Rattle.sync_survey.specs.Runs.{Placed, Run, run, AreEndToEnd, bytes_in, bytes_of_items, frame_as, frames_of}
 use Rattle.sync_survey.specs.Walk.{frame_bytes, head_of, numbered}
 use Rattle.sync_survey.specs.MainData.{row_of, rows_of}
 use Rattle.sync_survey.specs.Faults.{has_wrong_word, class_from, SurveyFields, longest_file}
@@ -152,7 +152,7 @@ item_back shift file at End frames all is within back = (refl, back)
 item_back shift file at Nothing frames all is within back = (refl, back)
 
 items_back : (shift : Shift) (file new : List ℕ) (gap from at : ℕ) (ps : List Placed) (to : ℕ) (behind : List ℕ) → AreBytes file → AreEndToEnd Stream file from ps to → from ≡ at + gap
-    → drop at new ≡ moved_items shift file ps ++ behind → AreBack shift file (frames_of ps) → moved_items (opposite shift) new (map (nearer gap) ps) ≡ bytes_of file ps
+    → drop at new ≡ moved_items shift file ps ++ behind → AreBack shift file (frames_of ps) → moved_items (opposite shift) new (map (nearer gap) ps) ≡ bytes_of_items file ps
 items_back shift file new gap from at [] to behind all ends there is back = moved-nil (opposite shift) new
 items_back shift file new gap from at (p ∷ ps) to behind all ends there is back =
     let size = size_of p.item in
@@ -171,10 +171,10 @@ items_back shift file new gap from at (p ∷ ps) to behind all ends there is bac
     (items_back shift file new gap (p.offset + size) (p.offset - gap + size) ps to behind all ends.2 (omega (arith, place, ends.0, there)) next here.1)
 
 -- blocks and zero bytes at the front of a file are its front
-front_bytes : (file : List ℕ) → bytes_of file (run Front file 0).items ≡ take (run Front file 0).stop file
+front_bytes : (file : List ℕ) → bytes_of_items file (run Front file 0).items ≡ take (run Front file 0).stop file
 front_bytes file =
     let front = run Front file 0 in
-    let bytes = bytes_of file front.items in
+    let bytes = bytes_of_items file front.items in
     let ends = run-ends Front file 0 in
     let long = items-length Front file 0 front.items front.stop bytes ends (kept_items file 0 front.items front.stop (ends-stream Front file 0 front.items front.stop ends)) in
     sym (ap (take front.stop) (sym (bytes-ends Front file 0 front.items front.stop ends)) ∙ take_at bytes (drop front.stop file) front.stop (omega (arith, long)))
@@ -227,7 +227,7 @@ module _ (shift : Shift) (file : List ℕ) (allowed : ℕ) (start : Start) (all 
       (omega (arith, low)) (new-later shift file allowed start all read) (later_by head numbered_back))
       ∙ items_bytes shift file allowed start all read
 
-  front_back : bytes_of new (run Front new 0).items ≡ take start.front_end file
+  front_back : bytes_of_items new (run Front new 0).items ≡ take start.front_end file
   front_back =
       let stop : (run Front new 0).stop ≡ start.front_end = ap (λ (r : Run). r.stop) (new-front shift file allowed start all read) in
       front_bytes new

@@ -10,7 +10,7 @@ use Rattle.sync_survey.specs.declared.rows.Row.{Row}
 use Rattle.sync_survey.specs.declared.runs.Part.TheVariants.{Front, Stream}
 use Rattle.sync_survey.specs.declared.survey_fault.SurveyFault.{SurveyFault}
 use Rattle.sync_survey.specs.declared.survey_fault.SurveyFault.TheVariants.{Absent}
-use Rattle.sync_survey.specs.Runs.{Placed, run, bytes_in, bytes_of}
+use Rattle.sync_survey.specs.Runs.{Placed, run, bytes_in, bytes_of_items}
 use Rattle.sync_survey.specs.Faults.{SurveyFields}
 use Rattle.sync_survey.specs.Survey.{survey_of}
 use Rattle.edits.specs.declared.fault.EditFault.{EditFault}
@@ -41,11 +41,11 @@ moved_items shift file ps = flat_map (λ (p : Placed). moved_item shift p.item (
 -- the items from the first frame on; a head is the first of them, and stays
 abbrev pub moved_stream : Shift → List ℕ → Option Head → List Placed → List ℕ
 moved_stream shift file None ps = moved_items shift file ps
-moved_stream shift file (Some head) ps = bytes_of file (take 1 ps) ++ moved_items shift file (drop 1 ps)
+moved_stream shift file (Some head) ps = bytes_of_items file (take 1 ps) ++ moved_items shift file (drop 1 ps)
 
 -- all items of a file in their order, with the gains of its frames moved; junk is dropped
 unfoldable pub edited : Shift → List ℕ → SurveyFields → List ℕ
-edited shift file s = bytes_of file (run Front file 0).items ++ moved_stream shift file s.head (run Stream file s.first).items
+edited shift file s = bytes_of_items file (run Front file 0).items ++ moved_stream shift file s.head (run Stream file s.first).items
 
 -- ---- the range
 

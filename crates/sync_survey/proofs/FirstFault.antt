@@ -25,7 +25,7 @@ use Rattle.sync_survey.specs.Runs.{Placed, AreEndToEnd, frame_as, frames_of}
 use Rattle.sync_survey.specs.Start.{start_of}
 use Rattle.sync_survey.specs.Walk.{stream_run, head_of, numbered, fault_at, end_fault, walk_from}
 use Rattle.sync_survey.specs.MainData.{rows_of, place, end_before}
-use Rattle.sync_survey.specs.Faults.{where_true, has_wrong_word, points_too_far, overlaps, overruns, room_of, data_faults, faults_at, frame_faults, all_faults, first_of, class_from, faults_from, fault_place, NoneBefore, SurveyFields, fields_from, unless_fault, survey_by, surveyed, longest_file}
+use Rattle.sync_survey.specs.Faults.{where_true, has_wrong_word, points_too_far, overlaps, overruns, room_for_data, data_faults, faults_at, frame_faults, all_faults, first_of, class_from, faults_from, fault_place, NoneBefore, SurveyFields, fields_from, unless_fault, survey_by, surveyed, longest_file}
 use Rattle.sync_survey.specs.Kinds.{IsRefused, kind_of, by_kind}
 use Rattle.sync_survey.specs.Survey.{survey_of, RefusesBytes, HasShrunk, AsksForMemory, IsSurveyFault, IsRefusal}
 use Rattle.sync_survey.proofs.RunsLaws.{cons_list, item_of-is, run-ends}
@@ -63,7 +63,7 @@ at_none at (x ∷ xs) p = (omega (arith, p.0), at_none at xs p.1)
 data_at : (place ended : ℕ) (r : Row) → AreAt r.offset (data_faults place ended r)
 data_at place ended r =
     let begins = BackPointer r.offset r.side.main_data_begin place in
-    let ends = Overrun r.offset (payload_bits r.side) (room_of r) in
+    let ends = Overrun r.offset (payload_bits r.side) (room_for_data r) in
     let far = where_true (points_too_far place r) begins in
     let over = where_true (overlaps place ended r) (Overlap r.offset) in
     all_at r.offset (far ++ over) (where_true (overruns place r) ends)

@@ -9,7 +9,7 @@ use Rattle.sync_survey.specs.declared.places.Piece.{Piece}
 use Rattle.sync_survey.specs.declared.runs.Part.{Part}
 use Rattle.sync_survey.specs.declared.runs.Part.TheVariants.{Stream}
 use Rattle.sync_survey.specs.Items.{item_front, item_at, size_of}
-use Rattle.sync_survey.specs.Runs.{Placed, belongs, item_of, run, AreEndToEnd, bytes_in, bytes_of, frame_as, block_as, frames_of, blocks_of}
+use Rattle.sync_survey.specs.Runs.{Placed, belongs, item_of, run, AreEndToEnd, bytes_in, bytes_of_items, frame_as, block_as, frames_of, blocks_of}
 use Rattle.sync_survey.proofs.RunsLaws.{item_of-is, item_of-whole, run-only}
 use Rattle.sync_survey.proofs.ItemBytes.{IsItem, kept_item}
 
@@ -54,11 +54,11 @@ items-length part file from (p ∷ ps) to bytes ends are =
     omega (arith, ends.0, ap length are.2, length-append are.0 are.1, are.3.size, items-length part file (p.offset + size_of p.item) ps to are.1 ends.2 are.4)
 
 -- the bytes of items of a file are these items
-pub kept_items : (file : List ℕ) (from : ℕ) (ps : List Placed) (to : ℕ) → AreEndToEnd Stream file from ps to → AreItems ps (bytes_of file ps)
+pub kept_items : (file : List ℕ) (from : ℕ) (ps : List Placed) (to : ℕ) → AreEndToEnd Stream file from ps to → AreItems ps (bytes_of_items file ps)
 kept_items file from [] to ends = refl
 kept_items file from (p ∷ ps) to ends =
     let here = item_of-is Stream file p.offset p.item ends.1 in
-    (bytes_in file p, bytes_of file ps, refl, kept_item file p.offset p.item here.is here.belongs here.within, kept_items file (p.offset + size_of p.item) ps to ends.2)
+    (bytes_in file p, bytes_of_items file ps, refl, kept_item file p.offset p.item here.is here.belongs here.within, kept_items file (p.offset + size_of p.item) ps to ends.2)
 
 -- ---- where they stand
 

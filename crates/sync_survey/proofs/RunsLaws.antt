@@ -9,7 +9,7 @@ use Rattle.sync_survey.specs.declared.items.Item.TheVariants.{Frame, Free, Block
 use Rattle.sync_survey.specs.declared.runs.Part.{Part}
 use Rattle.sync_survey.specs.declared.runs.Part.TheVariants.{Front}
 use Rattle.sync_survey.specs.Items.{item_at, size_of, fits}
-use Rattle.sync_survey.specs.Runs.{Placed, belongs, whole, item_of, Run, stopped, behind, onward, run_up_to, run, AreEndToEnd, bytes_in, bytes_of, frame_as, block_as, frames_of, blocks_of}
+use Rattle.sync_survey.specs.Runs.{Placed, belongs, whole, item_of, Run, stopped, behind, onward, run_up_to, run, AreEndToEnd, bytes_in, bytes_of_items, frame_as, block_as, frames_of, blocks_of}
 use Rattle.sync_survey.proofs.ItemsLaws.{size-some}
 
 -- what a test that passed says of its two parts
@@ -141,11 +141,11 @@ run-only part file from (p ∷ ps) to ends none =
     ap (run part file) (sym ends.0) ∙ run-next part file p.offset p.item ends.1 ∙ ap (behind p.offset p.item) (run-only part file (p.offset + size_of p.item) ps to ends.2 none)
 
 -- items that stand end to end are, with the bytes behind them, the file's bytes from their beginning on
-pub bytes-ends : (part : Part) (file : List ℕ) (from : ℕ) (ps : List Placed) (to : ℕ) → AreEndToEnd part file from ps to → bytes_of file ps ++ drop to file ≡ drop from file
+pub bytes-ends : (part : Part) (file : List ℕ) (from : ℕ) (ps : List Placed) (to : ℕ) → AreEndToEnd part file from ps to → bytes_of_items file ps ++ drop to file ≡ drop from file
 bytes-ends part file from [] to ends = ap (λ at. drop at file) (sym ends)
 bytes-ends part file from (p ∷ ps) to ends =
     let size = size_of p.item in
-    append_assoc (bytes_in file p) (bytes_of file ps) (drop to file)
+    append_assoc (bytes_in file p) (bytes_of_items file ps) (drop to file)
     ∙ ap (λ rest. bytes_in file p ++ rest) (bytes-ends part file (p.offset + size) ps to ends.2 ∙ sym (drop-drop size p.offset file))
     ∙ take-append-drop size (drop p.offset file)
     ∙ ap (λ at. drop at file) ends.0

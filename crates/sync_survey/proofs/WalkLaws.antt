@@ -14,7 +14,7 @@ use Rattle.sync_survey.specs.declared.places.Piece.{Piece}
 use Rattle.sync_survey.specs.declared.places.Head.{Head}
 use Rattle.sync_survey.specs.declared.places.Start.{Start}
 use Rattle.sync_survey.specs.Items.{Stands, item_front, item_at, size_of}
-use Rattle.sync_survey.specs.Runs.{item_of, run, frames_of, blocks_of, bytes_of}
+use Rattle.sync_survey.specs.Runs.{item_of, run, frames_of, blocks_of, bytes_of_items}
 use Rattle.sync_survey.specs.Looks.{look_size, Shows}
 use Rattle.sync_survey.specs.Start.{start_of}
 use Rattle.sync_survey.specs.Walk.{stream_run, head_of, numbered, numbered_at, all_blocks, fault_at, end_fault, walk_from}
@@ -99,14 +99,14 @@ nothing_left file stop none = at_end (drop stop file) stop (item_at file stop) (
 
 -- the items from the first frame on, one behind the other, are the file's bytes from there to this offset
 abbrev pub ReachesTo : List ℕ → Start → ℕ → Type 0
-ReachesTo file start to = bytes_of file (stream_run file start).items ++ drop to file ≡ drop start.first.offset file
+ReachesTo file start to = bytes_of_items file (stream_run file start).items ++ drop to file ≡ drop start.first.offset file
 
 -- where nothing is at fault, they reach to the end of the file
 pub reach-end : (file : List ℕ) (start : Start) (frames : List PlacedFrame) (stop : ℕ) → stop ≡ (stream_run file start).stop → end_fault file frames (fault_at stop (item_at file stop)) ≡ None → ReachesTo file start (length file)
 reach-end file start frames stop is none =
     let r = stream_run file start in
     let nothing : drop stop file ≡ [] = nothing_left file stop (no_fault file frames _ none) in
-    ap (λ rest. bytes_of file r.items ++ rest) (drop-length file ∙ sym nothing ∙ ap (λ at. drop at file) is)
+    ap (λ rest. bytes_of_items file r.items ++ rest) (drop-length file ∙ sym nothing ∙ ap (λ at. drop at file) is)
     ∙ bytes-ends Stream file start.first.offset r.items r.stop (run-ends Stream file start.first.offset)
 
 -- ---- a head that a look shows

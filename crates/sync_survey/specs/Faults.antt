@@ -41,15 +41,15 @@ abbrev pub overruns : ℕ → Row → Bool
 overruns place r = nat_lt (place + own_area r.header) (end_of_data place r)
 
 -- the bits that are there for them
-abbrev pub room_of : Row → ℕ
-room_of r = 8 * (r.side.main_data_begin + own_area r.header)
+abbrev pub room_for_data : Row → ℕ
+room_for_data r = 8 * (r.side.main_data_begin + own_area r.header)
 
 -- the faults of a frame's main data, in their order
 abbrev pub data_faults : ℕ → ℕ → Row → List SurveyFault
 data_faults place ended r =
     where_true (points_too_far place r) (BackPointer r.offset r.side.main_data_begin place)
     ++ where_true (overlaps place ended r) (Overlap r.offset)
-    ++ where_true (overruns place r) (Overrun r.offset (payload_bits r.side) (room_of r))
+    ++ where_true (overruns place r) (Overrun r.offset (payload_bits r.side) (room_for_data r))
 
 -- The faults of a frame, in their order: the check word that stands in it, the place of its own area among the main data, the end of
 -- the main data before it, and how many frames stand before it are given, and of how many frames the file may be.

@@ -5,7 +5,7 @@ use Rattle.sync_survey.specs.declared.items.Item.TheVariants.{Frame}
 use Rattle.sync_survey.specs.declared.places.Start.{Start}
 use Rattle.sync_survey.specs.declared.runs.Part.{Part}
 use Rattle.sync_survey.specs.Items.{Stands, item_front, item_at, size_of}
-use Rattle.sync_survey.specs.Runs.{Placed, run, item_of, AreEndToEnd, bytes_of}
+use Rattle.sync_survey.specs.Runs.{Placed, run, item_of, AreEndToEnd, bytes_of_items}
 use Rattle.sync_survey.specs.Start.{start_of, IsLeastStart}
 use Rattle.sync_survey.specs.Faults.{SurveyFields, surveyed, stream_of_survey, HoldsStream}
 
@@ -18,7 +18,7 @@ OneItemStands = (bytes : List ℕ) (item : Item) → Stands bytes item ↔ (item
 pub record IsOnlyRun (part : Part) (file : List ℕ) (from : ℕ) : Type 0 where
   pub items : AreEndToEnd part file from (run part file from).items (run part file from).stop
   pub last : item_of part file (run part file from).stop ≡ None
-  pub bytes : bytes_of file (run part file from).items ++ drop (run part file from).stop file ≡ drop from file
+  pub bytes : bytes_of_items file (run part file from).items ++ drop (run part file from).stop file ≡ drop from file
   pub only : (others : List Placed) (stop : ℕ) → AreEndToEnd part file from others stop → item_of part file stop ≡ None → run part file from ≡ record { items = others; stop = stop }
 
 abbrev pub RunsAreOnly : Type 0

@@ -68,8 +68,8 @@ abbrev pub bytes_in : List ℕ → Placed → List ℕ
 bytes_in file p = take (size_of p.item) (drop p.offset file)
 
 -- the bytes of these items, one behind the other
-abbrev pub bytes_of : List ℕ → List Placed → List ℕ
-bytes_of file ps = flat_map (bytes_in file) ps
+abbrev pub bytes_of_items : List ℕ → List Placed → List ℕ
+bytes_of_items file ps = flat_map (bytes_in file) ps
 
 -- ---- frames and blocks among the items
 
