@@ -14,7 +14,13 @@ use Rattle.outside.specs.Feed.{Fed}
 use Rattle.outside.specs.Counts.{Counts}
 use Rattle.edits.specs.declared.moving.CopyFault.{CopyFault}
 use Rattle.edits.specs.declared.moving.CopyFault.TheVariants.{Read, Shrunk, Write}
-use Rattle.edits.specs.Pass.{IsReady, Writes, WritesUpTo, WritesPrefix, Appends, AppendsPrefix, HasCopyCause}
+use Rattle.edits.specs.Pass.{IsReady, Writes, WritesPrefix, Appends, AppendsPrefix, HasCopyCause}
+
+-- The first of the bytes went on, and the rest of them are to follow.
+pub record WritesUpTo (input output : List ℕ) (whole rest : List ℕ → List ℕ) (before after : List ℕ) (old new : Files) : Type 0 where
+  pub made : List ℕ → List ℕ
+  pub written : Writes input output made before after old new
+  pub left : (file : List ℕ) → Holds old input file → whole file ≡ made file ++ rest file
 
 -- ---- names
 

@@ -26,12 +26,6 @@ pub record Writes (input output : List ℕ) (made : List ℕ → List ℕ) (befo
   pub is : (file : List ℕ) → Holds old input file → piece ≡ made file
   pub passed : PassedOn output (before ++ piece) after old new
 
--- The first of the bytes went on, and the rest of them are to follow.
-pub record WritesUpTo (input output : List ℕ) (whole rest : List ℕ → List ℕ) (before after : List ℕ) (old new : Files) : Type 0 where
-  pub made : List ℕ → List ℕ
-  pub written : Writes input output made before after old new
-  pub left : (file : List ℕ) → Holds old input file → whole file ≡ made file ++ rest file
-
 -- Only some bytes were appended to the output: where the input is told, a prefix of what waited and of what is made of its bytes so.
 pub record WritesPrefix (input output : List ℕ) (made : List ℕ → List ℕ) (before : List ℕ) (old new : Files) : Type 0 where
   pub bytes : List ℕ

@@ -1,5 +1,5 @@
 -- Moved side information differs from what stands in the frame in gains alone.
-use Rattle.std.proofs.Common.{◌≡◌, sym, ◌∙◌, ap, subst}
+use Rattle.std.proofs.Common.{sym, ◌∙◌, ap, subst}
 use Rattle.side_info.specs.Side.{HasOtherGains}
 use Rattle.side_info.specs.Frame.{side_in, frame_with}
 use Rattle.side_info.proofs.FrameLaws.{shaped-side_in}

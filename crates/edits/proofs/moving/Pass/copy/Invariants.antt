@@ -1,7 +1,8 @@
 -- The bytes up to `at` went on.
 use Rattle.std.proofs.Common.{◌≡◌, ◌-◌, ◌≤◌}
 use Rattle.edits.specs.Moving.{bytes_between}
-use Rattle.edits.specs.Pass.{IsReady, WritesUpTo}
+use Rattle.edits.specs.Pass.{IsReady}
+use Rattle.edits.proofs.PassLaws.{WritesUpTo}
 use Rattle.edits.proofs.moving.Pass.copy.Given as goal
 
 abbrev pub invariant-loop-at : goal.invariant-loop-at

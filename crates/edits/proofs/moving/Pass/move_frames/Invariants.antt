@@ -3,7 +3,8 @@ use Rattle.std.proofs.Common.{◌≡◌, ℕ, List, drop}
 use Rattle.outside.specs.Files.{Holds}
 use Rattle.edits.specs.Moving.{AreRowsOf, moved_from}
 use Rattle.sync_survey.specs.Survey.{AreLaid}
-use Rattle.edits.specs.Pass.{IsReady, WritesUpTo}
+use Rattle.edits.specs.Pass.{IsReady}
+use Rattle.edits.proofs.PassLaws.{WritesUpTo}
 use Rattle.edits.proofs.moving.Pass.move_frames.Given as goal
 
 abbrev pub invariant-loop-row : goal.invariant-loop-row
