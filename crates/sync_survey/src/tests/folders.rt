@@ -201,7 +201,7 @@ impl Folder for Untold {
         self.reads = self.reads.saturating_add(1);
         let left = self.length.saturating_sub(at);
         let count = into.len().min(left as usize);
-        if count == 0 {
+        if count == 0 && !into.is_empty() {
             self.ends = self.ends.saturating_add(1);
         }
         Ok(count)
