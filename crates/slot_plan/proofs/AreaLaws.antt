@@ -1,0 +1,113 @@
+-- The areas of slots: the last is the greatest, and the first that is large enough the least.
+use Rattle.std.proofs.Common.{◌≡◌, ℕ, ◌+◌, ◌-◌, ◌<◌, ◌≤◌, Bool, false, inl, inr, List, [], ◌∷◌, map, length, get_or, Contains, AllPairs, refl, sym, ap, ◌∙◌, subst, arith}
+use Rattle.std.proofs.lemmas.List.{get_or-map, length-map, get_or_default}
+use Rattle.std.proofs.lemmas.Bool.{cases_lt}
+use Rattle.frame_header.specs.Fields.{SlotFields, ClassFields}
+use Rattle.frame_header.specs.Tables.{area_of}
+use Rattle.frame_header.specs.Slots.{all_slots, areas_of, largest_slot}
+use Rattle.frame_header.proofs.SlotLaws.{Contains-all_slots, length-all_slots}
+use Rattle.slot_plan.specs.Parts.{areas_with}
+use Rattle.slot_plan.specs.Reserve.{greatest, IsLeastSlot}
+use Rattle.slot_plan.proofs.ReserveLaws.{greatest-most, Contains-greatest}
+
+abbrev pub Ascend : List ℕ → Type 0
+Ascend ns = AllPairs (λ m n. m < n) ns
+
+greatest-last : (ns : List ℕ) (d : ℕ) → 0 < length ns → Ascend ns → get_or ns (length ns - 1) d ≡ greatest ns
+greatest-last ns d some ascend =
+    let last : ℕ = get_or ns (length ns - 1) 0 in
+    let e : get_or ns (length ns - 1) d ≡ last = get_or_default ns (length ns - 1) d 0 (omega arith) in
+    let is : Contains ns last = (length ns - 1, omega arith, get_or_default ns (length ns - 1) last 0 (omega arith)) in
+    let g = Contains-greatest ns last is in
+    let at : get_or ns g.0 0 ≡ greatest ns = get_or_default ns g.0 0 (greatest ns) g.1 ∙ g.2 in
+    let most = greatest-most ns last is in
+    elim (cases_lt g.0 (length ns - 1)) as (λ _. get_or ns (length ns - 1) d ≡ greatest ns) [
+      | inl before ↦ let less = ascend g.0 (length ns - 1) 0 before (omega arith) in omega arith
+      | inr here ↦
+          let same : g.0 ≡ length ns - 1 = omega (arith, g.1) in
+          e ∙ ap (λ k. get_or ns k 0) (sym same) ∙ at
+    ]
+
+area_at : (c : ClassFields) (p : Bool) (slots : List SlotFields) (i n : ℕ) (d : SlotFields) → i < length slots → get_or (areas_with c p slots) i n ≡ area_of c (get_or slots i d) p
+area_at c p slots i n d within = get_or-map (λ s. area_of c s p) slots i d n within
+
+areas-many : (c : ClassFields) (p : Bool) (slots : List SlotFields) → length (areas_with c p slots) ≡ length slots
+areas-many c p slots = length-map slots (λ s. area_of c s p)
+
+-- the last slot has the greatest area
+pub area-last : (c : ClassFields) (p : Bool) (slots : List SlotFields) (slot d : SlotFields) → 0 < length slots → Ascend (areas_with c p slots) → slot ≡ get_or slots (length slots - 1) d → area_of c slot p ≡ greatest (areas_with c p slots)
+area-last c p slots slot d some ascend is =
+    let many = areas-many c p slots in
+    ap (λ s. area_of c s p) is
+    ∙ sym (area_at c p slots (length slots - 1) 0 d (omega arith))
+    ∙ ap (λ n. get_or (areas_with c p slots) (n - 1) 0) (sym many)
+    ∙ greatest-last (areas_with c p slots) 0 (omega arith) ascend
+
+-- an area of the list is that of a slot
+pub slot-area : (c : ClassFields) (p : Bool) (slots : List SlotFields) (n : ℕ) → Contains (areas_with c p slots) n → (slot : SlotFields) × Contains slots slot × (area_of c slot p ≡ n)
+slot-area c p [] n has = absurd (omega (arith, has.1))
+slot-area c p (s ∷ slots) n has =
+    let many = areas-many c p (s ∷ slots) in
+    let slot : SlotFields = get_or (s ∷ slots) has.0 s in
+    let within : has.0 < length (s ∷ slots) = omega (arith, has.1) in
+    (slot, (has.0, within, get_or_default (s ∷ slots) has.0 slot s within), sym (area_at c p (s ∷ slots) has.0 n s within) ∙ has.2)
+
+pub Contains-area : (c : ClassFields) (p : Bool) (slots : List SlotFields) (slot : SlotFields) → Contains slots slot → Contains (areas_with c p slots) (area_of c slot p)
+Contains-area c p slots slot has =
+    (has.0, omega (arith, has.1, areas-many c p slots), area_at c p slots has.0 (area_of c slot p) slot has.1 ∙ ap (λ s. area_of c s p) has.2)
+
+-- the first that is large enough has the least area
+pub least-first : (wanted : ℕ) (c : ClassFields) (p : Bool) (slots : List SlotFields) (i : ℕ) (slot : SlotFields) → i < length slots → slot ≡ get_or slots i slot → Ascend (areas_with c p slots)
+    → ((k : ℕ) → k < i → area_of c (get_or slots k slot) p < wanted) → wanted ≤ area_of c slot p → IsLeastSlot wanted c p slots slot
+least-first wanted c p slots i slot within is ascend small enough = record {
+  chosen = (i, within, sym is);
+  enough = enough;
+  least = λ other has fits.
+      elim (cases_lt has.0 i) as (λ _. area_of c slot p ≤ area_of c other p) [
+        | inl before ↦
+            let here : get_or slots has.0 slot ≡ other = get_or_default slots has.0 slot other has.1 ∙ has.2 in
+            let less = small has.0 before in
+            absurd (omega (arith, ap (λ s. area_of c s p) here, less, fits))
+        | inr from ↦
+            elim (cases_lt i has.0) as (λ _. area_of c slot p ≤ area_of c other p) [
+              | inl behind ↦
+                  let less = ascend i has.0 0 behind (omega (arith, areas-many c p slots, has.1)) in
+                  let first = area_at c p slots i 0 slot within in
+                  let second = area_at c p slots has.0 0 other has.1 in
+                  omega (arith, less, first, second, ap (λ s. area_of c s p) is, ap (λ s. area_of c s p) has.2)
+              | inr at ↦
+                  let same : i ≡ has.0 = omega arith in
+                  let here : slot ≡ other = is ∙ get_or_default slots i slot other within ∙ ap (λ k. get_or slots k other) same ∙ has.2 in
+                  omega (arith, ap (λ s. area_of c s p) here)
+            ]
+      ];
+}
+
+-- not all are too small
+pub some-enough : (wanted : ℕ) (c : ClassFields) (p : Bool) (slots : List SlotFields) (d : SlotFields) → 0 < length slots → wanted ≤ greatest (areas_with c p slots)
+    → ((k : ℕ) → k < length slots → area_of c (get_or slots k d) p < wanted) → ⊥
+some-enough wanted c p slots d some enough small =
+    let many = areas-many c p slots in
+    let first : ℕ = get_or (areas_with c p slots) 0 0 in
+    let g = Contains-greatest (areas_with c p slots) first (0, omega arith, get_or_default (areas_with c p slots) 0 first 0 (omega arith)) in
+    let within : g.0 < length slots = omega (arith, g.1) in
+    omega (arith, small g.0 within, area_at c p slots g.0 (greatest (areas_with c p slots)) d within, g.2)
+
+-- ---- the slots of a lead-in
+pub lead-ascend : (c : ClassFields) (slots : List SlotFields) → slots ≡ all_slots → Ascend (areas_of c false) → Ascend (areas_with c false slots)
+unfolding areas_of
+lead-ascend c slots all ascend = subst (λ l. Ascend (areas_with c false l)) (sym all) ascend
+
+pub lead-some : (c : ClassFields) (slots : List SlotFields) (n window : ℕ) → slots ≡ all_slots → n ≤ window → window ≤ area_of c largest_slot false → n ≤ greatest (areas_with c false slots)
+lead-some c slots n window all few spanned =
+    let has = Contains-area c false all_slots largest_slot (Contains-all_slots largest_slot (omega arith, omega arith)) in
+    let most = greatest-most (areas_with c false all_slots) (area_of c largest_slot false) has in
+    let same : greatest (areas_with c false all_slots) ≡ greatest (areas_with c false slots) = ap (λ l. greatest (areas_with c false l)) (sym all) in
+    omega arith
+
+pub lead-any : (slots : List SlotFields) → slots ≡ all_slots → 0 < length slots
+lead-any slots all = omega (arith, ap length all, length-all_slots)
+
+pub class-ascend : (class c : ClassFields) (p : Bool) (slots : List SlotFields) → slots ≡ all_slots → class ≡ c → Ascend (areas_of class p) → Ascend (areas_with c p slots)
+unfolding areas_of
+class-ascend class c p slots all is ascend = subst (λ l. Ascend (areas_with c p l)) (sym all) (subst (λ k. Ascend (areas_with k p all_slots)) is ascend)

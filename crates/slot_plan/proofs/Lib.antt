@@ -1,0 +1,4 @@
+pub mod ReserveLaws
+pub mod AreaLaws
+pub mod PartLaws
+pub mod PlacedLaws

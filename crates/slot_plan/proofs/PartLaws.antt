@@ -1,0 +1,210 @@
+-- The frames of a part, from each place on.
+use Rattle.std.proofs.Common.{◌≡◌, ℕ, zero, suc, ◌+◌, ◌-◌, ◌<◌, ◌≤◌, List, [], ◌∷◌, ◌++◌, map, length, length-append, get_or, take, drop, inl, inr, All, AllPairs, Contains, Option, Some, None, refl, sym, ap, ◌∙◌, subst, arith}
+use Rattle.std.proofs.lemmas.List.{drop-map, drop_all, same_from_push, length-take-le, length-drop}
+use Rattle.std.proofs.lemmas.Bool.{cases_lt}
+use Rattle.std.proofs.Math.Seq.{drop-cons}
+use Rattle.std.specs.Prelude.{option_to_list, unwrap_or, slice_range}
+use Rattle.frame_header.specs.Fields.{SlotFields, ClassFields, HeaderFields}
+use Rattle.frame_header.specs.Tables.{class_of, window_of}
+use Rattle.slot_plan.specs.declared.needs.Need.{Need}
+use Rattle.slot_plan.specs.declared.reserves.Reserves.{Reserves}
+use Rattle.slot_plan.specs.Layouts.{Frame, IsFeasible}
+use Rattle.slot_plan.specs.Lists.{Open, AreChosen, frames_of}
+use Rattle.slot_plan.specs.Parts.{item_of, open_of, own_frame, own_area, parts_of, ArePartsFeasible, AreOfClass, AreOfOneClass, window_in}
+use Rattle.slot_plan.specs.Reserve.{greatest, needed, needed_behind, AllWithin, opens_in, AreReserves}
+use Rattle.slot_plan.proofs.ReserveLaws.{AllFit, fit-from, needed-fit}
+
+-- the need at i, and those behind it
+pub next_need : (part : List Need) (i : ℕ) (need : Need) → i < length part → need ≡ get_or part i need → drop i part ≡ need ∷ drop (i + 1) part
+next_need part i need lt is =
+    let one : suc i ≡ i + 1 = omega arith in
+    drop-cons part i need lt ∙ ap (λ n. get_or part i need ∷ drop n part) one ∙ ap (λ n. n ∷ drop (i + 1) part) (sym is)
+
+-- in its own slots a part is the frames of its own areas
+frames-own : (choices : HeaderFields → List SlotFields) (part : List Need) → frames_of (opens_in choices part) (map own_area part) ≡ map own_frame part
+unfolding frames_of
+frames-own choices [] = refl
+frames-own choices (need ∷ part) = ap (λ l. own_frame need ∷ l) (frames-own choices part)
+
+-- so from each frame on, no more is needed than the window
+pub needed-own : (window k : ℕ) (choices : HeaderFields → List SlotFields) (part : List Need) → IsFeasible window window (map own_frame part) → AreChosen (opens_in choices (drop k part)) (map own_area (drop k part))
+    → (needed (opens_in choices (drop k part)) ≤ window) × AllWithin window (opens_in choices (drop k part))
+needed-own window k choices part feasible chosen =
+    let fit : AllFit window window (drop k (map own_frame part)) = fit-from window k (map own_frame part) feasible in
+    let own = drop-map own_frame k part ∙ sym (frames-own choices (drop k part)) in
+    needed-fit window window (opens_in choices (drop k part)) (map own_area (drop k part)) (omega arith) chosen (subst (AllFit window window) own fit)
+
+-- ---- one frame more
+pub behind-cons : (choices : HeaderFields → List SlotFields) (need : Need) (part : List Need) → needed_behind (opens_in choices (need ∷ part)) ≡ needed_behind (opens_in choices part) ++ needed (opens_in choices part) ∷ []
+unfolding needed_behind
+behind-cons choices need part = refl
+
+pub needed-cons : (choices : HeaderFields → List SlotFields) (need : Need) (part : List Need) → needed (opens_in choices (need ∷ part)) ≡ (need.bytes + needed (opens_in choices part)) - greatest (open_of (item_of choices need)).areas
+unfolding needed
+needed-cons choices need part = refl
+
+pub within-cons : (window : ℕ) (choices : HeaderFields → List SlotFields) (need : Need) (part : List Need) → AllWithin window (opens_in choices (need ∷ part)) → (needed (opens_in choices part) ≤ window) × AllWithin window (opens_in choices part)
+unfolding AllWithin
+within-cons window choices need part all = all
+
+pub chosen-cons : (choices : HeaderFields → List SlotFields) (need : Need) (part : List Need) → Contains (open_of (item_of choices need)).areas (own_area need) → AreChosen (opens_in choices part) (map own_area part) → AreChosen (opens_in choices (need ∷ part)) (map own_area (need ∷ part))
+unfolding AreChosen
+chosen-cons choices need part here behind = (here, behind)
+
+-- behind all frames
+pub nothing_behind : (choices : HeaderFields → List SlotFields) → needed_behind (opens_in choices []) ≡ []
+unfolding needed_behind
+nothing_behind choices = refl
+
+pub nothing_needed : (choices : HeaderFields → List SlotFields) → needed (opens_in choices []) ≡ 0
+unfolding needed
+nothing_needed choices = refl
+
+pub nothing_within : (window : ℕ) (choices : HeaderFields → List SlotFields) → AllWithin window (opens_in choices [])
+unfolding AllWithin
+nothing_within window choices = tt
+
+pub nothing_chosen : (choices : HeaderFields → List SlotFields) → AreChosen (opens_in choices []) (map own_area [])
+unfolding AreChosen
+nothing_chosen choices = tt
+
+-- the last of the list is what the first frame needs behind it
+pub popped : (behind rest : List ℕ) (last : Option ℕ) (ns : List ℕ) (n : ℕ) → behind ≡ ns ++ n ∷ [] → behind ≡ rest ++ option_to_list last → 0 < length (option_to_list last) → (last ≡ Some n) × (rest ≡ ns)
+popped behind rest None ns n is parts some = absurd (omega arith)
+popped behind rest (Some m) ns n is parts some = let same = same_from_push rest ns m n (sym parts ∙ is) in (ap (λ k. Some k) same.1, same.0)
+
+-- ---- the frames of a part from i on have what they need
+pub record ReservesFrom (window : ℕ) (choices : HeaderFields → List SlotFields) (part : List Need) (i : ℕ) (stack : List ℕ) (first : ℕ) : Type 0 where
+  pub before : first ≡ needed (opens_in choices (drop i part))
+  pub behind : stack ≡ needed_behind (opens_in choices (drop i part))
+  pub most : first ≤ window
+  pub within : AllWithin window (opens_in choices (drop i part))
+  pub own : AreChosen (opens_in choices (drop i part)) (map own_area (drop i part))
+
+pub reserves-none : (window : ℕ) (choices : HeaderFields → List SlotFields) (part : List Need) → ReservesFrom window choices part (length part) [] 0
+reserves-none window choices part =
+    let none : drop (length part) part ≡ [] = drop_all (length part) part (omega arith) in
+    record {
+      before = sym (ap (λ l. needed (opens_in choices l)) none ∙ nothing_needed choices);
+      behind = sym (ap (λ l. needed_behind (opens_in choices l)) none ∙ nothing_behind choices);
+      most = omega arith;
+      within = subst (λ l. AllWithin window (opens_in choices l)) (sym none) (nothing_within window choices);
+      own = subst (λ l. AreChosen (opens_in choices l) (map own_area l)) (sym none) (nothing_chosen choices);
+    }
+
+pub reserves-more : (window : ℕ) (choices : HeaderFields → List SlotFields) (part : List Need) (i : ℕ) (behind : List ℕ) (before result : ℕ) (need : Need) → i < length part → need ≡ get_or part i need
+    → IsFeasible window window (map own_frame part) → Contains (open_of (item_of choices need)).areas (own_area need) → result ≡ (need.bytes + before) - greatest (open_of (item_of choices need)).areas
+    → ReservesFrom window choices part (i + 1) behind before → ReservesFrom window choices part i (behind ++ before ∷ []) result
+reserves-more window choices part i behind before result need within is feasible own gives from =
+    let here = next_need part i need within is in
+    let rest : List Need = drop (i + 1) part in
+    let chosen = subst (λ l. AreChosen (opens_in choices l) (map own_area l)) (sym here) (chosen-cons choices need rest own from.own) in
+    let all = needed-own window i choices part feasible chosen in
+    let value : result ≡ needed (opens_in choices (drop i part)) =
+    gives ∙ ap (λ n. (need.bytes + n) - greatest (open_of (item_of choices need)).areas) from.before ∙ sym (needed-cons choices need rest) ∙ ap (λ l. needed (opens_in choices l)) (sym here) in
+    record {
+      before = value;
+      behind = ap (λ l. l ++ before ∷ []) from.behind ∙ ap (λ n. needed_behind (opens_in choices rest) ++ n ∷ []) from.before ∙ sym (behind-cons choices need rest) ∙ ap (λ l. needed_behind (opens_in choices l)) (sym here);
+      most = omega (arith, value, all.0);
+      within = all.1;
+      own = chosen;
+    }
+
+pub reserves-all : (window : ℕ) (choices : HeaderFields → List SlotFields) (part : List Need) (i : ℕ) (reserves : Reserves) → i ≡ 0 → ReservesFrom window choices part i reserves.behind.items reserves.before → AreReserves window choices part reserves
+reserves-all window choices part i reserves none from =
+    let all = subst (λ k. ReservesFrom window choices part k reserves.behind.items reserves.before) none from in
+    record { before = all.before; behind = all.behind; most = all.most; within = all.within; own = all.own }
+
+-- ---- forwards: what the next frame needs behind it
+pub next-wanted : (choices : HeaderFields → List SlotFields) (part : List Need) (i : ℕ) (need : Need) (behind rest : List ℕ) (many : ℕ) (last : Option ℕ) (wanted : ℕ) → i < length part → need ≡ get_or part i need → behind ≡ needed_behind (opens_in choices (drop i part))
+    → many ≡ length behind → behind ≡ rest ++ option_to_list last → ((d : ℕ) → 0 < many → last ≡ Some (get_or behind (many - 1) d)) → wanted ≡ unwrap_or last 0
+    → (wanted ≡ needed (opens_in choices (drop (i + 1) part))) × (rest ≡ needed_behind (opens_in choices (drop (i + 1) part)))
+next-wanted choices part i need behind rest many last wanted within is all count parts value gives =
+    let left : List Need = drop (i + 1) part in
+    let ns : List ℕ = needed_behind (opens_in choices left) in
+    let whole : behind ≡ ns ++ needed (opens_in choices left) ∷ [] = all ∙ ap (λ l. needed_behind (opens_in choices l)) (next_need part i need within is) ∙ behind-cons choices need left in
+    let some : 0 < many = omega (arith, ap length whole, length-append ns (needed (opens_in choices left) ∷ [])) in
+    let full : 0 < length (option_to_list last) = subst (λ o. 0 < length (option_to_list o)) (sym (value 0 some)) (omega arith) in
+    let popping = popped behind rest last ns (needed (opens_in choices left)) whole parts full in
+    (gives ∙ ap (λ o. unwrap_or o 0) popping.0, popping.1)
+
+pub next-needed : (choices : HeaderFields → List SlotFields) (part : List Need) (i : ℕ) (need : Need) → i < length part → need ≡ get_or part i need
+    → needed (opens_in choices (drop i part)) ≡ (need.bytes + needed (opens_in choices (drop (i + 1) part))) - greatest (open_of (item_of choices need)).areas
+next-needed choices part i need within is = ap (λ l. needed (opens_in choices l)) (next_need part i need within is) ∙ needed-cons choices need (drop (i + 1) part)
+
+pub next-within : (window : ℕ) (choices : HeaderFields → List SlotFields) (part : List Need) (i : ℕ) (need : Need) → i < length part → need ≡ get_or part i need → AllWithin window (opens_in choices (drop i part))
+    → (needed (opens_in choices (drop (i + 1) part)) ≤ window) × AllWithin window (opens_in choices (drop (i + 1) part))
+next-within window choices part i need within is all = within-cons window choices need (drop (i + 1) part) (subst (λ l. AllWithin window (opens_in choices l)) (next_need part i need within is) all)
+
+-- ---- the parts
+pub parts-cons : (needs : List Need) (parts : List ℕ) (at from end : ℕ) → at < length parts → from ≡ get_or parts at 0 → (at + 1 < length parts → end ≡ get_or parts (at + 1) 0) → (length parts ≤ at + 1 → end ≡ length needs)
+    → parts_of needs (drop at parts) ≡ slice_range needs from end ∷ parts_of needs (drop (at + 1) parts)
+unfolding parts_of
+parts-cons needs parts at from end within is next last =
+    let one : suc at ≡ at + 1 = omega arith in
+    let two : suc (at + 1) ≡ at + 2 = omega arith in
+    let here : drop at parts ≡ from ∷ drop (at + 1) parts =
+    drop-cons parts at 0 within ∙ ap (λ n. get_or parts at 0 ∷ drop n parts) one ∙ ap (λ n. n ∷ drop (at + 1) parts) (sym is) in
+    ap (parts_of needs) here ∙ elim (cases_lt (at + 1) (length parts)) as (λ _. parts_of needs (from ∷ drop (at + 1) parts) ≡ slice_range needs from end ∷ parts_of needs (drop (at + 1) parts)) [
+      | inl more ↦
+          let then : drop (at + 1) parts ≡ end ∷ drop (at + 2) parts =
+          drop-cons parts (at + 1) 0 more ∙ ap (λ n. get_or parts (at + 1) 0 ∷ drop n parts) two ∙ ap (λ n. n ∷ drop (at + 2) parts) (sym (next more)) in
+          ap (λ l. parts_of needs (from ∷ l)) then ∙ ap (λ l. slice_range needs from end ∷ parts_of needs l) (sym then)
+      | inr none ↦
+          let empty : drop (at + 1) parts ≡ [] = drop_all (at + 1) parts (omega arith) in
+          ap (λ l. parts_of needs (from ∷ l)) empty ∙ ap (λ n. slice_range needs from n ∷ []) (sym (last (omega arith))) ∙ ap (λ l. slice_range needs from end ∷ parts_of needs l) (sym empty)
+    ]
+
+pub parts-none : (needs : List Need) (parts : List ℕ) (at : ℕ) → length parts ≤ at → parts_of needs (drop at parts) ≡ []
+unfolding parts_of
+parts-none needs parts at all = ap (parts_of needs) (drop_all at parts all)
+
+pub feasible-cons : (window : ℕ) (part : List Need) (parts : List (List Need)) → ArePartsFeasible window (part ∷ parts) → IsFeasible window window (map own_frame part) × ArePartsFeasible window parts
+unfolding ArePartsFeasible
+feasible-cons window part parts all = all
+
+class-at : (class : ClassFields) (needs : List Need) (i : ℕ) (d : Need) → AreOfClass class needs → i < length needs → class_of (get_or needs i d).header ≡ class
+unfolding AreOfClass
+class-at class [] i d all within = absurd (omega arith)
+class-at class (need ∷ needs) zero d all within = all.0
+class-at class (need ∷ needs) (suc i) d all within = class-at class needs i d all.1 (omega arith)
+
+-- the window of a need is that of the first
+window-at : (needs : List Need) (i : ℕ) (d : Need) → AreOfOneClass needs → i < length needs → window_of (get_or needs i d).header.version ≡ window_in needs
+window-at [] i d all within = absurd (omega arith)
+window-at (first ∷ needs) zero d all within = refl
+window-at (first ∷ needs) (suc i) d all within = ap (λ c. window_of c.version) (class-at (class_of first.header) needs i d all (omega arith))
+
+pub part-window : (needs : List Need) (from end : ℕ) → AreOfOneClass needs → from < end → end ≤ length needs → window_in (slice_range needs from end) ≡ window_in needs
+part-window [] from end all some within = absurd (omega arith)
+part-window (d ∷ needs) from end all some within =
+    let first : Need = get_or (d ∷ needs) from d in
+    let many : end - from ≡ suc (end - from - 1) = omega arith in
+    let e : slice_range (d ∷ needs) from end ≡ first ∷ take (end - from - 1) (drop (suc from) (d ∷ needs)) =
+    ap (λ n. take n (drop from (d ∷ needs))) many ∙ ap (λ l. take (suc (end - from - 1)) l) (drop-cons (d ∷ needs) from d (omega arith)) in
+    ap window_in e ∙ window-at (d ∷ needs) from d all (omega arith)
+
+pub part-some : (needs : List Need) (from end : ℕ) → from < end → end ≤ length needs → 0 < length (slice_range needs from end)
+part-some needs from end some within = omega (arith, length-take-le (end - from) (drop from needs) (omega (arith, length-drop from needs)), length-drop from needs)
+
+pub window-first : (needs : List Need) (d : Need) (class : ClassFields) (window : ℕ) → AreOfOneClass needs → 0 < length needs → class ≡ class_of (get_or needs 0 d).header → window ≡ window_of class.version → window ≡ window_in needs
+window-first needs d class window all some has gives = gives ∙ ap (λ c. window_of c.version) has ∙ window-at needs 0 d all some
+
+-- a part isn't empty, and ends within the needs
+pub part-bounds : (needs : List Need) (parts : List ℕ) (at end : ℕ) → AllPairs (λ m n. m < n) parts → All (λ place. place < length needs) parts → at < length parts → (at + 1 < length parts → end ≡ get_or parts (at + 1) 0) → (length parts ≤ at + 1 → end ≡ length needs)
+    → (get_or parts at 0 < end) × (end ≤ length needs)
+part-bounds needs parts at end ascend all within next last =
+    elim (cases_lt (at + 1) (length parts)) as (λ _. (get_or parts at 0 < end) × (end ≤ length needs)) [
+      | inl more ↦ let is = next more in let less = ascend at (at + 1) 0 (omega arith) more in let below = all (at + 1) 0 more in (omega arith, omega arith)
+      | inr none ↦ let is = last (omega arith) in let below = all at 0 within in (omega arith, omega arith)
+    ]
+
+-- what the call over the part at this place stands on
+pub part-ready : (needs : List Need) (parts : List ℕ) (at end window : ℕ) → AreOfOneClass needs → AllPairs (λ m n. m < n) parts → All (λ place. place < length needs) parts → at < length parts → (at + 1 < length parts → end ≡ get_or parts (at + 1) 0) → (length parts ≤ at + 1 → end ≡ length needs)
+    → window ≡ window_in needs → ArePartsFeasible window (parts_of needs (drop at parts))
+    → (0 < length (slice_range needs (get_or parts at 0) end)) × (window ≡ window_in (slice_range needs (get_or parts at 0) end)) × IsFeasible window window (map own_frame (slice_range needs (get_or parts at 0) end)) × ArePartsFeasible window (parts_of needs (drop (at + 1) parts))
+part-ready needs parts at end window class ascend all within next last is feasible =
+    let from : ℕ = get_or parts at 0 in
+    let bounds = part-bounds needs parts at end ascend all within next last in
+    let here = feasible-cons window (slice_range needs from end) (parts_of needs (drop (at + 1) parts)) (subst (ArePartsFeasible window) (parts-cons needs parts at from end within refl next last) feasible) in
+    (part-some needs from end bounds.0 bounds.1, is ∙ sym (part-window needs from end class bounds.0 bounds.1), here.0, here.1)

@@ -1,0 +1,258 @@
+-- Frames that are placed by what is needed behind them are the plan.
+use Rattle.std.proofs.Common.{◌≡◌, ℕ, zero, suc, ◌+◌, ◌-◌, ◌<◌, ◌≤◌, Bool, true, false, List, [], ◌∷◌, ◌++◌, map, length, get_or, drop, Contains, Option, Some, None, append_assoc, refl, sym, ap, ap₂, ◌∙◌, subst, arith}
+use Rattle.std.proofs.lemmas.List.{map-append, append-nil}
+use Rattle.frame_header.specs.Fields.{SlotFields, HeaderFields, ClassFields}
+use Rattle.frame_header.specs.Tables.{class_of, area_of}
+use Rattle.frame_header.specs.Slots.{all_slots}
+use Rattle.slot_plan.specs.declared.needs.Need.{Need}
+use Rattle.slot_plan.specs.declared.needs.Placed.{Placed}
+use Rattle.slot_plan.specs.declared.reserves.Reserves.{Reserves}
+use Rattle.slot_plan.specs.Layouts.{Frame, IsLayout, IsFeasible, begins_of}
+use Rattle.slot_plan.specs.Lists.{Open, AreChosen, frames_of, CanBeLaid, IsNotBehind, IsLeast}
+use Rattle.slot_plan.specs.Parts.{Item, area_in, areas_with, open_of, item_of, lead_in_of, items_of, own_area, own_frame, IsLeadIn, AreLeadIns, whole_of}
+use Rattle.slot_plan.specs.Plans.{AreFor, areas_in, IsPlanFor, IsPlan}
+use Rattle.slot_plan.specs.Reserve.{greatest, needed, needed_behind, free_behind, AllWithin, opens_in, IsLeastSlot, ArePlaced, PlacesOn, PlacesPart, AreReserves}
+use Rattle.slot_plan.proofs.ReserveLaws.{AllFit, AreLeastAreas, frees_of, begins-frees, fit-least, least-is, needed-can, can-needed, append-needed, append-within}
+use Rattle.slot_plan.proofs.PartLaws.{next_need}
+use Rattle.slot_plan.proofs.AreaLaws.{slot-area, Contains-area}
+
+-- ---- what is placed is the least list
+least-placed : (window free : ℕ) (items : List Item) (placed : List Placed) → ArePlaced window free items placed → AreLeastAreas window free (map open_of items) (areas_in items placed)
+unfolding ArePlaced AreLeastAreas areas_in
+least-placed window free [] [] all = tt
+least-placed window free [] (p ∷ placed) all = absurd all
+least-placed window free (item ∷ items) [] all = absurd all
+least-placed window free (item ∷ items) (p ∷ placed) all = (
+  Contains-area item.class item.protected item.choices p.slot all.2.chosen,
+  all.2.enough,
+  (λ other has fits.
+      let slot = slot-area item.class item.protected item.choices other has in
+      let less : area_in item p.slot ≤ area_in item slot.0 = all.2.least slot.0 slot.1 (omega (arith, slot.2, fits)) in
+      omega (arith, slot.2, less)),
+  least-placed window (free_behind window free item.bytes (area_in item p.slot)) items placed all.3,
+)
+
+for-placed : (window free : ℕ) (items : List Item) (placed : List Placed) → ArePlaced window free items placed → AreFor items placed
+unfolding ArePlaced AreFor
+for-placed window free [] [] all = tt
+for-placed window free [] (p ∷ placed) all = absurd all
+for-placed window free (item ∷ items) [] all = absurd all
+for-placed window free (item ∷ items) (p ∷ placed) all = (all.0, all.2.chosen, for-placed window (free_behind window free item.bytes (area_in item p.slot)) items placed all.3)
+
+begins-placed : (window free : ℕ) (items : List Item) (placed : List Placed) → ArePlaced window free items placed → map (λ p. p.begin) placed ≡ frees_of window free (frames_of (map open_of items) (areas_in items placed))
+unfolding ArePlaced areas_in frames_of frees_of
+begins-placed window free [] [] all = refl
+begins-placed window free [] (p ∷ placed) all = absurd all
+begins-placed window free (item ∷ items) [] all = absurd all
+begins-placed window free (item ∷ items) (p ∷ placed) all =
+    ap₂ (λ n l. n ∷ l) all.1 (begins-placed window (free_behind window free item.bytes (area_in item p.slot)) items placed all.3)
+
+pub plan-placed : (window : ℕ) (items : List Item) (placed : List Placed) → ArePlaced window 0 items placed → IsPlanFor window items placed
+plan-placed window items placed all =
+    let least = least-placed window 0 items placed all in
+    let frames : List Frame = frames_of (map open_of items) (areas_in items placed) in
+    record {
+      slots = for-placed window 0 items placed all;
+      least = least-is window (map open_of items) (areas_in items placed) least;
+      begins = begins-placed window 0 items placed all ∙ begins-frees window 0 0 0 frames (omega arith) (omega arith) (fit-least window 0 (map open_of items) (areas_in items placed) least);
+    }
+
+-- ---- the lead-in of a part
+pub no-lead_in : (window : ℕ) (choices : HeaderFields → List SlotFields) (part : List Need) → needed (opens_in choices part) ≡ 0 → AllWithin window (opens_in choices part) → AreChosen (opens_in choices part) (map own_area part) → IsLeadIn window choices part None
+unfolding IsLeadIn items_of
+no-lead_in window choices part none within own = can-needed window (opens_in choices part) (map own_area part) own none within
+
+-- with a lead-in of one slot
+lead-needed : (class : ClassFields) (slot : SlotFields) (opens : List Open) → needed (open_of (lead_in_of class (slot ∷ [])) ∷ opens) ≡ needed opens - area_of class slot false
+unfolding needed greatest
+lead-needed class slot opens = omega arith
+
+lead-within : (window : ℕ) (class : ClassFields) (slot : SlotFields) (opens : List Open) → needed opens ≤ window → AllWithin window opens → AllWithin window (open_of (lead_in_of class (slot ∷ [])) ∷ opens)
+unfolding AllWithin
+lead-within window class slot opens most within = (most, within)
+
+lead-chosen : (class : ClassFields) (slot : SlotFields) (opens : List Open) (areas : List ℕ) → AreChosen opens areas → AreChosen (open_of (lead_in_of class (slot ∷ [])) ∷ opens) (area_of class slot false ∷ areas)
+unfolding AreChosen
+lead-chosen class slot opens areas chosen = ((zero, omega arith, refl), chosen)
+
+pub one-lead_in : (window : ℕ) (choices : HeaderFields → List SlotFields) (first : Need) (part : List Need) (slot : SlotFields) → 0 < needed (opens_in choices (first ∷ part)) → needed (opens_in choices (first ∷ part)) ≤ window
+    → AllWithin window (opens_in choices (first ∷ part)) → AreChosen (opens_in choices (first ∷ part)) (map own_area (first ∷ part)) → IsLeastSlot (needed (opens_in choices (first ∷ part))) (class_of first.header) false all_slots slot
+    → IsLeadIn window choices (first ∷ part) (Some slot)
+unfolding IsLeadIn items_of
+one-lead_in window choices first part slot some most within own least =
+    let opens : List Open = opens_in choices (first ∷ part) in
+    let class : ClassFields = class_of first.header in
+    let value = lead-needed class slot opens in
+    let enough = least.enough in (
+      (λ can. omega (arith, some, (needed-can window opens can).0)),
+      can-needed window (open_of (lead_in_of class (slot ∷ [])) ∷ opens) (area_of class slot false ∷ map own_area (first ∷ part)) (lead-chosen class slot opens (map own_area (first ∷ part)) own) (omega arith) (lead-within window class slot opens most within),
+      least.chosen,
+      (λ other is less can.
+          let none = (needed-can window (open_of (lead_in_of class (other ∷ [])) ∷ opens) can).0 in
+          let other_value = lead-needed class other opens in
+          let before = least.least other is (omega arith) in
+          omega arith),
+    )
+
+-- with its lead-in a part needs nothing before it
+lead_in-needed : (window : ℕ) (choices : HeaderFields → List SlotFields) (part : List Need) (lead_in : Option SlotFields) → IsLeadIn window choices part lead_in
+    → (needed (map open_of (items_of choices part lead_in)) ≡ 0) × AllWithin window (map open_of (items_of choices part lead_in))
+unfolding IsLeadIn
+lead_in-needed window choices part None is = needed-can window (map open_of (items_of choices part None)) is
+lead_in-needed window choices [] (Some slot) is = absurd is
+lead_in-needed window choices (first ∷ part) (Some slot) is = needed-can window (map open_of (items_of choices (first ∷ part) (Some slot))) is.1
+
+nothing : needed [] ≡ 0
+unfolding needed
+nothing = refl
+
+pub whole-needed : (window : ℕ) (choices : HeaderFields → List SlotFields) (parts : List (List Need)) (lead_ins : List (Option SlotFields)) → AreLeadIns window choices parts lead_ins → needed (map open_of (whole_of choices parts lead_ins)) ≡ 0
+unfolding AreLeadIns whole_of
+whole-needed window choices [] lead_ins all = nothing
+whole-needed window choices (part ∷ parts) [] all = absurd all
+whole-needed window choices (part ∷ parts) (lead_in ∷ lead_ins) all =
+    let rest = whole-needed window choices parts lead_ins all.1 in
+    ap needed (map-append open_of (items_of choices part lead_in) (whole_of choices parts lead_ins))
+    ∙ append-needed (map open_of (items_of choices part lead_in)) (map open_of (whole_of choices parts lead_ins)) rest
+    ∙ (lead_in-needed window choices part lead_in all.0).0
+
+-- ---- placing on
+pub places-begun : (window free : ℕ) (items : List Item) (placed : List Placed) → PlacesOn window free free items items placed placed
+places-begun window free items placed = record {
+  more = [];
+  appended = sym (append-nil placed);
+  goes = λ rest behind none all. all;
+}
+
+placed-cons : (window free : ℕ) (item : Item) (items : List Item) (p : Placed) (placed : List Placed) → p.lead_in ≡ item.lead_in → p.begin ≡ free → IsLeastSlot ((item.bytes + needed (map open_of items)) - free) item.class item.protected item.choices p.slot
+    → ArePlaced window (free_behind window free item.bytes (area_in item p.slot)) items placed → ArePlaced window free (item ∷ items) (p ∷ placed)
+unfolding ArePlaced
+placed-cons window free item items p placed is begin least behind = (is, begin, least, behind)
+
+pub places-more : (window free now : ℕ) (items : List Item) (item : Item) (left : List Item) (old new : List Placed) (p : Placed) → p.lead_in ≡ item.lead_in → p.begin ≡ now → IsLeastSlot ((item.bytes + needed (map open_of left)) - now) item.class item.protected item.choices p.slot
+    → PlacesOn window free now items (item ∷ left) old new → PlacesOn window free (free_behind window now item.bytes (area_in item p.slot)) items left old (new ++ p ∷ [])
+places-more window free now items item left old new p is begin least on = record {
+  more = on.more ++ p ∷ [];
+  appended = ap (λ l. l ++ p ∷ []) on.appended ∙ append_assoc old on.more (p ∷ []);
+  goes = λ rest placed none all.
+      let same : needed (map open_of left) ≡ needed (map open_of (left ++ rest)) = sym (ap needed (map-append open_of left rest) ∙ append-needed (map open_of left) (map open_of rest) none) in
+      let here = subst (λ n. IsLeastSlot ((item.bytes + n) - now) item.class item.protected item.choices p.slot) same least in
+      subst (λ l. ArePlaced window free (items ++ rest) l) (sym (append_assoc on.more (p ∷ []) placed))
+      (on.goes rest (p ∷ placed) none (placed-cons window now item (left ++ rest) p placed is begin here all));
+}
+
+pub places-then : (window free now after : ℕ) (items left : List Item) (old mid new : List Placed) → PlacesOn window free now items left old mid → PlacesOn window now after left [] mid new → PlacesOn window free after items [] old new
+places-then window free now after items left old mid new first second = record {
+  more = first.more ++ second.more;
+  appended = second.appended ∙ ap (λ l. l ++ second.more) first.appended ∙ append_assoc old first.more second.more;
+  goes = λ rest placed none all.
+      subst (λ l. ArePlaced window free (items ++ rest) l) (sym (append_assoc first.more second.more placed))
+      (first.goes rest (second.more ++ placed) none (second.goes rest placed none all));
+}
+
+-- ---- part by part: with what is placed right from here on, all are
+unfoldable pub PartsPlaced : ℕ → (HeaderFields → List SlotFields) → List (List Need) → List (List Need) → ℕ → List Placed → Type 0
+PartsPlaced window choices all left free before =
+    (lead_ins : List (Option SlotFields)) (placed : List Placed) → AreLeadIns window choices left lead_ins → ArePlaced window free (whole_of choices left lead_ins) placed
+    → (whole : List (Option SlotFields)) × AreLeadIns window choices all whole × ArePlaced window 0 (whole_of choices all whole) (before ++ placed)
+
+pub parts-begun : (window : ℕ) (choices : HeaderFields → List SlotFields) (parts : List (List Need)) → PartsPlaced window choices parts parts 0 []
+unfolding PartsPlaced
+parts-begun window choices parts lead_ins placed alone all = (lead_ins, alone, all)
+
+leads-cons : (window : ℕ) (choices : HeaderFields → List SlotFields) (part : List Need) (parts : List (List Need)) (lead_in : Option SlotFields) (lead_ins : List (Option SlotFields)) → IsLeadIn window choices part lead_in → AreLeadIns window choices parts lead_ins → AreLeadIns window choices (part ∷ parts) (lead_in ∷ lead_ins)
+unfolding AreLeadIns
+leads-cons window choices part parts lead_in lead_ins here behind = (here, behind)
+
+whole-cons : (choices : HeaderFields → List SlotFields) (part : List Need) (parts : List (List Need)) (lead_in : Option SlotFields) (lead_ins : List (Option SlotFields)) → items_of choices part lead_in ++ whole_of choices parts lead_ins ≡ whole_of choices (part ∷ parts) (lead_in ∷ lead_ins)
+unfolding whole_of
+whole-cons choices part parts lead_in lead_ins = refl
+
+pub parts-more : (window : ℕ) (choices : HeaderFields → List SlotFields) (all : List (List Need)) (part : List Need) (left : List (List Need)) (free after : ℕ) (before behind : List Placed) → PlacesPart window choices part free after before behind
+    → PartsPlaced window choices all (part ∷ left) free before → PartsPlaced window choices all left after behind
+unfolding PartsPlaced
+parts-more window choices all part left free after before behind part_placed on lead_ins placed alone rest =
+    let lead_in : Option SlotFields = part_placed.lead_in in
+    let more : List Placed = part_placed.places.more in
+    let none = whole-needed window choices left lead_ins alone in
+    let here : ArePlaced window free (whole_of choices (part ∷ left) (lead_in ∷ lead_ins)) (more ++ placed) =
+    subst (λ l. ArePlaced window free l (more ++ placed)) (whole-cons choices part left lead_in lead_ins) (part_placed.places.goes (whole_of choices left lead_ins) placed none rest) in
+    let end = on (lead_in ∷ lead_ins) (more ++ placed) (leads-cons window choices part left lead_in lead_ins part_placed.alone alone) here in
+    let same : before ++ (more ++ placed) ≡ behind ++ placed = sym (append_assoc before more placed) ∙ ap (λ l. l ++ placed) (sym part_placed.places.appended) in
+    (end.0, end.1, subst (λ l. ArePlaced window 0 (whole_of choices all end.0) l) same end.2)
+
+no-leads : (window : ℕ) (choices : HeaderFields → List SlotFields) → AreLeadIns window choices [] []
+unfolding AreLeadIns
+no-leads window choices = tt
+
+no-placed : (window free : ℕ) (choices : HeaderFields → List SlotFields) → ArePlaced window free (whole_of choices [] []) []
+unfolding ArePlaced whole_of
+no-placed window free choices = tt
+
+pub parts-all : (window : ℕ) (choices : HeaderFields → List SlotFields) (all : List (List Need)) (free : ℕ) (placed : List Placed) → PartsPlaced window choices all [] free placed → IsPlan window choices all placed
+unfolding PartsPlaced
+parts-all window choices all free placed on =
+    let end = on [] [] (no-leads window choices) (no-placed window free choices) in
+    record {
+      lead_ins = end.0;
+      alone = end.1;
+      whole = plan-placed window (whole_of choices all end.0) placed (subst (λ l. ArePlaced window 0 (whole_of choices all end.0) l) (append-nil placed) end.2);
+    }
+
+-- ---- the next frame of a part
+pub places-next : (window free now next : ℕ) (choices : HeaderFields → List SlotFields) (part : List Need) (i : ℕ) (need : Need) (p : Placed) (wanted : ℕ) (old new : List Placed) → i < length part → need ≡ get_or part i need
+    → wanted ≡ needed (opens_in choices (drop (i + 1) part)) → p.lead_in ≡ false → p.begin ≡ now → IsLeastSlot ((need.bytes + wanted) - now) (class_of need.header) need.header.protected (choices need.header) p.slot
+    → next ≡ free_behind window now need.bytes (area_of (class_of need.header) p.slot need.header.protected) → PlacesOn window free now (map (item_of choices) part) (map (item_of choices) (drop i part)) old new
+    → PlacesOn window free next (map (item_of choices) part) (map (item_of choices) (drop (i + 1) part)) old (new ++ p ∷ [])
+places-next window free now next choices part i need p wanted old new within is wants frame begin least behind on =
+    let items : List Item = map (item_of choices) part in
+    let left : List Item = map (item_of choices) (drop (i + 1) part) in
+    let here : PlacesOn window free now items (item_of choices need ∷ left) old new = subst (λ l. PlacesOn window free now items (map (item_of choices) l) old new) (next_need part i need within is) on in
+    let enough = subst (λ n. IsLeastSlot ((need.bytes + n) - now) (class_of need.header) need.header.protected (choices need.header) p.slot) wants least in
+    subst (λ n. PlacesOn window free n items left old (new ++ p ∷ [])) (sym behind) (places-more window free now items (item_of choices need) left old new p frame begin enough here)
+
+-- ---- a part with its lead-in
+pub part-without : (window : ℕ) (choices : HeaderFields → List SlotFields) (part : List Need) (reserves : Reserves) (free after : ℕ) (old new : List Placed) → AreReserves window choices part reserves → reserves.before ≡ 0
+    → PlacesOn window free after (map (item_of choices) part) [] old new → PlacesPart window choices part free after old new
+unfolding items_of
+part-without window choices part reserves free after old new are none places = record {
+  lead_in = None;
+  alone = no-lead_in window choices part (sym are.before ∙ none) are.within are.own;
+  places = places;
+}
+
+contains-one : (slot other : SlotFields) → Contains (slot ∷ []) other → slot ≡ other
+contains-one slot other (zero, within, at) = at
+contains-one slot other (suc i, within, at) = absurd (omega arith)
+
+pub part-with : (window : ℕ) (choices : HeaderFields → List SlotFields) (first : Need) (part : List Need) (reserves : Reserves) (free mid after : ℕ) (p : Placed) (old new : List Placed) → AreReserves window choices (first ∷ part) reserves → 0 < reserves.before
+    → p.lead_in ≡ true → p.begin ≡ free → IsLeastSlot reserves.before (class_of first.header) false all_slots p.slot → mid ≡ free_behind window free 0 (area_of (class_of first.header) p.slot false)
+    → PlacesOn window mid after (map (item_of choices) (first ∷ part)) [] (old ++ p ∷ []) new → PlacesPart window choices (first ∷ part) free after old new
+unfolding items_of
+part-with window choices first part reserves free mid after p old new are some frame begin least behind places =
+    let class : ClassFields = class_of first.header in
+    let items : List Item = map (item_of choices) (first ∷ part) in
+    let lead : Item = lead_in_of class (p.slot ∷ []) in
+    let value : needed (map open_of items) ≡ reserves.before = sym are.before in
+    let enough = least.enough in
+    let only : IsLeastSlot ((0 + needed (map open_of items)) - free) class false (p.slot ∷ []) p.slot = record {
+      chosen = (zero, omega arith, refl);
+      enough = omega arith;
+      least = λ other is fits. omega (arith, ap (λ s. area_of class s false) (contains-one p.slot other is));
+    } in
+    let begun = places-more window free free (lead ∷ items) lead items old old p frame begin only (places-begun window free (lead ∷ items) old) in
+    let on = subst (λ n. PlacesOn window free n (lead ∷ items) items old (old ++ p ∷ [])) (sym behind) begun in
+    record {
+      lead_in = Some p.slot;
+      alone = one-lead_in window choices first part p.slot (omega (arith, value, some)) (omega (arith, value, are.most)) are.within are.own (subst (λ n. IsLeastSlot n class false all_slots p.slot) are.before least);
+      places = places-then window free mid after (lead ∷ items) items old (old ++ p ∷ []) new on places;
+    }
+
+-- the same where the part is known by its first need
+pub part-from : (window : ℕ) (choices : HeaderFields → List SlotFields) (first : Need) (part : List Need) (reserves : Reserves) (free mid after : ℕ) (p : Placed) (old new : List Placed) → 0 < length part → first ≡ get_or part 0 first → AreReserves window choices part reserves → 0 < reserves.before
+    → p.lead_in ≡ true → p.begin ≡ free → IsLeastSlot reserves.before (class_of first.header) false all_slots p.slot → mid ≡ free_behind window free 0 (area_of (class_of first.header) p.slot false)
+    → PlacesOn window mid after (map (item_of choices) part) [] (old ++ p ∷ []) new → PlacesPart window choices part free after old new
+part-from window choices first [] reserves free mid after p old new any is are some frame begin least behind places = absurd (omega arith)
+part-from window choices first (head ∷ part) reserves free mid after p old new any is are some frame begin least behind places =
+    part-with window choices head part reserves free mid after p old new are some frame begin (subst (λ n. IsLeastSlot reserves.before (class_of n.header) false all_slots p.slot) is least)
+    (behind ∙ ap (λ n. free_behind window free 0 (area_of (class_of n.header) p.slot false)) is) places

@@ -1,0 +1,214 @@
+-- Over lists of numbers: which lists can be laid, by the bytes that are free before each frame, and that the least choice by what is needed behind is
+-- the least list.
+use Rattle.std.proofs.Common.{◌≡◌, ℕ, zero, suc, ◌+◌, ◌-◌, ◌<◌, ◌≤◌, max, ◌⊎◌, inl, inr, List, [], ◌∷◌, ◌++◌, drop, Contains, refl, sym, ap, ◌∙◌, subst, arith}
+use Rattle.std.proofs.Math.Nat.{le-max_left, le-max_right}
+use Rattle.std.proofs.lemmas.Bool.{cases_lt}
+use Rattle.slot_plan.specs.Layouts.{Frame, IsLayout, IsFeasible, begins_of}
+use Rattle.slot_plan.specs.Lists.{Open, AreChosen, frames_of, CanBeLaid, IsNotBehind, IsLeast}
+use Rattle.slot_plan.specs.Reserve.{greatest, needed, free_behind, AllWithin}
+
+-- every frame's main data fit in the free bytes before it and its own area
+unfoldable pub AllFit : ℕ → ℕ → List Frame → Type 0
+AllFit window free [] = Unit {0}
+AllFit window free (frame ∷ frames) = (frame.bytes ≤ free + frame.area) × AllFit window (free_behind window free frame.bytes frame.area) frames
+
+-- a layout shows that they fit, the free bytes being those that the window shows, or more
+pub fit-layout : (window end before free : ℕ) (frames : List Frame) (starts : List ℕ) → (before - end) - ((before - end) - window) ≤ free → IsLayout window end before frames starts → AllFit window free frames
+unfolding IsLayout AllFit
+fit-layout window end before free [] starts some layout = tt
+fit-layout window end before free (frame ∷ frames) [] some layout = absurd layout
+fit-layout window end before free (frame ∷ frames) (start ∷ starts) some layout =
+    let behind : start ≤ before = layout.2 in
+    let near : before ≤ start + window = layout.1 in
+    let later : end ≤ start = layout.0 in
+    let within : start + frame.bytes ≤ before + frame.area = layout.3 in
+    (omega arith, fit-layout window (start + frame.bytes) (before + frame.area) (free_behind window free frame.bytes frame.area) frames starts (omega arith) layout.4)
+
+-- the earliest starts
+unfoldable pub starts_of : ℕ → ℕ → ℕ → List Frame → List ℕ
+starts_of window end before [] = []
+starts_of window end before (frame ∷ frames) =
+    let start = max end (before - window) in
+    start ∷ starts_of window (start + frame.bytes) (before + frame.area) frames
+
+max-is : (m n : ℕ) → max m n ≡ m + (n - m)
+max-is m n = omega arith
+
+-- the free bytes before each frame
+unfoldable pub frees_of : ℕ → ℕ → List Frame → List ℕ
+frees_of window free [] = []
+frees_of window free (frame ∷ frames) = free ∷ frees_of window (free_behind window free frame.bytes frame.area) frames
+
+-- where they fit, the earliest starts are a layout
+pub layout-fit : (window end before free : ℕ) (frames : List Frame) → end ≤ before → free ≡ (before - end) - ((before - end) - window) → AllFit window free frames → IsLayout window end before frames (starts_of window end before frames)
+unfolding IsLayout AllFit starts_of
+layout-fit window end before free [] ends is fit = tt
+layout-fit window end before free (frame ∷ frames) ends is fit =
+    let start : ℕ = max end (before - window) in
+    let at : start ≡ end + ((before - window) - end) = max-is end (before - window) in
+    let room : frame.bytes ≤ free + frame.area = fit.0 in (
+      omega arith,
+      omega arith,
+      omega arith,
+      omega arith,
+      layout-fit window (start + frame.bytes) (before + frame.area) (free_behind window free frame.bytes frame.area) frames (omega arith) (omega arith) fit.1,
+    )
+
+-- and main_data_begin is the number of free bytes
+pub begins-frees : (window end before free : ℕ) (frames : List Frame) → end ≤ before → free ≡ (before - end) - ((before - end) - window) → AllFit window free frames → frees_of window free frames ≡ begins_of window end before frames
+unfolding AllFit frees_of begins_of
+begins-frees window end before free [] ends is fit = refl
+begins-frees window end before free (frame ∷ frames) ends is fit =
+    let start : ℕ = max end (before - window) in
+    let at : start ≡ end + ((before - window) - end) = max-is end (before - window) in
+    let room : frame.bytes ≤ free + frame.area = fit.0 in
+    let here : free ≡ before - start = omega arith in
+    let rest = begins-frees window (start + frame.bytes) (before + frame.area) (free_behind window free frame.bytes frame.area) frames (omega arith) (omega arith) fit.1 in
+    ap (λ n. n ∷ frees_of window (free_behind window free frame.bytes frame.area) frames) here ∙ ap (λ l. (before - start) ∷ l) rest
+
+-- ---- choices
+pub greatest-most : (ns : List ℕ) (n : ℕ) → Contains ns n → n ≤ greatest ns
+unfolding greatest
+greatest-most [] n c = absurd (omega (arith, c.1))
+greatest-most (m ∷ ns) n (zero, within, at) = omega (arith, le-max_left m (greatest ns), at)
+greatest-most (m ∷ ns) n (suc i, within, at) = omega (arith, le-max_right m (greatest ns), greatest-most ns n (i, omega arith, at))
+
+pub Contains-greatest : (ns : List ℕ) (n : ℕ) → Contains ns n → Contains ns (greatest ns)
+unfolding greatest
+Contains-greatest [] n c = absurd (omega (arith, c.1))
+Contains-greatest (m ∷ []) n c = (zero, omega arith, sym (max-is m 0 ∙ omega arith))
+Contains-greatest (m ∷ k ∷ ns) n c =
+    let rest : Contains (k ∷ ns) (greatest (k ∷ ns)) = Contains-greatest (k ∷ ns) k (zero, omega arith, refl) in
+    elim (cases_lt m (greatest (k ∷ ns))) as (λ _. Contains (m ∷ k ∷ ns) (max m (greatest (k ∷ ns)))) [
+      | inl less ↦
+          let is : greatest (k ∷ ns) ≡ max m (greatest (k ∷ ns)) = omega (arith, max-is m (greatest (k ∷ ns))) in
+          subst (Contains (m ∷ k ∷ ns)) is (suc rest.0, omega (arith, rest.1), rest.2)
+      | inr most ↦
+          let is : m ≡ max m (greatest (k ∷ ns)) = omega (arith, max-is m (greatest (k ∷ ns))) in
+          subst (Contains (m ∷ k ∷ ns)) is (zero, omega arith, refl)
+    ]
+
+-- where some choice fits, no more is needed than is free, and never more than the window
+pub needed-fit : (window free : ℕ) (opens : List Open) (areas : List ℕ) → free ≤ window → AreChosen opens areas → AllFit window free (frames_of opens areas) → (needed opens ≤ free) × AllWithin window opens
+unfolding AreChosen AllFit frames_of needed AllWithin
+needed-fit window free [] areas within chosen fit = (omega arith, tt)
+needed-fit window free (o ∷ opens) [] within chosen fit = absurd chosen
+needed-fit window free (o ∷ opens) (area ∷ areas) within chosen fit =
+    let rest = needed-fit window (free_behind window free o.bytes area) opens areas (omega arith) chosen.1 fit.1 in
+    let less : needed opens ≤ free_behind window free o.bytes area = rest.0 in
+    let most = greatest-most o.areas area chosen.0 in
+    let room : o.bytes ≤ free + area = fit.0 in
+    (omega arith, (omega arith, rest.1))
+
+-- and where no more is needed, some choice fits
+pub fit-needed : (window free : ℕ) (opens : List Open) (some : List ℕ) → AreChosen opens some → needed opens ≤ free → AllWithin window opens → (areas : List ℕ) × AreChosen opens areas × AllFit window free (frames_of opens areas)
+unfolding AreChosen AllFit frames_of needed AllWithin
+fit-needed window free [] some chosen enough within = ([], tt, tt)
+fit-needed window free (o ∷ opens) [] chosen enough within = absurd chosen
+fit-needed window free (o ∷ opens) (area ∷ some) chosen enough within =
+    let most : ℕ = greatest o.areas in
+    let behind : needed opens ≤ window = within.0 in
+    let all : (o.bytes + needed opens) - greatest o.areas ≤ free = enough in
+    let rest = fit-needed window (free_behind window free o.bytes most) opens some chosen.1 (omega arith) within.1 in
+    (most ∷ rest.0, (Contains-greatest o.areas area chosen.0, rest.1), (omega arith, rest.2))
+
+-- each area is the least that leaves what is needed behind it
+unfoldable pub AreLeastAreas : ℕ → ℕ → List Open → List ℕ → Type 0
+AreLeastAreas window free [] [] = Unit {0}
+AreLeastAreas window free [] (area ∷ areas) = ⊥
+AreLeastAreas window free (o ∷ opens) [] = ⊥
+AreLeastAreas window free (o ∷ opens) (area ∷ areas) =
+    Contains o.areas area × ((o.bytes + needed opens) - free ≤ area)
+    × ((other : ℕ) → Contains o.areas other → (o.bytes + needed opens) - free ≤ other → area ≤ other)
+    × AreLeastAreas window (free_behind window free o.bytes area) opens areas
+
+pub chosen-least : (window free : ℕ) (opens : List Open) (areas : List ℕ) → AreLeastAreas window free opens areas → AreChosen opens areas
+unfolding AreChosen AreLeastAreas
+chosen-least window free [] [] least = tt
+chosen-least window free [] (area ∷ areas) least = absurd least
+chosen-least window free (o ∷ opens) [] least = absurd least
+chosen-least window free (o ∷ opens) (area ∷ areas) least = (least.0, chosen-least window (free_behind window free o.bytes area) opens areas least.3)
+
+pub fit-least : (window free : ℕ) (opens : List Open) (areas : List ℕ) → AreLeastAreas window free opens areas → AllFit window free (frames_of opens areas)
+unfolding AllFit frames_of AreLeastAreas
+fit-least window free [] areas least = tt
+fit-least window free (o ∷ opens) [] least = absurd least
+fit-least window free (o ∷ opens) (area ∷ areas) least =
+    let enough : (o.bytes + needed opens) - free ≤ area = least.1 in
+    (omega arith, fit-least window (free_behind window free o.bytes area) opens areas least.3)
+
+-- no other choice that fits comes before it
+pub not_behind-least : (window free : ℕ) (opens : List Open) (areas others : List ℕ) → free ≤ window → AreLeastAreas window free opens areas → AreChosen opens others → AllFit window free (frames_of opens others) → IsNotBehind areas others
+unfolding AreChosen AllFit frames_of AreLeastAreas IsNotBehind
+not_behind-least window free [] [] [] within least chosen fit = tt
+not_behind-least window free [] [] (other ∷ others) within least chosen fit = tt
+not_behind-least window free [] (area ∷ areas) others within least chosen fit = absurd least
+not_behind-least window free (o ∷ opens) [] others within least chosen fit = absurd least
+not_behind-least window free (o ∷ opens) (area ∷ areas) [] within least chosen fit = absurd chosen
+not_behind-least window free (o ∷ opens) (area ∷ areas) (other ∷ others) within least chosen fit =
+    let rest = (needed-fit window (free_behind window free o.bytes other) opens others (omega arith) chosen.1 fit.1).0 in
+    let room : o.bytes ≤ free + other = fit.0 in
+    let less : area ≤ other = least.2 other chosen.0 (omega arith) in
+    elim (cases_lt area other) as (λ _. (area < other) ⊎ ((area ≡ other) × IsNotBehind areas others)) [
+      | inl before ↦ inl before
+      | inr at ↦
+          let same : area ≡ other = omega arith in
+          let fits : AllFit window (free_behind window free o.bytes area) (frames_of opens others) = subst (λ n. AllFit window (free_behind window free o.bytes n) (frames_of opens others)) (sym same) fit.1 in
+          inr (same, not_behind-least window (free_behind window free o.bytes area) opens areas others (omega arith) least.3 chosen.1 fits)
+    ]
+
+-- ---- what a choice that can be laid says
+pub needed-can : (window : ℕ) (opens : List Open) → CanBeLaid window opens → (needed opens ≡ 0) × AllWithin window opens
+unfolding CanBeLaid IsFeasible
+needed-can window opens can =
+    let fit = fit-layout window 0 0 0 (frames_of opens can.0) can.2.0 (omega arith) can.2.1 in
+    let all = needed-fit window 0 opens can.0 (omega arith) can.1 fit in
+    (omega (arith, all.0), all.1)
+
+pub can-needed : (window : ℕ) (opens : List Open) (some : List ℕ) → AreChosen opens some → needed opens ≡ 0 → AllWithin window opens → CanBeLaid window opens
+unfolding CanBeLaid IsFeasible
+can-needed window opens some chosen none within =
+    let fit = fit-needed window 0 opens some chosen (omega arith) within in
+    (fit.0, fit.1, (starts_of window 0 0 (frames_of opens fit.0), layout-fit window 0 0 0 (frames_of opens fit.0) (omega arith) (omega arith) fit.2))
+
+-- the least areas are the least list
+pub least-is : (window : ℕ) (opens : List Open) (areas : List ℕ) → AreLeastAreas window 0 opens areas → IsLeast window opens areas
+unfolding IsFeasible
+least-is window opens areas least =
+    let fit = fit-least window 0 opens areas least in
+    record {
+      chosen = chosen-least window 0 opens areas least;
+      feasible = (starts_of window 0 0 (frames_of opens areas), layout-fit window 0 0 0 (frames_of opens areas) (omega arith) (omega arith) fit);
+      least = λ others chosen feasible. not_behind-least window 0 opens areas others (omega arith) least chosen (fit-layout window 0 0 0 (frames_of opens others) feasible.0 (omega arith) feasible.1);
+    }
+
+-- ---- behind more frames
+pub append-needed : (xs ys : List Open) → needed ys ≡ 0 → needed (xs ++ ys) ≡ needed xs
+unfolding needed
+append-needed [] ys none = none
+append-needed (x ∷ xs) ys none = ap (λ n. (x.bytes + n) - greatest x.areas) (append-needed xs ys none)
+
+pub append-within : (window : ℕ) (xs ys : List Open) → needed ys ≡ 0 → AllWithin window xs → AllWithin window ys → AllWithin window (xs ++ ys)
+unfolding AllWithin
+append-within window [] ys none first second = second
+append-within window (x ∷ xs) ys none first second = (omega (arith, first.0, append-needed xs ys none), append-within window xs ys none first.1 second)
+
+-- ---- less of the frames, and more free bytes
+fit-more : (window free more : ℕ) (frames : List Frame) → free ≤ more → AllFit window free frames → AllFit window more frames
+unfolding AllFit
+fit-more window free more [] less fit = tt
+fit-more window free more (frame ∷ frames) less fit =
+    let room : frame.bytes ≤ free + frame.area = fit.0 in
+    (omega arith, fit-more window (free_behind window free frame.bytes frame.area) (free_behind window more frame.bytes frame.area) frames (omega arith) fit.1)
+
+fit-drop : (window : ℕ) (k : ℕ) (frames : List Frame) → AllFit window window frames → AllFit window window (drop k frames)
+unfolding AllFit
+fit-drop window zero frames fit = fit
+fit-drop window (suc k) [] fit = fit
+fit-drop window (suc k) (frame ∷ frames) fit =
+    fit-drop window k frames (fit-more window (free_behind window window frame.bytes frame.area) window frames (omega arith) fit.1)
+
+-- frames that can be laid behind a whole window fit from each on
+pub fit-from : (window k : ℕ) (frames : List Frame) → IsFeasible window window frames → AllFit window window (drop k frames)
+unfolding IsFeasible
+fit-from window k frames feasible = fit-drop window k frames (fit-layout window 0 window window frames feasible.0 (omega arith) feasible.1)

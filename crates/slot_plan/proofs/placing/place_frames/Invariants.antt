@@ -1,0 +1,14 @@
+-- The frames before were placed, and what those from here on need is free.
+use Rattle.std.proofs.Common.{◌≡◌, ◌≤◌, [], map, drop}
+use Rattle.slot_plan.specs.Parts.{item_of}
+use Rattle.slot_plan.specs.Reserve.{needed, needed_behind, AllWithin, opens_in, PlacesOn}
+use Rattle.slot_plan.proofs.placing.place_frames.Given as goal
+
+abbrev pub invariant-loop-need : goal.invariant-loop-need
+invariant-loop-need g l = record {
+  free : l.free ≤ l.window;
+  enough : needed (opens_in (g.P.Policy.choices_of l.policy) (drop l.need-index l.part)) ≤ l.free;
+  within : AllWithin l.window (opens_in (g.P.Policy.choices_of l.policy) (drop l.need-index l.part));
+  behind : l.behind.items ≡ needed_behind (opens_in (g.P.Policy.choices_of l.policy) (drop l.need-index l.part));
+  placed : PlacesOn l.window l.initial.free l.free (map (item_of (g.P.Policy.choices_of l.policy)) l.part) (map (item_of (g.P.Policy.choices_of l.policy)) (drop l.need-index l.part)) l.initial.placed.items l.placed.items;
+}

@@ -1,0 +1,59 @@
+-- One part more.
+use Rattle.std.proofs.Common.{◌≡◌, ℕ, ◌+◌, ◌<◌, ◌≤◌, [], length, get_or, drop, refl, sym, ap, ◌∙◌, subst, arith}
+use Rattle.slot_plan.specs.Parts.{ArePartsFeasible, window_in, parts_of}
+use Rattle.slot_plan.specs.Plans.{IsPlan}
+use Rattle.slot_plan.proofs.PartLaws.{window-first, part-ready, parts-cons, parts-none}
+use Rattle.slot_plan.proofs.PlacedLaws.{PartsPlaced, parts-begun, parts-more, parts-all}
+use Rattle.slot_plan.proofs.plans.plan.Goals as goal
+
+pub loop-at-init : goal.loop-at-init
+loop-at-init g c =
+    let needs = c.args.needs.now in
+    let some : 0 < length needs = omega (arith, c.requires.within 0 0 c.requires.some) in
+    let window = window-first needs c.index-needs-0.result c.class.result c.window-window.result c.requires.class some c.class.ensures c.window-window.ensures.window in
+    record {
+      free = omega arith;
+      feasible = subst (λ n. ArePartsFeasible n (parts_of needs c.args.parts.now)) (sym window) c.requires.feasible;
+      placed = subst (λ l. PartsPlaced c.window-window.result (g.P.Policy.choices_of c.args.policy.now) (parts_of needs c.args.parts.now) (parts_of needs c.args.parts.now) 0 l) (sym c.new-placed.ensures.items)
+          (parts-begun c.window-window.result (g.P.Policy.choices_of c.args.policy.now) (parts_of needs c.args.parts.now));
+    }
+
+pub place_part-requires-clause-same : goal.place_part-requires-clause-same
+place_part-requires-clause-same g c =
+    let needs = c.args.needs.now in
+    let some : 0 < length needs = omega (arith, c.requires.within 0 0 c.requires.some) in
+    let window = window-first needs c.index-needs-0.result c.class.result c.window-window.result c.requires.class some c.class.ensures c.window-window.ensures.window in
+    (part-ready needs c.args.parts.now c.loop-at.at c.end_of.result c.window-window.result c.requires.class c.requires.ascending c.requires.within c.loop-at-test.true c.end_of.ensures.next c.end_of.ensures.last window c.loop-at.invariant.feasible).1
+
+pub place_part-requires-clause-feasible : goal.place_part-requires-clause-feasible
+place_part-requires-clause-feasible g c =
+    let needs = c.args.needs.now in
+    let some : 0 < length needs = omega (arith, c.requires.within 0 0 c.requires.some) in
+    let window = window-first needs c.index-needs-0.result c.class.result c.window-window.result c.requires.class some c.class.ensures c.window-window.ensures.window in
+    (part-ready needs c.args.parts.now c.loop-at.at c.end_of.result c.window-window.result c.requires.class c.requires.ascending c.requires.within c.loop-at-test.true c.end_of.ensures.next c.end_of.ensures.last window c.loop-at.invariant.feasible).2
+
+pub loop-at-preserved : goal.loop-at-preserved
+loop-at-preserved g c =
+    let needs = c.args.needs.now in
+    let parts = c.args.parts.now in
+    let choices = g.P.Policy.choices_of c.args.policy.now in
+    let some : 0 < length needs = omega (arith, c.requires.within 0 0 c.requires.some) in
+    let window = window-first needs c.index-needs-0.result c.class.result c.window-window.result c.requires.class some c.class.ensures c.window-window.ensures.window in
+    let ready = part-ready needs parts c.loop-at.at c.end_of.result c.window-window.result c.requires.class c.requires.ascending c.requires.within c.loop-at-test.true c.end_of.ensures.next c.end_of.ensures.last window c.loop-at.invariant.feasible in
+    let here = parts-cons needs parts c.loop-at.at (get_or parts c.loop-at.at 0) c.end_of.result c.loop-at-test.true refl c.end_of.ensures.next c.end_of.ensures.last in
+    record {
+      free = c.in_ok-free.ensures.within;
+      feasible = ready.3;
+      placed = parts-more c.window-window.result choices (parts_of needs parts) _ (parts_of needs (drop (c.loop-at.at + 1) parts)) c.loop-at.free c.in_ok-free.free c.loop-at.placed.items c.place_part.new.placed.items c.in_ok-free.ensures.placed
+          (subst (λ l. PartsPlaced c.window-window.result choices (parts_of needs parts) l c.loop-at.free c.loop-at.placed.items) here c.loop-at.invariant.placed);
+    }
+
+pub returns : goal.returns
+returns g c =
+    let needs = c.args.needs.now in
+    let parts = c.args.parts.now in
+    let choices = g.P.Policy.choices_of c.args.policy.now in
+    let some : 0 < length needs = omega (arith, c.requires.within 0 0 c.requires.some) in
+    let window = window-first needs c.index-needs-0.result c.class.result c.window-window.result c.requires.class some c.class.ensures c.window-window.ensures.window in
+    let all = subst (λ l. PartsPlaced c.window-window.result choices (parts_of needs parts) l c.loop-at.free c.loop-at.placed.items) (parts-none needs parts c.loop-at.at c.loop-at-test.false) c.loop-at.invariant.placed in
+    subst (λ n. IsPlan n choices (parts_of needs parts) c.loop-at.placed.items) window (parts-all c.window-window.result choices (parts_of needs parts) c.loop-at.free c.loop-at.placed.items all)

@@ -1,0 +1,31 @@
+-- One frame more, from the last to the first.
+use Rattle.std.proofs.Common.{◌≡◌, ◌+◌, ◌-◌, ◌≤◌, ◌++◌, ◌∷◌, [], length, get_or, sym, ap, ◌∙◌, subst, arith}
+use Rattle.slot_plan.proofs.PartLaws.{ReservesFrom, reserves-none, reserves-more, reserves-all}
+use Rattle.slot_plan.proofs.reserves.reserves_of.Given.{Over}
+use Rattle.slot_plan.proofs.reserves.reserves_of.Goals as goal
+
+more : (g : Over) (c : goal.After-needed_before-before g) → ReservesFrom c.args.window (g.P.Policy.choices_of c.args.policy.now) c.args.part.now (c.loop-i.i - 1) (c.loop-i.behind.items ++ c.loop-i.before ∷ []) c.needed_before-before.result
+more g c =
+    let choices = g.P.Policy.choices_of c.args.policy.now in
+    let next : c.loop-i.i ≡ c.loop-i.i - 1 + 1 = omega (arith, c.loop-i-test.true) in
+    reserves-more c.args.window choices c.args.part.now (c.loop-i.i - 1) c.loop-i.behind.items c.loop-i.before c.needed_before-before.result c.index-part-i.result
+    (omega (arith, c.loop-i-test.true, c.loop-i.auto.i)) c.index-part-i.is c.requires.feasible c.needed_before-before.ensures.own c.needed_before-before.ensures.needed
+    (subst (λ k. ReservesFrom c.args.window choices c.args.part.now k c.loop-i.behind.items c.loop-i.before) next c.loop-i.invariant)
+
+pub overflow_cast-before : goal.overflow_cast-before
+overflow_cast-before g c =
+    let most : c.needed_before-before.result ≤ c.args.window = (more g c).most in
+    omega (arith, c.requires.window)
+
+pub loop-i-init : goal.loop-i-init
+loop-i-init g c =
+    let choices = g.P.Policy.choices_of c.args.policy.now in
+    subst (λ l. ReservesFrom c.args.window choices c.args.part.now (length c.args.part.now) l 0) (sym (c.in_ok-behind.ensures.items)) (reserves-none c.args.window choices c.args.part.now)
+
+pub loop-i-preserved : goal.loop-i-preserved
+loop-i-preserved g c =
+    let choices = g.P.Policy.choices_of c.args.policy.now in
+    subst (λ l. ReservesFrom c.args.window choices c.args.part.now (c.loop-i.i - 1) l c.needed_before-before.result) (sym (c.in_ok-push.ensures.items)) (more g c)
+
+pub returns : goal.returns
+returns g c = reserves-all c.args.window (g.P.Policy.choices_of c.args.policy.now) c.args.part.now c.loop-i.i _ (omega (arith, c.loop-i-test.false)) c.loop-i.invariant

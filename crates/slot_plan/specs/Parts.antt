@@ -1,0 +1,109 @@
+-- The frames of each part, with the slots among which they choose, and the lead-in of a part.
+use Rattle.std.specs.Prelude.{◌≡◌, ℕ, ◌<◌, Bool, true, false, List, [], ◌∷◌, ◌++◌, map, length, slice_range, Contains, Option, Some, None}
+use Rattle.frame_header.specs.Fields.{SlotFields, ClassFields, HeaderFields}
+use Rattle.frame_header.specs.Tables.{class_of, area_of, window_of}
+use Rattle.frame_header.specs.Slots.{all_slots}
+use Rattle.slot_plan.specs.declared.needs.Need.{Need}
+use Rattle.slot_plan.specs.Layouts.{Frame, IsFeasible}
+use Rattle.slot_plan.specs.Lists.{Open, CanBeLaid}
+
+-- a frame of the output whose slot is open
+pub record Item : Type 0 where
+  pub lead_in : Bool
+  pub class : ClassFields
+  pub protected : Bool
+  pub bytes : ℕ
+  pub choices : List SlotFields
+
+abbrev pub area_in : Item → SlotFields → ℕ
+area_in item slot = area_of item.class slot item.protected
+
+-- the areas of some slots
+abbrev pub areas_with : ClassFields → Bool → List SlotFields → List ℕ
+areas_with class protected slots = map (λ s. area_of class s protected) slots
+
+abbrev pub open_of : Item → Open
+open_of item = record { bytes = item.bytes; areas = areas_with item.class item.protected item.choices }
+
+-- a frame with the choices of its header
+abbrev pub item_of : (HeaderFields → List SlotFields) → Need → Item
+item_of choices need = record {
+  lead_in = false;
+  class = class_of need.header;
+  protected = need.header.protected;
+  bytes = need.bytes;
+  choices = choices need.header;
+}
+
+-- a lead-in: no main data, no check word
+abbrev pub lead_in_of : ClassFields → List SlotFields → Item
+lead_in_of class slots = record {
+  lead_in = true;
+  class = class;
+  protected = false;
+  bytes = 0;
+  choices = slots;
+}
+
+-- the frame in its own slot
+abbrev pub own_area : Need → ℕ
+own_area need = area_of (class_of need.header) need.header.slot need.header.protected
+
+abbrev pub own_frame : Need → Frame
+own_frame need = record { bytes = need.bytes; area = own_area need }
+
+-- each part has a layout in its own slots, behind as many free bytes as the window
+unfoldable pub ArePartsFeasible : ℕ → List (List Need) → Type 0
+ArePartsFeasible window [] = Unit {0}
+ArePartsFeasible window (part ∷ parts) = IsFeasible window window (map own_frame part) × ArePartsFeasible window parts
+
+-- all have this class
+unfoldable pub AreOfClass : ClassFields → List Need → Type 0
+AreOfClass class [] = Unit {0}
+AreOfClass class (need ∷ needs) = (class_of need.header ≡ class) × AreOfClass class needs
+
+-- all have the class of the first
+abbrev pub AreOfOneClass : List Need → Type 0
+AreOfOneClass [] = Unit {0}
+AreOfOneClass (first ∷ needs) = AreOfClass (class_of first.header) needs
+
+-- the window of the first, which is that of all
+abbrev pub window_in : List Need → ℕ
+window_in [] = 0
+window_in (first ∷ needs) = window_of first.header.version
+
+-- the needs from each place to the next, and from the last place to the end
+unfoldable pub parts_of : List Need → List ℕ → List (List Need)
+parts_of needs [] = []
+parts_of needs (from ∷ []) = slice_range needs from (length needs) ∷ []
+parts_of needs (from ∷ to ∷ places) = slice_range needs from to ∷ parts_of needs (to ∷ places)
+
+-- a part's frames, behind its lead-in where it has one
+unfoldable pub items_of : (HeaderFields → List SlotFields) → List Need → Option SlotFields → List Item
+items_of choices part None = map (item_of choices) part
+items_of choices [] (Some slot) = []
+items_of choices (first ∷ part) (Some slot) = lead_in_of (class_of first.header) (slot ∷ []) ∷ map (item_of choices) (first ∷ part)
+
+-- The lead-in of a part alone: none where its frames can be laid without one. Else it has the least area with which they can be laid behind it.
+unfoldable pub IsLeadIn : ℕ → (HeaderFields → List SlotFields) → List Need → Option SlotFields → Type 0
+IsLeadIn window choices part None = CanBeLaid window (map open_of (items_of choices part None))
+IsLeadIn window choices [] (Some slot) = ⊥
+IsLeadIn window choices (first ∷ part) (Some slot) =
+    (CanBeLaid window (map open_of (items_of choices (first ∷ part) None)) → ⊥)
+    × CanBeLaid window (map open_of (items_of choices (first ∷ part) (Some slot)))
+    × Contains all_slots slot
+    × ((other : SlotFields) → Contains all_slots other → area_of (class_of first.header) other false < area_of (class_of first.header) slot false
+    → CanBeLaid window (map open_of (items_of choices (first ∷ part) (Some other))) → ⊥)
+
+-- each part has its lead-in
+unfoldable pub AreLeadIns : ℕ → (HeaderFields → List SlotFields) → List (List Need) → List (Option SlotFields) → Type 0
+AreLeadIns window choices [] [] = Unit {0}
+AreLeadIns window choices [] (lead_in ∷ lead_ins) = ⊥
+AreLeadIns window choices (part ∷ parts) [] = ⊥
+AreLeadIns window choices (part ∷ parts) (lead_in ∷ lead_ins) = IsLeadIn window choices part lead_in × AreLeadIns window choices parts lead_ins
+
+-- the frames of all parts, each behind its lead-in
+unfoldable pub whole_of : (HeaderFields → List SlotFields) → List (List Need) → List (Option SlotFields) → List Item
+whole_of choices [] lead_ins = []
+whole_of choices (part ∷ parts) [] = []
+whole_of choices (part ∷ parts) (lead_in ∷ lead_ins) = items_of choices part lead_in ++ whole_of choices parts lead_ins

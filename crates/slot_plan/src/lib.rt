@@ -1,0 +1,16 @@
+//! Layouts of main data, and the least list of slots for frames whose main data are given.
+#![tactic(auto)]
+
+mod needs;
+mod placing;
+mod plans;
+mod policy;
+mod reserves;
+mod slots;
+
+pub use needs::{Need, Placed, Plan};
+pub use plans::plan;
+pub use policy::{Keep, Least, Policy};
+
+#[cfg(test)]
+mod tests;

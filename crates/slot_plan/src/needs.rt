@@ -1,0 +1,37 @@
+//! What `plan` is given, and what it answers.
+
+use frame_header::{Header, Slot};
+
+/// A frame that is to be placed: its header, and the bytes of its main data.
+#[derive(Clone, Copy, Debug, PartialEq, Eq)]
+pub struct Need {
+    pub header: Header,
+    pub bytes: u32,
+}
+
+/// A frame of a plan: whether it is a lead-in, its slot, and its main_data_begin in bytes (ISO/IEC 11172-3,
+/// 2.4.2.7).
+#[derive(Clone, Copy, Debug, PartialEq, Eq)]
+pub struct Placed {
+    pub lead_in: bool,
+    pub slot: Slot,
+    pub begin: u16,
+}
+
+/// The frames of all parts with their lead-ins, in order of output.
+#[derive(Debug, Drop)]
+pub struct Plan {
+    pub(crate) placed: Vec<Placed>,
+}
+
+impl Plan {
+    ghost use Rattle.std.specs.Prelude.{◌≡◌};
+    ghost use Rattle.slot_plan.specs.Plans.{entries};
+
+    /// The frames in order of output, a part's lead-in before its frames.
+    pub fn placed(&self) -> &[Placed]
+        ensures { result.now ≡ entries self.now }
+    {
+        &self.placed
+    }
+}

@@ -1,0 +1,52 @@
+//! The plan of several parts.
+ghost use Rattle.std.specs.Prelude.{◌≡◌, ◌<◌, ◌≤◌, ◌+◌, AllPairs, All, length, slice_index, IfOk};
+ghost use Rattle.slot_plan.specs.Parts.{AreOfOneClass, ArePartsFeasible, window_in, parts_of};
+ghost use Rattle.slot_plan.specs.Plans.{IsPlan, entries};
+
+use crate::needs::{Need, Plan};
+use crate::placing::place_part;
+use crate::policy::Policy;
+use std::alloc::{AllocError, Global};
+
+/// Where the part at this place ends: where the next begins, or behind the last need.
+fn end_of(needs: &[Need], parts: &[u32], at: usize) -> usize
+    requires { at < length parts.now }
+    ensures next { at + 1 < length parts.now → result ≡ slice_index parts.now (at + 1) }
+    ensures last { length parts.now ≤ at + 1 → result ≡ length needs.now }
+{
+    if at + 1 < parts.len() {
+        parts[at + 1] as usize
+    } else {
+        needs.len()
+    }
+}
+
+/// The lexicographically least list of areas that has a layout, the lead-in of each part being the one that
+/// it has alone: none where its frames have a layout without one, else that of the least area with which
+/// they have one. Main data start as early as they may (ISO/IEC 11172-3, 2.4.2.7). `parts` holds the place
+/// of each part's first need, the first 0. Want of memory is the one refusal.
+pub fn plan<P: Policy>(
+    alloc: Global,
+    needs: &[Need],
+    parts: &[u32],
+    policy: &P,
+) -> Result<Plan, AllocError>
+    requires class { AreOfOneClass needs.now }
+    requires needs { length needs.now ≤ 2900000 }
+    requires some { 1 ≤ length parts.now }
+    requires few { length parts.now ≤ 64 }
+    requires first { slice_index parts.now 0 ≡ 0 }
+    requires ascending { AllPairs (λ m n. m < n) parts.now }
+    requires within { All (λ place. place < length needs.now) parts.now }
+    requires feasible { ArePartsFeasible (window_in needs.now) (parts_of needs.now parts.now) }
+    ensures { IfOk result (λ p. IsPlan (window_in needs.now) (P.choices_of policy.now) (parts_of needs.now parts.now) (entries p)) }
+{
+    let window = needs[0].header.class().window();
+    let mut placed = Vec::new(alloc);
+    let mut free = 0;
+    for (at, from) in parts.iter().enumerate() {
+        let part = &needs[*from as usize..end_of(needs, parts, at)];
+        free = place_part(alloc, window, free, part, policy, &mut placed)?;
+    }
+    Ok(Plan { placed })
+}

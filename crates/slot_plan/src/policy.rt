@@ -1,0 +1,47 @@
+//! Among which slots a frame chooses.
+ghost use Rattle.std.specs.Prelude.{◌≡◌, ◌<◌, List, [], ◌∷◌, map, Contains, AllPairs};
+ghost use Rattle.frame_header.specs.Fields.{SlotFields, HeaderFields};
+ghost use Rattle.frame_header.specs.Tables.{class_of, area_of};
+ghost use Rattle.frame_header.specs.Slots.{all_slots};
+
+use arrayvec::ArrayVec;
+use frame_header::{Header, Slot};
+
+/// The slots that a frame may have.
+pub trait Policy {
+    ghost choices_of: { Self → HeaderFields → List SlotFields };
+
+    /// The slots that a frame with this header may have, the areas ascending. Its own is among them.
+    fn choices(&self, header: &Header) -> ArrayVec<Slot, 28>
+        ensures choices { result.items ≡ choices_of self.now header.now }
+        ensures ascending { AllPairs (λ m n. m < n) (map (λ s. area_of (class_of header.now) s header.now.protected) result.items) }
+        ensures own { Contains result.items header.now.slot };
+}
+
+/// Each frame keeps its own slot.
+#[derive(Clone, Copy, Debug, PartialEq, Eq)]
+pub struct Keep;
+
+impl Policy for Keep {
+    ghost choices_of = { λ p h. h.slot ∷ [] };
+
+    fn choices(&self, header: &Header) -> ArrayVec<Slot, 28> {
+        let mut slots = ArrayVec::new();
+        slots.push(header.slot);
+        slots
+    }
+}
+
+/// Each frame may have any of the 28 slots of its class.
+#[derive(Clone, Copy, Debug, PartialEq, Eq)]
+pub struct Least;
+
+impl Policy for Least {
+    ghost choices_of = { λ p h. all_slots };
+
+    fn choices(&self, header: &Header) -> ArrayVec<Slot, 28> {
+        // Its own slot is one of them.
+        let _ = &header.slot;
+        header.class().slots()
+    }
+}

@@ -1,0 +1,53 @@
+//! From the last frame of a part back to its first: how many bytes have to be free before each.
+ghost use Rattle.std.specs.Prelude.{◌≡◌, ◌+◌, ◌-◌, ◌≤◌, map, IfOk, Contains};
+ghost use Rattle.slot_plan.specs.Parts.{item_of, open_of, own_frame, own_area};
+ghost use Rattle.slot_plan.specs.Layouts.{IsFeasible};
+ghost use Rattle.slot_plan.specs.Reserve.{greatest, AreReserves};
+
+use crate::needs::Need;
+use crate::policy::Policy;
+use crate::slots::largest_area;
+use std::alloc::{AllocError, Global};
+
+/// The bytes that have to be free.
+#[derive(Drop)]
+pub(crate) struct Reserves {
+    /// Behind each frame, the last frame's first.
+    pub(crate) behind: Vec<u16>,
+    /// Before the first frame.
+    pub(crate) before: u16,
+}
+
+/// What has to be free before a frame, where so many bytes have to be free behind it.
+fn needed_before<P: Policy>(need: &Need, behind: u16, policy: &P) -> u64
+    ensures needed { result ≡ (need.now.bytes + behind) - greatest (open_of (item_of (P.choices_of policy.now) need.now)).areas }
+    ensures own { Contains (open_of (item_of (P.choices_of policy.now) need.now)).areas (own_area need.now) }
+{
+    let choices = policy.choices(&need.header);
+    let largest = largest_area(
+        need.header.class(),
+        need.header.protected,
+        choices.as_slice(),
+    );
+    (u64::from(need.bytes) + u64::from(behind)).saturating_sub(u64::from(largest))
+}
+
+/// What each frame of the part needs behind it. Want of memory is the one refusal.
+pub(crate) fn reserves_of<P: Policy>(
+    alloc: Global,
+    window: u32,
+    part: &[Need],
+    policy: &P,
+) -> Result<Reserves, AllocError>
+    requires window { window ≤ 511 }
+    requires feasible { IsFeasible window window (map own_frame part.now) }
+    ensures { IfOk result (λ r. AreReserves window (P.choices_of policy.now) part.now r) }
+{
+    let mut behind = Vec::with_capacity(alloc, part.len())?;
+    let mut before: u16 = 0;
+    for i in (0..part.len()).rev() {
+        behind.push(before)?;
+        before = needed_before(&part[i], before, policy) as u16;
+    }
+    Ok(Reserves { behind, before })
+}
