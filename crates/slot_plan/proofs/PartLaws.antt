@@ -8,7 +8,7 @@ use Rattle.frame_header.specs.Fields.{SlotFields, ClassFields, HeaderFields}
 use Rattle.frame_header.specs.Tables.{class_of, window_of}
 use Rattle.slot_plan.specs.declared.needs.Need.{Need}
 use Rattle.slot_plan.specs.declared.reserves.Reserves.{Reserves}
-use Rattle.slot_plan.specs.Layouts.{Frame, IsFeasible}
+use Rattle.slot_plan.specs.Layouts.{Frame, IsFeasible, IsLayout}
 use Rattle.slot_plan.specs.Lists.{Open, AreChosen, frames_of}
 use Rattle.slot_plan.specs.Parts.{item_of, open_of, own_frame, own_area, parts_of, ArePartsFeasible, AreOfClass, AreOfOneClass, window_in}
 use Rattle.slot_plan.specs.Reserve.{greatest, needed, needed_behind, AllWithin, opens_in, AreReserves}
@@ -208,3 +208,12 @@ part-ready needs parts at end window class ascend all within next last is feasib
     let bounds = part-bounds needs parts at end ascend all within next last in
     let here = feasible-cons window (slice_range needs from end) (parts_of needs (drop (at + 1) parts)) (subst (ArePartsFeasible window) (parts-cons needs parts at from end within refl next last) feasible) in
     (part-some needs from end bounds.0 bounds.1, is ∙ sym (part-window needs from end class bounds.0 bounds.1), here.0, here.1)
+
+-- one frame that fits behind a whole window
+pub alone-feasible : (need : Need) (window : ℕ) → need.bytes ≤ window + own_area need → ArePartsFeasible window (parts_of (need ∷ []) (0 ∷ []))
+unfolding ArePartsFeasible parts_of IsFeasible IsLayout
+alone-feasible need window fits = ((0 ∷ [], (omega arith, omega arith, omega arith, omega arith, tt)), tt)
+
+pub alone-class : (need : Need) → AreOfOneClass (need ∷ [])
+unfolding AreOfClass
+alone-class need = tt
