@@ -1,5 +1,5 @@
 -- Frames that are placed by what is needed behind them are the plan.
-use Rattle.std.proofs.Common.{◌≡◌, ℕ, zero, suc, ◌+◌, ◌-◌, ◌<◌, ◌≤◌, Bool, true, false, List, [], ◌∷◌, ◌++◌, map, length, get_or, drop, Contains, Option, Some, None, append_assoc, refl, sym, ap, ap₂, ◌∙◌, subst, arith}
+use Rattle.std.proofs.Common.{◌≡◌, ℕ, zero, suc, ◌+◌, ◌-◌, ◌<◌, ◌≤◌, true, false, List, [], ◌∷◌, ◌++◌, map, length, get_or, drop, Contains, Option, Some, None, append_assoc, refl, sym, ap, ap₂, ◌∙◌, subst, arith}
 use Rattle.std.proofs.lemmas.List.{map-append, append-nil}
 use Rattle.frame_header.specs.Fields.{SlotFields, HeaderFields, ClassFields}
 use Rattle.frame_header.specs.Tables.{class_of, area_of}
@@ -7,12 +7,12 @@ use Rattle.frame_header.specs.Slots.{all_slots}
 use Rattle.slot_plan.specs.declared.needs.Need.{Need}
 use Rattle.slot_plan.specs.declared.needs.Placed.{Placed}
 use Rattle.slot_plan.specs.declared.reserves.Reserves.{Reserves}
-use Rattle.slot_plan.specs.Layouts.{Frame, IsLayout, IsFeasible, begins_of}
-use Rattle.slot_plan.specs.Lists.{Open, AreChosen, frames_of, CanBeLaid, IsNotBehind, IsLeast}
-use Rattle.slot_plan.specs.Parts.{Item, area_in, areas_with, open_of, item_of, lead_in_of, items_of, own_area, own_frame, IsLeadIn, AreLeadIns, whole_of}
+use Rattle.slot_plan.specs.Layouts.{Frame}
+use Rattle.slot_plan.specs.Lists.{Open, AreChosen, frames_of}
+use Rattle.slot_plan.specs.Parts.{Item, area_in, open_of, item_of, lead_in_of, items_of, own_area, IsLeadIn, AreLeadIns, whole_of}
 use Rattle.slot_plan.specs.Plans.{AreFor, areas_in, IsPlanFor, IsPlan}
-use Rattle.slot_plan.specs.Reserve.{greatest, needed, needed_behind, free_behind, AllWithin, opens_in, IsLeastSlot, ArePlaced, PlacesOn, PlacesPart, AreReserves}
-use Rattle.slot_plan.proofs.ReserveLaws.{AllFit, AreLeastAreas, frees_of, begins-frees, fit-least, least-is, needed-can, can-needed, append-needed, append-within}
+use Rattle.slot_plan.specs.Reserve.{greatest, needed, free_behind, AllWithin, opens_in, IsLeastSlot, ArePlaced, PlacesOn, PlacesPart, AreReserves}
+use Rattle.slot_plan.proofs.ReserveLaws.{AreLeastAreas, frees_of, begins-frees, fit-least, least-is, needed-can, can-needed, append-needed}
 use Rattle.slot_plan.proofs.PartLaws.{next_need}
 use Rattle.slot_plan.proofs.AreaLaws.{slot-area, Contains-area}
 

@@ -5,7 +5,7 @@ use Rattle.slot_plan.specs.declared.needs.Need.{Need}
 use Rattle.slot_plan.specs.declared.needs.Placed.{Placed}
 use Rattle.slot_plan.specs.declared.needs.Plan.{Plan}
 use Rattle.slot_plan.specs.Layouts.{begins_of}
-use Rattle.slot_plan.specs.Lists.{Open, IsLeast, frames_of}
+use Rattle.slot_plan.specs.Lists.{IsLeast, frames_of}
 use Rattle.slot_plan.specs.Parts.{Item, area_in, open_of, AreLeadIns, whole_of}
 
 -- a slot for each frame, out of its own, and lead-ins where they belong

@@ -1,5 +1,5 @@
 -- The slots of a lead-in are all slots, and the largest has room for a whole window.
-use Rattle.std.proofs.Common.{◌≡◌, ◌≤◌, ◌∙◌, ap, arith}
+use Rattle.std.proofs.Common.{◌∙◌, ap, arith}
 use Rattle.frame_header.specs.Tables.{window_of}
 use Rattle.slot_plan.proofs.AreaLaws.{lead-ascend, lead-some, lead-any}
 use Rattle.slot_plan.proofs.placing.lead_in.Goals as goal

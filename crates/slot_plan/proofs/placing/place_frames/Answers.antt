@@ -1,9 +1,8 @@
 -- One frame more.
-use Rattle.std.proofs.Common.{◌≡◌, ℕ, ◌+◌, ◌-◌, ◌<◌, ◌≤◌, List, [], ◌∷◌, ◌++◌, map, length, drop, refl, sym, ap, ap₂, ◌∙◌, subst, arith}
-use Rattle.std.proofs.lemmas.List.{drop_all}
+use Rattle.std.proofs.Common.{◌≡◌, ℕ, ◌+◌, map, drop, sym, ap, ◌∙◌, subst, arith}
 use Rattle.frame_header.specs.Tables.{class_of, area_of}
 use Rattle.slot_plan.specs.Parts.{item_of}
-use Rattle.slot_plan.specs.Reserve.{needed, needed_behind, free_behind, opens_in, PlacesOn}
+use Rattle.slot_plan.specs.Reserve.{needed, free_behind, opens_in, PlacesOn}
 use Rattle.slot_plan.proofs.PlacedLaws.{places-begun, places-next}
 use Rattle.slot_plan.proofs.PartLaws.{next-wanted, next-needed, next-within}
 use Rattle.slot_plan.proofs.placing.place_frames.Goals as goal

@@ -1,5 +1,5 @@
 -- The frames before were placed, and what those from here on need is free.
-use Rattle.std.proofs.Common.{◌≡◌, ◌≤◌, [], map, drop}
+use Rattle.std.proofs.Common.{◌≡◌, ◌≤◌, map, drop}
 use Rattle.slot_plan.specs.Parts.{item_of}
 use Rattle.slot_plan.specs.Reserve.{needed, needed_behind, AllWithin, opens_in, PlacesOn}
 use Rattle.slot_plan.proofs.placing.place_frames.Given as goal

@@ -1,9 +1,9 @@
 -- The part is placed, behind its lead-in where it needs something free.
-use Rattle.std.proofs.Common.{◌≡◌, false, ◌<◌, ◌++◌, ◌∷◌, [], map, sym, ap, ◌∙◌, subst, arith}
+use Rattle.std.proofs.Common.{◌≡◌, false, [], map, ap, ◌∙◌, subst, arith}
 use Rattle.std.proofs.lemmas.Result.{IfOk-weaker}
 use Rattle.frame_header.specs.Tables.{class_of, area_of}
 use Rattle.slot_plan.specs.Parts.{item_of}
-use Rattle.slot_plan.specs.Reserve.{free_behind, PlacesOn, PlacesPart}
+use Rattle.slot_plan.specs.Reserve.{free_behind, PlacesOn}
 use Rattle.slot_plan.proofs.PlacedLaws.{part-without, part-from}
 use Rattle.slot_plan.proofs.placing.place_part.Goals as goal
 

@@ -1,6 +1,6 @@
 -- One part more.
-use Rattle.std.proofs.Common.{◌≡◌, ℕ, ◌+◌, ◌<◌, ◌≤◌, [], length, get_or, drop, refl, sym, ap, ◌∙◌, subst, arith}
-use Rattle.slot_plan.specs.Parts.{ArePartsFeasible, window_in, parts_of}
+use Rattle.std.proofs.Common.{◌+◌, ◌<◌, length, get_or, drop, refl, sym, subst, arith}
+use Rattle.slot_plan.specs.Parts.{ArePartsFeasible, parts_of}
 use Rattle.slot_plan.specs.Plans.{IsPlan}
 use Rattle.slot_plan.proofs.PartLaws.{window-first, part-ready, parts-cons, parts-none}
 use Rattle.slot_plan.proofs.PlacedLaws.{PartsPlaced, parts-begun, parts-more, parts-all}

@@ -1,5 +1,5 @@
 -- The parts before were placed, and those from here on can be.
-use Rattle.std.proofs.Common.{◌≡◌, ◌≤◌, drop}
+use Rattle.std.proofs.Common.{◌≤◌, drop}
 use Rattle.slot_plan.specs.Parts.{ArePartsFeasible, parts_of}
 use Rattle.slot_plan.proofs.PlacedLaws.{PartsPlaced}
 use Rattle.slot_plan.proofs.plans.plan.Given as goal

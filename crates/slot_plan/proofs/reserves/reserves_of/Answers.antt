@@ -1,5 +1,5 @@
 -- One frame more, from the last to the first.
-use Rattle.std.proofs.Common.{◌≡◌, ◌+◌, ◌-◌, ◌≤◌, ◌++◌, ◌∷◌, [], length, get_or, sym, ap, ◌∙◌, subst, arith}
+use Rattle.std.proofs.Common.{◌≡◌, ◌+◌, ◌-◌, ◌≤◌, ◌++◌, ◌∷◌, [], length, sym, subst, arith}
 use Rattle.slot_plan.proofs.PartLaws.{ReservesFrom, reserves-none, reserves-more, reserves-all}
 use Rattle.slot_plan.proofs.reserves.reserves_of.Given.{Over}
 use Rattle.slot_plan.proofs.reserves.reserves_of.Goals as goal

@@ -1,7 +1,6 @@
 -- The first slot that is large enough is the one; and one is.
-use Rattle.std.proofs.Common.{ℕ, ◌≤◌, ◌∙◌, arith, subst, sym, ap}
+use Rattle.std.proofs.Common.{arith}
 use Rattle.slot_plan.proofs.AreaLaws.{least-first, some-enough}
-use Rattle.frame_header.specs.Tables.{area_of}
 use Rattle.slot_plan.proofs.slots.least_slot.Goals as goal
 
 pub returns-then-wanted-from : goal.returns-then-wanted-from

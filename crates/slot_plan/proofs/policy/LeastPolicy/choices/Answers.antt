@@ -1,5 +1,5 @@
 -- The slots of the class are all slots, and a header's own is one of them.
-use Rattle.std.proofs.Common.{Contains, sym, ap, ◌∙◌, subst, arith}
+use Rattle.std.proofs.Common.{Contains, sym, subst}
 use Rattle.frame_header.specs.Fields.{IsSlot}
 use Rattle.slot_plan.proofs.AreaLaws.{class-ascend}
 use Rattle.slot_plan.proofs.policy.LeastPolicy.choices.Goals as goal
