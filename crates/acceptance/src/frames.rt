@@ -341,9 +341,9 @@ pub const MPEG_2: Frame = Frame {
     ..Z
 };
 
-/// The same with the sync bits of MPEG-2.5.
-pub const MPEG_2_5: Frame = Frame {
-    header: [0xff, 0xe3, 0x80, 0x00],
+/// The same with the version that the standard reserves.
+pub const RESERVED_VERSION: Frame = Frame {
+    header: [0xff, 0xeb, 0x80, 0x00],
     length: 208,
     ..Z
 };

@@ -4,7 +4,7 @@ use crate::commands::{expect, expect_file, expect_frames, folder_of_file, folder
 use crate::files::{ID3V1, ID3V2, Stretch};
 use crate::frames::{
     BACK_POINTER, FORBIDDEN_RATE, FREE, Frame, G, G_AT_48_KHZ, HEAD, LAYER_2, MONO, MPEG_2,
-    MPEG_2_5, OVERFULL, RESERVED_FREQUENCY, Z,
+    OVERFULL, RESERVED_FREQUENCY, RESERVED_VERSION, Z,
 };
 use crate::reservoir::{
     FIRST, OVERFULL_BEHIND, OVERLAPPING, OVERLAPPING_AND_OVERFULL, SECOND, SILENT_BACK_POINTER,
@@ -55,8 +55,8 @@ static FAULTY: [Faulty; 30] = [
         line: "a: no frame at 417\n",
     },
     Faulty {
-        what: "MPEG-2.5",
-        file: &[Stretch::Frames(&[MPEG_2_5, MPEG_2_5])],
+        what: "the reserved version",
+        file: &[Stretch::Frames(&[RESERVED_VERSION, RESERVED_VERSION])],
         line: "a: no frame at 0\n",
     },
     Faulty {

@@ -4,7 +4,7 @@ use crate::commands::{expect, expect_file, folder_of_file};
 use crate::files::{APE, ID3V1, ID3V1_REST, ID3V2, ID3V2_REST, Stretch};
 use crate::frames::{
     EARLY_HEAD, G, G_LOWER, HEAD, LOWER, LOWER_QUIETER, MONO, MONO_HEAD, MONO_HEAD_LOWER,
-    MONO_LOWER, MPEG_2_5, PADDED, PROTECTED_G, PROTECTED_G_LOWER, PROTECTED_HEAD, Z,
+    MONO_LOWER, PADDED, PROTECTED_G, PROTECTED_G_LOWER, PROTECTED_HEAD, RESERVED_VERSION, Z,
 };
 use crate::reservoir::{
     FARTHER, FARTHER_LOUDER, FIRST, FIRST_LOUDER, NEARER, NEARER_LOUDER, SECOND, SECOND_LOUDER,
@@ -89,9 +89,9 @@ static EDITS: [Edit; 10] = [
         after: &[Stretch::Frames(&[G_LOWER])],
     },
     Edit {
-        what: "a frame of MPEG-2.5, which is junk",
+        what: "a frame of the reserved version, which is junk",
         words: "gain -s s -g -5 a o",
-        before: &[Stretch::Frames(&[MPEG_2_5, LOWER])],
+        before: &[Stretch::Frames(&[RESERVED_VERSION, LOWER])],
         after: &[Stretch::Frames(&[LOWER_QUIETER])],
     },
     Edit {
