@@ -12,7 +12,7 @@ use Rattle.sync_survey.specs.Survey.{survey_of, RefusesBytes as SurveyRefuses, I
 use Rattle.sync_survey.proofs.BytesFaults.{IsOfBytes, surveyed_of_bytes}
 use Rattle.sync_survey.proofs.FoldersLaws.{survey_of-short}
 use Rattle.edits.specs.declared.fault.EditFault.{EditFault}
-use Rattle.edits.specs.declared.fault.EditFault.TheVariants.{EqualNames, Input, GainRange, Write, Memory}
+use Rattle.edits.specs.declared.fault.EditFault.TheVariants.{EqualNames, Input, GainRange, Write, Sent, Memory}
 use Rattle.edits.specs.declared.shift.Shift.{Shift}
 use Rattle.edits.specs.Kinds.{of_input, HasRightNumbers}
 use Rattle.edits.specs.declared.gains.Stuck.{Stuck}
@@ -21,7 +21,7 @@ use Rattle.sync_survey.specs.declared.rows.Row.{Row}
 use Rattle.edits.specs.Edited.{stuck_fault, most_frames, unless, edited, range_fault, IsRangeFault, gained_by, gained, gained_where, gain_result}
 use Rattle.edits.specs.Streams.{IsStreamMoved, moved_stream_frame}
 use Rattle.edits.specs.Command.{Made, clash_of, Gives, written, written_to, MakesStreams, HoldsStreams}
-use Rattle.edits.specs.Left.{Why, Refused, Missing, Unread, Shorter, Unwritten, NoMemory, why_of, Seen, seen, IsDone, IsWrittenTo, TakesMemory, is_before_memory, LeavesBy, Leaves, HasNumbers, IsOfInput, IsOfPass}
+use Rattle.edits.specs.Left.{Why, Refused, Missing, Unread, Shorter, Unwritten, Unsent, NoMemory, why_of, Seen, seen, IsDone, IsWrittenTo, TakesMemory, is_before_memory, LeavesBy, Leaves, HasNumbers, IsOfInput, IsOfPass}
 use Rattle.edits.specs.Gain.{made_of, gain_command, holding, RefusesInput, IsInputFaultBy, IsInputFault, HoldsPrefix, IsPassFaultBy, IsPassFault}
 use Rattle.edits.proofs.GainedStream.{survey_of-parts, gained-stream}
 
@@ -106,6 +106,7 @@ range_why (EqualNames place) is = absurd is
 range_why (Input place fault) is = absurd is
 range_why (GainRange offset granule channel gain) is = refl
 range_why (Write place) is = absurd is
+range_why Sent is = absurd is
 range_why Memory is = absurd is
 
 pub range_is_input : (shift : Shift) (name : List ℕ) (old new : Seen) (s : SurveyFields) (fault : EditFault) → IsThere old.files name → ((bytes : List ℕ) → Holds old.files name bytes → survey_of bytes most_frames ≡ Ok s)
@@ -119,6 +120,7 @@ range_of_input (EqualNames place) is = absurd is
 range_of_input (Input place fault) is = absurd is
 range_of_input (GainRange offset granule channel gain) is = tt
 range_of_input (Write place) is = absurd is
+range_of_input Sent is = absurd is
 range_of_input Memory is = absurd is
 
 pub gained-free : (shift : Shift) (bytes : List ℕ) (s : SurveyFields) → survey_of bytes most_frames ≡ Ok s → range_fault shift s.frames ≡ None → gained shift bytes ≡ Ok (edited shift bytes s)
@@ -126,7 +128,7 @@ gained-free shift bytes s is none = gained-survey shift bytes s is ∙ ap (λ o.
 
 -- ---- memory
 
-of_bytes_behind : (fault : SurveyFault) → IsOfBytes fault → is_before_memory (Input 0 fault) ≡ false
+pub of_bytes_behind : (fault : SurveyFault) → IsOfBytes fault → is_before_memory (Input 0 fault) ≡ false
 of_bytes_behind Absent is = absurd is
 of_bytes_behind (TooLong size) is = absurd is
 of_bytes_behind _ is = refl
@@ -183,6 +185,7 @@ module _ (shift : Shift) (input output : List ℕ) (differ : bytes_eq input outp
   input_left_by Unread h = record { rose = h.rose; files = inl h.files }
   input_left_by Shorter h = record { rose = h.rose; counts = h.counts; before = h.untold_before; after = h.untold_after }
   input_left_by (Unwritten k) h = absurd h
+  input_left_by Unsent h = absurd h
   input_left_by NoMemory h = record { names = no_clash shift input output differ; takes = takes_memory shift input output old.files differ h.there h.few; stays = h.stays }
 
   pub input_left : IsInputFault shift input old new fault → Leaves (gain_command shift input output) old new fault
@@ -193,6 +196,7 @@ input_numbers shift input output (EqualNames place) h = absurd h
 input_numbers shift input output (Input place fault) h = (omega (arith, h.0), h.1, h.2)
 input_numbers shift input output (GainRange offset granule channel gain) h = tt
 input_numbers shift input output (Write place) h = absurd h
+input_numbers shift input output Sent h = absurd h
 input_numbers shift input output Memory h = tt
 
 pub pass_numbers : (shift : Shift) (input output : List ℕ) (fault : EditFault) → IsOfPass fault → HasNumbers (gain_command shift input output) fault
@@ -200,6 +204,7 @@ pass_numbers shift input output (EqualNames place) h = absurd h
 pass_numbers shift input output (Input place fault) h = (omega (arith, h.0), h.1, h.2)
 pass_numbers shift input output (GainRange offset granule channel gain) h = absurd h
 pass_numbers shift input output (Write place) h = omega (arith, h)
+pass_numbers shift input output Sent h = absurd h
 pass_numbers shift input output Memory h = tt
 
 -- ---- the second pass
@@ -259,6 +264,7 @@ module _ (shift : Shift) (input output : List ℕ) (differ : bytes_eq input outp
     pass_left_by Shorter h = record { rose = h.rose; counts = h.counts; before = h.untold_before; after = h.untold_after }
     pass_left_by (Unwritten k) h =
         record { rose = h.1.rose; files = subst (λ n. IsWrittenTo (gain_command shift input output) n old.files new.files) (sym h.0) (written_part old.files new.files s free h.1.files told) }
+    pass_left_by Unsent h = absurd h
     pass_left_by NoMemory h = record { names = no_clash shift input output differ; takes = free_takes old.files s free; stays = h }
 
     pub pass_left : IsPassFault shift s input output old new fault → Leaves (gain_command shift input output) old new fault
@@ -266,7 +272,7 @@ module _ (shift : Shift) (input output : List ℕ) (differ : bytes_eq input outp
 
 -- ---- what the output holds
 
-abbrev ok_made : Made → Result Made EditFault
+abbrev pub ok_made : Made → Result Made EditFault
 ok_made made = Ok made
 
 stream_of-survey : (file : List ℕ) (s : SurveyFields) → surveyed file (length file + 1) ≡ Ok s → stream_of file ≡ stream_of_survey file s

@@ -13,3 +13,6 @@ pub mod MovedSurvey
 pub mod MovedStream
 pub mod GainedStream
 pub mod Undone
+pub mod ThingsLaws
+pub mod ListingLaws
+pub mod ListLaws

@@ -23,6 +23,8 @@ pub record Command : Type 0 where
   pub outputs : List (List ℕ)
   -- those that it reads as streams of frames
   pub sources : List (List ℕ)
+  -- the text that it makes of all files, where it is the same of all
+  pub always : Option (List ℕ)
   -- what it makes of these files, or why it is refused
   pub makes : Contents → Result Made EditFault
   -- the stream that each file it writes has to hold

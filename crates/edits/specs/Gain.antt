@@ -1,5 +1,5 @@
 -- The gain command.
-use Rattle.std.specs.Prelude.{◌≡◌, ◌⊎◌, ℕ, ◌≤◌, take, List, [], ◌∷◌, length, map, unwrap_or, Result, Ok, Err, option_map}
+use Rattle.std.specs.Prelude.{◌≡◌, ◌⊎◌, ℕ, ◌≤◌, take, List, [], ◌∷◌, length, map, unwrap_or, Some, Result, Ok, Err, option_map}
 use Rattle.outside.specs.Files.{Files, untold, with_file, Holds, IsThere, IsMissing}
 use Rattle.outside.specs.Counts.{Rose, NothingFailed}
 use Rattle.sync_survey.specs.Faults.{longest_file}
@@ -8,7 +8,7 @@ use Rattle.edits.specs.declared.fault.EditFault.{EditFault}
 use Rattle.edits.specs.declared.fault.EditFault.TheVariants.{Input}
 use Rattle.edits.specs.declared.shift.Shift.{Shift}
 use Rattle.edits.specs.Command.{Made, Command}
-use Rattle.edits.specs.Left.{Why, Refused, Missing, Unread, Shorter, Unwritten, NoMemory, why_of, Seen}
+use Rattle.edits.specs.Left.{Why, Refused, Missing, Unread, Shorter, Unwritten, Unsent, NoMemory, why_of, Seen}
 use Rattle.sync_survey.specs.Faults.{SurveyFields}
 use Rattle.edits.specs.Edited.{edited, gained, gain_result}
 use Rattle.edits.specs.Streams.{stream_in, moved_stream_frame}
@@ -25,6 +25,7 @@ gain_command shift input output = record {
   inputs = input ∷ [];
   outputs = output ∷ [];
   sources = input ∷ [];
+  always = Some [];
   makes = λ files. made_of output (gain_result shift input output files);
   streams = λ files. map (moved_stream_frame shift) (stream_in (unwrap_or (files input) [])) ∷ [];
 }
@@ -69,6 +70,7 @@ IsInputFaultBy shift name old new fault Missing = MissesInput name old new fault
 IsInputFaultBy shift name old new fault Unread = ReadsNothing old new
 IsInputFaultBy shift name old new fault Shorter = LosesInput old new
 IsInputFaultBy shift name old new fault (Unwritten k) = ⊥
+IsInputFaultBy shift name old new fault Unsent = ⊥
 IsInputFaultBy shift name old new fault NoMemory = NeedsMemory name old new
 
 -- what a fault that was met before the output is created says of the input

@@ -1,11 +1,11 @@
 -- What a command leaves of the files, by its answer, and the cause of each refusal.
-use Rattle.std.specs.Prelude.{◌≡◌, ◌≢◌, ◌⊎◌, ℕ, ◌<◌, ◌==◌, length, Bool, true, false, Option, Some, None, Result, Ok, Err, IfSome, is_some}
+use Rattle.std.specs.Prelude.{◌≡◌, ◌≢◌, ◌⊎◌, ℕ, ◌<◌, ◌==◌, length, Bool, true, false, Option, Some, None, [], Result, Ok, Err, IfSome, is_some}
 use Rattle.outside.specs.Files.{Files, untold}
 use Rattle.outside.specs.Counts.{Counts, Rose, NothingFailed}
 use Rattle.sync_survey.specs.declared.survey_fault.SurveyFault.TheVariants.{Absent, TooLong, Memory as NoRoom}
 use Rattle.edits.specs.Kinds.{kind_of, by_kind, HasRightNumbers}
 use Rattle.edits.specs.declared.fault.EditFault.{EditFault}
-use Rattle.edits.specs.declared.fault.EditFault.TheVariants.{EqualNames, Input, GainRange, Write, Memory}
+use Rattle.edits.specs.declared.fault.EditFault.TheVariants.{EqualNames, Input, GainRange, Write, Sent, Memory}
 use Rattle.edits.specs.Command.{Made, Command, clash_of, written, written_to, Gives}
 
 -- what can be seen of a folder at a moment: the files, where they are told, and the counts
@@ -29,12 +29,15 @@ pub data Why : Type 0 where
   Shorter : Why
   -- a call failed that writes this output
   Unwritten : ℕ → Why
+  -- a write to standard output failed
+  Unsent : Why
   -- want of memory
   NoMemory : Why
 
 abbrev pub why_of : EditFault → Why
 why_of (Input place fault) = by_kind (record { absent = Missing; unread = Unread; shorter = Shorter; too_much = NoMemory; refused = Refused }) (kind_of fault)
 why_of (Write place) = Unwritten place
+why_of Sent = Unsent
 why_of Memory = NoMemory
 why_of _ = Refused
 
@@ -76,6 +79,11 @@ pub record IsUnwritten (command : Command) (k : ℕ) (old new : Seen) : Type 0 w
   pub rose : Rose old.counts.write_faults new.counts.write_faults
   pub files : IsWrittenTo command k old.files new.files
 
+-- nothing is refused, and all is as it was
+pub record IsUnsent (command : Command) (old new : Seen) : Type 0 where
+  pub made : IfSome old.files (λ f. (made : Made) × (command.makes f ≡ Ok made))
+  pub stays : new ≡ old
+
 -- equal names, an absent first input and one that is too long are found before any memory is taken
 abbrev pub is_before_memory : EditFault → Bool
 is_before_memory (EqualNames place) = true
@@ -99,6 +107,7 @@ LeavesBy command old new fault Missing = IsMissing command old new fault
 LeavesBy command old new fault Unread = IsUnread command old new
 LeavesBy command old new fault Shorter = IsShorter old new
 LeavesBy command old new fault (Unwritten k) = IsUnwritten command k old new
+LeavesBy command old new fault Unsent = IsUnsent command old new
 LeavesBy command old new fault NoMemory = IsOutOfMemory command old new
 
 -- what a fault of the command leaves, and its cause
@@ -111,6 +120,7 @@ abbrev pub HasNumbers : Command → EditFault → Type 0
 HasNumbers command (EqualNames place) = clash_of command ≡ Some place
 HasNumbers command (Input place fault) = (place < length command.inputs) × (fault ≢ NoRoom) × HasRightNumbers fault
 HasNumbers command (Write place) = place < length command.outputs
+HasNumbers command Sent = command.always ≢ Some []
 HasNumbers command _ = Unit {0}
 
 -- the fault is one of the only input, or none of an input or of names
@@ -118,6 +128,7 @@ abbrev pub IsOfInput : EditFault → Type 0
 IsOfInput (EqualNames place) = ⊥
 IsOfInput (Input place fault) = (place ≡ 0) × (fault ≢ NoRoom) × HasRightNumbers fault
 IsOfInput (Write place) = ⊥
+IsOfInput Sent = ⊥
 IsOfInput _ = Unit {0}
 
 -- the same of a fault of the second pass, or want of memory
@@ -126,4 +137,5 @@ IsOfPass (EqualNames place) = ⊥
 IsOfPass (Input place fault) = (place ≡ 0) × (fault ≢ NoRoom) × HasRightNumbers fault
 IsOfPass (GainRange offset granule channel gain) = ⊥
 IsOfPass (Write place) = place ≡ 0
+IsOfPass Sent = ⊥
 IsOfPass Memory = Unit {0}

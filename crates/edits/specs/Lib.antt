@@ -7,5 +7,8 @@ pub mod Pass
 pub mod Streams
 pub mod Command
 pub mod Left
+pub mod Said
+pub mod Things
+pub mod Listing
 pub mod Gain
 pub mod Undoing

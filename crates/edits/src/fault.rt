@@ -21,6 +21,8 @@ pub enum EditFault {
     GainRange(u64, u8, u8, u8),
     /// This output, counted from 0, could not be written.
     Write(u32),
+    /// Standard output could not be written.
+    Sent,
     /// There was no memory left.
     Memory,
 }

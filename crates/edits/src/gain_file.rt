@@ -12,14 +12,12 @@ ghost use Rattle.edits.specs.Left.{seen, IsDone, Leaves, HasNumbers, IsOfInput, 
 
 use crate::edit::range_fault;
 use crate::fault::EditFault;
+use crate::limits::MOST_FRAMES;
 use crate::moving::write_moved;
 use crate::shift::Shift;
 use outside::{Feed, Folder, WriteBuffer};
 use std::alloc::Global;
 use sync_survey::{Survey, survey};
-
-/// An input may have so many frames.
-const MOST_FRAMES: u32 = 2_900_000;
 
 /// What is known of the input, where no gain of it would leave its range.
 fn survey_input<D: Folder>(

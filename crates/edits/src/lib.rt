@@ -5,13 +5,19 @@ mod edit;
 mod fault;
 mod gain_file;
 mod gains;
+mod limits;
+mod line;
+mod lines;
+mod list_file;
 mod moving;
 mod shift;
+mod things;
 mod undoing;
 
 pub use fault::EditFault;
 pub use gain_file::gain;
 pub use gains::Stuck;
+pub use list_file::list;
 pub use shift::{Channels, Shift};
 pub use undoing::opposite_gives_back;
 

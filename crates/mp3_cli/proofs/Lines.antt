@@ -1,15 +1,15 @@
 -- A line that is sent piece by piece.
-use Rattle.std.proofs.Common.{◌≡◌, ℕ, ◌+◌, ◌<◌, ◌≤◌, List, [], ◌∷◌, ◌++◌, length, get_or, take, drop, flat_map, ap, sym, ◌∙◌, subst, inr, arith, length-append}
+use Rattle.std.proofs.Common.{◌≡◌, ℕ, ◌+◌, ◌<◌, ◌≤◌, List, [], ◌∷◌, ◌++◌, length, get_or, take, drop, flat_map, ap, sym, ◌∙◌, subst, inl, inr, arith, length-append}
 use Rattle.std.proofs.lemmas.List.{take_more, take-append-drop, take-append-le, append-nil}
 use Rattle.std.proofs.lemmas.Grind.{flat_map-append}
 use Rattle.std.proofs.lemmas.List.Folds.{length-flat_map-take}
 use Rattle.std.proofs.Math.Seq.{take-append-add}
-use Rattle.std.specs.Prelude.{Result, Ok, Err, is_err, OnOk, OnErr, true, false}
+use Rattle.std.specs.Prelude.{Result, Ok, Err, OnOk, OnErr}
 use Rattle.outside.specs.Files.{Sent, sent_more}
-use Rattle.outside.specs.Counts.{Rose, HasCause}
+use Rattle.outside.specs.Counts.{Rose}
 use Rattle.outside.proofs.FilesLaws.{sent_twice}
 use Rattle.outside.proofs.CountsLaws.{later_rose}
-use Rattle.mp3_cli.specs.Texts.{GotLine}
+use Rattle.mp3_cli.specs.Texts.{GotWhole, GotFront, GotLine}
 
 -- the pieces with one more
 pub piece_more : {X : Type 0} (f : X → List ℕ) (xs : List X) (i : ℕ) (d : X) → i < length xs → flat_map f (take (i + 1) xs) ≡ flat_map f (take i xs) ++ f (get_or xs i d)
@@ -32,15 +32,6 @@ front_of f xs i d piece k lt piece-is short =
     let short_there : k ≤ length (f (get_or xs i d)) = rw (← piece-is) short in
     rw piece-is (front_more f xs i d k lt short_there)
 
--- what holds of a result that is an error, or isn't
-on_err_if : {T E : Type 0} (P : Type 0) (r : Result T E) → is_err r ≡ true → OnErr r P → P
-on_err_if P (Ok x) is p = absurd cc
-on_err_if P (Err e) is p = p
-
-on_ok_if : {T E : Type 0} (P : Type 0) (r : Result T E) → is_err r ≡ false → OnOk r P → P
-on_ok_if P (Ok x) is p = p
-on_ok_if P (Err e) is p = absurd cc
-
 -- what was sent when the pieces before i were
 pub record Before {X : Type 0} (f : X → List ℕ) (xs : List X) (i : ℕ) (sent_first sent_before : Sent) (faults_first faults_before : ℕ) : Type 0 where
   pub index : i < length xs
@@ -48,37 +39,33 @@ pub record Before {X : Type 0} (f : X → List ℕ) (xs : List X) (i : ℕ) (sen
   pub sent : sent_before ≡ sent_more sent_first (flat_map f (take i xs))
 
 -- a piece that failed
-pub line_failed : {X T E : Type 0} (f : X → List ℕ) (xs : List X) (i : ℕ) (d : X) (sent_first sent_before sent_after : Sent) (faults_first faults_before faults_after : ℕ) (piece : List ℕ) (result : Result T E)
-    → Before f xs i sent_first sent_before faults_first faults_before → piece ≡ f (get_or xs i d) → is_err result ≡ true
-    → HasCause faults_before faults_after result
-    → OnErr result ((k : ℕ) × (k ≤ length piece) × (sent_after ≡ sent_more sent_before (take k piece)))
-    → GotLine sent_first sent_after faults_first faults_after (flat_map f xs)
-line_failed f xs i d sent_first sent_before sent_after faults_first faults_before faults_after piece result before piece-is failed cause fronts =
-    let front = on_err_if ((k : ℕ) × (k ≤ length piece) × (sent_after ≡ sent_more sent_before (take k piece))) result failed fronts in
-    let rose = on_err_if (Rose faults_before faults_after) result failed cause.failed in
+pub front_failed : {X : Type 0} (f : X → List ℕ) (xs : List X) (i : ℕ) (d : X) (sent_first sent_before sent_after : Sent) (faults_first faults_before faults_after : ℕ) (piece : List ℕ)
+    → Before f xs i sent_first sent_before faults_first faults_before → piece ≡ f (get_or xs i d) → Rose faults_before faults_after
+    → ((k : ℕ) × (k ≤ length piece) × (sent_after ≡ sent_more sent_before (take k piece)))
+    → GotFront sent_first sent_after faults_first faults_after (flat_map f xs)
+front_failed f xs i d sent_first sent_before sent_after faults_first faults_before faults_after piece before piece-is rose front =
     let count : ℕ = length (flat_map f (take i xs)) + front.0 in
     let whole = front_of f xs i d piece front.0 before.index piece-is front.1 in
     record {
-      later = omega (arith, before.later, cause.later);
-      got = inr (record {
-        count = count;
-        in_range = omega (arith, length-flat_map-take f xs i d before.index, ap length piece-is, front.1);
-        sent = front.2 ∙ ap (λ (s : Sent). sent_more s (take front.0 piece)) before.sent ∙ sent_twice sent_first (flat_map f (take i xs)) (take front.0 piece) ∙ ap (sent_more sent_first) (sym whole);
-        failed = later_rose faults_first faults_before faults_after before.later rose;
-      });
+      count = count;
+      in_range = omega (arith, length-flat_map-take f xs i d before.index, ap length piece-is, front.1);
+      sent = front.2 ∙ ap (λ (s : Sent). sent_more s (take front.0 piece)) before.sent ∙ sent_twice sent_first (flat_map f (take i xs)) (take front.0 piece) ∙ ap (sent_more sent_first) (sym whole);
+      failed = later_rose faults_first faults_before faults_after before.later rose;
     }
 
--- no write failed so far, nor in a piece that was sent
-pub none_failed : {T E : Type 0} (first before after : ℕ) (result : Result T E) → before ≡ first → is_err result ≡ false → HasCause before after result → after ≡ first
-none_failed first before after result so_far done cause = on_ok_if (after ≡ before) result done cause.done ∙ so_far
+-- a text that was sent, or a prefix of it
+pub got_either : {T E : Type 0} (r : Result T E) (sent_before sent_after : Sent) (faults_before faults_after : ℕ) (text : List ℕ) → faults_before ≤ faults_after
+    → OnOk r (GotWhole sent_before sent_after faults_before faults_after text) → OnErr r (GotFront sent_before sent_after faults_before faults_after text)
+    → GotLine sent_before sent_after faults_before faults_after text
+got_either (Ok x) sent_before sent_after faults_before faults_after text later whole front = record { later = later; got = inl whole }
+got_either (Err e) sent_before sent_after faults_before faults_after text later whole front = record { later = later; got = inr front }
 
 -- a piece that was sent
-pub line_more : {X T E : Type 0} (f : X → List ℕ) (xs : List X) (i : ℕ) (d : X) (sent_first sent_before sent_after : Sent) (faults_first faults_before : ℕ) (piece : List ℕ) (result : Result T E)
-    → Before f xs i sent_first sent_before faults_first faults_before → piece ≡ f (get_or xs i d) → is_err result ≡ false
-    → OnOk result (sent_after ≡ sent_more sent_before piece)
+pub line_more : {X : Type 0} (f : X → List ℕ) (xs : List X) (i : ℕ) (d : X) (sent_first sent_before sent_after : Sent) (faults_first faults_before : ℕ) (piece : List ℕ)
+    → Before f xs i sent_first sent_before faults_first faults_before → piece ≡ f (get_or xs i d)
+    → sent_after ≡ sent_more sent_before piece
     → sent_after ≡ sent_more sent_first (flat_map f (take (i + 1) xs))
-line_more f xs i d sent_first sent_before sent_after faults_first faults_before piece result before piece-is done written =
-    let more = on_ok_if (sent_after ≡ sent_more sent_before piece) result done written in
+line_more f xs i d sent_first sent_before sent_after faults_first faults_before piece before piece-is more =
     more
     ∙ ap (λ (s : Sent). sent_more s piece) before.sent
     ∙ sent_twice sent_first (flat_map f (take i xs)) piece
@@ -88,3 +75,8 @@ line_more f xs i d sent_first sent_before sent_after faults_first faults_before 
 -- another spelling of the line
 pub line_is : (sent_before sent_after : Sent) (faults_before faults_after : ℕ) (line other : List ℕ) → line ≡ other → GotLine sent_before sent_after faults_before faults_after line → GotLine sent_before sent_after faults_before faults_after other
 line_is sent_before sent_after faults_before faults_after line other same got = subst (λ (l : List ℕ). GotLine sent_before sent_after faults_before faults_after l) same got
+
+-- what holds of every error
+pub on_error : {T E P : Type 0} (r : Result T E) → P → OnErr r P
+on_error (Ok x) p = tt
+on_error (Err e) p = p

@@ -8,7 +8,7 @@ use Rattle.std.proofs.Math.ListN as listn
 use Rattle.std.proofs.lemmas.List.{get_or-map, length-map, take-map, take_all}
 use Rattle.std.proofs.lemmas.List.Sums.{fold_more, common_prefix_len-le}
 use Rattle.mp3_cli.specs.declared.words.FormName.{FormName}
-use Rattle.mp3_cli.specs.declared.words.FormName.TheVariants.{GainWithoutTags}
+use Rattle.mp3_cli.specs.declared.words.FormName.TheVariants.{Help, ShortHelp, Version, List as ListFile, GainWithoutTags}
 use Rattle.mp3_cli.specs.declared.jobs.Job.{Job}
 use Rattle.mp3_cli.specs.Words.{Kind, Form, fits_kind, followed, furthest, form_of, have_kinds, reading}
 use Rattle.mp3_cli.specs.Table.{form_named}
@@ -66,6 +66,10 @@ ord_max_is a b = grind (arith, common_steps)
 
 -- no form has more than seven words
 pub short : (name : FormName) → length (form_named name).kinds ≤ 7
+short Help = omega arith
+short ShortHelp = omega arith
+short Version = omega arith
+short ListFile = omega arith
 short GainWithoutTags = omega arith
 
 -- what the code knows at the form at i: its kinds, and how far the words follow them

@@ -1,20 +1,24 @@
 -- What `run` promises, from the answer of a command.
-use Rattle.std.proofs.Common.{◌≡◌, ◌≢◌, ◌↔◌, ◌⊎◌, ℕ, ◌≤◌, List, [], Option, Some, None, Result, Ok, Err, refl, sym, ◌∙◌, ap, subst, inl, inr, arith}
+use Rattle.std.proofs.Common.{◌≡◌, ◌≢◌, ◌↔◌, ◌⊎◌, ℕ, ◌≤◌, List, [], ◌∷◌, Option, Some, None, Result, Ok, Err, refl, sym, ◌∙◌, ap, subst, inl, inr, arith}
 use Rattle.std.proofs.Math.Seq.{take-nil}
-use Rattle.edits.specs.Edited.{gain_result}
-use Rattle.std.specs.Prelude.{IfSome}
+use Rattle.std.specs.Prelude.{IfSome, IfErr}
 use Rattle.outside.specs.Files.{Contents, Files, untold, Sent, sent_more}
 use Rattle.outside.specs.Counts.{Rose}
 use Rattle.outside.proofs.FilesLaws.{sent_nothing}
 use Rattle.edits.specs.declared.fault.EditFault.{EditFault}
-use Rattle.edits.specs.Command.{Made, Command, written, Gives}
-use Rattle.edits.specs.Gain.{made_of}
-use Rattle.edits.specs.Left.{Why, Refused, Missing, Unread, Shorter, Unwritten, NoMemory, why_of, Seen, IsRefused, LeavesBy, Leaves}
+use Rattle.edits.specs.declared.fault.EditFault.TheVariants.{EqualNames, Input, GainRange, Write, Sent as NotSent, Memory}
+use Rattle.edits.specs.Kinds.{InputKind, IsAbsent, IsUnread as NotRead, IsShorter as Shrank, IsTooMuch, IsRefused as AtFault, kind_of, by_kind}
+use Rattle.edits.specs.Edited.{gain_result}
+use Rattle.edits.specs.Command.{Made, Command, written, Gives, MakesStreams, HoldsStreams}
+use Rattle.edits.specs.declared.shift.Shift.{Shift}
+use Rattle.edits.specs.Said.{Heard, IsText, SaysAll, Says, fault_of}
+use Rattle.edits.specs.Gain.{made_of, gain_command}
+use Rattle.edits.specs.Left.{Why, Refused, Missing, Unread, Shorter, Unwritten, Unsent, NoMemory, why_of, Seen, IsDone, IsRefused, LeavesBy, Leaves, HasNumbers}
 use Rattle.mp3_cli.specs.declared.jobs.Job.{Job}
-use Rattle.mp3_cli.specs.declared.jobs.Job.TheVariants.{Gain}
+use Rattle.mp3_cli.specs.declared.jobs.Job.TheVariants.{Help, Version, List as ListFile, Gain}
 use Rattle.mp3_cli.specs.Words.{word_at, job_of}
 use Rattle.mp3_cli.specs.Texts.{status_by, bad_word_line, GotWhole, GotFront, GotLine}
-use Rattle.mp3_cli.specs.Run.{command_of, fault_status, line_of, Answers, made_outcome, command_outcome, job_outcome, outcome, IsOutcome, IsAcceptedBy, IsAccepted}
+use Rattle.mp3_cli.specs.Run.{said_command, command_of, always_of, fault_status, line_of, GetsLine, Answers, made_outcome, command_outcome, job_outcome, outcome, IsOutcome, IsAcceptedBy, IsAccepted}
 
 -- ---- statuses
 
@@ -25,25 +29,50 @@ by_status Missing = (omega arith, omega arith, λ e. absurd (omega (arith, e)))
 by_status Unread = (omega arith, omega arith, λ e. absurd (omega (arith, e)))
 by_status Shorter = (omega arith, omega arith, λ e. absurd (omega (arith, e)))
 by_status (Unwritten k) = (omega arith, omega arith, λ e. absurd (omega (arith, e)))
+by_status Unsent = (omega arith, omega arith, λ e. absurd (omega (arith, e)))
 
-some_fault : (f g : EditFault) → Some f ≡ Some g → f ≡ g
-some_fault f g e = cc
+-- ---- a failed write to standard output
+
+input_sent : (kind : InputKind) → by_kind (record { absent = Missing; unread = Unread; shorter = Shorter; too_much = NoMemory; refused = Refused }) kind ≡ Unsent → ⊥
+input_sent IsAbsent e = absurd cc
+input_sent NotRead e = absurd cc
+input_sent Shrank e = absurd cc
+input_sent IsTooMuch e = absurd cc
+input_sent AtFault e = absurd cc
+
+-- is the one fault with which something was sent
+module _ (command : Command) (files : Files) (old new : Heard) where
+  pub sent_rose : (fault : EditFault) → why_of fault ≡ Unsent → Says command files old new (Some fault) → Rose old.faults new.faults
+  sent_rose (EqualNames place) is says = absurd cc
+  sent_rose (Input place fault) is says = absurd (input_sent (kind_of fault) is)
+  sent_rose (GainRange offset granule channel gain) is says = absurd cc
+  sent_rose (Write place) is says = absurd cc
+  sent_rose NotSent is says = says.rose
+  sent_rose Memory is says = absurd cc
+
+  pub sent_none : (fault : EditFault) → (why_of fault ≡ Unsent → ⊥) → Says command files old new (Some fault) → new ≡ old
+  sent_none (EqualNames place) other says = says
+  sent_none (Input place fault) other says = says
+  sent_none (GainRange offset granule channel gain) other says = says
+  sent_none (Write place) other says = says
+  sent_none NotSent other says = absurd (other refl)
+  sent_none Memory other says = says
 
 -- ---- no line
 
 pub sent_no_line : (sent : Sent) (faults : ℕ) → GotLine sent sent faults faults []
 sent_no_line sent faults = record { later = omega arith; got = inl (record { sent = sym (sent_nothing sent); done = refl }) }
 
-got_nothing : (sent_before sent_after : Sent) (faults_before faults_after : ℕ) → GotLine sent_before sent_after faults_before faults_after [] → sent_after ≡ sent_before
-got_nothing sent_before sent_after faults_before faults_after line = at line.got
+got_nothing : (old new : Heard) → GetsLine old new [] → new.sent ≡ old.sent
+got_nothing old new line = at line.got
   where
-    at : GotWhole sent_before sent_after faults_before faults_after [] ⊎ GotFront sent_before sent_after faults_before faults_after [] → sent_after ≡ sent_before
-    at (inl whole) = whole.sent ∙ sent_nothing sent_before
-    at (inr part) = part.sent ∙ ap (sent_more sent_before) (take-nil part.count) ∙ sent_nothing sent_before
+    at : GotWhole old.sent new.sent old.faults new.faults [] ⊎ GotFront old.sent new.sent old.faults new.faults [] → new.sent ≡ old.sent
+    at (inl whole) = whole.sent ∙ sent_nothing old.sent
+    at (inr part) = part.sent ∙ ap (sent_more old.sent) (take-nil part.count) ∙ sent_nothing old.sent
 
 -- ---- of one answer
 
-module _ (command : Command) (old new : Seen) (sent_before sent_after : Sent) (faults_before faults_after status : ℕ) (all : Answers command old new sent_before sent_after faults_before faults_after status) where
+module _ (command : Command) (old new : Seen) (out_old out_new err_old err_new : Heard) (status : ℕ) (all : Answers command old new out_old out_new err_old err_new status) where
   -- it was done, or there is a fault of this kind
   pub data Case : Type 0 where
     Done : status ≡ 0 → all.fault ≡ None → Case
@@ -78,6 +107,7 @@ module _ (command : Command) (old new : Seen) (sent_before sent_after : Sent) (f
   stays_by fault Unread is other left = absurd (other is)
   stays_by fault Shorter is other left = absurd (other is)
   stays_by fault (Unwritten k) is other left = absurd (other is)
+  stays_by fault Unsent is other left = absurd (other is)
 
   pub kept : status ≢ 0 → status ≢ 3 → new.files ≡ old.files
   kept some other = at case_of
@@ -93,11 +123,35 @@ module _ (command : Command) (old new : Seen) (sent_before sent_after : Sent) (f
       at (Done is e) = (all.done e).counts
       at (Failed fault why e is w left) = ap (λ (s : Seen). s.counts) (stays_by fault why is other left)
 
-  pub quiet : status ≡ 0 → sent_after ≡ sent_before
+  pub quiet : status ≡ 0 → err_new.sent ≡ err_old.sent
   quiet zero_is = at case_of
     where
-      at : Case → sent_after ≡ sent_before
-      at (Done is e) = got_nothing sent_before sent_after faults_before faults_after (subst (λ o. GotLine sent_before sent_after faults_before faults_after (line_of command o)) e all.line)
+      at : Case → err_new.sent ≡ err_old.sent
+      at (Done is e) = got_nothing err_old err_new (subst (λ o. GetsLine err_old err_new (line_of command o)) e all.line)
+      at (Failed fault why e is w left) = absurd (omega (arith, is, zero_is, (by_status why).0))
+
+  -- what standard output got
+  says_here : (o : Option EditFault) → all.fault ≡ o → Says command old.files out_old out_new o
+  says_here o e = subst (Says command old.files out_old out_new) e all.says
+
+  nothing_by : (fault : EditFault) (why : Why) → all.fault ≡ Some fault → status ≡ status_by why → status ≢ 3 → why_of fault ≡ why → out_new ≡ out_old
+  nothing_by fault why e is other w = sent_none command old.files out_old out_new fault (λ unsent. other (is ∙ ap status_by (sym w ∙ unsent))) (says_here (Some fault) e)
+
+  pub silent : status ≢ 0 → status ≢ 3 → out_new.sent ≡ out_old.sent
+  silent some other = at case_of
+    where
+      at : Case → out_new.sent ≡ out_old.sent
+      at (Done is e) = absurd (some is)
+      at (Failed fault why e is w left) = ap (λ (h : Heard). h.sent) (nothing_by fault why e is other w)
+
+  pub always_said : status ≡ 0 → IfSome command.always (λ text. out_new.sent ≡ sent_more out_old.sent text)
+  always_said zero_is = at case_of
+    where
+      text : SaysAll command old.files out_old out_new → (o : Option (List ℕ)) → command.always ≡ o → IfSome o (λ text. out_new.sent ≡ sent_more out_old.sent text)
+      text says None same = tt
+      text says (Some t) same = says.text t (inl same)
+      at : Case → IfSome command.always (λ text. out_new.sent ≡ sent_more out_old.sent text)
+      at (Done is e) = text (says_here None e) command.always refl
       at (Failed fault why e is w left) = absurd (omega (arith, is, zero_is, (by_status why).0))
 
   -- ---- over files that are told
@@ -108,56 +162,58 @@ module _ (command : Command) (old new : Seen) (sent_before sent_after : Sent) (f
     made_here : all.fault ≡ None → (made : Made) × (command.makes f ≡ Ok made) × (new.files ≡ Some (written made.outputs f))
     made_here e = subst (λ files. IfSome files (λ g. (made : Made) × (command.makes g ≡ Ok made) × (new.files ≡ Some (written made.outputs g)))) told (all.done e).made
 
-    line_here : (o : Option EditFault) → all.fault ≡ o → GotLine sent_before sent_after faults_before faults_after (line_of command o)
-    line_here o e = subst (λ o. GotLine sent_before sent_after faults_before faults_after (line_of command o)) e all.line
+    line_here : (o : Option EditFault) → all.fault ≡ o → GetsLine err_old err_new (line_of command o)
+    line_here o e = subst (λ o. GetsLine err_old err_new (line_of command o)) e all.line
 
-    abbrev IsAsDefined : Sent → Type 0
-    IsAsDefined text = IsOutcome (command_outcome command f) status new.files text text sent_before sent_after faults_before faults_after
+    abbrev IsAsDefinedBy : Result Made EditFault → Type 0
+    IsAsDefinedBy r = IsOutcome (made_outcome command f r) status new.files out_old out_new err_old err_new
 
-    -- with status 0, 1 or 2 all is as defined, where nothing is sent to standard output and the command has no text
-    refused_here : (text : Sent) (fault : EditFault) → all.fault ≡ Some fault → status ≡ 1 → why_of fault ≡ Refused → IsRefused command old new fault → IsAsDefined text
-    refused_here text fault e is w left =
-        subst (λ r. IsOutcome (made_outcome command f r) status new.files text text sent_before sent_after faults_before faults_after) (sym (gives (Err fault) left.defined))
+    -- with status 0, 1 or 2 all is as defined
+    refused_here : (fault : EditFault) → all.fault ≡ Some fault → status ≡ 1 → why_of fault ≡ Refused → IsRefused command old new fault → IsAsDefinedBy (command.makes f)
+    refused_here fault e is w left =
+        subst IsAsDefinedBy (sym (gives (Err fault) left.defined))
         (record {
           status_is = is ∙ sym (ap status_by w);
           files_are = ap (λ (s : Seen). s.files) left.stays ∙ told;
-          text_is = sym (sent_nothing text);
+          text_is = ap (λ (h : Heard). h.sent) (nothing_by fault Refused e is (λ three. absurd (omega (arith, is, three))) w) ∙ sym (sent_nothing out_old.sent);
           line_is = line_here (Some fault) e;
         })
 
-    failed_here : (text : Sent) (fault : EditFault) (why : Why) → all.fault ≡ Some fault → status ≡ status_by why → status ≤ 2 → why_of fault ≡ why → LeavesBy command old new fault why → IsAsDefined text
-    failed_here text fault Refused e is low w left = refused_here text fault e is w left
-    failed_here text fault NoMemory e is low w left = absurd (omega (arith, is, low))
-    failed_here text fault Missing e is low w left = absurd (omega (arith, is, low))
-    failed_here text fault Unread e is low w left = absurd (omega (arith, is, low))
-    failed_here text fault Shorter e is low w left = absurd (omega (arith, is, low))
-    failed_here text fault (Unwritten k) e is low w left = absurd (omega (arith, is, low))
+    failed_here : (fault : EditFault) (why : Why) → all.fault ≡ Some fault → status ≡ status_by why → status ≤ 2 → why_of fault ≡ why → LeavesBy command old new fault why → IsAsDefinedBy (command.makes f)
+    failed_here fault Refused e is low w left = refused_here fault e is w left
+    failed_here fault NoMemory e is low w left = absurd (omega (arith, is, low))
+    failed_here fault Missing e is low w left = absurd (omega (arith, is, low))
+    failed_here fault Unread e is low w left = absurd (omega (arith, is, low))
+    failed_here fault Shorter e is low w left = absurd (omega (arith, is, low))
+    failed_here fault (Unwritten k) e is low w left = absurd (omega (arith, is, low))
+    failed_here fault Unsent e is low w left = absurd (omega (arith, is, low))
 
-    pub as_defined : (text : Sent) → ((made : Made) → command.makes f ≡ Ok made → made.text ≡ []) → status ≤ 2 → IsAsDefined text
-    as_defined text silent low = at case_of
+    pub as_defined : status ≤ 2 → IsOutcome (command_outcome command f) status new.files out_old out_new err_old err_new
+    as_defined low = at case_of
       where
-        at : Case → IsAsDefined text
+        at : Case → IsAsDefinedBy (command.makes f)
         at (Done is e) =
             let made = made_here e in
-            subst (λ r. IsOutcome (made_outcome command f r) status new.files text text sent_before sent_after faults_before faults_after) (sym made.1)
-            (record { status_is = is; files_are = made.2; text_is = sym (ap (sent_more text) (silent made.0 made.1) ∙ sent_nothing text); line_is = line_here None e })
-        at (Failed fault why e is w left) = failed_here text fault why e is low w left
+            subst IsAsDefinedBy (sym made.1)
+            (record { status_is = is; files_are = made.2; text_is = (says_here None e).text made.0.text (inr (f, made.0, told, made.1, refl)); line_is = line_here None e })
+        at (Failed fault why e is w left) = failed_here fault why e is low w left
 
-    -- where no call of the folder failed and memory was found, it is done exactly where it isn't refused
+    -- where no call of the folder and no write to standard output failed, and memory was found, it is done exactly where it isn't refused
     not_made : (made : Made) (fault : EditFault) → command.makes f ≡ Ok made → command.makes f ≡ Err fault → ⊥
     not_made made fault ok err = cc
 
     told_twice : old.files ≡ untold → ⊥
     told_twice e = cc
 
-    not_failed : (made : Made) (fault : EditFault) (why : Why) → command.makes f ≡ Ok made → (Rose old.counts.read_faults new.counts.read_faults → ⊥) → (Rose old.counts.write_faults new.counts.write_faults → ⊥) → status ≢ 4
-        → status ≡ status_by why → LeavesBy command old new fault why → ⊥
-    not_failed made fault Refused ok reads writes found is left = not_made made fault ok (gives (Err fault) left.defined)
-    not_failed made fault Missing ok reads writes found is left = not_made made fault ok (gives (Err fault) left.defined)
-    not_failed made fault Unread ok reads writes found is left = reads left.rose
-    not_failed made fault Shorter ok reads writes found is left = told_twice left.before
-    not_failed made fault (Unwritten k) ok reads writes found is left = writes left.rose
-    not_failed made fault NoMemory ok reads writes found is left = found is
+    not_failed : (made : Made) (fault : EditFault) (why : Why) → command.makes f ≡ Ok made → (Rose old.counts.read_faults new.counts.read_faults → ⊥) → (Rose old.counts.write_faults new.counts.write_faults → ⊥) → (Rose out_old.faults out_new.faults → ⊥) → status ≢ 4
+        → all.fault ≡ Some fault → why_of fault ≡ why → status ≡ status_by why → LeavesBy command old new fault why → ⊥
+    not_failed made fault Refused ok reads writes sends found e w is left = not_made made fault ok (gives (Err fault) left.defined)
+    not_failed made fault Missing ok reads writes sends found e w is left = not_made made fault ok (gives (Err fault) left.defined)
+    not_failed made fault Unread ok reads writes sends found e w is left = reads left.rose
+    not_failed made fault Shorter ok reads writes sends found e w is left = told_twice left.before
+    not_failed made fault (Unwritten k) ok reads writes sends found e w is left = writes left.rose
+    not_failed made fault NoMemory ok reads writes sends found e w is left = found is
+    not_failed made fault Unsent ok reads writes sends found e w is left = sends (sent_rose command old.files out_old out_new fault w (says_here (Some fault) e))
 
     pub made_where_done : status ≡ 0 → (made : Made) × (command.makes f ≡ Ok made)
     made_where_done zero_is = at case_of
@@ -166,12 +222,12 @@ module _ (command : Command) (old new : Seen) (sent_before sent_after : Sent) (f
         at (Done is e) = let made = made_here e in (made.0, made.1)
         at (Failed fault why e is w left) = absurd (omega (arith, is, zero_is, (by_status why).0))
 
-    pub done_where_made : (Rose old.counts.read_faults new.counts.read_faults → ⊥) → (Rose old.counts.write_faults new.counts.write_faults → ⊥) → status ≢ 4 → (made : Made) × (command.makes f ≡ Ok made) → status ≡ 0
-    done_where_made reads writes found made = at case_of
+    pub done_where_made : (Rose old.counts.read_faults new.counts.read_faults → ⊥) → (Rose old.counts.write_faults new.counts.write_faults → ⊥) → (Rose out_old.faults out_new.faults → ⊥) → status ≢ 4 → (made : Made) × (command.makes f ≡ Ok made) → status ≡ 0
+    done_where_made reads writes sends found made = at case_of
       where
         at : Case → status ≡ 0
         at (Done is e) = is
-        at (Failed fault why e is w left) = absurd (not_failed made.0 fault why made.1 reads writes found is left)
+        at (Failed fault why e is w left) = absurd (not_failed made.0 fault why made.1 reads writes sends found e w is left)
 
 -- ---- of words
 
@@ -179,40 +235,126 @@ outcome-words : (words : List (List ℕ)) (f : Contents) (r : Result Job ℕ) �
 unfolding outcome
 outcome-words words f r is = ap (job_outcome words f) is
 
-pub bad_word_defined : (words : List (List ℕ)) (old : Files) (place : ℕ) (text before after : Sent) (faults_before faults_after : ℕ) → job_of words ≡ Err place
-    → GotLine before after faults_before faults_after (bad_word_line place)
-    → IfSome old (λ f. IsOutcome (outcome words f) 2 old text text before after faults_before faults_after)
-bad_word_defined words None place text before after faults_before faults_after is line = tt
-bad_word_defined words (Some f) place text before after faults_before faults_after is line =
-    subst (λ o. IsOutcome o 2 (Some f) text text before after faults_before faults_after) (sym (outcome-words words f (Err place) is))
-    (record { status_is = refl; files_are = refl; text_is = sym (sent_nothing text); line_is = line })
+pub bad_word_defined : (words : List (List ℕ)) (old : Files) (place : ℕ) (out err_old err_new : Heard) → job_of words ≡ Err place → GetsLine err_old err_new (bad_word_line place)
+    → IfSome old (λ f. IsOutcome (outcome words f) 2 old out out err_old err_new)
+bad_word_defined words None place out err_old err_new is line = tt
+bad_word_defined words (Some f) place out err_old err_new is line =
+    subst (λ o. IsOutcome o 2 (Some f) out out err_old err_new) (sym (outcome-words words f (Err place) is))
+    (record { status_is = refl; files_are = refl; text_is = sym (sent_nothing out.sent); line_is = line })
 
--- no command has a text today
-silent_made : (output : List ℕ) (r : Result (List ℕ) EditFault) (made : Made) → made_of output r ≡ Ok made → made.text ≡ []
-silent_made output (Ok bytes) made is = sym (ap made_text is)
-  where
-    made_text : Result Made EditFault → List ℕ
-    made_text (Ok made) = made.text
-    made_text (Err fault) = []
-silent_made output (Err fault) made is = absurd cc
-
-no_text : (words : List (List ℕ)) (job : Job) (f : Contents) (made : Made) → (command_of words job).makes f ≡ Ok made → made.text ≡ []
-no_text words (Gain shift tags input output) f made is = silent_made (word_at words output) (gain_result shift (word_at words input) (word_at words output) f) made is
-
-module _ (words : List (List ℕ)) (job : Job) (is : job_of words ≡ Ok job) (old new : Seen) (sent_before sent_after : Sent) (faults_before faults_after status : ℕ)
-    (all : Answers (command_of words job) old new sent_before sent_after faults_before faults_after status) where
-  pub is_defined : (text : Sent) → status ≤ 2 → IfSome old.files (λ f. IsOutcome (outcome words f) status new.files text text sent_before sent_after faults_before faults_after)
-  is_defined text low = at old.files refl
+module _ (words : List (List ℕ)) (job : Job) (is : job_of words ≡ Ok job) (old new : Seen) (out_old out_new err_old err_new : Heard) (status : ℕ)
+    (all : Answers (command_of words job) old new out_old out_new err_old err_new status) where
+  pub is_defined : status ≤ 2 → IfSome old.files (λ f. IsOutcome (outcome words f) status new.files out_old out_new err_old err_new)
+  is_defined low = at old.files refl
     where
-      at : (files : Files) → old.files ≡ files → IfSome files (λ f. IsOutcome (outcome words f) status new.files text text sent_before sent_after faults_before faults_after)
+      at : (files : Files) → old.files ≡ files → IfSome files (λ f. IsOutcome (outcome words f) status new.files out_old out_new err_old err_new)
       at None told = tt
       at (Some f) told =
-          subst (λ o. IsOutcome o status new.files text text sent_before sent_after faults_before faults_after) (sym (outcome-words words f (Ok job) is))
-          (as_defined (command_of words job) old new sent_before sent_after faults_before faults_after status all f told text (no_text words job f) low)
+          subst (λ o. IsOutcome o status new.files out_old out_new err_old err_new) (sym (outcome-words words f (Ok job) is))
+          (as_defined (command_of words job) old new out_old out_new err_old err_new status all f told low)
 
-  pub is_accepted : (f : Contents) → old.files ≡ Some f → (Rose old.counts.read_faults new.counts.read_faults → ⊥) → (Rose old.counts.write_faults new.counts.write_faults → ⊥) → status ≢ 4
-      → (status ≡ 0) ↔ IsAccepted words f
-  is_accepted f told reads writes found = (
-    (λ zero_is. subst (IsAcceptedBy words f) (sym is) (made_where_done (command_of words job) old new sent_before sent_after faults_before faults_after status all f told zero_is)),
-    (λ accepted. done_where_made (command_of words job) old new sent_before sent_after faults_before faults_after status all f told reads writes found (subst (IsAcceptedBy words f) is accepted)),
+  pub is_accepted : (f : Contents) → old.files ≡ Some f → (Rose old.counts.read_faults new.counts.read_faults → ⊥) → (Rose old.counts.write_faults new.counts.write_faults → ⊥) → (Rose out_old.faults out_new.faults → ⊥)
+      → status ≢ 4 → (status ≡ 0) ↔ IsAccepted words f
+  is_accepted f told reads writes sends found = (
+    (λ zero_is. subst (IsAcceptedBy words f) (sym is) (made_where_done (command_of words job) old new out_old out_new err_old err_new status all f told zero_is)),
+    (λ accepted. done_where_made (command_of words job) old new out_old out_new err_old err_new status all f told reads writes sends found (subst (IsAcceptedBy words f) is accepted)),
   )
+
+  -- the text that is the same of all files
+  pub text_said : status ≡ 0 → IfSome (always_of words (job_of words)) (λ text. out_new.sent ≡ sent_more out_old.sent text)
+  text_said zero_is = subst (λ r. IfSome (always_of words r) (λ text. out_new.sent ≡ sent_more out_old.sent text)) (sym is) (always_said (command_of words job) old new out_old out_new err_old err_new status all zero_is)
+
+-- ---- a command without a text
+
+abbrev text_in : Result Made EditFault → List ℕ
+text_in (Ok made) = made.text
+text_in (Err fault) = []
+
+silent_made : (output : List ℕ) (r : Result (List ℕ) EditFault) (made : Made) → made_of output r ≡ Ok made → made.text ≡ []
+silent_made output (Ok bytes) made is = sym (ap text_in is)
+silent_made output (Err fault) made is = absurd cc
+
+abbrev ok_made : Made → Result Made EditFault
+ok_made made = Ok made
+
+made_is : (a b : Made) → ok_made a ≡ ok_made b → a ≡ b
+made_is a b e = cc
+
+some_is : {A : Type 0} (a b : A) → Some a ≡ Some b → a ≡ b
+some_is a b e = cc
+
+-- what gain makes has no text
+no_text : (shift : Shift) (input output : List ℕ) (files : Files) (text : List ℕ) → IsText (gain_command shift input output) files text → text ≡ []
+no_text shift input output files text (inl always) = sym (some_is [] text always)
+no_text shift input output files text (inr told) = sym told.4 ∙ silent_made output (gain_result shift input output told.0) told.1 told.3
+
+module _ (shift : Shift) (input output : List ℕ) (files : Files) (out : Heard) where
+  says_nothing : SaysAll (gain_command shift input output) files out out
+  says_nothing = record { text = λ text is. sym (ap (sent_more out.sent) (no_text shift input output files text is) ∙ sent_nothing out.sent); faults = refl }
+
+  -- so it is silent with every fault that it has
+  says_fault : (fault : EditFault) → HasNumbers (gain_command shift input output) fault → Says (gain_command shift input output) files out out (Some fault)
+  says_fault (EqualNames place) numbers = refl
+  says_fault (Input place fault) numbers = refl
+  says_fault (GainRange offset granule channel gain) numbers = refl
+  says_fault (Write place) numbers = refl
+  says_fault NotSent numbers = absurd (numbers refl)
+  says_fault Memory numbers = refl
+
+  pub gain_says : {T : Type 0} (r : Result T EditFault) → IfErr r (HasNumbers (gain_command shift input output)) → Says (gain_command shift input output) files out out (fault_of r)
+  gain_says (Ok x) numbers = says_nothing
+  gain_says (Err fault) numbers = says_fault fault numbers
+
+-- ---- a text that is said
+
+module _ (text : List ℕ) (some : Some text ≢ Some []) (now : Seen) where
+  text_made : IfSome now.files (λ f. (made : Made) × ((said_command text).makes f ≡ Ok made) × (now.files ≡ Some (written made.outputs f)))
+  text_made = at now.files
+    where
+      at : (files : Files) → IfSome files (λ f. (made : Made) × ((said_command text).makes f ≡ Ok made) × (files ≡ Some (written made.outputs f)))
+      at None = tt
+      at (Some f) = (record { outputs = []; text = text }, refl, refl)
+
+  unsent_made : IfSome now.files (λ f. (made : Made) × ((said_command text).makes f ≡ Ok made))
+  unsent_made = at now.files
+    where
+      at : (files : Files) → IfSome files (λ f. (made : Made) × ((said_command text).makes f ≡ Ok made))
+      at None = tt
+      at (Some f) = (record { outputs = []; text = text }, refl)
+
+  pub text_streams : HoldsStreams (said_command text) now.files
+  text_streams = at now.files
+    where
+      none : (f : Contents) (made : Made) → ok_made (record { outputs = []; text = text }) ≡ ok_made made → MakesStreams (said_command text) f made
+      none f made e = subst (MakesStreams (said_command text) f) (made_is (record { outputs = []; text = text }) made e) (record { sources = tt; streams = tt })
+      at : (files : Files) → HoldsStreams (said_command text) files
+      at None = tt
+      at (Some f) = none f
+
+  module _ (out_old out_new err_old err_new : Heard) (status : ℕ) where
+    said_fault : (fault : EditFault) → NotSent ≡ fault → Says (said_command text) now.files out_old out_new (Some fault) → status ≡ fault_status (Some fault) → GetsLine err_old err_new (line_of (said_command text) (Some fault))
+        → Answers (said_command text) now now out_old out_new err_old err_new status
+    said_fault fault is says status_is line = record {
+      fault = Some fault;
+      status_is = status_is;
+      line = line;
+      says = says;
+      done = λ e. absurd cc;
+      left = subst (Leaves (said_command text) now now) is (record { made = unsent_made; stays = refl });
+      numbers = subst (HasNumbers (said_command text)) is some;
+      names = λ place e. absurd cc;
+    }
+
+    pub said_answers : {T : Type 0} (r : Result T EditFault) → Says (said_command text) now.files out_old out_new (fault_of r) → IfErr r (λ fault. fault ≡ NotSent) → status ≡ fault_status (fault_of r)
+        → GetsLine err_old err_new (line_of (said_command text) (fault_of r)) → Answers (said_command text) now now out_old out_new err_old err_new status
+    said_answers (Ok x) says is status_is line = record {
+      fault = None;
+      status_is = status_is;
+      line = line;
+      says = says;
+      done = λ e. record { made = text_made; told = refl; counts = refl };
+      left = tt;
+      numbers = tt;
+      names = λ place e. absurd cc;
+    }
+    said_answers (Err fault) says is status_is line = said_fault fault (sym is) says status_is line

@@ -6,7 +6,7 @@ use Rattle.std.specs.Str.Parse.{digits_value}
 use Rattle.std.proofs.lemmas.Int.{ints}
 use Rattle.std.proofs.lemmas.Bool.{leb-true}
 use Rattle.mp3_cli.specs.declared.jobs.Job.{Job}
-use Rattle.mp3_cli.specs.Words.{Kind, Name, Form, fits_kind, forms, gain_without_tags, have_kinds, job_of, step_count, steps_of, word_at, IsStepCount, IsSound}
+use Rattle.mp3_cli.specs.Words.{Kind, Name, Form, fits_kind, forms, list_file, gain_without_tags, have_kinds, job_of, step_count, steps_of, word_at, IsStepCount, IsSound}
 use Rattle.mp3_cli.proofs.Places.{reading_ok}
 
 and_last : (x d : Bool) → (x && d) ≡ true → d ≡ true
@@ -68,9 +68,22 @@ gain_is_sound words h =
       steps_in_range (word_at words 5),
     )
 
+-- what words of a form ask for is sound
+abbrev AreSound : Form → Type 0
+AreSound f = (words : List (List ℕ)) → have_kinds f.kinds words ≡ true → IsSound words (f.reads words)
+
+list_is_sound : (words : List (List ℕ)) → have_kinds list_file.kinds words ≡ true → IsSound words (list_file.reads words)
+list_is_sound words h =
+    let two : length words ≡ 2 = as_many list_file.kinds words h in
+    record { counted = omega arith; in_range = omega arith; name = each_fits list_file.kinds words 1 Name h (omega arith) }
+
 form_is_sound : (k : ℕ) (form : Form) → k < length forms → get_or forms k form ≡ form → (words : List (List ℕ)) → have_kinds form.kinds words ≡ true → IsSound words (form.reads words)
-form_is_sound zero form lt here = subst (λ (f : Form). (words : List (List ℕ)) → have_kinds f.kinds words ≡ true → IsSound words (f.reads words)) here gain_is_sound
-form_is_sound (suc k) form lt here = absurd (omega (arith, lt))
+form_is_sound zero form lt here = subst AreSound here (λ words h. tt)
+form_is_sound (suc zero) form lt here = subst AreSound here (λ words h. tt)
+form_is_sound (suc (suc zero)) form lt here = subst AreSound here (λ words h. tt)
+form_is_sound (suc (suc (suc zero))) form lt here = subst AreSound here list_is_sound
+form_is_sound (suc (suc (suc (suc zero)))) form lt here = subst AreSound here gain_is_sound
+form_is_sound (suc (suc (suc (suc (suc k))))) form lt here = absurd (omega (arith, lt))
 
 pub is_sound : (words : List (List ℕ)) (job : Job) → Ok job ≡ job_of words → IsSound words job
 unfolding job_of

@@ -6,7 +6,7 @@ use Rattle.edits.specs.Left.{Why, Refused, NoMemory, why_of}
 use Rattle.sync_survey.specs.declared.survey_fault.SurveyFault.{SurveyFault}
 use Rattle.sync_survey.specs.declared.survey_fault.SurveyFault.TheVariants.{Absent, TooLong, NoFrame, LostSync, Truncated, FreeFormat, Mixed, CheckWord, BackPointer, Overlap, Overrun, TooManyFrames, Shrunk, Read, Memory}
 use Rattle.edits.specs.declared.fault.EditFault.{EditFault}
-use Rattle.edits.specs.declared.fault.EditFault.TheVariants.{EqualNames, Input, GainRange, Write, Memory as OutOfMemory}
+use Rattle.edits.specs.declared.fault.EditFault.TheVariants.{EqualNames, Input, GainRange, Write, Sent as NotSent, Memory as OutOfMemory}
 
 abbrev pub status_by : Why → ℕ
 status_by Refused = 1
@@ -54,6 +54,7 @@ fault_line (GainRange offset granule channel gain) inputs outputs =
     codes "gain " ++ decimal gain ++ codes " out of range at " ++ decimal offset
     ++ codes ", granule " ++ decimal granule ++ codes ", channel " ++ decimal channel ++ codes "\n"
 fault_line (Write place) inputs outputs = name_in outputs place ++ codes ": write fault\n"
+fault_line NotSent inputs outputs = codes "standard output: write fault\n"
 fault_line OutOfMemory inputs outputs = codes "out of memory\n"
 
 -- want of memory is a fault of its own, and none of an input
@@ -64,6 +65,21 @@ HasLine _ = Unit {0}
 -- the line of a bad word, by its place counted from 1
 unfoldable pub bad_word_line : ℕ → List ℕ
 bad_word_line place = codes "bad word " ++ decimal place ++ codes "\n"
+
+-- what the program does, form by form, and the statuses
+unfoldable pub help_text : List ℕ
+help_text =
+    codes "usage: mp3edit COMMAND\n"
+    ++ (codes "  list IN                say what stands in the MP3 file IN: tags, junk, head and frames\n"
+    ++ (codes "  gain -s s -g N IN OUT  write IN to OUT, louder by N steps of 1.5 dB (quieter below 0)\n"
+    ++ (codes "  --help, -h             say this\n"
+    ++ (codes "  --version              say which version this is\n"
+    ++ (codes "status: 0 done; 1 refused; 2 bad word; 3 a file is absent, or reading or writing failed;\n"
+    ++ codes "        4 out of memory\n")))))
+
+-- the program's name and version
+unfoldable pub version_text : List ℕ
+version_text = codes "mp3edit 0.1.0\n"
 
 -- the line was sent, and no write failed
 pub record GotWhole (sent_before sent_after : Sent) (faults_before faults_after : ℕ) (line : List ℕ) : Type 0 where

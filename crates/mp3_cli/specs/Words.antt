@@ -6,7 +6,7 @@ use Rattle.std.specs.Str.{all_ascii_digits}
 use Rattle.std.specs.Str.Parse.{digits_value}
 use Rattle.edits.specs.declared.shift.Channels.TheVariants.{Both}
 use Rattle.mp3_cli.specs.declared.jobs.Job.{Job}
-use Rattle.mp3_cli.specs.declared.jobs.Job.TheVariants.{Gain}
+use Rattle.mp3_cli.specs.declared.jobs.Job.TheVariants.{Help, Version, List as ListFile, Gain}
 
 -- ---- words
 
@@ -55,6 +55,21 @@ pub record Form : Type 0 where
 abbrev pub word_at : List (List ℕ) → ℕ → List ℕ
 word_at words place = slice_index_or words (place - 1) []
 
+-- `--help`, and `-h`
+abbrev pub help : Form
+help = record { kinds = Fixed (codes "--help") ∷ []; reads = λ words. Help }
+
+abbrev pub short_help : Form
+short_help = record { kinds = Fixed (codes "-h") ∷ []; reads = λ words. Help }
+
+-- `--version`
+abbrev pub version : Form
+version = record { kinds = Fixed (codes "--version") ∷ []; reads = λ words. Version }
+
+-- `list IN`
+abbrev pub list_file : Form
+list_file = record { kinds = Fixed (codes "list") ∷ Name ∷ []; reads = λ words. ListFile 2 }
+
 -- `gain -s s -g N IN OUT`
 abbrev pub gain_without_tags : Form
 gain_without_tags = record {
@@ -64,7 +79,7 @@ gain_without_tags = record {
 
 -- all of them
 abbrev pub forms : List Form
-forms = gain_without_tags ∷ []
+forms = help ∷ short_help ∷ version ∷ list_file ∷ gain_without_tags ∷ []
 
 -- ---- the reading
 
@@ -134,4 +149,7 @@ pub record IsStepCount (steps : ℤ) : Type 0 where
 
 -- the names of a job are words, and its numbers are in range
 abbrev pub IsSound : List (List ℕ) → Job → Type 0
+IsSound words Help = Unit {0}
+IsSound words Version = Unit {0}
+IsSound words (ListFile input) = IsNamePlace words input
 IsSound words (Gain shift tags input output) = IsNamePlace words input × IsNamePlace words output × IsStepCount shift.steps

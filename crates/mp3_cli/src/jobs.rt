@@ -5,6 +5,15 @@ use edits::Shift;
 /// What a list of words asks for. Names are places of words, counted from 1.
 #[derive(Clone, Copy, Debug, PartialEq, Eq)]
 pub enum Job {
+    /// Say what the program does.
+    Help,
+    /// Say which program it is.
+    Version,
+    /// Say what stands in the file `input`.
+    List {
+        /// The place of the word that names the file to read.
+        input: u32,
+    },
     /// Change the loudness of the file `input`, and write the result to `output`.
     Gain {
         /// The change.

@@ -1,17 +1,18 @@
 //! All that the program does.
 ghost use Rattle.std.specs.Prelude.{◌≡◌, ◌≢◌, ◌↔◌, ◌≤◌, ℕ, [], ◌∷◌, Some, Ok, length, map, string_bytes, IfSome, IfErr, IsErr};
-ghost use Rattle.outside.specs.Files.{Contents};
+ghost use Rattle.outside.specs.Files.{Contents, sent_more};
 ghost use Rattle.outside.specs.Counts.{Rose, NoneFell};
 ghost use Rattle.edits.specs.Command.{HoldsStreams};
 ghost use Rattle.edits.specs.Left.{seen};
+ghost use Rattle.edits.specs.Said.{heard, fault_of};
 ghost use Rattle.mp3_cli.specs.Words.{word_at, job_of, IsSound};
 ghost use Rattle.mp3_cli.specs.Texts.{GotLine, HasLine};
-ghost use Rattle.mp3_cli.specs.Run.{command_of, fault_of, fault_status, result_line, Answers, AnswersWords, outcome, IsOutcome, IsAccepted, HoldsAllStreams};
+ghost use Rattle.mp3_cli.specs.Run.{command_of, always_of, fault_status, result_line, Answers, AnswersWords, outcome, IsOutcome, IsAccepted, HoldsAllStreams};
 
 use crate::jobs::Job;
-use crate::texts::{send_bad_word, send_fault, status};
+use crate::texts::{say_help, say_version, send_bad_word, send_fault, status};
 use crate::words::job;
-use edits::{EditFault, gain};
+use edits::{EditFault, gain, list};
 use outside::{Folder, Sink};
 use std::alloc::Global;
 
@@ -45,20 +46,34 @@ fn report<E: Sink>(
 }
 
 /// Does what the job asks for, and answers the status.
-fn run_job<D: Folder, E: Sink>(
+fn run_job<D: Folder, T: Sink, E: Sink>(
     alloc: Global,
     words: &[String],
     job: Job,
     folder: &mut D,
+    out: &mut T,
     err: &mut E,
 ) -> u8
     requires sound { IsSound (map string_bytes words.now) job }
     ensures answers { Answers (command_of (map string_bytes words.now) job) (seen (D.files folder.old) (D.counts folder.old)) (seen (D.files folder.new) (D.counts folder.new))
-        (E.sent err.old) (E.sent err.new) (E.faults err.old) (E.faults err.new) result }
+        (heard (T.sent out.old) (T.faults out.old)) (heard (T.sent out.new) (T.faults out.new)) (heard (E.sent err.old) (E.faults err.old)) (heard (E.sent err.new) (E.faults err.new)) result }
     ensures streams { result ≡ 0 → HoldsStreams (command_of (map string_bytes words.now) job) (D.files folder.old) }
     ensures counts { NoneFell (D.counts folder.old) (D.counts folder.new) }
 {
     match job {
+        Job::Help => {
+            let done = say_help(out);
+            report(err, done, &[], &[])
+        }
+        Job::Version => {
+            let done = say_version(out);
+            report(err, done, &[], &[])
+        }
+        Job::List { input } => {
+            let input = name_at(words, input);
+            let done = list(alloc, folder, input, out);
+            report(err, done, &[input], &[])
+        }
         Job::Gain {
             shift,
             tags: _,
@@ -74,11 +89,11 @@ fn run_job<D: Folder, E: Sink>(
 }
 
 /// Does what the words ask for over the folder, and answers the status: 0 where it was done, 1 for a refused
-/// input, 2 for a bad word, 3 for an absent file or a failed call of the folder, 4 for want of memory.
+/// input, 2 for a bad word, 3 for an absent file, a failed call of the folder or a failed write to `out`, 4 for want
+/// of memory.
 ///
 /// With every status but 0 one line is sent to `err`, without taking memory; a failed write there changes
-/// nothing else. All memory is taken before the output is created. Nothing is sent to `out` by the commands
-/// that are built today.
+/// nothing else. All memory is taken before an output is created, and before the first byte is sent to `out`.
 pub fn run<D: Folder, T: Sink, E: Sink>(
     alloc: Global,
     words: &[String],
@@ -94,15 +109,15 @@ pub fn run<D: Folder, T: Sink, E: Sink>(
     // Over every folder, told or not: the command was done, or a fault has its status, its line with its
     // numbers, its cause and what it leaves.
     ensures answers { AnswersWords (map string_bytes words.now) (seen (D.files folder.old) (D.counts folder.old)) (seen (D.files folder.new) (D.counts folder.new))
-        (E.sent err.old) (E.sent err.new) (E.faults err.old) (E.faults err.new) result (job_of (map string_bytes words.now)) }
+        (heard (T.sent out.old) (T.faults out.old)) (heard (T.sent out.new) (T.faults out.new)) (heard (E.sent err.old) (E.faults err.old)) (heard (E.sent err.new) (E.faults err.new)) result (job_of (map string_bytes words.now)) }
 
     // With status 0, 1 or 2 all is as defined, whether or not a call failed.
     ensures defined { result ≤ 2 → IfSome (D.files folder.old) (λ files. IsOutcome (outcome (map string_bytes words.now) files) result (D.files folder.new)
-        (T.sent out.old) (T.sent out.new) (E.sent err.old) (E.sent err.new) (E.faults err.old) (E.faults err.new)) }
+        (heard (T.sent out.old) (T.faults out.old)) (heard (T.sent out.new) (T.faults out.new)) (heard (E.sent err.old) (E.faults err.old)) (heard (E.sent err.new) (E.faults err.new))) }
 
-    // Where no call of the folder failed and memory was found, exactly the legal commands are done.
+    // Where no call of the folder failed, nor a write to `out`, and memory was found, exactly the legal commands are done.
     ensures accepted { (files : Contents) → D.files folder.old ≡ Some files → (Rose (D.counts folder.old).read_faults (D.counts folder.new).read_faults → ⊥)
-        → (Rose (D.counts folder.old).write_faults (D.counts folder.new).write_faults → ⊥) → result ≢ 4
+        → (Rose (D.counts folder.old).write_faults (D.counts folder.new).write_faults → ⊥) → (Rose (T.faults out.old) (T.faults out.new) → ⊥) → result ≢ 4
         → ((result ≡ 0) ↔ IsAccepted (map string_bytes words.now) files) }
 
     // What is written is well-formed, and holds exactly the streams that the command has to make of well-formed files.
@@ -115,15 +130,18 @@ pub fn run<D: Folder, T: Sink, E: Sink>(
     ensures failed { result ≢ 3 → D.counts folder.new ≡ D.counts folder.old }
 
     ensures quiet { result ≡ 0 → E.sent err.new ≡ E.sent err.old }
-    ensures no_text { T.sent out.new ≡ T.sent out.old }
+
+    // Standard output gets a text only where the command was done, or a write there failed. Where the text is the same whatever the
+    // files are, it gets it over every folder: that of `--help` and `--version`, and none of `gain`.
+    ensures silent { result ≢ 0 → result ≢ 3 → T.sent out.new ≡ T.sent out.old }
+    ensures text { result ≡ 0 → IfSome (always_of (map string_bytes words.now) (job_of (map string_bytes words.now))) (λ text. T.sent out.new ≡ sent_more (T.sent out.old) text) }
     ensures counts { NoneFell (D.counts folder.old) (D.counts folder.new) }
 {
-    let _ = &out;
     match job(words) {
         Err(word) => {
             send_bad_word(err, word);
             2
         }
-        Ok(job) => run_job(alloc, words, job, folder, err),
+        Ok(job) => run_job(alloc, words, job, folder, out, err),
     }
 }

@@ -1,10 +1,13 @@
 //! The statuses that the program ends with, and the lines that it writes of faults.
-ghost use Rattle.std.specs.Prelude.{◌≡◌, ◌≢◌, map, ◌%◌, [], ◌∷◌, ◌++◌, decimal, flat_map};
-ghost use Rattle.mp3_cli.specs.Texts.{status_of, hex_digit as hex_digit_lem, input_text, name_in as name_in_lem, fault_line, bad_word_line, HasLine, GotLine};
+ghost use Rattle.std.specs.Prelude.{◌≡◌, ◌≢◌, ◌≤◌, OnOk, OnErr, IfErr, map, ◌%◌, [], ◌∷◌, ◌++◌, decimal, flat_map};
+ghost use Rattle.mp3_cli.specs.Texts.{status_of, hex_digit as hex_digit_lem, input_text, name_in as name_in_lem, fault_line, bad_word_line, help_text, version_text, HasLine, GotWhole, GotFront, GotLine};
+ghost use Rattle.mp3_cli.specs.Run.{said_command};
+ghost use Rattle.outside.specs.Files.{Files};
+ghost use Rattle.edits.specs.Said.{heard, Says, fault_of};
 
 use edits::EditFault;
 use itoa::Buffer;
-use outside::{Sink, send_all};
+use outside::{Failed, Sink, send_all};
 use sync_survey::SurveyFault;
 
 /// The status of a fault of an input: 3 where it isn't there, can't be read or became shorter, else 1.
@@ -19,27 +22,79 @@ fn input_status(fault: &SurveyFault) -> u8
 }
 
 /// The status of a fault: 1 for a refused input (EqualNames, Input, GainRange), 3 for a fault of the outside
-/// (Input with Absent, Read or Shrunk, and Write), 4 for want of memory (Memory).
+/// (Input with Absent, Read or Shrunk, Write, and Sent), 4 for want of memory (Memory).
 pub fn status(fault: &EditFault) -> u8
     ensures { result ≡ status_of fault.now }
 {
     match fault {
         EditFault::EqualNames(_) | EditFault::GainRange(..) => 1,
         EditFault::Input(_, fault) => input_status(fault),
-        EditFault::Write(_) => 3,
+        EditFault::Write(_) | EditFault::Sent => 3,
         EditFault::Memory => 4,
     }
 }
 
 // Sends the pieces one after another, and stops at the first that fails.
+fn send_text<T: Sink>(sink: &mut T, pieces: &[&str]) -> Result<(), Failed>
+    ensures whole { OnOk result (GotWhole (T.sent sink.old) (T.sent sink.new) (T.faults sink.old) (T.faults sink.new) (flat_map (λ piece. piece.now) pieces.now)) }
+    ensures front { OnErr result (GotFront (T.sent sink.old) (T.sent sink.new) (T.faults sink.old) (T.faults sink.new) (flat_map (λ piece. piece.now) pieces.now)) }
+    ensures later { T.faults sink.old ≤ T.faults sink.new }
+{
+    for piece in pieces {
+        send_all(sink, piece.as_bytes())?;
+    }
+    Ok(())
+}
+
+// Sends the pieces of a line. A write that fails is not answered.
 fn send_pieces<E: Sink>(err: &mut E, pieces: &[&str])
     ensures { GotLine (E.sent err.old) (E.sent err.new) (E.faults err.old) (E.faults err.new) (flat_map (λ piece. piece.now) pieces.now) }
 {
-    for piece in pieces {
-        if send_all(err, piece.as_bytes()).is_err() {
-            return;
-        }
+    let _ = send_text(err, pieces);
+}
+
+/// What the program does, form by form, and the statuses.
+static HELP: [&str; 7] = [
+    "usage: mp3edit COMMAND\n",
+    "  list IN                say what stands in the MP3 file IN: tags, junk, head and frames\n",
+    "  gain -s s -g N IN OUT  write IN to OUT, louder by N steps of 1.5 dB (quieter below 0)\n",
+    "  --help, -h             say this\n",
+    "  --version              say which version this is\n",
+    "status: 0 done; 1 refused; 2 bad word; 3 a file is absent, or reading or writing failed;\n",
+    "        4 out of memory\n",
+];
+
+// Sends a text to standard output.
+fn say<T: Sink>(out: &mut T, pieces: &[&str]) -> Result<(), EditFault>
+    ensures says { (files : Files) → Says (said_command (flat_map (λ piece. piece.now) pieces.now)) files (heard (T.sent out.old) (T.faults out.old)) (heard (T.sent out.new) (T.faults out.new)) (fault_of result) }
+    ensures fault { IfErr result (λ fault. fault ≡ EditFault.Sent) }
+{
+    match send_text(out, pieces) {
+        Ok(()) => Ok(()),
+        Err(Failed) => Err(EditFault::Sent),
     }
+}
+
+/// Sends what the program does, form by form, and the statuses, without taking memory.
+///
+/// # Errors
+/// `Sent` where a write failed; then a prefix of the text was sent.
+pub fn say_help<T: Sink>(out: &mut T) -> Result<(), EditFault>
+    ensures says { (files : Files) → Says (said_command help_text) files (heard (T.sent out.old) (T.faults out.old)) (heard (T.sent out.new) (T.faults out.new)) (fault_of result) }
+    ensures fault { IfErr result (λ fault. fault ≡ EditFault.Sent) }
+{
+    say(out, &HELP)
+}
+
+/// Sends the program's name and version, without taking memory.
+///
+/// # Errors
+/// `Sent` where a write failed; then a prefix of the text was sent.
+pub fn say_version<T: Sink>(out: &mut T) -> Result<(), EditFault>
+    ensures says { (files : Files) → Says (said_command version_text) files (heard (T.sent out.old) (T.faults out.old)) (heard (T.sent out.new) (T.faults out.new)) (fault_of result) }
+    ensures fault { IfErr result (λ fault. fault ≡ EditFault.Sent) }
+{
+    say(out, &["mp3edit 0.1.0\n"])
 }
 
 fn send_gain_range<E: Sink>(err: &mut E, offset: u64, granule: u8, channel: u8, gain: u8)
@@ -225,6 +280,7 @@ fn name_in<'a>(names: &[&'a str], place: u32) -> &'a str
 /// | Shrunk(F, S) | `NAME: shrunk from F to S` |
 /// | GainRange(O, G, C, V) | `gain V out of range at O, granule G, channel C` |
 /// | Write | `NAME: write fault` |
+/// | Sent | `standard output: write fault` |
 /// | Memory | `out of memory` |
 pub fn send_fault<E: Sink>(err: &mut E, fault: &EditFault, inputs: &[&str], outputs: &[&str])
     requires { HasLine fault.now }
@@ -241,6 +297,7 @@ pub fn send_fault<E: Sink>(err: &mut E, fault: &EditFault, inputs: &[&str], outp
         EditFault::Write(place) => {
             send_pieces(err, &[name_in(outputs, place), ": write fault\n"]);
         }
+        EditFault::Sent => send_pieces(err, &["standard output: write fault\n"]),
         EditFault::Memory => send_pieces(err, &["out of memory\n"]),
     }
 }

@@ -21,10 +21,28 @@ enum WordKind {
 /// The forms.
 #[derive(Clone, Copy)]
 enum FormName {
+    Help,
+    ShortHelp,
+    Version,
+    List,
     GainWithoutTags,
 }
 
-const FORMS: [FormName; 1] = [FormName::GainWithoutTags];
+const FORMS: [FormName; 5] = [
+    FormName::Help,
+    FormName::ShortHelp,
+    FormName::Version,
+    FormName::List,
+    FormName::GainWithoutTags,
+];
+
+static HELP: [WordKind; 1] = [WordKind::Fixed("--help")];
+
+static SHORT_HELP: [WordKind; 1] = [WordKind::Fixed("-h")];
+
+static VERSION: [WordKind; 1] = [WordKind::Fixed("--version")];
+
+static LIST: [WordKind; 2] = [WordKind::Fixed("list"), WordKind::Name];
 
 static GAIN_WITHOUT_TAGS: [WordKind; 7] = [
     WordKind::Fixed("gain"),
@@ -97,6 +115,10 @@ impl FormName {
         ensures { map word_kind result.now ≡ (form_named self).kinds }
     {
         match self {
+            FormName::Help => &HELP,
+            FormName::ShortHelp => &SHORT_HELP,
+            FormName::Version => &VERSION,
+            FormName::List => &LIST,
             FormName::GainWithoutTags => &GAIN_WITHOUT_TAGS,
         }
     }
@@ -107,6 +129,9 @@ impl FormName {
         ensures { result ≡ (form_named self).reads (map string_bytes words.now) }
     {
         match self {
+            FormName::Help | FormName::ShortHelp => Job::Help,
+            FormName::Version => Job::Version,
+            FormName::List => Job::List { input: 2 },
             FormName::GainWithoutTags => Job::Gain {
                 shift: Shift {
                     channels: Channels::Both,
@@ -123,7 +148,7 @@ impl FormName {
 
 /// What the words ask for. Where they have no form, it is refused with the place, counted from 1, of the
 /// first word that no form takes, or the number of words plus 1 where a word is missing.
-/// The form is `gain -s s -g N IN OUT`: N is an optional `+` or `-` and one to three digits, from -255 to
+/// The forms are `list IN`; `gain -s s -g N IN OUT`; and `--help`, `-h` and `--version`, each alone. N is an optional `+` or `-` and one to three digits, from -255 to
 /// 255, and a name isn't empty and doesn't begin with `-`.
 pub fn job(words: &[String]) -> Result<Job, u32>
     ensures exact { result ≡ job_of (map string_bytes words.now) }

@@ -1,14 +1,15 @@
 //! The program.
 #![tactic(auto)]
 
-ghost use Rattle.std.specs.Prelude.{◌≡◌, ◌≢◌, ◌↔◌, Some, map, string_bytes, IfOk, IfErr, OnErr};
+ghost use Rattle.std.specs.Prelude.{◌≡◌, ◌≢◌, ◌↔◌, Some, map, string_bytes, IfOk, IfErr, IfSome, OnErr};
 ghost use Rattle.std.specs.IoError.{error_kind};
 ghost use Rattle.std.specs.declared.io.ErrorKind.TheVariants.{OutOfMemory};
 ghost use Rattle.outside.specs.Counts.{Rose};
-ghost use Rattle.outside.specs.Files.{Contents};
+ghost use Rattle.outside.specs.Files.{Contents, sent_more};
 ghost use Rattle.edits.specs.Left.{seen};
+ghost use Rattle.edits.specs.Said.{heard};
 ghost use Rattle.mp3_cli.specs.Words.{job_of};
-ghost use Rattle.mp3_cli.specs.Run.{AnswersWords, IsAccepted, HoldsAllStreams};
+ghost use Rattle.mp3_cli.specs.Run.{always_of, AnswersWords, IsAccepted, HoldsAllStreams};
 
 use mp3_cli::run;
 use outside::{DiskFolder, Folder, Sink, StdSink};
@@ -44,18 +45,18 @@ fn answer<D: Folder, T: Sink, E: Sink>(
 ) -> u8
     // The clauses of `run`.
     ensures answers { IfOk words (λ v. AnswersWords (map string_bytes v.items) (seen (D.files folder.old) (D.counts folder.old)) (seen (D.files folder.new) (D.counts folder.new))
-        (E.sent err.old) (E.sent err.new) (E.faults err.old) (E.faults err.new) result (job_of (map string_bytes v.items))) }
+        (heard (T.sent out.old) (T.faults out.old)) (heard (T.sent out.new) (T.faults out.new)) (heard (E.sent err.old) (E.faults err.old)) (heard (E.sent err.new) (E.faults err.new)) result (job_of (map string_bytes v.items))) }
     ensures accepted { IfOk words (λ v. (files : Contents) → D.files folder.old ≡ Some files → (Rose (D.counts folder.old).read_faults (D.counts folder.new).read_faults → ⊥)
-        → (Rose (D.counts folder.old).write_faults (D.counts folder.new).write_faults → ⊥) → result ≢ 4
+        → (Rose (D.counts folder.old).write_faults (D.counts folder.new).write_faults → ⊥) → (Rose (T.faults out.old) (T.faults out.new) → ⊥) → result ≢ 4
         → ((result ≡ 0) ↔ IsAccepted (map string_bytes v.items) files)) }
     ensures streams { IfOk words (λ v. result ≡ 0 → HoldsAllStreams (map string_bytes v.items) (D.files folder.old)) }
-    ensures no_text { T.sent out.new ≡ T.sent out.old }
+    ensures text { IfOk words (λ v. result ≡ 0 → IfSome (always_of (map string_bytes v.items) (job_of (map string_bytes v.items))) (λ text. T.sent out.new ≡ sent_more (T.sent out.old) text)) }
 
     // The clauses of `status_without_words`.
     ensures memory { IfErr words (λ error. error_kind error ≡ OutOfMemory → result ≡ 4) }
     ensures other { IfErr words (λ error. error_kind error ≢ OutOfMemory → result ≡ 3) }
     ensures untouched { OnErr words (seen (D.files folder.new) (D.counts folder.new) ≡ seen (D.files folder.old) (D.counts folder.old)) }
-    ensures silent { OnErr words (E.sent err.new ≡ E.sent err.old) }
+    ensures silent { OnErr words ((T.sent out.new ≡ T.sent out.old) × (E.sent err.new ≡ E.sent err.old)) }
 {
     match words {
         Ok(words) => run(alloc, &words, folder, out, err),

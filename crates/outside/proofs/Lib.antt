@@ -3,5 +3,6 @@ pub mod CountsLaws
 pub mod Pieces
 pub mod FeedLaws
 pub mod PassedLaws
+pub mod SentLaws
 pub mod KnownLaws
 mod SlotsLaws

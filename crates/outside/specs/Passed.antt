@@ -1,6 +1,6 @@
--- What a buffer in front of a file passed on to it.
+-- What a buffer in front of a file, or of a sink, passed on to it.
 use Rattle.std.specs.Prelude.{◌≡◌, ℕ, ◌≤◌, List, ◌++◌, length, take}
-use Rattle.outside.specs.Files.{Files, appended}
+use Rattle.outside.specs.Files.{Files, Sent, appended, sent_more}
 
 -- what waited became what waits, and what was between was appended
 pub record PassedOn (name before after : List ℕ) (old new : Files) : Type 0 where
@@ -13,3 +13,17 @@ pub record AppendedPrefix (name bytes : List ℕ) (old new : Files) : Type 0 whe
   pub count : ℕ
   pub within : count ≤ length bytes
   pub files : new ≡ appended old name (take count bytes)
+
+-- ---- the same of a buffer in front of a sink
+
+-- what waited became what waits, and what was between was sent
+pub record SentOn (before after : List ℕ) (old new : Sent) : Type 0 where
+  pub passed : List ℕ
+  pub split : before ≡ passed ++ after
+  pub sent : new ≡ sent_more old passed
+
+-- a prefix was sent
+pub record SentPrefix (bytes : List ℕ) (old new : Sent) : Type 0 where
+  pub count : ℕ
+  pub within : count ≤ length bytes
+  pub sent : new ≡ sent_more old (take count bytes)

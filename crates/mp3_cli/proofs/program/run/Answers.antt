@@ -1,18 +1,19 @@
 -- A bad word is refused as it is defined, and each clause follows from the answer of the command.
 use Rattle.std.proofs.Common.{sym, ◌∙◌, map, string_bytes}
 use Rattle.edits.specs.Left.{seen}
+use Rattle.edits.specs.Said.{heard}
 use Rattle.mp3_cli.proofs.RunLaws.{bad_word_defined, is_defined, is_accepted, quiet}
 use Rattle.mp3_cli.proofs.program.run.Goals as goal
 
 pub returns-in-Err-clause-defined : goal.returns-in-Err-clause-defined
 returns-in-Err-clause-defined g c low =
-    bad_word_defined _ (g.D.Folder.files c.args.folder.now) c.in-Err.word (g.T.Sink.sent c.args.out.now) _ _ _ _ (sym c.job.ensures.exact ∙ c.in-Err.is) c.send_bad_word.ensures
+    bad_word_defined _ (g.D.Folder.files c.args.folder.now) c.in-Err.word (heard (g.T.Sink.sent c.args.out.now) (g.T.Sink.faults c.args.out.now)) _ _ (sym c.job.ensures.exact ∙ c.in-Err.is) c.send_bad_word.ensures
 
 pub returns-in-Ok-clause-defined : goal.returns-in-Ok-clause-defined
 returns-in-Ok-clause-defined g c =
     is_defined (map string_bytes c.args.words.now) c.in-Ok.job (sym c.job.ensures.exact ∙ c.in-Ok.is)
     (seen (g.D.Folder.files c.args.folder.now) (g.D.Folder.counts c.args.folder.now)) (seen (g.D.Folder.files c.run_job.new.folder) (g.D.Folder.counts c.run_job.new.folder))
-    _ _ _ _ _ c.run_job.ensures.answers (g.T.Sink.sent c.args.out.now)
+    _ _ _ _ _ c.run_job.ensures.answers
 
 pub returns-in-Ok-clause-quiet : goal.returns-in-Ok-clause-quiet
 returns-in-Ok-clause-quiet g c = quiet _ _ _ _ _ _ _ _ c.run_job.ensures.answers

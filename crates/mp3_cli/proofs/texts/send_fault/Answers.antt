@@ -20,6 +20,10 @@ pub returns-in-Write : goal.returns-in-Write
 unfolding fault_line
 returns-in-Write g c = line_is _ _ _ _ _ _ (rw (c.in-Write.is, c.name_in-in-Write.ensures) refl) c.send_pieces-in-Write.ensures
 
+pub returns-in-Sent : goal.returns-in-Sent
+unfolding fault_line
+returns-in-Sent g c = line_is _ _ _ _ _ _ (rw c.in-Sent.is refl) c.send_pieces-in-Sent.ensures
+
 pub returns-in-Memory : goal.returns-in-Memory
 unfolding fault_line
 returns-in-Memory g c = line_is _ _ _ _ _ _ (rw c.in-Memory.is refl) c.send_pieces-in-Memory.ensures

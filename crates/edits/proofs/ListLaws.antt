@@ -1,0 +1,134 @@
+-- What the list command leaves, by the survey of its input.
+use Rattle.std.proofs.Common.{◌≡◌, ℕ, ◌+◌, ◌≤◌, List, [], ◌∷◌, length, Option, Some, None, Result, Ok, Err, refl, sym, ◌∙◌, ap, ap₂, subst, inl, inr, arith}
+use Rattle.std.specs.Prelude.{IfSome, is_some}
+use Rattle.outside.specs.Files.{Contents, Files, Holds, IsThere, IsMissing}
+use Rattle.outside.specs.Counts.{Counts}
+use Rattle.outside.proofs.FilesLaws.{there_holds}
+use Rattle.sync_survey.specs.declared.survey_fault.SurveyFault.{SurveyFault}
+use Rattle.sync_survey.specs.declared.survey_fault.SurveyFault.TheVariants.{Absent, TooLong, NoFrame, LostSync, Truncated, FreeFormat, Mixed, CheckWord, BackPointer, Overlap, Overrun, TooManyFrames, Shrunk, Read, Memory as NoRoom}
+use Rattle.sync_survey.specs.Faults.{SurveyFields, surveyed, longest_file, IsWellFormed}
+use Rattle.sync_survey.specs.Survey.{survey_of, RefusesBytes, IsSurveyFault}
+use Rattle.sync_survey.proofs.BytesFaults.{IsOfBytes, surveyed_of_bytes}
+use Rattle.sync_survey.proofs.FoldersLaws.{survey_of-short}
+use Rattle.sync_survey.proofs.SurveyParts.{surveyed-allowed}
+use Rattle.edits.specs.declared.fault.EditFault.{EditFault}
+use Rattle.edits.specs.declared.fault.EditFault.TheVariants.{Input, Sent as NotSent, Memory}
+use Rattle.edits.specs.Kinds.{of_input}
+use Rattle.edits.specs.Edited.{most_frames}
+use Rattle.edits.specs.Command.{Made, Gives, written, MakesStreams, HoldsStreams}
+use Rattle.edits.specs.Left.{Seen, seen, IsDone, IsRefused, TakesMemory, Leaves}
+use Rattle.edits.specs.Said.{IsText}
+use Rattle.edits.specs.Listing.{listed_by, listed_where, listing, list_command}
+use Rattle.edits.proofs.GainLaws.{of_bytes_behind, ok_made}
+use Rattle.edits.proofs.GainedStream.{survey_of-parts}
+
+made_is : (a b : Made) → ok_made a ≡ ok_made b → a ≡ b
+made_is a b e = cc
+
+abbrev text_in : Result Made EditFault → List ℕ
+text_in (Ok made) = made.text
+text_in (Err fault) = []
+
+some_same : (f g : Contents) → Some f ≡ Some g → f ≡ g
+some_same f g e = cc
+
+-- ---- what the told files make of the command
+
+module _ (input : List ℕ) where
+  gives_absent : (files : Files) → IsMissing files input → Gives (list_command input) files (Err (Input 0 Absent))
+  gives_absent None missing = tt
+  gives_absent (Some f) missing = ap listed_where missing
+
+  gives_survey : (f : Contents) (bytes : List ℕ) (r : Result SurveyFields SurveyFault) → f input ≡ Some bytes → survey_of bytes most_frames ≡ r → (list_command input).makes f ≡ listed_by r
+  gives_survey f bytes r holds is = ap listed_where holds ∙ ap listed_by is
+
+  gives_bytes : (files : Files) (r : Result SurveyFields SurveyFault) → IsThere files input → ((bytes : List ℕ) → Holds files input bytes → survey_of bytes most_frames ≡ r) → Gives (list_command input) files (listed_by r)
+  gives_bytes None r there is = tt
+  gives_bytes (Some f) r there is = let held = there_holds f input there in gives_survey f held.0 r held.1 (is held.0 held.1)
+
+  -- ---- a fault of the survey
+
+  survey_takes : (r : Result SurveyFields SurveyFault) → ((fault : SurveyFault) → r ≡ Err fault → IsOfBytes fault) → TakesMemory (listed_by r)
+  survey_takes (Ok s) of = tt
+  survey_takes (Err fault) of = of_bytes_behind fault (of fault refl)
+
+  takes_memory : (files : Files) → IsThere files input → ((bytes : List ℕ) → Holds files input bytes → length bytes ≤ longest_file) → IfSome files (λ f. TakesMemory ((list_command input).makes f))
+  takes_memory None there few = tt
+  takes_memory (Some f) there few =
+      let held = there_holds f input there in
+      subst TakesMemory (sym (gives_survey f held.0 (surveyed held.0 most_frames) held.1 (survey_of-short held.0 most_frames (few held.0 held.1)))) (survey_takes (surveyed held.0 most_frames) (surveyed_of_bytes held.0 most_frames))
+
+  module _ (files new : Files) (counts after : Counts) (same : new ≡ files) where
+    refused : (fault : SurveyFault) → RefusesBytes input files most_frames counts after fault → IsRefused (list_command input) (seen files counts) (seen new after) (Input 0 fault)
+    refused fault h = record { defined = gives_bytes files (Err fault) h.there h.bytes; stays = ap₂ seen same h.counts }
+
+    pub survey_left : (fault : SurveyFault) → IsSurveyFault input files most_frames counts after fault → Leaves (list_command input) (seen files counts) (seen new after) (of_input fault)
+    survey_left Absent h = record { defined = gives_absent files h.0; rose = h.1; files = same }
+    survey_left (TooLong size) h = refused (TooLong size) h
+    survey_left (NoFrame at) h = refused (NoFrame at) h
+    survey_left (LostSync at) h = refused (LostSync at) h
+    survey_left (Truncated at) h = refused (Truncated at) h
+    survey_left (FreeFormat at) h = refused (FreeFormat at) h
+    survey_left (Mixed at) h = refused (Mixed at) h
+    survey_left (CheckWord at said right) h = refused (CheckWord at said right) h
+    survey_left (BackPointer at begin present) h = refused (BackPointer at begin present) h
+    survey_left (Overlap at) h = refused (Overlap at) h
+    survey_left (Overrun at bits room) h = refused (Overrun at bits room) h
+    survey_left (TooManyFrames at) h = refused (TooManyFrames at) h
+    survey_left (Shrunk first second) h = record { rose = h.ended; counts = h.counts; before = h.nothing_told; after = same ∙ h.nothing_told }
+    survey_left Read h = record { rose = h; files = inl same }
+    survey_left NoRoom h = record { names = refl; takes = takes_memory files h.there h.few; stays = ap₂ seen same h.counts }
+
+  -- ---- a file without fault
+
+  module _ (files new : Files) (counts after : Counts) (same : new ≡ files) (done : after ≡ counts) (s : SurveyFields) (there : IsThere files input)
+      (is : (bytes : List ℕ) → Holds files input bytes → survey_of bytes most_frames ≡ Ok s) where
+    abbrev made_of : Made
+    made_of = record { outputs = []; text = listing s }
+
+    gives : Gives (list_command input) files (Ok made_of)
+    gives = gives_bytes files (Ok s) there is
+
+    pub is_done : IsDone (list_command input) (seen files counts) (seen new after)
+    is_done = record { made = at files same gives; told = ap is_some same; counts = done }
+      where
+        at : (fs : Files) → new ≡ fs → Gives (list_command input) fs (Ok made_of) → IfSome fs (λ f. (made : Made) × ((list_command input).makes f ≡ Ok made) × (new ≡ Some (written made.outputs f)))
+        at None e g = tt
+        at (Some f) e g = (made_of, g, e)
+
+    -- memory is taken for it
+    pub out_of_memory : Leaves (list_command input) (seen files counts) (seen new after) Memory
+    out_of_memory = record { names = refl; takes = at files gives; stays = ap₂ seen same done }
+      where
+        at : (fs : Files) → Gives (list_command input) fs (Ok made_of) → IfSome fs (λ f. TakesMemory ((list_command input).makes f))
+        at None g = tt
+        at (Some f) g = subst TakesMemory (sym g) tt
+
+    -- and nothing is refused where a write to standard output failed
+    pub unsent : Leaves (list_command input) (seen files counts) (seen new after) NotSent
+    unsent = record { made = at files gives; stays = ap₂ seen same done }
+      where
+        at : (fs : Files) → Gives (list_command input) fs (Ok made_of) → IfSome fs (λ f. (made : Made) × ((list_command input).makes f ≡ Ok made))
+        at None g = tt
+        at (Some f) g = (made_of, g)
+
+    -- the text
+    pub text_is : (text : List ℕ) → IsText (list_command input) files text → text ≡ listing s
+    text_is text (inl always) = absurd cc
+    text_is text (inr told) = at files told.2 gives told.3 told.4
+      where
+        at : (fs : Files) → fs ≡ Some told.0 → Gives (list_command input) fs (Ok made_of) → (list_command input).makes told.0 ≡ Ok told.1 → told.1.text ≡ text → text ≡ listing s
+        at None e g is t = absurd cc
+        at (Some f) e g is t = sym t ∙ ap text_in (sym is ∙ ap (list_command input).makes (some_same told.0 f (sym e)) ∙ g)
+
+    pub holds_streams : HoldsStreams (list_command input) files
+    holds_streams = at files there is
+      where
+        none_written : (f : Contents) (bytes : List ℕ) → f input ≡ Some bytes → IsWellFormed bytes → (made : Made) → ok_made made_of ≡ ok_made made → MakesStreams (list_command input) f made
+        none_written f bytes holds sound made e = subst (MakesStreams (list_command input) f) (made_is made_of made e) (record { sources = ((bytes, holds, sound), tt); streams = tt })
+        at : (fs : Files) → IsThere fs input → ((bytes : List ℕ) → Holds fs input bytes → survey_of bytes most_frames ≡ Ok s) → HoldsStreams (list_command input) fs
+        at None there is = tt
+        at (Some f) there is =
+            let held = there_holds f input there in
+            let parts = survey_of-parts held.0 most_frames s (is held.0 held.1) in
+            λ made e. none_written f held.0 held.1 (s, surveyed-allowed held.0 most_frames (length held.0 + 1) s (omega arith) parts.1) made (sym (gives_survey f held.0 (Ok s) held.1 (is held.0 held.1)) ∙ e)

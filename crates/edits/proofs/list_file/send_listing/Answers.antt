@@ -1,0 +1,50 @@
+-- One line after another, then the summary, then what waits.
+use Rattle.std.proofs.Common.{◌≡◌, ◌++◌, refl, sym, ◌∙◌, ap, subst, length}
+use Rattle.outside.specs.Passed.{SentOn, SentPrefix}
+use Rattle.outside.proofs.SentLaws.{sent_then_all, sent_then_prefix}
+use Rattle.sync_survey.specs.Faults.{tells}
+use Rattle.edits.specs.Things.{left}
+use Rattle.edits.specs.Listing.{line_of, summary, listing}
+use Rattle.edits.proofs.ListingLaws.{listed_none, listed_more, listed_failed, summary_failed, summary_more, sent_behind, prefix_behind, on_error}
+use Rattle.edits.proofs.list_file.send_listing.Given.{Over}
+use Rattle.edits.proofs.list_file.send_listing.Goals as goal
+
+pub loop-thing-init : goal.loop-thing-init
+loop-thing-init g c = record {
+  done = refl;
+  listed = rw c.requires.empty (listed_none (tells c.args.survey.now) (left c.of-things.result) (g.T.Sink.sent c.args.out.now) c.of-things.ensures);
+}
+
+pub loop-thing-preserved : goal.loop-thing-preserved
+loop-thing-preserved g c = record {
+  done = c.in_ok-push.ensures.cause.done ∙ c.loop-thing.invariant.done;
+  listed = listed_more (tells c.args.survey.now) (left c.loop-thing.things) (left c.next.new.self) c.in-Some.thing c.loop-thing.buffer c.push.new.self _ _ _
+      c.loop-thing.invariant.listed c.in-Some.ensures.first c.in-Some.ensures.rest
+      (subst (λ line. SentOn (c.loop-thing.buffer ++ line) c.push.new.self (g.T.Sink.sent c.loop-thing.out) (g.T.Sink.sent c.push.new.sink)) (c.bytes.ensures ∙ c.set_line.ensures) c.in_ok-push.ensures.passed);
+}
+
+pub returns-in_err-push-clause-prefix : goal.returns-in_err-push-clause-prefix
+returns-in_err-push-clause-prefix g c =
+    on_error c.from_residual.result
+    (listed_failed (tells c.args.survey.now) (left c.loop-thing.things) c.in-Some.thing c.loop-thing.buffer _ _ _ c.loop-thing.invariant.listed c.in-Some.ensures.first
+    (subst (λ line. SentPrefix (c.loop-thing.buffer ++ line) (g.T.Sink.sent c.loop-thing.out) (g.T.Sink.sent c.push.new.sink)) (c.bytes.ensures ∙ c.set_line.ensures) c.in_err-push.ensures.prefix))
+
+pub returns-in_err-push-2-clause-prefix : goal.returns-in_err-push-2-clause-prefix
+returns-in_err-push-2-clause-prefix g c =
+    on_error c.from_residual-in_err-push-2.result
+    (summary_failed (tells c.args.survey.now) (left c.loop-thing.things) c.loop-thing.buffer _ _ _ c.loop-thing.invariant.listed c.in_default.ensures.first
+    (subst (λ line. SentPrefix (c.loop-thing.buffer ++ line) (g.T.Sink.sent c.loop-thing.out) (g.T.Sink.sent c.push-2.new.sink))
+    (c.bytes-2.ensures ∙ c.set_summary.ensures ∙ rw (c.class.ensures, c.frames.ensures) refl) c.in_err-push-2.ensures.prefix))
+
+-- all lines and the summary wait or were sent
+all_listed : (g : Over) (c : goal.After-drop-buffer-inside-2 g) → SentOn (listing (tells c.args.survey.now)) c.push-2.new.self (g.T.Sink.sent c.args.out.now) (g.T.Sink.sent c.push-2.new.sink)
+all_listed g c =
+    summary_more (tells c.args.survey.now) (left c.loop-thing.things) c.loop-thing.buffer c.push-2.new.self _ _ _ c.loop-thing.invariant.listed c.in_default.ensures.first
+    (subst (λ line. SentOn (c.loop-thing.buffer ++ line) c.push-2.new.self (g.T.Sink.sent c.loop-thing.out) (g.T.Sink.sent c.push-2.new.sink))
+    (c.bytes-2.ensures ∙ c.set_summary.ensures ∙ rw (c.class.ensures, c.frames.ensures) refl) c.in_ok-push-2.ensures.passed)
+
+pub returns-clause-sent : goal.returns-clause-sent
+returns-clause-sent g c = sent_behind c.finish.result _ (all_listed g c) c.finish.ensures.sent
+
+pub returns-clause-prefix : goal.returns-clause-prefix
+returns-clause-prefix g c = prefix_behind c.finish.result _ (all_listed g c) c.finish.ensures.prefix

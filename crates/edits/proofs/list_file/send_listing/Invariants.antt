@@ -1,0 +1,15 @@
+-- The lines of the things so far wait or were sent, and no write failed.
+use Rattle.std.proofs.Common.{◌≡◌, length}
+use Rattle.sync_survey.specs.Faults.{tells}
+use Rattle.edits.specs.Things.{left}
+use Rattle.edits.proofs.ListingLaws.{IsListedTo}
+use Rattle.edits.proofs.list_file.send_listing.Given as goal
+
+abbrev pub invariant-loop-thing : goal.invariant-loop-thing
+invariant-loop-thing g l = record {
+  done : g.T.Sink.faults l.out ≡ g.T.Sink.faults l.initial.out;
+  listed : IsListedTo (tells l.survey) (left l.things) l.buffer (g.T.Sink.sent l.initial.out) (g.T.Sink.sent l.out);
+}
+
+abbrev pub decreases-loop-thing : goal.decreases-loop-thing
+decreases-loop-thing g l = length (left l.things)

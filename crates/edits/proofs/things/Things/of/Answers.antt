@@ -1,0 +1,11 @@
+-- All things of the file are left, in order.
+use Rattle.std.proofs.Common.{◌≡◌, ◌++◌, map, refl, sym, ◌∙◌, ap, Option, Some, None}
+use Rattle.std.specs.Prelude.{option_to_list, option_map}
+use Rattle.sync_survey.specs.Faults.{tells}
+use Rattle.edits.specs.Things.{left, merged, stream_things}
+use Rattle.edits.proofs.ThingsLaws.{things_in_order}
+use Rattle.edits.proofs.things.Things.of.Goals as goal
+
+pub returns : goal.returns
+unfolding left
+returns c = rw (c.blocks-2.ensures, c.junk_of.ensures, c.head_of.ensures, c.frames.ensures) refl ∙ sym (things_in_order (tells c.args.survey.now) c.requires)

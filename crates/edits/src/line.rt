@@ -1,0 +1,75 @@
+//! A line of text that is put together from its end to its front.
+ghost use Rattle.std.specs.Prelude.{◌≡◌, ◌+◌, ◌≤◌, [], ◌++◌, length, decimal};
+
+use itoa::write_digits;
+use std::marker::Model;
+
+// No line of a listing is longer.
+const ROOM: usize = 192;
+
+/// A text of at most 192 bytes, to which more is put in front: so the digits of a number are written where they
+/// stay. Contracts see it as its bytes.
+#[derive(Drop)]
+pub(crate) struct Line {
+    room: [u8; ROOM],
+    front: usize,
+}
+
+impl Model for Line {
+    ghost use Rattle.std.specs.Prelude.{◌≤◌, ℕ, List, drop};
+
+    ghost Value = { List ℕ };
+
+    ghost view = { λ l. drop l.front l.room };
+
+    ghost invariant = { λ l. l.front ≤ 192 };
+}
+
+impl Line {
+    /// An empty text.
+    pub(crate) fn new() -> Line
+        ensures { result ≡ [] }
+    {
+        Line {
+            room: [0; ROOM],
+            front: ROOM,
+        }
+    }
+
+    /// Lets the text go.
+    #[inline]
+    pub(crate) fn clear(&mut self)
+        ensures { self.new ≡ [] }
+    {
+        self.front = ROOM;
+    }
+
+    /// Puts a text in front.
+    #[inline]
+    pub(crate) fn put(&mut self, text: &[u8])
+        requires { length self.old + length text.now ≤ 192 }
+        ensures { self.new ≡ text.now ++ self.old }
+    {
+        let front = self.front - text.len();
+        self.room[front..self.front].copy_from_slice(text);
+        self.front = front;
+    }
+
+    /// Puts the decimal digits of a number in front.
+    #[inline]
+    pub(crate) fn put_number(&mut self, number: u64)
+        requires { length self.old + 20 ≤ 192 }
+        ensures number { self.new ≡ decimal number ++ self.old }
+        ensures few { length self.new ≤ length self.old + 20 }
+    {
+        self.front = write_digits(number, &mut self.room, self.front);
+    }
+
+    /// The text.
+    #[inline]
+    pub(crate) fn bytes(&self) -> &[u8]
+        ensures { result.now ≡ self.now }
+    {
+        &self.room[self.front..]
+    }
+}

@@ -1,0 +1,88 @@
+//! The list command over a folder.
+ghost use Rattle.std.specs.Prelude.{◌≡◌, [], OnOk, OnErr, IfErr};
+ghost use Rattle.outside.specs.Files.{sent_more};
+ghost use Rattle.outside.specs.Passed.{SentPrefix};
+ghost use Rattle.outside.specs.Counts.{HasCause, OnlyReads};
+ghost use Rattle.sync_survey.specs.Faults.{tells};
+ghost use Rattle.sync_survey.specs.Survey.{IsLaidOut};
+ghost use Rattle.edits.specs.Command.{HoldsStreams};
+ghost use Rattle.edits.specs.Left.{seen, IsDone, Leaves, HasNumbers};
+ghost use Rattle.edits.specs.Listing.{listing, list_command};
+ghost use Rattle.edits.specs.Said.{heard, Says, fault_of};
+
+use crate::fault::EditFault;
+use crate::limits::MOST_FRAMES;
+use crate::line::Line;
+use crate::lines::{set_line, set_summary};
+use crate::things::Things;
+use outside::{Failed, Folder, SendBuffer, Sink};
+use std::alloc::Global;
+use sync_survey::{Survey, survey};
+
+// Sends the lines of the file and its summary.
+fn send_listing<T: Sink>(
+    survey: &Survey,
+    mut buffer: SendBuffer,
+    out: &mut T,
+) -> Result<(), Failed>
+    requires laid { IsLaidOut (tells survey.now) }
+    requires empty { buffer ≡ [] }
+    ensures sent { OnOk result (T.sent out.new ≡ sent_more (T.sent out.old) (listing (tells survey.now))) }
+    ensures prefix { OnErr result (SentPrefix (listing (tells survey.now)) (T.sent out.old) (T.sent out.new)) }
+    ensures cause { HasCause (T.faults out.old) (T.faults out.new) result }
+{
+    let mut line = Line::new();
+    let mut things = Things::of(survey);
+    while let Some(thing) = things.next() {
+        set_line(&mut line, &thing);
+        buffer.push(out, line.bytes())?;
+    }
+    let count = survey.frames().len() as u64;
+    set_summary(&mut line, survey.class(), count);
+    buffer.push(out, line.bytes())?;
+    buffer.finish(out)
+}
+
+/// Sends what stands in the file to `out`: a line for each thing in order of the offsets, and a summary. Nothing
+/// is written to the folder.
+///
+/// | thing | line |
+/// |---|---|
+/// | tag | `block KIND at O: L bytes`, KIND is `ID3v2`, `ID3v1` or `APEv2` |
+/// | junk before the first frame | `junk at O: L bytes` |
+/// | Xing or Info head | `head at O: L bytes` |
+/// | frame | `frame I at O: R kbit/s, begin B, bits P`, with ` padded` behind `kbit/s` where padding is set |
+/// | summary | `N frames, V, F Hz, C channels, M.SS.HH` |
+///
+/// O is an offset and L a length in bytes, I the number of the frame, counted from 0 without the head, R its bit
+/// rate, B its main_data_begin in bytes, P the bits of its main data. V is `MPEG-1`, `MPEG-2` or `MPEG-2.5`,
+/// M.SS.HH minutes, seconds and hundredths, rounded down.
+///
+/// # Errors
+/// `Input(0, ..)` with the fault of the survey of the input, of which 2,900,000 frames are allowed; `Memory` may
+/// come once the input was found with a length that it may have. After these nothing was sent: all memory is
+/// taken before the first byte. `Sent` only where a write to `out` failed; then it got a prefix of the text.
+pub fn list<D: Folder, T: Sink>(
+    alloc: Global,
+    folder: &mut D,
+    input: &str,
+    out: &mut T,
+) -> Result<(), EditFault>
+    ensures done { OnOk result (IsDone (list_command input.now) (seen (D.files folder.old) (D.counts folder.old)) (seen (D.files folder.new) (D.counts folder.new))) }
+    ensures left { IfErr result (Leaves (list_command input.now) (seen (D.files folder.old) (D.counts folder.old)) (seen (D.files folder.new) (D.counts folder.new))) }
+    // The text, of which a prefix was sent where a write failed.
+    ensures says { Says (list_command input.now) (D.files folder.old) (heard (T.sent out.old) (T.faults out.old)) (heard (T.sent out.new) (T.faults out.new)) (fault_of result) }
+    // Over a folder that tells nothing too.
+    ensures numbers { IfErr result (HasNumbers (list_command input.now)) }
+    // The input is well-formed.
+    ensures streams { OnOk result (HoldsStreams (list_command input.now) (D.files folder.old)) }
+    ensures files { D.files folder.new ≡ D.files folder.old }
+    ensures counts { OnlyReads (D.counts folder.old) (D.counts folder.new) }
+{
+    let survey = survey(alloc, folder, input, MOST_FRAMES)?;
+    let buffer = SendBuffer::new(alloc)?;
+    match send_listing(&survey, buffer, out) {
+        Ok(()) => Ok(()),
+        Err(Failed) => Err(EditFault::Sent),
+    }
+}

@@ -1,0 +1,12 @@
+-- The lines are the text.
+use Rattle.std.proofs.Common.{◌≡◌, refl, subst, flat_map, List, ℕ}
+use Rattle.edits.specs.Said.{heard, Says, fault_of}
+use Rattle.mp3_cli.specs.Texts.{help_text}
+use Rattle.mp3_cli.specs.Run.{said_command}
+use Rattle.mp3_cli.proofs.texts.say_help.Goals as goal
+
+pub returns-clause-says : goal.returns-clause-says
+unfolding help_text
+returns-clause-says g c = λ files.
+    subst (λ text. Says (said_command text) files (heard (g.T.Sink.sent c.args.out.now) (g.T.Sink.faults c.args.out.now)) (heard (g.T.Sink.sent c.say.new.out) (g.T.Sink.faults c.say.new.out)) (fault_of c.say.result))
+    refl (c.say.ensures.says files)

@@ -1,0 +1,8 @@
+-- A piece that fits waits, and nothing is sent.
+use Rattle.std.proofs.Common.{sym, subst}
+use Rattle.outside.specs.Passed.{SentOn}
+use Rattle.outside.proofs.SentLaws.{sent_none}
+use Rattle.outside.proofs.send_buffer.SendBuffer.push.Goals as goal
+
+pub returns-then-piece-self-clause-passed : goal.returns-then-piece-self-clause-passed
+returns-then-piece-self-clause-passed g c = rw c.add.ensures (sent_none (g.T.Sink.sent c.args.sink.now) _)

@@ -1,0 +1,11 @@
+-- A long piece is sent behind what waited.
+use Rattle.outside.proofs.SentLaws.{sent_over, sent_over_prefix}
+use Rattle.outside.proofs.send_buffer.SendBuffer.push_over.Goals as goal
+
+pub returns-then-piece-gt-SIZE-clause-passed : goal.returns-then-piece-gt-SIZE-clause-passed
+returns-then-piece-gt-SIZE-clause-passed g c =
+    sent_over c.send_all.result c.args.self.now c.args.piece.now c.finish.new.self _ _ _ c.in_ok-finish.ensures.sent c.in_ok-finish.ensures.none c.send_all.ensures.written
+
+pub returns-then-piece-gt-SIZE-clause-prefix : goal.returns-then-piece-gt-SIZE-clause-prefix
+returns-then-piece-gt-SIZE-clause-prefix g c =
+    sent_over_prefix c.send_all.result c.args.self.now c.args.piece.now _ _ _ c.in_ok-finish.ensures.sent c.send_all.ensures.front
