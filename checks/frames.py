@@ -2,6 +2,9 @@
 """Reads MP3 files (Layer III of MPEG-1, MPEG-2 and MPEG-2.5), apart from the program that it helps to check.
 
   frames.py survey FILE            what stands in the file; or why it is refused, and status 1
+  frames.py list FILE              what 'mp3edit list FILE' sends to standard output
+  frames.py heard LISTING WAV      compares the last line of a listing with what mpg123 made of the file, without leaving out a sample
+  frames.py counted LISTING HZ,CHANNELS,PACKETS   compares it with what ffprobe tells of the file
   frames.py refusal FILE           of a file that is refused: what the program's line says behind the name
   frames.py past FILE N            'gain V out of range at O, granule G, channel C' for the first gain that N steps lead out of 0 to 255
   frames.py ends FILE              the least and the greatest gain, but for the silent ones
@@ -112,6 +115,7 @@ class Frame:
         self.channels = 1 if self.mode == "mono" else 2
         self.kind = self.version, self.frequency, self.channels
         padding = header[2] >> 1 & 1
+        self.padded = padding == 1
         self.length = 1000 * self.version.factor * self.rate // self.frequency + padding
         self.end = offset + self.length
         self.side_at = offset + (6 if self.protected else 4)
@@ -333,6 +337,53 @@ def survey(name):
     print(survey_of(data).text(data))
 
 
+def line_of(number, frame):
+    padded = " padded" if frame.padded else ""
+    return f"frame {number} at {frame.offset}: {frame.rate} kbit/s{padded}, begin {frame.begin}, bits {frame.payload_bits}"
+
+
+def time_of(samples, frequency):
+    seconds, hundredths = divmod(samples * 100 // frequency, 100)
+    return f"{seconds // 60}.{seconds % 60:02}.{hundredths:02}"
+
+
+def list_lines(name):
+    it = survey_of(bytes_of(name))
+    lines = [(block.offset, f"block {block.kind} at {block.offset}: {block.end - block.offset} bytes") for block in it.blocks]
+    if it.junk[0] < it.junk[1]:
+        lines.append((it.junk[0], f"junk at {it.junk[0]}: {it.junk[1] - it.junk[0]} bytes"))
+    if it.head:
+        lines.append((it.head.offset, f"head at {it.head.offset}: {it.head.length} bytes"))
+    lines += [(frame.offset, line_of(number, frame)) for number, frame in enumerate(it.frames)]
+    first = it.frames[0]
+    for _, line in sorted(lines):
+        print(line)
+    time = time_of(len(it.frames) * 576 * first.version.granules, first.frequency)
+    print(f"{len(it.frames)} frames, {first.version.name}, {first.frequency} Hz, {first.channels} channels, {time}")
+
+
+def summary_of(listing):
+    """Frames, version, frequency, channels and time, as the last line has them."""
+    with open(listing, encoding="ascii") as it:
+        frames, version, frequency, channels, time = it.read().splitlines()[-1].split(", ")
+    return int(frames.split()[0]), version, int(frequency.split()[0]), int(channels.split()[0]), time
+
+
+def heard(listing, wav):
+    frames, version, frequency, channels, time = summary_of(listing)
+    with wave.open(wav) as it:
+        samples = it.getnframes()
+        there = it.getframerate(), it.getnchannels(), samples, time_of(samples, frequency)
+    if there != (frequency, channels, frames * (1152 if version == "MPEG-1" else 576), time):
+        sys.exit(f"mpg123: {there}; listed: {frames} frames, {version}, {frequency} Hz, {channels} channels, {time}")
+
+
+def counted(listing, told):
+    frames, _, frequency, channels, _ = summary_of(listing)
+    if told.rstrip(",") != f"{frequency},{channels},{frames}":
+        sys.exit(f"ffprobe: {told}; listed: {frequency},{channels},{frames}")
+
+
 def refusal(name):
     try:
         survey_of(bytes_of(name))
@@ -454,6 +505,9 @@ def decoded(one, other, factor):
 
 COMMANDS = {
     "survey": (survey, 1),
+    "list": (list_lines, 1),
+    "heard": (heard, 2),
+    "counted": (counted, 2),
     "refusal": (refusal, 1),
     "past": (past, 2),
     "ends": (ends, 1),

@@ -10,6 +10,9 @@ use std::process::Abort;
 /// More than any line of these tests takes.
 const TEXT_ROOM: u64 = 100;
 
+/// More than any listing of these tests takes.
+const LISTING_ROOM: u64 = 1_000_000;
+
 /// How a command ended: its status, and what it wrote.
 #[derive(Drop)]
 pub struct Ended {
@@ -75,6 +78,46 @@ pub fn run_over<D: Folder>(
     let mut out = sink(alloc)?;
     let status = run(alloc, &words, folder, &mut out, &mut err);
     Ok(Ended { status, out, err })
+}
+
+/// Lists the file to a sink with room enough, whose write of this number is to fail.
+pub fn list_to<D: Folder>(
+    alloc: Global,
+    folder: &mut D,
+    name: &str,
+    failing: Option<u64>,
+) -> Result<Ended, AllocError> {
+    let mut out = MemSink::new(alloc);
+    out.reserve(LISTING_ROOM)?;
+    if let Some(number) = failing {
+        out.fail(number)?;
+    }
+    let mut err = sink(alloc)?;
+    let mut words = words_of(alloc, "list")?;
+    words.push(String::from_str(alloc, name)?)?;
+    let status = run(alloc, &words, folder, &mut out, &mut err);
+    Ok(Ended { status, out, err })
+}
+
+/// Runs the words, and asserts that the status is 0, that the text went to standard output, and none to
+/// standard error.
+pub fn expect_text<R: Abort + AllocGlobal, D: Folder>(
+    rt: &R,
+    folder: &mut D,
+    words: &str,
+    text: &str,
+    what: &str,
+) -> Result<(), AllocError> {
+    let alloc = rt.alloc();
+    let words = words_of(alloc, words)?;
+    let mut out = MemSink::new(alloc);
+    out.reserve(LISTING_ROOM)?;
+    let mut err = sink(alloc)?;
+    let status = run(alloc, &words, folder, &mut out, &mut err);
+    assert_eq!(rt; out.sent(), text.as_bytes(), "{what}");
+    assert_eq!(rt; err.sent(), b"".as_slice(), "{what}");
+    assert_eq!(rt; status, 0, "{what}");
+    Ok(())
 }
 
 /// Runs the words, and asserts the status, the text on standard error, and that none went to standard

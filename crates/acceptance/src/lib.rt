@@ -14,6 +14,8 @@ mod frames;
 #[cfg(test)]
 mod gains;
 #[cfg(test)]
+mod list;
+#[cfg(test)]
 mod long;
 #[cfg(test)]
 mod refusals;

@@ -1,6 +1,6 @@
 //! A whole song.
 
-use crate::commands::{expect, folder_of};
+use crate::commands::{expect, folder_of, list_to};
 use crate::files::{ID3V1, ID3V1_REST, Stretch, bytes_of};
 use crate::frames::{Frame, file_of};
 use std::alloc::{AllocError, Global};
@@ -140,5 +140,23 @@ fn a_song_there_and_back(rt: HostRuntime) -> Result<(), Fail> {
     assert!(rt; folder.get("p") == Some(before.as_slice()));
     let line = "gain 0 out of range at 31774, granule 0, channel 0\n";
     expect(&rt, &mut folder, "gain -s s -g -3 s o", 1, line)?;
+    Ok(())
+}
+
+#[test]
+fn a_listed_song(rt: HostRuntime) -> Result<(), Fail> {
+    let song = song(rt.alloc(), &FRAMES, 2300)?;
+    let mut folder = folder_of(rt.alloc(), "s", &song, 0)?;
+    let ended = list_to(rt.alloc(), &mut folder, "s", None)?;
+    let front = b"block ID3v2 at 0: 30000 bytes
+head at 30000: 417 bytes
+frame 0 at 30417: 128 kbit/s, begin 200, bits 3597
+";
+    let end = b"block ID3v1 at 4352417: 128 bytes
+9200 frames, MPEG-1, 44100 Hz, 2 channels, 4.00.32
+";
+    assert_eq!(rt; ended.status, 0);
+    assert!(rt; ended.out.sent().starts_with(front));
+    assert!(rt; ended.out.sent().ends_with(end));
     Ok(())
 }

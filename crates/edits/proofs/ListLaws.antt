@@ -126,6 +126,7 @@ module _ (input : List ℕ) where
       where
         none_written : (f : Contents) (bytes : List ℕ) → f input ≡ Some bytes → IsWellFormed bytes → (made : Made) → ok_made made_of ≡ ok_made made → MakesStreams (list_command input) f made
         none_written f bytes holds sound made e = subst (MakesStreams (list_command input) f) (made_is made_of made e) (record { sources = ((bytes, holds, sound), tt); streams = tt })
+
         at : (fs : Files) → IsThere fs input → ((bytes : List ℕ) → Holds fs input bytes → survey_of bytes most_frames ≡ Ok s) → HoldsStreams (list_command input) fs
         at None there is = tt
         at (Some f) there is =

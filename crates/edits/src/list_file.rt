@@ -20,11 +20,7 @@ use std::alloc::Global;
 use sync_survey::{Survey, survey};
 
 // Sends the lines of the file and its summary.
-fn send_listing<T: Sink>(
-    survey: &Survey,
-    mut buffer: SendBuffer,
-    out: &mut T,
-) -> Result<(), Failed>
+fn send_listing<T: Sink>(survey: &Survey, mut buffer: SendBuffer, out: &mut T) -> Result<(), Failed>
     requires laid { IsLaidOut (tells survey.now) }
     requires empty { buffer ≡ [] }
     ensures sent { OnOk result (T.sent out.new ≡ sent_more (T.sent out.old) (listing (tells survey.now))) }

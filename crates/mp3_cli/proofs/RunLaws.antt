@@ -150,6 +150,7 @@ module _ (command : Command) (old new : Seen) (out_old out_new err_old err_new :
       text : SaysAll command old.files out_old out_new → (o : Option (List ℕ)) → command.always ≡ o → IfSome o (λ text. out_new.sent ≡ sent_more out_old.sent text)
       text says None same = tt
       text says (Some t) same = says.text t (inl same)
+
       at : Case → IfSome command.always (λ text. out_new.sent ≡ sent_more out_old.sent text)
       at (Done is e) = text (says_here None e) command.always refl
       at (Failed fault why e is w left) = absurd (omega (arith, is, zero_is, (by_status why).0))
@@ -327,6 +328,7 @@ module _ (text : List ℕ) (some : Some text ≢ Some []) (now : Seen) where
     where
       none : (f : Contents) (made : Made) → ok_made (record { outputs = []; text = text }) ≡ ok_made made → MakesStreams (said_command text) f made
       none f made e = subst (MakesStreams (said_command text) f) (made_is (record { outputs = []; text = text }) made e) (record { sources = tt; streams = tt })
+
       at : (files : Files) → HoldsStreams (said_command text) files
       at None = tt
       at (Some f) = none f

@@ -2,7 +2,7 @@
 
 use super::*;
 use edits::{Channels, EditFault, Shift};
-use outside::MemSink;
+use outside::{MemFolder, MemSink};
 use std::alloc::{AllocError, Global};
 use std::test::Fail;
 use sync_survey::SurveyFault;
@@ -55,6 +55,81 @@ fn words_that_are_no_steps(rt: HostRuntime) -> Result<(), Fail> {
 }
 
 #[test]
+fn words_of_the_other_forms(rt: HostRuntime) -> Result<(), Fail> {
+    let alloc = rt.alloc();
+    assert_eq!(rt; read(alloc, &["list", "a"])?, Ok(Job::List { input: 2 }));
+    assert_eq!(rt; read(alloc, &["--help"])?, Ok(Job::Help));
+    assert_eq!(rt; read(alloc, &["-h"])?, Ok(Job::Help));
+    assert_eq!(rt; read(alloc, &["--version"])?, Ok(Job::Version));
+    assert_eq!(rt; read(alloc, &["list"])?, Err(2));
+    assert_eq!(rt; read(alloc, &["list", "-a"])?, Err(2));
+    assert_eq!(rt; read(alloc, &["list", "a", "b"])?, Err(3));
+    assert_eq!(rt; read(alloc, &["--help", "list"])?, Err(2));
+    assert_eq!(rt; read(alloc, &["-v"])?, Err(1));
+    Ok(())
+}
+
+/// Words, and the text that they give on standard output.
+struct Said {
+    word: &'static str,
+    text: &'static [u8],
+}
+
+const USAGE: &[u8] = b"usage: mp3edit COMMAND
+  list IN                say what stands in the MP3 file IN: tags, junk, head and frames
+  gain -s s -g N IN OUT  write IN to OUT, louder by N steps of 1.5 dB (quieter below 0)
+  --help, -h             say this
+  --version              say which version this is
+status: 0 done; 1 refused; 2 bad word; 3 a file is absent, or reading or writing failed;
+        4 out of memory
+";
+
+static TEXTS: [Said; 3] = [
+    Said {
+        word: "--help",
+        text: USAGE,
+    },
+    Said {
+        word: "-h",
+        text: USAGE,
+    },
+    Said {
+        word: "--version",
+        text: b"mp3edit 0.1.0\n",
+    },
+];
+
+// The text goes to standard output; where its first write fails, nothing does.
+#[test]
+fn texts_that_are_said(rt: HostRuntime) -> Result<(), Fail> {
+    for said in &TEXTS {
+        for failing in [false, true] {
+            let mut words = Vec::new(rt.alloc());
+            words.push(String::from_str(rt.alloc(), said.word)?)?;
+            let mut folder = MemFolder::new(rt.alloc());
+            let mut out = MemSink::new(rt.alloc());
+            out.reserve(1000)?;
+            if failing {
+                out.fail(1)?;
+            }
+            let mut err = MemSink::new(rt.alloc());
+            err.reserve(100)?;
+            let status = run(rt.alloc(), &words, &mut folder, &mut out, &mut err);
+            let line: &[u8] = if failing {
+                b"standard output: write fault\n"
+            } else {
+                b""
+            };
+            let text: &[u8] = if failing { b"" } else { said.text };
+            assert_eq!(rt; status, if failing { 3 } else { 0 }, "{}", said.word);
+            assert_eq!(rt; out.sent(), text, "{}", said.word);
+            assert_eq!(rt; err.sent(), line, "{}", said.word);
+        }
+    }
+    Ok(())
+}
+
+#[test]
 fn bad_words(rt: HostRuntime) -> Result<(), Fail> {
     let alloc = rt.alloc();
     assert_eq!(rt; read(alloc, &[])?, Err(1));
@@ -88,11 +163,16 @@ struct Line {
     line: &'static [u8],
 }
 
-static LINES: [Line; 18] = [
+static LINES: [Line; 19] = [
     Line {
         fault: EditFault::EqualNames(0),
         status: 1,
         line: b"a.mp3: input is an output\n",
+    },
+    Line {
+        fault: EditFault::Sent,
+        status: 3,
+        line: b"standard output: write fault\n",
     },
     Line {
         fault: EditFault::Input(0, SurveyFault::Absent),

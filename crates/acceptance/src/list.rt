@@ -1,0 +1,157 @@
+//! What stands in a file, line by line. The lines are worked out by hand from the frames' bytes.
+
+use crate::commands::{expect, expect_text, folder_of_file, list_to, sink};
+use crate::files::{APE, ID3V1, ID3V1_REST, ID3V2, ID3V2_REST, Stretch};
+use crate::frames::{EARLY_HEAD, HEAD, LOWER, MONO, PADDED, PROTECTED_Z, Z};
+use crate::reservoir::{FIRST, NEARER, SECOND};
+use outside::Call;
+use std::test::Fail;
+
+/// A file, and the text of `list`.
+struct Case {
+    what: &'static str,
+    file: &'static [Stretch],
+    text: &'static str,
+}
+
+static CASES: [Case; 7] = [
+    Case {
+        what: "the bit reservoir",
+        file: &[Stretch::Frames(&[FIRST, SECOND])],
+        text: "frame 0 at 0: 128 kbit/s, begin 0, bits 2400
+frame 1 at 417: 128 kbit/s, begin 81, bits 3200
+2 frames, MPEG-1, 44100 Hz, 2 channels, 0.00.05
+",
+    },
+    Case {
+        what: "a head, whose area counts",
+        file: &[Stretch::Frames(&[HEAD, NEARER])],
+        text: "head at 0: 417 bytes
+frame 0 at 417: 128 kbit/s, begin 40, bits 3200
+1 frames, MPEG-1, 44100 Hz, 2 channels, 0.00.02
+",
+    },
+    // The false frame in the junk isn't anchored: zeros stand at its end.
+    Case {
+        what: "blocks, zeros and junk",
+        file: &[
+            ID3V2,
+            ID3V2_REST,
+            Stretch::Fill(0, 2),
+            Stretch::Fill(0x55, 100),
+            Stretch::Bytes(&[0xff, 0xfb, 0x90, 0x00]),
+            Stretch::Fill(0x55, 196),
+            Stretch::Frames(&[Z, Z]),
+            APE,
+            ID3V1,
+            ID3V1_REST,
+        ],
+        text: "block ID3v2 at 0: 40 bytes
+junk at 42: 300 bytes
+frame 0 at 342: 128 kbit/s, begin 0, bits 0
+frame 1 at 759: 128 kbit/s, begin 0, bits 0
+block APEv2 at 1176: 79 bytes
+block ID3v1 at 1255: 128 bytes
+2 frames, MPEG-1, 44100 Hz, 2 channels, 0.00.05
+",
+    },
+    Case {
+        what: "a protected head, and blocks and zeros between frames",
+        file: &[
+            APE,
+            Stretch::Frames(&[EARLY_HEAD, Z]),
+            ID3V2,
+            ID3V2_REST,
+            Stretch::Fill(0, 3),
+            Stretch::Frames(&[PADDED]),
+            ID3V1,
+            ID3V1_REST,
+            Stretch::Frames(&[PROTECTED_Z]),
+            Stretch::Fill(0, 1),
+        ],
+        text: "block APEv2 at 0: 79 bytes
+head at 79: 417 bytes
+frame 0 at 496: 128 kbit/s, begin 0, bits 0
+block ID3v2 at 913: 40 bytes
+frame 1 at 956: 128 kbit/s padded, begin 0, bits 80
+block ID3v1 at 1374: 128 bytes
+frame 2 at 1502: 128 kbit/s, begin 0, bits 0
+3 frames, MPEG-1, 44100 Hz, 2 channels, 0.00.07
+",
+    },
+    Case {
+        what: "one channel",
+        file: &[Stretch::Frames(&[MONO])],
+        text: "frame 0 at 0: 128 kbit/s, begin 0, bits 24
+1 frames, MPEG-1, 44100 Hz, 1 channels, 0.00.02
+",
+    },
+    Case {
+        what: "MPEG-2",
+        file: &[Stretch::Frames(&[LOWER])],
+        text: "frame 0 at 0: 64 kbit/s padded, begin 0, bits 24
+1 frames, MPEG-2, 22050 Hz, 2 channels, 0.00.02
+",
+    },
+    // 8,000 Hz, 8 kbit/s, one channel, all bytes behind the header 0: 72 bytes and 72 ms.
+    Case {
+        what: "MPEG-2.5",
+        file: &[
+            Stretch::Bytes(&[0xff, 0xe3, 0x18, 0xc0]),
+            Stretch::Fill(0, 68),
+        ],
+        text: "frame 0 at 0: 8 kbit/s, begin 0, bits 0
+1 frames, MPEG-2.5, 8000 Hz, 1 channels, 0.00.07
+",
+    },
+];
+
+#[test]
+fn a_line_for_each_thing(rt: HostRuntime) -> Result<(), Fail> {
+    for case in &CASES {
+        let mut folder = folder_of_file(rt.alloc(), "a", case.file)?;
+        expect_text(&rt, &mut folder, "list a", case.text, case.what)?;
+    }
+    Ok(())
+}
+
+// Nothing goes to standard output.
+#[test]
+fn refused_files(rt: HostRuntime) -> Result<(), Fail> {
+    let mut folder = folder_of_file(rt.alloc(), "a", &[])?;
+    expect(&rt, &mut folder, "list a", 1, "a: no frame at 0\n")?;
+    expect(&rt, &mut folder, "list x", 3, "x: absent\n")?;
+    folder.fail(Call::Find, 3)?;
+    expect(&rt, &mut folder, "list a", 3, "a: read fault\n")?;
+    let mut cut = folder_of_file(rt.alloc(), "a", &[Stretch::Frames(&[Z]), ID3V2])?;
+    expect(&rt, &mut cut, "list a", 1, "a: truncated at 417\n")?;
+    cut.fail(Call::Read, 2)?;
+    expect(&rt, &mut cut, "list a", 3, "a: read fault\n")?;
+    Ok(())
+}
+
+// Each write of a text of several fails in turn: a prefix of the text was sent.
+#[test]
+fn each_write_fails_once(rt: HostRuntime) -> Result<(), Fail> {
+    let mut folder = folder_of_file(rt.alloc(), "z", &[Stretch::Fill(0, 1), MANY])?;
+    let whole = list_to(rt.alloc(), &mut folder, "z", None)?;
+    assert_eq!(rt; whole.status, 0);
+    assert!(rt; whole.out.sent().len() > 2 * 65_536);
+    for number in 1..4 {
+        let ended = list_to(rt.alloc(), &mut folder, "z", Some(number))?;
+        assert_eq!(rt; ended.status, 3);
+        assert_eq!(rt;
+            ended.err.sent(),
+            b"standard output: write fault\n".as_slice()
+        );
+        assert!(rt; ended.out.sent().len() >= (number as usize - 1) * 65_000);
+        assert!(rt; whole.out.sent().starts_with(ended.out.sent()));
+    }
+    let ended = list_to(rt.alloc(), &mut folder, "z", Some(4))?;
+    assert_eq!(rt; ended.status, 0);
+    assert!(rt; ended.out.sent() == whole.out.sent());
+    Ok(())
+}
+
+/// So many frames that their lines take three writes.
+const MANY: Stretch = Stretch::Frames(&[Z; 3000]);
