@@ -1,6 +1,7 @@
 //! Headers and lengths from the tables of the standard.
 
 use super::*;
+use std::process::Abort;
 use std::test::Fail;
 
 const MPEG_1: Version = Version::One;
@@ -82,104 +83,117 @@ fn bytes_that_are_no_header(rt: HostRuntime) -> Result<(), Fail> {
     Ok(())
 }
 
-#[test]
-fn lengths(rt: HostRuntime) -> Result<(), Fail> {
-    // Without padding, for the bit rate indexes 1 to 14.
-    let cases: [(Version, u8, u32, [u16; 14]); 9] = [
-        (
-            MPEG_1,
-            0,
-            44_100,
-            [
-                104, 130, 156, 182, 208, 261, 313, 365, 417, 522, 626, 731, 835, 1044,
-            ],
-        ),
-        (
-            MPEG_1,
-            1,
-            48_000,
-            [
-                96, 120, 144, 168, 192, 240, 288, 336, 384, 480, 576, 672, 768, 960,
-            ],
-        ),
-        (
-            MPEG_1,
-            2,
-            32_000,
-            [
-                144, 180, 216, 252, 288, 360, 432, 504, 576, 720, 864, 1008, 1152, 1440,
-            ],
-        ),
-        (
-            MPEG_2,
-            0,
-            22_050,
-            [
-                26, 52, 78, 104, 130, 156, 182, 208, 261, 313, 365, 417, 470, 522,
-            ],
-        ),
-        (
-            MPEG_2,
-            1,
-            24_000,
-            [
-                24, 48, 72, 96, 120, 144, 168, 192, 240, 288, 336, 384, 432, 480,
-            ],
-        ),
-        (
-            MPEG_2,
-            2,
-            16_000,
-            [
-                36, 72, 108, 144, 180, 216, 252, 288, 360, 432, 504, 576, 648, 720,
-            ],
-        ),
-        (
-            MPEG_2_5,
-            0,
-            11_025,
-            [
-                52, 104, 156, 208, 261, 313, 365, 417, 522, 626, 731, 835, 940, 1044,
-            ],
-        ),
-        (
-            MPEG_2_5,
-            1,
-            12_000,
-            [
-                48, 96, 144, 192, 240, 288, 336, 384, 480, 576, 672, 768, 864, 960,
-            ],
-        ),
-        (
-            MPEG_2_5,
-            2,
-            8_000,
-            [
-                72, 144, 216, 288, 360, 432, 504, 576, 720, 864, 1008, 1152, 1296, 1440,
-            ],
-        ),
-    ];
-    for (version, frequency_index, frequency, lengths) in cases {
-        assert!(rt; frequency_index <= 2);
-        let class = Class {
-            version,
-            frequency_index,
-            channels: 2,
-        };
-        assert_eq!(rt; class.frequency(), frequency);
-        for rate_index in 1..15 {
-            let wanted = lengths[rate_index as usize - 1];
-            for padding in [false, true] {
-                let slot = Slot {
-                    rate_index,
-                    padding,
-                };
-                let wanted = u32::from(wanted) + u32::from(padding);
-                assert_eq!(rt; class.length_of(slot), wanted, "{class:?}, {slot:?}");
-            }
+/// A version and a frequency index, the frequency in Hz, and the lengths in bytes without padding for the bit
+/// rate indexes 1 to 14.
+struct ClassLengths {
+    version: Version,
+    frequency_index: u8,
+    frequency: u32,
+    lengths: [u16; 14],
+}
+
+static ALL_LENGTHS: [ClassLengths; 9] = [
+    ClassLengths {
+        version: MPEG_1,
+        frequency_index: 0,
+        frequency: 44_100,
+        lengths: [
+            104, 130, 156, 182, 208, 261, 313, 365, 417, 522, 626, 731, 835, 1044,
+        ],
+    },
+    ClassLengths {
+        version: MPEG_1,
+        frequency_index: 1,
+        frequency: 48_000,
+        lengths: [
+            96, 120, 144, 168, 192, 240, 288, 336, 384, 480, 576, 672, 768, 960,
+        ],
+    },
+    ClassLengths {
+        version: MPEG_1,
+        frequency_index: 2,
+        frequency: 32_000,
+        lengths: [
+            144, 180, 216, 252, 288, 360, 432, 504, 576, 720, 864, 1008, 1152, 1440,
+        ],
+    },
+    ClassLengths {
+        version: MPEG_2,
+        frequency_index: 0,
+        frequency: 22_050,
+        lengths: [
+            26, 52, 78, 104, 130, 156, 182, 208, 261, 313, 365, 417, 470, 522,
+        ],
+    },
+    ClassLengths {
+        version: MPEG_2,
+        frequency_index: 1,
+        frequency: 24_000,
+        lengths: [
+            24, 48, 72, 96, 120, 144, 168, 192, 240, 288, 336, 384, 432, 480,
+        ],
+    },
+    ClassLengths {
+        version: MPEG_2,
+        frequency_index: 2,
+        frequency: 16_000,
+        lengths: [
+            36, 72, 108, 144, 180, 216, 252, 288, 360, 432, 504, 576, 648, 720,
+        ],
+    },
+    ClassLengths {
+        version: MPEG_2_5,
+        frequency_index: 0,
+        frequency: 11_025,
+        lengths: [
+            52, 104, 156, 208, 261, 313, 365, 417, 522, 626, 731, 835, 940, 1044,
+        ],
+    },
+    ClassLengths {
+        version: MPEG_2_5,
+        frequency_index: 1,
+        frequency: 12_000,
+        lengths: [
+            48, 96, 144, 192, 240, 288, 336, 384, 480, 576, 672, 768, 864, 960,
+        ],
+    },
+    ClassLengths {
+        version: MPEG_2_5,
+        frequency_index: 2,
+        frequency: 8_000,
+        lengths: [
+            72, 144, 216, 288, 360, 432, 504, 576, 720, 864, 1008, 1152, 1296, 1440,
+        ],
+    },
+];
+
+/// Each slot of the class has its length.
+fn expect_lengths(rt: &impl Abort, class: Class, lengths: &[u16; 14]) {
+    for rate_index in 1..15 {
+        let wanted = lengths[rate_index as usize - 1];
+        for padding in [false, true] {
+            let slot = Slot {
+                rate_index,
+                padding,
+            };
+            let wanted = u32::from(wanted) + u32::from(padding);
+            assert_eq!(rt; class.length_of(slot), wanted, "{class:?}, {slot:?}");
         }
     }
-    Ok(())
+}
+
+#[test]
+fn lengths(rt: HostRuntime) {
+    for row in &ALL_LENGTHS {
+        assert!(rt; row.frequency_index <= 2);
+        let class = Class {
+            version: row.version,
+            frequency_index: row.frequency_index,
+            channels: 2,
+        };
+        assert_eq!(rt; class.frequency(), row.frequency);
+        expect_lengths(&rt, class, &row.lengths);
+    }
 }
 
 #[test]

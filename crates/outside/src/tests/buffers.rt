@@ -40,17 +40,16 @@ fn expect(rt: &impl Abort, feed: &mut Feed, folder: &mut Slow, name: &str, case:
     assert_eq!(rt; folder.calls.made, reads, "{n} bytes at {at}");
 }
 
-#[test]
-fn a_feed_over_short_reads(rt: HostRuntime) -> Result<(), Fail> {
-    let mut folder = Slow::new(rt.alloc(), 70_000, 1000, 11)?;
-    let mut feed = Feed::new(rt.alloc())?;
-    let file = &mut folder;
-    assert_eq!(rt; feed.bytes(), b"".as_slice());
+// Reads of at most 1,000 bytes: the first buffer, and pieces at its end.
+fn expect_front_by_short_reads(rt: &impl Abort, feed: &mut Feed, folder: &mut Slow, name: &str)
+    requires fed { IsFedFrom feed.old untold name.now }
+    ensures fed { IsFedFrom feed.new untold name.now }
+{
     expect(
-        &rt,
-        &mut feed,
-        file,
-        "a",
+        rt,
+        feed,
+        folder,
+        name,
         Case {
             at: 0,
             n: 4096,
@@ -59,10 +58,10 @@ fn a_feed_over_short_reads(rt: HostRuntime) -> Result<(), Fail> {
         },
     );
     expect(
-        &rt,
-        &mut feed,
-        file,
-        "a",
+        rt,
+        feed,
+        folder,
+        name,
         Case {
             at: 4990,
             n: 10,
@@ -71,10 +70,10 @@ fn a_feed_over_short_reads(rt: HostRuntime) -> Result<(), Fail> {
         },
     );
     expect(
-        &rt,
-        &mut feed,
-        file,
-        "a",
+        rt,
+        feed,
+        folder,
+        name,
         Case {
             at: 4990,
             n: 11,
@@ -82,11 +81,18 @@ fn a_feed_over_short_reads(rt: HostRuntime) -> Result<(), Fail> {
             reads: 6,
         },
     );
+}
+
+// One byte further back, and the end of the file, where 10 bytes are left.
+fn expect_end_by_short_reads(rt: &impl Abort, feed: &mut Feed, folder: &mut Slow, name: &str)
+    requires fed { IsFedFrom feed.old untold name.now }
+    ensures fed { IsFedFrom feed.new untold name.now }
+{
     expect(
-        &rt,
-        &mut feed,
-        file,
-        "a",
+        rt,
+        feed,
+        folder,
+        name,
         Case {
             at: 4989,
             n: 1,
@@ -95,10 +101,10 @@ fn a_feed_over_short_reads(rt: HostRuntime) -> Result<(), Fail> {
         },
     );
     expect(
-        &rt,
-        &mut feed,
-        file,
-        "a",
+        rt,
+        feed,
+        folder,
+        name,
         Case {
             at: 69_990,
             n: 20,
@@ -107,10 +113,10 @@ fn a_feed_over_short_reads(rt: HostRuntime) -> Result<(), Fail> {
         },
     );
     expect(
-        &rt,
-        &mut feed,
-        file,
-        "a",
+        rt,
+        feed,
+        folder,
+        name,
         Case {
             at: 69_990,
             n: 10,
@@ -118,6 +124,16 @@ fn a_feed_over_short_reads(rt: HostRuntime) -> Result<(), Fail> {
             reads: 9,
         },
     );
+}
+
+#[test]
+fn a_feed_over_short_reads(rt: HostRuntime) -> Result<(), Fail> {
+    let mut folder = Slow::new(rt.alloc(), 70_000, 1000, 11)?;
+    let mut feed = Feed::new(rt.alloc())?;
+    let file = &mut folder;
+    assert_eq!(rt; feed.bytes(), b"".as_slice());
+    expect_front_by_short_reads(&rt, &mut feed, file, "a");
+    expect_end_by_short_reads(&rt, &mut feed, file, "a");
     assert_eq!(rt;
         feed.fill(file, "a", 0, 1500),
         Err(Failed),
@@ -139,16 +155,16 @@ fn a_feed_over_short_reads(rt: HostRuntime) -> Result<(), Fail> {
     Ok(())
 }
 
-#[test]
-fn a_feed_over_long_reads(rt: HostRuntime) -> Result<(), Fail> {
-    let mut folder = Slow::new(rt.alloc(), 200_000, 200_000, 0)?;
-    let mut feed = Feed::new(rt.alloc())?;
-    let file = &mut folder;
+// Reads as long as they are asked for: one for the first 65,536 bytes, and one for those behind.
+fn expect_two_long_reads(rt: &impl Abort, feed: &mut Feed, folder: &mut Slow, name: &str)
+    requires fed { IsFedFrom feed.old untold name.now }
+    ensures fed { IsFedFrom feed.new untold name.now }
+{
     expect(
-        &rt,
-        &mut feed,
-        file,
-        "a",
+        rt,
+        feed,
+        folder,
+        name,
         Case {
             at: 1,
             n: 1,
@@ -157,10 +173,10 @@ fn a_feed_over_long_reads(rt: HostRuntime) -> Result<(), Fail> {
         },
     );
     expect(
-        &rt,
-        &mut feed,
-        file,
-        "a",
+        rt,
+        feed,
+        folder,
+        name,
         Case {
             at: 61_441,
             n: 4096,
@@ -169,10 +185,10 @@ fn a_feed_over_long_reads(rt: HostRuntime) -> Result<(), Fail> {
         },
     );
     expect(
-        &rt,
-        &mut feed,
-        file,
-        "a",
+        rt,
+        feed,
+        folder,
+        name,
         Case {
             at: 61_442,
             n: 4096,
@@ -181,10 +197,10 @@ fn a_feed_over_long_reads(rt: HostRuntime) -> Result<(), Fail> {
         },
     );
     expect(
-        &rt,
-        &mut feed,
-        file,
-        "a",
+        rt,
+        feed,
+        folder,
+        name,
         Case {
             at: 122_882,
             n: 4096,
@@ -192,6 +208,14 @@ fn a_feed_over_long_reads(rt: HostRuntime) -> Result<(), Fail> {
             reads: 2,
         },
     );
+}
+
+#[test]
+fn a_feed_over_long_reads(rt: HostRuntime) -> Result<(), Fail> {
+    let mut folder = Slow::new(rt.alloc(), 200_000, 200_000, 0)?;
+    let mut feed = Feed::new(rt.alloc())?;
+    let file = &mut folder;
+    expect_two_long_reads(&rt, &mut feed, file, "a");
     feed.clear();
     assert_eq!(rt; feed.bytes(), b"".as_slice());
     expect(
