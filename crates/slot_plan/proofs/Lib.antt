@@ -2,3 +2,5 @@ pub mod ReserveLaws
 pub mod AreaLaws
 pub mod PartLaws
 pub mod PlacedLaws
+pub mod CheckedLaws
+pub mod LeadInLaws

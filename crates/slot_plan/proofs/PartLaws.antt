@@ -208,12 +208,3 @@ part-ready needs parts at end window class ascend all within next last is feasib
     let bounds = part-bounds needs parts at end ascend all within next last in
     let here = feasible-cons window (slice_range needs from end) (parts_of needs (drop (at + 1) parts)) (subst (ArePartsFeasible window) (parts-cons needs parts at from end within refl next last) feasible) in
     (part-some needs from end bounds.0 bounds.1, is ∙ sym (part-window needs from end class bounds.0 bounds.1), here.0, here.1)
-
--- one frame that fits behind a whole window
-pub alone-feasible : (need : Need) (window : ℕ) → need.bytes ≤ window + own_area need → ArePartsFeasible window (parts_of (need ∷ []) (0 ∷ []))
-unfolding ArePartsFeasible parts_of IsFeasible IsLayout
-alone-feasible need window fits = ((0 ∷ [], (omega arith, omega arith, omega arith, omega arith, tt)), tt)
-
-pub alone-class : (need : Need) → AreOfOneClass (need ∷ [])
-unfolding AreOfClass
-alone-class need = tt

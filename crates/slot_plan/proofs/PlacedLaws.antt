@@ -63,15 +63,15 @@ unfolding IsLeadIn items_of
 no-lead_in window choices part none within own = can-needed window (opens_in choices part) (map own_area part) own none within
 
 -- with a lead-in of one slot
-lead-needed : (class : ClassFields) (slot : SlotFields) (opens : List Open) → needed (open_of (lead_in_of class (slot ∷ [])) ∷ opens) ≡ needed opens - area_of class slot false
+pub lead-needed : (class : ClassFields) (slot : SlotFields) (opens : List Open) → needed (open_of (lead_in_of class (slot ∷ [])) ∷ opens) ≡ needed opens - area_of class slot false
 unfolding needed greatest
 lead-needed class slot opens = omega arith
 
-lead-within : (window : ℕ) (class : ClassFields) (slot : SlotFields) (opens : List Open) → needed opens ≤ window → AllWithin window opens → AllWithin window (open_of (lead_in_of class (slot ∷ [])) ∷ opens)
+pub lead-within : (window : ℕ) (class : ClassFields) (slot : SlotFields) (opens : List Open) → needed opens ≤ window → AllWithin window opens → AllWithin window (open_of (lead_in_of class (slot ∷ [])) ∷ opens)
 unfolding AllWithin
 lead-within window class slot opens most within = (most, within)
 
-lead-chosen : (class : ClassFields) (slot : SlotFields) (opens : List Open) (areas : List ℕ) → AreChosen opens areas → AreChosen (open_of (lead_in_of class (slot ∷ [])) ∷ opens) (area_of class slot false ∷ areas)
+pub lead-chosen : (class : ClassFields) (slot : SlotFields) (opens : List Open) (areas : List ℕ) → AreChosen opens areas → AreChosen (open_of (lead_in_of class (slot ∷ [])) ∷ opens) (area_of class slot false ∷ areas)
 unfolding AreChosen
 lead-chosen class slot opens areas chosen = ((zero, omega arith, refl), chosen)
 

@@ -1,3 +1,4 @@
+pub mod Laws
 pub mod Layouts
 pub mod Lists
 pub mod Parts

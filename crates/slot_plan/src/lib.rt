@@ -1,6 +1,7 @@
 //! Layouts of main data, and the least list of slots for frames whose main data are given.
 #![tactic(auto)]
 
+mod laws;
 mod needs;
 mod placing;
 mod plans;
@@ -8,6 +9,7 @@ mod policy;
 mod reserves;
 mod slots;
 
+pub use laws::lead_ins_come_first;
 pub use needs::{Need, Placed, Plan};
 pub use plans::plan;
 pub use policy::{Keep, Least, Policy};

@@ -1,0 +1,50 @@
+-- What loops over needs and places show of them.
+use Rattle.std.proofs.Common.{◌≡◌, ℕ, ◌+◌, ◌<◌, ◌≤◌, List, [], ◌∷◌, map, length, get_or, drop, sym, ap, ◌∙◌, subst, arith}
+use Rattle.std.proofs.lemmas.List.{drop_all}
+use Rattle.std.specs.Prelude.{slice_range}
+use Rattle.frame_header.specs.Fields.{ClassFields}
+use Rattle.frame_header.specs.Tables.{class_of}
+use Rattle.slot_plan.specs.declared.needs.Need.{Need}
+use Rattle.slot_plan.specs.Layouts.{IsFeasible}
+use Rattle.slot_plan.specs.Parts.{own_frame, own_area, parts_of, ArePartsFeasible, AreOfClass, AreOfOneClass}
+use Rattle.slot_plan.specs.Reserve.{free_behind}
+use Rattle.slot_plan.proofs.ReserveLaws.{AllFit, starts_of, layout-fit}
+use Rattle.slot_plan.proofs.PartLaws.{next_need, parts-cons, parts-none}
+
+-- ---- one class
+pub class-more : (class : ClassFields) (needs : List Need) (i : ℕ) (need : Need) → i < length needs → need ≡ get_or needs i need → class_of need.header ≡ class → (AreOfClass class (drop i needs) → AreOfClass class needs)
+    → AreOfClass class (drop (i + 1) needs) → AreOfClass class needs
+unfolding AreOfClass
+class-more class needs i need within is same on rest = on (subst (AreOfClass class) (sym (next_need needs i need within is)) (same, rest))
+
+pub class-all : (class : ClassFields) (needs : List Need) (i : ℕ) (d : Need) → 0 < length needs → length needs ≤ i → class ≡ class_of (get_or needs 0 d).header → (AreOfClass class (drop i needs) → AreOfClass class needs) → AreOfOneClass needs
+unfolding AreOfClass
+class-all class [] i d some all is on = absurd (omega arith)
+class-all class (first ∷ needs) i d some all is on =
+    subst (λ c. AreOfClass c needs) is (on (subst (AreOfClass class) (sym (drop_all i (first ∷ needs) all)) tt)).1
+
+-- ---- frames that fit
+pub fit-next : (window free next area : ℕ) (part : List Need) (i : ℕ) (need : Need) → i < length part → need ≡ get_or part i need → area ≡ own_area need → need.bytes ≤ free + area → next ≡ free_behind window free need.bytes area
+    → (AllFit window free (map own_frame (drop i part)) → AllFit window window (map own_frame part)) → AllFit window next (map own_frame (drop (i + 1) part)) → AllFit window window (map own_frame part)
+unfolding AllFit
+fit-next window free next area part i need within is own room gives on rest =
+    let after : next ≡ free_behind window free need.bytes (own_area need) = gives ∙ ap (λ n. free_behind window free need.bytes n) own in
+    on (subst (λ l. AllFit window free (map own_frame l)) (sym (next_need part i need within is))
+    (omega (arith, room, own), subst (λ n. AllFit window n (map own_frame (drop (i + 1) part))) after rest))
+
+pub fit-all : (window free : ℕ) (part : List Need) (i : ℕ) → length part ≤ i → (AllFit window free (map own_frame (drop i part)) → AllFit window window (map own_frame part)) → IsFeasible window window (map own_frame part)
+unfolding AllFit IsFeasible
+fit-all window free part i all on =
+    let fit : AllFit window window (map own_frame part) = on (subst (λ l. AllFit window free (map own_frame l)) (sym (drop_all i part all)) tt) in
+    (starts_of window 0 window (map own_frame part), layout-fit window 0 window window (map own_frame part) (omega arith) (omega arith) fit)
+
+-- ---- parts that fit
+pub parts-fit : (window : ℕ) (needs : List Need) (parts : List ℕ) (at from end : ℕ) → at < length parts → from ≡ get_or parts at 0 → (at + 1 < length parts → end ≡ get_or parts (at + 1) 0) → (length parts ≤ at + 1 → end ≡ length needs)
+    → IsFeasible window window (map own_frame (slice_range needs from end)) → (ArePartsFeasible window (parts_of needs (drop at parts)) → ArePartsFeasible window (parts_of needs parts))
+    → ArePartsFeasible window (parts_of needs (drop (at + 1) parts)) → ArePartsFeasible window (parts_of needs parts)
+unfolding ArePartsFeasible
+parts-fit window needs parts at from end within is next last here on rest = on (subst (ArePartsFeasible window) (sym (parts-cons needs parts at from end within is next last)) (here, rest))
+
+pub parts-fit-all : (window : ℕ) (needs : List Need) (parts : List ℕ) (at : ℕ) → length parts ≤ at → (ArePartsFeasible window (parts_of needs (drop at parts)) → ArePartsFeasible window (parts_of needs parts)) → ArePartsFeasible window (parts_of needs parts)
+unfolding ArePartsFeasible
+parts-fit-all window needs parts at all on = on (subst (ArePartsFeasible window) (sym (parts-none needs parts at all)) tt)

@@ -1,0 +1,6 @@
+-- The lead-in is the first entry of the least list.
+use Rattle.slot_plan.proofs.LeadInLaws.{lead-first}
+use Rattle.slot_plan.proofs.laws.lead_ins_come_first.Goals as goal
+
+pub returns : goal.returns
+returns c = lead-first
