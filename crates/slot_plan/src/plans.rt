@@ -42,7 +42,8 @@ pub fn plan<P: Policy>(
     ensures { IfOk result (λ p. IsPlan (window_in needs.now) (P.choices_of policy.now) (parts_of needs.now parts.now) (entries p)) }
 {
     let window = needs[0].header.class().window();
-    let mut placed = Vec::new(alloc);
+    // Each part has at most one lead-in.
+    let mut placed = Vec::with_capacity(alloc, needs.len() + parts.len())?;
     let mut free = 0;
     for (at, from) in parts.iter().enumerate() {
         let part = &needs[*from as usize..end_of(needs, parts, at)];

@@ -17,6 +17,7 @@ pub const LOW: [u8; 4] = [0xff, 0xf3, 0x14, 0xc0];
 pub const HIGH: [u8; 4] = [0xff, 0xf3, 0xe6, 0xc0];
 
 /// A frame's header, and the bytes of its main data.
+#[derive(Clone, Copy)]
 pub struct Asked(pub [u8; 4], pub u32);
 
 pub fn needs_of(alloc: Global, frames: &[Asked]) -> Result<Vec<Need>, Fail> {

@@ -47,7 +47,7 @@ fn are_of_one_class(needs: &[Need]) -> bool
 }
 
 /// Whether the frames can be laid in their own slots behind a whole window.
-fn fit(window: u32, part: &[Need]) -> bool
+pub fn fit(window: u32, part: &[Need]) -> bool
     requires { window ≤ 511 }
     ensures { IsTrue result → IsFeasible window window (map own_frame part.now) }
 {

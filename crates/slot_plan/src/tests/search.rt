@@ -3,7 +3,7 @@
 ghost use Rattle.std.specs.Prelude.{◌≤◌};
 
 use super::asked::{Asked, HIGH, LOW, needs_of};
-use super::checked::plan_of;
+use super::checked::{fit, plan_of};
 use crate::{Keep, Least, Need, Placed, Policy};
 use arrayvec::ArrayVec;
 use frame_header::{Class, Slot};
@@ -25,7 +25,8 @@ struct Best {
     found: Found,
 }
 
-/// The place of a frame's slot among its choices in the list of this number: the last frame's changes fastest.
+/// The place of a frame's slot among its choices in the list of this number: all frames have as many choices, and
+/// the last frame's slot changes fastest.
 fn place_in(number: u64, choices: u64, behind: usize) -> usize
     requires { 1 ≤ choices }
 {
@@ -105,33 +106,33 @@ fn behind_lead_in<'a>(
     rt: &impl Abort,
     placed: &'a [Placed],
     lead_in: Option<Slot>,
-    name: &str,
+    needs: &[Need],
 ) -> &'a [Placed] {
     let Some(slot) = lead_in else {
         return placed;
     };
-    assert!(rt; !placed.is_empty(), "{name}");
+    assert!(rt; !placed.is_empty(), "{needs:?}");
     let wanted = Placed {
         lead_in: true,
         slot,
         begin: 0,
     };
-    assert_eq!(rt; placed[0], wanted, "{name}");
+    assert_eq!(rt; placed[0], wanted, "{needs:?}");
     &placed[1..]
 }
 
-fn expect_best(rt: &impl Abort, placed: &[Placed], best: &Best, name: &str) {
-    let frames = behind_lead_in(rt, placed, best.lead_in, name);
+fn expect_best(rt: &impl Abort, placed: &[Placed], best: &Best, needs: &[Need]) {
+    let frames = behind_lead_in(rt, placed, best.lead_in, needs);
     let slots = best.found.slots.as_slice();
     let begins = best.found.begins.as_slice();
-    assert_eq!(rt; frames.len(), slots.len(), "{name}");
+    assert_eq!(rt; frames.len(), slots.len(), "{needs:?}");
     for (frame, (slot, begin)) in frames.iter().zip(slots.iter().zip(begins.iter())) {
         let wanted = Placed {
             lead_in: false,
             slot: *slot,
             begin: *begin,
         };
-        assert_eq!(rt; *frame, wanted, "{name}");
+        assert_eq!(rt; *frame, wanted, "{needs:?}");
     }
 }
 
@@ -139,89 +140,76 @@ fn expect_searched<R: Abort + AllocGlobal, P: Policy>(
     rt: &R,
     needs: &[Need],
     policy: &P,
-    name: &str,
 ) -> Result<(), Fail> {
     let plan = plan_of(rt, needs, &[0], policy)?;
     assert!(rt; !needs.is_empty());
     let best = best_of(needs[0].header.class(), needs, policy);
-    assert!(rt; best.is_some(), "{name}");
+    assert!(rt; best.is_some(), "{needs:?}");
     if let Some(best) = best {
-        expect_best(rt, plan.placed(), &best, name);
+        expect_best(rt, plan.placed(), &best, needs);
     }
     Ok(())
 }
 
-/// Frames that are searched for.
-struct Case {
-    name: &'static str,
-    frames: &'static [Asked],
+/// Searches where the frames can be laid in their own slots behind a whole window; answers whether they can.
+fn searched<R: Abort + AllocGlobal>(rt: &R, frames: &[Asked]) -> Result<bool, Fail> {
+    let needs = needs_of(rt.alloc(), frames)?;
+    assert!(rt; !needs.is_empty());
+    let window = needs[0].header.class().window();
+    if !fit(window, needs.as_slice()) {
+        return Ok(false);
+    }
+    expect_searched(rt, needs.as_slice(), &Keep)?;
+    expect_searched(rt, needs.as_slice(), &Least)?;
+    Ok(true)
 }
 
-static CASES: [Case; 14] = [
-    Case {
-        name: "11 in 11",
-        frames: &[Asked(LOW, 11)],
-    },
-    Case {
-        name: "12 in 11",
-        frames: &[Asked(LOW, 12)],
-    },
-    Case {
-        name: "266 in 11",
-        frames: &[Asked(LOW, 266)],
-    },
-    Case {
-        name: "469 in 468",
-        frames: &[Asked(HIGH, 469)],
-    },
-    Case {
-        name: "723 in 468",
-        frames: &[Asked(HIGH, 723)],
-    },
-    Case {
-        name: "a silent one",
-        frames: &[Asked(LOW, 0), Asked(LOW, 22)],
-    },
-    Case {
-        name: "22, then none",
-        frames: &[Asked(LOW, 22), Asked(LOW, 0)],
-    },
-    Case {
-        name: "a reserve",
-        frames: &[Asked(HIGH, 5), Asked(HIGH, 600)],
-    },
-    Case {
-        name: "a full reserve",
-        frames: &[Asked(HIGH, 300), Asked(HIGH, 723)],
-    },
-    Case {
-        name: "a full lead-in",
-        frames: &[Asked(HIGH, 468), Asked(HIGH, 723)],
-    },
-    Case {
-        name: "a reserve over two",
-        frames: &[Asked(HIGH, 213), Asked(HIGH, 468), Asked(HIGH, 723)],
-    },
-    Case {
-        name: "small, large, larger",
-        frames: &[Asked(LOW, 1), Asked(HIGH, 500), Asked(HIGH, 600)],
-    },
-    Case {
-        name: "a lead-in over three",
-        frames: &[Asked(HIGH, 468), Asked(HIGH, 500), Asked(HIGH, 600)],
-    },
-    Case {
-        name: "falling",
-        frames: &[Asked(LOW, 200), Asked(LOW, 20), Asked(LOW, 0)],
-    },
+/// Silent frames, frames that miss a byte or a whole window, and frames that leave a whole window.
+static FRAMES: [Asked; 9] = [
+    Asked(LOW, 0),
+    Asked(LOW, 12),
+    Asked(LOW, 200),
+    Asked(LOW, 266),
+    Asked(HIGH, 0),
+    Asked(HIGH, 213),
+    Asked(HIGH, 468),
+    Asked(HIGH, 600),
+    Asked(HIGH, 723),
 ];
 
 #[test]
-fn plans_are_first_of_all(rt: HostRuntime) -> Result<(), Fail> {
-    for case in &CASES {
-        let needs = needs_of(rt.alloc(), case.frames)?;
-        expect_searched(&rt, needs.as_slice(), &Keep, case.name)?;
-        expect_searched(&rt, needs.as_slice(), &Least, case.name)?;
+fn all_single_frames(rt: HostRuntime) -> Result<(), Fail> {
+    for frame in &FRAMES {
+        assert!(rt; searched(&rt, &[*frame])?);
     }
+    Ok(())
+}
+
+#[test]
+fn all_lists_of_two(rt: HostRuntime) -> Result<(), Fail> {
+    let mut count: u32 = 0;
+    for number in 0..81 {
+        if searched(&rt, &[FRAMES[number / 9], FRAMES[number % 9]])? {
+            count = count.saturating_add(1);
+        }
+    }
+    assert_eq!(rt; count, 61, "so many fit in their slots");
+    Ok(())
+}
+
+#[test]
+fn all_lists_of_three(rt: HostRuntime) -> Result<(), Fail> {
+    let mut count: u32 = 0;
+    for number in 0..729 {
+        let frames = [
+            FRAMES[number / 81],
+            FRAMES[number / 9 % 9],
+            FRAMES[number % 9],
+        ];
+        if searched(&rt, &frames)? {
+            count = count.saturating_add(1);
+        }
+    }
+    assert_eq!(rt; count, 416, "so many fit in their slots");
     Ok(())
 }

@@ -14,7 +14,7 @@ loop-at-init g c =
     record {
       free = omega arith;
       feasible = subst (λ n. ArePartsFeasible n (parts_of needs c.args.parts.now)) (sym window) c.requires.feasible;
-      placed = subst (λ l. PartsPlaced c.window-window.result (g.P.Policy.choices_of c.args.policy.now) (parts_of needs c.args.parts.now) (parts_of needs c.args.parts.now) 0 l) (sym c.new-placed.ensures.items)
+      placed = subst (λ l. PartsPlaced c.window-window.result (g.P.Policy.choices_of c.args.policy.now) (parts_of needs c.args.parts.now) (parts_of needs c.args.parts.now) 0 l) (sym c.in_ok-placed.ensures.items)
           (parts-begun c.window-window.result (g.P.Policy.choices_of c.args.policy.now) (parts_of needs c.args.parts.now));
     }
 
