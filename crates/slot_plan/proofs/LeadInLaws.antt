@@ -1,5 +1,5 @@
 -- The lead-in of a part is the first entry of the least list of its frames behind one lead-in.
-use Rattle.std.proofs.Common.{◌≡◌, ℕ, zero, suc, ◌+◌, ◌-◌, ◌<◌, ◌≤◌, ◌⊎◌, inl, inr, false, List, [], ◌∷◌, map, length, Contains, Some, None, refl, sym, ap, ◌∙◌, subst, arith}
+use Rattle.std.proofs.Common.{◌≡◌, ℕ, zero, suc, ◌+◌, ◌-◌, ◌<◌, ◌≤◌, ◌⊎◌, inl, inr, false, List, [], ◌∷◌, map, Contains, Some, None, refl, subst, arith}
 use Rattle.std.proofs.lemmas.Bool.{cases_lt}
 use Rattle.frame_header.specs.Fields.{SlotFields, ClassFields, HeaderFields}
 use Rattle.frame_header.specs.Tables.{class_of, area_of}
@@ -7,7 +7,7 @@ use Rattle.frame_header.specs.Slots.{all_slots}
 use Rattle.slot_plan.specs.declared.needs.Need.{Need}
 use Rattle.slot_plan.specs.Layouts.{IsFeasible}
 use Rattle.slot_plan.specs.Lists.{Open, AreChosen, frames_of, CanBeLaid, IsNotBehind, IsLeast}
-use Rattle.slot_plan.specs.Parts.{open_of, item_of, lead_in_of, items_of, areas_with, IsLeadIn}
+use Rattle.slot_plan.specs.Parts.{open_of, lead_in_of, items_of, areas_with, IsLeadIn}
 use Rattle.slot_plan.specs.Reserve.{greatest, needed, free_behind, AllWithin, opens_in}
 use Rattle.slot_plan.specs.Laws.{behind_any, LeadInsComeFirst}
 use Rattle.slot_plan.proofs.ReserveLaws.{AreLeastAreas, Contains-greatest, needed-can, can-needed, least-is}

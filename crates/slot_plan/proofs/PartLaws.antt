@@ -8,7 +8,7 @@ use Rattle.frame_header.specs.Fields.{SlotFields, ClassFields, HeaderFields}
 use Rattle.frame_header.specs.Tables.{class_of, window_of}
 use Rattle.slot_plan.specs.declared.needs.Need.{Need}
 use Rattle.slot_plan.specs.declared.reserves.Reserves.{Reserves}
-use Rattle.slot_plan.specs.Layouts.{IsFeasible, IsLayout}
+use Rattle.slot_plan.specs.Layouts.{IsFeasible}
 use Rattle.slot_plan.specs.Lists.{AreChosen, frames_of}
 use Rattle.slot_plan.specs.Parts.{item_of, open_of, own_frame, own_area, parts_of, ArePartsFeasible, AreOfClass, AreOfOneClass, window_in}
 use Rattle.slot_plan.specs.Reserve.{greatest, needed, needed_behind, AllWithin, opens_in, AreReserves}

@@ -1,5 +1,5 @@
 -- What holds of the definitions, whatever the code.
-use Rattle.std.specs.Prelude.{ℕ, ◌↔◌, false, List, [], ◌∷◌, map, Contains, Option, Some, None}
+use Rattle.std.specs.Prelude.{ℕ, ◌↔◌, false, List, ◌∷◌, map, Contains, Some, None}
 use Rattle.frame_header.specs.Fields.{SlotFields, HeaderFields}
 use Rattle.frame_header.specs.Tables.{class_of, area_of}
 use Rattle.frame_header.specs.Slots.{all_slots}
