@@ -1,2 +1,6 @@
 pub mod BlocksLaws
 pub mod NumbersLaws
+pub mod UndoTextLaws
+pub mod ItemsLaws
+pub mod UndoItemsLaws
+pub mod TagsLaws

@@ -1,1 +1,5 @@
 pub mod Blocks
+pub mod UndoText
+pub mod Items
+pub mod Tags
+pub mod UndoItems

@@ -35,22 +35,22 @@ const ID3V2_HAS_FOOTER: u32 = 4;
 const ID3V1_LENGTH: u64 = 128;
 
 /// The length of the header of APEv2, and of its footer, in bytes.
-const APE_HEADER: usize = 32;
+pub(crate) const APE_HEADER: usize = 32;
 
 /// Where the version stands in the header of APEv2, the size of items and footer, and the flags.
-const APE_VERSION_AT: usize = 8;
+pub(crate) const APE_VERSION_AT: usize = 8;
 
-const APE_SIZE_AT: usize = 12;
+pub(crate) const APE_SIZE_AT: usize = 12;
 
-const APE_FLAGS_AT: usize = 20;
+pub(crate) const APE_FLAGS_AT: usize = 20;
 
 /// The bits of the flags of APEv2 that say that the tag has a header, and that this is the header.
 const APE_HAS_HEADER: u32 = 31;
 
-const APE_IS_HEADER: u32 = 29;
+pub(crate) const APE_IS_HEADER: u32 = 29;
 
 /// Whether a bit is set, counted from the least significant.
-fn is_set(flags: u32, bit: u32) -> bool
+pub(crate) fn is_set(flags: u32, bit: u32) -> bool
     requires { bit < 32 }
     ensures { result ≡ (bit_at flags bit == 1) }
 {
@@ -122,7 +122,7 @@ fn id3v1_at(front: &[u8]) -> Option<Block>
 }
 
 /// A number in the header of APEv2.
-fn ape_number(front: &[u8], at: usize) -> u32
+pub(crate) fn ape_number(front: &[u8], at: usize) -> u32
     requires { at + 4 ≤ length front.now }
     ensures { result ≡ ape_number_lem at front.now }
 {

@@ -3,6 +3,9 @@
 
 ghost use Rattle.std.specs.Prelude.{◌≡◌};
 
+mod tags;
+mod undo;
+
 use super::*;
 use byteorder::{ByteOrder, LittleEndian};
 

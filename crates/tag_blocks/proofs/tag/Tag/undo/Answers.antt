@@ -1,0 +1,33 @@
+-- The places stay within the tag.
+use Rattle.std.proofs.Common.{ap, arith}
+use Rattle.std.proofs.lemmas.List.Sums.{sum_by-drop_more}
+use Rattle.tag_blocks.specs.Items.{item_length, items_length}
+use Rattle.tag_blocks.proofs.TagsLaws.{items_length-most}
+use Rattle.tag_blocks.proofs.tag.Tag.undo.Goals as goal
+
+pub length-requires : goal.length-requires
+length-requires c =
+    let items = c.deref-item-items.result.now in
+    let i = c.loop-item.item-index in
+    omega (
+      arith,
+      ap item_length c.item-item.is,
+      sum_by-drop_more item_length items i c.item-item.result c.loop-item-test.true,
+      c.loop-item.invariant.place,
+      ap items_length c.deref-item-items.ensures.value,
+      items_length-most _ c.self.invariant,
+    )
+
+pub overflow_add-place : goal.overflow_add-place
+overflow_add-place c =
+    let items = c.deref-item-items.result.now in
+    let i = c.loop-item.item-index in
+    omega (
+      arith,
+      ap item_length c.item-item.is,
+      sum_by-drop_more item_length items i c.item-item.result c.loop-item-test.true,
+      c.loop-item.invariant.place,
+      ap items_length c.deref-item-items.ensures.value,
+      items_length-most _ c.self.invariant,
+      c.length.ensures,
+    )

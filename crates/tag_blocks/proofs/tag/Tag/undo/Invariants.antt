@@ -1,0 +1,11 @@
+-- What the items from here on say is what all say; so many bytes stand before them.
+use Rattle.std.proofs.Common.{◌≡◌, ◌+◌, drop}
+use Rattle.tag_blocks.specs.Items.{items_length}
+use Rattle.tag_blocks.specs.UndoItems.{undo_from}
+use Rattle.tag_blocks.proofs.tag.Tag.undo.Given as goal
+
+abbrev pub invariant-loop-item : goal.invariant-loop-item
+invariant-loop-item l = record {
+  says : undo_from 32 l.item-items ≡ undo_from l.place (drop l.item-index l.item-items);
+  place : l.place + items_length (drop l.item-index l.item-items) ≡ 32 + items_length l.item-items;
+}

@@ -1,0 +1,140 @@
+//! Items of an APEv2 tag.
+ghost use Rattle.std.specs.Prelude.{◌≡◌, ℕ, ◌+◌, ◌*◌, ◌^◌, ◌<◌, ◌≤◌, true, length, take, drop, ◌++◌, IfOk, IfSome, is_some};
+ghost use Rattle.std.specs.List.{prefix_len};
+ghost use Rattle.tag_blocks.specs.Items.{is_key_char as is_key_char_lem, is_item, is_undo as is_undo_lem, item_bytes, item_length, stands as stands_lem, IsLayout, item_at};
+
+use crate::block::ape_number;
+use byteorder::{ByteOrder, LittleEndian};
+use std::alloc::{AllocError, Global};
+use std::marker::Model;
+
+/// The key of the undo item.
+pub(crate) const UNDO_KEY: &[u8] = b"MP3GAIN_UNDO";
+
+/// The length of what stands before the key in bytes: the length of the value, and the flags.
+const KEY_AT: usize = 8;
+
+/// An item: flags, a key of 2 to 255 characters from 20 to 7e (hexadecimal), and a value.
+#[derive(Drop)]
+pub(crate) struct Item {
+    pub(crate) key: Vec<u8>,
+    pub(crate) flags: u32,
+    pub(crate) value: Vec<u8>,
+}
+
+impl Model for Item {
+    ghost use Rattle.tag_blocks.specs.Items.{TagItem};
+
+    ghost Value = { TagItem };
+
+    ghost view = { λ item. record { key = item.key.items; flags = item.flags; value = item.value.items } };
+}
+
+fn is_key_char(byte: u8) -> bool
+    ensures { result ≡ is_key_char_lem byte }
+{
+    (0x20..=0x7e).contains(&byte)
+}
+
+/// How many characters of a key stand at the front of the bytes.
+fn key_length(bytes: &[u8]) -> usize
+    ensures length { result ≡ prefix_len is_key_char_lem bytes.now }
+    ensures within { result ≤ length bytes.now }
+{
+    for (at, byte) in bytes.iter().enumerate() {
+        if !is_key_char(*byte) {
+            return at;
+        }
+    }
+    bytes.len()
+}
+
+/// Where the key of an item ends, and where the value begins and ends, in bytes from the item's first byte.
+#[derive(Clone, Copy, Debug, PartialEq, Eq)]
+struct Layout {
+    key_end: usize,
+    value_at: usize,
+    end: usize,
+}
+
+/// The layout of the item at the front of the bytes, and `None` exactly where none stands there: a key of 2 to 255
+/// characters, a zero byte behind it, and a value that is whole.
+#[tactic(auto, unfolding(crate::specs::Items::stands))]
+fn layout_at(bytes: &[u8]) -> Option<Layout>
+    ensures stands { is_some result ≡ stands_lem bytes.now }
+    ensures places { IfSome result (λ layout. IsLayout bytes.now layout.key_end layout.value_at layout.end) }
+{
+    if bytes.len() < KEY_AT {
+        return None;
+    }
+    let length = key_length(&bytes[KEY_AT..]);
+    let value_at = KEY_AT + length + 1;
+    let end = value_at + ape_number(bytes, 0) as usize;
+    if length < 2 || length > 255 || end > bytes.len() || bytes[value_at - 1] != 0 {
+        return None;
+    }
+    Some(Layout {
+        key_end: value_at - 1,
+        value_at,
+        end,
+    })
+}
+
+/// These bytes, in memory of their own.
+pub(crate) fn copied(alloc: Global, bytes: &[u8]) -> Result<Vec<u8>, AllocError>
+    ensures { IfOk result (λ copy. copy.items ≡ bytes.now) }
+{
+    let mut copy = Vec::with_capacity(alloc, bytes.len())?;
+    copy.extend_from_slice(bytes)?;
+    Ok(copy)
+}
+
+impl Item {
+    /// The item at the front of the bytes, and `None` where none stands there.
+    ///
+    /// # Errors
+    /// Where there is no memory.
+    #[tactic(auto, unfolding(crate::specs::Items::item_front))]
+    pub(crate) fn read(alloc: Global, bytes: &[u8]) -> Result<Option<Item>, AllocError>
+        ensures { IfOk result (λ item. item ≡ item_at bytes.now) }
+    {
+        let Some(layout) = layout_at(bytes) else {
+            return Ok(None);
+        };
+        Ok(Some(Item {
+            key: copied(alloc, &bytes[KEY_AT..layout.key_end])?,
+            flags: ape_number(bytes, 4),
+            value: copied(alloc, &bytes[layout.value_at..layout.end])?,
+        }))
+    }
+
+    /// Whether this is the undo item: its key is `MP3GAIN_UNDO`, compared without ASCII case.
+    pub(crate) fn is_undo(&self) -> bool
+        ensures { result ≡ is_undo_lem self.now }
+    {
+        self.key.eq_ignore_ascii_case(UNDO_KEY)
+    }
+
+    /// The length of its bytes.
+    pub(crate) fn length(&self) -> usize
+        requires { item_length self.now < 2 ^ 32 }
+        ensures { result ≡ item_length self.now }
+    {
+        KEY_AT + self.key.len() + 1 + self.value.len()
+    }
+
+    /// Adds its bytes behind these.
+    #[tactic(auto, unfolding(crate::specs::Items::is_item, crate::specs::Items::item_bytes))]
+    pub(crate) fn append(&self, bytes: &mut Vec<u8>) -> Result<(), AllocError>
+        requires { is_item self.now ≡ true }
+        ensures { IfOk result (λ _. bytes.new.items ≡ bytes.old.items ++ item_bytes self.now) }
+    {
+        let mut front = [0; KEY_AT];
+        LittleEndian::write_u32(&mut front, self.value.len() as u32);
+        LittleEndian::write_u32(&mut front[4..], self.flags);
+        bytes.extend_from_slice(&front)?;
+        bytes.extend_from_slice(&self.key)?;
+        bytes.push(0)?;
+        bytes.extend_from_slice(&self.value)
+    }
+}

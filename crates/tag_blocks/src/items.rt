@@ -1,0 +1,100 @@
+//! The items of an APEv2 tag, one behind the other.
+ghost use Rattle.std.specs.Prelude.{◌≡◌, ◌^◌, ◌<◌, ◌≤◌, ◌++◌, true, false, length, IfOk, OnOk, OnErr, position};
+ghost use Rattle.std.specs.List.{list_all};
+ghost use Rattle.tag_blocks.specs.UndoText.{FitsText};
+ghost use Rattle.tag_blocks.specs.UndoItems.{with_undo};
+ghost use Rattle.tag_blocks.specs.Items.{is_item, is_undo, items_length as items_length_lem, items_bytes, items_from, next_item as next_item_lem};
+
+use crate::item::{Item, UNDO_KEY, copied};
+use crate::undo::Undo;
+use std::alloc::{AllocError, Global};
+
+/// The item at the front of the bytes, unless it is an undo item and one was met before.
+fn next_item(alloc: Global, bytes: &[u8], met: bool) -> Result<Option<Item>, AllocError>
+    ensures { IfOk result (λ item. item ≡ next_item_lem met bytes.now) }
+{
+    let Some(item) = Item::read(alloc, bytes)? else {
+        return Ok(None);
+    };
+    if met && item.is_undo() {
+        return Ok(None);
+    }
+    Ok(Some(item))
+}
+
+/// The items that stand end to end at the front of the bytes, so many at most, and up to a second undo item.
+pub(crate) fn read_items(alloc: Global, bytes: &[u8], count: u32) -> Result<Vec<Item>, AllocError>
+    requires { length bytes.now < 2 ^ 32 }
+    ensures { IfOk result (λ items. items.items ≡ items_from count false bytes.now) }
+{
+    let mut items = Vec::new(alloc);
+    let mut passed = 0;
+    let mut met = false;
+    for _ in 0..count {
+        let Some(item) = next_item(alloc, &bytes[passed..], met)? else {
+            break;
+        };
+        met = met || item.is_undo();
+        passed += item.length();
+        items.push(item)?;
+    }
+    Ok(items)
+}
+
+/// The length of the bytes of all items.
+pub(crate) fn items_length(items: &[Item]) -> usize
+    requires { items_length_lem items.now < 2 ^ 32 }
+    ensures { result ≡ items_length_lem items.now }
+{
+    let mut length = 0;
+    for item in items {
+        length += item.length();
+    }
+    length
+}
+
+/// The place of the undo item among the items.
+pub(crate) fn undo_place(items: &[Item]) -> Option<usize>
+    ensures { result ≡ position is_undo items.now }
+{
+    items.iter().position(|item| item.is_undo())
+}
+
+/// Puts this into the undo item in place of its value, or adds a new undo item behind all others where there is
+/// none.
+///
+/// # Errors
+/// Where there is no memory. Then the items stay as they were.
+pub(crate) fn put_undo(alloc: Global, items: &mut Vec<Item>, undo: &Undo) -> Result<(), AllocError>
+    requires { FitsText undo.now }
+    ensures put { OnOk result (items.new.items ≡ with_undo undo.now items.old.items) }
+    ensures stays { OnErr result (items.new.items ≡ items.old.items) }
+{
+    let value = copied(alloc, &undo.text())?;
+    match undo_place(items) {
+        Some(at) => {
+            let item = &mut items[at];
+            item.value = value;
+        }
+        None => {
+            let key = copied(alloc, UNDO_KEY)?;
+            items.push(Item {
+                key,
+                flags: 0,
+                value,
+            })?;
+        }
+    }
+    Ok(())
+}
+
+/// Adds the bytes of all items behind these.
+pub(crate) fn append_items(bytes: &mut Vec<u8>, items: &[Item]) -> Result<(), AllocError>
+    requires { list_all is_item items.now ≡ true }
+    ensures { IfOk result (λ _. bytes.new.items ≡ bytes.old.items ++ items_bytes items.now) }
+{
+    for item in items {
+        item.append(bytes)?;
+    }
+    Ok(())
+}
