@@ -1,7 +1,7 @@
 -- Items and their bytes give each other back: one item at the front of bytes, and items that stand end to end.
 use Rattle.std.proofs.Common.{◌≡◌, ℕ, zero, suc, ◌+◌, ◌-◌, ◌^◌, ◌<◌, ◌≤◌, Bool, true, false, cond, ◌&&◌, ◌||◌, List, [], ◌∷◌, ◌++◌, length, take, drop, get_or, Option, Some, None, refl, sym, ap, ◌∙◌, subst, arith, append_assoc, append-nil, length-append, length-take, length-drop, take-append-drop}
 use Rattle.std.specs.Prelude.{filter}
-use Rattle.std.specs.List.{list_all, prefix_len}
+use Rattle.std.specs.List.{list_all, list_any, prefix_len}
 use Rattle.std.proofs.lemmas.Bool.{true≢false, and_parts, and_from, leb-true, le-leb, lt-ltb, ltb-true, eqb-true}
 use Rattle.std.proofs.lemmas.List.{drop-drop, drop_more, length-take-le, take_at, drop_at, get_or-drop, get_or-take, get_or_at}
 use Rattle.std.proofs.lemmas.List.Folds.{length-prefix_len}
@@ -11,11 +11,8 @@ use Rattle.byteorder.specs.Endian.{little_number, little_bytes}
 use Rattle.byteorder.specs.Numbers.{little_number-reads_back, little_from-lt}
 use Rattle.tag_blocks.specs.Blocks.{ape_number}
 use Rattle.tag_blocks.specs.Items.{TagItem, is_key_char, is_item, is_undo, item_bytes, item_length, items_bytes, items_length, key_length, value_place, stands, item_front, item_at, next_of, next_item, and_behind, items_from}
+use Rattle.tag_blocks.specs.Laws.{AreOctets}
 use Rattle.tag_blocks.proofs.NumbersLaws.{little_bytes-little_number}
-
--- every member of the list is a byte
-abbrev pub AreOctets : List ℕ → Type 0
-AreOctets bytes = (i : ℕ) → get_or bytes i 0 < 256
 
 -- ---- lengths
 
@@ -354,3 +351,39 @@ items_from-within most met bytes octets =
     let items : List TagItem = items_from most met bytes in
     let read = items_from-read most met bytes octets in
     omega (arith, ap length read.front, length-append (items_bytes items) (drop (items_length items) bytes), length-items_bytes items)
+
+-- ---- and they are all that stand so
+
+pub record IsStopped (most : ℕ) (met : Bool) (bytes : List ℕ) (items : List TagItem) : Type 0 where
+  pub few : length items ≤ most
+  pub last : length items < most → next_item (met || list_any is_undo items) (drop (items_length items) bytes) ≡ None
+
+or_false : (m : Bool) → (m || false) ≡ m
+or_false true = refl
+or_false false = refl
+
+or_assoc : (a b c : Bool) → ((a || b) || c) ≡ (a || (b || c))
+or_assoc true b c = refl
+or_assoc false b c = refl
+
+stopped_here : (most : ℕ) (met : Bool) (bytes : List ℕ) → (0 < most → next_item met bytes ≡ None) → IsStopped most met bytes []
+stopped_here most met bytes none = record { few = omega arith; last = λ less. ap (λ m. next_item m bytes) (or_false met) ∙ none less }
+
+stopped_later : (most : ℕ) (met : Bool) (bytes : List ℕ) (item : TagItem) (items : List TagItem) → IsStopped most (met || is_undo item) (drop (item_length item) bytes) items → IsStopped (suc most) met bytes (item ∷ items)
+stopped_later most met bytes item items rest = record {
+  few = omega (arith, rest.few);
+  last = λ less.
+      ap (λ m. next_item m (drop (items_length (item ∷ items)) bytes)) (sym (or_assoc met (is_undo item) (list_any is_undo items)))
+      ∙ ap (next_item ((met || is_undo item) || list_any is_undo items)) (ap (λ n. drop n bytes) (items_length-cons item items) ∙ sym (drop-drop (items_length items) (item_length item) bytes))
+      ∙ rest.last (omega (arith, less));
+}
+
+stop_cases : (most : ℕ) (met : Bool) (bytes : List ℕ) → ((m : Bool) (b : List ℕ) → IsStopped most m b (items_from most m b)) → (o : Option TagItem) → next_item met bytes ≡ o → IsStopped (suc most) met bytes (items_from (suc most) met bytes)
+stop_cases most met bytes fewer None none = subst (IsStopped (suc most) met bytes) (sym (items_from-none (suc most) met bytes none)) (stopped_here (suc most) met bytes (λ _. none))
+stop_cases most met bytes fewer (Some item) next =
+    subst (IsStopped (suc most) met bytes) (sym (items_from-next most met bytes item next))
+    (stopped_later most met bytes item (items_from most (met || is_undo item) (drop (item_length item) bytes)) (fewer (met || is_undo item) (drop (item_length item) bytes)))
+
+pub items_from-stopped : (most : ℕ) (met : Bool) (bytes : List ℕ) → IsStopped most met bytes (items_from most met bytes)
+items_from-stopped zero met bytes = subst (IsStopped 0 met bytes) (sym (items_from-zero met bytes)) (stopped_here 0 met bytes (λ less. absurd (omega (arith, less))))
+items_from-stopped (suc most) met bytes = stop_cases most met bytes (λ m b. items_from-stopped most m b) (next_item met bytes) refl

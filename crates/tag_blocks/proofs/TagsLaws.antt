@@ -14,7 +14,8 @@ use Rattle.tag_blocks.specs.Blocks.{begins_with, ape_version, ape_size, ape_flag
 use Rattle.tag_blocks.specs.Items.{TagItem, is_item, items_bytes, items_length, items_from}
 use Rattle.tag_blocks.specs.Tags.{TagFields, IsTag, are_header_flags, are_footer_flags, end_bytes, size_of, tag_bytes, ape_count, is_reserved, footer_place, item_part, items_of, is_footer, tag_of}
 use Rattle.tag_blocks.proofs.BlocksLaws.{block_front-begins, block_front-any}
-use Rattle.tag_blocks.proofs.ItemsLaws.{AreOctets, octets-take, octets-drop, ape_number-below, little_bytes-ape_number, little_number-little_bytes, length-items_bytes, items_length-cons, is_item-parts, items_from-read, items_from-within, items_from-items_bytes}
+use Rattle.tag_blocks.specs.Laws.{AreOctets}
+use Rattle.tag_blocks.proofs.ItemsLaws.{octets-take, octets-drop, ape_number-below, little_bytes-ape_number, little_number-little_bytes, length-items_bytes, items_length-cons, is_item-parts, items_from-read, items_from-within, items_from-items_bytes}
 use Rattle.tag_blocks.proofs.UndoItemsLaws.{items_length-parts}
 
 -- ---- how long
@@ -384,3 +385,19 @@ unfolding tag_of
 place-within block place octets long e =
     fault_cases block (is_reserved block) (length (items_of block) == ape_count block) (32 + items_length (items_of block) == footer_place block) (is_footer (ape_size block) (ape_count block) (drop (footer_place block) block))
     (items_length (items_of block)) (tag_in block) place long (found-within block octets long) e
+
+-- ---- a block that is a tag has no fault
+
+ok_cases : (a b c d : Bool) (x y z w : TagFault) (t tag : TagFields) → cond (not a) (Err x) (cond (not b) (Err y) (cond (not c) (Err z) (cond (not d) (Err w) (Ok t)))) ≡ Ok tag → (a ≡ true) × (b ≡ true) × (c ≡ true) × (d ≡ true) × (t ≡ tag)
+ok_cases false b c d x y z w t tag e = absurd cc
+ok_cases true false c d x y z w t tag e = absurd cc
+ok_cases true true false d x y z w t tag e = absurd cc
+ok_cases true true true false x y z w t tag e = absurd cc
+ok_cases true true true true x y z w t tag e = (refl, refl, refl, refl, cc)
+
+pub tag_of-ok : (block : List ℕ) (tag : TagFields) → AreOctets block → block_front block ≡ Some (record { kind = Ape; length = length block }) → length block ≤ 1048576 → tag_of block ≡ Ok tag → IsWhole block × (tag_in block ≡ tag)
+unfolding tag_of
+tag_of-ok block tag octets is most e =
+    let parts = ok_cases (is_reserved block) (length (items_of block) == ape_count block) (32 + items_length (items_of block) == footer_place block)
+    (is_footer (ape_size block) (ape_count block) (drop (footer_place block) block)) _ _ _ _ (tag_in block) tag e in
+    (record { is = block_front-is block is; octets = octets; most = most; reserved = parts.0; count = eqb-true _ _ parts.1; place = eqb-true _ _ parts.2; footer = parts.3 }, parts.4)

@@ -7,10 +7,11 @@ use Rattle.std.proofs.lemmas.Bool.{and_parts, and_from, ltb-true, ltb-false}
 use Rattle.std.proofs.lemmas.List.{length-map, nil_from_length}
 use Rattle.std.proofs.lemmas.Slice.Eq.{bytes_eq-Decides}
 use Rattle.tag_blocks.specs.declared.undo.Undo.{Undo}
-use Rattle.tag_blocks.specs.UndoText.{undo_text}
-use Rattle.tag_blocks.specs.Items.{TagItem, is_key, is_item, is_undo, items_length}
+use Rattle.tag_blocks.specs.declared.undo.UndoItem.TheVariants.{Missing, Found}
+use Rattle.tag_blocks.specs.UndoText.{undo_text, undo_of}
+use Rattle.tag_blocks.specs.Items.{item_length, TagItem, is_key, is_item, is_undo, items_length}
 use Rattle.tag_blocks.specs.Tags.{other_items, undo_items, TagFields, IsTag}
-use Rattle.tag_blocks.specs.UndoItems.{new_undo_item, with_undo, without_undo}
+use Rattle.tag_blocks.specs.UndoItems.{undo_from, new_undo_item, with_undo, without_undo}
 use Rattle.tag_blocks.proofs.ItemsLaws.{items_length-cons}
 
 -- ---- where it stands
@@ -244,3 +245,48 @@ replaced undo items changed at item found own is =
 
 pub added : (undo : Undo) (items more : List TagItem) → position is_undo items ≡ None → more ≡ items ++ (new_undo_item undo ∷ []) → more ≡ with_undo undo items
 added undo items more none is = is ∙ sym ((with_undo-added undo items (position-none items none)).0)
+
+-- ---- what the tag then says
+
+put_cases : (undo : Undo) (item : TagItem) (items : List TagItem) (place : ℕ) (is : Bool) → is_undo item ≡ is → undo_of (undo_text undo) ≡ Some undo → ((p : ℕ) → undo_from p (with_undo undo items) ≡ Found undo)
+    → undo_from place (with_undo undo (item ∷ items)) ≡ Found undo
+put_cases undo item items place true own text rest = rw (own, changed-is undo item, own, text) refl
+put_cases undo item items place false own text rest = rw (own, own) (rest (place + item_length item))
+
+pub undo_from-with_undo : (undo : Undo) (items : List TagItem) (place : ℕ) → undo_of (undo_text undo) ≡ Some undo → undo_from place (with_undo undo items) ≡ Found undo
+undo_from-with_undo undo [] place text = rw (new-is undo, text) refl
+undo_from-with_undo undo (item ∷ items) place text = put_cases undo item items place (is_undo item) refl text (λ p. undo_from-with_undo undo items p text)
+
+missing_cases : (item : TagItem) (items : List TagItem) (place : ℕ) (is : Bool) → is_undo item ≡ is → undo_items (item ∷ items) ≡ [] → (undo_items items ≡ [] → undo_from (place + item_length item) items ≡ Missing)
+    → undo_from place (item ∷ items) ≡ Missing
+missing_cases item items place true own none rest = let some : item ∷ undo_items items ≡ [] = sym (undo-cons item items true own) ∙ none in absurd cc
+missing_cases item items place false own none rest = rw own (rest (sym (undo-cons item items false own) ∙ none))
+
+pub undo_from-missing : (items : List TagItem) (place : ℕ) → undo_items items ≡ [] → undo_from place items ≡ Missing
+undo_from-missing [] place none = refl
+undo_from-missing (item ∷ items) place none = missing_cases item items place (is_undo item) refl none (λ rest. undo_from-missing items (place + item_length item) rest)
+
+back_cases : (undo : Undo) (item : TagItem) (items : List TagItem) (is : Bool) → is_undo item ≡ is → without_undo (with_undo undo items) ≡ without_undo items → without_undo (with_undo undo (item ∷ items)) ≡ without_undo (item ∷ items)
+back_cases undo item items true own rest = rw (own, changed-is undo item, own) refl
+back_cases undo item items false own rest = rw (own, own) (ap (λ l. item ∷ l) rest)
+
+pub without_undo-with_undo : (undo : Undo) (items : List TagItem) → without_undo (with_undo undo items) ≡ without_undo items
+without_undo-with_undo undo [] = rw (new-is undo) refl
+without_undo-with_undo undo (item ∷ items) = back_cases undo item items (is_undo item) refl (without_undo-with_undo undo items)
+
+none_cases : (item : TagItem) (items : List TagItem) (is : Bool) → is_undo item ≡ is → length (undo_items (item ∷ items)) ≤ 1 → (length (undo_items items) ≤ 1 → undo_items (without_undo items) ≡ [])
+    → undo_items (without_undo (item ∷ items)) ≡ []
+none_cases item items true own few rest = rw own (nil_from_length (undo_items items) (omega (arith, few, ap length (undo-cons item items true own))))
+none_cases item items false own few rest = rw own (undo-cons item (without_undo items) false own ∙ rest (omega (arith, few, ap length (undo-cons item items false own))))
+
+pub undos-without_undo : (items : List TagItem) → length (undo_items items) ≤ 1 → undo_items (without_undo items) ≡ []
+undos-without_undo [] few = refl
+undos-without_undo (item ∷ items) few = none_cases item items (is_undo item) refl few (λ less. undos-without_undo items less)
+
+stay_cases : (item : TagItem) (items : List TagItem) (is : Bool) → is_undo item ≡ is → other_items (without_undo items) ≡ other_items items → other_items (without_undo (item ∷ items)) ≡ other_items (item ∷ items)
+stay_cases item items true own rest = rw own refl
+stay_cases item items false own rest = rw own (other-cons item (without_undo items) false own ∙ ap (λ l. item ∷ l) rest)
+
+pub others-without_undo : (items : List TagItem) → other_items (without_undo items) ≡ other_items items
+others-without_undo [] = refl
+others-without_undo (item ∷ items) = stay_cases item items (is_undo item) refl (others-without_undo items)

@@ -1,10 +1,13 @@
 -- The value of an undo item: what is written is read again.
-use Rattle.std.proofs.Common.{◌≡◌, ℕ, suc, ◌+◌, ◌-◌, ◌*◌, ◌/◌, ◌%◌, ◌≤◌, Bool, true, false, ◌||◌, cond, ◌==◌, Option, Some, None, ℤ, pos, negsuc, unsigned_abs, refl, ap, arith}
+use Rattle.std.proofs.Common.{◌≡◌, ℕ, zero, suc, ◌+◌, ◌-◌, ◌*◌, ◌/◌, ◌%◌, ◌≤◌, Bool, true, false, ◌&&◌, ◌||◌, cond, ◌==◌, List, [], ◌∷◌, ◌++◌, length, take, drop, get_or, take-append-drop, length-drop, Option, Some, None, ℤ, pos, negsuc, neg_ℤ, unsigned_abs, refl, sym, ap, subst, ◌∙◌, arith}
 use Rattle.std.specs.Prelude.{int_lt}
 use Rattle.std.specs.Char.{is_ascii_digit}
-use Rattle.std.proofs.lemmas.Bool.{le-leb, lt-leb, and_from}
+use Rattle.std.proofs.lemmas.Bool.{true≢false, le-leb, lt-leb, leb-true, and_parts, and_from, eqb-true}
+use Rattle.std.proofs.lemmas.List.{drop_more, drop-drop, length-take-le, nil_from_length}
+use Rattle.std.proofs.lemmas.Option.{cond_some}
 use Rattle.tag_blocks.specs.declared.undo.Undo.{Undo}
-use Rattle.tag_blocks.specs.UndoText.{steps_text, wrap_letter, undo_text, FitsText, is_steps, steps_of, is_undo_text, undo_of}
+use Rattle.tag_blocks.specs.Laws.{is_minus_zero}
+use Rattle.tag_blocks.specs.UndoText.{steps_text, wrap_letter, undo_text, FitsText, is_steps, digits_number, steps_of, is_undo_text, undo_of}
 
 is_digit : (n : ℕ) → n ≤ 9 → is_ascii_digit (48 + n) ≡ true
 is_digit n most = and_from _ _ (le-leb 48 (48 + n) (omega arith)) (le-leb (48 + n) 57 (omega (arith, most)))
@@ -39,3 +42,84 @@ pub undo_of-undo_text : (undo : Undo) → FitsText undo → undo_of (undo_text u
 unfolding undo_of is_undo_text
 undo_of-undo_text undo fits =
     rw (is_steps-steps_text undo.left fits.left, is_steps-steps_text undo.right fits.right, steps_of-steps_text undo.left fits.left, steps_of-steps_text undo.right fits.right) (of_wrap undo.left undo.right undo.wrap)
+
+-- ---- what is read is written again
+
+digit_back : (b c d : ℕ) → 48 ≤ b → b ≤ 57 → 48 ≤ c → c ≤ 57 → 48 ≤ d → d ≤ 57 → (n : ℕ) → n ≡ (b - 48) * 100 + (c - 48) * 10 + (d - 48) → (48 + n / 100 ≡ b) × (48 + n / 10 % 10 ≡ c) × (48 + n % 10 ≡ d)
+digit_back b c d b_least b_most c_least c_most d_least d_most n is =
+    (omega (arith, b_least, b_most, c_least, c_most, d_least, d_most, is), omega (arith, b_least, b_most, c_least, c_most, d_least, d_most, is), omega (arith, b_least, b_most, c_least, c_most, d_least, d_most, is))
+
+-- the digits of a number and its sign
+record AreDigits (b c d n : ℕ) : Type 0 where
+  pub first : 48 + n / 100 ≡ b
+  pub second : 48 + n / 10 % 10 ≡ c
+  pub third : 48 + n % 10 ≡ d
+
+plus_back : (b c d n : ℕ) → AreDigits b c d n → steps_text (pos n) ≡ 43 ∷ b ∷ c ∷ d ∷ []
+plus_back b c d n are = rw (no_minus n, are.first, are.second, are.third) refl
+
+minus_back : (b c d n : ℕ) → AreDigits b c d n → (n == 0) ≡ false → steps_text (neg_ℤ (pos n)) ≡ 45 ∷ b ∷ c ∷ d ∷ []
+minus_back b c d zero are some = absurd (true≢false some)
+minus_back b c d (suc n) are some = rw (are.first, are.second, are.third) refl
+
+or_false : (m : Bool) → (m || false) ≡ m
+or_false true = refl
+or_false false = refl
+
+sign_cases : (a b c d : ℕ) → ((a == 43) || (a == 45)) ≡ true → AreDigits b c d (digits_number (a ∷ b ∷ c ∷ d ∷ [])) → is_minus_zero (a ∷ b ∷ c ∷ d ∷ []) ≡ false → (is : Bool) → (a == 45) ≡ is
+    → steps_text (steps_of (a ∷ b ∷ c ∷ d ∷ [])) ≡ a ∷ b ∷ c ∷ d ∷ []
+sign_cases a b c d sign are whole true own =
+    let minus : a ≡ 45 = eqb-true a 45 own in
+    let some : (digits_number (a ∷ b ∷ c ∷ d ∷ []) == 0) ≡ false = subst (λ t. (t && (digits_number (a ∷ b ∷ c ∷ d ∷ []) == 0)) ≡ false) own whole in
+    rw own (minus_back b c d (digits_number (a ∷ b ∷ c ∷ d ∷ [])) are some ∙ ap (λ x. x ∷ b ∷ c ∷ d ∷ []) (sym minus))
+sign_cases a b c d sign are whole false own =
+    let plus : a ≡ 43 = eqb-true a 43 (sym (or_false (a == 43)) ∙ subst (λ t. ((a == 43) || t) ≡ true) own sign) in
+    rw own (plus_back b c d (digits_number (a ∷ b ∷ c ∷ d ∷ [])) are ∙ ap (λ x. x ∷ b ∷ c ∷ d ∷ []) (sym plus))
+
+four_back : (four : List ℕ) → length four ≡ 4 → is_steps four ≡ true → is_minus_zero four ≡ false → steps_text (steps_of four) ≡ four
+four_back [] l is whole = absurd (omega (arith, l))
+four_back (a ∷ []) l is whole = absurd (omega (arith, l))
+four_back (a ∷ b ∷ []) l is whole = absurd (omega (arith, l))
+four_back (a ∷ b ∷ c ∷ []) l is whole = absurd (omega (arith, l))
+four_back (a ∷ b ∷ c ∷ d ∷ []) l is whole =
+    let three = and_parts _ _ is in
+    let two = and_parts _ _ three.0 in
+    let one = and_parts _ _ two.0 in
+    let first = and_parts _ _ one.1 in
+    let second = and_parts _ _ two.1 in
+    let third = and_parts _ _ three.1 in
+    let back = digit_back b c d (leb-true 48 b first.0) (leb-true b 57 first.1) (leb-true 48 c second.0) (leb-true c 57 second.1) (leb-true 48 d third.0) (leb-true d 57 third.1) (digits_number (a ∷ b ∷ c ∷ d ∷ [])) refl in
+    sign_cases a b c d one.0 (record { first = back.0; second = back.1; third = back.2 }) whole (a == 45) refl
+four_back (a ∷ b ∷ c ∷ d ∷ e ∷ more) l is whole = absurd (omega (arith, l))
+
+eleven : (value : List ℕ) → length value ≡ 11 → value ≡ take 4 value ++ (get_or value 4 0 ∷ (take 4 (drop 5 value) ++ (get_or value 9 0 ∷ (get_or value 10 0 ∷ []))))
+eleven value l =
+    let last : drop 10 value ≡ get_or value 10 0 ∷ [] = drop_more value 10 0 (omega (arith, l)) ∙ ap (λ t. get_or value 10 0 ∷ t) (nil_from_length (drop 11 value) (omega (arith, l, length-drop 11 value))) in
+    let ninth : drop 9 value ≡ get_or value 9 0 ∷ (get_or value 10 0 ∷ []) = drop_more value 9 0 (omega (arith, l)) ∙ ap (λ t. get_or value 9 0 ∷ t) last in
+    let fifth : drop 5 value ≡ take 4 (drop 5 value) ++ (get_or value 9 0 ∷ (get_or value 10 0 ∷ [])) =
+    sym (take-append-drop 4 (drop 5 value)) ∙ ap (λ t. take 4 (drop 5 value) ++ t) (drop-drop 4 5 value ∙ ninth) in
+    let fourth : drop 4 value ≡ get_or value 4 0 ∷ drop 5 value = drop_more value 4 0 (omega (arith, l)) in
+    sym (take-append-drop 4 value) ∙ ap (λ t. take 4 value ++ t) (fourth ∙ ap (λ t. get_or value 4 0 ∷ t) fifth)
+
+letter_cases : (c : ℕ) (is : Bool) → (c == 87) ≡ is → ((c == 78) || is) ≡ true → wrap_letter is ≡ c
+letter_cases c true own letter = sym (eqb-true c 87 own)
+letter_cases c false own letter = sym (eqb-true c 78 (sym (or_false (c == 78)) ∙ letter))
+
+glued : (a b g h : List ℕ) (c d e i j k : ℕ) → a ≡ g → c ≡ i → b ≡ h → d ≡ j → e ≡ k → a ++ (c ∷ (b ++ (d ∷ (e ∷ [])))) ≡ g ++ (i ∷ (h ++ (j ∷ (k ∷ []))))
+glued a b g h c d e i j k first second third fourth fifth = rw (first, second, third, fourth, fifth) refl
+
+pub undo_text-undo_of : (value : List ℕ) (undo : Undo) → undo_of value ≡ Some undo → is_minus_zero (take 4 value) ≡ false → is_minus_zero (take 4 (drop 5 value)) ≡ false → undo_text undo ≡ value
+unfolding undo_of is_undo_text
+undo_text-undo_of value undo is left_whole right_whole =
+    let here = cond_some (is_undo_text value) (record { left = steps_of (take 4 value); right = steps_of (take 4 (drop 5 value)); wrap = get_or value 10 0 == 87 }) undo is in
+    let five = and_parts _ _ here.0 in
+    let four = and_parts _ _ five.0 in
+    let three = and_parts _ _ four.0 in
+    let two = and_parts _ _ three.0 in
+    let one = and_parts _ _ two.0 in
+    let l : length value ≡ 11 = eqb-true (length value) 11 one.0 in
+    let left : steps_text (steps_of (take 4 value)) ≡ take 4 value = four_back (take 4 value) (length-take-le 4 value (omega (arith, l))) one.1 left_whole in
+    let right : steps_text (steps_of (take 4 (drop 5 value))) ≡ take 4 (drop 5 value) = four_back (take 4 (drop 5 value)) (length-take-le 4 (drop 5 value) (omega (arith, l, length-drop 5 value))) three.1 right_whole in
+    ap undo_text (sym here.1)
+    ∙ glued _ _ _ _ _ _ _ _ _ _ left (sym (eqb-true (get_or value 4 0) 44 two.1)) right (sym (eqb-true (get_or value 9 0) 44 four.1)) (letter_cases (get_or value 10 0) (get_or value 10 0 == 87) refl five.1)
+    ∙ sym (eleven value l)

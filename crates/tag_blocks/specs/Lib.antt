@@ -3,3 +3,4 @@ pub mod UndoText
 pub mod Items
 pub mod Tags
 pub mod UndoItems
+pub mod Laws

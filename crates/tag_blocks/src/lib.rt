@@ -9,11 +9,15 @@ mod block;
 mod ends;
 mod item;
 mod items;
+mod laws;
 mod tag;
 mod tag_fault;
 mod undo;
 
 pub use block::{Block, Kind, block_at};
+pub use laws::{
+    items_are_all, tags_are_their_bytes, undo_items_alone_change, undos_are_their_texts,
+};
 pub use tag::Tag;
 pub use tag_fault::TagFault;
 pub use undo::{Undo, UndoItem};

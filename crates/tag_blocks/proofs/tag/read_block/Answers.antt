@@ -4,7 +4,7 @@ use Rattle.std.proofs.lemmas.List.{take_rest}
 use Rattle.tag_blocks.specs.Blocks.{ape_flags}
 use Rattle.tag_blocks.specs.Items.{items_length, items_from}
 use Rattle.tag_blocks.specs.Tags.{IsTag, footer_place, item_part, items_of, tag_bytes}
-use Rattle.tag_blocks.proofs.ItemsLaws.{AreOctets}
+use Rattle.tag_blocks.specs.Laws.{AreOctets}
 use Rattle.tag_blocks.proofs.TagsLaws.{tag_of-reserved, tag_in, IsWhole, IsTag-in, tag_bytes-in, AreFound, count_fault, place_fault, footer_fault, whole_found, tag_of-in, found-within}
 use Rattle.tag_blocks.proofs.tag.read_block.Goals.{then-len-count-via-then-len-count, then-len-count-via-else-len-count+then-place-end}
 use Rattle.tag_blocks.proofs.tag.read_block.Goals as goal

@@ -4,7 +4,7 @@ use Rattle.std.specs.Prelude.{Result, MatchResult, IfErr}
 use Rattle.tag_blocks.specs.declared.tag_fault.TagFault.{TagFault}
 use Rattle.tag_blocks.specs.declared.tag_fault.TagFault.TheVariants.{BadTag, Memory}
 use Rattle.tag_blocks.specs.Tags.{TagFields, tag_of, IsPlaceIn}
-use Rattle.tag_blocks.proofs.ItemsLaws.{AreOctets}
+use Rattle.tag_blocks.specs.Laws.{AreOctets}
 use Rattle.tag_blocks.proofs.TagsLaws.{block-long, place-within}
 use Rattle.tag_blocks.proofs.tag.Tag.read.Goals as goal
 

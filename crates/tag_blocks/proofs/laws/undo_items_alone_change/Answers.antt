@@ -1,0 +1,14 @@
+-- No other item changes.
+use Rattle.tag_blocks.specs.UndoItems.{without_undo}
+use Rattle.tag_blocks.proofs.UndoTextLaws.{undo_of-undo_text}
+use Rattle.tag_blocks.proofs.UndoItemsLaws.{undo_from-with_undo, others-with_undo, undo_from-missing, undos-without_undo, others-without_undo, without_undo-with_undo}
+use Rattle.tag_blocks.proofs.laws.undo_items_alone_change.Goals as goal
+
+pub returns : goal.returns
+returns c = λ undo items fits one. record {
+  put = λ place. undo_from-with_undo undo items place (undo_of-undo_text undo fits);
+  put_others = others-with_undo undo items;
+  gone = λ place. undo_from-missing (without_undo items) place (undos-without_undo items one);
+  gone_others = others-without_undo items;
+  back = without_undo-with_undo undo items;
+}

@@ -1,0 +1,51 @@
+-- What the definitions of tags and undo items say, without their recursions.
+use Rattle.std.specs.Prelude.{◌≡◌, ◌↔◌, ℕ, ◌<◌, ◌≤◌, ◌==◌, ◌&&◌, true, false, Bool, List, ◌++◌, length, take, drop, slice_index, Some, None, Ok}
+use Rattle.std.specs.List.{list_all, list_any}
+use Rattle.tag_blocks.specs.declared.block.Kind.TheVariants.{Ape}
+use Rattle.tag_blocks.specs.declared.undo.Undo.{Undo}
+use Rattle.tag_blocks.specs.declared.undo.UndoItem.TheVariants.{Missing, Found}
+use Rattle.tag_blocks.specs.Blocks.{block_front}
+use Rattle.tag_blocks.specs.UndoText.{undo_text, undo_of, digits_number, FitsText}
+use Rattle.tag_blocks.specs.Items.{TagItem, is_item, is_undo, items_bytes, items_length, next_item, items_from}
+use Rattle.tag_blocks.specs.Tags.{TagFields, IsTag, other_items, undo_items, tag_bytes, tag_of}
+use Rattle.tag_blocks.specs.UndoItems.{undo_from, with_undo, without_undo}
+
+-- every member of the list is a byte
+abbrev pub AreOctets : List ℕ → Type 0
+AreOctets bytes = (i : ℕ) → slice_index bytes i < 256
+
+-- a block is a tag exactly where its bytes are those of the tag
+abbrev pub TagsAreTheirBytes : Type 0
+TagsAreTheirBytes =
+    (block : List ℕ) (tag : TagFields) → AreOctets block → block_front block ≡ Some (record { kind = Ape; length = length block }) → length block ≤ 1048576 → (tag_of block ≡ Ok tag) ↔ (IsTag tag × (tag_bytes tag ≡ block))
+
+-- The items at the front of bytes stand end to end, are so many at most, and at most one of them is the undo item; and where they
+-- are fewer, none that may stand there stands behind them.
+pub record AreItemsOf (most : ℕ) (bytes : List ℕ) (items : List TagItem) : Type 0 where
+  pub all : list_all is_item items ≡ true
+  pub few : length items ≤ most
+  pub one : length (undo_items items) ≤ 1
+  pub front : bytes ≡ items_bytes items ++ drop (items_length items) bytes
+  pub last : length items < most → next_item (list_any is_undo items) (drop (items_length items) bytes) ≡ None
+
+abbrev pub ItemsAreAll : Type 0
+ItemsAreAll = (most : ℕ) (bytes : List ℕ) → AreOctets bytes → AreItemsOf most bytes (items_from most false bytes)
+
+-- Where another undo is put in, the undo item says it; where the undo item is taken out, there is none; and all others stay.
+pub record ChangesUndoAlone (undo : Undo) (items : List TagItem) : Type 0 where
+  pub put : (place : ℕ) → undo_from place (with_undo undo items) ≡ Found undo
+  pub put_others : other_items (with_undo undo items) ≡ other_items items
+  pub gone : (place : ℕ) → undo_from place (without_undo items) ≡ Missing
+  pub gone_others : other_items (without_undo items) ≡ other_items items
+  pub back : without_undo (with_undo undo items) ≡ without_undo items
+
+abbrev pub UndoItemsAloneChange : Type 0
+UndoItemsAloneChange = (undo : Undo) (items : List TagItem) → FitsText undo → length (undo_items items) ≤ 1 → ChangesUndoAlone undo items
+
+-- a minus and three zeros, which no text has that is written
+abbrev pub is_minus_zero : List ℕ → Bool
+is_minus_zero four = (slice_index four 0 == 45) && (digits_number four == 0)
+
+-- a value that is read without such a number is written again as it was
+abbrev pub UndosAreTheirTexts : Type 0
+UndosAreTheirTexts = (value : List ℕ) (undo : Undo) → undo_of value ≡ Some undo → is_minus_zero (take 4 value) ≡ false → is_minus_zero (take 4 (drop 5 value)) ≡ false → undo_text undo ≡ value

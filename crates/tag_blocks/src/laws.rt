@@ -1,0 +1,26 @@
+//! Laws of the definitions that the contracts of tags cite. Each function does nothing: a proof that needs its law
+//! calls it.
+ghost use Rattle.tag_blocks.specs.Laws.{TagsAreTheirBytes, ItemsAreAll, UndoItemsAloneChange, UndosAreTheirTexts};
+
+/// An APEv2 block of at most 1,048,576 bytes is a tag exactly where its bytes are those of the tag: what is read is
+/// written again, and what is written is read again.
+pub fn tags_are_their_bytes()
+    ensures { TagsAreTheirBytes }
+{}
+
+/// The items of a block are whole, stand end to end, and are all that stand so: where they are fewer than the header
+/// counts, none that may stand there stands behind them.
+pub fn items_are_all()
+    ensures { ItemsAreAll }
+{}
+
+/// Another undo item, or none, changes no other item. What is put in is what the tag then says, and what is taken
+/// out afterwards leaves the items that taking it out before leaves.
+pub fn undo_items_alone_change()
+    ensures { UndoItemsAloneChange }
+{}
+
+/// The value of an undo item that is read is written again as it was, unless a number in it is `-000`.
+pub fn undos_are_their_texts()
+    ensures { UndosAreTheirTexts }
+{}
