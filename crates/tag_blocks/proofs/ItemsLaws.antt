@@ -387,3 +387,24 @@ stop_cases most met bytes fewer (Some item) next =
 pub items_from-stopped : (most : ℕ) (met : Bool) (bytes : List ℕ) → IsStopped most met bytes (items_from most met bytes)
 items_from-stopped zero met bytes = subst (IsStopped 0 met bytes) (sym (items_from-zero met bytes)) (stopped_here 0 met bytes (λ less. absurd (omega (arith, less))))
 items_from-stopped (suc most) met bytes = stop_cases most met bytes (λ m b. items_from-stopped most m b) (next_item met bytes) refl
+
+-- ---- and no others are
+
+only_none : (most : ℕ) (met : Bool) (bytes : List ℕ) → (0 < most → next_item met bytes ≡ None) → items_from most met bytes ≡ []
+only_none zero met bytes last = items_from-zero met bytes
+only_none (suc most) met bytes last = items_from-none (suc most) met bytes (last (omega arith))
+
+pub items_from-only : (most : ℕ) (met : Bool) (items : List TagItem) (bytes rest : List ℕ) → list_all is_item items ≡ true → length items ≤ most → cond met 1 0 + length (filter is_undo items) ≤ 1 → bytes ≡ items_bytes items ++ rest
+    → (length items < most → next_item (met || list_any is_undo items) rest ≡ None) → items_from most met bytes ≡ items
+items_from-only most met [] bytes rest all few one front last =
+    only_none most met bytes (λ less. ap (next_item met) front ∙ ap (λ m. next_item m rest) (sym (or_false met)) ∙ last less)
+items_from-only zero met (item ∷ items) bytes rest all few one front last = absurd (omega (arith, few))
+items_from-only (suc most) met (item ∷ items) bytes rest all few one front last =
+    let parts = and_parts (is_item item) (list_all is_item items) all in
+    let less = few_less met (is_undo item) (length (filter is_undo items)) (omega (arith, one, undos-cons item items)) in
+    let shape : bytes ≡ item_bytes item ++ (items_bytes items ++ rest) = front ∙ append_assoc (item_bytes item) (items_bytes items) rest in
+    let next : next_item met bytes ≡ Some item = admit met item (item_at bytes) (ap item_at shape ∙ item_at-item_bytes item (items_bytes items ++ rest) parts.0) less.0 in
+    let behind : drop (item_length item) bytes ≡ items_bytes items ++ rest = ap (drop (item_length item)) shape ∙ drop_at (item_bytes item) (items_bytes items ++ rest) (item_length item) (length-item_bytes item) in
+    items_from-next most met bytes item next
+    ∙ ap (λ l. item ∷ l) (items_from-only most (met || is_undo item) items (drop (item_length item) bytes) rest parts.1 (omega (arith, few)) less.1 behind
+    (λ fewer. ap (λ m. next_item m rest) (or_assoc met (is_undo item) (list_any is_undo items)) ∙ last (omega (arith, fewer))))

@@ -29,7 +29,7 @@ pub record AreItemsOf (most : ℕ) (bytes : List ℕ) (items : List TagItem) : T
   pub last : length items < most → next_item (list_any is_undo items) (drop (items_length items) bytes) ≡ None
 
 abbrev pub ItemsAreAll : Type 0
-ItemsAreAll = (most : ℕ) (bytes : List ℕ) → AreOctets bytes → AreItemsOf most bytes (items_from most false bytes)
+ItemsAreAll = (most : ℕ) (bytes : List ℕ) (items : List TagItem) → AreOctets bytes → AreItemsOf most bytes items ↔ (items_from most false bytes ≡ items)
 
 -- Where another undo is put in, the undo item says it; where the undo item is taken out, there is none; and all others stay.
 pub record ChangesUndoAlone (undo : Undo) (items : List TagItem) : Type 0 where

@@ -1,10 +1,18 @@
--- The items stand end to end, and no other that may stand there stands behind them.
-use Rattle.std.proofs.Common.{false, arith}
-use Rattle.tag_blocks.proofs.ItemsLaws.{items_from-read, items_from-stopped}
+-- The items stand end to end, no other that may stand there stands behind them, and no other items are so.
+use Rattle.std.proofs.Common.{ℕ, false, List, drop, subst, arith}
+use Rattle.tag_blocks.specs.Items.{items_length, items_from}
+use Rattle.tag_blocks.specs.Laws.{AreOctets, AreItemsOf}
+use Rattle.tag_blocks.proofs.ItemsLaws.{items_from-read, items_from-stopped, items_from-only}
 use Rattle.tag_blocks.proofs.laws.items_are_all.Goals as goal
 
-pub returns : goal.returns
-returns c = λ most bytes octets.
+are_items : (most : ℕ) (bytes : List ℕ) → AreOctets bytes → AreItemsOf most bytes (items_from most false bytes)
+are_items most bytes octets =
     let read = items_from-read most false bytes octets in
     let stopped = items_from-stopped most false bytes in
     record { all = read.all; few = stopped.few; one = omega (arith, read.few); front = read.front; last = stopped.last }
+
+pub returns : goal.returns
+returns c = λ most bytes items octets. (
+  (λ are. items_from-only most false items bytes (drop (items_length items) bytes) are.all are.few (omega (arith, are.one)) are.front are.last),
+  (λ is. subst (AreItemsOf most bytes) is (are_items most bytes octets)),
+)
