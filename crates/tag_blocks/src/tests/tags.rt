@@ -1,4 +1,5 @@
-//! Tags worked out by hand from the layout of APEv2: exact bytes, what changes in them, and each fault.
+//! Tags written out from the layout of APEv2, apart from this crate: exact bytes, what changes in them, and each fault
+//! with its place, which was counted by hand.
 
 use crate::{Block, Kind, Tag, TagFault, Undo, UndoItem, block_at};
 use std::alloc::Global;
