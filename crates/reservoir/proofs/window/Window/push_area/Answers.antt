@@ -1,0 +1,11 @@
+-- The last bytes of all, with an area more.
+use Rattle.std.proofs.Common.{ap, ap₂, ◌∙◌, ◌++◌}
+use Rattle.circular_buffer.specs.Buffer.{keep_last}
+use Rattle.reservoir.proofs.WindowLaws.{window-more}
+use Rattle.reservoir.proofs.window.Window.push_area.Goals as goal
+
+pub returns-clause-main : goal.returns-clause-main
+returns-clause-main c = λ main over.
+    ap (λ b. b.items) c.extend_from_slice.ensures
+    ∙ ap₂ (λ n bytes. keep_last n (bytes ++ c.args.area.now)) c.self.invariant.0 c.self.view_is
+    ∙ window-more c.args.self.now main c.args.area.now over

@@ -1,0 +1,25 @@
+-- Laws of windows over main data.
+use Rattle.std.specs.Prelude.{ℕ, ◌+◌, ◌≤◌, List, [], ◌∷◌, ◌++◌}
+use Rattle.circular_buffer.specs.Buffer.{keep_last}
+use Rattle.frame_header.specs.Fields.{HeaderFields, IsHeader}
+use Rattle.frame_header.specs.Tables.{class_of, area_of}
+use Rattle.side_info.specs.declared.side.Side.{Side}
+use Rattle.side_info.specs.Side.{SideFits}
+use Rattle.reservoir.specs.Window.{IsWindowOver}
+
+-- all areas, one behind the other
+abbrev pub joined : List (List ℕ) → List ℕ
+joined [] = []
+joined (area ∷ areas) = area ++ joined areas
+
+-- what is held behind these areas, pushed one after another
+abbrev pub held_behind : List ℕ → List (List ℕ) → List ℕ
+held_behind held [] = held
+held_behind held (area ∷ areas) = held_behind (keep_last 2048 (held ++ area)) areas
+
+abbrev pub AreasAreHeld : Type 0
+AreasAreHeld = (areas : List (List ℕ)) → IsWindowOver (held_behind [] areas) (joined areas)
+
+-- a frame's area and its main_data_begin together, in bytes
+abbrev pub FramesAreHeld : Type 0
+FramesAreHeld = (h : HeaderFields) (s : Side) → IsHeader h → SideFits (class_of h) s → area_of (class_of h) h.slot h.protected + s.main_data_begin ≤ 1939

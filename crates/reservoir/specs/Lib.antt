@@ -1,0 +1,6 @@
+pub mod Window
+pub mod Laws
+pub use Rattle.bit_fields.specs.Bits
+pub use Rattle.frame_header.specs.Fields
+pub use Rattle.frame_header.specs.Tables
+pub use Rattle.side_info.specs.Side

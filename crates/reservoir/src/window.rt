@@ -1,0 +1,96 @@
+//! The window, over a queue that drops its oldest bytes.
+ghost use Rattle.std.specs.Prelude.{◌≡◌, ℕ, ◌+◌, ◌-◌, ◌*◌, ◌/◌, ◌≤◌, List, [], ◌++◌, length, take, drop, IfOk};
+ghost use Rattle.circular_buffer.specs.Buffer.{keep_last};
+ghost use Rattle.reservoir.specs.Window.{IsWindowOver, main_bits, ArePacked};
+
+use arrayvec::ArrayVec;
+use bit_fields::put;
+use circular_buffer::HeapCircularBuffer;
+use std::alloc::{AllocError, Global};
+use std::marker::Model;
+
+/// The bytes that a window holds. A frame's main data begin at most 511 bytes before its area, and an area has at most
+/// 1,428 bytes.
+const CAPACITY: usize = 2048;
+
+/// The last 2,048 bytes of main data, or all where there are fewer. Contracts see it as the list of these bytes, the
+/// oldest first.
+#[derive(Drop)]
+pub struct Window {
+    queue: HeapCircularBuffer<u8>,
+}
+
+impl Model for Window {
+    ghost use Rattle.std.specs.Prelude.{◌≡◌, ◌≤◌, ℕ, List, length};
+
+    ghost Value = { List ℕ };
+
+    ghost view = { λ w. w.queue.items };
+
+    ghost invariant = { λ w. (w.queue.capacity ≡ 2048) × (length w.queue.items ≤ 2048) };
+}
+
+impl Window {
+    /// A window over no main data. It takes all its memory here.
+    ///
+    /// # Errors
+    /// Where there is no memory.
+    pub fn new(alloc: Global) -> Result<Window, AllocError>
+        ensures none { IfOk result (λ window. window ≡ []) }
+        ensures main { IfOk result (λ window. IsWindowOver window []) }
+    {
+        Ok(Window {
+            queue: HeapCircularBuffer::with_capacity(alloc, CAPACITY)?,
+        })
+    }
+
+    /// How many bytes it holds, at most 2,048.
+    pub fn held(&self) -> usize
+        ensures count { result ≡ length self.now }
+        ensures most { result ≤ 2048 }
+    {
+        self.queue.len()
+    }
+
+    /// Adds an area: the bytes of a frame behind its header, check word and side information. Of what was held and the area
+    /// the last 2,048 bytes stay.
+    pub fn push_area(&mut self, area: &[u8])
+        ensures held { self.new ≡ keep_last 2048 (self.old ++ area.now) }
+        ensures main { (main : List ℕ) → IsWindowOver self.old main → IsWindowOver self.new (main ++ area.now) }
+    {
+        self.queue.extend_from_slice(area);
+    }
+
+    /// The main data of a frame whose own area was pushed last: `bits` bits from the place on that is `begin` bytes before
+    /// the `area` bytes of its area, in as few bytes as hold them, with the unused low bits of the last byte 0. They take the
+    /// place of what `into` held. `begin` is the frame's main_data_begin (ISO/IEC 11172-3 and 13818-3, 2.4.2.7), and
+    /// `bits` the sum of its part2_3_length.
+    pub fn payload(&self, area: u32, begin: u32, bits: u32, into: &mut ArrayVec<u8, 2048>)
+        requires held { area + begin ≤ length self.now }
+        requires within { bits ≤ 8 * (area + begin) }
+        ensures payload { (main : List ℕ) → IsWindowOver self.now main → ArePacked into.new.items bits (main_bits main (length main - area - begin) bits) }
+    {
+        let (front, back) = self.queue.as_slices();
+        let from = self.queue.len() - (area + begin) as usize;
+        let count = bits.div_ceil(8);
+        let unused = 8 * count - bits;
+        into.clear();
+        append_part(into, front, back, from, count as usize);
+        put(into.as_mut_slice(), bits as usize, unused, 0);
+    }
+}
+
+/// Appends so many bytes from a place on of two slices, one behind the other.
+fn append_part(into: &mut ArrayVec<u8, 2048>, front: &[u8], back: &[u8], from: usize, count: usize)
+    requires within { from + count ≤ length front.now + length back.now }
+    requires short { length front.now + length back.now ≤ 2048 }
+    requires room { length into.old.items + count ≤ 2048 }
+    ensures { into.new.items ≡ into.old.items ++ take count (drop from (front.now ++ back.now)) }
+{
+    let passed = from.min(front.len());
+    let front = &front[passed..];
+    let back = &back[from - passed..];
+    let first = count.min(front.len());
+    into.try_extend_from_slice(&front[..first]).unwrap();
+    into.try_extend_from_slice(&back[..count - first]).unwrap();
+}
