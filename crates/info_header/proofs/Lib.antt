@@ -1,1 +1,3 @@
 pub mod HeadTextLaws
+pub mod InfoLaws
+pub mod FrameLaws

@@ -1,6 +1,9 @@
 //! Texts at exact places of frames. The places come from the layout of the header, the check word and the
 //! side information; the lengths from the standard's tables.
 
+mod fields;
+mod frames;
+
 use super::*;
 use frame_header::Header;
 use std::test::Fail;

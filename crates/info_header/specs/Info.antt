@@ -1,0 +1,79 @@
+-- The fields of a head behind its text. The layout is no standard's: encoders write the text, a word of flags, and then a number of
+-- frames, a number of bytes, a table of 100 entries and a quality, each where its flag is set; and behind these an extension, whose
+-- first 36 bytes are kept. Numbers are of 32 bits and big-endian.
+use Rattle.std.specs.Prelude.{ℕ, zero, suc, ◌+◌, ◌*◌, ◌/◌, ◌==◌, ◌&&◌, min, nat_le, if◌then◌else◌, Bool, List, [], ◌∷◌, ◌++◌, length, take, drop, replicate, slice_index, Option, Some, None, codes, bytes_eq}
+use Rattle.std.specs.Int.{bit_at}
+use Rattle.byteorder.specs.Endian.{big_number, big_bytes}
+use Rattle.info_header.specs.declared.fields.Info.{Info}
+
+-- ---- what is read
+
+-- the word of flags, four bytes behind the text; 0 where it isn't whole
+abbrev pub flags_in : List ℕ → ℕ
+flags_in bytes = if nat_le 8 (length bytes) then big_number 4 (take 4 (drop 4 bytes)) else 0
+
+-- the flags of the frames, the bytes, the table and the quality are the bits 0 to 3
+abbrev pub is_flagged : ℕ → ℕ → Bool
+is_flagged flags field = bit_at flags field == 1
+
+-- the lengths of the four fields in bytes
+abbrev pub field_size : ℕ → ℕ
+field_size field = slice_index (4 ∷ 4 ∷ 100 ∷ 4 ∷ []) field
+
+-- Where a field begins: behind the text, the flags, and those fields before it whose flags are set. The place behind the last field is
+-- that of field 4.
+unfoldable pub field_place : ℕ → ℕ → ℕ
+field_place flags zero = 8
+field_place flags (suc field) = field_place flags field + (if is_flagged flags field then field_size field else 0)
+
+-- The bytes of a field; none where its flag isn't set, or where it passes the end. Where a field passes the end, so do all that are
+-- flagged behind it.
+unfoldable pub field_in : ℕ → ℕ → List ℕ → Option (List ℕ)
+field_in flags field bytes =
+    if is_flagged flags field && nat_le (field_place flags field + field_size field) (length bytes)
+    then Some (take (field_size field) (drop (field_place flags field) bytes))
+    else None
+
+-- a field that is a number
+abbrev pub number_of : Option (List ℕ) → Option ℕ
+number_of None = None
+number_of (Some four) = Some (big_number 4 four)
+
+-- so many bytes, with zeros behind them where there are fewer
+abbrev pub padded : ℕ → List ℕ → List ℕ
+padded n bytes = take n (bytes ++ replicate n 0)
+
+-- the fields of the head whose bytes these are, from its text on; `Xing` says that the bit rate changes
+unfoldable pub info_in : List ℕ → Info
+info_in bytes = let flags = flags_in bytes in record {
+  vbr = bytes_eq (take 4 bytes) (codes "Xing");
+  frames = number_of (field_in flags 0 bytes);
+  bytes = number_of (field_in flags 1 bytes);
+  table = field_in flags 2 bytes;
+  quality = number_of (field_in flags 3 bytes);
+  extension = padded 36 (drop (field_place flags 4) bytes);
+}
+
+-- ---- what is written
+
+abbrev pub text_of : Bool → List ℕ
+text_of vbr = if vbr then codes "Xing" else codes "Info"
+
+-- a number, 0 where there is none
+abbrev pub number_or_zero : Option ℕ → ℕ
+number_or_zero None = 0
+number_or_zero (Some n) = n
+
+abbrev pub table_or_zeros : Option (List ℕ) → List ℕ
+table_or_zeros None = replicate 100 0
+table_or_zeros (Some table) = table
+
+-- the fields with all four flags: 156 bytes
+unfoldable pub info_bytes : Info → List ℕ
+info_bytes info =
+    text_of info.vbr ++ (big_bytes 4 15 ++ (big_bytes 4 (number_or_zero info.frames) ++ (big_bytes 4 (number_or_zero info.bytes)
+    ++ (table_or_zeros info.table ++ (big_bytes 4 (number_or_zero info.quality) ++ info.extension)))))
+
+-- the entry of the table for a frame at an offset, of so many bytes in all: the 256th parts passed, at most 255
+abbrev pub entry_of : ℕ → ℕ → ℕ
+entry_of offset bytes = min (256 * offset / bytes) 255

@@ -1,0 +1,160 @@
+//! The fields of a head.
+ghost use Rattle.std.specs.Prelude.{◌≡◌, ◌+◌, ◌<◌, ◌≤◌, ◌==◌, drop};
+ghost use Rattle.std.specs.Int.{bit_at};
+ghost use Rattle.info_header.specs.Info.{flags_in, field_size, field_place, field_in, number_of, padded, info_in, entry_of};
+
+use byteorder::{BigEndian, ByteOrder};
+
+/// The fields of a head behind its text.
+#[derive(Clone, Copy, Debug, PartialEq, Eq)]
+pub struct Info {
+    /// Whether the bit rate changes: the text is `Xing`, and not `Info`.
+    pub vbr: bool,
+    /// The number of frames behind the head.
+    pub frames: Option<u32>,
+    /// The bytes from the head's first to the last frame's last.
+    pub bytes: Option<u32>,
+    /// For each hundredth of the frames, where it begins in 256th parts of the bytes.
+    pub table: Option<[u8; 100]>,
+    pub quality: Option<u32>,
+    /// What stands behind these fields: encoders keep the delay and their name there.
+    pub extension: [u8; 36],
+}
+
+/// Where the word of flags stands, in bytes from the text's first.
+const FLAGS_AT: usize = 4;
+
+/// Where the first field stands.
+const FIELDS_AT: usize = 8;
+
+/// The bits of the flags that say which fields there are.
+const FRAMES: u32 = 0;
+
+const BYTES: u32 = 1;
+
+const TABLE: u32 = 2;
+
+const QUALITY: u32 = 3;
+
+/// The lengths of the fields in bytes.
+const SIZES: [usize; 4] = [4, 4, 100, 4];
+
+/// The length of the extension in bytes.
+const EXTENSION: usize = 36;
+
+/// Whether a bit is set, counted from the least significant.
+fn is_set(flags: u32, bit: u32) -> bool
+    requires { bit < 32 }
+    ensures { result ≡ (bit_at flags bit == 1) }
+{
+    (flags >> bit) % 2 == 1
+}
+
+/// The word of flags, and 0 where it isn't whole.
+fn flags_of(bytes: &[u8]) -> u32
+    ensures { result ≡ flags_in bytes.now }
+{
+    match bytes.get(FLAGS_AT..FIELDS_AT) {
+        Some(four) => BigEndian::read_u32(four),
+        None => 0,
+    }
+}
+
+/// The place behind a field, by the place where it stands if its flag is set.
+#[tactic(auto, unfolding(crate::specs::Info::field_place))]
+fn place_behind(flags: u32, field: u32, at: usize) -> usize
+    requires known { field < 4 }
+    requires place { at ≡ field_place flags field }
+    requires near { at ≤ 1000 }
+    ensures place { result ≡ field_place flags (field + 1) }
+    ensures near { result ≤ at + 100 }
+{
+    if is_set(flags, field) {
+        at + SIZES[field as usize]
+    } else {
+        at
+    }
+}
+
+/// A field that is a number. `None` where its flag isn't set, or where it passes the end.
+#[tactic(auto, unfolding(crate::specs::Info::field_in))]
+fn number_in(bytes: &[u8], flags: u32, field: u32, at: usize) -> Option<u32>
+    requires known { field < 4 }
+    requires number { field_size field ≡ 4 }
+    requires place { at ≡ field_place flags field }
+    requires near { at ≤ 1000 }
+    ensures { result ≡ number_of (field_in flags field bytes.now) }
+{
+    if !is_set(flags, field) {
+        return None;
+    }
+    let four = bytes.get(at..at + 4)?;
+    Some(BigEndian::read_u32(four))
+}
+
+/// The table. `None` where its flag isn't set, or where it passes the end.
+#[tactic(auto, unfolding(crate::specs::Info::field_in))]
+fn table_in(bytes: &[u8], flags: u32, at: usize) -> Option<[u8; 100]>
+    requires place { at ≡ field_place flags 2 }
+    requires near { at ≤ 1000 }
+    ensures { result ≡ field_in flags 2 bytes.now }
+{
+    if !is_set(flags, TABLE) {
+        return None;
+    }
+    let part = bytes.get(at..at + 100)?;
+    let mut table = [0; 100];
+    table.copy_from_slice(part);
+    Some(table)
+}
+
+/// The bytes from a place on, none where it is past the end.
+fn bytes_from(bytes: &[u8], at: usize) -> &[u8]
+    ensures { result.now ≡ drop at bytes.now }
+{
+    &bytes[at.min(bytes.len())..]
+}
+
+/// The 36 bytes from a place on, with zeros for those that aren't there.
+fn extension_at(bytes: &[u8], at: usize) -> [u8; 36]
+    ensures { result ≡ padded 36 (drop at bytes.now) }
+{
+    let mut extension = [0; EXTENSION];
+    let behind = bytes_from(bytes, at);
+    let many = behind.len().min(EXTENSION);
+    extension[..many].copy_from_slice(&behind[..many]);
+    extension
+}
+
+impl Info {
+    /// Reads the fields of a head. `bytes` are those of the frame from the text on. A field whose flag isn't set is `None`, and so
+    /// are one that passes the end of the bytes and all behind it; there the extension is all 0. Flags that aren't whole count as
+    /// 0. The extension is 36 bytes behind the last field, with zeros for those that aren't there.
+    #[tactic(auto, unfolding(crate::specs::Info::info_in, crate::specs::Info::field_place))]
+    pub fn read(bytes: &[u8]) -> Info
+        ensures { result ≡ info_in bytes.now }
+    {
+        let flags = flags_of(bytes);
+        let bytes_at = place_behind(flags, FRAMES, FIELDS_AT);
+        let table_at = place_behind(flags, BYTES, bytes_at);
+        let quality_at = place_behind(flags, TABLE, table_at);
+        let extension = place_behind(flags, QUALITY, quality_at);
+        Info {
+            vbr: bytes.starts_with(b"Xing"),
+            frames: number_in(bytes, flags, FRAMES, FIELDS_AT),
+            bytes: number_in(bytes, flags, BYTES, bytes_at),
+            table: table_in(bytes, flags, table_at),
+            quality: number_in(bytes, flags, QUALITY, quality_at),
+            extension: extension_at(bytes, extension),
+        }
+    }
+}
+
+/// The entry of the table for a frame that begins at `offset`, of `bytes` bytes in all, both counted from the Info frame's
+/// first byte: how many 256th parts of the bytes stand before it, rounded down, and 255 at most.
+pub fn entry(offset: u32, bytes: u32) -> u8
+    requires { 0 < bytes }
+    ensures { result ≡ entry_of offset bytes }
+{
+    (256 * u64::from(offset) / u64::from(bytes)).min(255) as u8
+}
