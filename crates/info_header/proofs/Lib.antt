@@ -1,3 +1,4 @@
 pub mod HeadTextLaws
 pub mod InfoLaws
 pub mod FrameLaws
+pub mod OverLaws

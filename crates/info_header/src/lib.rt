@@ -1,20 +1,22 @@
 //! Xing and Info heads: a first frame that has counts and a table of the file in place of main data. `head_text` tells a head by
-//! the text in it, `Info::read` reads the fields behind the text, and `write_info` writes a whole frame with such fields.
+//! the text in it, and `Info::read` reads the fields behind the text. `info_over` makes the fields for the frames of another file,
+//! and `write_info` the frame that holds them, in front of the first of these.
 //!
 //! ```text
 //! let at = head_text(&header, frame)?;
-//! let info = Info::read(&frame[at as usize..]);
-//! let slot = info_slot(first.class());
-//! table[i] = entry(offset, bytes);
-//! write_info(&first, &Info { frames: Some(n), bytes: Some(bytes), table: Some(table), ..info }, &mut frame);
+//! let old = Info::read(&frame[at as usize..]);
+//! let new = Info { quality: old.quality, extension: old.extension, ..info_over(first.class(), &slots) };
+//! write_info(&first, &new, &mut bytes);
 //! ```
 #![tactic(auto)]
 
 mod fields;
+mod over;
 mod text;
 mod writing;
 
 pub use fields::{Info, entry};
+pub use over::{InSlot, info_over};
 pub use text::head_text;
 pub use writing::{info_slot, write_info};
 

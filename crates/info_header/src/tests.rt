@@ -2,6 +2,7 @@
 //! side information; the lengths from the standard's tables.
 
 mod fields;
+mod files;
 mod frames;
 
 use super::*;

@@ -1,0 +1,46 @@
+-- The fields of the Info frame of a file, from the frames behind it, of which the slots count alone.
+use Rattle.std.specs.Prelude.{◌≡◌, ℕ, ◌+◌, ◌*◌, ◌/◌, ◌<◌, ◌==◌, not, Bool, true, List, [], ◌∷◌, length, take, sum_by, slice_index, replicate, Some, None}
+use Rattle.std.specs.List.{list_all}
+use Rattle.frame_header.specs.Fields.{SlotFields, ClassFields}
+use Rattle.frame_header.specs.Tables.{rate_of, length_of}
+use Rattle.info_header.specs.declared.fields.Info.{Info}
+use Rattle.info_header.specs.Info.{entry_of}
+use Rattle.info_header.specs.InfoFrame.{info_slot_of}
+
+-- the length of the Info frame
+abbrev pub info_length : ClassFields → ℕ
+info_length c = length_of c (info_slot_of c)
+
+module _ {X : Type 0} (c : ClassFields) (slot_of : X → SlotFields) where
+  -- the bytes of frames together
+  abbrev pub bytes_of : List X → ℕ
+  bytes_of frames = sum_by (λ frame. length_of c (slot_of frame)) frames
+
+  -- the bit rate of a frame in kbit/s
+  abbrev pub rate_in : X → ℕ
+  rate_in frame = rate_of c (slot_of frame)
+
+  -- all frames have the bit rate of the first
+  abbrev pub has_one_rate : List X → Bool
+  has_one_rate [] = true
+  has_one_rate (first ∷ frames) = list_all (λ frame. rate_in frame == rate_in first) (first ∷ frames)
+
+  -- The table of frames with so many bytes before them, of so many bytes in all: entry i, from 0 to 99, is that of the frame at the
+  -- place i * n / 100 of n frames, rounded down.
+  abbrev pub IsTableOver : List X → ℕ → ℕ → List ℕ → Type 0
+  IsTableOver frames before all table = (i : ℕ) → i < 100 → slice_index table i ≡ entry_of (before + bytes_of (take (i * length frames / 100) frames)) all
+
+  -- the bytes of the file from the Info frame's first to the last frame's last
+  abbrev pub all_bytes : List X → ℕ
+  all_bytes frames = info_length c + bytes_of frames
+
+  -- the fields of the Info frame in front of these frames, without a quality and an extension
+  pub record IsInfoOver (frames : List X) (info : Info) : Type 0 where
+    pub vbr : info.vbr ≡ not (has_one_rate frames)
+    pub count : info.frames ≡ Some (length frames)
+    pub bytes : info.bytes ≡ Some (all_bytes frames)
+    pub table : List ℕ
+    pub has_table : info.table ≡ Some table
+    pub entries : IsTableOver frames (info_length c) (all_bytes frames) table
+    pub quality : info.quality ≡ None
+    pub extension : info.extension ≡ replicate 36 0

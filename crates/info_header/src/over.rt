@@ -1,0 +1,100 @@
+//! The fields of the Info frame of a file, from the frames behind it.
+ghost use Rattle.std.specs.Prelude.{◌≡◌, ◌*◌, ◌<◌, ◌≤◌, ◌==◌, length};
+ghost use Rattle.std.specs.List.{list_all};
+ghost use Rattle.frame_header.specs.Fields.{SlotFields};
+ghost use Rattle.info_header.specs.Over.{bytes_of, rate_in, has_one_rate as has_one_rate_lem, IsTableOver, IsInfoOver};
+
+use crate::fields::{Info, entry};
+use crate::writing::info_slot;
+use frame_header::{Class, Slot};
+
+/// What is a frame in a slot.
+pub trait InSlot {
+    ghost slot_of: { Self → SlotFields };
+
+    /// The slot that it is in.
+    fn slot(&self) -> Slot
+        ensures { result ≡ slot_of self.now };
+}
+
+impl InSlot for Slot {
+    ghost slot_of = { λ s. s };
+
+    fn slot(&self) -> Slot {
+        *self
+    }
+}
+
+/// The bytes of some frames together.
+fn bytes_in<F: InSlot>(class: Class, frames: &[F]) -> u32
+    requires few { length frames.now ≤ 2900064 }
+    ensures bytes { result ≡ bytes_of class F.slot_of frames.now }
+    ensures most { result ≤ 1441 * length frames.now }
+{
+    let mut bytes = 0;
+    for frame in frames {
+        bytes += class.length_of(frame.slot());
+    }
+    bytes
+}
+
+/// Whether all frames have this bit rate in kbit/s.
+fn have_rate<F: InSlot>(class: Class, frames: &[F], rate: u32) -> bool
+    ensures { result ≡ list_all (λ frame. rate_in class F.slot_of frame == rate) frames.now }
+{
+    for frame in frames {
+        if class.rate(frame.slot()) != rate {
+            return false;
+        }
+    }
+    true
+}
+
+/// Whether all frames have the bit rate of the first.
+fn has_one_rate<F: InSlot>(class: Class, frames: &[F]) -> bool
+    ensures { result ≡ has_one_rate_lem class F.slot_of frames.now }
+{
+    match frames.first() {
+        Some(first) => have_rate(class, frames, class.rate(first.slot())),
+        None => true,
+    }
+}
+
+/// The table of frames with `before` bytes before them, of `bytes` bytes in all: entry i is that of the frame at the place
+/// `i * n / 100` of n frames, rounded down.
+fn table_over<F: InSlot>(class: Class, frames: &[F], before: u32, bytes: u32) -> [u8; 100]
+    requires few { length frames.now ≤ 2900064 }
+    requires short { before ≤ 1441 }
+    requires some { 0 < bytes }
+    ensures { IsTableOver class F.slot_of frames.now before bytes result }
+{
+    let mut table = [0; 100];
+    let mut at = 0;
+    let mut offset = before;
+    for i in 0..100 {
+        let next = i * frames.len() / 100;
+        offset += bytes_in(class, &frames[at..next]);
+        at = next;
+        table[i] = entry(offset, bytes);
+    }
+    table
+}
+
+/// The fields of the Info frame in front of these frames: how many they are, the bytes of the Info frame and of all of them, and
+/// the table by their offsets from the Info frame's first byte. The text is `Info` where all have one bit rate. There is no
+/// quality, and the extension is all 0.
+pub fn info_over<F: InSlot>(class: Class, frames: &[F]) -> Info
+    requires few { length frames.now ≤ 2900064 }
+    ensures { IsInfoOver class F.slot_of frames.now result }
+{
+    let before = class.length_of(info_slot(class));
+    let bytes = before + bytes_in(class, frames);
+    Info {
+        vbr: !has_one_rate(class, frames),
+        frames: Some(frames.len() as u32),
+        bytes: Some(bytes),
+        table: Some(table_over(class, frames, before, bytes)),
+        quality: None,
+        extension: [0; 36],
+    }
+}
