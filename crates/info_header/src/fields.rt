@@ -127,9 +127,10 @@ fn extension_at(bytes: &[u8], at: usize) -> [u8; 36]
 }
 
 impl Info {
-    /// Reads the fields of a head. `bytes` are those of the frame from the text on. A field whose flag isn't set is `None`, and so
-    /// are one that passes the end of the bytes and all behind it; there the extension is all 0. Flags that aren't whole count as
-    /// 0. The extension is 36 bytes behind the last field, with zeros for those that aren't there.
+    /// Reads the fields of a head. `bytes` are those of the frame from the text on. A field whose flag isn't set is
+    /// `None`, and so are one that passes the end of the bytes and all behind it; there the extension is all 0. Flags
+    /// that aren't whole count as 0. The extension is 36 bytes behind the last field, with zeros for those that
+    /// aren't there.
     #[tactic(auto, unfolding(crate::specs::Info::info_in, crate::specs::Info::field_place))]
     pub fn read(bytes: &[u8]) -> Info
         ensures { result ≡ info_in bytes.now }
@@ -150,8 +151,8 @@ impl Info {
     }
 }
 
-/// The entry of the table for a frame that begins at `offset`, of `bytes` bytes in all, both counted from the Info frame's
-/// first byte: how many 256th parts of the bytes stand before it, rounded down, and 255 at most.
+/// The entry of the table for a frame that begins at `offset`, of `bytes` bytes in all, both counted from the Info
+/// frame's first byte: how many 256th parts of the bytes stand before it, rounded down, and 255 at most.
 pub fn entry(offset: u32, bytes: u32) -> u8
     requires { 0 < bytes }
     ensures { result ≡ entry_of offset bytes }

@@ -60,8 +60,8 @@ fn has_one_rate<F: InSlot>(class: Class, frames: &[F]) -> bool
     }
 }
 
-/// The table of frames with `before` bytes before them, of `bytes` bytes in all: entry i is that of the frame at the place
-/// `i * n / 100` of n frames, rounded down.
+/// The table of frames with `before` bytes before them, of `bytes` bytes in all: entry i is that of the frame at the
+/// place `i * n / 100` of n frames, rounded down.
 fn table_over<F: InSlot>(class: Class, frames: &[F], before: u32, bytes: u32) -> [u8; 100]
     requires few { length frames.now ≤ 2900064 }
     requires short { before ≤ 1441 }
@@ -80,9 +80,9 @@ fn table_over<F: InSlot>(class: Class, frames: &[F], before: u32, bytes: u32) ->
     table
 }
 
-/// The fields of the Info frame in front of these frames: how many they are, the bytes of the Info frame and of all of them, and
-/// the table by their offsets from the Info frame's first byte. The text is `Info` where all have one bit rate. There is no
-/// quality, and the extension is all 0.
+/// The fields of the Info frame in front of these frames: how many they are, the bytes of the Info frame and of all
+/// of them, and the table by their offsets from the Info frame's first byte. The text is `Info` where all have one
+/// bit rate. There is no quality, and the extension is all 0.
 pub fn info_over<F: InSlot>(class: Class, frames: &[F]) -> Info
     requires few { length frames.now ≤ 2900064 }
     ensures { IsInfoOver class F.slot_of frames.now result }

@@ -17,7 +17,8 @@ const FIELDS: u32 = 156;
 /// All four fields are there.
 const ALL_FLAGS: u32 = 15;
 
-/// The slot of the Info frame: the least whose area has room for the 156 bytes of the fields, in a frame without a check word.
+/// The slot of the Info frame: the least whose area has room for the 156 bytes of the fields, in a frame without a
+/// check word.
 #[tactic(auto, unfolding(crate::specs::InfoFrame::info_slot_of))]
 pub fn info_slot(class: Class) -> Slot
     ensures slot { result ≡ info_slot_of class }
@@ -112,9 +113,9 @@ fn append_info(into: &mut ArrayVec<u8, 1441>, info: &Info)
     append(into, &info.extension);
 }
 
-/// Writes the whole Info frame. Its header is that of `first`, the first frame behind it, without a check word and in the slot of
-/// `info_slot`. Behind it stand side information that is all 0, the fields with all four flags set (absent ones as 0), and zeros
-/// up to the frame's length. It takes the place of what `into` held.
+/// Writes the whole Info frame. Its header is that of `first`, the first frame behind it, without a check word and in
+/// the slot of `info_slot`. Behind it stand side information that is all 0, the fields with all four flags set
+/// (absent ones as 0), and zeros up to the frame's length. It takes the place of what `into` held.
 #[tactic(auto, unfolding(crate::specs::InfoFrame::info_frame))]
 pub fn write_info(first: &Header, info: &Info, into: &mut ArrayVec<u8, 1441>)
     ensures { into.new.items ≡ info_frame first.now info.now }

@@ -6,8 +6,8 @@ pub fn areas_are_held()
     ensures { AreasAreHeld }
 {}
 
-/// No frame's main data begin further back than a window reaches: its own area and the greatest main_data_begin are at most
-/// 1,939 bytes.
+/// No frame's main data begin further back than a window reaches: its own area and the greatest main_data_begin are
+/// at most 1,939 bytes.
 pub fn frames_are_held()
     ensures { FramesAreHeld }
 {}

@@ -9,8 +9,8 @@ use circular_buffer::HeapCircularBuffer;
 use std::alloc::{AllocError, Global};
 use std::marker::Model;
 
-/// The bytes that a window holds. A frame's main data begin at most 511 bytes before its area, and an area has at most
-/// 1,428 bytes.
+/// The bytes that a window holds. A frame's main data begin at most 511 bytes before its area, and an area has at
+/// most 1,428 bytes.
 const CAPACITY: usize = 2048;
 
 /// The last 2,048 bytes of main data, or all where there are fewer. Contracts see it as the list of these bytes, the
@@ -52,8 +52,8 @@ impl Window {
         self.queue.len()
     }
 
-    /// Adds an area: the bytes of a frame behind its header, check word and side information. Of what was held and the area
-    /// the last 2,048 bytes stay.
+    /// Adds an area: the bytes of a frame behind its header, check word and side information. Of what was held and
+    /// the area the last 2,048 bytes stay.
     pub fn push_area(&mut self, area: &[u8])
         ensures held { self.new ≡ keep_last 2048 (self.old ++ area.now) }
         ensures main { (main : List ℕ) → IsWindowOver self.old main → IsWindowOver self.new (main ++ area.now) }
@@ -61,10 +61,10 @@ impl Window {
         self.queue.extend_from_slice(area);
     }
 
-    /// The main data of a frame whose own area was pushed last: `bits` bits from the place on that is `begin` bytes before
-    /// the `area` bytes of its area, in as few bytes as hold them, with the unused low bits of the last byte 0. They take the
-    /// place of what `into` held. `begin` is the frame's main_data_begin (ISO/IEC 11172-3 and 13818-3, 2.4.2.7), and
-    /// `bits` the sum of its part2_3_length.
+    /// The main data of a frame whose own area was pushed last: `bits` bits from the place on that is `begin` bytes
+    /// before the `area` bytes of its area, in as few bytes as hold them, with the unused low bits of the last byte
+    /// 0. They take the place of what `into` held. `begin` is the frame's main_data_begin (ISO/IEC 11172-3 and
+    /// 13818-3, 2.4.2.7), and `bits` the sum of its part2_3_length.
     pub fn payload(&self, area: u32, begin: u32, bits: u32, into: &mut ArrayVec<u8, 2048>)
         requires held { area + begin ≤ length self.now }
         requires within { bits ≤ 8 * (area + begin) }

@@ -31,7 +31,7 @@ struct Entry {
     value: u8,
 }
 
-static CASES: [Case; 6] = [
+static CASES: [Case; 7] = [
     Case {
         frames: &[RATE_128, RATE_128],
         vbr: false,
@@ -53,6 +53,12 @@ static CASES: [Case; 6] = [
             Entry { at: 50, value: 109 },
             Entry { at: 99, value: 109 },
         ],
+    },
+    Case {
+        frames: &[RATE_32, RATE_32],
+        vbr: false,
+        bytes: 416,
+        entries: &[Entry { at: 49, value: 128 }, Entry { at: 50, value: 192 }],
     },
     Case {
         frames: &[RATE_112, RATE_128],
