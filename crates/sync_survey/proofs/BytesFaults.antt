@@ -16,8 +16,8 @@ use Rattle.sync_survey.specs.declared.survey_fault.SurveyFault.TheVariants.{Abse
 use Rattle.sync_survey.specs.Items.{item_at, fits, same_class}
 use Rattle.sync_survey.specs.Start.{start_behind, start_at, front_end_of, start_of}
 use Rattle.sync_survey.specs.Walk.{fault_at, end_fault, walk_from}
-use Rattle.sync_survey.specs.MainData.{place, end_before}
-use Rattle.sync_survey.specs.Faults.{where_true, has_wrong_word, points_too_far, overlaps, overruns, data_faults, faults_at, frame_faults, all_faults, first_of, class_from, faults_from, SurveyFields, fields_from, unless_fault, survey_by, surveyed}
+use Rattle.sync_survey.specs.MainData.{lacks_data, place, end_before}
+use Rattle.sync_survey.specs.Faults.{where_true, has_wrong_word, points_too_far, overlaps, overruns, own_faults, data_faults, faults_at, frame_faults, all_faults, first_of, class_from, faults_from, SurveyFields, fields_from, unless_fault, survey_by, surveyed}
 use Rattle.sync_survey.specs.Kinds.{RefusesRightly}
 
 abbrev pub IsOfBytes : SurveyFault → Type 0
@@ -65,9 +65,16 @@ first_of_bytes (x ∷ xs) fault all is = let same : x ≡ fault = cc in subst Is
 
 -- ---- a frame
 
-data_of_bytes : (place ended : ℕ) (r : Row) → AreOfBytes (data_faults place ended r)
-data_of_bytes place ended r =
+own_of_bytes : (place ended : ℕ) (r : Row) → AreOfBytes (own_faults place ended r)
+own_of_bytes place ended r =
     both_of_bytes _ _ (both_of_bytes _ _ (one_of_bytes (points_too_far place r) _ tt) (one_of_bytes (overlaps place ended r) _ tt)) (one_of_bytes (overruns place r) _ tt)
+
+unless_of_bytes : (b : Bool) (xs : List SurveyFault) → AreOfBytes xs → AreOfBytes (cond b [] xs)
+unless_of_bytes true xs p = tt
+unless_of_bytes false xs p = p
+
+data_of_bytes : (place ended : ℕ) (r : Row) → AreOfBytes (data_faults place ended r)
+data_of_bytes place ended r = unless_of_bytes (lacks_data place ended r) (own_faults place ended r) (own_of_bytes place ended r)
 
 frame_of_bytes : (said : ℕ) (class : ClassFields) (allowed place ended count : ℕ) (r : Row) → AreOfBytes (faults_at said class allowed place ended count r)
 unfolding faults_at

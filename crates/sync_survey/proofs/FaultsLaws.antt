@@ -1,9 +1,9 @@
 -- The first of several faults, and the faults of a frame in their order.
-use Rattle.std.proofs.Common.{◌≡◌, ℕ, zero, suc, ◌+◌, ◌<◌, ◌≤◌, true, List, [], ◌∷◌, ◌++◌, length, drop, Option, Some, None, refl, sym, ◌∙◌, ap, ap₂, arith, length-append}
+use Rattle.std.proofs.Common.{◌≡◌, ℕ, zero, suc, ◌+◌, ◌<◌, ◌≤◌, true, List, [], ◌∷◌, ◌++◌, length, drop, Option, Some, None, refl, sym, ◌∙◌, ap, ap₂, arith, map, length-append}
 use Rattle.std.specs.Prelude.{◌==◌, flat_map, slice_get, sum_by}
 use Rattle.std.specs.List.{enumerate_from}
 use Rattle.std.specs.Option.{option_or}
-use Rattle.std.proofs.lemmas.List.{take-append-le, take_all}
+use Rattle.std.proofs.lemmas.List.{take-append-le, take_all, map-append, length-map}
 use Rattle.std.proofs.lemmas.List.Concat.{flat_map-append}
 use Rattle.std.proofs.lemmas.List.Sums.{sum_by_push}
 use Rattle.frame_header.specs.Fields.{ClassFields}
@@ -15,7 +15,7 @@ use Rattle.sync_survey.specs.declared.rows.Row.{Row}
 use Rattle.sync_survey.specs.declared.survey_fault.SurveyFault.{SurveyFault}
 use Rattle.sync_survey.specs.declared.survey_fault.SurveyFault.TheVariants.{CheckWord, TooManyFrames}
 use Rattle.sync_survey.specs.Items.{same_class}
-use Rattle.sync_survey.specs.MainData.{own_area, head_area, place, end_behind, end_before}
+use Rattle.sync_survey.specs.MainData.{own_area, head_area, lacks_data, place, end_behind, end_before, is_lost, marked_row, marked}
 use Rattle.sync_survey.specs.Faults.{where_true, has_wrong_word, data_faults, faults_at, frame_faults, all_faults, first_of}
 
 -- ---- lists of faults
@@ -102,7 +102,16 @@ enumerate-append n [] ys = ap (λ m. enumerate_from m ys) (omega arith)
 enumerate-append n (x ∷ xs) ys =
     ap (λ l. (n, x) ∷ l) (enumerate-append (n + 1) xs ys ∙ ap (λ m. enumerate_from (n + 1) xs ++ enumerate_from m ys) (omega arith))
 
+pub enumerate-length : {X : Type 0} (n : ℕ) (xs : List X) → length (enumerate_from n xs) ≡ length xs
+enumerate-length n [] = refl
+enumerate-length n (x ∷ xs) = ap suc (enumerate-length (n + 1) xs)
+
 -- what is made of each is the same, where it is for each number
+pub map-numbers : {X A : Type 0} (f g : ℕ → X → A) (n : ℕ) (xs : List X) → ((i : ℕ) (x : X) → i < n + length xs → f i x ≡ g i x)
+    → map (λ (p : ℕ × X). f p.0 p.1) (enumerate_from n xs) ≡ map (λ (p : ℕ × X). g p.0 p.1) (enumerate_from n xs)
+map-numbers f g n [] same = refl
+map-numbers f g n (x ∷ xs) same = ap₂ (λ a b. a ∷ b) (same n x (omega arith)) (map-numbers f g (n + 1) xs (λ i y lt. same i y (omega (arith, lt))))
+
 pub flat_map-numbers : {X A : Type 0} (f g : ℕ → X → List A) (n : ℕ) (xs : List X) → ((i : ℕ) (x : X) → i < n + length xs → f i x ≡ g i x)
     → flat_map (λ (p : ℕ × X). f p.0 p.1) (enumerate_from n xs) ≡ flat_map (λ (p : ℕ × X). g p.0 p.1) (enumerate_from n xs)
 flat_map-numbers f g n [] same = refl
@@ -147,6 +156,35 @@ module _ (file : List ℕ) (head : Option Head) (class : ClassFields) (allowed :
   pub faults-none : all_faults file head class allowed [] ≡ []
   unfolding all_faults
   faults-none = refl
+
+-- ---- lost frames are marked
+
+module _ (head : Option Head) where
+  pub marked-length : (rows : List Row) → length (marked head rows) ≡ length rows
+  unfolding marked
+  marked-length rows = length-map (enumerate_from 0 rows) (λ (p : ℕ × Row). marked_row head rows p.0 p.1) ∙ enumerate-length 0 rows
+
+  pub marked-none : marked head [] ≡ []
+  unfolding marked
+  marked-none = refl
+
+  lost-more : (rows more : List Row) (i : ℕ) (r : Row) → i ≤ length rows → is_lost head (rows ++ more) i r ≡ is_lost head rows i r
+  lost-more rows more i r within = ap₂ (λ m n. lacks_data m n r) (place-more head rows more i within) (end-more head rows more i within)
+
+  marked_row-more : (rows more : List Row) (i : ℕ) (r : Row) → i ≤ length rows → marked_row head (rows ++ more) i r ≡ marked_row head rows i r
+  marked_row-more rows more i r within = ap (λ b. record r { lost = b }) (lost-more rows more i r within)
+
+  -- one frame more doesn't change the marks of those before it
+  pub marked-push : (rows : List Row) (r : Row) → marked head (rows ++ r ∷ []) ≡ marked head rows ++ marked_row head rows (length rows) r ∷ []
+  unfolding marked
+  marked-push rows r =
+      let whole = rows ++ r ∷ [] in
+      let each = λ (p : ℕ × Row). marked_row head whole p.0 p.1 in
+      ap (map each) (enumerate-append 0 rows (r ∷ []))
+      ∙ map-append each (enumerate_from 0 rows) (enumerate_from (0 + length rows) (r ∷ []))
+      ∙ ap₂ (λ (a b : List Row). a ++ b)
+      (map-numbers (marked_row head whole) (marked_row head rows) 0 rows (λ i q lt. marked_row-more rows (r ∷ []) i q (omega (arith, lt))))
+      (ap (λ q. q ∷ []) (ap (λ n. marked_row head whole n r) (omega arith) ∙ marked_row-more rows (r ∷ []) (length rows) r (omega arith)))
 
 -- ---- where the first frame begins
 

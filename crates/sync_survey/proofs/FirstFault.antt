@@ -24,8 +24,8 @@ use Rattle.sync_survey.specs.Items.{item_at, size_of, same_class}
 use Rattle.sync_survey.specs.Runs.{Placed, AreEndToEnd, frame_as, frames_of}
 use Rattle.sync_survey.specs.Start.{start_of}
 use Rattle.sync_survey.specs.Walk.{stream_run, head_of, numbered, fault_at, end_fault, walk_from}
-use Rattle.sync_survey.specs.MainData.{rows_of, place, end_before}
-use Rattle.sync_survey.specs.Faults.{where_true, has_wrong_word, points_too_far, overlaps, overruns, room_for_data, data_faults, faults_at, frame_faults, all_faults, first_of, class_from, faults_from, fault_place, NoneBefore, SurveyFields, fields_from, unless_fault, survey_by, surveyed, longest_file}
+use Rattle.sync_survey.specs.MainData.{rows_of, lacks_data, place, end_before}
+use Rattle.sync_survey.specs.Faults.{where_true, has_wrong_word, points_too_far, overlaps, overruns, room_for_data, own_faults, data_faults, faults_at, frame_faults, all_faults, first_of, class_from, faults_from, fault_place, NoneBefore, SurveyFields, fields_from, unless_fault, survey_by, surveyed, longest_file}
 use Rattle.sync_survey.specs.Kinds.{IsRefused, kind_of, by_kind}
 use Rattle.sync_survey.specs.Survey.{survey_of, RefusesBytes, HasShrunk, AsksForMemory, IsSurveyFault, IsRefusal}
 use Rattle.sync_survey.proofs.RunsLaws.{cons_list, item_of-is, run-ends}
@@ -60,14 +60,21 @@ at_none at (x ∷ xs) p = (omega (arith, p.0), at_none at xs p.1)
 
 -- ---- the faults of a frame stand at its offset
 
-data_at : (place ended : ℕ) (r : Row) → AreAt r.offset (data_faults place ended r)
-data_at place ended r =
+own_at : (place ended : ℕ) (r : Row) → AreAt r.offset (own_faults place ended r)
+own_at place ended r =
     let begins = BackPointer r.offset r.side.main_data_begin place in
     let ends = Overrun r.offset (payload_bits r.side) (room_for_data r) in
     let far = where_true (points_too_far place r) begins in
     let over = where_true (overlaps place ended r) (Overlap r.offset) in
     all_at r.offset (far ++ over) (where_true (overruns place r) ends)
     (all_at r.offset far over (one_at r.offset (points_too_far place r) begins refl) (one_at r.offset (overlaps place ended r) (Overlap r.offset) refl)) (one_at r.offset (overruns place r) ends refl)
+
+unless_at : (at : ℕ) (b : Bool) (xs : List SurveyFault) → AreAt at xs → AreAt at (cond b [] xs)
+unless_at at true xs p = tt
+unless_at at false xs p = p
+
+data_at : (place ended : ℕ) (r : Row) → AreAt r.offset (data_faults place ended r)
+data_at place ended r = unless_at r.offset (lacks_data place ended r) (own_faults place ended r) (own_at place ended r)
 
 frame_at : (said : ℕ) (class : ClassFields) (allowed place ended count : ℕ) (r : Row) → AreAt r.offset (faults_at said class allowed place ended count r)
 unfolding faults_at

@@ -6,6 +6,7 @@ pub mod ItemBytes
 pub mod LooksLaws
 pub mod StartLaws
 pub mod FaultsLaws
+pub mod LostFrames
 pub mod WalkLaws
 pub mod SurveyLaws
 pub mod Progress

@@ -17,7 +17,7 @@ use Rattle.sync_survey.specs.Runs.{item_of, run, frames_of, blocks_of}
 use Rattle.sync_survey.specs.Looks.{Passes}
 use Rattle.sync_survey.specs.Start.{start_of}
 use Rattle.sync_survey.specs.Walk.{stream_run, head_of, numbered, numbered_at, all_blocks, fault_at, end_fault}
-use Rattle.sync_survey.specs.MainData.{row_of, rows_of, own_area, head_area, end_behind, place, end_before}
+use Rattle.sync_survey.specs.MainData.{row_of, rows_of, own_area, head_area, end_behind, place, end_before, marked}
 use Rattle.sync_survey.specs.Faults.{faults_at, all_faults, first_of, class_from, surveyed}
 use Rattle.sync_survey.proofs.OneItem.{stands-only_at}
 use Rattle.sync_survey.proofs.RunsLaws.{item_of-whole, item_of-past, run-stopped}
@@ -37,6 +37,12 @@ pub record IsSurveyedTo (file : List ℕ) (start : Start) (head : Option Head) (
   pub none : all_faults file head (class_from start) allowed rows ≡ []
   pub place_is : place_now ≡ place head rows (length rows)
   pub ended_is : ended ≡ end_before head rows (length rows)
+
+-- so far, and these rows are the frames that were met, each marked where it is lost
+pub record IsMarkedTo (file : List ℕ) (start : Start) (head : Option Head) (allowed : ℕ) (rows : List Row) (blocks : List Piece) (place_now ended at : ℕ) : Type 0 where
+  pub frames : List Row
+  pub marks : rows ≡ marked head frames
+  pub surveyed : IsSurveyedTo file start head allowed frames blocks place_now ended at
 
 -- the stream of the file begins so
 pub record IsBegun (file : List ℕ) (start : Start) (head : Option Head) : Type 0 where

@@ -1,5 +1,5 @@
 -- One item more is judged and kept.
-use Rattle.std.proofs.Common.{◌≡◌, ℕ, ◌+◌, ◌≤◌, ◌⊎◌, min, List, [], ◌∷◌, ◌++◌, length, drop, Option, Some, None, Err, refl, sym, ◌∙◌, ap, ap₂, subst, inl, inr, arith, append-nil}
+use Rattle.std.proofs.Common.{◌≡◌, ℕ, ◌+◌, ◌≤◌, ◌⊎◌, min, false, List, [], ◌∷◌, ◌++◌, length, drop, Option, Some, None, Err, refl, sym, ◌∙◌, ap, ap₂, subst, inl, inr, arith, append-nil}
 use Rattle.std.specs.Prelude.{option_to_list}
 use Rattle.frame_header.specs.Fields.{HeaderFields, ClassFields}
 use Rattle.frame_header.specs.Tables.{class_of, length_of, overhead_of, area_of}
@@ -21,16 +21,17 @@ use Rattle.sync_survey.specs.declared.survey_fault.SurveyFault.TheVariants.{Memo
 use Rattle.sync_survey.specs.Items.{Stands, item_front, size_of}
 use Rattle.sync_survey.specs.Runs.{run, frame_as, block_as, frames_of, blocks_of}
 use Rattle.sync_survey.specs.Looks.{look_size, Shows, Passes, KeepsFrame, KeepsBlocks, Keeps, IsFrameFault}
-use Rattle.sync_survey.specs.MainData.{row_in, row_of, own_area, end_behind}
+use Rattle.sync_survey.specs.MainData.{row_in, row_of, own_area, lacks_data, end_behind, marked_row, marked}
 use Rattle.sync_survey.specs.Faults.{faults_at, first_of, class_from, surveyed}
 use Rattle.sync_survey.specs.Kinds.{RefusesRightly}
 use Rattle.sync_survey.specs.Survey.{AreLaid, BlocksAreLaid, HasLength, IsRefusal}
 use Rattle.sync_survey.proofs.ItemsLaws.{stands, header_front-in_range}
+use Rattle.sync_survey.proofs.FaultsLaws.{marked-length, marked-push}
 use Rattle.sync_survey.proofs.SurveyLaws.{overhead-within}
 use Rattle.sync_survey.proofs.BytesFaults.{frame_rightly}
 use Rattle.sync_survey.proofs.FrontLaws.{blocks_more}
 use Rattle.sync_survey.proofs.FoldersLaws.{memory_refusal, bytes_refusal}
-use Rattle.sync_survey.proofs.Progress.{IsSurveyedTo, IsBegun, passed_zeros, passed_block, passed_frame, first_fault}
+use Rattle.sync_survey.proofs.Progress.{IsSurveyedTo, IsMarkedTo, IsBegun, passed_zeros, passed_block, passed_frame, first_fault}
 
 -- ---- a whole frame is shown up to its area
 
@@ -45,7 +46,7 @@ shown_room front item h size left is frame few least within many = omega (arith,
 
 module _ (file : List ℕ) (at : ℕ) (front : List ℕ) (left : ℕ) (shows : Shows file at front left) (h : HeaderFields) (few : overhead_of (class_of h) h.protected ≤ look_size) where
   row_shown : row_in at h front ≡ row_of file (record { offset = at; header = h })
-  row_shown = ap (λ s. record { offset = at; header = h; side = s }) (ap (side_in h) shows.front_is ∙ side_in-take h look_size (drop at file) few)
+  row_shown = ap (λ s. record { offset = at; header = h; side = s; lost = false }) (ap (side_in h) shows.front_is ∙ side_in-take h look_size (drop at file) few)
 
   word_shown : word_said front ≡ word_said (drop at file)
   word_shown = ap word_said shows.front_is ∙ word_said-take look_size (drop at file) (omega arith)
@@ -69,36 +70,57 @@ few_by front End is few = tt
 few_by front Nothing is few = tt
 
 module _ (file : List ℕ) (start : Start) (head : Option Head) (allowed : ℕ) (old : Found) (at : ℕ)
-    (so_far : IsSurveyedTo file start head allowed old.rows.items old.pieces.items old.before.place old.before.ended at) (front : List ℕ) (left : ℕ) (shows : Shows file at front left) where
+    (so_far : IsMarkedTo file start head allowed old.rows.items old.pieces.items old.before.place old.before.ended at) (front : List ℕ) (left : ℕ) (shows : Shows file at front left) where
   abbrev IsOn : Found → ℕ → Type 0
-  IsOn new size = IsSurveyedTo file start head allowed new.rows.items new.pieces.items new.before.place new.before.ended (at + size)
+  IsOn new size = IsMarkedTo file start head allowed new.rows.items new.pieces.items new.before.place new.before.ended (at + size)
 
-  same : (rows : List Row) (pieces : List Piece) (place ended : ℕ) (new : Found) (size : ℕ) → new.rows.items ≡ rows → new.pieces.items ≡ pieces → new.before.place ≡ place → new.before.ended ≡ ended
+  abbrev frames : List Row
+  frames = so_far.frames
+
+  count : length old.rows.items ≡ length frames
+  count = ap length so_far.marks ∙ marked-length head frames
+
+  same : (rows : List Row) (pieces : List Piece) (place ended : ℕ) (new : Found) (size : ℕ) → new.rows.items ≡ marked head rows → new.pieces.items ≡ pieces → new.before.place ≡ place → new.before.ended ≡ ended
       → IsSurveyedTo file start head allowed rows pieces place ended (at + size) → IsOn new size
-  same rows pieces place ended new size rows_are pieces_are place_is ended_is there =
-      subst (λ n. IsSurveyedTo file start head allowed new.rows.items new.pieces.items new.before.place n (at + size)) (sym ended_is)
-      (subst (λ n. IsSurveyedTo file start head allowed new.rows.items new.pieces.items n ended (at + size)) (sym place_is)
-      (subst (λ l. IsSurveyedTo file start head allowed new.rows.items l place ended (at + size)) (sym pieces_are)
-      (subst (λ l. IsSurveyedTo file start head allowed l pieces place ended (at + size)) (sym rows_are) there)))
+  same rows pieces place ended new size rows_are pieces_are place_is ended_is there = record {
+    frames = rows;
+    marks = rows_are;
+    surveyed =
+        subst (λ n. IsSurveyedTo file start head allowed rows new.pieces.items new.before.place n (at + size)) (sym ended_is)
+        (subst (λ n. IsSurveyedTo file start head allowed rows new.pieces.items n ended (at + size)) (sym place_is)
+        (subst (λ l. IsSurveyedTo file start head allowed rows l place ended (at + size)) (sym pieces_are) there));
+  }
 
   blocks_kept : (blocks : List Piece) (new : Found) (size : ℕ) → KeepsBlocks blocks old new
-      → IsSurveyedTo file start head allowed old.rows.items (old.pieces.items ++ blocks) old.before.place old.before.ended (at + size) → IsOn new size
+      → IsSurveyedTo file start head allowed frames (old.pieces.items ++ blocks) old.before.place old.before.ended (at + size) → IsOn new size
   blocks_kept blocks new size keeps there =
-      same old.rows.items (old.pieces.items ++ blocks) old.before.place old.before.ended new size keeps.rows keeps.pieces (ap (λ b. b.place) keeps.before) (ap (λ b. b.ended) keeps.before) there
+      same frames (old.pieces.items ++ blocks) old.before.place old.before.ended new size (keeps.rows ∙ so_far.marks) keeps.pieces (ap (λ b. b.place) keeps.before) (ap (λ b. b.ended) keeps.before) there
 
   none_kept : (item : Item) (new : Found) (size : ℕ) → Passes Stream file at Zero size → KeepsBlocks [] old new → IsOn new size
   none_kept item new size passes keeps =
       blocks_kept [] new size keeps
-      (subst (λ l. IsSurveyedTo file start head allowed old.rows.items l old.before.place old.before.ended (at + size)) (sym (append-nil old.pieces.items))
-      (passed_zeros file start head allowed old.rows.items old.pieces.items old.before.place old.before.ended at so_far size passes))
+      (subst (λ l. IsSurveyedTo file start head allowed frames l old.before.place old.before.ended (at + size)) (sym (append-nil old.pieces.items))
+      (passed_zeros file start head allowed frames old.pieces.items old.before.place old.before.ended at so_far.surveyed size passes))
+
+  -- the frame is kept with the mark of its number
+  mark_is : (r : Row) → record r { lost = lacks_data old.before.place old.before.ended r } ≡ marked_row head frames (length frames) r
+  mark_is r = ap₂ (λ m n. record r { lost = lacks_data m n r }) so_far.surveyed.place_is so_far.surveyed.ended_is
 
   frame_kept : (h : HeaderFields) (new : Found) (size : ℕ) → overhead_of (class_of h) h.protected ≤ look_size → Passes Stream file at (Frame h) size
       → KeepsFrame (word_said front) (class_from start) allowed (row_in at h front) old new → IsOn new size
   frame_kept h new size few passes keeps =
       let row = row_shown file at front left shows h few in
-      same (old.rows.items ++ row_of file (record { offset = at; header = h }) ∷ []) old.pieces.items new.before.place new.before.ended new size (keeps.rows ∙ ap (λ r. old.rows.items ++ r ∷ []) row) keeps.pieces refl refl
-      (passed_frame file start head allowed old.rows.items old.pieces.items old.before.place old.before.ended at so_far h size new.before.place new.before.ended passes
-      (sym (faults_shown file at front left shows h few (class_from start) allowed old.before.place old.before.ended (length old.rows.items)) ∙ keeps.sound) keeps.place
+      let r = row_of file (record { offset = at; header = h }) in
+      same (frames ++ r ∷ []) old.pieces.items new.before.place new.before.ended new size
+      (keeps.rows
+      ∙ ap₂ (λ (l : List Row) (q : Row). l ++ q ∷ []) so_far.marks (ap (λ (q : Row). record q { lost = lacks_data old.before.place old.before.ended q }) row ∙ mark_is r)
+      ∙ sym (marked-push head frames r))
+      keeps.pieces refl refl
+      (passed_frame file start head allowed frames old.pieces.items old.before.place old.before.ended at so_far.surveyed h size new.before.place new.before.ended passes
+      (ap (λ n. first_of (faults_at (word_said (drop at file)) (class_from start) allowed old.before.place old.before.ended n r)) (sym count)
+      ∙ sym (faults_shown file at front left shows h few (class_from start) allowed old.before.place old.before.ended (length old.rows.items))
+      ∙ keeps.sound)
+      keeps.place
       (keeps.ended ∙ ap (λ r. end_behind old.before.place old.before.ended (Some r)) row))
 
   -- what is neither a frame nor a block is passed as a zero byte is
@@ -114,15 +136,17 @@ module _ (file : List ℕ) (start : Start) (head : Option Head) (allowed : ℕ) 
   kept Free new size few passes keeps = none_kept Free new size (as_zero Free size passes refl refl) keeps
   kept (Block b) new size few passes keeps =
       blocks_kept (record { offset = at; block = b } ∷ []) new size keeps
-      (passed_block file start head allowed old.rows.items old.pieces.items old.before.place old.before.ended at so_far (record { offset = at; block = b }) size refl passes)
+      (passed_block file start head allowed frames old.pieces.items old.before.place old.before.ended at so_far.surveyed (record { offset = at; block = b }) size refl passes)
   kept Zero new size few passes keeps = none_kept Zero new size passes keeps
   kept End new size few passes keeps = none_kept End new size (as_zero End size passes refl refl) keeps
   kept Nothing new size few passes keeps = none_kept Nothing new size (as_zero Nothing size passes refl refl) keeps
 
   pub refused : (begun : IsBegun file start head) (item : Item) (size : ℕ) (fault : SurveyFault) → few_before item → Passes Stream file at item size → IsFrameFault (class_from start) allowed at item front old fault → surveyed file allowed ≡ Err fault
   refused begun (Frame h) size fault few passes is =
-      first_fault file start head allowed old.rows.items old.pieces.items old.before.place old.before.ended at so_far begun h size fault passes
-      (sym (faults_shown file at front left shows h few (class_from start) allowed old.before.place old.before.ended (length old.rows.items)) ∙ is)
+      first_fault file start head allowed frames old.pieces.items old.before.place old.before.ended at so_far.surveyed begun h size fault passes
+      (ap (λ n. first_of (faults_at (word_said (drop at file)) (class_from start) allowed old.before.place old.before.ended n (row_of file (record { offset = at; header = h })))) (sym count)
+      ∙ sym (faults_shown file at front left shows h few (class_from start) allowed old.before.place old.before.ended (length old.rows.items))
+      ∙ is)
   refused begun Free size fault few passes is = absurd is
   refused begun (Block b) size fault few passes is = absurd is
   refused begun Zero size fault few passes is = absurd is
@@ -168,7 +192,7 @@ module _ (first : ℕ) (class : ClassFields) (allowed at : ℕ) (front : List �
 
   pub laid_more : (item : Item) → size_of item ≤ size → Keeps class allowed at item front old new → IsLaidTo first new (at + size)
   laid_more (Frame h) least keeps = record {
-    rows = subst (λ l. AreLaid first l (at + size)) (sym keeps.rows) (laid_push first old.rows.items at (at + size) (row_in at h front) laid.rows keeps.fits (omega arith) (omega (arith, least)));
+    rows = subst (λ l. AreLaid first l (at + size)) (sym keeps.rows) (laid_push first old.rows.items at (at + size) (record (row_in at h front) { lost = lacks_data old.before.place old.before.ended (row_in at h front) }) laid.rows keeps.fits (omega arith) (omega (arith, least)));
     pieces = blocks_more old.pieces.items new.pieces.items at size (Frame h) laid.pieces least (keeps.pieces ∙ sym (append-nil old.pieces.items));
     low = omega (arith, keeps.place, area_within h, laid.low, least);
   }

@@ -17,7 +17,7 @@ use Rattle.sync_survey.specs.Items.{item_at}
 use Rattle.sync_survey.specs.Runs.{frames_of}
 use Rattle.sync_survey.specs.Start.{start_of}
 use Rattle.sync_survey.specs.Walk.{stream_run, head_of, numbered, fault_at, end_fault, walk_from}
-use Rattle.sync_survey.specs.MainData.{rows_of}
+use Rattle.sync_survey.specs.MainData.{rows_of, marked}
 use Rattle.sync_survey.specs.Faults.{all_faults, first_of, class_from, faults_from, SurveyFields, fields_from, unless_fault, survey_by, surveyed}
 use Rattle.sync_survey.proofs.WalkLaws.{IsFound, walk-is, no_fault, nothing_left}
 use Rattle.sync_survey.proofs.FaultsLaws.{some-append, none-of}
@@ -32,7 +32,7 @@ overhead-within h fields = omega (arith, overhead-most (class_of h) h.protected,
 -- what a survey tells that found these frames and blocks
 abbrev pub told_by : List ℕ → Start → Option Head → List Row → List Piece → SurveyFields
 told_by file start head rows blocks = record {
-  frames = rows;
+  frames = marked head rows;
   blocks = blocks;
   head = head;
   junk = start.front_end;
@@ -114,7 +114,7 @@ last_none (x ∷ xs) o e = absurd cc
 -- the frames and the head that the survey tells are those of the walk, which goes to the file's end
 pub record IsWalked (file : List ℕ) (s : SurveyFields) (start : Start) : Type 0 where
   pub head_is : s.head ≡ head_of file start.first
-  pub frames_are : s.frames ≡ rows_of file (numbered s.head (frames_of (stream_run file start).items))
+  pub frames_are : s.frames ≡ marked s.head (rows_of file (numbered s.head (frames_of (stream_run file start).items)))
   pub junk_is : s.junk ≡ start.front_end
   pub first_is : s.first ≡ start.first.offset
   pub nothing_behind : drop (stream_run file start).stop file ≡ []

@@ -1,5 +1,5 @@
 -- What a survey without fault says of a file: where its stream starts, and that nothing is at fault from there on.
-use Rattle.std.proofs.Common.{◌≡◌, ℕ, zero, suc, ◌+◌, ◌<◌, ◌≤◌, ◌==◌, Bool, true, false, List, [], ◌∷◌, ◌++◌, length, drop, Option, Some, None, Ok, refl, sym, ◌∙◌, ap, ap₂, arith, zero-add}
+use Rattle.std.proofs.Common.{◌≡◌, ℕ, zero, suc, ◌+◌, ◌<◌, ◌≤◌, ◌==◌, Bool, true, false, cond, List, [], ◌∷◌, ◌++◌, length, drop, Option, Some, None, Ok, refl, sym, ◌∙◌, ap, ap₂, arith, zero-add}
 use Rattle.std.specs.Prelude.{option_to_list, not, flat_map, slice_get}
 use Rattle.std.specs.List.{enumerate_from}
 use Rattle.std.proofs.lemmas.Option.{slice_get_within}
@@ -19,8 +19,8 @@ use Rattle.sync_survey.specs.Items.{item_at, same_class}
 use Rattle.sync_survey.specs.Runs.{frames_of}
 use Rattle.sync_survey.specs.Start.{start_of}
 use Rattle.sync_survey.specs.Walk.{stream_run, head_of, numbered, all_blocks, fault_at, end_fault, walk_from}
-use Rattle.sync_survey.specs.MainData.{row_of, rows_of, place, end_before}
-use Rattle.sync_survey.specs.Faults.{where_true, has_wrong_word, points_too_far, overlaps, overruns, faults_at, frame_faults, all_faults, first_of, class_from, faults_from, SurveyFields, fields_from, surveyed, surveyed_freely, stream_of_survey, stream_by, stream_of, HoldsStream}
+use Rattle.sync_survey.specs.MainData.{row_of, rows_of, lacks_data, place, end_before}
+use Rattle.sync_survey.specs.Faults.{where_true, has_wrong_word, points_too_far, overlaps, overruns, own_faults, data_faults, faults_at, frame_faults, all_faults, first_of, class_from, faults_from, SurveyFields, fields_from, surveyed, surveyed_freely, stream_of_survey, stream_by, stream_of, HoldsStream}
 use Rattle.sync_survey.proofs.FaultsLaws.{none-of}
 use Rattle.sync_survey.proofs.SurveyLaws.{told_by, survey-whole, surveyed-is}
 use Rattle.sync_survey.proofs.RunsLaws.{run-ends}
@@ -84,14 +84,36 @@ nothing_false b fault e = ap (λ x. where_true x fault) e
 empty_both : (xs ys : List SurveyFault) → xs ≡ [] → ys ≡ [] → xs ++ ys ≡ []
 empty_both xs ys e f = ap₂ (λ (us vs : List SurveyFault). us ++ vs) e f
 
--- it is of the class, its check word is right, its main data stand where they may, and it isn't one too many
-pub record IsSound (said : ℕ) (class : ClassFields) (allowed place ended count : ℕ) (r : Row) : Type 0 where
-  pub same : not (same_class (class_of r.header) class) ≡ false
-  pub word : has_wrong_word said r ≡ false
+-- main data stand where they may
+pub record StandWell (place ended : ℕ) (r : Row) : Type 0 where
   pub begins : points_too_far place r ≡ false
   pub apart : overlaps place ended r ≡ false
   pub within : overruns place r ≡ false
+
+-- it is of the class, its check word is right, its main data stand where they may or it is lost, and it isn't one too many
+pub record IsSound (said : ℕ) (class : ClassFields) (allowed place ended count : ℕ) (r : Row) : Type 0 where
+  pub same : not (same_class (class_of r.header) class) ≡ false
+  pub word : has_wrong_word said r ≡ false
+  pub main : lacks_data place ended r ≡ false → StandWell place ended r
   pub few : (count == allowed) ≡ false
+
+own-none_well : (place ended : ℕ) (r : Row) → own_faults place ended r ≡ [] → StandWell place ended r
+own-none_well place ended r none =
+    let main = empty_parts _ _ none in
+    let begin = empty_parts _ _ main.0 in
+    record { begins = nothing_true _ _ begin.0; apart = nothing_true _ _ begin.1; within = nothing_true _ _ main.1 }
+
+well-no_own : (place ended : ℕ) (r : Row) → StandWell place ended r → own_faults place ended r ≡ []
+well-no_own place ended r well =
+    empty_both _ _ (empty_both _ _ (nothing_false _ _ well.begins) (nothing_false _ _ well.apart)) (nothing_false _ _ well.within)
+
+unless-none : (b : Bool) (xs : List SurveyFault) → cond b [] xs ≡ [] → b ≡ false → xs ≡ []
+unless-none true xs none is = absurd cc
+unless-none false xs none is = none
+
+none-unless : (b : Bool) (xs : List SurveyFault) → (b ≡ false → xs ≡ []) → cond b [] xs ≡ []
+none-unless true xs none = refl
+none-unless false xs none = none refl
 
 pub faults-none_sound : (said : ℕ) (class : ClassFields) (allowed place ended count : ℕ) (r : Row) → faults_at said class allowed place ended count r ≡ [] → IsSound said class allowed place ended count r
 unfolding faults_at
@@ -99,14 +121,10 @@ faults-none_sound said class allowed place ended count r none =
     let all = empty_parts _ _ none in
     let front = empty_parts _ _ all.0 in
     let word = empty_parts _ _ front.0 in
-    let main = empty_parts _ _ front.1 in
-    let begin = empty_parts _ _ main.0 in
     record {
       same = nothing_true _ _ word.0;
       word = nothing_true _ _ word.1;
-      begins = nothing_true _ _ begin.0;
-      apart = nothing_true _ _ begin.1;
-      within = nothing_true _ _ main.1;
+      main = λ is. own-none_well place ended r (unless-none (lacks_data place ended r) (own_faults place ended r) front.1 is);
       few = nothing_true _ _ all.1;
     }
 
@@ -115,7 +133,7 @@ unfolding faults_at
 sound-no_faults said class allowed place ended count r sound =
     empty_both _ _
     (empty_both _ _ (empty_both _ _ (nothing_false _ _ sound.same) (nothing_false _ _ sound.word))
-    (empty_both _ _ (empty_both _ _ (nothing_false _ _ sound.begins) (nothing_false _ _ sound.apart)) (nothing_false _ _ sound.within)))
+    (none-unless (lacks_data place ended r) (own_faults place ended r) (λ is. well-no_own place ended r (sound.main is))))
     (nothing_false _ _ sound.few)
 
 -- ---- all frames
@@ -161,9 +179,7 @@ sound_allowed file head class allowed other rows few sound = λ i r is.
     record {
       same = here.same;
       word = here.word;
-      begins = here.begins;
-      apart = here.apart;
-      within = here.within;
+      main = here.main;
       few = ne_eqb i other (λ e. omega (arith, few, e, slice_get_within rows i r is));
     }
 

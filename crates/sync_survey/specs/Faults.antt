@@ -16,7 +16,8 @@ use Rattle.sync_survey.specs.declared.survey_fault.SurveyFault.TheVariants.{NoFr
 use Rattle.sync_survey.specs.Items.{same_class}
 use Rattle.sync_survey.specs.Start.{start_of}
 use Rattle.sync_survey.specs.Walk.{walk_from}
-use Rattle.sync_survey.specs.MainData.{rows_of, own_area, start_of_data, end_of_data, place, end_before, main_bytes, StreamFrame, stream_frames}
+pub use Rattle.sync_survey.specs.MainData.{points_too_far}
+use Rattle.sync_survey.specs.MainData.{rows_of, own_area, start_of_data, end_of_data, lacks_data, place, end_before, marked, main_bytes, StreamFrame, stream_frames}
 
 -- ---- a frame
 
@@ -28,11 +29,7 @@ where_true holds fault = if holds then fault ∷ [] else []
 abbrev pub has_wrong_word : ℕ → Row → Bool
 has_wrong_word said r = r.header.protected && not (said == check_word_of r.header r.side)
 
--- the main data of a frame whose own area begins at this place begin before all main data
-abbrev pub points_too_far : ℕ → Row → Bool
-points_too_far place r = nat_lt place r.side.main_data_begin
-
--- they begin before the end of those before
+-- the main data of a frame whose own area begins at this place begin before the end of those before
 abbrev pub overlaps : ℕ → ℕ → Row → Bool
 overlaps place ended r = nat_lt (start_of_data place r) ended
 
@@ -44,12 +41,16 @@ overruns place r = nat_lt (place + own_area r.header) (end_of_data place r)
 abbrev pub room_for_data : Row → ℕ
 room_for_data r = 8 * (r.side.main_data_begin + own_area r.header)
 
--- the faults of a frame's main data, in their order
-abbrev pub data_faults : ℕ → ℕ → Row → List SurveyFault
-data_faults place ended r =
+-- the faults of a frame's main data, in their order, where it has its own
+abbrev pub own_faults : ℕ → ℕ → Row → List SurveyFault
+own_faults place ended r =
     where_true (points_too_far place r) (BackPointer r.offset r.side.main_data_begin place)
     ++ where_true (overlaps place ended r) (Overlap r.offset)
     ++ where_true (overruns place r) (Overrun r.offset (payload_bits r.side) (room_for_data r))
+
+-- a lost frame has none of them
+abbrev pub data_faults : ℕ → ℕ → Row → List SurveyFault
+data_faults place ended r = if lacks_data place ended r then [] else own_faults place ended r
 
 -- The faults of a frame, in their order: the check word that stands in it, the place of its own area among the main data, the end of
 -- the main data before it, and how many frames stand before it are given, and of how many frames the file may be.
@@ -99,7 +100,7 @@ pub record SurveyFields : Type 0 where
 unfoldable pub fields_from : List ℕ → Start → SurveyFields
 fields_from file start =
     let walk = walk_from file start in record {
-      frames = rows_of file walk.frames;
+      frames = marked walk.head (rows_of file walk.frames);
       blocks = walk.blocks;
       head = walk.head;
       junk = start.front_end;

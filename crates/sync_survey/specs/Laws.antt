@@ -1,12 +1,15 @@
 -- What the definitions of the survey say, without their recursions.
-use Rattle.std.specs.Prelude.{◌≡◌, ◌↔◌, ℕ, ◌+◌, ◌≤◌, List, ◌++◌, length, drop, None, Ok}
+use Rattle.std.specs.Prelude.{◌≡◌, ◌↔◌, ◌⊎◌, ℕ, ◌+◌, ◌≤◌, ◌<◌, true, List, ◌++◌, length, drop, slice_get, Option, Some, None, Ok}
 use Rattle.sync_survey.specs.declared.items.Item.{Item}
 use Rattle.sync_survey.specs.declared.items.Item.TheVariants.{Frame}
 use Rattle.sync_survey.specs.declared.places.Start.{Start}
+use Rattle.sync_survey.specs.declared.places.Head.{Head}
+use Rattle.sync_survey.specs.declared.rows.Row.{Row}
 use Rattle.sync_survey.specs.declared.runs.Part.{Part}
 use Rattle.sync_survey.specs.Items.{Stands, item_front, item_at, size_of}
 use Rattle.sync_survey.specs.Runs.{Placed, run, item_of, AreEndToEnd, bytes_of_items}
 use Rattle.sync_survey.specs.Start.{start_of, IsLeastStart}
+use Rattle.sync_survey.specs.MainData.{is_silent, points_too_far, place, is_lost}
 use Rattle.sync_survey.specs.Faults.{SurveyFields, surveyed, stream_of_survey, HoldsStream}
 
 -- at the front of bytes one item stands, and no other
@@ -33,6 +36,16 @@ pub record IsFirstOfStream (file : List ℕ) (start : Start) : Type 0 where
 
 abbrev pub StartsAreLeast : Type 0
 StartsAreLeast = (file : List ℕ) (start : Start) → start_of file ≡ Ok start → IsFirstOfStream file start
+
+-- every frame before frame i is silent or lost
+abbrev pub AreSilentOrLost : Option Head → List Row → ℕ → Type 0
+AreSilentOrLost head rows i = (j : ℕ) (q : Row) → j < i → slice_get rows j ≡ Some q → (is_silent q ≡ true) ⊎ (is_lost head rows j q ≡ true)
+
+-- lost are exactly the frames whose main data begin before the stream and that have only silent and lost frames before them
+abbrev pub LostFramesLead : Type 0
+LostFramesLead =
+    (head : Option Head) (rows : List Row) (i : ℕ) (r : Row)
+    → (is_lost head rows i r ≡ true) ↔ ((points_too_far (place head rows i) r ≡ true) × AreSilentOrLost head rows i)
 
 -- a file without fault holds the stream that its survey tells, and is well-formed whatever number of frames was allowed
 abbrev pub SurveysHoldStreams : Type 0

@@ -10,7 +10,7 @@ use Rattle.sync_survey.specs.declared.items.Item.TheVariants.{Frame, Block}
 use Rattle.sync_survey.specs.declared.places.Piece.{Piece}
 use Rattle.sync_survey.specs.declared.rows.Row.{Row}
 use Rattle.sync_survey.specs.declared.survey_fault.SurveyFault.{SurveyFault}
-use Rattle.sync_survey.specs.MainData.{row_in, own_area, end_behind}
+use Rattle.sync_survey.specs.MainData.{row_in, own_area, lacks_data, end_behind}
 use Rattle.sync_survey.specs.Faults.{faults_at, first_of}
 use Rattle.sync_survey.specs.declared.runs.Part.{Part}
 use Rattle.sync_survey.specs.declared.runs.Step.{Step}
@@ -38,11 +38,11 @@ IsStep part file at (Some step) = Passes part file at step.item step.size
 
 -- ---- what is kept of an item
 
--- a frame has no fault, and is kept behind the others
+-- a frame has no fault, and is kept behind the others, marked where it is lost
 pub record KeepsFrame (said : ℕ) (class : ClassFields) (allowed : ℕ) (r : Row) (old new : Found) : Type 0 where
   pub sound : first_of (faults_at said class allowed old.before.place old.before.ended (length old.rows.items) r) ≡ None
   pub fits : SideFits (class_of r.header) r.side
-  pub rows : new.rows.items ≡ old.rows.items ++ r ∷ []
+  pub rows : new.rows.items ≡ old.rows.items ++ record r { lost = lacks_data old.before.place old.before.ended r } ∷ []
   pub pieces : new.pieces.items ≡ old.pieces.items
   pub place : new.before.place ≡ old.before.place + own_area r.header
   pub ended : new.before.ended ≡ end_behind old.before.place old.before.ended (Some r)

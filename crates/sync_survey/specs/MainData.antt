@@ -1,14 +1,14 @@
 -- Where the main data of the frames stand in the file (main_data_begin, ISO/IEC 11172-3 and 13818-3, 2.4.2.7). The areas of the head and
 -- of all frames, one behind the other, are the main data of the file; a frame's own begin so many bytes before its own area as its
 -- main_data_begin says, counted in areas alone.
-use Rattle.std.specs.Prelude.{ℕ, zero, suc, ◌+◌, ◌-◌, ◌*◌, ◌==◌, if◌then◌else◌, Bool, false, List, [], ◌∷◌, ◌++◌, take, drop, map, sum_by, flat_map, slice_get, Option, Some, None}
+use Rattle.std.specs.Prelude.{ℕ, zero, suc, ◌+◌, ◌-◌, ◌*◌, ◌==◌, ◌&&◌, ◌||◌, nat_lt, if◌then◌else◌, Bool, false, List, [], ◌∷◌, ◌++◌, take, drop, map, sum_by, flat_map, slice_get, Option, Some, None}
 use Rattle.std.specs.List.{enumerate_from}
 use Rattle.bit_fields.specs.Bits.{bits}
 use Rattle.frame_header.specs.Fields.{HeaderFields, SlotFields}
 use Rattle.frame_header.specs.Tables.{class_of, area_of, overhead_of}
 use Rattle.side_info.specs.declared.granule.Granule.{Granule}
 use Rattle.side_info.specs.declared.side.Side.{Side}
-use Rattle.side_info.specs.Side.{payload_bits, payload_bytes, granules_in}
+use Rattle.side_info.specs.Side.{no_side, payload_bits, payload_bytes, granules_in}
 use Rattle.side_info.specs.Frame.{side_in}
 use Rattle.sync_survey.specs.declared.places.PlacedFrame.{PlacedFrame}
 use Rattle.sync_survey.specs.declared.places.Head.{Head}
@@ -16,9 +16,10 @@ use Rattle.sync_survey.specs.declared.rows.Row.{Row}
 
 -- ---- frames with their side information
 
--- a frame with the side information that stands in these bytes, the first of which are the frame's
+-- a frame with the side information that stands in these bytes, the first of which are the frame's; whether it is lost goes by the
+-- frames before it (`marked` below)
 abbrev pub row_in : ℕ → HeaderFields → List ℕ → Row
-row_in offset h bytes = record { offset = offset; header = h; side = side_in h bytes }
+row_in offset h bytes = record { offset = offset; header = h; side = side_in h bytes; lost = false }
 
 -- a frame of the file with the side information that stands in it
 abbrev pub row_of : List ℕ → PlacedFrame → Row
@@ -53,15 +54,40 @@ end_of_data place r = start_of_data place r + payload_bytes r.side
 abbrev pub is_silent : Row → Bool
 is_silent r = payload_bits r.side == 0
 
--- where the main data end behind a frame, by the place of its own area and where those before it end: a silent frame moves no end
+-- they begin before all main data, by the place of its own area
+abbrev pub points_too_far : ℕ → Row → Bool
+points_too_far place r = nat_lt place r.side.main_data_begin
+
+-- so they do, and no main data stand before it, which would end behind 0: what it points to stood before the stream, and was cut off
+abbrev pub lacks_data : ℕ → ℕ → Row → Bool
+lacks_data place ended r = ended == 0 && points_too_far place r
+
+-- where the main data end behind a frame, by the place of its own area and where those before it end: a frame that is silent or lost
+-- moves no end
 abbrev pub end_behind : ℕ → ℕ → Option Row → ℕ
 end_behind place ended None = ended
-end_behind place ended (Some r) = if is_silent r then ended else end_of_data place r
+end_behind place ended (Some r) = if is_silent r || lacks_data place ended r then ended else end_of_data place r
 
--- the place where the main data end that stand before frame i: those of the last frame before it that isn't silent
+-- the place where the main data end that stand before frame i: those of the last frame before it that is neither silent nor lost, or
+-- 0 where there is none
 unfoldable pub end_before : Option Head → List Row → ℕ → ℕ
 end_before head rows zero = 0
 end_before head rows (suc i) = end_behind (place head rows i) (end_before head rows i) (slice_get rows i)
+
+-- ---- lost frames
+
+-- Frame i is lost: its main data begin before the stream, and every frame before it is silent or lost. (That `end_before` is 0 where,
+-- and only where, there is no other frame before it is the law `LostFramesLead`.)
+abbrev pub is_lost : Option Head → List Row → ℕ → Row → Bool
+is_lost head rows i r = lacks_data (place head rows i) (end_before head rows i) r
+
+-- frame i, marked where it is lost
+abbrev pub marked_row : Option Head → List Row → ℕ → Row → Row
+marked_row head rows i r = record r { lost = is_lost head rows i r }
+
+-- all frames
+unfoldable pub marked : Option Head → List Row → List Row
+marked head rows = map (λ (p : ℕ × Row). marked_row head rows p.0 p.1) (enumerate_from 0 rows)
 
 -- ---- the main data themselves
 
@@ -89,7 +115,7 @@ parts_of (n ∷ ns) bs = take n bs ∷ parts_of ns (drop n bs)
 -- ---- the stream
 
 -- What a frame of a stream is, wherever it stands: the header but its bit rate index and padding, the side information but
--- main_data_begin, and the main data of each granule and channel.
+-- main_data_begin, and the main data of each granule and channel. A lost frame has none: its side fields are all 0.
 pub record StreamFrame : Type 0 where
   pub header : HeaderFields
   pub side : Side
@@ -102,12 +128,16 @@ no_slot = record { rate_index = 0; padding = false }
 abbrev pub part_lengths : HeaderFields → Side → List ℕ
 part_lengths h s = map (λ (g : Granule). g.part2_3_length) (granules_in (class_of h) s)
 
+-- the side information of a frame, which is of no account where the frame is lost
+abbrev pub side_of : Row → Side
+side_of r = if r.lost then no_side else r.side
+
 -- frame i
 abbrev pub stream_frame : List ℕ → Option Head → List Row → ℕ → Row → StreamFrame
 stream_frame main head rows i r = record {
   header = record r.header { slot = no_slot };
-  side = record r.side { main_data_begin = 0 };
-  payload = parts_of (part_lengths r.header r.side) (payload_at main (start_of_data (place head rows i) r) r.side);
+  side = record (side_of r) { main_data_begin = 0 };
+  payload = parts_of (part_lengths r.header (side_of r)) (payload_at main (start_of_data (place head rows i) r) (side_of r));
 }
 
 -- all frames

@@ -22,8 +22,8 @@ pub(crate) struct Found {
 }
 
 impl Found {
-    /// Judges the frame at the offset, and keeps it where it has no fault. The first of the bytes are its
-    /// own.
+    /// Judges the frame at the offset, and keeps it where it has no fault, marked where it is lost. The first
+    /// of the bytes are its own.
     fn judge(
         &mut self,
         offset: u64,
@@ -46,8 +46,9 @@ impl Found {
         {
             return Err(fault);
         }
+        let lost = self.before.is_lost(&row);
         self.before = self.before.behind(&row);
-        self.rows.push(row)?;
+        self.rows.push(Row { lost, ..row })?;
         Ok(())
     }
 

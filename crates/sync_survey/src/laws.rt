@@ -1,6 +1,6 @@
 //! Laws of the definitions that the survey's contract cites. Each function does nothing: a proof that needs
 //! its law calls it.
-ghost use Rattle.sync_survey.specs.Laws.{OneItemStands, RunsAreOnly, StartsAreLeast, SurveysHoldStreams};
+ghost use Rattle.sync_survey.specs.Laws.{OneItemStands, RunsAreOnly, StartsAreLeast, LostFramesLead, SurveysHoldStreams};
 
 /// At the front of bytes one item stands, and no other: a header, a block, a zero byte, the end, or nothing
 /// of these.
@@ -18,6 +18,12 @@ pub fn runs_are_only()
 /// does.
 pub fn starts_are_least()
     ensures { StartsAreLeast }
+{}
+
+/// A frame is lost exactly where its main data begin before the stream and every frame before it is silent or
+/// lost.
+pub fn lost_frames_lead()
+    ensures { LostFramesLead }
 {}
 
 /// A file without fault is well-formed, and its stream is that of its survey, whatever number of frames was

@@ -17,7 +17,9 @@ mod surveys;
 
 pub use folders::survey;
 pub use items::Item;
-pub use laws::{one_item_stands, runs_are_only, starts_are_least, surveys_hold_streams};
+pub use laws::{
+    lost_frames_lead, one_item_stands, runs_are_only, starts_are_least, surveys_hold_streams,
+};
 pub use places::{Head, Piece, PlacedFrame, Start};
 pub use rows::Row;
 pub use runs::Part;

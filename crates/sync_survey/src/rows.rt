@@ -4,7 +4,7 @@ ghost use Rattle.frame_header.specs.Tables.{class_of, overhead_of};
 ghost use Rattle.side_info.specs.Side.{SideFits};
 ghost use Rattle.side_info.specs.CheckWord.{check_word_of};
 ghost use Rattle.side_info.specs.Frame.{word_said as word_said_lem};
-ghost use Rattle.sync_survey.specs.MainData.{row_in as row_in_lem, own_area, end_behind};
+ghost use Rattle.sync_survey.specs.MainData.{row_in as row_in_lem, own_area, lacks_data, end_behind};
 ghost use Rattle.sync_survey.specs.Faults.{where_true, has_wrong_word, data_faults, faults_at, first_of};
 
 use crate::items::is_same_class;
@@ -17,10 +17,15 @@ use side_info::{Side, check_word, side_of_frame, word_said};
 pub struct Row {
     pub offset: u64,
     pub header: Header,
+    /// What stands in the file, also where the frame is lost.
     pub side: Side,
+    /// Whether the main data of the frame begin before the stream, and every frame before it is silent or lost
+    /// too: they were cut off with the frames that stood before. Such a frame has no main data.
+    pub lost: bool,
 }
 
-/// The frame at the offset with its side information. The first of the bytes are the frame's.
+/// The frame at the offset with its side information, not marked as lost. The first of the bytes are the
+/// frame's.
 pub(crate) fn row_in(offset: u64, header: Header, bytes: &[u8]) -> Row
     requires { overhead_of (class_of header) header.protected ≤ length bytes.now }
     ensures row { result ≡ row_in_lem offset header bytes.now }
@@ -30,6 +35,7 @@ pub(crate) fn row_in(offset: u64, header: Header, bytes: &[u8]) -> Row
         offset,
         header,
         side: side_of_frame(&header, bytes),
+        lost: false,
     }
 }
 
@@ -38,7 +44,7 @@ pub(crate) fn row_in(offset: u64, header: Header, bytes: &[u8]) -> Row
 pub(crate) struct Before {
     /// How many bytes they are: the place where the own area of the frame begins among them.
     pub(crate) place: u64,
-    /// The place where those of the last frame end that isn't silent.
+    /// The place where those of the last frame end that is neither silent nor lost; 0 where there is none.
     pub(crate) ended: u64,
 }
 
@@ -71,11 +77,21 @@ fn count_fault(row: &Row, count: u64, allowed: u64) -> Option<SurveyFault>
 }
 
 impl Before {
-    /// The first fault of the frame's main data.
+    /// Whether the frame is lost: its main data begin before the stream, and no frame before it has any.
+    pub(crate) fn is_lost(&self, row: &Row) -> bool
+        ensures { result ≡ lacks_data self.now.place self.now.ended row.now }
+    {
+        self.ended == 0 && self.place < u64::from(row.side.main_data_begin)
+    }
+
+    /// The first fault of the frame's main data. A lost frame has none.
     fn data_fault(&self, row: &Row) -> Option<SurveyFault>
         requires { self.now.place ≤ 2 ^ 62 }
         ensures { result ≡ first_of (data_faults self.now.place self.now.ended row.now) }
     {
+        if self.is_lost(row) {
+            return None;
+        }
         let begin = row.side.main_data_begin;
         let area = row.header.area();
         if self.place < u64::from(begin) {
@@ -99,7 +115,7 @@ impl Before {
         ensures ended { result.ended ≡ end_behind self.now.place self.now.ended (Some row.now) }
     {
         let place = self.place + u64::from(row.header.area());
-        if row.side.bits() == 0 {
+        if row.side.bits() == 0 || self.is_lost(row) {
             return Before {
                 place,
                 ended: self.ended,

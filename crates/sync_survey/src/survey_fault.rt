@@ -25,8 +25,8 @@ pub enum SurveyFault {
     Mixed(u64),
     /// The check word of the frame here is wrong: the word that stands there, and the one that is right.
     CheckWord(u64, u16, u16),
-    /// The main data of the frame here begin before all main data of the file: its main_data_begin, and how
-    /// many bytes of main data stand before it.
+    /// The main data of the frame here begin before all main data of the file, and an earlier frame has some,
+    /// so that the frame isn't lost: its main_data_begin, and how many bytes of main data stand before it.
     BackPointer(u64, u32, u64),
     /// The main data of the frame here begin before those of an earlier frame end.
     Overlap(u64),

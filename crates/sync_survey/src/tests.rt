@@ -4,5 +4,6 @@ mod files;
 mod first_faults;
 mod folders;
 mod long;
+mod lost;
 mod plain;
 mod walks;

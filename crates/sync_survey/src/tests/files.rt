@@ -31,7 +31,22 @@ pub const HEAD_FRONT: Stretch = Stretch::Bytes(
 /// What stands behind them in a head of 417 bytes.
 pub const HEAD_REST: Stretch = Stretch::Fill(0, 377);
 
-/// The same at 48,000 Hz: 384 bytes.
+/// MPEG-2, 24,000 Hz, 8 kbit/s, one channel: 24 bytes, with an area of 11. Silent.
+pub const SHORT: Stretch = Stretch::Bytes(&[
+    0xff, 0xf3, 0x14, 0xc0, 0, 0, 0, 0, 0, 0, 0, 0, 0, 0, 0, 0, 0, 0, 0, 0, 0, 0, 0, 0,
+]);
+
+/// The same with 8 bits.
+pub const SHORT_LOUD: Stretch = Stretch::Bytes(&[
+    0xff, 0xf3, 0x14, 0xc0, 0, 0, 0x40, 0, 0, 0, 0, 0, 0, 0, 0, 0, 0, 0, 0, 0, 0, 0, 0, 0,
+]);
+
+/// The same with main_data_begin 33 and 352 bits, which is four areas.
+pub const SHORT_OF_FOUR: Stretch = Stretch::Bytes(&[
+    0xff, 0xf3, 0x14, 0xc0, 0x21, 0x0b, 0, 0, 0, 0, 0, 0, 0, 0, 0, 0, 0, 0, 0, 0, 0, 0, 0, 0,
+]);
+
+/// The header of a frame of 417 bytes' kind at 48,000 Hz, where it has 384.
 pub const OTHER_CLASS: &[u8] = &[0xff, 0xfb, 0x94, 0x00];
 
 /// ID3v2 with a footer, and 20 bytes between: 40 bytes.

@@ -1,6 +1,8 @@
 //! The first faults of small files: worked out by hand, by the plain reading, and by the survey.
 
-use crate::tests::files::{HEAD_FRONT, HEAD_REST, OTHER_CLASS, Stretch, Z, file_of};
+use crate::tests::files::{
+    HEAD_FRONT, HEAD_REST, OTHER_CLASS, SHORT, SHORT_LOUD, SHORT_OF_FOUR, Stretch, Z, file_of,
+};
 use crate::tests::plain::first_fault;
 use crate::tests::walks;
 use crate::{SurveyFault, survey};
@@ -50,14 +52,9 @@ const FRONT_OF_3049: Stretch = Stretch::Bytes(&[
     0x00, 0x00, 0x00, 0x00,
 ]);
 
-/// MPEG-2, 24,000 Hz, 8 kbit/s, one channel: 24 bytes, with an area of 11. Silent.
-const SHORT: Stretch = Stretch::Bytes(&[
-    0xff, 0xf3, 0x14, 0xc0, 0, 0, 0, 0, 0, 0, 0, 0, 0, 0, 0, 0, 0, 0, 0, 0, 0, 0, 0, 0,
-]);
-
-/// The same with main_data_begin 33 and 352 bits, which is four areas.
-const SHORT_OF_FOUR: Stretch = Stretch::Bytes(&[
-    0xff, 0xf3, 0x14, 0xc0, 0x21, 0x0b, 0, 0, 0, 0, 0, 0, 0, 0, 0, 0, 0, 0, 0, 0, 0, 0, 0, 0,
+/// As `SHORT` with main_data_begin 12 and 352 bits, more than 23 bytes.
+const SHORT_TOO_LONG: Stretch = Stretch::Bytes(&[
+    0xff, 0xf3, 0x14, 0xc0, 0x0c, 0x0b, 0, 0, 0, 0, 0, 0, 0, 0, 0, 0, 0, 0, 0, 0, 0, 0, 0, 0,
 ]);
 
 /// As `SHORT` with a check word, so an area of 9 bytes, and with 8 bits of gain 100. The right words here were
@@ -148,10 +145,10 @@ static CASES: [Case; 49] = [
         answer: None,
     },
     Case {
-        name: "main_data_begin in the first frame, which is silent",
-        file: &[Stretch::Frame(10, 0)],
-        allowed: MANY,
-        answer: Some(SurveyFault::BackPointer(0, 10, 0)),
+        name: "a lost frame counts",
+        file: &[Stretch::Frame(10, 0), Z],
+        allowed: 1,
+        answer: Some(SurveyFault::TooManyFrames(417)),
     },
     Case {
         name: "main data that begin with the first area",
@@ -160,8 +157,8 @@ static CASES: [Case; 49] = [
         answer: None,
     },
     Case {
-        name: "main data that begin one byte earlier",
-        file: &[Z, Stretch::Frame(382, 8)],
+        name: "a silent frame that points too far behind main data",
+        file: &[Stretch::Frame(0, 8), Stretch::Frame(382, 0)],
         allowed: MANY,
         answer: Some(SurveyFault::BackPointer(417, 382, 381)),
     },
@@ -178,10 +175,10 @@ static CASES: [Case; 49] = [
         answer: None,
     },
     Case {
-        name: "and no more of it",
-        file: &[HEAD_FRONT, HEAD_REST, Stretch::Frame(382, 8)],
+        name: "the class of a lost frame",
+        file: &[SHORT, Stretch::Frame(382, 8)],
         allowed: MANY,
-        answer: Some(SurveyFault::BackPointer(417, 382, 381)),
+        answer: Some(SurveyFault::Mixed(24)),
     },
     Case {
         name: "the area of a protected head, whose check word may be wrong",
@@ -194,14 +191,10 @@ static CASES: [Case; 49] = [
         answer: None,
     },
     Case {
-        name: "and no more of that",
-        file: &[
-            PROTECTED_HEAD_FRONT,
-            PROTECTED_HEAD_REST,
-            Stretch::Frame(380, 8),
-        ],
+        name: "behind a lost frame main data are judged",
+        file: &[SHORT_OF_FOUR, SHORT_LOUD, SHORT_OF_FOUR],
         allowed: MANY,
-        answer: Some(SurveyFault::BackPointer(417, 380, 379)),
+        answer: Some(SurveyFault::BackPointer(48, 33, 22)),
     },
     Case {
         name: "a head alone",
@@ -277,7 +270,7 @@ static CASES: [Case; 49] = [
     },
     Case {
         name: "the same with an area less",
-        file: &[SHORT, SHORT, SHORT_OF_FOUR],
+        file: &[SHORT_LOUD, SHORT, SHORT_OF_FOUR],
         allowed: MANY,
         answer: Some(SurveyFault::BackPointer(48, 33, 22)),
     },
@@ -403,7 +396,7 @@ static CASES: [Case; 49] = [
         answer: Some(SurveyFault::Mixed(417)),
     },
     Case {
-        name: "CheckWord before BackPointer",
+        name: "the check word of a lost frame",
         file: &[WRONG_AND_BACK],
         allowed: MANY,
         answer: Some(SurveyFault::CheckWord(0, 0xe952, 0x6f31)),
@@ -416,9 +409,9 @@ static CASES: [Case; 49] = [
     },
     Case {
         name: "BackPointer before Overrun",
-        file: &[Stretch::Frame(1, 4000)],
+        file: &[SHORT_LOUD, SHORT_TOO_LONG],
         allowed: MANY,
-        answer: Some(SurveyFault::BackPointer(0, 1, 0)),
+        answer: Some(SurveyFault::BackPointer(24, 12, 11)),
     },
     Case {
         name: "Overlap before Overrun",

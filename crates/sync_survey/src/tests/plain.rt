@@ -419,7 +419,27 @@ impl<'a> Numbered<'a> {
     }
 }
 
-/// The place where the main data of the last frame before this one end that has any.
+/// Whether the frame is lost: its main data begin before all of the file, and each frame before it has none or
+/// such.
+fn is_lost(
+    alloc: Global,
+    file: &[u8],
+    all: &[Frame],
+    first: usize,
+    nth: usize,
+) -> Result<bool, AllocError> {
+    for earlier in first..=nth {
+        if let Some(numbered) = Numbered::new(alloc, file, all, earlier)?
+            && (numbered.bits > 0 || earlier == nth)
+            && numbered.start() >= 0
+        {
+            return Ok(false);
+        }
+    }
+    Ok(true)
+}
+
+/// The place where the main data of the last frame before this one end that has any and isn't lost.
 fn end_before(
     alloc: Global,
     file: &[u8],
@@ -430,6 +450,7 @@ fn end_before(
     for earlier in (first..nth).rev() {
         if let Some(numbered) = Numbered::new(alloc, file, all, earlier)?
             && numbered.bits > 0
+            && !is_lost(alloc, file, all, first, earlier)?
         {
             return Ok(numbered.end());
         }
@@ -437,18 +458,13 @@ fn end_before(
     Ok(0)
 }
 
-/// All faults of the frame.
-fn push_faults(
+/// All faults of the main data of the frame.
+fn push_data_faults(
     numbered: &Numbered<'_>,
-    class: &Class,
     ended: i128,
-    is_too_many: bool,
     faults: &mut Vec<SurveyFault>,
 ) -> Result<(), AllocError> {
     let at = numbered.frame.at as u64;
-    if is_too_many {
-        faults.push(SurveyFault::TooManyFrames(at))?;
-    }
     if numbered.end() > i128::from(numbered.up_to) {
         faults.push(SurveyFault::Overrun(at, numbered.bits, numbered.room()))?;
     }
@@ -457,6 +473,20 @@ fn push_faults(
     }
     if numbered.start() < 0 {
         faults.push(SurveyFault::BackPointer(at, numbered.begin, numbered.before))?;
+    }
+    Ok(())
+}
+
+/// All other faults of the frame.
+fn push_faults(
+    numbered: &Numbered<'_>,
+    class: &Class,
+    is_too_many: bool,
+    faults: &mut Vec<SurveyFault>,
+) -> Result<(), AllocError> {
+    let at = numbered.frame.at as u64;
+    if is_too_many {
+        faults.push(SurveyFault::TooManyFrames(at))?;
     }
     let said = word_said(numbered.bytes);
     let right = word_right(&numbered.frame, numbered.bytes);
@@ -486,9 +516,12 @@ fn push_all(
     }
     for nth in first..all.len() {
         if let Some(numbered) = Numbered::new(alloc, file, all, nth)? {
-            let ended = end_before(alloc, file, all, first, nth)?;
+            if !is_lost(alloc, file, all, first, nth)? {
+                let ended = end_before(alloc, file, all, first, nth)?;
+                push_data_faults(&numbered, ended, faults)?;
+            }
             let is_too_many = nth == first.saturating_add(allowed);
-            push_faults(&numbered, &first_frame.class, ended, is_too_many, faults)?;
+            push_faults(&numbered, &first_frame.class, is_too_many, faults)?;
         }
     }
     Ok(())

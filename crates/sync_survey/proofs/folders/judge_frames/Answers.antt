@@ -1,22 +1,25 @@
 -- One item more is judged and kept, until the file ends.
-use Rattle.std.proofs.Common.{◌≡◌, ◌≤◌, List, [], ◌∷◌, length, Ok, Err, refl, sym, ◌∙◌, ap, subst, arith}
+use Rattle.std.proofs.Common.{◌≡◌, ◌≤◌, List, [], ◌∷◌, length, Ok, Err, Option, refl, sym, ◌∙◌, ap, ap₂, subst, arith}
 use Rattle.std.specs.Prelude.{vec_len}
 use Rattle.std.proofs.lemmas.Bool.{true≢false, eq-eqb, eqb-true}
 use Rattle.std.proofs.lemmas.Result.{err_from_is_err_and}
 use Rattle.frame_header.specs.Tables.{class_of, overhead_of}
 use Rattle.outside.specs.Files.{Holds}
+use Rattle.sync_survey.specs.declared.places.Head.{Head}
 use Rattle.sync_survey.specs.declared.rows.Row.{Row}
 use Rattle.sync_survey.specs.declared.survey_fault.SurveyFault.TheVariants.{NoFrame}
 use Rattle.sync_survey.specs.Items.{item_front}
 use Rattle.sync_survey.specs.Walk.{fault_at}
+use Rattle.sync_survey.specs.MainData.{marked}
 use Rattle.sync_survey.specs.Faults.{class_from}
 use Rattle.sync_survey.specs.Looks.{Shows, Keeps, IsFrameFault}
 use Rattle.sync_survey.specs.Survey.{AreLaid}
 use Rattle.sync_survey.proofs.FrontLaws.{pieces_later}
+use Rattle.sync_survey.proofs.FaultsLaws.{marked-length, marked-none}
 use Rattle.sync_survey.proofs.SurveyLaws.{told_by}
 use Rattle.sync_survey.proofs.LooksLaws.{item_at-shown}
 use Rattle.sync_survey.proofs.FoldersLaws.{refusal_later, bytes_refusal, survey_of-short}
-use Rattle.sync_survey.proofs.Progress.{IsSurveyedTo, surveyed_none, stopped_fault, no_frame, whole}
+use Rattle.sync_survey.proofs.Progress.{IsSurveyedTo, IsMarkedTo, surveyed_none, stopped_fault, no_frame, whole}
 use Rattle.sync_survey.proofs.StepLaws.{shown_room, few_by, kept, refused, laid_more, keep_refusal}
 use Rattle.sync_survey.proofs.folders.judge_frames.Goals as goal
 
@@ -24,13 +27,19 @@ nothing_in : (rows : List Row) → length rows ≡ 0 → rows ≡ []
 nothing_in [] none = refl
 nothing_in (r ∷ rows) none = absurd (omega (arith, none))
 
+frames_count : (head : Option Head) (rows frames : List Row) → rows ≡ marked head frames → length rows ≡ length frames
+frames_count head rows frames marks = ap length marks ∙ marked-length head frames
+
 pub loop-at-init : goal.loop-at-init
 loop-at-init g c = record {
-  surveyed = λ bytes holds.
-      subst (λ rows. IsSurveyedTo bytes c.args.start c.args.head c.args.allowed rows c.args.pieces.items c.head_area.result 0 c.numbered_from-at.result) (sym c.new.ensures.items)
-      (subst (IsSurveyedTo bytes c.args.start c.args.head c.args.allowed [] c.args.pieces.items c.head_area.result 0) (sym c.numbered_from-at.ensures.at)
-      (surveyed_none bytes c.args.start c.args.head c.args.allowed (record { start_is = c.requires.start bytes holds; head_is = c.requires.head bytes holds }) c.args.pieces.items c.head_area.result
-      (c.requires.kept bytes holds) c.head_area.ensures.area));
+  surveyed = λ bytes holds. record {
+    frames = [];
+    marks = c.new.ensures.items ∙ sym (marked-none c.args.head);
+    surveyed =
+        subst (IsSurveyedTo bytes c.args.start c.args.head c.args.allowed [] c.args.pieces.items c.head_area.result 0) (sym c.numbered_from-at.ensures.at)
+        (surveyed_none bytes c.args.start c.args.head c.args.allowed (record { start_is = c.requires.start bytes holds; head_is = c.requires.head bytes holds }) c.args.pieces.items c.head_area.result
+        (c.requires.kept bytes holds) c.head_area.ensures.area);
+  };
   laid = record {
     rows = subst (λ rows. AreLaid c.args.start.first.offset rows c.numbered_from-at.result) (sym c.new.ensures.items) c.numbered_from-at.ensures.behind;
     pieces = pieces_later 0 c.args.pieces.items c.args.start.front_end c.numbered_from-at.result c.requires.laid (omega (arith, c.requires.junk, c.numbered_from-at.ensures.behind));
@@ -53,9 +62,10 @@ returns-in_default-clause-refused g c =
     bytes_refusal c.args.name.now (g.D.Folder.files c.args.folder.now) c.args.allowed (g.D.Folder.counts c.args.folder.now) (g.D.Folder.counts c.look.new.folder) c.args.size c.stop_fault.result c.requires.known
     (c.in_ok-left.ensures.done ∙ c.loop-at.invariant.counts) c.stop_fault.ensures.refused (λ bytes holds.
     let now = c.loop-at.found in
+    let so_far = c.loop-at.invariant.surveyed bytes holds in
     let shows = c.in_ok-left.ensures.shows bytes (subst (λ f. Holds f c.args.name.now bytes) (sym c.loop-at.invariant.files) holds) in
     let seen = subst (λ front. Shows bytes c.loop-at.at front c.in_ok-left.left) (sym c.bytes.ensures) shows in
-    stopped_fault bytes c.args.start c.args.head c.args.allowed now.rows.items now.pieces.items now.before.place now.before.ended c.loop-at.at (c.loop-at.invariant.surveyed bytes holds)
+    stopped_fault bytes c.args.start c.args.head c.args.allowed so_far.frames now.pieces.items now.before.place now.before.ended c.loop-at.at so_far.surveyed
     (record { start_is = c.requires.start bytes holds; head_is = c.requires.head bytes holds }) c.stop_fault.result (c.in_default.ensures.step bytes c.loop-at.at seen)
     (ap (fault_at c.loop-at.at) (sym (item_at-shown bytes c.loop-at.at c.look.new.feed.given c.in_ok-left.left shows) ∙ ap item_front (sym c.bytes-in_default.ensures)) ∙ c.stop_fault.ensures.fault))
 
@@ -109,15 +119,18 @@ returns-then-is_empty-clause-refused g c =
     (refl, tt) (λ bytes holds.
     let now = c.loop-at.found in
     let is_size = c.requires.known.long bytes holds in
-    no_frame bytes c.args.start c.args.head c.args.allowed now.rows.items now.pieces.items now.before.place now.before.ended c.loop-at.at (c.loop-at.invariant.surveyed bytes holds)
-    (record { start_is = c.requires.start bytes holds; head_is = c.requires.head bytes holds }) (omega (arith, c.loop-at-test.false, is_size)) (nothing_in now.rows.items (omega (arith, eqb-true (vec_len now.rows) 0 (sym c.is_empty.ensures ∙ c.if-is_empty.true), now.rows.ok.0)))
+    let so_far = c.loop-at.invariant.surveyed bytes holds in
+    no_frame bytes c.args.start c.args.head c.args.allowed so_far.frames now.pieces.items now.before.place now.before.ended c.loop-at.at so_far.surveyed
+    (record { start_is = c.requires.start bytes holds; head_is = c.requires.head bytes holds }) (omega (arith, c.loop-at-test.false, is_size))
+    (nothing_in so_far.frames (omega (arith, eqb-true (vec_len now.rows) 0 (sym c.is_empty.ensures ∙ c.if-is_empty.true), now.rows.ok.0, frames_count c.args.head now.rows.items so_far.frames so_far.marks)))
     ∙ ap (λ n. Err (NoFrame n)) (sym is_size))
 
 pub returns-clause-exact : goal.returns-clause-exact
 returns-clause-exact g c = λ bytes holds.
     let now = c.loop-at.found in
+    let so_far = c.loop-at.invariant.surveyed bytes holds in
     survey_of-short bytes c.args.allowed (omega (arith, c.requires.known.few, c.requires.known.long bytes holds))
-    ∙ whole bytes c.args.start c.args.head c.args.allowed now.rows.items now.pieces.items now.before.place now.before.ended c.loop-at.at (c.loop-at.invariant.surveyed bytes holds)
+    ∙ whole bytes c.args.start c.args.head c.args.allowed so_far.frames now.pieces.items now.before.place now.before.ended c.loop-at.at so_far.surveyed
     (record { start_is = c.requires.start bytes holds; head_is = c.requires.head bytes holds }) (omega (arith, c.loop-at-test.false, c.requires.known.long bytes holds))
-    (λ none. true≢false (sym (eq-eqb (vec_len now.rows) 0 (omega (arith, ap length none, now.rows.ok.0))) ∙ sym c.is_empty.ensures ∙ c.if-is_empty.false))
-    ∙ ap (λ n. Ok (record (told_by bytes c.args.start c.args.head now.rows.items now.pieces.items) { length = n })) (sym (c.requires.known.long bytes holds))
+    (λ none. true≢false (sym (eq-eqb (vec_len now.rows) 0 (omega (arith, ap length none, now.rows.ok.0, frames_count c.args.head now.rows.items so_far.frames so_far.marks))) ∙ sym c.is_empty.ensures ∙ c.if-is_empty.false))
+    ∙ ap₂ (λ (l : List Row) n. Ok (record (told_by bytes c.args.start c.args.head so_far.frames now.pieces.items) { frames = l; length = n })) (sym so_far.marks) (sym (c.requires.known.long bytes holds))

@@ -2,13 +2,13 @@
 use Rattle.std.proofs.Common.{◌≡◌, ℕ, ◌-◌, ◌≤◌, List}
 use Rattle.outside.specs.Files.{Holds}
 use Rattle.outside.specs.Feed.{IsFedFrom}
-use Rattle.sync_survey.proofs.Progress.{IsSurveyedTo}
+use Rattle.sync_survey.proofs.Progress.{IsMarkedTo}
 use Rattle.sync_survey.proofs.StepLaws.{IsLaidTo}
 use Rattle.sync_survey.proofs.folders.judge_frames.Given as goal
 
 abbrev pub invariant-loop-at : goal.invariant-loop-at
 invariant-loop-at g l = record {
-  surveyed : (bytes : List ℕ) → Holds (g.D.Folder.files l.initial.folder) l.name bytes → IsSurveyedTo bytes l.start l.head l.allowed l.found.rows.items l.found.pieces.items l.found.before.place l.found.before.ended l.at;
+  surveyed : (bytes : List ℕ) → Holds (g.D.Folder.files l.initial.folder) l.name bytes → IsMarkedTo bytes l.start l.head l.allowed l.found.rows.items l.found.pieces.items l.found.before.place l.found.before.ended l.at;
   laid : IsLaidTo l.start.first.offset l.found l.at;
   within : l.at ≤ l.size;
   fed : IsFedFrom l.feed (g.D.Folder.files l.folder) l.name;

@@ -1,0 +1,6 @@
+-- The frames before a lost one.
+use Rattle.sync_survey.proofs.LostFrames.{lost-leads, leads-lost}
+use Rattle.sync_survey.proofs.laws.lost_frames_lead.Goals as goal
+
+pub returns : goal.returns
+returns c = λ head rows i r. (lost-leads head rows i r, leads-lost head rows i r)
