@@ -1,11 +1,11 @@
 -- Lost frames have only silent and lost frames before them, since the main data of any other frame end behind 0.
-use Rattle.std.proofs.Common.{◌≡◌, ℕ, zero, suc, ◌+◌, ◌-◌, ◌<◌, ◌≤◌, ◌⊎◌, ◌==◌, Bool, true, false, cond, ◌&&◌, ◌||◌, List, Option, Some, None, inl, inr, refl, sym, ◌∙◌, ap, subst, arith, ⊎_elim}
+use Rattle.std.proofs.Common.{◌≡◌, ℕ, zero, suc, ◌<◌, ◌≤◌, ◌⊎◌, ◌==◌, Bool, true, false, cond, ◌&&◌, ◌||◌, List, Option, Some, None, inl, inr, refl, sym, ◌∙◌, ap, subst, arith, ⊎_elim}
 use Rattle.std.specs.Prelude.{slice_get}
 use Rattle.std.proofs.lemmas.Bool.{eq-eqb, eqb-true}
 use Rattle.side_info.specs.Side.{payload_bits, payload_bytes}
 use Rattle.sync_survey.specs.declared.places.Head.{Head}
 use Rattle.sync_survey.specs.declared.rows.Row.{Row}
-use Rattle.sync_survey.specs.MainData.{is_silent, start_of_data, end_of_data, points_too_far, lacks_data, end_behind, place, end_before, is_lost}
+use Rattle.sync_survey.specs.MainData.{is_silent, end_of_data, points_too_far, lacks_data, end_behind, place, end_before, is_lost}
 use Rattle.sync_survey.specs.Laws.{AreSilentOrLost}
 
 -- ---- behind one frame

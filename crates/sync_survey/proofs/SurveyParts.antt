@@ -20,7 +20,7 @@ use Rattle.sync_survey.specs.Runs.{frames_of}
 use Rattle.sync_survey.specs.Start.{start_of}
 use Rattle.sync_survey.specs.Walk.{stream_run, head_of, numbered, all_blocks, fault_at, end_fault, walk_from}
 use Rattle.sync_survey.specs.MainData.{row_of, rows_of, lacks_data, place, end_before}
-use Rattle.sync_survey.specs.Faults.{where_true, has_wrong_word, points_too_far, overlaps, overruns, own_faults, data_faults, faults_at, frame_faults, all_faults, first_of, class_from, faults_from, SurveyFields, fields_from, surveyed, surveyed_freely, stream_of_survey, stream_by, stream_of, HoldsStream}
+use Rattle.sync_survey.specs.Faults.{where_true, has_wrong_word, points_too_far, overlaps, overruns, own_faults, faults_at, frame_faults, all_faults, first_of, class_from, faults_from, SurveyFields, fields_from, surveyed, surveyed_freely, stream_of_survey, stream_by, stream_of, HoldsStream}
 use Rattle.sync_survey.proofs.FaultsLaws.{none-of}
 use Rattle.sync_survey.proofs.SurveyLaws.{told_by, survey-whole, surveyed-is}
 use Rattle.sync_survey.proofs.RunsLaws.{run-ends}

@@ -1,10 +1,10 @@
 //! Files whose first frames point before the stream, and which of their frames are lost. Worked out by hand: a
 //! frame of 417 bytes adds 381 bytes to the main data, one of `SHORT` 11.
 
-use crate::survey;
 use crate::tests::files::{
     HEAD_FRONT, HEAD_REST, SHORT, SHORT_LOUD, SHORT_OF_FOUR, Stretch, Z, file_of,
 };
+use crate::{Survey, survey};
 use outside::MemFolder;
 use std::alloc::AllocGlobal;
 use std::process::Abort;
@@ -80,7 +80,15 @@ static CASES: [Case; 11] = [
     },
 ];
 
-/// Asserts that these frames of the file are lost.
+/// Asserts that these frames are lost.
+fn expect_marks<R: Abort>(rt: &R, survey: &Survey, case: &Case) {
+    assert_eq!(rt; survey.frames().len(), case.lost.len(), "{}", case.name);
+    for (row, lost) in survey.frames().iter().zip(case.lost) {
+        assert_eq!(rt; row.lost, *lost, "{}", case.name);
+    }
+}
+
+/// Surveys the file.
 fn expect<R: Abort + AllocGlobal>(rt: &R, case: &Case) -> Result<(), Fail> {
     let file = file_of(rt.alloc(), case.file)?;
     let mut folder = MemFolder::new(rt.alloc());
@@ -88,10 +96,7 @@ fn expect<R: Abort + AllocGlobal>(rt: &R, case: &Case) -> Result<(), Fail> {
     let Ok(survey) = survey(rt.alloc(), &mut folder, "a", 100) else {
         panic!(rt; "no survey");
     };
-    assert_eq!(rt; survey.frames().len(), case.lost.len(), "{}", case.name);
-    for (row, lost) in survey.frames().iter().zip(case.lost) {
-        assert_eq!(rt; row.lost, *lost, "{}, at {}", case.name, row.offset);
-    }
+    expect_marks(rt, &survey, case);
     Ok(())
 }
 

@@ -19,7 +19,7 @@ use Rattle.sync_survey.proofs.FaultsLaws.{marked-length, marked-none}
 use Rattle.sync_survey.proofs.SurveyLaws.{told_by}
 use Rattle.sync_survey.proofs.LooksLaws.{item_at-shown}
 use Rattle.sync_survey.proofs.FoldersLaws.{refusal_later, bytes_refusal, survey_of-short}
-use Rattle.sync_survey.proofs.Progress.{IsSurveyedTo, IsMarkedTo, surveyed_none, stopped_fault, no_frame, whole}
+use Rattle.sync_survey.proofs.Progress.{IsSurveyedTo, surveyed_none, stopped_fault, no_frame, whole}
 use Rattle.sync_survey.proofs.StepLaws.{shown_room, few_by, kept, refused, laid_more, keep_refusal}
 use Rattle.sync_survey.proofs.folders.judge_frames.Goals as goal
 
