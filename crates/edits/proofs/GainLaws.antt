@@ -16,9 +16,8 @@ use Rattle.edits.specs.declared.fault.EditFault.TheVariants.{EqualNames, Input, 
 use Rattle.edits.specs.declared.shift.Shift.{Shift}
 use Rattle.edits.specs.Kinds.{of_input, HasRightNumbers}
 use Rattle.edits.specs.declared.gains.Stuck.{Stuck}
-use Rattle.edits.specs.Gains.{stuck_in}
 use Rattle.sync_survey.specs.declared.rows.Row.{Row}
-use Rattle.edits.specs.Edited.{stuck_fault, most_frames, unless, edited, range_fault, IsRangeFault, gained_by, gained, gained_where, gain_result}
+use Rattle.edits.specs.Edited.{stuck_fault, stuck_of, most_frames, unless, edited, range_fault, IsRangeFault, gained_by, gained, gained_where, gain_result}
 use Rattle.edits.specs.Streams.{IsStreamMoved, moved_stream_frame}
 use Rattle.edits.specs.Command.{Made, clash_of, Gives, written, written_to, MakesStreams, HoldsStreams}
 use Rattle.edits.specs.Left.{Why, Refused, Missing, Unread, Shorter, Unwritten, Unsent, NoMemory, why_of, Seen, seen, IsDone, IsWrittenTo, TakesMemory, is_before_memory, LeavesBy, Leaves, HasNumbers, IsOfInput, IsOfPass}
@@ -147,7 +146,7 @@ stuck_behind row None later fault behind e = behind e
 range_behind : (shift : Shift) (rows : List Row) (fault : EditFault) → range_fault shift rows ≡ Some fault → is_before_memory fault ≡ false
 unfolding range_fault
 range_behind shift [] fault is = absurd cc
-range_behind shift (row ∷ rows) fault is = stuck_behind row (stuck_in shift row.side) (range_fault shift rows) fault (range_behind shift rows fault) is
+range_behind shift (row ∷ rows) fault is = stuck_behind row (stuck_of shift row) (range_fault shift rows) fault (range_behind shift rows fault) is
 
 survey_cases : (shift : Shift) (output bytes : List ℕ) (r : Result SurveyFields SurveyFault) → ((fault : SurveyFault) → r ≡ Err fault → IsOfBytes fault) → TakesMemory (made_of output (gained_by shift bytes r))
 survey_cases shift output bytes (Err fault) of = of_bytes_behind fault (of fault refl)

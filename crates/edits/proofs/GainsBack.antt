@@ -19,7 +19,7 @@ use Rattle.edits.specs.declared.shift.Shift.{Shift}
 use Rattle.edits.specs.declared.shift.Channels.{Channels}
 use Rattle.edits.specs.declared.shift.Channels.TheVariants.{Both, Left, Right}
 use Rattle.edits.specs.Undoing.{opposite}
-use Rattle.edits.specs.Gains.{left_steps_of, right_steps_of, left_steps, right_steps, is_silent_granule, is_outside, moved_gain, moved, moved_side, stuck_at, stuck_in}
+use Rattle.edits.specs.Gains.{left_steps_of, right_steps_of, left_steps, right_steps, is_silent_granule, is_outside, moved_gain, moved, moved_side, moved_unless, stuck_at, stuck_in}
 
 left-opposite : (channels : Channels) (steps : ℤ) → left_steps_of channels (neg_ℤ steps) ≡ neg_ℤ (left_steps_of channels steps)
 left-opposite Both steps = refl
@@ -213,6 +213,19 @@ begin-moved shift s = refl
 pub IsShaped-moved : (shift : Shift) (s : Side) → IsShaped s → IsShaped (moved_side shift s)
 unfolding moved_side
 IsShaped-moved shift s shaped = record { scfsi = shaped.scfsi; granules = refl; first = refl; second = refl }
+
+-- the same where a lost frame stays
+pub payload-unless : (lost : Bool) (shift : Shift) (s : Side) → IsShaped s → payload_bytes (moved_unless lost shift s) ≡ payload_bytes s
+payload-unless true shift s shaped = refl
+payload-unless false shift s shaped = payload-moved shift s shaped
+
+pub payload_bits-unless : (lost : Bool) (shift : Shift) (s : Side) → IsShaped s → payload_bits (moved_unless lost shift s) ≡ payload_bits s
+payload_bits-unless true shift s shaped = refl
+payload_bits-unless false shift s shaped = payload_bits-moved shift s shaped
+
+pub begin-unless : (lost : Bool) (shift : Shift) (s : Side) → (moved_unless lost shift s).main_data_begin ≡ s.main_data_begin
+begin-unless true shift s = refl
+begin-unless false shift s = begin-moved shift s
 
 -- the lengths of the main data of each granule and channel that a class has
 abbrev lengths_of : Version → Bool → Side → List ℕ

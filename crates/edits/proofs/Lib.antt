@@ -9,6 +9,7 @@ pub mod GainsLaws
 pub mod MovedFrame
 pub mod EditedItems
 pub mod EditedRuns
+pub mod LostOffsets
 pub mod MovedSurvey
 pub mod MovedStream
 pub mod GainedStream

@@ -19,8 +19,8 @@ use Rattle.sync_survey.specs.Items.{header_front}
 use Rattle.sync_survey.proofs.ItemsLaws.{header_front-in_range}
 use Rattle.sync_survey.proofs.ItemBytes.{IsItem, header_front-four, frame_item}
 use Rattle.edits.specs.declared.shift.Shift.{Shift}
-use Rattle.edits.specs.Gains.{left_steps, right_steps, is_silent_granule, moved_gain, moved, moved_side}
-use Rattle.edits.specs.Edited.{moved_frame}
+use Rattle.edits.specs.Gains.{left_steps, right_steps, is_silent_granule, moved_gain, moved, moved_side, moved_unless}
+use Rattle.edits.specs.Edited.{moved_frame, moved_unless_lost}
 use Rattle.edits.proofs.GainsLaws.{SideFits-moved_side}
 use Rattle.edits.specs.Undoing.{opposite}
 use Rattle.edits.proofs.GainsBack.{IsSideBack, IsShaped-moved}
@@ -129,6 +129,20 @@ moved_whole shift h frame whole =
       side = side;
       right = λ protected. word_said-frame_with h s frame protected room ∙ ap (check_word_of h) (sym side);
     }
+
+-- the same of a frame that stays where it is lost: its check word is right where it was
+pub record IsMovedUnless (lost : Bool) (shift : Shift) (h : HeaderFields) (frame new : List ℕ) : Type 0 where
+  pub whole : IsWhole h new
+  pub same_end : drop (overhead_of (class_of h) h.protected - 2) new ≡ drop (overhead_of (class_of h) h.protected - 2) frame
+  pub same_area : drop (overhead_of (class_of h) h.protected) new ≡ drop (overhead_of (class_of h) h.protected) frame
+  pub side : side_in h new ≡ moved_unless lost shift (side_in h frame)
+  pub right : (lost ≡ true → IsRight h frame) → IsRight h new
+
+pub moved_unless-whole : (lost : Bool) (shift : Shift) (h : HeaderFields) (frame : List ℕ) → IsWhole h frame → IsMovedUnless lost shift h frame (moved_unless_lost lost shift h frame)
+moved_unless-whole true shift h frame whole = record { whole = whole; same_end = refl; same_area = refl; side = refl; right = λ was. was refl }
+moved_unless-whole false shift h frame whole =
+    let to = moved_whole shift h frame whole in
+    record { whole = to.whole; same_end = to.same_end; same_area = to.same_area; side = to.side; right = λ was. to.right }
 
 -- it is an item of its own
 pub whole_item : (h : HeaderFields) (frame : List ℕ) → IsWhole h frame → IsItem (Frame h) frame

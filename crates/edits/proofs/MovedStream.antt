@@ -1,46 +1,49 @@
 -- The stream of the edited file is that of the file, with the gains of each frame moved.
-use Rattle.std.proofs.Common.{◌≡◌, ℕ, ◌+◌, ◌-◌, ◌*◌, ◌≤◌, List, [], ◌∷◌, ◌++◌, take, drop, map, Option, option_map, Ok, refl, sym, ◌∙◌, ap, ap₂, subst, arith}
+use Rattle.std.proofs.Common.{◌≡◌, ℕ, ◌+◌, ◌-◌, ◌*◌, ◌≤◌, Bool, true, false, cond, List, [], ◌∷◌, ◌++◌, take, drop, map, Option, option_map, Ok, refl, sym, ◌∙◌, ap, ap₂, subst, arith}
 use Rattle.std.specs.Prelude.{flat_map}
 use Rattle.std.specs.List.{enumerate_from}
 use Rattle.bit_fields.specs.Bits.{bits, AreBytes}
 use Rattle.frame_header.specs.Tables.{class_of, length_of, overhead_of}
 use Rattle.side_info.specs.declared.side.Side.{Side}
+use Rattle.side_info.specs.Side.{no_side, payload_bits}
 use Rattle.side_info.proofs.SideLaws.{IsShaped}
+use Rattle.side_info.proofs.FrameLaws.{shaped-side_in}
 use Rattle.sync_survey.specs.declared.places.PlacedFrame.{PlacedFrame}
 use Rattle.sync_survey.specs.declared.places.Head.{Head}
 use Rattle.sync_survey.specs.declared.places.Start.{Start}
 use Rattle.sync_survey.specs.declared.rows.Row.{Row}
 use Rattle.sync_survey.specs.Walk.{frame_bytes, head_of}
-use Rattle.sync_survey.specs.MainData.{rows_of, area_bytes, head_bytes, main_bytes, parts_of, StreamFrame, stream_frame, stream_frames}
+use Rattle.sync_survey.specs.MainData.{area_bytes, head_bytes, main_bytes, parts_of, part_lengths, StreamFrame, side_of, stream_frame, stream_frames}
 use Rattle.sync_survey.specs.Faults.{SurveyFields, surveyed, stream_of_survey}
 use Rattle.sync_survey.proofs.ItemLists.{nearer_frame}
 use Rattle.sync_survey.proofs.HeadSame.{head_bytes-nearer, area-frame}
 use Rattle.sync_survey.proofs.SurveyParts.{frames_from, told_from, IsRead, surveyed-parts}
 use Rattle.edits.specs.declared.shift.Shift.{Shift}
-use Rattle.edits.specs.Gains.{moved_side}
+use Rattle.edits.specs.Gains.{moved_side, moved_unless}
 use Rattle.edits.specs.Edited.{edited}
 use Rattle.edits.specs.Streams.{moved_row, moved_head, moved_survey, moved_stream_frame}
 use Rattle.edits.proofs.GainsBack.{payload_bits-moved, lengths-moved}
 use Rattle.edits.proofs.MovedFrame.{whole_room}
 use Rattle.edits.proofs.EditedItems.{IsMovedAt, AreMovedAt}
-use Rattle.edits.proofs.EditedRuns.{gap_of, new_file, frames-moved, first_frame, new-area}
-use Rattle.edits.proofs.MovedSurvey.{to, frame_there, AreShaped, rows_shaped, start-moved}
+use Rattle.edits.proofs.LostOffsets.{rows_by, marked-by, walk_rising}
+use Rattle.edits.proofs.EditedRuns.{gap_of, lost_from, new_file, frames-moved, first_frame, new-area}
+use Rattle.edits.proofs.MovedSurvey.{to, frame_there, AreShaped, start-moved}
 
 -- ---- the main data
 
-area-moved : (shift : Shift) (file new : List ℕ) (gap : ℕ) (p : PlacedFrame) → IsMovedAt shift file new gap p → area_bytes new (p.offset - gap) p.header ≡ area_bytes file p.offset p.header
-area-moved shift file new gap p at =
+area-moved : (shift : Shift) (lost : ℕ → Bool) (file new : List ℕ) (gap : ℕ) (p : PlacedFrame) → IsMovedAt shift lost file new gap p → area_bytes new (p.offset - gap) p.header ≡ area_bytes file p.offset p.header
+area-moved shift lost file new gap p at =
     let over = overhead_of (class_of p.header) p.header.protected in
     let room : over ≤ length_of (class_of p.header) p.header.slot = omega (arith, (whole_room p.header (frame_bytes file p) at.whole).0, at.whole.size) in
     area-frame new (nearer_frame gap p) room
-    ∙ ap (drop over) (frame_there shift file new gap p at)
-    ∙ (to shift file new gap p at).same_area
+    ∙ ap (drop over) (frame_there shift lost file new gap p at)
+    ∙ (to shift lost file new gap p at).same_area
     ∙ sym (area-frame file p room)
 
-areas-moved : (shift : Shift) (file new : List ℕ) (gap : ℕ) (ps : List PlacedFrame) → AreMovedAt shift file new gap ps
-    → flat_map (λ (r : Row). area_bytes new r.offset r.header) (map (moved_row shift gap) (rows_of file ps)) ≡ flat_map (λ (r : Row). area_bytes file r.offset r.header) (rows_of file ps)
-areas-moved shift file new gap [] at = refl
-areas-moved shift file new gap (p ∷ ps) at = ap₂ (λ (a b : List ℕ). a ++ b) (area-moved shift file new gap p at.0) (areas-moved shift file new gap ps at.1)
+areas-moved : (shift : Shift) (lost : ℕ → Bool) (file new : List ℕ) (gap : ℕ) (ps : List PlacedFrame) → AreMovedAt shift lost file new gap ps
+    → flat_map (λ (r : Row). area_bytes new r.offset r.header) (map (moved_row shift gap) (rows_by lost file ps)) ≡ flat_map (λ (r : Row). area_bytes file r.offset r.header) (rows_by lost file ps)
+areas-moved shift lost file new gap [] at = refl
+areas-moved shift lost file new gap (p ∷ ps) at = ap₂ (λ (a b : List ℕ). a ++ b) (area-moved shift lost file new gap p at.0) (areas-moved shift lost file new gap ps at.1)
 
 -- ---- a frame of the stream
 
@@ -48,14 +51,34 @@ side-moved : (shift : Shift) (s : Side) → record (moved_side shift s) { main_d
 unfolding moved_side
 side-moved shift s = refl
 
+-- the side information that counts, where a lost frame has none
+counts-moved : (shift : Shift) (lost : Bool) (s : Side) → cond lost no_side (moved_unless lost shift s) ≡ moved_side shift (cond lost no_side s)
+unfolding moved_side
+counts-moved shift true s = refl
+counts-moved shift false s = refl
+
+none_shaped : IsShaped no_side
+none_shaped = record { scfsi = refl; granules = refl; first = refl; second = refl }
+
+counts_shaped : (lost : Bool) (s : Side) → IsShaped s → IsShaped (cond lost no_side s)
+counts_shaped true s shaped = none_shaped
+counts_shaped false s shaped = shaped
+
+by_shaped : (lost : ℕ → Bool) (file : List ℕ) (ps : List PlacedFrame) → AreShaped (rows_by lost file ps)
+by_shaped lost file [] = tt
+by_shaped lost file (p ∷ ps) = (shaped-side_in p.header (drop p.offset file), by_shaped lost file ps)
+
 frame-moved : (shift : Shift) (gap : ℕ) (main : List ℕ) (o : Option Head) (rows : List Row) (i : ℕ) (r : Row) → IsShaped r.side
     → stream_frame main (option_map (moved_head gap) o) (map (moved_row shift gap) rows) i (moved_row shift gap r) ≡ moved_stream_frame shift (stream_frame main o rows i r)
 frame-moved shift gap main o rows i r shaped =
     let begin = start-moved shift gap o rows i r in
-    let lengths = lengths-moved shift r.header r.side shaped in
-    let payload = payload_bits-moved shift r.side shaped in
+    let counts : side_of (moved_row shift gap r) ≡ moved_side shift (side_of r) = counts-moved shift r.lost r.side in
+    let well = counts_shaped r.lost r.side shaped in
+    let side = ap (λ (s : Side). record s { main_data_begin = 0 }) counts ∙ side-moved shift (side_of r) in
+    let lengths = ap (part_lengths r.header) counts ∙ lengths-moved shift r.header (side_of r) well in
+    let payload = ap payload_bits counts ∙ payload_bits-moved shift (side_of r) well in
     λ j. record (stream_frame main o rows i r) {
-      side = side-moved shift r.side j;
+      side = side j;
       payload = parts_of (lengths j) (take (payload j) (drop (8 * begin j) (bits main)));
     }
 
@@ -83,8 +106,14 @@ module _ (shift : Shift) (file : List ℕ) (allowed : ℕ) (start : Start) (all 
   abbrev head : Option Head
   head = head_of file start.first
 
+  abbrev lost : ℕ → Bool
+  lost = lost_from file start
+
   abbrev rows : List Row
-  rows = rows_of file (frames_from file start)
+  rows = rows_by lost file (frames_from file start)
+
+  rows_told : (told_from file start).frames ≡ rows
+  rows_told = marked-by file head start.first.offset (frames_from file start) (walk_rising file start head)
 
   head_same : head_bytes new (option_map (moved_head gap) head) ≡ head_bytes file head
   head_same =
@@ -97,13 +126,21 @@ module _ (shift : Shift) (file : List ℕ) (allowed : ℕ) (start : Start) (all 
   -- no byte of the main data changes
   main_same : main_bytes new (option_map (moved_head gap) head) (map (moved_row shift gap) rows) ≡ main_bytes file head rows
   unfolding main_bytes
-  main_same = ap₂ (λ (a b : List ℕ). a ++ b) head_same (areas-moved shift file new gap (frames_from file start) (frames-moved shift file allowed start all read))
+  main_same = ap₂ (λ (a b : List ℕ). a ++ b) head_same (areas-moved shift lost file new gap (frames_from file start) (frames-moved shift file allowed start all read))
+
+  abbrev IsMovedBy : List Row → Type 0
+  IsMovedBy rs =
+      stream_frames (main_bytes new (option_map (moved_head gap) head) (map (moved_row shift gap) rs)) (option_map (moved_head gap) head) (map (moved_row shift gap) rs)
+      ≡ map (moved_stream_frame shift) (stream_frames (main_bytes file head rs) head rs)
+
+  rows_moved : IsMovedBy rows
+  rows_moved =
+      ap (λ main. stream_frames main (option_map (moved_head gap) head) (map (moved_row shift gap) rows)) main_same
+      ∙ all_moved shift gap (main_bytes file head rows) head rows (by_shaped lost file (frames_from file start))
 
   stream-from : stream_of_survey new (moved_survey shift (told_from file start)) ≡ map (moved_stream_frame shift) (stream_of_survey file (told_from file start))
   unfolding stream_of_survey moved_survey
-  stream-from =
-      ap (λ main. stream_frames main (option_map (moved_head gap) head) (map (moved_row shift gap) rows)) main_same
-      ∙ all_moved shift gap (main_bytes file head rows) head rows (rows_shaped file (frames_from file start))
+  stream-from = subst IsMovedBy (sym rows_told) rows_moved
 
 -- The stream of the edited file: each frame with its gains moved, and all else as it was.
 pub stream-edited : (shift : Shift) (file : List ℕ) (allowed : ℕ) (s : SurveyFields) → AreBytes file → surveyed file allowed ≡ Ok s

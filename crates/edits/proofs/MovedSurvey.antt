@@ -1,8 +1,9 @@
 -- The survey of the edited file is that of the file, with moved gains and without the junk.
-use Rattle.std.proofs.Common.{◌≡◌, ℕ, zero, suc, ◌+◌, ◌-◌, ◌<◌, ◌≤◌, ◌==◌, ltb, Bool, true, false, cond, ◌&&◌, not, List, [], ◌∷◌, ◌++◌, length, take, drop, map, Option, Some, None, option_map, Ok, refl, sym, ◌∙◌, ap, ap₂, subst, arith}
+use Rattle.std.proofs.Common.{◌≡◌, ℕ, zero, suc, ◌+◌, ◌-◌, ◌<◌, ◌≤◌, ◌==◌, ltb, Bool, true, false, cond, ◌&&◌, ◌||◌, not, List, [], ◌∷◌, ◌++◌, length, take, drop, map, Option, Some, None, option_map, Ok, refl, sym, ◌∙◌, ap, ap₂, subst, arith, zero-add}
 use Rattle.std.specs.Prelude.{sum_by, slice_get, IfSome}
+use Rattle.std.specs.List.{enumerate_from}
 use Rattle.std.proofs.lemmas.Option.{slice_get-map}
-use Rattle.std.proofs.lemmas.Bool.{eq-eqb, lt-ltb, le-ltb}
+use Rattle.std.proofs.lemmas.Bool.{eq-eqb, eqb-true, lt-ltb, le-ltb}
 use Rattle.std.proofs.lemmas.List.{take_at, take-map, map-append, map-id, drop_all}
 use Rattle.std.proofs.lemmas.List.Sums.{sum_by-cons}
 use Rattle.bit_fields.specs.Bits.{AreBytes}
@@ -24,68 +25,108 @@ use Rattle.sync_survey.specs.declared.runs.Part.TheVariants.{Front, Stream}
 use Rattle.sync_survey.specs.Items.{item_at}
 use Rattle.sync_survey.specs.Runs.{Run, run, blocks_of}
 use Rattle.sync_survey.specs.Walk.{stream_run, frame_bytes, head_of, all_blocks, fault_at, end_fault}
-use Rattle.sync_survey.specs.MainData.{row_of, rows_of, own_area, head_area, is_silent, start_of_data, end_of_data, place, end_behind, end_before}
+use Rattle.sync_survey.specs.MainData.{row_of, rows_of, own_area, head_area, is_silent, start_of_data, end_of_data, lacks_data, place, end_behind, end_before, is_lost, marked_row, marked}
 use Rattle.sync_survey.specs.Faults.{has_wrong_word, all_faults, class_from, SurveyFields, surveyed}
 use Rattle.sync_survey.proofs.OneItem.{stands-only_at}
 use Rattle.sync_survey.proofs.RunsLaws.{run-ends}
 use Rattle.sync_survey.proofs.ItemLists.{nearer_frame, nearer_piece, blocks-between}
 use Rattle.sync_survey.proofs.SurveyParts.{frames_from, told_from, IsRead, surveyed-told, surveyed-parts, IsSound, IsSoundAt, AreSound, all_faults-none_sound, sound-no_all_faults}
 use Rattle.edits.specs.declared.shift.Shift.{Shift}
-use Rattle.edits.specs.Gains.{moved_side}
-use Rattle.edits.specs.Edited.{moved_frame, edited}
+use Rattle.edits.specs.Gains.{moved_unless}
+use Rattle.edits.specs.Edited.{moved_unless_lost, edited}
 use Rattle.edits.specs.Streams.{moved_row, moved_head, moved_block, moved_survey}
-use Rattle.edits.proofs.GainsBack.{payload_bits-moved, payload-moved, begin-moved}
-use Rattle.edits.proofs.MovedFrame.{whole_room, IsMoved, moved_whole}
+use Rattle.edits.proofs.GainsBack.{payload_bits-unless, payload-unless, begin-unless}
+use Rattle.edits.proofs.MovedFrame.{IsWhole, whole_room, IsMovedUnless, moved_unless-whole}
 use Rattle.edits.proofs.EditedItems.{IsMovedAt, AreMovedAt}
-use Rattle.edits.proofs.EditedRuns.{gap_of, moved_start, new_file, front_low, stream_is, stop_is, front_stop, new-length, new-stream, new-start, new-head, new-frames, new-blocks, frames-moved}
+use Rattle.edits.proofs.LostOffsets.{lost-at, walk_rising}
+use Rattle.edits.proofs.EditedRuns.{gap_of, lost_from, moved_start, new_file, front_low, stream_is, stop_is, front_stop, new-length, new-stream, new-start, new-head, new-frames, new-blocks, frames-moved}
 
--- ---- a frame that stands with moved gains in another file
+-- ---- the check words of a file without fault
 
-module _ (shift : Shift) (file new : List ℕ) (gap : ℕ) (p : PlacedFrame) (at : IsMovedAt shift file new gap p) where
+right_by : (b : Bool) (said right : ℕ) → (b && not (said == right)) ≡ false → b ≡ true → said ≡ right
+right_by true said right e is = eqb-true said right (not_cases (said == right) e)
+  where
+    not_cases : (x : Bool) → not x ≡ false → x ≡ true
+    not_cases true h = refl
+    not_cases false h = absurd cc
+right_by false said right e is = absurd cc
+
+-- the side information and the check word of a whole frame stand in its own bytes
+pub own-side : (file : List ℕ) (p : PlacedFrame) → IsWhole p.header (frame_bytes file p) → side_in p.header (frame_bytes file p) ≡ side_in p.header (drop p.offset file)
+own-side file p whole =
+    let room = whole_room p.header (frame_bytes file p) whole in
+    side_in-take p.header (length_of (class_of p.header) p.header.slot) (drop p.offset file) (omega (arith, room.0, whole.size))
+
+pub own-right : (file : List ℕ) (p : PlacedFrame) → IsWhole p.header (frame_bytes file p) → has_wrong_word (word_said (drop p.offset file)) (row_of file p) ≡ false → IsRight p.header (frame_bytes file p)
+own-right file p whole word protected =
+    let h = p.header in
+    let bytes = drop p.offset file in
+    let room = whole_room h (frame_bytes file p) whole in
+    word_said-take (length_of (class_of h) h.slot) bytes (omega (arith, room.1, whole.size))
+    ∙ right_by h.protected (word_said bytes) (check_word_of h (side_in h bytes)) word protected
+    ∙ ap (check_word_of h) (sym (own-side file p whole))
+
+-- the check word of each of these frames is right
+abbrev pub WordsAreRight : List ℕ → List PlacedFrame → Type 0
+WordsAreRight file [] = Unit {0}
+WordsAreRight file (p ∷ ps) = (has_wrong_word (word_said (drop p.offset file)) (row_of file p) ≡ false) × WordsAreRight file ps
+
+pub words_right : (file : List ℕ) (ps : List PlacedFrame) → ((i : ℕ) (r : Row) → slice_get (rows_of file ps) i ≡ Some r → has_wrong_word (word_said (drop r.offset file)) r ≡ false) → WordsAreRight file ps
+words_right file [] each = tt
+words_right file (p ∷ ps) each = (each 0 (row_of file p) refl, words_right file ps (λ i r is. each (suc i) r is))
+
+-- ---- a frame that stands in another file, with moved gains where it isn't lost
+
+-- such a frame, not marked
+abbrev pub moved_plain : Shift → (ℕ → Bool) → ℕ → Row → Row
+moved_plain shift lost gap r = record r { offset = r.offset - gap; side = moved_unless (lost r.offset) shift r.side }
+
+module _ (shift : Shift) (lost : ℕ → Bool) (file new : List ℕ) (gap : ℕ) (p : PlacedFrame) (at : IsMovedAt shift lost file new gap p) where
   abbrev frame : List ℕ
   frame = frame_bytes file p
 
   abbrev new_frame : List ℕ
-  new_frame = moved_frame shift p.header frame
+  new_frame = moved_unless_lost (lost p.offset) shift p.header frame
 
   abbrev size : ℕ
   size = length_of (class_of p.header) p.header.slot
 
-  pub to : IsMoved shift p.header frame new_frame
-  to = moved_whole shift p.header frame at.whole
+  pub to : IsMovedUnless (lost p.offset) shift p.header frame new_frame
+  to = moved_unless-whole (lost p.offset) shift p.header frame at.whole
 
   pub frame_there : take size (drop (p.offset - gap) new) ≡ new_frame
   frame_there = ap (take size) at.stands ∙ take_at new_frame at.rest size to.whole.size
 
-  side_there : side_in p.header (drop (p.offset - gap) new) ≡ moved_side shift (side_in p.header (drop p.offset file))
+  side_there : side_in p.header (drop (p.offset - gap) new) ≡ moved_unless (lost p.offset) shift (side_in p.header (drop p.offset file))
   side_there =
       let room = (whole_room p.header frame at.whole) in
       sym (side_in-take p.header size (drop (p.offset - gap) new) (omega (arith, room.0, at.whole.size)))
       ∙ ap (side_in p.header) frame_there
       ∙ to.side
-      ∙ ap (moved_side shift) (side_in-take p.header size (drop p.offset file) (omega (arith, room.0, at.whole.size)))
+      ∙ ap (moved_unless (lost p.offset) shift) (own-side file p at.whole)
 
-  pub row-moved : row_of new (nearer_frame gap p) ≡ moved_row shift gap (row_of file p)
-  row-moved = ap (λ s. record { offset = p.offset - gap; header = p.header; side = s }) side_there
+  pub row-moved : row_of new (nearer_frame gap p) ≡ moved_plain shift lost gap (row_of file p)
+  row-moved = ap (λ s. record { offset = p.offset - gap; header = p.header; side = s; lost = false }) side_there
 
-  right_there : IsRight p.header (drop (p.offset - gap) new)
-  right_there protected =
-      let room = (whole_room p.header frame at.whole) in
-      sym (word_said-take size (drop (p.offset - gap) new) (omega (arith, room.1, at.whole.size)))
-      ∙ ap word_said frame_there
-      ∙ to.right protected
-      ∙ ap (check_word_of p.header) (sym (ap (side_in p.header) frame_there) ∙ side_in-take p.header size (drop (p.offset - gap) new) (omega (arith, room.0, at.whole.size)))
+  module _ (word : has_wrong_word (word_said (drop p.offset file)) (row_of file p) ≡ false) where
+    right_there : IsRight p.header (drop (p.offset - gap) new)
+    right_there protected =
+        let room = (whole_room p.header frame at.whole) in
+        sym (word_said-take size (drop (p.offset - gap) new) (omega (arith, room.1, at.whole.size)))
+        ∙ ap word_said frame_there
+        ∙ to.right (λ stays. own-right file p at.whole word) protected
+        ∙ ap (check_word_of p.header) (sym (ap (side_in p.header) frame_there) ∙ side_in-take p.header size (drop (p.offset - gap) new) (omega (arith, room.0, at.whole.size)))
 
-  right_cases : (s : Side) → side_in p.header (drop (p.offset - gap) new) ≡ s → (b : Bool) → p.header.protected ≡ b → (b && not (word_said (drop (p.offset - gap) new) == check_word_of p.header s)) ≡ false
-  right_cases s is true protected = ap not (eq-eqb _ _ (right_there protected ∙ ap (check_word_of p.header) is))
-  right_cases s is false protected = refl
+    right_cases : (s : Side) → side_in p.header (drop (p.offset - gap) new) ≡ s → (b : Bool) → p.header.protected ≡ b → (b && not (word_said (drop (p.offset - gap) new) == check_word_of p.header s)) ≡ false
+    right_cases s is true protected = ap not (eq-eqb _ _ (right_there protected ∙ ap (check_word_of p.header) is))
+    right_cases s is false protected = refl
 
-  pub right_word : has_wrong_word (word_said (drop (p.offset - gap) new)) (moved_row shift gap (row_of file p)) ≡ false
-  right_word = right_cases (moved_side shift (side_in p.header (drop p.offset file))) side_there p.header.protected refl
+    pub right_word : has_wrong_word (word_said (drop (p.offset - gap) new)) (moved_plain shift lost gap (row_of file p)) ≡ false
+    right_word = right_cases (moved_unless (lost p.offset) shift (side_in p.header (drop p.offset file))) side_there p.header.protected refl
 
-pub rows-moved : (shift : Shift) (file new : List ℕ) (gap : ℕ) (ps : List PlacedFrame) → AreMovedAt shift file new gap ps → rows_of new (map (nearer_frame gap) ps) ≡ map (moved_row shift gap) (rows_of file ps)
-rows-moved shift file new gap [] at = refl
-rows-moved shift file new gap (p ∷ ps) at = ap₂ (λ (r : Row) (rs : List Row). r ∷ rs) (row-moved shift file new gap p at.0) (rows-moved shift file new gap ps at.1)
+pub rows-moved : (shift : Shift) (lost : ℕ → Bool) (file new : List ℕ) (gap : ℕ) (ps : List PlacedFrame) → AreMovedAt shift lost file new gap ps → rows_of new (map (nearer_frame gap) ps) ≡ map (moved_plain shift lost gap) (rows_of file ps)
+rows-moved shift lost file new gap [] at = refl
+rows-moved shift lost file new gap (p ∷ ps) at = ap₂ (λ (r : Row) (rs : List Row). r ∷ rs) (row-moved shift lost file new gap p at.0) (rows-moved shift lost file new gap ps at.1)
 
 -- ---- frames without fault
 
@@ -98,45 +139,90 @@ pub rows_shaped : (file : List ℕ) (ps : List PlacedFrame) → AreShaped (rows_
 rows_shaped file [] = tt
 rows_shaped file (p ∷ ps) = (shaped-side_in p.header (drop p.offset file), rows_shaped file ps)
 
-areas-moved : (shift : Shift) (gap : ℕ) (rows : List Row) → sum_by (λ (r : Row). own_area r.header) (map (moved_row shift gap) rows) ≡ sum_by (λ (r : Row). own_area r.header) rows
-areas-moved shift gap [] = refl
-areas-moved shift gap (r ∷ rows) =
-    sum_by-cons (λ (q : Row). own_area q.header) (moved_row shift gap r) (map (moved_row shift gap) rows)
-    ∙ ap (λ n. own_area r.header + n) (areas-moved shift gap rows)
+-- frames that keep their headers keep their places
+areas-kept : (f : Row → Row) → ((r : Row) → (f r).header ≡ r.header) → (rows : List Row) → sum_by (λ (r : Row). own_area r.header) (map f rows) ≡ sum_by (λ (r : Row). own_area r.header) rows
+areas-kept f same [] = refl
+areas-kept f same (r ∷ rows) =
+    sum_by-cons (λ (q : Row). own_area q.header) (f r) (map f rows)
+    ∙ ap₂ (λ m n. m + n) (ap own_area (same r)) (areas-kept f same rows)
     ∙ sym (sum_by-cons (λ (q : Row). own_area q.header) r rows)
 
 head_area-moved : (gap : ℕ) (o : Option Head) → head_area (option_map (moved_head gap) o) ≡ head_area o
 head_area-moved gap None = refl
 head_area-moved gap (Some head) = refl
 
-pub place-moved : (shift : Shift) (gap : ℕ) (o : Option Head) (rows : List Row) (i : ℕ) → place (option_map (moved_head gap) o) (map (moved_row shift gap) rows) i ≡ place o rows i
+pub place-kept : (f : Row → Row) → ((r : Row) → (f r).header ≡ r.header) → (gap : ℕ) (o : Option Head) (rows : List Row) (i : ℕ) → place (option_map (moved_head gap) o) (map f rows) i ≡ place o rows i
 unfolding place
-place-moved shift gap o rows i =
-    ap₂ (λ m n. m + n) (head_area-moved gap o) (ap (sum_by (λ (r : Row). own_area r.header)) (take-map (moved_row shift gap) i rows) ∙ areas-moved shift gap (take i rows))
+place-kept f same gap o rows i =
+    ap₂ (λ m n. m + n) (head_area-moved gap o) (ap (sum_by (λ (r : Row). own_area r.header)) (take-map f i rows) ∙ areas-kept f same (take i rows))
 
 pub start-moved : (shift : Shift) (gap : ℕ) (o : Option Head) (rows : List Row) (i : ℕ) (r : Row)
     → start_of_data (place (option_map (moved_head gap) o) (map (moved_row shift gap) rows) i) (moved_row shift gap r) ≡ start_of_data (place o rows i) r
-start-moved shift gap o rows i r = ap₂ (λ m n. m - n) (place-moved shift gap o rows i) (begin-moved shift r.side)
+start-moved shift gap o rows i r = ap₂ (λ m n. m - n) (place-kept (moved_row shift gap) (λ q. refl) gap o rows i) (begin-unless r.lost shift r.side)
 
-behind-moved : (shift : Shift) (gap place_now new_place ended new_ended : ℕ) (r : Option Row) → new_place ≡ place_now → new_ended ≡ ended → IfSome r (λ q. IsShaped q.side)
-    → end_behind new_place new_ended (option_map (moved_row shift gap) r) ≡ end_behind place_now ended r
-behind-moved shift gap place_now new_place ended new_ended None same_place same_ended shaped = same_ended
-behind-moved shift gap place_now new_place ended new_ended (Some r) same_place same_ended shaped =
-    let silent : is_silent (moved_row shift gap r) ≡ is_silent r = ap (λ n. n == 0) (payload_bits-moved shift r.side shaped) in
-    let loud : end_of_data new_place (moved_row shift gap r) ≡ end_of_data place_now r = ap₂ (λ m n. m + n) (ap₂ (λ m n. m - n) same_place (begin-moved shift r.side)) (payload-moved shift r.side shaped) in
-    λ i. cond (silent i) (same_ended i) (loud i)
+module _ (shift : Shift) (lost : ℕ → Bool) (gap : ℕ) where
+  abbrev moved_by : Row → Row
+  moved_by r = moved_plain shift lost gap r
+
+  place-moved : (o : Option Head) (rows : List Row) (i : ℕ) → place (option_map (moved_head gap) o) (map moved_by rows) i ≡ place o rows i
+  place-moved o rows i = place-kept moved_by (λ q. refl) gap o rows i
+
+  lacks-moved : (place_now new_place ended new_ended : ℕ) (r : Row) → new_place ≡ place_now → new_ended ≡ ended → lacks_data new_place new_ended (moved_by r) ≡ lacks_data place_now ended r
+  lacks-moved place_now new_place ended new_ended r same_place same_ended =
+      ap₂ (λ (a b : Bool). a && b) (ap (λ n. n == 0) same_ended) (ap₂ ltb same_place (begin-unless (lost r.offset) shift r.side))
+
+  data_end-moved : (place_now new_place : ℕ) (r : Row) → new_place ≡ place_now → IsShaped r.side → end_of_data new_place (moved_by r) ≡ end_of_data place_now r
+  data_end-moved place_now new_place r same_place shaped =
+      ap₂ (λ m n. m + n) (ap₂ (λ m n. m - n) same_place (begin-unless (lost r.offset) shift r.side)) (payload-unless (lost r.offset) shift r.side shaped)
+
+  behind-moved : (place_now new_place ended new_ended : ℕ) (r : Option Row) → new_place ≡ place_now → new_ended ≡ ended → IfSome r (λ q. IsShaped q.side)
+      → end_behind new_place new_ended (option_map moved_by r) ≡ end_behind place_now ended r
+  behind-moved place_now new_place ended new_ended None same_place same_ended shaped = same_ended
+  behind-moved place_now new_place ended new_ended (Some r) same_place same_ended shaped =
+      let silent : is_silent (moved_by r) ≡ is_silent r = ap (λ n. n == 0) (payload_bits-unless (lost r.offset) shift r.side shaped) in
+      let lacks = lacks-moved place_now new_place ended new_ended r same_place same_ended in
+      let loud = data_end-moved place_now new_place r same_place shaped in
+      λ i. cond (silent i || lacks i) (same_ended i) (loud i)
 
 shaped_get : (rows : List Row) (i : ℕ) → AreShaped rows → IfSome (slice_get rows i) (λ q. IsShaped q.side)
 shaped_get [] i shaped = tt
 shaped_get (r ∷ rows) zero shaped = shaped.0
 shaped_get (r ∷ rows) (suc i) shaped = shaped_get rows i shaped.1
 
-pub end-moved : (shift : Shift) (gap : ℕ) (o : Option Head) (rows : List Row) (i : ℕ) → AreShaped rows → end_before (option_map (moved_head gap) o) (map (moved_row shift gap) rows) i ≡ end_before o rows i
-unfolding end_before
-end-moved shift gap o rows zero shaped = refl
-end-moved shift gap o rows (suc i) shaped =
-    ap (end_behind _ _) (slice_get-map (moved_row shift gap) rows i)
-    ∙ behind-moved shift gap _ _ _ _ (slice_get rows i) (place-moved shift gap o rows i) (end-moved shift gap o rows i shaped) (shaped_get rows i shaped)
+module _ (shift : Shift) (lost : ℕ → Bool) (gap : ℕ) (o : Option Head) (rows : List Row) (shaped : AreShaped rows) where
+  abbrev near_head : Option Head
+  near_head = option_map (moved_head gap) o
+
+  abbrev near_rows : List Row
+  near_rows = map (moved_plain shift lost gap) rows
+
+  pub end-moved : (i : ℕ) → end_before near_head near_rows i ≡ end_before o rows i
+  unfolding end_before
+  end-moved zero = refl
+  end-moved (suc i) =
+      ap (end_behind _ _) (slice_get-map (moved_plain shift lost gap) rows i)
+      ∙ behind-moved shift lost gap _ _ _ _ (slice_get rows i) (place-moved shift lost gap o rows i) (end-moved i) (shaped_get rows i shaped)
+
+  -- the same frames are lost
+  pub lost-moved : (i : ℕ) (r : Row) → is_lost near_head near_rows i (moved_plain shift lost gap r) ≡ is_lost o rows i r
+  lost-moved i r = lacks-moved shift lost gap _ _ _ _ r (place-moved shift lost gap o rows i) (end-moved i)
+
+  marks_moved : (n : ℕ) (more : List Row) → ((i : ℕ) (r : Row) → slice_get more i ≡ Some r → lost r.offset ≡ is_lost o rows (n + i) r)
+      → map (λ (p : ℕ × Row). marked_row near_head near_rows p.0 p.1) (enumerate_from n (map (moved_plain shift lost gap) more))
+      ≡ map (moved_row shift gap) (map (λ (p : ℕ × Row). marked_row o rows p.0 p.1) (enumerate_from n more))
+  marks_moved n [] agree = refl
+  marks_moved n (r ∷ more) agree =
+      let none : n + 0 ≡ n = omega arith in
+      let here : lost r.offset ≡ is_lost o rows n r = agree 0 r refl ∙ ap (λ m. is_lost o rows m r) none in
+      let mark = lost-moved n r in
+      let own : marked_row near_head near_rows n (moved_plain shift lost gap r) ≡ moved_row shift gap (marked_row o rows n r) =
+      λ i. record { offset = r.offset - gap; header = r.header; side = moved_unless (here i) shift r.side; lost = mark i } in
+      ap₂ (λ (q : Row) (qs : List Row). q ∷ qs) own (marks_moved (n + 1) more (λ i q is. agree (suc i) q is ∙ ap (λ m. is_lost o rows m q) (omega arith)))
+
+  -- they are marked so, and those that aren't lost have moved gains
+  pub marked-moved : ((i : ℕ) (r : Row) → slice_get rows i ≡ Some r → lost r.offset ≡ is_lost o rows i r) → marked near_head near_rows ≡ map (moved_row shift gap) (marked o rows)
+  unfolding marked
+  marked-moved agree = marks_moved 0 rows (λ i r is. agree i r is ∙ ap (λ m. is_lost o rows m r) (sym (zero-add i)))
 
 -- the check words are right
 abbrev AreRight : List ℕ → List Row → Type 0
@@ -148,42 +234,45 @@ right_get file [] i r right is = absurd cc
 right_get file (q ∷ rows) zero r right is = let same : q ≡ r = cc in subst (λ x. has_wrong_word (word_said (drop x.offset file)) x ≡ false) same right.0
 right_get file (q ∷ rows) (suc i) r right is = right_get file rows i r right.1 is
 
-rows_right : (shift : Shift) (file new : List ℕ) (gap : ℕ) (ps : List PlacedFrame) → AreMovedAt shift file new gap ps → AreRight new (map (moved_row shift gap) (rows_of file ps))
-rows_right shift file new gap [] at = tt
-rows_right shift file new gap (p ∷ ps) at = (right_word shift file new gap p at.0, rows_right shift file new gap ps at.1)
+rows_right : (shift : Shift) (lost : ℕ → Bool) (file new : List ℕ) (gap : ℕ) (ps : List PlacedFrame) → AreMovedAt shift lost file new gap ps → WordsAreRight file ps → AreRight new (map (moved_plain shift lost gap) (rows_of file ps))
+rows_right shift lost file new gap [] at words = tt
+rows_right shift lost file new gap (p ∷ ps) at words = (right_word shift lost file new gap p at.0 words.0, rows_right shift lost file new gap ps at.1 words.1)
 
-sound-moved : (shift : Shift) (said new_said : ℕ) (gap : ℕ) (class : ClassFields) (allowed place_now ended count new_place new_ended : ℕ) (r : Row) → new_place ≡ place_now → new_ended ≡ ended → IsShaped r.side
-    → has_wrong_word new_said (moved_row shift gap r) ≡ false → IsSound said class allowed place_now ended count r → IsSound new_said class allowed new_place new_ended count (moved_row shift gap r)
-sound-moved shift said new_said gap class allowed place_now ended count new_place new_ended r same_place same_ended shaped word sound =
-    let begin = begin-moved shift r.side in
-    let payload = payload-moved shift r.side shaped in
+sound-moved : (shift : Shift) (lost : ℕ → Bool) (said new_said : ℕ) (gap : ℕ) (class : ClassFields) (allowed place_now ended count new_place new_ended : ℕ) (r : Row) → new_place ≡ place_now → new_ended ≡ ended → IsShaped r.side
+    → has_wrong_word new_said (moved_plain shift lost gap r) ≡ false → IsSound said class allowed place_now ended count r → IsSound new_said class allowed new_place new_ended count (moved_plain shift lost gap r)
+sound-moved shift lost said new_said gap class allowed place_now ended count new_place new_ended r same_place same_ended shaped word sound =
+    let begin = begin-unless (lost r.offset) shift r.side in
     record {
       same = sound.same;
       word = word;
-      begins = ap₂ ltb same_place begin ∙ sound.begins;
-      apart = ap₂ ltb (ap₂ (λ m n. m - n) same_place begin) same_ended ∙ sound.apart;
-      within = ap₂ ltb (ap (λ n. n + own_area r.header) same_place) (ap₂ (λ m n. m + n) (ap₂ (λ m n. m - n) same_place begin) payload) ∙ sound.within;
+      main = λ has.
+          let well = sound.main (sym (lacks-moved shift lost gap place_now new_place ended new_ended r same_place same_ended) ∙ has) in
+          record {
+            begins = ap₂ ltb same_place begin ∙ well.begins;
+            apart = ap₂ ltb (ap₂ (λ m n. m - n) same_place begin) same_ended ∙ well.apart;
+            within = ap₂ ltb (ap (λ n. n + own_area r.header) same_place) (data_end-moved shift lost gap place_now new_place r same_place shaped) ∙ well.within;
+          };
       few = sound.few;
     }
 
 -- what stands at i among moved rows is the row there, moved
-moved_get : (shift : Shift) (gap : ℕ) (rows : List Row) (i : ℕ) (r : Row) → slice_get (map (moved_row shift gap) rows) i ≡ Some r → (q : Row) × (slice_get rows i ≡ Some q) × (moved_row shift gap q ≡ r)
-moved_get shift gap [] i r is = absurd cc
-moved_get shift gap (q ∷ rows) zero r is = (q, refl, cc)
-moved_get shift gap (q ∷ rows) (suc i) r is = moved_get shift gap rows i r is
+moved_get : (shift : Shift) (lost : ℕ → Bool) (gap : ℕ) (rows : List Row) (i : ℕ) (r : Row) → slice_get (map (moved_plain shift lost gap) rows) i ≡ Some r → (q : Row) × (slice_get rows i ≡ Some q) × (moved_plain shift lost gap q ≡ r)
+moved_get shift lost gap [] i r is = absurd cc
+moved_get shift lost gap (q ∷ rows) zero r is = (q, refl, cc)
+moved_get shift lost gap (q ∷ rows) (suc i) r is = moved_get shift lost gap rows i r is
 
 some_shaped : (rows : List Row) (i : ℕ) (q : Row) → AreShaped rows → slice_get rows i ≡ Some q → IsShaped q.side
 some_shaped rows i q shaped is = subst (λ (o : Option Row). IfSome o (λ x. IsShaped x.side)) is (shaped_get rows i shaped)
 
-all_sound : (shift : Shift) (file new : List ℕ) (gap : ℕ) (o : Option Head) (class : ClassFields) (allowed : ℕ) (rows : List Row) → AreShaped rows → AreRight new (map (moved_row shift gap) rows)
-    → AreSound file o class allowed rows → AreSound new (option_map (moved_head gap) o) class allowed (map (moved_row shift gap) rows)
-all_sound shift file new gap o class allowed rows shaped right sound = λ i r is.
-    let found = moved_get shift gap rows i r is in
+all_sound : (shift : Shift) (lost : ℕ → Bool) (file new : List ℕ) (gap : ℕ) (o : Option Head) (class : ClassFields) (allowed : ℕ) (rows : List Row) → AreShaped rows → AreRight new (map (moved_plain shift lost gap) rows)
+    → AreSound file o class allowed rows → AreSound new (option_map (moved_head gap) o) class allowed (map (moved_plain shift lost gap) rows)
+all_sound shift lost file new gap o class allowed rows shaped right sound = λ i r is.
+    let found = moved_get shift lost gap rows i r is in
     let q = found.0 in
-    let word = right_get new (map (moved_row shift gap) rows) i r right is in
-    subst (IsSoundAt new (option_map (moved_head gap) o) class allowed (map (moved_row shift gap) rows) i) found.2
-    (sound-moved shift (word_said (drop q.offset file)) (word_said (drop (q.offset - gap) new)) gap class allowed (place o rows i) (end_before o rows i) i _ _ q (place-moved shift gap o rows i)
-    (end-moved shift gap o rows i shaped) (some_shaped rows i q shaped found.1) (subst (λ x. has_wrong_word (word_said (drop x.offset new)) x ≡ false) (sym found.2) word) (sound i q found.1))
+    let word = right_get new (map (moved_plain shift lost gap) rows) i r right is in
+    subst (IsSoundAt new (option_map (moved_head gap) o) class allowed (map (moved_plain shift lost gap) rows) i) found.2
+    (sound-moved shift lost (word_said (drop q.offset file)) (word_said (drop (q.offset - gap) new)) gap class allowed (place o rows i) (end_before o rows i) i _ _ q (place-moved shift lost gap o rows i)
+    (end-moved shift lost gap o rows shaped i) (some_shaped rows i q shaped found.1) (subst (λ x. has_wrong_word (word_said (drop x.offset new)) x ≡ false) (sym found.2) word) (sound i q found.1))
 
 -- ---- blocks
 
@@ -213,18 +302,35 @@ module _ (shift : Shift) (file : List ℕ) (allowed : ℕ) (start : Start) (all 
   abbrev rows : List Row
   rows = rows_of file (frames_from file start)
 
-  moved_frames : AreMovedAt shift file new gap (frames_from file start)
+  abbrev lost : ℕ → Bool
+  lost = lost_from file start
+
+  abbrev head : Option Head
+  head = head_of file start.first
+
+  moved_frames : AreMovedAt shift lost file new gap (frames_from file start)
   moved_frames = frames-moved shift file allowed start all read
 
-  pub new-rows : rows_of new (frames_from new (moved_start start)) ≡ map (moved_row shift gap) rows
-  new-rows = ap (rows_of new) (new-frames shift file allowed start all read) ∙ rows-moved shift file new gap (frames_from file start) moved_frames
+  pub new-rows : rows_of new (frames_from new (moved_start start)) ≡ map (moved_plain shift lost gap) rows
+  new-rows = ap (rows_of new) (new-frames shift file allowed start all read) ∙ rows-moved shift lost file new gap (frames_from file start) moved_frames
+
+  sound : AreSound file head (class_from start) allowed rows
+  sound = all_faults-none_sound file head (class_from start) allowed rows read.frames
+
+  pub words : WordsAreRight file (frames_from file start)
+  words = words_right file (frames_from file start) (λ i r is. (sound i r is).word)
 
   no_faults : all_faults new (head_of new (moved_start start).first) (class_from (moved_start start)) allowed (rows_of new (frames_from new (moved_start start))) ≡ []
   no_faults =
-      let sound = all_faults-none_sound file (head_of file start.first) (class_from start) allowed rows read.frames in
       ap₂ (λ (o : Option Head) (rs : List Row). all_faults new o (class_from start) allowed rs) (new-head shift file allowed start all read) new-rows
-      ∙ sound-no_all_faults new (option_map (moved_head gap) (head_of file start.first)) (class_from start) allowed (map (moved_row shift gap) rows)
-      (all_sound shift file new gap (head_of file start.first) (class_from start) allowed rows (rows_shaped file (frames_from file start)) (rows_right shift file new gap (frames_from file start) moved_frames) sound)
+      ∙ sound-no_all_faults new (option_map (moved_head gap) head) (class_from start) allowed (map (moved_plain shift lost gap) rows)
+      (all_sound shift lost file new gap head (class_from start) allowed rows (rows_shaped file (frames_from file start)) (rows_right shift lost file new gap (frames_from file start) moved_frames words) sound)
+
+  -- the frames with the marks of the lost ones
+  pub new-marked : (told_from new (moved_start start)).frames ≡ map (moved_row shift gap) (told_from file start).frames
+  new-marked =
+      ap₂ marked (new-head shift file allowed start all read) new-rows
+      ∙ marked-moved shift lost gap head rows (rows_shaped file (frames_from file start)) (lost-at head start.first.offset rows (walk_rising file start head))
 
   ended : (stop : ℕ) → length new ≤ stop → fault_at stop (item_at new stop) ≡ None
   ended stop past =
@@ -266,7 +372,7 @@ module _ (shift : Shift) (file : List ℕ) (allowed : ℕ) (start : Start) (all 
       let head = new-head shift file allowed start all read in
       let long = new-length shift file allowed start all read in
       λ i. record {
-        frames = new-rows i;
+        frames = new-marked i;
         blocks = blocks_same i;
         head = head i;
         junk = start.front_end;

@@ -1,6 +1,6 @@
 -- What is written from front to back is the edited file.
 use Rattle.std.proofs.Common.{◌≡◌, ℕ, ◌+◌, ◌-◌, ◌≤◌, List, [], ◌∷◌, ◌++◌, length, take, drop, Option, Some, None, Ok, refl, sym, ◌∙◌, ap, ap₂, subst, arith, append_assoc, take-append-drop, append-nil, length-drop, length-append}
-use Rattle.std.specs.Prelude.{option_to_list, Bool, true, false, Err, if◌then◌else◌, nat_lt}
+use Rattle.std.specs.Prelude.{option_to_list, Bool, true, false, cond, Err, if◌then◌else◌, nat_lt}
 use Rattle.std.proofs.lemmas.List.{drop-drop, take_all, take_at}
 use Rattle.std.proofs.Math.Seq.{take-add}
 use Rattle.frame_header.specs.Fields.{HeaderFields}
@@ -19,7 +19,7 @@ use Rattle.sync_survey.specs.Items.{item_at, size_of}
 use Rattle.sync_survey.specs.Runs.{Placed, AreEndToEnd, run, bytes_in, bytes_of_items, frame_as, frames_of}
 use Rattle.sync_survey.specs.Start.{front_end_of}
 use Rattle.sync_survey.specs.Walk.{stream_run, numbered}
-use Rattle.sync_survey.specs.MainData.{rows_of}
+use Rattle.sync_survey.specs.MainData.{rows_of, marked}
 use Rattle.sync_survey.specs.declared.places.Start.{Start}
 use Rattle.sync_survey.specs.declared.survey_fault.SurveyFault.TheVariants.{TooLong}
 use Rattle.sync_survey.specs.Faults.{SurveyFields, fields_from, surveyed, longest_file}
@@ -30,9 +30,10 @@ use Rattle.sync_survey.proofs.StartLaws.{start-first, start-front}
 use Rattle.sync_survey.proofs.SurveyLaws.{surveyed-is, walked, overhead-within}
 use Rattle.edits.specs.declared.shift.Shift.{Shift}
 use Rattle.edits.specs.Gains.{moved_side}
-use Rattle.edits.specs.Edited.{moved_frame, moved_item, moved_items, moved_stream, edited}
+use Rattle.edits.specs.Edited.{moved_unless_lost, moved_item, moved_items, moved_stream, is_lost_at, edited}
 use Rattle.edits.specs.Moving.{row_end, AreRowsOf, moved_row_bytes, bytes_between, moved_from}
 use Rattle.edits.proofs.EditedItems.{moved-nil, moved-cons}
+use Rattle.edits.proofs.LostOffsets.{rows_by, marked-by, walk_rising}
 
 pub moved_from-nil : (shift : Shift) (file : List ℕ) (at : ℕ) → moved_from shift file at [] ≡ drop at file
 unfolding moved_from
@@ -70,88 +71,88 @@ behind_earlier : (at later : ℕ) (rows : List Row) → at ≤ later → IsBehin
 behind_earlier at later [] le behind = tt
 behind_earlier at later (row ∷ rows) le behind = omega (arith, le, behind)
 
-behind_item : (file : List ℕ) (at : ℕ) (item : Item) (frames : List PlacedFrame) → IsBehind (at + size_of item) (rows_of file frames) → IsBehind at (rows_of file (option_to_list (frame_as at item) ++ frames))
-behind_item file at (Frame h) frames behind = omega arith
-behind_item file at Free frames behind = behind_earlier at (at + 0) (rows_of file frames) (omega arith) behind
-behind_item file at (Block b) frames behind = behind_earlier at (at + b.length) (rows_of file frames) (omega arith) behind
-behind_item file at Zero frames behind = behind_earlier at (at + 1) (rows_of file frames) (omega arith) behind
-behind_item file at End frames behind = behind_earlier at (at + 0) (rows_of file frames) (omega arith) behind
-behind_item file at Nothing frames behind = behind_earlier at (at + 0) (rows_of file frames) (omega arith) behind
+behind_item : (lost : ℕ → Bool) (file : List ℕ) (at : ℕ) (item : Item) (frames : List PlacedFrame) → IsBehind (at + size_of item) (rows_by lost file frames) → IsBehind at (rows_by lost file (option_to_list (frame_as at item) ++ frames))
+behind_item lost file at (Frame h) frames behind = omega arith
+behind_item lost file at Free frames behind = behind_earlier at (at + 0) (rows_by lost file frames) (omega arith) behind
+behind_item lost file at (Block b) frames behind = behind_earlier at (at + b.length) (rows_by lost file frames) (omega arith) behind
+behind_item lost file at Zero frames behind = behind_earlier at (at + 1) (rows_by lost file frames) (omega arith) behind
+behind_item lost file at End frames behind = behind_earlier at (at + 0) (rows_by lost file frames) (omega arith) behind
+behind_item lost file at Nothing frames behind = behind_earlier at (at + 0) (rows_by lost file frames) (omega arith) behind
 
 -- the frames of items that stand end to end
-frames_behind : (file : List ℕ) (part : Part) (ps : List Placed) (from to : ℕ) → AreEndToEnd part file from ps to → IsBehind from (rows_of file (frames_of ps))
-frames_behind file part [] from to e = tt
-frames_behind file part (p ∷ ps) from to e =
-    subst (λ n. IsBehind n (rows_of file (frames_of (p ∷ ps)))) e.0
-    (subst (λ l. IsBehind p.offset (rows_of file l)) (sym (cons_list (frame_as p.offset p.item) (frames_of ps)))
-    (behind_item file p.offset p.item (frames_of ps) (frames_behind file part ps (p.offset + size_of p.item) to e.2)))
+frames_behind : (lost : ℕ → Bool) (file : List ℕ) (part : Part) (ps : List Placed) (from to : ℕ) → AreEndToEnd part file from ps to → IsBehind from (rows_by lost file (frames_of ps))
+frames_behind lost file part [] from to e = tt
+frames_behind lost file part (p ∷ ps) from to e =
+    subst (λ n. IsBehind n (rows_by lost file (frames_of (p ∷ ps)))) e.0
+    (subst (λ l. IsBehind p.offset (rows_by lost file l)) (sym (cons_list (frame_as p.offset p.item) (frames_of ps)))
+    (behind_item lost file p.offset p.item (frames_of ps) (frames_behind lost file part ps (p.offset + size_of p.item) to e.2)))
 
 abbrev item_bytes : List ℕ → ℕ → Item → List ℕ
 item_bytes file at item = take (size_of item) (drop at file)
 
 -- an item that isn't a frame
-kept : (shift : Shift) (file : List ℕ) (frames : List PlacedFrame) (at : ℕ) (item : Item) → IsBehind (at + size_of item) (rows_of file frames)
-    → moved_from shift file at (rows_of file frames) ≡ item_bytes file at item ++ moved_from shift file (at + size_of item) (rows_of file frames)
-kept shift file frames at item behind = moved_from-later shift file at (size_of item) (rows_of file frames) behind
+kept : (shift : Shift) (lost : ℕ → Bool) (file : List ℕ) (frames : List PlacedFrame) (at : ℕ) (item : Item) → IsBehind (at + size_of item) (rows_by lost file frames)
+    → moved_from shift file at (rows_by lost file frames) ≡ item_bytes file at item ++ moved_from shift file (at + size_of item) (rows_by lost file frames)
+kept shift lost file frames at item behind = moved_from-later shift file at (size_of item) (rows_by lost file frames) behind
 
 -- a frame
-frame_step : (shift : Shift) (part : Part) (file : List ℕ) (frames : List PlacedFrame) (at : ℕ) (h : HeaderFields) → IsItemOf part file at (Frame h)
-    → moved_from shift file at (rows_of file (record { offset = at; header = h } ∷ frames)) ≡ moved_frame shift h (item_bytes file at (Frame h)) ++ moved_from shift file (at + size_of (Frame h)) (rows_of file frames)
-frame_step shift part file frames at h here =
-    let row : Row = record { offset = at; header = h; side = side_in h (drop at file) } in
+frame_step : (shift : Shift) (lost : ℕ → Bool) (part : Part) (file : List ℕ) (frames : List PlacedFrame) (at : ℕ) (h : HeaderFields) → IsItemOf part file at (Frame h)
+    → moved_from shift file at (rows_by lost file (record { offset = at; header = h } ∷ frames)) ≡ moved_unless_lost (lost at) shift h (item_bytes file at (Frame h)) ++ moved_from shift file (at + size_of (Frame h)) (rows_by lost file frames)
+frame_step shift lost part file frames at h here =
+    let row : Row = record { offset = at; header = h; side = side_in h (drop at file); lost = lost at } in
     let len = length_of (class_of h) h.slot in
     let room = overhead-within h (header_front-in_range (drop at file) h (stands-at file at (Frame h) here.is)) in
     let none : at - at ≡ 0 = omega arith in
-    moved_from-cons shift file at row (rows_of file frames)
-    ∙ ap (λ n. take n (drop at file) ++ (moved_row_bytes shift file row ++ moved_from shift file (row_end row) (rows_of file frames))) none
-    ∙ ap (λ (s : Side). frame_with h (moved_side shift s) (item_bytes file at (Frame h)) ++ moved_from shift file (at + len) (rows_of file frames)) (sym (side_in-take h len (drop at file) room))
+    moved_from-cons shift file at row (rows_by lost file frames)
+    ∙ ap (λ n. take n (drop at file) ++ (moved_row_bytes shift file row ++ moved_from shift file (row_end row) (rows_by lost file frames))) none
+    ∙ ap (λ (s : Side). cond (lost at) (item_bytes file at (Frame h)) (frame_with h (moved_side shift s) (item_bytes file at (Frame h))) ++ moved_from shift file (at + len) (rows_by lost file frames)) (sym (side_in-take h len (drop at file) room))
 
-item_step : (shift : Shift) (part : Part) (file : List ℕ) (frames : List PlacedFrame) (at : ℕ) (item : Item) → IsItemOf part file at item → IsBehind (at + size_of item) (rows_of file frames)
-    → moved_from shift file at (rows_of file (option_to_list (frame_as at item) ++ frames)) ≡ moved_item shift item (item_bytes file at item) ++ moved_from shift file (at + size_of item) (rows_of file frames)
-item_step shift part file frames at (Frame h) here behind = frame_step shift part file frames at h here
-item_step shift part file frames at Free here behind = kept shift file frames at Free behind
-item_step shift part file frames at (Block b) here behind = kept shift file frames at (Block b) behind
-item_step shift part file frames at Zero here behind = kept shift file frames at Zero behind
-item_step shift part file frames at End here behind = kept shift file frames at End behind
-item_step shift part file frames at Nothing here behind = kept shift file frames at Nothing behind
+item_step : (shift : Shift) (lost : ℕ → Bool) (part : Part) (file : List ℕ) (frames : List PlacedFrame) (at : ℕ) (item : Item) → IsItemOf part file at item → IsBehind (at + size_of item) (rows_by lost file frames)
+    → moved_from shift file at (rows_by lost file (option_to_list (frame_as at item) ++ frames)) ≡ moved_item shift (lost at) item (item_bytes file at item) ++ moved_from shift file (at + size_of item) (rows_by lost file frames)
+item_step shift lost part file frames at (Frame h) here behind = frame_step shift lost part file frames at h here
+item_step shift lost part file frames at Free here behind = kept shift lost file frames at Free behind
+item_step shift lost part file frames at (Block b) here behind = kept shift lost file frames at (Block b) behind
+item_step shift lost part file frames at Zero here behind = kept shift lost file frames at Zero behind
+item_step shift lost part file frames at End here behind = kept shift lost file frames at End behind
+item_step shift lost part file frames at Nothing here behind = kept shift lost file frames at Nothing behind
 
 -- items that stand end to end are written as the moved items
-pub moved_from-items : (shift : Shift) (part : Part) (file : List ℕ) (ps : List Placed) (from to : ℕ) → AreEndToEnd part file from ps to
-    → moved_from shift file from (rows_of file (frames_of ps)) ≡ moved_items shift file ps ++ drop to file
-moved_from-items shift part file [] from to e =
-    moved_from-nil shift file from ∙ ap (λ n. drop n file) e ∙ ap (λ (l : List ℕ). l ++ drop to file) (sym (moved-nil shift file))
-moved_from-items shift part file (p ∷ ps) from to e =
+pub moved_from-items : (shift : Shift) (lost : ℕ → Bool) (part : Part) (file : List ℕ) (ps : List Placed) (from to : ℕ) → AreEndToEnd part file from ps to
+    → moved_from shift file from (rows_by lost file (frames_of ps)) ≡ moved_items shift lost file ps ++ drop to file
+moved_from-items shift lost part file [] from to e =
+    moved_from-nil shift file from ∙ ap (λ n. drop n file) e ∙ ap (λ (l : List ℕ). l ++ drop to file) (sym (moved-nil shift lost file))
+moved_from-items shift lost part file (p ∷ ps) from to e =
     let here = item_of-is part file p.offset p.item e.1 in
     let next = p.offset + size_of p.item in
-    ap₂ (λ n (l : List PlacedFrame). moved_from shift file n (rows_of file l)) (sym e.0) (cons_list (frame_as p.offset p.item) (frames_of ps))
-    ∙ item_step shift part file (frames_of ps) p.offset p.item here (frames_behind file part ps next to e.2)
-    ∙ ap (λ (l : List ℕ). moved_item shift p.item (bytes_in file p) ++ l) (moved_from-items shift part file ps next to e.2)
-    ∙ sym (append_assoc (moved_item shift p.item (bytes_in file p)) (moved_items shift file ps) (drop to file))
-    ∙ ap (λ (l : List ℕ). l ++ drop to file) (sym (moved-cons shift file p ps))
+    ap₂ (λ n (l : List PlacedFrame). moved_from shift file n (rows_by lost file l)) (sym e.0) (cons_list (frame_as p.offset p.item) (frames_of ps))
+    ∙ item_step shift lost part file (frames_of ps) p.offset p.item here (frames_behind lost file part ps next to e.2)
+    ∙ ap (λ (l : List ℕ). moved_item shift (lost p.offset) p.item (bytes_in file p) ++ l) (moved_from-items shift lost part file ps next to e.2)
+    ∙ sym (append_assoc (moved_item shift (lost p.offset) p.item (bytes_in file p)) (moved_items shift lost file ps) (drop to file))
+    ∙ ap (λ (l : List ℕ). l ++ drop to file) (sym (moved-cons shift lost file p ps))
 
 -- ---- the stream
 
-whole : (shift : Shift) (file : List ℕ) (ps : List Placed) (from to : ℕ) → AreEndToEnd Stream file from ps to → drop to file ≡ [] → moved_from shift file from (rows_of file (frames_of ps)) ≡ moved_items shift file ps
-whole shift file ps from to e nothing =
-    moved_from-items shift Stream file ps from to e
-    ∙ ap (λ (l : List ℕ). moved_items shift file ps ++ l) nothing
-    ∙ append-nil (moved_items shift file ps)
+whole : (shift : Shift) (lost : ℕ → Bool) (file : List ℕ) (ps : List Placed) (from to : ℕ) → AreEndToEnd Stream file from ps to → drop to file ≡ [] → moved_from shift file from (rows_by lost file (frames_of ps)) ≡ moved_items shift lost file ps
+whole shift lost file ps from to e nothing =
+    moved_from-items shift lost Stream file ps from to e
+    ∙ ap (λ (l : List ℕ). moved_items shift lost file ps ++ l) nothing
+    ∙ append-nil (moved_items shift lost file ps)
 
 -- behind the head, where the first frame is one
-behind_head : (shift : Shift) (file : List ℕ) (head : Option Head) (ps : List Placed) (from to : ℕ) (h : HeaderFields) → AreEndToEnd Stream file from ps to → drop to file ≡ [] → item_at file from ≡ Frame h
-    → moved_from shift file from (rows_of file (numbered head (frames_of ps))) ≡ moved_stream shift file head ps
-behind_head shift file None ps from to h e nothing first = whole shift file ps from to e nothing
-behind_head shift file (Some head) [] from to h e nothing first =
-    moved_from-nil shift file from ∙ ap (λ n. drop n file) e ∙ nothing ∙ sym (moved-nil shift file)
-behind_head shift file (Some head) (p ∷ ps) from to h e nothing first =
+behind_head : (shift : Shift) (lost : ℕ → Bool) (file : List ℕ) (head : Option Head) (ps : List Placed) (from to : ℕ) (h : HeaderFields) → AreEndToEnd Stream file from ps to → drop to file ≡ [] → item_at file from ≡ Frame h
+    → moved_from shift file from (rows_by lost file (numbered head (frames_of ps))) ≡ moved_stream shift lost file head ps
+behind_head shift lost file None ps from to h e nothing first = whole shift lost file ps from to e nothing
+behind_head shift lost file (Some head) [] from to h e nothing first =
+    moved_from-nil shift file from ∙ ap (λ n. drop n file) e ∙ nothing ∙ sym (moved-nil shift lost file)
+behind_head shift lost file (Some head) (p ∷ ps) from to h e nothing first =
     let here = item_of-is Stream file p.offset p.item e.1 in
     let is : p.item ≡ Frame h = sym here.is ∙ ap (item_at file) e.0 ∙ first in
     let size = size_of p.item in
     let one : drop 1 (frames_of (p ∷ ps)) ≡ frames_of ps =
     ap (drop 1) (cons_list (frame_as p.offset p.item) (frames_of ps) ∙ ap (λ i. option_to_list (frame_as p.offset i) ++ frames_of ps) is) in
-    ap₂ (λ n l. moved_from shift file n (rows_of file l)) (sym e.0) one
-    ∙ moved_from-later shift file p.offset size (rows_of file (frames_of ps)) (frames_behind file Stream ps (p.offset + size) to e.2)
-    ∙ ap₂ (λ (l m : List ℕ). l ++ m) (sym (append-nil (bytes_in file p))) (whole shift file ps (p.offset + size) to e.2 nothing)
+    ap₂ (λ n l. moved_from shift file n (rows_by lost file l)) (sym e.0) one
+    ∙ moved_from-later shift file p.offset size (rows_by lost file (frames_of ps)) (frames_behind lost file Stream ps (p.offset + size) to e.2)
+    ∙ ap₂ (λ (l m : List ℕ). l ++ m) (sym (append-nil (bytes_in file p))) (whole shift lost file ps (p.offset + size) to e.2 nothing)
 
 -- ---- the front
 
@@ -182,10 +183,15 @@ written-edited shift file allowed s e =
     let walk = walked file allowed s is in
     let first = start-first file is.start is.begins in
     let junk : s.junk ≡ (run Front file 0).stop = walk.junk_is ∙ start-front file is.start is.begins ∙ front_end-is file in
-    let moved : moved_from shift file s.first s.frames ≡ moved_stream shift file s.head (run Stream file s.first).items =
-    ap₂ (moved_from shift file) walk.first_is walk.frames_are
-    ∙ behind_head shift file s.head (stream_run file is.start).items is.start.first.offset (stream_run file is.start).stop is.start.first.header (run-ends Stream file is.start.first.offset) walk.nothing_behind first.frame.is
-    ∙ ap (λ n. moved_stream shift file s.head (run Stream file n).items) (sym walk.first_is) in
+    let lost = is_lost_at s.frames in
+    let marks : s.frames ≡ rows_by lost file (numbered s.head (frames_of (stream_run file is.start).items)) =
+    walk.frames_are
+    ∙ marked-by file s.head is.start.first.offset (numbered s.head (frames_of (stream_run file is.start).items)) (walk_rising file is.start s.head)
+    ∙ ap (λ rs. rows_by (is_lost_at rs) file (numbered s.head (frames_of (stream_run file is.start).items))) (sym walk.frames_are) in
+    let moved : moved_from shift file s.first s.frames ≡ moved_stream shift lost file s.head (run Stream file s.first).items =
+    ap₂ (moved_from shift file) walk.first_is marks
+    ∙ behind_head shift lost file s.head (stream_run file is.start).items is.start.first.offset (stream_run file is.start).stop is.start.first.header (run-ends Stream file is.start.first.offset) walk.nothing_behind first.frame.is
+    ∙ ap (λ n. moved_stream shift lost file s.head (run Stream file n).items) (sym walk.first_is) in
     ap₂ (λ (l m : List ℕ). l ++ m) (ap (λ n. take n file) junk ∙ sym (front_bytes file)) moved
 
 -- ---- frames one behind the other
@@ -231,12 +237,14 @@ survey_of-written shift file allowed s e =
 
 -- ---- the rows are those of the file
 
-are_rows : (file : List ℕ) (frames : List PlacedFrame) → AreRowsOf file (rows_of file frames)
-are_rows file [] = tt
-are_rows file (p ∷ ps) = (refl, are_rows file ps)
+are_rows : (lost : ℕ → Bool) (file : List ℕ) (frames : List PlacedFrame) → AreRowsOf file (rows_by lost file frames)
+are_rows lost file [] = tt
+are_rows lost file (p ∷ ps) = (refl, are_rows lost file ps)
 
 pub survey_of-rows : (file : List ℕ) (allowed : ℕ) (s : SurveyFields) → survey_of file allowed ≡ Ok s → AreRowsOf file s.frames
 survey_of-rows file allowed s e =
     let is = surveyed-is file allowed s (survey_of-surveyed file allowed s e) in
     let walk = walked file allowed s is in
-    subst (AreRowsOf file) (sym walk.frames_are) (are_rows file (numbered s.head (frames_of (stream_run file is.start).items)))
+    let frames = numbered s.head (frames_of (stream_run file is.start).items) in
+    let marks = marked-by file s.head is.start.first.offset frames (walk_rising file is.start s.head) in
+    subst (AreRowsOf file) (sym (walk.frames_are ∙ marks)) (are_rows (is_lost_at (marked s.head (rows_of file frames))) file frames)

@@ -1,19 +1,17 @@
 -- A change of gains without wrap is undone by the opposite one: all bytes of the file come back, but for the junk.
-use Rattle.std.proofs.Common.{◌≡◌, ℕ, suc, ◌+◌, ◌-◌, ◌<◌, ◌≤◌, ◌==◌, Bool, true, false, ◌&&◌, not, List, [], ◌∷◌, ◌++◌, length, take, drop, map, Option, Some, None, option_map, Result, Ok, refl, sym, ◌∙◌, ap, ap₂, subst, arith, append_assoc, take-append-drop}
-use Rattle.std.specs.Prelude.{MatchBool, slice_get}
+use Rattle.std.proofs.Common.{◌≡◌, ℕ, ◌+◌, ◌-◌, ◌<◌, ◌≤◌, Bool, true, false, cond, List, [], ◌∷◌, ◌++◌, length, take, drop, map, Option, Some, None, option_map, Result, Ok, refl, sym, ◌∙◌, ap, ap₂, subst, arith, append_assoc, take-append-drop}
+use Rattle.std.specs.Prelude.{MatchBool}
 use Rattle.std.specs.List.{cons_option}
-use Rattle.std.proofs.lemmas.Bool.{eqb-true}
 use Rattle.std.proofs.lemmas.List.{take_at, drop_at, drop-drop}
 use Rattle.bit_fields.specs.Bits.{AreBytes}
 use Rattle.frame_header.specs.Fields.{HeaderFields, ClassFields}
-use Rattle.frame_header.specs.Tables.{class_of, length_of}
+use Rattle.frame_header.specs.Tables.{class_of}
 use Rattle.side_info.specs.declared.granule.Granule.{Granule}
 use Rattle.side_info.specs.declared.side.Side.{Side}
 use Rattle.side_info.specs.Granule.{GranuleFits, no_granule}
 use Rattle.side_info.specs.Side.{granule_in, has_granule, SideFits}
-use Rattle.side_info.specs.CheckWord.{check_word_of}
 use Rattle.side_info.specs.Frame.{side_in, word_said}
-use Rattle.side_info.proofs.FrameLaws.{IsRight, shaped-side_in, fits-side_in, side_in-take, word_said-take}
+use Rattle.side_info.proofs.FrameLaws.{IsRight, shaped-side_in, fits-side_in}
 use Rattle.sync_survey.specs.declared.items.Item.{Item}
 use Rattle.sync_survey.specs.declared.items.Item.TheVariants.{Frame, Free, Block, Zero, End, Nothing}
 use Rattle.sync_survey.specs.declared.places.PlacedFrame.{PlacedFrame}
@@ -26,25 +24,26 @@ use Rattle.sync_survey.specs.Items.{item_at, size_of}
 use Rattle.sync_survey.specs.Runs.{Placed, Run, run, AreEndToEnd, bytes_in, bytes_of_items, frame_as, frames_of}
 use Rattle.sync_survey.specs.Walk.{frame_bytes, head_of, numbered}
 use Rattle.sync_survey.specs.MainData.{row_of, rows_of}
-use Rattle.sync_survey.specs.Faults.{has_wrong_word, class_from, SurveyFields, longest_file}
+use Rattle.sync_survey.specs.Faults.{has_wrong_word, SurveyFields, longest_file}
 use Rattle.sync_survey.specs.Survey.{survey_of}
 use Rattle.sync_survey.proofs.RunsLaws.{item_of-is, run-ends, bytes-ends}
 use Rattle.sync_survey.proofs.FoldersLaws.{survey_of-short}
 use Rattle.sync_survey.proofs.ItemLists.{nearer, nearer_frame, ends-stream, items-length, kept_items}
 use Rattle.sync_survey.proofs.HeadSame.{nearer_head}
-use Rattle.sync_survey.proofs.SurveyParts.{frames_from, told_from, IsRead, surveyed-told, surveyed-parts, all_faults-none_sound}
+use Rattle.sync_survey.proofs.SurveyParts.{frames_from, told_from, IsRead, surveyed-told, surveyed-parts}
 use Rattle.edits.specs.declared.fault.EditFault.{EditFault}
 use Rattle.edits.specs.declared.gains.Stuck.{Stuck}
 use Rattle.edits.specs.declared.shift.Shift.{Shift}
-use Rattle.edits.specs.Gains.{moved_side, stuck_in}
-use Rattle.edits.specs.Edited.{moved_frame, moved_item, moved_items, moved_stream, edited, stuck_fault, range_fault, most_frames, gained}
+use Rattle.edits.specs.Gains.{moved_side, moved_unless, stuck_in}
+use Rattle.edits.specs.Edited.{moved_unless_lost, moved_item, moved_items, moved_stream, is_lost_at, edited, stuck_fault, stuck_of, range_fault, most_frames, gained}
 use Rattle.edits.specs.Streams.{moved_row, without_junk}
 use Rattle.edits.specs.Undoing.{opposite}
 use Rattle.edits.proofs.GainsBack.{GainsFit, IsSideBack, side_back}
-use Rattle.edits.proofs.MovedFrame.{whole_class, whole_room, frame_back}
-use Rattle.edits.proofs.EditedItems.{frame_whole, moved_own, moved-nil, moved-cons, IsMovedAt, AreMovedAt}
-use Rattle.edits.proofs.EditedRuns.{gap_of, moved_start, new_file, first_bytes, moved_first, front_low, stream_is, later_ends, items_bytes, front_stop, new-before, new-length, new-later, new-front, new-stream, new-head, near_own, first_frame, frames-moved}
-use Rattle.edits.proofs.MovedSurvey.{new-rows, new-read}
+use Rattle.edits.proofs.MovedFrame.{IsWhole, whole_class, frame_back}
+use Rattle.edits.proofs.EditedItems.{frame_whole, moved_own, moved-nil, moved-cons, AreMovedAt}
+use Rattle.edits.proofs.LostOffsets.{AreRising, marked_rising, rows_by, marked-by, walk_rising, lost-nearer}
+use Rattle.edits.proofs.EditedRuns.{gap_of, lost_from, moved_start, new_file, first_bytes, moved_first, front_low, stream_is, later_ends, items_bytes, front_stop, new-before, new-length, new-later, new-front, new-stream, new-head, near_own, first_frame, frames-moved}
+use Rattle.edits.proofs.MovedSurvey.{own-side, own-right, WordsAreRight, words, new-marked, new-read}
 use Rattle.edits.proofs.GainedStream.{gained-parts, gained-ok, survey_of-parts}
 
 -- ---- the gains of a frame
@@ -69,36 +68,22 @@ record IsBack (shift : Shift) (file : List ℕ) (p : PlacedFrame) : Type 0 where
   sides : IsSideBack shift (side_in p.header (frame_bytes file p))
   same : side_in p.header (frame_bytes file p) ≡ side_in p.header (drop p.offset file)
 
-abbrev AreBack : Shift → List ℕ → List PlacedFrame → Type 0
-AreBack shift file [] = Unit {0}
-AreBack shift file (p ∷ ps) = IsBack shift file p × AreBack shift file ps
+-- of those that aren't lost
+abbrev AreBack : Shift → (ℕ → Bool) → List ℕ → List PlacedFrame → Type 0
+AreBack shift lost file [] = Unit {0}
+AreBack shift lost file (p ∷ ps) = (lost p.offset ≡ false → IsBack shift file p) × AreBack shift lost file ps
 
-right_cases : (b : Bool) (said right : ℕ) → (b && not (said == right)) ≡ false → b ≡ true → said ≡ right
-right_cases true said right e is = eqb-true said right (not_cases (said == right) e)
-  where
-    not_cases : (x : Bool) → not x ≡ false → x ≡ true
-    not_cases true h = refl
-    not_cases false h = absurd cc
-right_cases false said right e is = absurd cc
-
-is_back : (shift : Shift) (file new : List ℕ) (gap : ℕ) (p : PlacedFrame) → shift.wrap ≡ false → IsMovedAt shift file new gap p → has_wrong_word (word_said (drop p.offset file)) (row_of file p) ≡ false → stuck_in shift (row_of file p).side ≡ None → IsBack shift file p
-is_back shift file new gap p strict at word free =
+is_back : (shift : Shift) (file : List ℕ) (p : PlacedFrame) → shift.wrap ≡ false → IsWhole p.header (frame_bytes file p) → has_wrong_word (word_said (drop p.offset file)) (row_of file p) ≡ false → stuck_in shift (row_of file p).side ≡ None → IsBack shift file p
+is_back shift file p strict whole word free =
     let h = p.header in
     let frame = frame_bytes file p in
-    let size = length_of (class_of h) h.slot in
-    let bytes = drop p.offset file in
-    let room = whole_room h frame at.whole in
-    let same : side_in h frame ≡ side_in h bytes = side_in-take h size bytes (omega (arith, room.0, at.whole.size)) in
     record {
-      right = λ protected.
-          word_said-take size bytes (omega (arith, room.1, at.whole.size))
-          ∙ right_cases h.protected (word_said bytes) (check_word_of h (side_in h bytes)) word protected
-          ∙ ap (check_word_of h) (sym same);
-      sides = side_back shift strict (side_in h frame) (shaped-side_in h frame) (gains_fit (class_of h) (side_in h frame) (fits-side_in h frame (whole_class h frame at.whole))) (ap (stuck_in shift) same ∙ free);
-      same = same;
+      right = own-right file p whole word;
+      sides = side_back shift strict (side_in h frame) (shaped-side_in h frame) (gains_fit (class_of h) (side_in h frame) (fits-side_in h frame (whole_class h frame whole))) (ap (stuck_in shift) (own-side file p whole) ∙ free);
+      same = own-side file p whole;
     }
 
-range-cons : (shift : Shift) (r : Row) (rows : List Row) → range_fault shift (r ∷ rows) ≡ stuck_fault r.offset (stuck_in shift r.side) (range_fault shift rows)
+range-cons : (shift : Shift) (r : Row) (rows : List Row) → range_fault shift (r ∷ rows) ≡ stuck_fault r.offset (stuck_of shift r) (range_fault shift rows)
 unfolding range_fault
 range-cons shift r rows = refl
 
@@ -113,62 +98,79 @@ stuck_none at None later e = (refl, e)
 none_stuck : (at : ℕ) (s : Option Stuck) (later : Option EditFault) → s ≡ None → later ≡ None → stuck_fault at s later ≡ None
 none_stuck at s later e rest = ap (λ x. stuck_fault at x later) e ∙ rest
 
--- the check word of each of these frames is right
-abbrev WordsAreRight : List ℕ → List PlacedFrame → Type 0
-WordsAreRight file [] = Unit {0}
-WordsAreRight file (p ∷ ps) = (has_wrong_word (word_said (drop p.offset file)) (row_of file p) ≡ false) × WordsAreRight file ps
+free_unless : (lost : Bool) (o : Option Stuck) → cond lost None o ≡ None → lost ≡ false → o ≡ None
+free_unless true o none is = absurd cc
+free_unless false o none is = none
 
-words_right : (file : List ℕ) (ps : List PlacedFrame) → ((i : ℕ) (r : Row) → slice_get (rows_of file ps) i ≡ Some r → has_wrong_word (word_said (drop r.offset file)) r ≡ false) → WordsAreRight file ps
-words_right file [] each = tt
-words_right file (p ∷ ps) each = (each 0 (row_of file p) refl, words_right file ps (λ i r is. each (suc i) r is))
+unless_free : (lost : Bool) (o : Option Stuck) → (lost ≡ false → o ≡ None) → cond lost None o ≡ None
+unless_free true o none = refl
+unless_free false o none = none refl
 
-all_back : (shift : Shift) (file new : List ℕ) (gap : ℕ) (ps : List PlacedFrame) → shift.wrap ≡ false → AreMovedAt shift file new gap ps → WordsAreRight file ps → range_fault shift (rows_of file ps) ≡ None → AreBack shift file ps
-all_back shift file new gap [] strict at right free = tt
-all_back shift file new gap (p ∷ ps) strict at right free =
-    let parts = stuck_none p.offset (stuck_in shift (row_of file p).side) (range_fault shift (rows_of file ps)) (sym (range-cons shift (row_of file p) (rows_of file ps)) ∙ free) in
-    (is_back shift file new gap p strict at.0 right.0 parts.0, all_back shift file new gap ps strict at.1 right.1 parts.1)
+all_back : (shift : Shift) (lost : ℕ → Bool) (file new : List ℕ) (gap : ℕ) (ps : List PlacedFrame) → shift.wrap ≡ false → AreMovedAt shift lost file new gap ps → WordsAreRight file ps → range_fault shift (rows_by lost file ps) ≡ None → AreBack shift lost file ps
+all_back shift lost file new gap [] strict at right free = tt
+all_back shift lost file new gap (p ∷ ps) strict at right free =
+    let row : Row = record (row_of file p) { lost = lost p.offset } in
+    let parts = stuck_none p.offset (stuck_of shift row) (range_fault shift (rows_by lost file ps)) (sym (range-cons shift row (rows_by lost file ps)) ∙ free) in (
+      (λ moves. is_back shift file p strict at.0.whole right.0 (free_unless (lost p.offset) (stuck_in shift row.side) parts.0 moves)),
+      all_back shift lost file new gap ps strict at.1 right.1 parts.1,
+    )
 
--- no gain leaves its range on the way back
-free_back : (shift : Shift) (file : List ℕ) (gap : ℕ) (ps : List PlacedFrame) → AreBack shift file ps → range_fault (opposite shift) (map (moved_row shift gap) (rows_of file ps)) ≡ None
-free_back shift file gap [] back = range-nil (opposite shift)
-free_back shift file gap (p ∷ ps) back =
-    let row = row_of file p in
-    let later = map (moved_row shift gap) (rows_of file ps) in
+-- no gain of a frame that isn't lost leaves its range on the way back
+free_again : (shift : Shift) (lost : Bool) (s : Side) → (lost ≡ false → stuck_in (opposite shift) (moved_side shift s) ≡ None) → lost ≡ false → stuck_in (opposite shift) (moved_unless lost shift s) ≡ None
+free_again shift true s free is = absurd cc
+free_again shift false s free is = free is
+
+free_back : (shift : Shift) (lost : ℕ → Bool) (file : List ℕ) (gap : ℕ) (ps : List PlacedFrame) → AreBack shift lost file ps → range_fault (opposite shift) (map (moved_row shift gap) (rows_by lost file ps)) ≡ None
+free_back shift lost file gap [] back = range-nil (opposite shift)
+free_back shift lost file gap (p ∷ ps) back =
+    let row : Row = record (row_of file p) { lost = lost p.offset } in
+    let later = map (moved_row shift gap) (rows_by lost file ps) in
     range-cons (opposite shift) (moved_row shift gap row) later
-    ∙ none_stuck (p.offset - gap) (stuck_in (opposite shift) (moved_side shift row.side)) (range_fault (opposite shift) later)
-    (ap (λ s. stuck_in (opposite shift) (moved_side shift s)) (sym back.0.same) ∙ back.0.sides.free)
-    (free_back shift file gap ps back.1)
+    ∙ none_stuck (p.offset - gap) (stuck_of (opposite shift) (moved_row shift gap row)) (range_fault (opposite shift) later)
+    (unless_free (lost p.offset) (stuck_in (opposite shift) (moved_unless (lost p.offset) shift row.side))
+    (free_again shift (lost p.offset) row.side (λ moves. ap (λ s. stuck_in (opposite shift) (moved_side shift s)) (sym (back.0 moves).same) ∙ (back.0 moves).sides.free)))
+    (free_back shift lost file gap ps back.1)
 
 -- ---- the items back
 
-item_back : (shift : Shift) (file : List ℕ) (at : ℕ) (item : Item) (frames : List PlacedFrame) → AreBytes file → item_at file at ≡ item → at + size_of item ≤ length file → AreBack shift file (cons_option (frame_as at item) frames)
-    → (moved_item (opposite shift) item (moved_item shift item (take (size_of item) (drop at file))) ≡ take (size_of item) (drop at file)) × AreBack shift file frames
-item_back shift file at (Frame h) frames all is within back =
-    (frame_back shift h (take (size_of (Frame h)) (drop at file)) (frame_whole file at h all is within) back.0.right back.0.sides, back.1)
-item_back shift file at Free frames all is within back = (refl, back)
-item_back shift file at (Block b) frames all is within back = (refl, back)
-item_back shift file at Zero frames all is within back = (refl, back)
-item_back shift file at End frames all is within back = (refl, back)
-item_back shift file at Nothing frames all is within back = (refl, back)
+whole_back : (shift : Shift) (lost : Bool) (file : List ℕ) (p : PlacedFrame) → IsWhole p.header (frame_bytes file p) → (lost ≡ false → IsBack shift file p)
+    → moved_unless_lost lost (opposite shift) p.header (moved_unless_lost lost shift p.header (frame_bytes file p)) ≡ frame_bytes file p
+whole_back shift true file p whole back = refl
+whole_back shift false file p whole back = let is = back refl in frame_back shift p.header (frame_bytes file p) whole is.right is.sides
 
-items_back : (shift : Shift) (file new : List ℕ) (gap from at : ℕ) (ps : List Placed) (to : ℕ) (behind : List ℕ) → AreBytes file → AreEndToEnd Stream file from ps to → from ≡ at + gap
-    → drop at new ≡ moved_items shift file ps ++ behind → AreBack shift file (frames_of ps) → moved_items (opposite shift) new (map (nearer gap) ps) ≡ bytes_of_items file ps
-items_back shift file new gap from at [] to behind all ends there is back = moved-nil (opposite shift) new
-items_back shift file new gap from at (p ∷ ps) to behind all ends there is back =
+item_back : (shift : Shift) (lost : ℕ → Bool) (file : List ℕ) (at : ℕ) (item : Item) (frames : List PlacedFrame) → AreBytes file → item_at file at ≡ item → at + size_of item ≤ length file → AreBack shift lost file (cons_option (frame_as at item) frames)
+    → (moved_item (opposite shift) (lost at) item (moved_item shift (lost at) item (take (size_of item) (drop at file))) ≡ take (size_of item) (drop at file)) × AreBack shift lost file frames
+item_back shift lost file at (Frame h) frames all is within back =
+    (whole_back shift (lost at) file (record { offset = at; header = h }) (frame_whole file at h all is within) back.0, back.1)
+item_back shift lost file at Free frames all is within back = (refl, back)
+item_back shift lost file at (Block b) frames all is within back = (refl, back)
+item_back shift lost file at Zero frames all is within back = (refl, back)
+item_back shift lost file at End frames all is within back = (refl, back)
+item_back shift lost file at Nothing frames all is within back = (refl, back)
+
+-- the same frames are lost, so many bytes nearer to the front
+abbrev AreLostNearer : (ℕ → Bool) → (ℕ → Bool) → ℕ → Type 0
+AreLostNearer lost new_lost gap = (at : ℕ) → gap ≤ at → new_lost (at - gap) ≡ lost at
+
+items_back : (shift : Shift) (lost new_lost : ℕ → Bool) (file new : List ℕ) (gap from at : ℕ) (ps : List Placed) (to : ℕ) (behind : List ℕ) → AreBytes file → AreLostNearer lost new_lost gap → AreEndToEnd Stream file from ps to → from ≡ at + gap
+    → drop at new ≡ moved_items shift lost file ps ++ behind → AreBack shift lost file (frames_of ps) → moved_items (opposite shift) new_lost new (map (nearer gap) ps) ≡ bytes_of_items file ps
+items_back shift lost new_lost file new gap from at [] to behind all nearer_lost ends there is back = moved-nil (opposite shift) new_lost new
+items_back shift lost new_lost file new gap from at (p ∷ ps) to behind all nearer_lost ends there is back =
     let size = size_of p.item in
-    let own = moved_item shift p.item (bytes_in file p) in
-    let rest = moved_items shift file ps ++ behind in
+    let own = moved_item shift (lost p.offset) p.item (bytes_in file p) in
+    let rest = moved_items shift lost file ps ++ behind in
     let place : p.offset - gap ≡ at = omega (arith, ends.0, there) in
     let stood = item_of-is Stream file p.offset p.item ends.1 in
-    let long : length own ≡ size = (moved_own shift file p.offset p.item all stood.is stood.belongs stood.within).size in
+    let long : length own ≡ size = (moved_own shift (lost p.offset) file p.offset p.item all stood.is stood.belongs stood.within).size in
     let stands : drop (p.offset - gap) new ≡ own ++ rest =
-    ap (λ n. drop n new) place ∙ is ∙ ap (λ (l : List ℕ). l ++ behind) (moved-cons shift file p ps) ∙ append_assoc own (moved_items shift file ps) behind in
+    ap (λ n. drop n new) place ∙ is ∙ ap (λ (l : List ℕ). l ++ behind) (moved-cons shift lost file p ps) ∙ append_assoc own (moved_items shift lost file ps) behind in
     let next : drop (p.offset - gap + size) new ≡ rest = sym (drop-drop size (p.offset - gap) new) ∙ ap (drop size) stands ∙ drop_at own rest size long in
     let taken : bytes_in new (nearer gap p) ≡ own = ap (take size) stands ∙ take_at own rest size long in
-    let here = item_back shift file p.offset p.item (frames_of ps) all stood.is stood.within back in
-    moved-cons (opposite shift) new (nearer gap p) (map (nearer gap) ps)
-    ∙ ap₂ (λ (a b : List ℕ). a ++ b) (ap (moved_item (opposite shift) p.item) taken ∙ here.0)
-    (items_back shift file new gap (p.offset + size) (p.offset - gap + size) ps to behind all ends.2 (omega (arith, place, ends.0, there)) next here.1)
+    let here = item_back shift lost file p.offset p.item (frames_of ps) all stood.is stood.within back in
+    let same : new_lost (p.offset - gap) ≡ lost p.offset = nearer_lost p.offset (omega (arith, ends.0, there)) in
+    moved-cons (opposite shift) new_lost new (nearer gap p) (map (nearer gap) ps)
+    ∙ ap₂ (λ (a b : List ℕ). a ++ b) (ap₂ (λ (b : Bool) (l : List ℕ). moved_item (opposite shift) b p.item l) same taken ∙ here.0)
+    (items_back shift lost new_lost file new gap (p.offset + size) (p.offset - gap + size) ps to behind all nearer_lost ends.2 (omega (arith, place, ends.0, there)) next here.1)
 
 -- blocks and zero bytes at the front of a file are its front
 front_bytes : (file : List ℕ) → bytes_of_items file (run Front file 0).items ≡ take (run Front file 0).stop file
@@ -181,7 +183,7 @@ front_bytes file =
 
 -- ---- the file back
 
-module _ (shift : Shift) (file : List ℕ) (allowed : ℕ) (start : Start) (all : AreBytes file) (read : IsRead file allowed start) (strict : shift.wrap ≡ false) (free : range_fault shift (rows_of file (frames_from file start)) ≡ None) where
+module _ (shift : Shift) (file : List ℕ) (allowed : ℕ) (start : Start) (all : AreBytes file) (read : IsRead file allowed start) (strict : shift.wrap ≡ false) (free : range_fault shift (told_from file start).frames ≡ None) where
   abbrev new : List ℕ
   new = new_file shift file allowed start all read
 
@@ -200,30 +202,48 @@ module _ (shift : Shift) (file : List ℕ) (allowed : ℕ) (start : Start) (all 
   abbrev nearer_first : PlacedFrame
   nearer_first = nearer_frame gap start.first
 
-  back : AreBack shift file (frames_from file start)
+  abbrev lost : ℕ → Bool
+  lost = lost_from file start
+
+  abbrev new_lost : ℕ → Bool
+  new_lost = lost_from new (moved_start start)
+
+  rows_rise : AreRising start.first.offset (rows_of file (frames_from file start))
+  rows_rise = walk_rising file start head
+
+  rows_told : (told_from file start).frames ≡ rows_by lost file (frames_from file start)
+  rows_told = marked-by file head start.first.offset (frames_from file start) rows_rise
+
+  lost_nearer : AreLostNearer lost new_lost gap
+  lost_nearer at low =
+      ap (λ rs. is_lost_at rs (at - gap)) (new-marked shift file allowed start all read)
+      ∙ lost-nearer shift gap start.first.offset at (told_from file start).frames (marked_rising head start.first.offset (rows_of file (frames_from file start)) rows_rise) (omega arith) low
+
+  back : AreBack shift lost file (frames_from file start)
   back =
-      let sound = all_faults-none_sound file head (class_from start) allowed (rows_of file (frames_from file start)) read.frames in
-      all_back shift file new gap (frames_from file start) strict (frames-moved shift file allowed start all read) (words_right file (frames_from file start) (λ i r is. (sound i r is).word)) free
+      all_back shift lost file new gap (frames_from file start) strict (frames-moved shift file allowed start all read) (words shift file allowed start all read) (ap (range_fault shift) (sym rows_told) ∙ free)
 
-  numbered_back : AreBack shift file (numbered head (start.first ∷ frames_of later.items))
-  numbered_back = subst (λ (r : Run). AreBack shift file (numbered head (frames_of r.items))) (stream_is shift file allowed start all read) back
+  numbered_back : AreBack shift lost file (numbered head (start.first ∷ frames_of later.items))
+  numbered_back = subst (λ (r : Run). AreBack shift lost file (numbered head (frames_of r.items))) (stream_is shift file allowed start all read) back
 
-  later_by : (o : Option Head) → AreBack shift file (numbered o (start.first ∷ frames_of later.items)) → AreBack shift file (frames_of later.items)
+  later_by : (o : Option Head) → AreBack shift lost file (numbered o (start.first ∷ frames_of later.items)) → AreBack shift lost file (frames_of later.items)
   later_by None all_are = all_are.1
   later_by (Some found) all_are = all_are
 
-  first_by : (o : Option Head) → frame_bytes new nearer_first ≡ first_bytes shift file start.first o → AreBack shift file (numbered o (start.first ∷ frames_of later.items))
-      → first_bytes (opposite shift) new nearer_first (option_map (nearer_head gap) o) ≡ frame_bytes file start.first
-  first_by None is all_are = ap (moved_frame (opposite shift) h) is ∙ frame_back shift h (frame_bytes file start.first) (first_frame shift file allowed start all read) all_are.0.right all_are.0.sides
+  first_by : (o : Option Head) → frame_bytes new nearer_first ≡ first_bytes shift lost file start.first o → AreBack shift lost file (numbered o (start.first ∷ frames_of later.items))
+      → first_bytes (opposite shift) new_lost new nearer_first (option_map (nearer_head gap) o) ≡ frame_bytes file start.first
+  first_by None is all_are =
+      ap₂ (λ (b : Bool) (l : List ℕ). moved_unless_lost b (opposite shift) h l) (lost_nearer start.first.offset (omega arith)) is
+      ∙ whole_back shift (lost start.first.offset) file start.first (first_frame shift file allowed start all read) all_are.0
   first_by (Some found) is all_are = is
 
-  stream_back : moved_stream (opposite shift) new (head_of new (moved_start start).first) (run Stream new start.front_end).items ≡ drop start.first.offset file
+  stream_back : moved_stream (opposite shift) new_lost new (head_of new (moved_start start).first) (run Stream new start.front_end).items ≡ drop start.first.offset file
   stream_back =
       let low = front_low shift file allowed start all read in
-      ap₂ (λ (o : Option Head) (r : Run). moved_stream (opposite shift) new o r.items) (new-head shift file allowed start all read) (new-stream shift file allowed start all read)
-      ∙ moved_first (opposite shift) new nearer_first (map (nearer gap) later.items) (option_map (nearer_head gap) head)
+      ap₂ (λ (o : Option Head) (r : Run). moved_stream (opposite shift) new_lost new o r.items) (new-head shift file allowed start all read) (new-stream shift file allowed start all read)
+      ∙ moved_first (opposite shift) new_lost new nearer_first (map (nearer gap) later.items) (option_map (nearer_head gap) head)
       ∙ ap₂ (λ (a b : List ℕ). a ++ b) (first_by head (near_own shift file allowed start all read) numbered_back)
-      (items_back shift file new gap (start.first.offset + size_of (Frame h)) (start.front_end + size_of (Frame h)) later.items later.stop [] all (later_ends shift file allowed start all read)
+      (items_back shift lost new_lost file new gap (start.first.offset + size_of (Frame h)) (start.front_end + size_of (Frame h)) later.items later.stop [] all lost_nearer (later_ends shift file allowed start all read)
       (omega (arith, low)) (new-later shift file allowed start all read) (later_by head numbered_back))
       ∙ items_bytes shift file allowed start all read
 
@@ -246,7 +266,7 @@ module _ (shift : Shift) (file : List ℕ) (allowed : ℕ) (start : Start) (all 
       let read_new : IsRead new most_frames (moved_start start) = subst (λ n. IsRead new n (moved_start start)) same (new-read shift file allowed start all read) in
       gained-ok (opposite shift) new (told_from new (moved_start start))
       (survey_of-short new most_frames short ∙ surveyed-told new most_frames (moved_start start) read_new)
-      (ap (range_fault (opposite shift)) (new-rows shift file allowed start all read) ∙ free_back shift file gap (frames_from file start) back)
+      (ap (range_fault (opposite shift)) (new-marked shift file allowed start all read ∙ ap (map (moved_row shift gap)) rows_told) ∙ free_back shift lost file gap (frames_from file start) back)
       ∙ ap Ok bytes_back
 
 survey_back : (shift : Shift) (file : List ℕ) (s : SurveyFields) → shift.wrap ≡ false → AreBytes file → survey_of file most_frames ≡ Ok s → range_fault shift s.frames ≡ None → gained (opposite shift) (edited shift file s) ≡ Ok (without_junk s file)

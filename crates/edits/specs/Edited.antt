@@ -1,5 +1,5 @@
 -- The file that a gain command writes.
-use Rattle.std.specs.Prelude.{ℕ, List, [], ◌∷◌, ◌++◌, take, drop, Option, Some, None, Result, Ok, Err, bytes_eq, if◌then◌else◌, flat_map}
+use Rattle.std.specs.Prelude.{ℕ, ◌==◌, ◌&&◌, ◌||◌, Bool, false, List, [], ◌∷◌, ◌++◌, take, drop, Option, Some, None, Result, Ok, Err, bytes_eq, if◌then◌else◌, flat_map}
 use Rattle.frame_header.specs.Fields.{HeaderFields}
 use Rattle.side_info.specs.Frame.{side_in, frame_with}
 use Rattle.outside.specs.Files.{Contents}
@@ -25,27 +25,37 @@ use Rattle.edits.specs.Gains.{moved_side, stuck_in}
 abbrev pub moved_frame : Shift → HeaderFields → List ℕ → List ℕ
 moved_frame shift h frame = frame_with h (moved_side shift (side_in h frame)) frame
 
--- the bytes of an item, where a frame has moved gains and all else stays
-abbrev pub moved_item : Shift → Item → List ℕ → List ℕ
-moved_item shift (Frame h) bytes = moved_frame shift h bytes
-moved_item shift Free bytes = bytes
-moved_item shift (Block b) bytes = bytes
-moved_item shift Zero bytes = bytes
-moved_item shift End bytes = bytes
-moved_item shift Nothing bytes = bytes
+-- a frame that is lost stays
+abbrev pub moved_unless_lost : Bool → Shift → HeaderFields → List ℕ → List ℕ
+moved_unless_lost lost shift h frame = if lost then frame else moved_frame shift h frame
 
--- the same of items of a file, one behind the other
-unfoldable pub moved_items : Shift → List ℕ → List Placed → List ℕ
-moved_items shift file ps = flat_map (λ (p : Placed). moved_item shift p.item (bytes_in file p)) ps
+-- the bytes of an item, where a frame that isn't lost has moved gains and all else stays
+abbrev pub moved_item : Shift → Bool → Item → List ℕ → List ℕ
+moved_item shift lost (Frame h) bytes = moved_unless_lost lost shift h bytes
+moved_item shift lost Free bytes = bytes
+moved_item shift lost (Block b) bytes = bytes
+moved_item shift lost Zero bytes = bytes
+moved_item shift lost End bytes = bytes
+moved_item shift lost Nothing bytes = bytes
+
+-- the same of items of a file, one behind the other, where the frames at these offsets are lost
+unfoldable pub moved_items : Shift → (ℕ → Bool) → List ℕ → List Placed → List ℕ
+moved_items shift lost file ps = flat_map (λ (p : Placed). moved_item shift (lost p.offset) p.item (bytes_in file p)) ps
 
 -- the items from the first frame on; a head is the first of them, and stays
-abbrev pub moved_stream : Shift → List ℕ → Option Head → List Placed → List ℕ
-moved_stream shift file None ps = moved_items shift file ps
-moved_stream shift file (Some head) ps = bytes_of_items file (take 1 ps) ++ moved_items shift file (drop 1 ps)
+abbrev pub moved_stream : Shift → (ℕ → Bool) → List ℕ → Option Head → List Placed → List ℕ
+moved_stream shift lost file None ps = moved_items shift lost file ps
+moved_stream shift lost file (Some head) ps = bytes_of_items file (take 1 ps) ++ moved_items shift lost file (drop 1 ps)
+
+-- a lost frame of these stands at the offset
+abbrev pub is_lost_at : List Row → ℕ → Bool
+is_lost_at [] at = false
+is_lost_at (row ∷ rows) at = (row.lost && row.offset == at) || is_lost_at rows at
 
 -- all items of a file in their order, with the gains of its frames moved; junk is dropped
 unfoldable pub edited : Shift → List ℕ → SurveyFields → List ℕ
-edited shift file s = bytes_of_items file (run Front file 0).items ++ moved_stream shift file s.head (run Stream file s.first).items
+edited shift file s =
+    bytes_of_items file (run Front file 0).items ++ moved_stream shift (is_lost_at s.frames) file s.head (run Stream file s.first).items
 
 -- ---- the range
 
@@ -54,10 +64,14 @@ abbrev pub stuck_fault : ℕ → Option Stuck → Option EditFault → Option Ed
 stuck_fault offset (Some stuck) later = Some (GainRange offset stuck.granule stuck.channel stuck.gain)
 stuck_fault offset None later = later
 
+-- the first gain of a frame that would leave the range; none of a lost one, which stays
+abbrev pub stuck_of : Shift → Row → Option Stuck
+stuck_of shift row = if row.lost then None else stuck_in shift row.side
+
 -- the first gain of these frames that would leave the range
 unfoldable pub range_fault : Shift → List Row → Option EditFault
 range_fault shift [] = None
-range_fault shift (row ∷ rows) = stuck_fault row.offset (stuck_in shift row.side) (range_fault shift rows)
+range_fault shift (row ∷ rows) = stuck_fault row.offset (stuck_of shift row) (range_fault shift rows)
 
 -- a gain would leave its range
 abbrev pub IsRangeFault : EditFault → Type 0

@@ -1,5 +1,5 @@
--- Moved gains (global_gain of ISO/IEC 11172-3, 2.4.2.7, in steps of 1.5 dB). The rules for moving it are this project's: a silent channel of a
--- granule is left alone, and without wrap a sum that would leave the range refuses the whole file.
+-- Moved gains (global_gain of ISO/IEC 11172-3, 2.4.2.7, in steps of 1.5 dB). The rules for moving it are this project's: a lost frame and a
+-- silent channel of a granule are left alone, and without wrap a sum that would leave the range refuses the whole file.
 use Rattle.std.specs.Prelude.{ℕ, ◌==◌, ◌&&◌, not, nat_lt, if◌then◌else◌, Bool, true, List, [], ◌∷◌, Option, Some, None, ℤ, pos, negsuc, ◌+ℤ◌, unsigned_abs}
 use Rattle.std.specs.Int.{int_rem_euclid}
 use Rattle.std.specs.Option.{option_or}
@@ -47,6 +47,10 @@ moved_channels shift s granule =
 -- all other side fields stay
 unfoldable pub moved_side : Shift → Side → Side
 moved_side shift s = record s { granules = moved_channels shift s 0 ∷ moved_channels shift s 1 ∷ [] }
+
+-- so does a frame that is lost, whole
+abbrev pub moved_unless : Bool → Shift → Side → Side
+moved_unless lost shift s = if lost then s else moved_side shift s
 
 -- ---- the range
 

@@ -1,5 +1,5 @@
 -- A file that is read once from front to back and written with moved gains.
-use Rattle.std.specs.Prelude.{◌≡◌, ℕ, ◌+◌, ◌-◌, List, [], ◌∷◌, ◌++◌, take, drop}
+use Rattle.std.specs.Prelude.{◌≡◌, ℕ, ◌+◌, ◌-◌, if◌then◌else◌, List, [], ◌∷◌, ◌++◌, take, drop}
 use Rattle.frame_header.specs.Tables.{class_of, length_of}
 use Rattle.side_info.specs.Frame.{side_in, frame_with}
 use Rattle.sync_survey.specs.declared.rows.Row.{Row}
@@ -21,9 +21,13 @@ abbrev pub AreRowsOf : List ℕ → List Row → Type 0
 AreRowsOf file [] = Unit {0}
 AreRowsOf file (row ∷ rows) = IsRowOf file row × AreRowsOf file rows
 
+-- the bytes of a frame, or the first of them up to its area, with its gains moved; a lost frame stays
+abbrev pub moved_bytes : Shift → Row → List ℕ → List ℕ
+moved_bytes shift row bytes = if row.lost then bytes else frame_with row.header (moved_side shift row.side) bytes
+
 -- a frame of the file with its gains moved
 abbrev pub moved_row_bytes : Shift → List ℕ → Row → List ℕ
-moved_row_bytes shift file row = frame_with row.header (moved_side shift row.side) (take (row_length row) (drop row.offset file))
+moved_row_bytes shift file row = moved_bytes shift row (take (row_length row) (drop row.offset file))
 
 -- the bytes from one offset of the file to another
 abbrev pub bytes_between : List ℕ → ℕ → ℕ → List ℕ

@@ -7,7 +7,7 @@ use Rattle.sync_survey.specs.declared.rows.Row.{Row}
 use Rattle.sync_survey.specs.MainData.{StreamFrame}
 use Rattle.sync_survey.specs.Faults.{SurveyFields, IsWellFormed, stream_of_survey}
 use Rattle.edits.specs.declared.shift.Shift.{Shift}
-use Rattle.edits.specs.Gains.{moved_side}
+use Rattle.edits.specs.Gains.{moved_side, moved_unless}
 
 -- ---- the survey of the edited file
 
@@ -15,9 +15,9 @@ use Rattle.edits.specs.Gains.{moved_side}
 abbrev pub junk_length : SurveyFields → ℕ
 junk_length s = s.first - s.junk
 
--- a frame has moved gains, and stands so many bytes nearer to the front of the file
+-- a frame that isn't lost has moved gains, and each stands so many bytes nearer to the front of the file
 abbrev pub moved_row : Shift → ℕ → Row → Row
-moved_row shift gap row = record row { offset = row.offset - gap; side = moved_side shift row.side }
+moved_row shift gap row = record row { offset = row.offset - gap; side = moved_unless row.lost shift row.side }
 
 -- a head stands so many bytes nearer to the front, and stays
 abbrev pub moved_head : ℕ → Head → Head
@@ -46,7 +46,7 @@ without_junk s file = take s.junk file ++ drop s.first file
 
 -- ---- the stream
 
--- a frame of a stream with moved gains: its header and its main data stay
+-- a frame of a stream with moved gains: its header and its main data stay; a lost one has no gains there
 abbrev pub moved_stream_frame : Shift → StreamFrame → StreamFrame
 moved_stream_frame shift frame = record frame { side = moved_side shift frame.side }
 

@@ -1,6 +1,6 @@
 //! The first gain that would leave its range.
 ghost use Rattle.std.specs.Prelude.{◌≡◌, IfSome};
-ghost use Rattle.edits.specs.Edited.{stuck_fault, range_fault as range_fault_lem, IsRangeFault};
+ghost use Rattle.edits.specs.Edited.{stuck_fault, stuck_of as stuck_of_lem, range_fault as range_fault_lem, IsRangeFault};
 
 use crate::fault::EditFault;
 use crate::gains::{Stuck, stuck_in};
@@ -15,13 +15,23 @@ fn fault_at(offset: u64, stuck: Option<Stuck>) -> Option<EditFault>
     Some(EditFault::GainRange(offset, stuck.granule, stuck.channel, stuck.gain))
 }
 
+/// The first gain of a frame that would leave the range. A lost frame stays, so it has none.
+fn stuck_of(shift: &Shift, row: &Row) -> Option<Stuck>
+    ensures { result ≡ stuck_of_lem shift.now row.now }
+{
+    if row.lost {
+        return None;
+    }
+    stuck_in(shift, &row.side)
+}
+
 /// The first gain of the frames that would leave the range, in order of frames, granules and channels.
 pub(crate) fn range_fault(shift: &Shift, rows: &[Row]) -> Option<EditFault>
     ensures fault { result ≡ range_fault_lem shift.now rows.now }
     ensures range { IfSome result IsRangeFault }
 {
     for row in rows {
-        if let Some(fault) = fault_at(row.offset, stuck_in(shift, &row.side)) {
+        if let Some(fault) = fault_at(row.offset, stuck_of(shift, row)) {
             return Some(fault);
         }
     }

@@ -2,15 +2,14 @@
 ghost use Rattle.std.specs.Prelude.{◌≡◌, ◌≢◌, ◌+◌, ◌≤◌, ◌++◌, List, ℕ, [], length, take, drop, IfOk, IfErr, OnOk, OnErr, Ok};
 ghost use Rattle.frame_header.specs.Fields.{HeaderFields};
 ghost use Rattle.frame_header.specs.Tables.{class_of, length_of, overhead_of};
-ghost use Rattle.side_info.specs.Frame.{side_in, frame_with};
+ghost use Rattle.side_info.specs.Frame.{side_in};
 ghost use Rattle.outside.specs.Files.{appended, Holds, IsThere};
 ghost use Rattle.outside.specs.Feed.{IsFedFrom};
 ghost use Rattle.outside.specs.Passed.{PassedOn, AppendedPrefix};
 ghost use Rattle.sync_survey.specs.Faults.{tells};
 ghost use Rattle.sync_survey.specs.Survey.{survey_of, AreLaid, IsLaidOut};
-ghost use Rattle.edits.specs.Gains.{moved_side as moved_side_lem};
 ghost use Rattle.edits.specs.Edited.{most_frames, edited};
-ghost use Rattle.edits.specs.Moving.{row_length, row_end, IsRowOf, AreRowsOf, moved_row_bytes, bytes_between, moved_from};
+ghost use Rattle.edits.specs.Moving.{row_length, row_end, IsRowOf, AreRowsOf, moved_bytes, moved_row_bytes, bytes_between, moved_from};
 ghost use Rattle.edits.specs.Pass.{IsReady, Writes, WritesPrefix, Appends, AppendsPrefix, HasCopyCause};
 
 use crate::gains::moved_side;
@@ -57,11 +56,14 @@ fn frame_length(header: &Header) -> u32
 }
 
 /// Moves the gains in the bytes of a frame that stand before its main data, and in a protected frame puts
-/// the check word that is right for them.
+/// the check word that is right for them. A lost frame stays.
 fn move_front(shift: &Shift, row: &Row, front: &mut [u8])
     requires { overhead_of (class_of row.now.header) row.now.header.protected ≤ length front.old }
-    ensures { side_in row.now.header front.old ≡ row.now.side → front.new ≡ frame_with row.now.header (moved_side_lem shift.now row.now.side) front.old }
+    ensures { side_in row.now.header front.old ≡ row.now.side → front.new ≡ moved_bytes shift.now row.now front.old }
 {
+    if row.lost {
+        return;
+    }
     put_gains(&row.header, &moved_side(shift, &row.side), front);
 }
 
@@ -169,7 +171,7 @@ impl<'a> Pass<'a> {
         Ok(())
     }
 
-    /// Copies a frame and moves its gains. The answer is the offset where it ends.
+    /// Copies a frame and moves its gains, where it isn't lost. The answer is the offset where it ends.
     fn move_frame<D: Folder>(
         &self,
         folder: &mut D,

@@ -1,5 +1,5 @@
 -- Moved side information differs from what stands in the frame in gains alone.
-use Rattle.std.proofs.Common.{sym, ◌∙◌, ap, subst}
+use Rattle.std.proofs.Common.{◌≡◌, false, cond, sym, ◌∙◌, ap, subst}
 use Rattle.side_info.specs.Side.{HasOtherGains}
 use Rattle.side_info.specs.Frame.{side_in, frame_with}
 use Rattle.side_info.proofs.FrameLaws.{shaped-side_in}
@@ -15,4 +15,7 @@ returns c is =
     let moved = c.moved_side.ensures in
     let other : HasOtherGains (side_in h front) c.moved_side.result =
     subst (HasOtherGains (side_in h front)) (ap (moved_side shift) is ∙ sym moved) (other_gains shift (side_in h front) (shaped-side_in h front)) in
-    c.put_gains.ensures.gains other ∙ ap (λ s. frame_with h s front) moved
+    let moves : c.args.row.now.lost ≡ false = c.if-row.false in
+    c.put_gains.ensures.gains other
+    ∙ ap (λ s. frame_with h s front) moved
+    ∙ sym (ap (λ lost. cond lost front (frame_with h (moved_side shift c.args.row.now.side) front)) moves)

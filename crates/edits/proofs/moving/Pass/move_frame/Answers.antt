@@ -1,44 +1,49 @@
 -- The bytes before the main data with moved gains, and then the rest of the frame.
-use Rattle.std.proofs.Common.{◌≡◌, ◌≤◌, ◌++◌, ◌-◌, List, ℕ, take, drop, refl, subst, arith, ap, ap₂, ◌∙◌, length, length-drop}
+use Rattle.std.proofs.Common.{◌≡◌, ◌≤◌, ◌++◌, ◌-◌, Bool, true, false, cond, List, ℕ, take, drop, take-append-drop, refl, subst, arith, ap, ap₂, ◌∙◌, length, length-drop}
 use Rattle.std.proofs.lemmas.List.{take_all}
 use Rattle.std.proofs.lemmas.Result.{err_from_is_err_and}
+use Rattle.frame_header.specs.Fields.{HeaderFields}
 use Rattle.frame_header.specs.Tables.{class_of, overhead_of}
+use Rattle.side_info.specs.declared.side.Side.{Side}
 use Rattle.side_info.specs.Frame.{side_in, frame_with}
 use Rattle.side_info.proofs.FrameLaws.{side_in-take, frame_with-take}
 use Rattle.sync_survey.specs.declared.rows.Row.{Row}
 use Rattle.outside.specs.Files.{Holds, appended}
 use Rattle.edits.specs.declared.shift.Shift.{Shift}
 use Rattle.edits.specs.Gains.{moved_side}
-use Rattle.edits.specs.Moving.{row_length, IsRowOf, moved_row_bytes}
+use Rattle.edits.specs.Moving.{row_length, IsRowOf, moved_bytes, moved_row_bytes}
 use Rattle.outside.specs.Passed.{PassedOn, AppendedPrefix}
 use Rattle.edits.proofs.PassLaws.{on_err, prefix_nothing, passed_ready, appended_is_there, writes_piece, prefix_piece, pushed_both, pushed_front, pushed_part, cause_later}
 use Rattle.edits.proofs.moving.Pass.move_frame.Goals as goal
 
--- the frame as it stands, and its front with moved gains
+-- the frame as it stands
 abbrev frame_of : List ℕ → Row → List ℕ
 frame_of file row = take (row_length row) (drop row.offset file)
-
-abbrev front_of : Shift → ℕ → Row → List ℕ → List ℕ
-front_of shift size row file = frame_with row.header (moved_side shift row.side) (take size (frame_of file row))
 
 -- what was put before the rest is the front of the frame, where its row is one of the file
 front_is : (shift : Shift) (file given old new : List ℕ) (size : ℕ) (row : Row) → overhead_of (class_of row.header) row.header.protected ≤ size → overhead_of (class_of row.header) row.header.protected ≤ row_length row
     → IsRowOf file row → given ≡ frame_of file row → old ≡ take size given
-    → (side_in row.header old ≡ row.side → new ≡ frame_with row.header (moved_side shift row.side) old) → new ≡ front_of shift size row file
+    → (side_in row.header old ≡ row.side → new ≡ moved_bytes shift row old) → new ≡ moved_bytes shift row (take size (frame_of file row))
 front_is shift file given old new size row room whole told given_is old_is moved =
     let is : old ≡ take size (frame_of file row) = old_is ∙ ap (take size) given_is in
     let side : side_in row.header old ≡ row.side =
     ap (side_in row.header) is ∙ side_in-take row.header size (frame_of file row) room ∙ side_in-take row.header (row_length row) (drop row.offset file) whole ∙ told in
-    moved side ∙ ap (frame_with row.header (moved_side shift row.side)) is
+    moved side ∙ ap (moved_bytes shift row) is
+
+-- the front and the rest of a frame are the frame with moved gains, or where it is lost, the frame
+moved_parts : (lost : Bool) (h : HeaderFields) (s : Side) (size : ℕ) (frame : List ℕ) → overhead_of (class_of h) h.protected ≤ size
+    → cond lost (take size frame) (frame_with h s (take size frame)) ++ drop size frame ≡ cond lost frame (frame_with h s frame)
+moved_parts true h s size frame room = take-append-drop size frame
+moved_parts false h s size frame room = frame_with-take h s size frame room
 
 -- the two are the frame with moved gains
 are_moved : (shift : Shift) (file given old new : List ℕ) (size : ℕ) (row : Row) → overhead_of (class_of row.header) row.header.protected ≤ size → overhead_of (class_of row.header) row.header.protected ≤ row_length row
     → IsRowOf file row → given ≡ frame_of file row → old ≡ take size given
-    → (side_in row.header old ≡ row.side → new ≡ frame_with row.header (moved_side shift row.side) old) → new ++ take (length given - size) (drop size given) ≡ moved_row_bytes shift file row
+    → (side_in row.header old ≡ row.side → new ≡ moved_bytes shift row old) → new ++ take (length given - size) (drop size given) ≡ moved_row_bytes shift file row
 are_moved shift file given old new size row room whole told given_is old_is moved =
     let rest_is : take (length given - size) (drop size given) ≡ drop size (frame_of file row) = take_all (length given - size) (drop size given) (omega (arith, length-drop size given)) ∙ ap (drop size) given_is in
     ap₂ (λ (l m : List ℕ). l ++ m) (front_is shift file given old new size row room whole told given_is old_is moved) rest_is
-    ∙ frame_with-take row.header (moved_side shift row.side) size (frame_of file row) room
+    ∙ moved_parts row.lost row.header (moved_side shift row.side) size (frame_of file row) room
 
 pub returns-in_err-fill-clause-prefix : goal.returns-in_err-fill-clause-prefix
 returns-in_err-fill-clause-prefix g c =
