@@ -48,7 +48,7 @@ const WRONG_G: Frame = Frame {
 };
 
 /// The frame M with main_data_begin 1.
-const BACK_POINTER: Frame = Frame {
+pub const BACK_POINTER: Frame = Frame {
     header: [0xff, 0xf2, 0x14, 0xc0],
     word: Some(0x6f31),
     side: &[0x01, 0x00, 0x40, 0x01, 0x90],
@@ -76,21 +76,16 @@ struct Refused {
     line: &'static str,
 }
 
-static REFUSED: [Refused; 7] = [
+static REFUSED: [Refused; 6] = [
     Refused {
         what: "a wrong word, later, and a gain out of range before",
         frames: &[LOUD, WRONG_G],
         line: "a: check word at 417 is 01a2, right is 11a2\n",
     },
     Refused {
-        what: "a wrong word and a back pointer",
+        what: "a wrong word in a lost frame",
         frames: &[WRONG_BACK_POINTER],
         line: "a: check word at 0 is e952, right is 6f31\n",
-    },
-    Refused {
-        what: "a back pointer",
-        frames: &[BACK_POINTER],
-        line: "a: back pointer at 0 is 1, present 0\n",
     },
     Refused {
         what: "main data past the area",

@@ -18,6 +18,8 @@ mod list;
 #[cfg(test)]
 mod long;
 #[cfg(test)]
+mod lost;
+#[cfg(test)]
 mod refusals;
 #[cfg(test)]
 mod reservoir;

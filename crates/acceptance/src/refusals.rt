@@ -3,12 +3,12 @@
 use crate::commands::{expect, expect_file, expect_frames, folder_of_file, folder_of_frames};
 use crate::files::{ID3V1, ID3V2, Stretch};
 use crate::frames::{
-    BACK_POINTER, FORBIDDEN_RATE, FREE, Frame, G, G_AT_48_KHZ, HEAD, LAYER_2, MONO, MPEG_2,
-    OVERFULL, RESERVED_FREQUENCY, RESERVED_VERSION, Z,
+    FORBIDDEN_RATE, FREE, Frame, G, G_AT_48_KHZ, HEAD, LAYER_2, MONO, MPEG_2, OVERFULL,
+    RESERVED_FREQUENCY, RESERVED_VERSION, Z,
 };
 use crate::reservoir::{
     FIRST, OVERFULL_BEHIND, OVERLAPPING, OVERLAPPING_AND_OVERFULL, SECOND, SILENT_BACK_POINTER,
-    TOO_FAR,
+    SILENT_TOO_FAR, TOO_FAR,
 };
 use outside::{Call, MemFolder};
 use std::alloc::{AllocError, Global};
@@ -143,13 +143,13 @@ static FAULTY: [Faulty; 30] = [
         line: "a: mixed class at 417\n",
     },
     Faulty {
-        what: "main data before the stream",
-        file: &[Stretch::Frames(&[BACK_POINTER])],
-        line: "a: back pointer at 0 is 10, present 0\n",
+        what: "main data before the stream, behind a frame that has some",
+        file: &[Stretch::Frames(&[FIRST, TOO_FAR])],
+        line: "a: back pointer at 417 is 382, present 381\n",
     },
     Faulty {
-        what: "main data before the area of a head",
-        file: &[Stretch::Frames(&[HEAD, TOO_FAR])],
+        what: "the same of a silent frame",
+        file: &[Stretch::Frames(&[FIRST, SILENT_TOO_FAR])],
         line: "a: back pointer at 417 is 382, present 381\n",
     },
     Faulty {

@@ -133,3 +133,9 @@ pub const SILENT_BACK_POINTER: Frame = Frame {
     side: &[0x29, 0x00],
     ..Z
 };
+
+/// main_data_begin is 382, and all else is as in Z.
+pub const SILENT_TOO_FAR: Frame = Frame {
+    side: &[0xbf, 0x00],
+    ..Z
+};
