@@ -7,18 +7,19 @@
   frames.py counted LISTING HZ,CHANNELS,PACKETS   compares it with what ffprobe tells of the file
   frames.py refusal FILE           of a file that is refused: what the program's line says behind the name
   frames.py past FILE N            'gain V out of range at O, granule G, channel C' for the first gain that N steps lead out of 0 to 255
-  frames.py ends FILE              the least and the greatest gain, but for the silent ones
-  frames.py moved IN N OUT         writes OUT: IN with each gain moved by N, but the silent ones, with right check words, and without
-                                   junk; and says what stands in IN
+  frames.py ends FILE              the least and the greatest gain, but for the silent ones and those of lost frames
+  frames.py moved IN N OUT         writes OUT: IN with each gain moved by N, but the silent ones and those of lost frames, with right
+                                   check words, and without junk; and says what stands in IN
   frames.py without-junk IN OUT    writes OUT: IN without the bytes between its blocks and its first frame
   frames.py spoilt IN PLACE OUT    writes OUT: IN with a wrong check word in its 'first' or 'last' frame
-  frames.py differ A B N           says where A and B differ; status 1 where B is not A with the gains of silent granules alone moved by N,
-                                   and with the check words that are right for them
+  frames.py differ A B N           says where A and B differ; status 1 where B is not A with the gains of silent granules and of lost
+                                   frames alone moved by N, and with the check words that are right for them
   frames.py decoded A B FACTOR     compares two WAV files of 16 bits: B is A times FACTOR, within rounding, and A is not silent
 
 Layout of frames: ISO/IEC 11172-3 and 13818-3, 2.4.1 and 2.4.2; of blocks: ID3v2, ID3v1 and APEv2. A granule of a channel is
 silent where its part2_3_length is 0. The main bytes of a file are the areas of its frames (what is left of a frame behind
 header, check word and side information) end to end; a frame's main data begin main_data_begin bytes before its own area there.
+A frame is lost where that is before the first area, and no frame before it has main data, but lost ones: a plain cutter left it.
 """
 import array
 import sys
@@ -147,6 +148,10 @@ class Frame:
         place = divmod(number, self.channels)
         return Granule(*place, self.bits(at, 12), self.bits(at + 21, 8), self.behind(at + 21, 8))
 
+    def moving(self):
+        """The granules whose gains move: the others are not heard."""
+        return [] if self.lost else [it for it in self.granules if it.length]
+
     def right_word(self, side):
         return check_word(self.header[2:] + side.to_bytes(self.side_size, "big"))
 
@@ -204,6 +209,7 @@ class Survey:
         silent = sum(not it.length for frame in frames for it in frame.granules)
         words = sum(it.protected for it in frames)
         back = sum(it.begin > 0 for it in frames)
+        lost = sum(it.lost for it in frames)
         rates = sorted({it.rate for it in frames})
         modes = sorted({it.mode for it in frames})
         more = [f"{len(frames)} frames, {len(data)} bytes, {frames[0].version.name}, {frames[0].frequency} Hz"]
@@ -212,6 +218,7 @@ class Survey:
         more.append(f"{words} check words")
         more.append(f"{back} back pointers")
         more.append(f"{silent} silent granules")
+        more += [f"{lost} lost frames"] if lost else []
         more += ["a head"] if self.head else []
         more += [it.kind for it in self.blocks]
         more += [f"{self.junk[1] - self.junk[0]} bytes of junk"] if self.junk[0] < self.junk[1] else []
@@ -278,27 +285,36 @@ def stream_from(data, first, blocks):
         at = there.end
 
 
+def judge_main_data(frame, before, ended):
+    """Where the main data end behind the frame, whose own area begins behind so many main bytes; or what is at fault in them."""
+    at = frame.offset
+    if frame.begin > before:
+        raise Refused(f"back pointer at {at} is {frame.begin}, present {before}")
+    start = before - frame.begin
+    if start < ended:
+        raise Refused(f"overlap at {at}")
+    end = start + (frame.payload_bits + 7) // 8
+    if end > before + frame.area:
+        raise Refused(f"overrun at {at}, bits {frame.payload_bits}, room {8 * (frame.begin + frame.area)}")
+    return end if frame.payload_bits else ended
+
+
 def judge(frames, head):
-    """Refuses the first frame that is at fault."""
+    """Refuses the first frame that is at fault, and marks those that are lost."""
     kind = (head or frames[0]).kind
-    before, ended = head.area if head else 0, 0
+    before, ended, leading = head.area if head else 0, 0, True
     for number, frame in enumerate(frames):
         at = frame.offset
+        frame.lost = leading and frame.begin > before
+        leading = leading and (frame.lost or not frame.payload_bits)
         if frame.kind != kind:
             raise Refused(f"mixed class at {at}")
         if frame.protected and frame.word != frame.right_word(frame.side):
             raise Refused(f"check word at {at} is {frame.word:04x}, right is {frame.right_word(frame.side):04x}")
-        if frame.begin > before:
-            raise Refused(f"back pointer at {at} is {frame.begin}, present {before}")
-        start = before - frame.begin
-        if start < ended:
-            raise Refused(f"overlap at {at}")
-        end = start + (frame.payload_bits + 7) // 8
-        if end > before + frame.area:
-            raise Refused(f"overrun at {at}, bits {frame.payload_bits}, room {8 * (frame.begin + frame.area)}")
+        if not frame.lost:
+            ended = judge_main_data(frame, before, ended)
         if number == MOST_FRAMES:
             raise Refused(f"too many frames at {at}")
-        ended = end if frame.payload_bits else ended
         before += frame.area
 
 
@@ -395,8 +411,8 @@ def refusal(name):
 
 def past(name, steps):
     for frame in survey_of(bytes_of(name)).frames:
-        for it in frame.granules:
-            if it.length and not 0 <= it.gain + int(steps) <= 255:
+        for it in frame.moving():
+            if not 0 <= it.gain + int(steps) <= 255:
                 print(f"gain {it.gain} out of range at {frame.offset}, granule {it.granule}, channel {it.channel}")
                 return
     sys.exit("no gain leaves the range")
@@ -404,18 +420,17 @@ def past(name, steps):
 
 def ends(name):
     frames = survey_of(bytes_of(name)).frames
-    gains = [it.gain for frame in frames for it in frame.granules if it.length]
+    gains = [it.gain for frame in frames for it in frame.moving()]
     print(min(gains), max(gains))
 
 
 def moved_side(frame, steps):
     side = frame.side
-    for it in frame.granules:
-        if it.length:
-            new = it.gain + steps
-            if not 0 <= new <= 255:
-                sys.exit(f"gain {it.gain} would become {new}")
-            side += new - it.gain << it.behind
+    for it in frame.moving():
+        new = it.gain + steps
+        if not 0 <= new <= 255:
+            sys.exit(f"gain {it.gain} would become {new}")
+        side += new - it.gain << it.behind
     return side
 
 
@@ -458,7 +473,7 @@ def differ(one, other, steps):
         theirs = int.from_bytes(b[frame.side_at : frame.side_end], "big")
         apart = frame.side ^ theirs
         for it in frame.granules:
-            if not it.length and apart >> it.behind & 0xFF == it.gain ^ it.gain + steps:
+            if (frame.lost or not it.length) and apart >> it.behind & 0xFF == it.gain ^ it.gain + steps:
                 silent += 1
                 apart &= ~(0xFF << it.behind)
         if apart:
