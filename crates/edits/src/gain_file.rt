@@ -83,15 +83,15 @@ fn write_output<D: Folder>(
     }
 }
 
-/// Writes the output, which is the input with its gains moved by the shift.
+/// Writes the output, which is the input with its gains moved by the shift. Lost frames stay as they are.
 ///
 /// Refuses, in this order: `EqualNames(0)` where the names are equal, byte for byte; `Input(0, ..)` with the
-/// fault of the survey of the input, of which 2,900,000 frames are allowed; `GainRange` for the first gain that
-/// would leave the range without wrap. Then nothing was created. `Input` with `Read` and `Write(0)` come only
-/// where a call of that kind failed, `Input` with `Absent` only where the input isn't there, and every other
-/// answer only where none failed; after `Write(0)` the output is as it was or holds a prefix of its bytes.
-/// `Memory` may come once the input was found with a length that it may have, before the output is created,
-/// and not from then on.
+/// fault of the survey of the input, of which 2,900,000 frames are allowed; `GainRange` for the first gain, but
+/// those of lost frames, that would leave the range without wrap. Then nothing was created. `Input` with
+/// `Read` and `Write(0)` come only where a call of that kind failed, `Input` with `Absent` only where the input
+/// isn't there, and every other answer only where none failed; after `Write(0)` the output is as it was or
+/// holds a prefix of its bytes. `Memory` may come once the input was found with a length that it may have,
+/// before the output is created, and not from then on.
 pub fn gain<D: Folder>(
     alloc: Global,
     folder: &mut D,

@@ -1,4 +1,5 @@
-//! The second pass over an input: it is read from front to back, and written with the gains of its frames moved.
+//! The second pass over an input: it is read from front to back, and written with the gains of its frames moved,
+//! but for lost ones.
 ghost use Rattle.std.specs.Prelude.{◌≡◌, ◌≢◌, ◌+◌, ◌≤◌, ◌++◌, List, ℕ, [], length, take, drop, IfOk, IfErr, OnOk, OnErr, Ok};
 ghost use Rattle.frame_header.specs.Fields.{HeaderFields};
 ghost use Rattle.frame_header.specs.Tables.{class_of, length_of, overhead_of};
@@ -242,7 +243,8 @@ impl<'a> Pass<'a> {
     }
 }
 
-/// Appends the input to the output, with its gains moved by the shift and without its junk. It takes no memory.
+/// Appends the input to the output, with its gains moved by the shift, but those of lost frames, and without its
+/// junk. It takes no memory.
 ///
 /// Ends early with `Read` where a read failed; with `Shrunk`, the length that the input was found with and
 /// the one that it had when it was read, where a read gave no byte before that length; and with `Write` where
