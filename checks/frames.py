@@ -355,7 +355,8 @@ def survey(name):
 
 def line_of(number, frame):
     padded = " padded" if frame.padded else ""
-    return f"frame {number} at {frame.offset}: {frame.rate} kbit/s{padded}, begin {frame.begin}, bits {frame.payload_bits}"
+    lost = ", lost" if frame.lost else ""
+    return f"frame {number} at {frame.offset}: {frame.rate} kbit/s{padded}, begin {frame.begin}, bits {frame.payload_bits}{lost}"
 
 
 def time_of(samples, frequency):

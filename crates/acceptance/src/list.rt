@@ -14,7 +14,7 @@ struct Case {
     text: &'static str,
 }
 
-static CASES: [Case; 7] = [
+static CASES: [Case; 8] = [
     Case {
         what: "the bit reservoir",
         file: &[Stretch::Frames(&[FIRST, SECOND])],
@@ -28,6 +28,13 @@ frame 1 at 417: 128 kbit/s, begin 81, bits 3200
         file: &[Stretch::Frames(&[HEAD, NEARER])],
         text: "head at 0: 417 bytes
 frame 0 at 417: 128 kbit/s, begin 40, bits 3200
+1 frames, MPEG-1, 44100 Hz, 2 channels, 0.00.02
+",
+    },
+    Case {
+        what: "a first frame whose main data were cut off",
+        file: &[Stretch::Frames(&[SECOND])],
+        text: "frame 0 at 0: 128 kbit/s, begin 81, bits 3200, lost
 1 frames, MPEG-1, 44100 Hz, 2 channels, 0.00.02
 ",
     },

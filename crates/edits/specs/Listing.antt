@@ -35,11 +35,16 @@ extent at size = codes " at " ++ (decimal at ++ (codes ": " ++ (decimal size ++ 
 abbrev pub padding_text : Bool → List ℕ
 padding_text padding = if padding then codes " padded" else []
 
+-- its main data begin before the stream
+abbrev pub lost_text : Bool → List ℕ
+lost_text lost = if lost then codes ", lost" else []
+
 -- number and offset of a frame, its bit rate, how far back its main data begin, and how many bits they are
 abbrev pub frame_line : ℕ → Row → List ℕ
 frame_line number row =
     codes "frame " ++ (decimal number ++ (codes " at " ++ (decimal row.offset ++ (codes ": " ++ (decimal (rate_of (class_of row.header) row.header.slot)
-    ++ (codes " kbit/s" ++ (padding_text row.header.slot.padding ++ (codes ", begin " ++ (decimal row.side.main_data_begin ++ (codes ", bits " ++ (decimal (payload_bits row.side) ++ codes "\n")))))))))))
+    ++ (codes " kbit/s" ++ (padding_text row.header.slot.padding ++ (codes ", begin " ++ (decimal row.side.main_data_begin ++ (codes ", bits " ++ (decimal (payload_bits row.side)
+    ++ (lost_text row.lost ++ codes "\n"))))))))))))
 
 unfoldable pub line_of : Thing → List ℕ
 line_of (Block piece) = codes "block " ++ (kind_name piece.block.kind ++ extent piece.offset piece.block.length)

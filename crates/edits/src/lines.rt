@@ -33,13 +33,16 @@ fn kind_name<'a>(kind: Kind) -> &'a [u8]
     }
 }
 
-// The number of a frame, its offset, its bit rate, how far back its main data begin, and how many bits they are.
+// The number of a frame, its offset, its bit rate, how far back its main data begin, how many bits they are, and whether it is lost.
 fn set_frame_line(line: &mut Line, number: u64, row: &Row)
     ensures { line.new ≡ frame_line_lem number row.now }
 {
     let slot = row.header.slot;
     line.clear();
     line.put(b"\n");
+    if row.lost {
+        line.put(b", lost");
+    }
     line.put_number(u64::from(row.side.bits()));
     line.put(b", bits ");
     line.put_number(u64::from(row.side.main_data_begin));

@@ -47,11 +47,12 @@ fn send_listing<T: Sink>(survey: &Survey, mut buffer: SendBuffer, out: &mut T) -
 /// | tag | `block KIND at O: L bytes`, KIND is `ID3v2`, `ID3v1` or `APEv2` |
 /// | junk before the first frame | `junk at O: L bytes` |
 /// | Xing or Info head | `head at O: L bytes` |
-/// | frame | `frame I at O: R kbit/s, begin B, bits P`, with ` padded` behind `kbit/s` where padding is set |
+/// | frame | `frame I at O: R kbit/s, begin B, bits P`, with ` padded` behind `kbit/s` where padding is set, and with `, lost` at its end where it is lost |
 /// | summary | `N frames, V, F Hz, C channels, M.SS.HH` |
 ///
 /// O is an offset and L a length in bytes, I the number of the frame, counted from 0 without the head, R its bit
-/// rate, B its main_data_begin in bytes, P the bits of its main data. V is `MPEG-1`, `MPEG-2` or `MPEG-2.5`,
+/// rate, B its main_data_begin in bytes, P the bits of its main data; it is lost where they begin before the
+/// stream, in bytes that were cut off. V is `MPEG-1`, `MPEG-2` or `MPEG-2.5`,
 /// M.SS.HH minutes, seconds and hundredths, rounded down.
 ///
 /// # Errors

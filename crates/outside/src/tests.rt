@@ -1,6 +1,7 @@
 //! What no clause says: that calls succeed, and what the system does.
 mod buffers;
 mod real;
+mod sending;
 mod shaky;
 mod slow;
 
