@@ -152,7 +152,7 @@ fn a_listed_song(rt: HostRuntime) -> Result<(), Fail> {
 head at 30000: 417 bytes
 frame 0 at 30417: 128 kbit/s, begin 200, bits 3597
 ";
-    let end = b"block ID3v1 at 4352417: 128 bytes
+    let end = b"block ID3v1 at 4352117: 128 bytes
 9200 frames, MPEG-1, 44100 Hz, 2 channels, 4.00.32
 ";
     assert_eq!(rt; ended.status, 0);
