@@ -1,5 +1,5 @@
 -- What the list command leaves, by the survey of its input.
-use Rattle.std.proofs.Common.{◌≡◌, ℕ, ◌+◌, ◌≤◌, List, [], ◌∷◌, length, Option, Some, None, Result, Ok, Err, refl, sym, ◌∙◌, ap, ap₂, subst, inl, inr, arith}
+use Rattle.std.proofs.Common.{◌≡◌, ℕ, ◌+◌, ◌≤◌, List, [], length, Some, None, Result, Ok, Err, refl, sym, ◌∙◌, ap, ap₂, subst, inl, inr, arith}
 use Rattle.std.specs.Prelude.{IfSome, is_some}
 use Rattle.outside.specs.Files.{Contents, Files, Holds, IsThere, IsMissing}
 use Rattle.outside.specs.Counts.{Counts}
@@ -16,7 +16,7 @@ use Rattle.edits.specs.declared.fault.EditFault.TheVariants.{Input, Sent as NotS
 use Rattle.edits.specs.Kinds.{of_input}
 use Rattle.edits.specs.Edited.{most_frames}
 use Rattle.edits.specs.Command.{Made, Gives, written, MakesStreams, HoldsStreams}
-use Rattle.edits.specs.Left.{Seen, seen, IsDone, IsRefused, TakesMemory, Leaves}
+use Rattle.edits.specs.Left.{seen, IsDone, IsRefused, TakesMemory, Leaves}
 use Rattle.edits.specs.Said.{IsText}
 use Rattle.edits.specs.Listing.{listed_by, listed_where, listing, list_command}
 use Rattle.edits.proofs.GainLaws.{of_bytes_behind, ok_made}

@@ -1,6 +1,6 @@
 -- The lines of a listing, one after another, and what is sent of them.
-use Rattle.std.proofs.Common.{◌≡◌, ℕ, List, [], ◌∷◌, ◌++◌, length, drop, refl, sym, ◌∙◌, ap, subst, append_assoc, Option, Some, None}
-use Rattle.std.specs.Prelude.{flat_map, Result, Ok, Err, OnOk, OnErr}
+use Rattle.std.proofs.Common.{◌≡◌, ℕ, List, [], ◌∷◌, ◌++◌, length, drop, refl, sym, ◌∙◌, ap, subst, append_assoc, Some, None}
+use Rattle.std.specs.Prelude.{Result, Ok, Err, OnOk, OnErr}
 use Rattle.outside.specs.Files.{Sent, sent_more}
 use Rattle.outside.specs.Passed.{SentOn, SentPrefix}
 use Rattle.outside.proofs.SentLaws.{sent_none, sent_more_on, sent_more_prefix, sent_then_all, sent_then_prefix, sent_prefix_of}

@@ -1,7 +1,6 @@
 -- A walk over the things of a file meets them in order of their offsets.
-use Rattle.std.proofs.Common.{◌≡◌, ℕ, ◌+◌, ◌-◌, ◌≤◌, ◌<◌, Bool, true, false, cond, List, [], ◌∷◌, ◌++◌, length, get_or, map, drop, Option, Some, None, refl, sym, ◌∙◌, ap, ap₂, subst, ltb, arith, append-nil}
-use Rattle.std.specs.Prelude.{option_to_list, option_map, IfSome}
-use Rattle.std.specs.List.{enumerate_from}
+use Rattle.std.proofs.Common.{◌≡◌, ℕ, ◌+◌, ◌-◌, ◌≤◌, ◌<◌, true, false, cond, List, [], ◌∷◌, ◌++◌, length, get_or, map, drop, Option, Some, None, refl, sym, ◌∙◌, ap, subst, ltb, arith}
+use Rattle.std.specs.Prelude.{option_map, IfSome}
 use Rattle.std.proofs.lemmas.Bool.{lt-ltb, le-ltb, ltb-true, ltb-false}
 use Rattle.std.proofs.lemmas.List.{drop_more, drop_all}
 use Rattle.frame_header.specs.Tables.{class_of, length_of}
@@ -11,9 +10,9 @@ use Rattle.sync_survey.specs.declared.rows.Row.{Row}
 use Rattle.sync_survey.specs.Faults.{SurveyFields}
 use Rattle.sync_survey.specs.Survey.{AreLaid, BlocksAreLaid, IsLaidOut}
 use Rattle.edits.specs.declared.things.Thing.{Thing}
-use Rattle.edits.specs.declared.things.Thing.TheVariants.{Block, Junk, FirstHead, Frame}
+use Rattle.edits.specs.declared.things.Thing.TheVariants.{Block, Junk}
 use Rattle.edits.specs.declared.things.Things.{Things}
-use Rattle.edits.specs.Things.{offset_of, junk_of, head_of, frames_from, stream_things, things_of, put_in, in_order, before, merged, stream_left, left, first_of}
+use Rattle.edits.specs.Things.{offset_of, head_of, frames_from, stream_things, things_of, put_in, in_order, before, merged, stream_left, left, first_of}
 
 -- each stands at or behind the one before it, and the first at or behind a place
 abbrev pub Rises : ℕ → List Thing → Type 0

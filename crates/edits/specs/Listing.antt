@@ -1,6 +1,5 @@
 -- The list command: a line for each thing of a file, in order of the offsets, and a summary.
 use Rattle.std.specs.Prelude.{ℕ, ◌+◌, ◌*◌, ◌/◌, ◌%◌, Bool, if◌then◌else◌, List, [], ◌∷◌, ◌++◌, length, flat_map, codes, decimal, Option, Some, None, Result, Ok, Err}
-use Rattle.outside.specs.Files.{Contents}
 use Rattle.frame_header.specs.declared.version.Version.{Version}
 use Rattle.frame_header.specs.declared.version.Version.TheVariants.{One, Two, TwoFive}
 use Rattle.frame_header.specs.Fields.{ClassFields}

@@ -1,5 +1,5 @@
 -- What `run` promises, from the answer of a command.
-use Rattle.std.proofs.Common.{◌≡◌, ◌≢◌, ◌↔◌, ◌⊎◌, ℕ, ◌≤◌, List, [], ◌∷◌, Option, Some, None, Result, Ok, Err, refl, sym, ◌∙◌, ap, subst, inl, inr, arith}
+use Rattle.std.proofs.Common.{◌≡◌, ◌≢◌, ◌↔◌, ◌⊎◌, ℕ, ◌≤◌, List, [], Option, Some, None, Result, Ok, Err, refl, sym, ◌∙◌, ap, subst, inl, inr, arith}
 use Rattle.std.proofs.Math.Seq.{take-nil}
 use Rattle.std.specs.Prelude.{IfSome, IfErr}
 use Rattle.outside.specs.Files.{Contents, Files, untold, Sent, sent_more}
@@ -13,10 +13,9 @@ use Rattle.edits.specs.Command.{Made, Command, written, Gives, MakesStreams, Hol
 use Rattle.edits.specs.declared.shift.Shift.{Shift}
 use Rattle.edits.specs.Said.{Heard, IsText, SaysAll, Says, fault_of}
 use Rattle.edits.specs.Gain.{made_of, gain_command}
-use Rattle.edits.specs.Left.{Why, Refused, Missing, Unread, Shorter, Unwritten, Unsent, NoMemory, why_of, Seen, IsDone, IsRefused, LeavesBy, Leaves, HasNumbers}
+use Rattle.edits.specs.Left.{Why, Refused, Missing, Unread, Shorter, Unwritten, Unsent, NoMemory, why_of, Seen, IsRefused, LeavesBy, Leaves, HasNumbers}
 use Rattle.mp3_cli.specs.declared.jobs.Job.{Job}
-use Rattle.mp3_cli.specs.declared.jobs.Job.TheVariants.{Help, Version, List as ListFile, Gain}
-use Rattle.mp3_cli.specs.Words.{word_at, job_of}
+use Rattle.mp3_cli.specs.Words.{job_of}
 use Rattle.mp3_cli.specs.Texts.{status_by, bad_word_line, GotWhole, GotFront, GotLine}
 use Rattle.mp3_cli.specs.Run.{said_command, command_of, always_of, fault_status, line_of, GetsLine, Answers, made_outcome, command_outcome, job_outcome, outcome, IsOutcome, IsAcceptedBy, IsAccepted}
 

@@ -1,6 +1,6 @@
 -- What the program does, from its words and the files that are there.
 use Rattle.std.specs.Prelude.{◌≡◌, ℕ, List, [], Option, Some, None, Result, Ok, Err, IfOk, IfSome}
-use Rattle.outside.specs.Files.{Contents, Files, Sent, sent_more}
+use Rattle.outside.specs.Files.{Contents, Files, sent_more}
 use Rattle.edits.specs.declared.fault.EditFault.{EditFault}
 use Rattle.edits.specs.declared.fault.EditFault.TheVariants.{EqualNames}
 use Rattle.edits.specs.Command.{Made, Command, clash_of, written, HoldsStreams}

@@ -1,10 +1,9 @@
 -- One line after another, then the summary, then what waits.
-use Rattle.std.proofs.Common.{◌≡◌, ◌++◌, refl, sym, ◌∙◌, ap, subst, length}
+use Rattle.std.proofs.Common.{◌++◌, refl, ◌∙◌, subst}
 use Rattle.outside.specs.Passed.{SentOn, SentPrefix}
-use Rattle.outside.proofs.SentLaws.{sent_then_all, sent_then_prefix}
 use Rattle.sync_survey.specs.Faults.{tells}
 use Rattle.edits.specs.Things.{left}
-use Rattle.edits.specs.Listing.{line_of, summary, listing}
+use Rattle.edits.specs.Listing.{listing}
 use Rattle.edits.proofs.ListingLaws.{listed_none, listed_more, listed_failed, summary_failed, summary_more, sent_behind, prefix_behind, on_error}
 use Rattle.edits.proofs.list_file.send_listing.Given.{Over}
 use Rattle.edits.proofs.list_file.send_listing.Goals as goal

@@ -1,10 +1,9 @@
 -- The answers of texts that are said, and of a command without a text.
-use Rattle.std.proofs.Common.{rules, ◌≡◌, ◌≢◌, [], Some, map, string_bytes, sym, subst}
+use Rattle.std.proofs.Common.{rules, ◌≢◌, [], Some}
 use Rattle.edits.specs.Left.{seen}
 use Rattle.edits.specs.Said.{heard}
 use Rattle.mp3_cli.specs.Texts.{help_text, version_text}
-use Rattle.mp3_cli.specs.Run.{command_of, Answers}
-use Rattle.mp3_cli.proofs.RunLaws.{said_answers, text_streams, gain_says}
+use Rattle.mp3_cli.proofs.RunLaws.{said_answers, gain_says}
 use Rattle.mp3_cli.proofs.program.run_job.Goals as goal
 
 some_help : Some help_text ≢ Some []

@@ -1,5 +1,5 @@
 -- The lines are the text.
-use Rattle.std.proofs.Common.{◌≡◌, refl, subst, flat_map, List, ℕ}
+use Rattle.std.proofs.Common.{refl, subst}
 use Rattle.edits.specs.Said.{heard, Says, fault_of}
 use Rattle.mp3_cli.specs.Texts.{version_text}
 use Rattle.mp3_cli.specs.Run.{said_command}

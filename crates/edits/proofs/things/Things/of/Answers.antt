@@ -1,8 +1,7 @@
 -- All things of the file are left, in order.
-use Rattle.std.proofs.Common.{◌≡◌, ◌++◌, map, refl, sym, ◌∙◌, ap, Option, Some, None}
-use Rattle.std.specs.Prelude.{option_to_list, option_map}
+use Rattle.std.proofs.Common.{refl, sym, ◌∙◌}
 use Rattle.sync_survey.specs.Faults.{tells}
-use Rattle.edits.specs.Things.{left, merged, stream_things}
+use Rattle.edits.specs.Things.{left}
 use Rattle.edits.proofs.ThingsLaws.{things_in_order}
 use Rattle.edits.proofs.things.Things.of.Goals as goal
 
