@@ -6,7 +6,7 @@ use Rattle.std.specs.Str.Parse.{digits_value}
 use Rattle.std.proofs.lemmas.Int.{ints}
 use Rattle.std.proofs.lemmas.Bool.{leb-true}
 use Rattle.mp3_cli.specs.declared.jobs.Job.{Job}
-use Rattle.mp3_cli.specs.Words.{Kind, Name, Form, fits_kind, forms, list_file, gain_without_tags, have_kinds, job_of, step_count, steps_of, word_at, IsStepCount, IsSound}
+use Rattle.mp3_cli.specs.Words.{Kind, Name, Form, fits_kind, forms, list_file, gain_without_tags, gain_wrapping, wrapping_gain, have_kinds, job_of, step_count, steps_of, word_at, IsStepCount, IsSound}
 use Rattle.mp3_cli.proofs.Places.{reading_ok}
 
 and_last : (x d : Bool) → (x && d) ≡ true → d ≡ true
@@ -68,6 +68,22 @@ gain_is_sound words h =
       steps_in_range (word_at words 5),
     )
 
+gain_wrapping_is_sound : (words : List (List ℕ)) → have_kinds gain_wrapping.kinds words ≡ true → IsSound words (gain_wrapping.reads words)
+gain_wrapping_is_sound words h =
+    let eight : length words ≡ 8 = as_many gain_wrapping.kinds words h in (
+      record { counted = omega arith; in_range = omega arith; name = each_fits gain_wrapping.kinds words 6 Name h (omega arith) },
+      record { counted = omega arith; in_range = omega arith; name = each_fits gain_wrapping.kinds words 7 Name h (omega arith) },
+      steps_in_range (word_at words 6),
+    )
+
+wrapping_gain_is_sound : (words : List (List ℕ)) → have_kinds wrapping_gain.kinds words ≡ true → IsSound words (wrapping_gain.reads words)
+wrapping_gain_is_sound words h =
+    let eight : length words ≡ 8 = as_many wrapping_gain.kinds words h in (
+      record { counted = omega arith; in_range = omega arith; name = each_fits wrapping_gain.kinds words 6 Name h (omega arith) },
+      record { counted = omega arith; in_range = omega arith; name = each_fits wrapping_gain.kinds words 7 Name h (omega arith) },
+      steps_in_range (word_at words 6),
+    )
+
 -- what words of a form ask for is sound
 abbrev AreSound : Form → Type 0
 AreSound f = (words : List (List ℕ)) → have_kinds f.kinds words ≡ true → IsSound words (f.reads words)
@@ -83,7 +99,9 @@ form_is_sound (suc zero) form lt here = subst AreSound here (λ words h. tt)
 form_is_sound (suc (suc zero)) form lt here = subst AreSound here (λ words h. tt)
 form_is_sound (suc (suc (suc zero))) form lt here = subst AreSound here list_is_sound
 form_is_sound (suc (suc (suc (suc zero)))) form lt here = subst AreSound here gain_is_sound
-form_is_sound (suc (suc (suc (suc (suc k))))) form lt here = absurd (omega (arith, lt))
+form_is_sound (suc (suc (suc (suc (suc zero))))) form lt here = subst AreSound here gain_wrapping_is_sound
+form_is_sound (suc (suc (suc (suc (suc (suc zero)))))) form lt here = subst AreSound here wrapping_gain_is_sound
+form_is_sound (suc (suc (suc (suc (suc (suc (suc k))))))) form lt here = absurd (omega (arith, lt))
 
 pub is_sound : (words : List (List ℕ)) (job : Job) → Ok job ≡ job_of words → IsSound words job
 unfolding job_of

@@ -71,7 +71,7 @@ unfoldable pub help_text : List ℕ
 help_text =
     codes "usage: mp3edit COMMAND\n"
     ++ (codes "  list IN                say what stands in the MP3 file IN: tags, junk, head and frames\n"
-    ++ (codes "  gain -s s -g N IN OUT  write IN to OUT, louder by N steps of 1.5 dB (quieter below 0)\n"
+    ++ (codes "  gain -s s [-w] -g N IN OUT\n                         write IN to OUT, louder by N steps of 1.5 dB (quieter below 0)\n"
     ++ (codes "  --help, -h             say this\n"
     ++ (codes "  --version              say which version this is\n"
     ++ (codes "status: 0 done; 1 refused; 2 bad word; 3 a file is absent, or reading or writing failed;\n"

@@ -1,5 +1,5 @@
 -- The forms that the program's words have, and what words of a form ask for.
-use Rattle.std.specs.Prelude.{◌≡◌, ◌≤◌, ◌<◌, ◌≤ℤ◌, take, IsTrue, Contains, ℕ, ◌+◌, ◌-◌, max, Bool, false, not, ◌&&◌, ◌==◌, nat_le, if◌then◌else◌, List, [], ◌∷◌, length, map, find, fold, slice_index_or, Option, Some, None, unwrap_or, option_map, is_some, Result, Ok, Err, ℤ, pos, neg_ℤ, codes, bytes_eq}
+use Rattle.std.specs.Prelude.{◌≡◌, ◌≤◌, ◌<◌, ◌≤ℤ◌, take, IsTrue, Contains, ℕ, ◌+◌, ◌-◌, max, Bool, true, false, not, ◌&&◌, ◌==◌, nat_le, if◌then◌else◌, List, [], ◌∷◌, ◌++◌, length, map, find, fold, slice_index_or, Option, Some, None, unwrap_or, option_map, is_some, Result, Ok, Err, ℤ, pos, neg_ℤ, codes, bytes_eq}
 use Rattle.std.specs.List.{common_prefix_len}
 use Rattle.std.specs.Cmp.Lexicographic.{pointwise}
 use Rattle.std.specs.Str.{all_ascii_digits}
@@ -70,16 +70,35 @@ version = record { kinds = Fixed (codes "--version") ∷ []; reads = λ words. V
 abbrev pub list_file : Form
 list_file = record { kinds = Fixed (codes "list") ∷ Name ∷ []; reads = λ words. ListFile 2 }
 
--- `gain -s s -g N IN OUT`
+-- `-s s`: tags aren't touched
+abbrev pub tags_untouched : List Kind
+tags_untouched = Fixed (codes "-s") ∷ Fixed (codes "s") ∷ []
+
+-- `-w`: gains that leave their range come in again at its other end
+abbrev pub wrapping : List Kind
+wrapping = Fixed (codes "-w") ∷ []
+
+-- `gain OPTIONS -g N IN OUT`
+abbrev pub gain_form : List Kind → Bool → Form
+gain_form options wrap =
+    let before : ℕ = length options in record {
+      kinds = Fixed (codes "gain") ∷ (options ++ (Fixed (codes "-g") ∷ Steps ∷ Name ∷ Name ∷ []));
+      reads = λ words. Gain (record { channels = Both; steps = unwrap_or (steps_of (word_at words (before + 3))) (pos 0); wrap = wrap }) false (before + 4) (before + 5);
+    }
+
 abbrev pub gain_without_tags : Form
-gain_without_tags = record {
-  kinds = Fixed (codes "gain") ∷ Fixed (codes "-s") ∷ Fixed (codes "s") ∷ Fixed (codes "-g") ∷ Steps ∷ Name ∷ Name ∷ [];
-  reads = λ words. Gain (record { channels = Both; steps = unwrap_or (steps_of (word_at words 5)) (pos 0); wrap = false }) false 6 7;
-}
+gain_without_tags = gain_form tags_untouched false
+
+-- the two options in either order
+abbrev pub gain_wrapping : Form
+gain_wrapping = gain_form (tags_untouched ++ wrapping) true
+
+abbrev pub wrapping_gain : Form
+wrapping_gain = gain_form (wrapping ++ tags_untouched) true
 
 -- all of them
 abbrev pub forms : List Form
-forms = help ∷ short_help ∷ version ∷ list_file ∷ gain_without_tags ∷ []
+forms = help ∷ short_help ∷ version ∷ list_file ∷ gain_without_tags ∷ gain_wrapping ∷ wrapping_gain ∷ []
 
 -- ---- the reading
 

@@ -77,7 +77,8 @@ struct Said {
 
 const USAGE: &[u8] = b"usage: mp3edit COMMAND
   list IN                say what stands in the MP3 file IN: tags, junk, head and frames
-  gain -s s -g N IN OUT  write IN to OUT, louder by N steps of 1.5 dB (quieter below 0)
+  gain -s s [-w] -g N IN OUT
+                         write IN to OUT, louder by N steps of 1.5 dB (quieter below 0)
   --help, -h             say this
   --version              say which version this is
 status: 0 done; 1 refused; 2 bad word; 3 a file is absent, or reading or writing failed;

@@ -57,7 +57,7 @@ fn send_pieces<E: Sink>(err: &mut E, pieces: &[&str])
 static HELP: [&str; 7] = [
     "usage: mp3edit COMMAND\n",
     "  list IN                say what stands in the MP3 file IN: tags, junk, head and frames\n",
-    "  gain -s s -g N IN OUT  write IN to OUT, louder by N steps of 1.5 dB (quieter below 0)\n",
+    "  gain -s s [-w] -g N IN OUT\n                         write IN to OUT, louder by N steps of 1.5 dB (quieter below 0)\n",
     "  --help, -h             say this\n",
     "  --version              say which version this is\n",
     "status: 0 done; 1 refused; 2 bad word; 3 a file is absent, or reading or writing failed;\n",

@@ -1,5 +1,5 @@
 //! The program's words.
-ghost use Rattle.std.specs.Prelude.{◌≡◌, ◌≤◌, List, length, map, string_bytes, option_map, pos, IfOk, IfErr};
+ghost use Rattle.std.specs.Prelude.{◌≡◌, ◌≤◌, ◌<◌, ◌^◌, ◌+◌, false, unwrap_or, List, length, map, string_bytes, option_map, pos, IfOk, IfErr};
 ghost use Rattle.std.specs.List.{common_prefix_len};
 ghost use Rattle.mp3_cli.specs.Words.{is_name, step_count, steps_of, fits_kind, job_of, IsReading, IsBadWord, IsSound};
 ghost use Rattle.mp3_cli.specs.Table.{word_kind, form_named};
@@ -26,14 +26,18 @@ enum FormName {
     Version,
     List,
     GainWithoutTags,
+    GainWrapping,
+    WrappingGain,
 }
 
-const FORMS: [FormName; 5] = [
+const FORMS: [FormName; 7] = [
     FormName::Help,
     FormName::ShortHelp,
     FormName::Version,
     FormName::List,
     FormName::GainWithoutTags,
+    FormName::GainWrapping,
+    FormName::WrappingGain,
 ];
 
 static HELP: [WordKind; 1] = [WordKind::Fixed("--help")];
@@ -46,6 +50,28 @@ static LIST: [WordKind; 2] = [WordKind::Fixed("list"), WordKind::Name];
 
 static GAIN_WITHOUT_TAGS: [WordKind; 7] = [
     WordKind::Fixed("gain"),
+    WordKind::Fixed("-s"),
+    WordKind::Fixed("s"),
+    WordKind::Fixed("-g"),
+    WordKind::Steps,
+    WordKind::Name,
+    WordKind::Name,
+];
+
+static GAIN_WRAPPING: [WordKind; 8] = [
+    WordKind::Fixed("gain"),
+    WordKind::Fixed("-s"),
+    WordKind::Fixed("s"),
+    WordKind::Fixed("-w"),
+    WordKind::Fixed("-g"),
+    WordKind::Steps,
+    WordKind::Name,
+    WordKind::Name,
+];
+
+static WRAPPING_GAIN: [WordKind; 8] = [
+    WordKind::Fixed("gain"),
+    WordKind::Fixed("-w"),
     WordKind::Fixed("-s"),
     WordKind::Fixed("s"),
     WordKind::Fixed("-g"),
@@ -110,6 +136,24 @@ fn follow(words: &[String], kinds: &[WordKind]) -> usize
     count
 }
 
+// A change by these steps of the file that this word names, to the file that the next one does.
+fn gain_of(steps: &str, wrap: bool, input: u32) -> Job
+    requires { input < 2 ^ 31 }
+    ensures { result ≡ Job.Gain (record { channels = Channels.Both; steps = unwrap_or (steps_of steps.now) (pos 0); wrap = wrap }) false input (input + 1) }
+{
+    let shift = Shift {
+        channels: Channels::Both,
+        steps: read_steps(steps).unwrap_or(0),
+        wrap,
+    };
+    Job::Gain {
+        shift,
+        tags: false,
+        input,
+        output: input + 1,
+    }
+}
+
 impl FormName {
     fn kinds(self) -> &'static [WordKind]
         ensures { map word_kind result.now ≡ (form_named self).kinds }
@@ -120,6 +164,8 @@ impl FormName {
             FormName::Version => &VERSION,
             FormName::List => &LIST,
             FormName::GainWithoutTags => &GAIN_WITHOUT_TAGS,
+            FormName::GainWrapping => &GAIN_WRAPPING,
+            FormName::WrappingGain => &WRAPPING_GAIN,
         }
     }
 
@@ -132,24 +178,17 @@ impl FormName {
             FormName::Help | FormName::ShortHelp => Job::Help,
             FormName::Version => Job::Version,
             FormName::List => Job::List { input: 2 },
-            FormName::GainWithoutTags => Job::Gain {
-                shift: Shift {
-                    channels: Channels::Both,
-                    steps: read_steps(&words[4]).unwrap_or(0),
-                    wrap: false,
-                },
-                tags: false,
-                input: 6,
-                output: 7,
-            },
+            FormName::GainWithoutTags => gain_of(&words[4], false, 6),
+            FormName::GainWrapping | FormName::WrappingGain => gain_of(&words[5], true, 7),
         }
     }
 }
 
 /// What the words ask for. Where they have no form, it is refused with the place, counted from 1, of the
 /// first word that no form takes, or the number of words plus 1 where a word is missing.
-/// The forms are `list IN`; `gain -s s -g N IN OUT`; and `--help`, `-h` and `--version`, each alone. N is an optional `+` or `-` and one to three digits, from -255 to
-/// 255, and a name isn't empty and doesn't begin with `-`.
+/// The forms are `list IN`; `gain -s s -g N IN OUT`, with `-w` before or behind `-s s` too; and `--help`, `-h` and
+/// `--version`, each alone. N is an optional `+` or `-` and one to three digits, from -255 to 255, and a name isn't empty
+/// and doesn't begin with `-`.
 pub fn job(words: &[String]) -> Result<Job, u32>
     ensures exact { result ≡ job_of (map string_bytes words.now) }
 
