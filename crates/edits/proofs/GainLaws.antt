@@ -1,5 +1,5 @@
 -- Steps of the gain command, and what it leaves by them.
-use Rattle.std.proofs.Common.{◌≡◌, ℕ, ◌+◌, ◌≤◌, true, false, List, [], ◌∷◌, length, Option, Some, None, refl, sym, ◌∙◌, ap, ap₂, subst, bytes_eq, Result, Ok, Err, inl, inr, arith}
+use Rattle.std.proofs.Common.{◌≡◌, ℕ, ◌+◌, ◌≤◌, ◌==◌, true, false, cond, List, [], ◌∷◌, length, Option, Some, None, refl, sym, ◌∙◌, ap, ap₂, subst, bytes_eq, Result, Ok, Err, inl, inr, arith}
 use Rattle.std.specs.Prelude.{IfSome, IfErr, OnOk, is_some, map, unwrap_or}
 use Rattle.bit_fields.specs.Bits.{AreBytes}
 use Rattle.outside.specs.Files.{Contents, Files, Holds, IsThere, IsMissing}
@@ -12,12 +12,12 @@ use Rattle.sync_survey.specs.Survey.{survey_of, RefusesBytes as SurveyRefuses, I
 use Rattle.sync_survey.proofs.BytesFaults.{IsOfBytes, surveyed_of_bytes}
 use Rattle.sync_survey.proofs.FoldersLaws.{survey_of-short}
 use Rattle.edits.specs.declared.fault.EditFault.{EditFault}
-use Rattle.edits.specs.declared.fault.EditFault.TheVariants.{EqualNames, Input, GainRange, Write, Sent, Memory}
+use Rattle.edits.specs.declared.fault.EditFault.TheVariants.{EqualNames, Input, GainRange, Mono, Joint, Write, Sent, Memory}
 use Rattle.edits.specs.declared.shift.Shift.{Shift}
 use Rattle.edits.specs.Kinds.{of_input, HasRightNumbers}
 use Rattle.edits.specs.declared.gains.Stuck.{Stuck}
 use Rattle.sync_survey.specs.declared.rows.Row.{Row}
-use Rattle.edits.specs.Edited.{stuck_fault, stuck_of, most_frames, unless, edited, range_fault, IsRangeFault, gained_by, gained, gained_where, gain_result}
+use Rattle.edits.specs.Edited.{stuck_fault, stuck_of, most_frames, unless, edited, range_fault, is_joint, joint_fault, are_both, apart_fault, channel_fault, or_else, choice_fault, IsChoiceFault, gained_by, gained, gained_where, gain_result}
 use Rattle.edits.specs.Streams.{IsStreamMoved, moved_stream_frame}
 use Rattle.edits.specs.Command.{Made, clash_of, Gives, written, written_to, MakesStreams, HoldsStreams}
 use Rattle.edits.specs.Left.{Why, Refused, Missing, Unread, Shorter, Unwritten, Unsent, NoMemory, why_of, Seen, seen, IsDone, IsWrittenTo, TakesMemory, is_before_memory, LeavesBy, Leaves, HasNumbers, IsOfInput, IsOfPass}
@@ -55,7 +55,7 @@ gained-fault : (shift : Shift) (bytes : List ℕ) (fault : SurveyFault) → surv
 unfolding gained
 gained-fault shift bytes fault is = ap (gained_by shift bytes) is
 
-pub gained-survey : (shift : Shift) (bytes : List ℕ) (s : SurveyFields) → survey_of bytes most_frames ≡ Ok s → gained shift bytes ≡ unless (range_fault shift s.frames) (edited shift bytes s)
+pub gained-survey : (shift : Shift) (bytes : List ℕ) (s : SurveyFields) → survey_of bytes most_frames ≡ Ok s → gained shift bytes ≡ unless (choice_fault shift s) (edited shift bytes s)
 unfolding gained
 gained-survey shift bytes s is = ap (gained_by shift bytes) is
 
@@ -100,29 +100,33 @@ survey_numbers NoRoom right = tt
 
 -- ---- a gain that would leave its range
 
-range_why : (fault : EditFault) → IsRangeFault fault → why_of fault ≡ Refused
+range_why : (fault : EditFault) → IsChoiceFault fault → why_of fault ≡ Refused
 range_why (EqualNames place) is = absurd is
 range_why (Input place fault) is = absurd is
 range_why (GainRange offset granule channel gain) is = refl
+range_why Mono is = refl
+range_why (Joint offset) is = refl
 range_why (Write place) is = absurd is
 range_why Sent is = absurd is
 range_why Memory is = absurd is
 
 pub range_is_input : (shift : Shift) (name : List ℕ) (old new : Seen) (s : SurveyFields) (fault : EditFault) → IsThere old.files name → ((bytes : List ℕ) → Holds old.files name bytes → survey_of bytes most_frames ≡ Ok s)
-    → range_fault shift s.frames ≡ Some fault → IsRangeFault fault → new ≡ old → IsInputFault shift name old new fault
+    → choice_fault shift s ≡ Some fault → IsChoiceFault fault → new ≡ old → IsInputFault shift name old new fault
 range_is_input shift name old new s fault there is out kind stays =
     subst (IsInputFaultBy shift name old new fault) (sym (range_why fault kind))
     (record { there = there; bytes = λ bytes holds. gained-survey shift bytes s (is bytes holds) ∙ ap (λ o. unless o (edited shift bytes s)) out; stays = stays })
 
-pub range_of_input : (fault : EditFault) → IsRangeFault fault → IsOfInput fault
+pub range_of_input : (fault : EditFault) → IsChoiceFault fault → IsOfInput fault
 range_of_input (EqualNames place) is = absurd is
 range_of_input (Input place fault) is = absurd is
 range_of_input (GainRange offset granule channel gain) is = tt
+range_of_input Mono is = tt
+range_of_input (Joint offset) is = tt
 range_of_input (Write place) is = absurd is
 range_of_input Sent is = absurd is
 range_of_input Memory is = absurd is
 
-pub gained-free : (shift : Shift) (bytes : List ℕ) (s : SurveyFields) → survey_of bytes most_frames ≡ Ok s → range_fault shift s.frames ≡ None → gained shift bytes ≡ Ok (edited shift bytes s)
+pub gained-free : (shift : Shift) (bytes : List ℕ) (s : SurveyFields) → survey_of bytes most_frames ≡ Ok s → choice_fault shift s ≡ None → gained shift bytes ≡ Ok (edited shift bytes s)
 gained-free shift bytes s is none = gained-survey shift bytes s is ∙ ap (λ o. unless o (edited shift bytes s)) none
 
 -- ---- memory
@@ -136,6 +140,9 @@ range_cases : (shift : Shift) (output bytes : List ℕ) (o : Option EditFault) �
 range_cases shift output bytes None behind = tt
 range_cases shift output bytes (Some fault) behind = behind fault refl
 
+some_fault : (f g : EditFault) → Some f ≡ Some g → f ≡ g
+some_fault f g e = cc
+
 stuck_behind : (row : Row) (o : Option Stuck) (later : Option EditFault) (fault : EditFault) → (later ≡ Some fault → is_before_memory fault ≡ false) → stuck_fault row.offset o later ≡ Some fault → is_before_memory fault ≡ false
 stuck_behind row (Some stuck) later fault behind e = subst (λ f. is_before_memory f ≡ false) (some_is (GainRange row.offset stuck.granule stuck.channel stuck.gain) fault e) refl
   where
@@ -148,9 +155,41 @@ unfolding range_fault
 range_behind shift [] fault is = absurd cc
 range_behind shift (row ∷ rows) fault is = stuck_behind row (stuck_of shift row) (range_fault shift rows) fault (range_behind shift rows fault) is
 
+joint_behind : (rows : List Row) (fault : EditFault) → joint_fault rows ≡ Some fault → is_before_memory fault ≡ false
+unfolding joint_fault
+joint_behind [] fault is = absurd cc
+joint_behind (row ∷ rows) fault is =
+    let later : joint_fault rows ≡ Some fault → is_before_memory fault ≡ false = joint_behind rows fault in
+    elim (is_joint row) as (λ b. or_else (cond b (Some (Joint row.offset)) None) (joint_fault rows) ≡ Some fault → is_before_memory fault ≡ false) [
+      | true ↦ λ e. subst (λ f. is_before_memory f ≡ false) (some_fault (Joint row.offset) fault e) refl
+      | false ↦ λ e. later e
+    ] is
+
+apart_behind : (s : SurveyFields) (fault : EditFault) → apart_fault s ≡ Some fault → is_before_memory fault ≡ false
+apart_behind s fault is =
+    elim (s.class.channels == 1) as (λ b. cond b (Some Mono) (joint_fault s.frames) ≡ Some fault → is_before_memory fault ≡ false) [
+      | true ↦ λ e. subst (λ f. is_before_memory f ≡ false) (some_fault Mono fault e) refl
+      | false ↦ λ e. joint_behind s.frames fault e
+    ] is
+
+channel_behind : (shift : Shift) (s : SurveyFields) (fault : EditFault) → channel_fault shift s ≡ Some fault → is_before_memory fault ≡ false
+channel_behind shift s fault is =
+    elim (are_both shift.channels) as (λ b. cond b None (apart_fault s) ≡ Some fault → is_before_memory fault ≡ false) [
+      | true ↦ λ e. absurd cc
+      | false ↦ λ e. apart_behind s fault e
+    ] is
+
+choice_behind : (shift : Shift) (s : SurveyFields) (fault : EditFault) → choice_fault shift s ≡ Some fault → is_before_memory fault ≡ false
+unfolding choice_fault
+choice_behind shift s fault is = at (channel_fault shift s) (channel_behind shift s) is
+  where
+    at : (o : Option EditFault) → ((fault : EditFault) → o ≡ Some fault → is_before_memory fault ≡ false) → or_else o (range_fault shift s.frames) ≡ Some fault → is_before_memory fault ≡ false
+    at None behind e = range_behind shift s.frames fault e
+    at (Some first) behind e = behind fault e
+
 survey_cases : (shift : Shift) (output bytes : List ℕ) (r : Result SurveyFields SurveyFault) → ((fault : SurveyFault) → r ≡ Err fault → IsOfBytes fault) → TakesMemory (made_of output (gained_by shift bytes r))
 survey_cases shift output bytes (Err fault) of = of_bytes_behind fault (of fault refl)
-survey_cases shift output bytes (Ok s) of = range_cases shift output (edited shift bytes s) (range_fault shift s.frames) (range_behind shift s.frames)
+survey_cases shift output bytes (Ok s) of = range_cases shift output (edited shift bytes s) (choice_fault shift s) (choice_behind shift s)
 
 short_takes : (shift : Shift) (output bytes : List ℕ) → length bytes ≤ longest_file → TakesMemory (made_of output (gained shift bytes))
 unfolding gained
@@ -194,6 +233,8 @@ pub input_numbers : (shift : Shift) (input output : List ℕ) (fault : EditFault
 input_numbers shift input output (EqualNames place) h = absurd h
 input_numbers shift input output (Input place fault) h = (omega (arith, h.0), h.1, h.2)
 input_numbers shift input output (GainRange offset granule channel gain) h = tt
+input_numbers shift input output Mono h = tt
+input_numbers shift input output (Joint offset) h = tt
 input_numbers shift input output (Write place) h = absurd h
 input_numbers shift input output Sent h = absurd h
 input_numbers shift input output Memory h = tt
@@ -202,6 +243,8 @@ pub pass_numbers : (shift : Shift) (input output : List ℕ) (fault : EditFault)
 pass_numbers shift input output (EqualNames place) h = absurd h
 pass_numbers shift input output (Input place fault) h = (omega (arith, h.0), h.1, h.2)
 pass_numbers shift input output (GainRange offset granule channel gain) h = absurd h
+pass_numbers shift input output Mono h = absurd h
+pass_numbers shift input output (Joint offset) h = absurd h
 pass_numbers shift input output (Write place) h = omega (arith, h)
 pass_numbers shift input output Sent h = absurd h
 pass_numbers shift input output Memory h = tt

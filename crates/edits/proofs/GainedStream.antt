@@ -8,7 +8,7 @@ use Rattle.sync_survey.specs.Survey.{survey_of}
 use Rattle.sync_survey.proofs.SurveyParts.{surveyed-allowed}
 use Rattle.edits.specs.declared.fault.EditFault.{EditFault}
 use Rattle.edits.specs.declared.shift.Shift.{Shift}
-use Rattle.edits.specs.Edited.{edited, range_fault, most_frames, unless, gained_by, gained}
+use Rattle.edits.specs.Edited.{edited, choice_fault, most_frames, unless, gained_by, gained}
 use Rattle.edits.specs.Streams.{moved_survey, IsStreamMoved}
 use Rattle.edits.proofs.MovedSurvey.{surveyed-edited}
 use Rattle.edits.proofs.MovedStream.{stream-edited}
@@ -19,7 +19,7 @@ use Rattle.edits.proofs.MovedStream.{stream-edited}
 pub record IsGained (shift : Shift) (file new : List ℕ) : Type 0 where
   pub survey : SurveyFields
   pub is : survey_of file most_frames ≡ Ok survey
-  pub free : range_fault shift survey.frames ≡ None
+  pub free : choice_fault shift survey ≡ None
   pub bytes : edited shift file survey ≡ new
 
 range_cases : (o : Option EditFault) (bytes new : List ℕ) → unless o bytes ≡ Ok new → (o ≡ None) × (bytes ≡ new)
@@ -29,14 +29,14 @@ range_cases None bytes new e = (refl, cc)
 survey_cases : (shift : Shift) (file new : List ℕ) (r : Result SurveyFields SurveyFault) → survey_of file most_frames ≡ r → gained_by shift file r ≡ Ok new → IsGained shift file new
 survey_cases shift file new (Err fault) is e = absurd cc
 survey_cases shift file new (Ok s) is e =
-    let parts = range_cases (range_fault shift s.frames) (edited shift file s) new e in
+    let parts = range_cases (choice_fault shift s) (edited shift file s) new e in
     record { survey = s; is = is; free = parts.0; bytes = parts.1 }
 
 pub gained-parts : (shift : Shift) (file new : List ℕ) → gained shift file ≡ Ok new → IsGained shift file new
 unfolding gained
 gained-parts shift file new e = survey_cases shift file new (survey_of file most_frames) refl e
 
-pub gained-ok : (shift : Shift) (file : List ℕ) (s : SurveyFields) → survey_of file most_frames ≡ Ok s → range_fault shift s.frames ≡ None → gained shift file ≡ Ok (edited shift file s)
+pub gained-ok : (shift : Shift) (file : List ℕ) (s : SurveyFields) → survey_of file most_frames ≡ Ok s → choice_fault shift s ≡ None → gained shift file ≡ Ok (edited shift file s)
 unfolding gained
 gained-ok shift file s is free = ap (gained_by shift file) is ∙ ap (λ o. unless o (edited shift file s)) free
 

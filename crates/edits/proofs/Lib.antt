@@ -1,6 +1,7 @@
 -- The lemmas of this crate.
 pub mod GainsBack
 pub mod RangeLaws
+pub mod JointLaws
 pub mod MovingLaws
 pub mod PassLaws
 pub mod OutputLaws

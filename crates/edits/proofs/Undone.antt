@@ -1,5 +1,5 @@
 -- A change of gains without wrap is undone by the opposite one: all bytes of the file come back, but for the junk.
-use Rattle.std.proofs.Common.{◌≡◌, ℕ, ◌+◌, ◌-◌, ◌<◌, ◌≤◌, Bool, true, false, cond, List, [], ◌∷◌, ◌++◌, length, take, drop, map, Option, Some, None, option_map, Result, Ok, refl, sym, ◌∙◌, ap, ap₂, subst, arith, append_assoc, take-append-drop}
+use Rattle.std.proofs.Common.{◌≡◌, ◌==◌, ℕ, ◌+◌, ◌-◌, ◌<◌, ◌≤◌, Bool, true, false, cond, List, [], ◌∷◌, ◌++◌, length, take, drop, map, Option, Some, None, option_map, Result, Ok, refl, sym, ◌∙◌, ap, ap₂, subst, arith, append_assoc, take-append-drop}
 use Rattle.std.specs.Prelude.{MatchBool}
 use Rattle.std.specs.List.{cons_option}
 use Rattle.std.proofs.lemmas.List.{take_at, drop_at, drop-drop}
@@ -32,18 +32,19 @@ use Rattle.sync_survey.proofs.ItemLists.{nearer, nearer_frame, ends-stream, item
 use Rattle.sync_survey.proofs.HeadSame.{nearer_head}
 use Rattle.sync_survey.proofs.SurveyParts.{frames_from, told_from, IsRead, surveyed-told, surveyed-parts}
 use Rattle.edits.specs.declared.fault.EditFault.{EditFault}
+use Rattle.edits.specs.declared.fault.EditFault.TheVariants.{Mono, Joint}
 use Rattle.edits.specs.declared.gains.Stuck.{Stuck}
 use Rattle.edits.specs.declared.shift.Shift.{Shift}
 use Rattle.edits.specs.Gains.{moved_side, moved_unless, stuck_in}
-use Rattle.edits.specs.Edited.{moved_unless_lost, moved_item, moved_items, moved_stream, is_lost_at, edited, stuck_fault, stuck_of, range_fault, most_frames, gained}
-use Rattle.edits.specs.Streams.{moved_row, without_junk}
+use Rattle.edits.specs.Edited.{moved_unless_lost, moved_item, moved_items, moved_stream, is_lost_at, edited, stuck_fault, stuck_of, range_fault, is_joint, joint_fault, are_both, apart_fault, channel_fault, or_else, choice_fault, most_frames, gained}
+use Rattle.edits.specs.Streams.{moved_row, junk_length, moved_survey, without_junk}
 use Rattle.edits.specs.Undoing.{opposite}
 use Rattle.edits.proofs.GainsBack.{GainsFit, IsSideBack, side_back}
 use Rattle.edits.proofs.MovedFrame.{IsWhole, whole_class, frame_back}
 use Rattle.edits.proofs.EditedItems.{frame_whole, moved_own, moved-nil, moved-cons, AreMovedAt}
 use Rattle.edits.proofs.LostOffsets.{AreRising, marked_rising, rows_by, marked-by, walk_rising, lost-nearer}
 use Rattle.edits.proofs.EditedRuns.{gap_of, lost_from, moved_start, new_file, first_bytes, moved_first, front_low, stream_is, later_ends, items_bytes, front_stop, new-before, new-length, new-later, new-front, new-stream, new-head, near_own, first_frame, frames-moved}
-use Rattle.edits.proofs.MovedSurvey.{own-side, own-right, WordsAreRight, words, new-marked, new-read}
+use Rattle.edits.proofs.MovedSurvey.{own-side, own-right, WordsAreRight, words, new-marked, new-told, new-read}
 use Rattle.edits.proofs.GainedStream.{gained-parts, gained-ok, survey_of-parts}
 
 -- ---- the gains of a frame
@@ -181,9 +182,49 @@ front_bytes file =
     let long = items-length Front file 0 front.items front.stop bytes ends (kept_items file 0 front.items front.stop (ends-stream Front file 0 front.items front.stop ends)) in
     sym (ap (take front.stop) (sym (bytes-ends Front file 0 front.items front.stop ends)) ∙ take_at bytes (drop front.stop file) front.stop (omega (arith, long)))
 
+-- ---- one channel alone
+
+none_first : (o later : Option EditFault) → or_else o later ≡ None → (o ≡ None) × (later ≡ None)
+none_first None later e = (refl, e)
+none_first (Some fault) later e = absurd cc
+
+none_chosen : (shift : Shift) (s : SurveyFields) → choice_fault shift s ≡ None → (channel_fault shift s ≡ None) × (range_fault shift s.frames ≡ None)
+unfolding choice_fault
+none_chosen shift s e = none_first (channel_fault shift s) (range_fault shift s.frames) e
+
+choice_none : (shift : Shift) (s : SurveyFields) → channel_fault shift s ≡ None → range_fault shift s.frames ≡ None → choice_fault shift s ≡ None
+unfolding choice_fault
+choice_none shift s apart free = ap (λ o. or_else o (range_fault shift s.frames)) apart ∙ free
+
+joint_back : (shift : Shift) (gap : ℕ) (rows : List Row) → joint_fault rows ≡ None → joint_fault (map (moved_row shift gap) rows) ≡ None
+unfolding joint_fault
+joint_back shift gap [] none = refl
+joint_back shift gap (row ∷ rows) none =
+    let later : joint_fault rows ≡ None → joint_fault (map (moved_row shift gap) rows) ≡ None = joint_back shift gap rows in
+    elim (is_joint row) as (λ b. or_else (cond b (Some (Joint row.offset)) None) (joint_fault rows) ≡ None → or_else (cond b (Some (Joint (row.offset - gap))) None) (joint_fault (map (moved_row shift gap) rows)) ≡ None) [
+      | true ↦ λ e. absurd cc
+      | false ↦ λ e. later e
+    ] none
+
+apart_back : (shift : Shift) (s : SurveyFields) → apart_fault s ≡ None → apart_fault (moved_survey shift s) ≡ None
+unfolding moved_survey
+apart_back shift s none =
+    elim (s.class.channels == 1) as (λ b. cond b (Some Mono) (joint_fault s.frames) ≡ None → cond b (Some Mono) (joint_fault (map (moved_row shift (junk_length s)) s.frames)) ≡ None) [
+      | true ↦ λ e. absurd cc
+      | false ↦ λ e. joint_back shift (junk_length s) s.frames e
+    ] none
+
+-- the modes and the class stay, so the opposite change may be made of one channel too
+channel_back : (shift : Shift) (s : SurveyFields) → channel_fault shift s ≡ None → channel_fault (opposite shift) (moved_survey shift s) ≡ None
+channel_back shift s none =
+    elim (are_both shift.channels) as (λ b. cond b None (apart_fault s) ≡ None → cond b None (apart_fault (moved_survey shift s)) ≡ None) [
+      | true ↦ λ e. refl
+      | false ↦ λ e. apart_back shift s e
+    ] none
+
 -- ---- the file back
 
-module _ (shift : Shift) (file : List ℕ) (allowed : ℕ) (start : Start) (all : AreBytes file) (read : IsRead file allowed start) (strict : shift.wrap ≡ false) (free : range_fault shift (told_from file start).frames ≡ None) where
+module _ (shift : Shift) (file : List ℕ) (allowed : ℕ) (start : Start) (all : AreBytes file) (read : IsRead file allowed start) (strict : shift.wrap ≡ false) (apart : channel_fault shift (told_from file start) ≡ None) (free : range_fault shift (told_from file start).frames ≡ None) where
   abbrev new : List ℕ
   new = new_file shift file allowed start all read
 
@@ -266,15 +307,17 @@ module _ (shift : Shift) (file : List ℕ) (allowed : ℕ) (start : Start) (all 
       let read_new : IsRead new most_frames (moved_start start) = subst (λ n. IsRead new n (moved_start start)) same (new-read shift file allowed start all read) in
       gained-ok (opposite shift) new (told_from new (moved_start start))
       (survey_of-short new most_frames short ∙ surveyed-told new most_frames (moved_start start) read_new)
-      (ap (range_fault (opposite shift)) (new-marked shift file allowed start all read ∙ ap (map (moved_row shift gap)) rows_told) ∙ free_back shift lost file gap (frames_from file start) back)
+      (choice_none (opposite shift) (told_from new (moved_start start))
+      (ap (channel_fault (opposite shift)) (new-told shift file allowed start all read) ∙ channel_back shift (told_from file start) apart)
+      (ap (range_fault (opposite shift)) (new-marked shift file allowed start all read ∙ ap (map (moved_row shift gap)) rows_told) ∙ free_back shift lost file gap (frames_from file start) back))
       ∙ ap Ok bytes_back
 
-survey_back : (shift : Shift) (file : List ℕ) (s : SurveyFields) → shift.wrap ≡ false → AreBytes file → survey_of file most_frames ≡ Ok s → range_fault shift s.frames ≡ None → gained (opposite shift) (edited shift file s) ≡ Ok (without_junk s file)
+survey_back : (shift : Shift) (file : List ℕ) (s : SurveyFields) → shift.wrap ≡ false → AreBytes file → survey_of file most_frames ≡ Ok s → choice_fault shift s ≡ None → gained (opposite shift) (edited shift file s) ≡ Ok (without_junk s file)
 survey_back shift file s strict all is free =
     let short = survey_of-parts file most_frames s is in
     let parts = surveyed-parts file most_frames s short.1 in
-    subst (λ t. range_fault shift t.frames ≡ None → gained (opposite shift) (edited shift file t) ≡ Ok (without_junk t file)) parts.2
-    (λ told_free. gained_back shift file most_frames parts.0 all parts.1 strict told_free refl short.0) free
+    subst (λ t. choice_fault shift t ≡ None → gained (opposite shift) (edited shift file t) ≡ Ok (without_junk t file)) parts.2
+    (λ told_free. let both = none_chosen shift (told_from file parts.0) told_free in gained_back shift file most_frames parts.0 all parts.1 strict both.0 both.1 refl short.0) free
 
 ok_same : (s t : SurveyFields) (r : Result SurveyFields SurveyFault) → r ≡ Ok s → r ≡ Ok t → s ≡ t
 ok_same s t r e f = cc

@@ -1,5 +1,5 @@
 -- The file that a gain command writes.
-use Rattle.std.specs.Prelude.{ℕ, ◌==◌, ◌&&◌, ◌||◌, Bool, false, List, [], ◌∷◌, ◌++◌, take, drop, Option, Some, None, Result, Ok, Err, bytes_eq, if◌then◌else◌, flat_map}
+use Rattle.std.specs.Prelude.{ℕ, ◌==◌, ◌&&◌, ◌||◌, Bool, true, false, List, [], ◌∷◌, ◌++◌, take, drop, Option, Some, None, Result, Ok, Err, bytes_eq, if◌then◌else◌, flat_map}
 use Rattle.frame_header.specs.Fields.{HeaderFields}
 use Rattle.side_info.specs.Frame.{side_in, frame_with}
 use Rattle.outside.specs.Files.{Contents}
@@ -14,8 +14,10 @@ use Rattle.sync_survey.specs.Runs.{Placed, run, bytes_in, bytes_of_items}
 use Rattle.sync_survey.specs.Faults.{SurveyFields}
 use Rattle.sync_survey.specs.Survey.{survey_of}
 use Rattle.edits.specs.declared.fault.EditFault.{EditFault}
-use Rattle.edits.specs.declared.fault.EditFault.TheVariants.{EqualNames, Input, GainRange}
+use Rattle.edits.specs.declared.fault.EditFault.TheVariants.{EqualNames, Input, GainRange, Mono, Joint}
 use Rattle.edits.specs.declared.gains.Stuck.{Stuck}
+use Rattle.edits.specs.declared.shift.Channels.{Channels}
+use Rattle.edits.specs.declared.shift.Channels.TheVariants.{Both}
 use Rattle.edits.specs.declared.shift.Shift.{Shift}
 use Rattle.edits.specs.Gains.{moved_side, stuck_in}
 
@@ -73,6 +75,48 @@ unfoldable pub range_fault : Shift → List Row → Option EditFault
 range_fault shift [] = None
 range_fault shift (row ∷ rows) = stuck_fault row.offset (stuck_of shift row) (range_fault shift rows)
 
+-- ---- one channel alone
+
+abbrev pub are_both : Channels → Bool
+are_both Both = true
+are_both _ = false
+
+-- the two channels of the frame are coded jointly (mode 1, 11172-3, 2.4.2.3), so that each is heard on both sides
+abbrev pub is_joint : Row → Bool
+is_joint row = row.header.mode == 1
+
+abbrev pub joint_at : Row → Option EditFault
+joint_at row = if is_joint row then Some (Joint row.offset) else None
+
+abbrev pub or_else : Option EditFault → Option EditFault → Option EditFault
+or_else (Some fault) later = Some fault
+or_else None later = later
+
+-- the first such frame
+unfoldable pub joint_fault : List Row → Option EditFault
+joint_fault [] = None
+joint_fault (row ∷ rows) = or_else (joint_at row) (joint_fault rows)
+
+-- why one channel alone can't change: there is only one, or the two of a frame are coded jointly
+abbrev pub apart_fault : SurveyFields → Option EditFault
+apart_fault s = if s.class.channels == 1 then Some Mono else joint_fault s.frames
+
+abbrev pub channel_fault : Shift → SurveyFields → Option EditFault
+channel_fault shift s = if are_both shift.channels then None else apart_fault s
+
+-- ---- the choice
+
+-- why such a change of a file without fault is refused
+unfoldable pub choice_fault : Shift → SurveyFields → Option EditFault
+choice_fault shift s = or_else (channel_fault shift s) (range_fault shift s.frames)
+
+-- the choice is refused
+abbrev pub IsChoiceFault : EditFault → Type 0
+IsChoiceFault (GainRange offset granule channel gain) = Unit {0}
+IsChoiceFault Mono = Unit {0}
+IsChoiceFault (Joint offset) = Unit {0}
+IsChoiceFault _ = ⊥
+
 -- a gain would leave its range
 abbrev pub IsRangeFault : EditFault → Type 0
 IsRangeFault (GainRange offset granule channel gain) = Unit {0}
@@ -90,9 +134,10 @@ unless None a = Ok a
 
 abbrev pub gained_by : Shift → List ℕ → Result SurveyFields SurveyFault → Result (List ℕ) EditFault
 gained_by shift file (Err fault) = Err (Input 0 fault)
-gained_by shift file (Ok s) = unless (range_fault shift s.frames) (edited shift file s)
+gained_by shift file (Ok s) = unless (choice_fault shift s) (edited shift file s)
 
--- what a file becomes, or why it is refused: it is at fault, or else a gain would leave the range
+-- what a file becomes, or why it is refused: it is at fault, or else one channel can't change alone, or else a gain would leave the
+-- range
 unfoldable pub gained : Shift → List ℕ → Result (List ℕ) EditFault
 gained shift file = gained_by shift file (survey_of file most_frames)
 

@@ -5,7 +5,7 @@ use Rattle.outside.specs.Counts.{Counts, Rose, NothingFailed}
 use Rattle.sync_survey.specs.declared.survey_fault.SurveyFault.TheVariants.{Absent, TooLong, Memory as NoRoom}
 use Rattle.edits.specs.Kinds.{kind_of, by_kind, HasRightNumbers}
 use Rattle.edits.specs.declared.fault.EditFault.{EditFault}
-use Rattle.edits.specs.declared.fault.EditFault.TheVariants.{EqualNames, Input, GainRange, Write, Sent, Memory}
+use Rattle.edits.specs.declared.fault.EditFault.TheVariants.{EqualNames, Input, GainRange, Mono, Joint, Write, Sent, Memory}
 use Rattle.edits.specs.Command.{Made, Command, clash_of, written, written_to, Gives}
 
 -- what can be seen of a folder at a moment: the files, where they are told, and the counts
@@ -136,6 +136,8 @@ abbrev pub IsOfPass : EditFault → Type 0
 IsOfPass (EqualNames place) = ⊥
 IsOfPass (Input place fault) = (place ≡ 0) × (fault ≢ NoRoom) × HasRightNumbers fault
 IsOfPass (GainRange offset granule channel gain) = ⊥
+IsOfPass Mono = ⊥
+IsOfPass (Joint offset) = ⊥
 IsOfPass (Write place) = place ≡ 0
 IsOfPass Sent = ⊥
 IsOfPass Memory = Unit {0}

@@ -19,6 +19,10 @@ pub enum EditFault {
     /// A gain would leave the range from 0 to 255: the offset of its frame in bytes, its granule, its
     /// channel, and the gain that stands there.
     GainRange(u64, u8, u8, u8),
+    /// One channel is to change, and the file has only one.
+    Mono,
+    /// One channel is to change, and the two of the frame at this offset in bytes are coded jointly.
+    Joint(u64),
     /// This output, counted from 0, could not be written.
     Write(u32),
     /// Standard output could not be written.

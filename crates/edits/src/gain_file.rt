@@ -10,7 +10,7 @@ ghost use Rattle.edits.specs.Edited.{edited, gained, most_frames};
 ghost use Rattle.edits.specs.Gain.{gain_command, holding, IsInputFault, IsPassFault};
 ghost use Rattle.edits.specs.Left.{seen, IsDone, Leaves, HasNumbers, IsOfInput, IsOfPass};
 
-use crate::edit::range_fault;
+use crate::choice::choice_fault;
 use crate::fault::EditFault;
 use crate::limits::MOST_FRAMES;
 use crate::moving::write_moved;
@@ -38,7 +38,7 @@ fn survey_input<D: Folder>(
     ensures counts { OnlyReads (D.counts folder.old) (D.counts folder.new) }
 {
     let survey = survey(alloc, folder, name, MOST_FRAMES)?;
-    match range_fault(shift, survey.frames()) {
+    match choice_fault(shift, &survey) {
         Some(fault) => Err(fault),
         None => Ok(survey),
     }

@@ -1,6 +1,7 @@
 //! The commands: from the files of a folder they make new ones, or are refused.
 #![tactic(auto)]
 
+mod choice;
 mod edit;
 mod fault;
 mod gain_file;

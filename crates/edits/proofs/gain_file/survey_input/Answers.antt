@@ -2,7 +2,7 @@
 use Rattle.std.proofs.Common.{sym, ◌∙◌, ap, ap₂}
 use Rattle.std.proofs.lemmas.Result.{err_from_is_err_and}
 use Rattle.sync_survey.specs.Faults.{tells}
-use Rattle.edits.specs.Edited.{range_fault}
+use Rattle.edits.specs.Edited.{choice_fault}
 use Rattle.edits.specs.Left.{seen}
 use Rattle.edits.proofs.GainLaws.{survey_is_input, survey_numbers, range_is_input, range_of_input, gained-free}
 use Rattle.edits.proofs.gain_file.survey_input.Goals as goal
@@ -20,12 +20,12 @@ returns-in_err-survey-clause-numbers g c =
 pub returns-in-Some-clause-refused : goal.returns-in-Some-clause-refused
 returns-in-Some-clause-refused g c =
     range_is_input c.args.shift.now c.args.name.now (seen (g.D.Folder.files c.args.folder.now) (g.D.Folder.counts c.args.folder.now)) _ (tells c.in_ok-survey.survey) c.in-Some.fault
-    c.in_ok-survey.ensures.there c.in_ok-survey.ensures.exact (sym (c.in-Some.ensures.fault ∙ ap (range_fault c.args.shift.now) c.frames.ensures)) c.in-Some.ensures.range
+    c.in_ok-survey.ensures.there c.in_ok-survey.ensures.exact (sym c.in-Some.ensures.fault) c.in-Some.ensures.choice
     (ap₂ seen c.survey.ensures.files c.in_ok-survey.ensures.done)
 
 pub returns-in-Some-clause-numbers : goal.returns-in-Some-clause-numbers
-returns-in-Some-clause-numbers g c = range_of_input c.in-Some.fault c.in-Some.ensures.range
+returns-in-Some-clause-numbers g c = range_of_input c.in-Some.fault c.in-Some.ensures.choice
 
 pub returns-in-None-clause-gained : goal.returns-in-None-clause-gained
 returns-in-None-clause-gained g c bytes holds =
-    gained-free c.args.shift.now bytes (tells c.in_ok-survey.survey) (c.in_ok-survey.ensures.exact bytes holds) (sym (c.in-None.ensures.fault ∙ ap (range_fault c.args.shift.now) c.frames.ensures))
+    gained-free c.args.shift.now bytes (tells c.in_ok-survey.survey) (c.in_ok-survey.ensures.exact bytes holds) (sym c.in-None.ensures.fault)
