@@ -140,7 +140,7 @@ fn refused_files(rt: HostRuntime) -> Result<(), Fail> {
 // Each write of a text of several fails in turn: a prefix of the text was sent.
 #[test]
 fn each_write_fails_once(rt: HostRuntime) -> Result<(), Fail> {
-    let mut folder = folder_of_file(rt.alloc(), "z", &[Stretch::Fill(0, 1), MANY])?;
+    let mut folder = folder_of_file(rt.alloc(), "z", &MANY)?;
     let whole = list_to(rt.alloc(), &mut folder, "z", None)?;
     assert_eq!(rt; whole.status, 0);
     assert!(rt; whole.out.sent().len() > 2 * 65_536);
@@ -160,5 +160,7 @@ fn each_write_fails_once(rt: HostRuntime) -> Result<(), Fail> {
     Ok(())
 }
 
+const THOUSAND: Stretch = Stretch::Frames(&[Z; 1000]);
+
 /// So many frames that their lines take three writes.
-const MANY: Stretch = Stretch::Frames(&[Z; 3000]);
+static MANY: [Stretch; 3] = [THOUSAND, THOUSAND, THOUSAND];

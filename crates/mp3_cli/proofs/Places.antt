@@ -7,7 +7,7 @@ use Rattle.std.proofs.lemmas.Bool.{cases_lt}
 use Rattle.std.proofs.lemmas.List.{get_or-map, length-map, get_or_default}
 use Rattle.std.proofs.lemmas.List.Sums.{common_prefix_len-le}
 use Rattle.mp3_cli.specs.declared.jobs.Job.{Job}
-use Rattle.mp3_cli.specs.Words.{Form, fits_kind, forms, gain_without_tags, followed, furthest, form_of, have_kinds, read_as, reading, job_of, Begins, IsReading, IsBadWord}
+use Rattle.mp3_cli.specs.Words.{Form, fits_kind, forms, help, followed, furthest, form_of, have_kinds, read_as, reading, job_of, Begins, IsReading, IsBadWord}
 
 -- what a search finds
 found : {X : Type 0} (p : X → Bool) (xs : List X) (x : X) → find p xs ≡ Some x → Contains xs x × (p x ≡ true)
@@ -132,7 +132,7 @@ pub is_bad_word : (words : List (List ℕ)) (place : ℕ) → Err place ≡ job_
 unfolding job_of
 is_bad_word words place e =
     let r = reading_err forms words place e in
-    let near = nearest forms words gain_without_tags (omega arith) in
+    let near = nearest forms words help (omega arith) in
     let before : place - 1 ≡ followed words near.0 = omega (arith, r.1, near.2) in
     record {
       none = none_of forms words r.0;

@@ -8,7 +8,8 @@ use Rattle.std.proofs.Math.ListN as listn
 use Rattle.std.proofs.lemmas.List.{get_or-map, length-map, take-map, take_all}
 use Rattle.std.proofs.lemmas.List.Sums.{fold_more, common_prefix_len-le}
 use Rattle.mp3_cli.specs.declared.words.FormName.{FormName}
-use Rattle.mp3_cli.specs.declared.words.FormName.TheVariants.{Help, ShortHelp, Version, List as ListFile, GainWithoutTags, GainWrapping, WrappingGain}
+use Rattle.mp3_cli.specs.declared.words.FormName.TheVariants.{Help, ShortHelp, Version, List as ListFile, Gain, ChannelGain}
+use Rattle.mp3_cli.specs.declared.words.GainOptions.TheVariants.{Tagless, TaglessWrapping, WrappingTagless}
 use Rattle.mp3_cli.specs.declared.jobs.Job.{Job}
 use Rattle.mp3_cli.specs.Words.{Kind, Form, fits_kind, followed, furthest, form_of, have_kinds, reading}
 use Rattle.mp3_cli.specs.Table.{form_named}
@@ -64,15 +65,18 @@ ord_max_is a b = grind (arith, common_steps)
 
 -- ---- a turn of the loop over the forms that the code names
 
--- no form has more than eight words
-pub short : (name : FormName) → length (form_named name).kinds ≤ 8
+-- no form has more than nine words
+pub short : (name : FormName) → length (form_named name).kinds ≤ 9
 short Help = omega arith
 short ShortHelp = omega arith
 short Version = omega arith
 short ListFile = omega arith
-short GainWithoutTags = omega arith
-short GainWrapping = omega arith
-short WrappingGain = omega arith
+short (Gain Tagless) = omega arith
+short (Gain TaglessWrapping) = omega arith
+short (Gain WrappingTagless) = omega arith
+short (ChannelGain Tagless) = omega arith
+short (ChannelGain TaglessWrapping) = omega arith
+short (ChannelGain WrappingTagless) = omega arith
 
 -- what the code knows at the form at i: its kinds, and how far the words follow them
 pub record Turn (names : List FormName) (table : List Form) (i : ℕ) (d : FormName) (words : List (List ℕ)) (kinds : List Kind) (count : ℕ) : Type 0 where
@@ -112,13 +116,13 @@ goes_on names table i d words kinds count turn not_all =
     rw i_suc (none_more table words i (form_named d) (within names table i turn.all turn.index) turn.none other_too)
 
 pub furthest_on : (names : List FormName) (table : List Form) (i : ℕ) (d : FormName) (words : List (List ℕ)) (kinds : List Kind) (count before : ℕ) → Turn names table i d words kinds count
-    → before ≡ furthest (take i table) words → before ≤ 8 → (max before count ≡ furthest (take (i + 1) table) words) × (max before count ≤ 8)
+    → before ≡ furthest (take i table) words → before ≤ 9 → (max before count ≡ furthest (take (i + 1) table) words) × (max before count ≤ 9)
 furthest_on names table i d words kinds count before turn before-is small =
     let form-is = there names table i d turn.all in
     let count-is : count ≡ followed words (get_or table i (form_named d)) = rw (form-is, ← turn.its_kinds) turn.followed in
     let more = furthest_more table words i (form_named d) (within names table i turn.all turn.index) in
     let few = common_prefix_len-le fits_kind kinds words in
-    let seven : length kinds ≤ 8 = rw turn.its_kinds (short (get_or names i d)) in
+    let seven : length kinds ≤ 9 = rw turn.its_kinds (short (get_or names i d)) in
     (rw (more, ← before-is, ← count-is) refl, omega (arith, few, turn.followed, seven, small))
 
 pub refuses : (names : List FormName) (table : List Form) (i : ℕ) (words : List (List ℕ)) (count : ℕ) → map form_named names ≡ table → length names ≤ i → form_of (take i table) words ≡ None → count ≡ furthest (take i table) words → Err (count + 1) ≡ reading table words

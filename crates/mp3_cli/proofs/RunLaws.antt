@@ -6,7 +6,7 @@ use Rattle.outside.specs.Files.{Contents, Files, untold, Sent, sent_more}
 use Rattle.outside.specs.Counts.{Rose}
 use Rattle.outside.proofs.FilesLaws.{sent_nothing}
 use Rattle.edits.specs.declared.fault.EditFault.{EditFault}
-use Rattle.edits.specs.declared.fault.EditFault.TheVariants.{EqualNames, Input, GainRange, Write, Sent as NotSent, Memory}
+use Rattle.edits.specs.declared.fault.EditFault.TheVariants.{EqualNames, Input, GainRange, Mono, Joint, Write, Sent as NotSent, Memory}
 use Rattle.edits.specs.Kinds.{InputKind, IsAbsent, IsUnread as NotRead, IsShorter as Shrank, IsTooMuch, IsRefused as AtFault, kind_of, by_kind}
 use Rattle.edits.specs.Edited.{gain_result}
 use Rattle.edits.specs.Command.{Made, Command, written, Gives, MakesStreams, HoldsStreams}
@@ -45,6 +45,8 @@ module _ (command : Command) (files : Files) (old new : Heard) where
   sent_rose (EqualNames place) is says = absurd cc
   sent_rose (Input place fault) is says = absurd (input_sent (kind_of fault) is)
   sent_rose (GainRange offset granule channel gain) is says = absurd cc
+  sent_rose Mono is says = absurd cc
+  sent_rose (Joint offset) is says = absurd cc
   sent_rose (Write place) is says = absurd cc
   sent_rose NotSent is says = says.rose
   sent_rose Memory is says = absurd cc
@@ -53,6 +55,8 @@ module _ (command : Command) (files : Files) (old new : Heard) where
   sent_none (EqualNames place) other says = says
   sent_none (Input place fault) other says = says
   sent_none (GainRange offset granule channel gain) other says = says
+  sent_none Mono other says = says
+  sent_none (Joint offset) other says = says
   sent_none (Write place) other says = says
   sent_none NotSent other says = absurd (other refl)
   sent_none Memory other says = says
@@ -297,6 +301,8 @@ module _ (shift : Shift) (input output : List ℕ) (files : Files) (out : Heard)
   says_fault (EqualNames place) numbers = refl
   says_fault (Input place fault) numbers = refl
   says_fault (GainRange offset granule channel gain) numbers = refl
+  says_fault Mono numbers = refl
+  says_fault (Joint offset) numbers = refl
   says_fault (Write place) numbers = refl
   says_fault NotSent numbers = absurd (numbers refl)
   says_fault Memory numbers = refl

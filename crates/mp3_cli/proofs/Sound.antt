@@ -6,7 +6,7 @@ use Rattle.std.specs.Str.Parse.{digits_value}
 use Rattle.std.proofs.lemmas.Int.{ints}
 use Rattle.std.proofs.lemmas.Bool.{leb-true}
 use Rattle.mp3_cli.specs.declared.jobs.Job.{Job}
-use Rattle.mp3_cli.specs.Words.{Kind, Name, Form, fits_kind, forms, list_file, gain_without_tags, gain_wrapping, wrapping_gain, have_kinds, job_of, step_count, steps_of, word_at, IsStepCount, IsSound}
+use Rattle.mp3_cli.specs.Words.{Kind, Name, Form, fits_kind, Tagless, TaglessWrapping, WrappingTagless, forms, list_file, gain_form, channel_form, have_kinds, job_of, step_count, steps_of, word_at, IsStepCount, IsSound}
 use Rattle.mp3_cli.proofs.Places.{reading_ok}
 
 and_last : (x d : Bool) → (x && d) ≡ true → d ≡ true
@@ -60,28 +60,52 @@ each_fits (kind ∷ kinds) (word ∷ words) (suc k) c h lt = each_fits kinds wor
 
 -- ---- each form
 
-gain_is_sound : (words : List (List ℕ)) → have_kinds gain_without_tags.kinds words ≡ true → IsSound words (gain_without_tags.reads words)
+gain_is_sound : (words : List (List ℕ)) → have_kinds (gain_form Tagless).kinds words ≡ true → IsSound words ((gain_form Tagless).reads words)
 gain_is_sound words h =
-    let seven : length words ≡ 7 = as_many gain_without_tags.kinds words h in (
-      record { counted = omega arith; in_range = omega arith; name = each_fits gain_without_tags.kinds words 5 Name h (omega arith) },
-      record { counted = omega arith; in_range = omega arith; name = each_fits gain_without_tags.kinds words 6 Name h (omega arith) },
+    let many : length words ≡ 7 = as_many (gain_form Tagless).kinds words h in (
+      record { counted = omega arith; in_range = omega arith; name = each_fits (gain_form Tagless).kinds words 5 Name h (omega arith) },
+      record { counted = omega arith; in_range = omega arith; name = each_fits (gain_form Tagless).kinds words 6 Name h (omega arith) },
       steps_in_range (word_at words 5),
     )
 
-gain_wrapping_is_sound : (words : List (List ℕ)) → have_kinds gain_wrapping.kinds words ≡ true → IsSound words (gain_wrapping.reads words)
+gain_wrapping_is_sound : (words : List (List ℕ)) → have_kinds (gain_form TaglessWrapping).kinds words ≡ true → IsSound words ((gain_form TaglessWrapping).reads words)
 gain_wrapping_is_sound words h =
-    let eight : length words ≡ 8 = as_many gain_wrapping.kinds words h in (
-      record { counted = omega arith; in_range = omega arith; name = each_fits gain_wrapping.kinds words 6 Name h (omega arith) },
-      record { counted = omega arith; in_range = omega arith; name = each_fits gain_wrapping.kinds words 7 Name h (omega arith) },
+    let many : length words ≡ 8 = as_many (gain_form TaglessWrapping).kinds words h in (
+      record { counted = omega arith; in_range = omega arith; name = each_fits (gain_form TaglessWrapping).kinds words 6 Name h (omega arith) },
+      record { counted = omega arith; in_range = omega arith; name = each_fits (gain_form TaglessWrapping).kinds words 7 Name h (omega arith) },
       steps_in_range (word_at words 6),
     )
 
-wrapping_gain_is_sound : (words : List (List ℕ)) → have_kinds wrapping_gain.kinds words ≡ true → IsSound words (wrapping_gain.reads words)
+wrapping_gain_is_sound : (words : List (List ℕ)) → have_kinds (gain_form WrappingTagless).kinds words ≡ true → IsSound words ((gain_form WrappingTagless).reads words)
 wrapping_gain_is_sound words h =
-    let eight : length words ≡ 8 = as_many wrapping_gain.kinds words h in (
-      record { counted = omega arith; in_range = omega arith; name = each_fits wrapping_gain.kinds words 6 Name h (omega arith) },
-      record { counted = omega arith; in_range = omega arith; name = each_fits wrapping_gain.kinds words 7 Name h (omega arith) },
+    let many : length words ≡ 8 = as_many (gain_form WrappingTagless).kinds words h in (
+      record { counted = omega arith; in_range = omega arith; name = each_fits (gain_form WrappingTagless).kinds words 6 Name h (omega arith) },
+      record { counted = omega arith; in_range = omega arith; name = each_fits (gain_form WrappingTagless).kinds words 7 Name h (omega arith) },
       steps_in_range (word_at words 6),
+    )
+
+channel_is_sound : (words : List (List ℕ)) → have_kinds (channel_form Tagless).kinds words ≡ true → IsSound words ((channel_form Tagless).reads words)
+channel_is_sound words h =
+    let many : length words ≡ 8 = as_many (channel_form Tagless).kinds words h in (
+      record { counted = omega arith; in_range = omega arith; name = each_fits (channel_form Tagless).kinds words 6 Name h (omega arith) },
+      record { counted = omega arith; in_range = omega arith; name = each_fits (channel_form Tagless).kinds words 7 Name h (omega arith) },
+      steps_in_range (word_at words 6),
+    )
+
+channel_wrapping_is_sound : (words : List (List ℕ)) → have_kinds (channel_form TaglessWrapping).kinds words ≡ true → IsSound words ((channel_form TaglessWrapping).reads words)
+channel_wrapping_is_sound words h =
+    let many : length words ≡ 9 = as_many (channel_form TaglessWrapping).kinds words h in (
+      record { counted = omega arith; in_range = omega arith; name = each_fits (channel_form TaglessWrapping).kinds words 7 Name h (omega arith) },
+      record { counted = omega arith; in_range = omega arith; name = each_fits (channel_form TaglessWrapping).kinds words 8 Name h (omega arith) },
+      steps_in_range (word_at words 7),
+    )
+
+wrapping_channel_is_sound : (words : List (List ℕ)) → have_kinds (channel_form WrappingTagless).kinds words ≡ true → IsSound words ((channel_form WrappingTagless).reads words)
+wrapping_channel_is_sound words h =
+    let many : length words ≡ 9 = as_many (channel_form WrappingTagless).kinds words h in (
+      record { counted = omega arith; in_range = omega arith; name = each_fits (channel_form WrappingTagless).kinds words 7 Name h (omega arith) },
+      record { counted = omega arith; in_range = omega arith; name = each_fits (channel_form WrappingTagless).kinds words 8 Name h (omega arith) },
+      steps_in_range (word_at words 7),
     )
 
 -- what words of a form ask for is sound
@@ -101,7 +125,10 @@ form_is_sound (suc (suc (suc zero))) form lt here = subst AreSound here list_is_
 form_is_sound (suc (suc (suc (suc zero)))) form lt here = subst AreSound here gain_is_sound
 form_is_sound (suc (suc (suc (suc (suc zero))))) form lt here = subst AreSound here gain_wrapping_is_sound
 form_is_sound (suc (suc (suc (suc (suc (suc zero)))))) form lt here = subst AreSound here wrapping_gain_is_sound
-form_is_sound (suc (suc (suc (suc (suc (suc (suc k))))))) form lt here = absurd (omega (arith, lt))
+form_is_sound (suc (suc (suc (suc (suc (suc (suc zero))))))) form lt here = subst AreSound here channel_is_sound
+form_is_sound (suc (suc (suc (suc (suc (suc (suc (suc zero)))))))) form lt here = subst AreSound here channel_wrapping_is_sound
+form_is_sound (suc (suc (suc (suc (suc (suc (suc (suc (suc zero))))))))) form lt here = subst AreSound here wrapping_channel_is_sound
+form_is_sound (suc (suc (suc (suc (suc (suc (suc (suc (suc (suc k)))))))))) form lt here = absurd (omega (arith, lt))
 
 pub is_sound : (words : List (List ℕ)) (job : Job) → Ok job ≡ job_of words → IsSound words job
 unfolding job_of

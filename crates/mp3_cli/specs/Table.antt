@@ -1,25 +1,35 @@
 -- The kinds and forms of the code, as those of `Words`.
 use Rattle.std.specs.Prelude.{List, [], ◌∷◌}
-use Rattle.mp3_cli.specs.Words.{Kind, Fixed, Name, Steps, Form, help, short_help, version, list_file, gain_without_tags, gain_wrapping, wrapping_gain}
+use Rattle.mp3_cli.specs.Words.{Kind, Fixed, Name, Steps, Channel, Form, Options, Tagless, TaglessWrapping, WrappingTagless, help, short_help, version, list_file, gain_form, channel_form}
 use Rattle.mp3_cli.specs.declared.words.WordKind.{WordKind}
 use Rattle.mp3_cli.specs.declared.words.WordKind.TheVariants as code
+use Rattle.mp3_cli.specs.declared.words.GainOptions.{GainOptions}
+use Rattle.mp3_cli.specs.declared.words.GainOptions.TheVariants as given
 use Rattle.mp3_cli.specs.declared.words.FormName.{FormName}
-use Rattle.mp3_cli.specs.declared.words.FormName.TheVariants.{Help, ShortHelp, Version, List as ListFile, GainWithoutTags, GainWrapping, WrappingGain}
+use Rattle.mp3_cli.specs.declared.words.FormName.TheVariants.{Help, ShortHelp, Version, List as ListFile, Gain, ChannelGain}
 
 abbrev pub word_kind : WordKind → Kind
 word_kind (code.Fixed text) = Fixed text.now
 word_kind code.Name = Name
 word_kind code.Steps = Steps
+word_kind code.Channel = Channel
+
+abbrev pub options_named : GainOptions → Options
+options_named given.Tagless = Tagless
+options_named given.TaglessWrapping = TaglessWrapping
+options_named given.WrappingTagless = WrappingTagless
 
 abbrev pub form_named : FormName → Form
 form_named Help = help
 form_named ShortHelp = short_help
 form_named Version = version
 form_named ListFile = list_file
-form_named GainWithoutTags = gain_without_tags
-form_named GainWrapping = gain_wrapping
-form_named WrappingGain = wrapping_gain
+form_named (Gain options) = gain_form (options_named options)
+form_named (ChannelGain options) = channel_form (options_named options)
 
 -- the names in the order of the code
 abbrev pub form_names : List FormName
-form_names = Help ∷ ShortHelp ∷ Version ∷ ListFile ∷ GainWithoutTags ∷ GainWrapping ∷ WrappingGain ∷ []
+form_names =
+    Help ∷ ShortHelp ∷ Version ∷ ListFile
+    ∷ Gain given.Tagless ∷ Gain given.TaglessWrapping ∷ Gain given.WrappingTagless
+    ∷ ChannelGain given.Tagless ∷ ChannelGain given.TaglessWrapping ∷ ChannelGain given.WrappingTagless ∷ []

@@ -6,7 +6,7 @@ use Rattle.edits.specs.Left.{Why, Refused, NoMemory, why_of}
 use Rattle.sync_survey.specs.declared.survey_fault.SurveyFault.{SurveyFault}
 use Rattle.sync_survey.specs.declared.survey_fault.SurveyFault.TheVariants.{Absent, TooLong, NoFrame, LostSync, Truncated, FreeFormat, Mixed, CheckWord, BackPointer, Overlap, Overrun, TooManyFrames, Shrunk, Read, Memory}
 use Rattle.edits.specs.declared.fault.EditFault.{EditFault}
-use Rattle.edits.specs.declared.fault.EditFault.TheVariants.{EqualNames, Input, GainRange, Write, Sent as NotSent, Memory as OutOfMemory}
+use Rattle.edits.specs.declared.fault.EditFault.TheVariants.{EqualNames, Input, GainRange, Mono, Joint, Write, Sent as NotSent, Memory as OutOfMemory}
 
 abbrev pub status_by : Why → ℕ
 status_by Refused = 1
@@ -53,6 +53,8 @@ fault_line (Input place fault) inputs outputs = name_in inputs place ++ input_te
 fault_line (GainRange offset granule channel gain) inputs outputs =
     codes "gain " ++ decimal gain ++ codes " out of range at " ++ decimal offset
     ++ codes ", granule " ++ decimal granule ++ codes ", channel " ++ decimal channel ++ codes "\n"
+fault_line Mono inputs outputs = codes "one channel only\n"
+fault_line (Joint offset) inputs outputs = codes "joint stereo at " ++ decimal offset ++ codes "\n"
 fault_line (Write place) inputs outputs = name_in outputs place ++ codes ": write fault\n"
 fault_line NotSent inputs outputs = codes "standard output: write fault\n"
 fault_line OutOfMemory inputs outputs = codes "out of memory\n"
@@ -71,7 +73,7 @@ unfoldable pub help_text : List ℕ
 help_text =
     codes "usage: mp3edit COMMAND\n"
     ++ (codes "  list IN                say what stands in the MP3 file IN: tags, junk, head and frames\n"
-    ++ (codes "  gain -s s [-w] -g N IN OUT\n                         write IN to OUT, louder by N steps of 1.5 dB (quieter below 0)\n"
+    ++ (codes "  gain -s s [-w] -g N IN OUT\n                         write IN to OUT, louder by N steps of 1.5 dB (quieter below 0)\n  gain -s s [-w] -l C N IN OUT\n                         the same of the left (C is 0) or right (C is 1) channel alone\n"
     ++ (codes "  --help, -h             say this\n"
     ++ (codes "  --version              say which version this is\n"
     ++ (codes "status: 0 done; 1 refused; 2 bad word; 3 a file is absent, or reading or writing failed;\n"

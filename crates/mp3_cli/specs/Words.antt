@@ -4,7 +4,8 @@ use Rattle.std.specs.List.{common_prefix_len}
 use Rattle.std.specs.Cmp.Lexicographic.{pointwise}
 use Rattle.std.specs.Str.{all_ascii_digits}
 use Rattle.std.specs.Str.Parse.{digits_value}
-use Rattle.edits.specs.declared.shift.Channels.TheVariants.{Both}
+use Rattle.edits.specs.declared.shift.Channels.{Channels}
+use Rattle.edits.specs.declared.shift.Channels.TheVariants.{Both, Left, Right}
 use Rattle.mp3_cli.specs.declared.jobs.Job.{Job}
 use Rattle.mp3_cli.specs.declared.jobs.Job.TheVariants.{Help, Version, List as ListFile, Gain}
 
@@ -18,6 +19,8 @@ pub data Kind : Type 0 where
   Name : Kind
   -- a number of steps
   Steps : Kind
+  -- a channel: `0` is the left one, `1` the right one
+  Channel : Kind
 
 -- a name isn't empty, and doesn't begin with `-`
 abbrev pub is_name : List ℕ → Bool
@@ -38,11 +41,15 @@ steps_of (first ∷ rest) =
     else if first == 45 then option_map (λ size. neg_ℤ (pos size)) (step_count rest)
     else option_map pos (step_count (first ∷ rest))
 
+abbrev pub channel_of : List ℕ → Option Channels
+channel_of word = if bytes_eq word (codes "0") then Some Left else if bytes_eq word (codes "1") then Some Right else None
+
 -- the word is of the kind
 abbrev pub fits_kind : Kind → List ℕ → Bool
 fits_kind (Fixed text) word = bytes_eq word text
 fits_kind Name word = is_name word
 fits_kind Steps word = is_some (steps_of word)
+fits_kind Channel word = is_some (channel_of word)
 
 -- ---- forms
 
@@ -78,27 +85,44 @@ tags_untouched = Fixed (codes "-s") ∷ Fixed (codes "s") ∷ []
 abbrev pub wrapping : List Kind
 wrapping = Fixed (codes "-w") ∷ []
 
+-- the options of a gain, in either order, and whether gains wrap
+pub data Options : Type 0 where
+  Tagless : Options
+  TaglessWrapping : Options
+  WrappingTagless : Options
+
+abbrev pub option_kinds : Options → List Kind
+option_kinds Tagless = tags_untouched
+option_kinds TaglessWrapping = tags_untouched ++ wrapping
+option_kinds WrappingTagless = wrapping ++ tags_untouched
+
+abbrev pub do_wrap : Options → Bool
+do_wrap Tagless = false
+do_wrap _ = true
+
 -- `gain OPTIONS -g N IN OUT`
-abbrev pub gain_form : List Kind → Bool → Form
-gain_form options wrap =
-    let before : ℕ = length options in record {
-      kinds = Fixed (codes "gain") ∷ (options ++ (Fixed (codes "-g") ∷ Steps ∷ Name ∷ Name ∷ []));
-      reads = λ words. Gain (record { channels = Both; steps = unwrap_or (steps_of (word_at words (before + 3))) (pos 0); wrap = wrap }) false (before + 4) (before + 5);
+abbrev pub gain_form : Options → Form
+gain_form options =
+    let before : ℕ = length (option_kinds options) in record {
+      kinds = Fixed (codes "gain") ∷ (option_kinds options ++ (Fixed (codes "-g") ∷ Steps ∷ Name ∷ Name ∷ []));
+      reads = λ words. Gain (record { channels = Both; steps = unwrap_or (steps_of (word_at words (before + 3))) (pos 0); wrap = do_wrap options }) false (before + 4) (before + 5);
     }
 
-abbrev pub gain_without_tags : Form
-gain_without_tags = gain_form tags_untouched false
-
--- the two options in either order
-abbrev pub gain_wrapping : Form
-gain_wrapping = gain_form (tags_untouched ++ wrapping) true
-
-abbrev pub wrapping_gain : Form
-wrapping_gain = gain_form (wrapping ++ tags_untouched) true
+-- `gain OPTIONS -l C N IN OUT`
+abbrev pub channel_form : Options → Form
+channel_form options =
+    let before : ℕ = length (option_kinds options) in record {
+      kinds = Fixed (codes "gain") ∷ (option_kinds options ++ (Fixed (codes "-l") ∷ Channel ∷ Steps ∷ Name ∷ Name ∷ []));
+      reads = λ words.
+          Gain (record { channels = unwrap_or (channel_of (word_at words (before + 3))) Left; steps = unwrap_or (steps_of (word_at words (before + 4))) (pos 0); wrap = do_wrap options }) false (before + 5) (before + 6);
+    }
 
 -- all of them
 abbrev pub forms : List Form
-forms = help ∷ short_help ∷ version ∷ list_file ∷ gain_without_tags ∷ gain_wrapping ∷ wrapping_gain ∷ []
+forms =
+    help ∷ short_help ∷ version ∷ list_file
+    ∷ gain_form Tagless ∷ gain_form TaglessWrapping ∷ gain_form WrappingTagless
+    ∷ channel_form Tagless ∷ channel_form TaglessWrapping ∷ channel_form WrappingTagless ∷ []
 
 -- ---- the reading
 

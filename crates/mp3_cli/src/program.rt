@@ -5,25 +5,16 @@ ghost use Rattle.outside.specs.Counts.{Rose, NoneFell};
 ghost use Rattle.edits.specs.Command.{HoldsStreams};
 ghost use Rattle.edits.specs.Left.{seen};
 ghost use Rattle.edits.specs.Said.{heard, fault_of};
-ghost use Rattle.mp3_cli.specs.Words.{word_at, job_of, IsSound};
+ghost use Rattle.mp3_cli.specs.Words.{job_of, IsSound};
 ghost use Rattle.mp3_cli.specs.Texts.{GotLine, HasLine};
 ghost use Rattle.mp3_cli.specs.Run.{command_of, always_of, fault_status, result_line, Answers, AnswersWords, outcome, IsOutcome, IsAccepted, HoldsAllStreams};
 
 use crate::jobs::Job;
 use crate::texts::{say_help, say_version, send_bad_word, send_fault, status};
-use crate::words::job;
+use crate::words::{job, word_at};
 use edits::{EditFault, gain, list};
 use outside::{Folder, Sink};
 use std::alloc::Global;
-
-/// The word at a place, counted from 1.
-fn name_at(words: &[String], place: u32) -> &str
-    requires first { 1 ≤ place }
-    requires last { place ≤ length words.now }
-    ensures { result.now ≡ word_at (map string_bytes words.now) place }
-{
-    words[place as usize - 1].as_str()
-}
 
 /// Reports how a command ended, and answers its status.
 fn report<E: Sink>(
@@ -70,7 +61,7 @@ fn run_job<D: Folder, T: Sink, E: Sink>(
             report(err, done, &[], &[])
         }
         Job::List { input } => {
-            let input = name_at(words, input);
+            let input = word_at(words, input);
             let done = list(alloc, folder, input, out);
             report(err, done, &[input], &[])
         }
@@ -80,8 +71,8 @@ fn run_job<D: Folder, T: Sink, E: Sink>(
             input,
             output,
         } => {
-            let input = name_at(words, input);
-            let output = name_at(words, output);
+            let input = word_at(words, input);
+            let output = word_at(words, output);
             let done = gain(alloc, folder, input, output, &shift);
             report(err, done, &[input], &[output])
         }

@@ -69,6 +69,76 @@ fn words_of_the_other_forms(rt: HostRuntime) -> Result<(), Fail> {
     Ok(())
 }
 
+/// The words of a gain, the channels that change, whether gains wrap, and the place of the input's name.
+struct GainWords {
+    words: &'static [&'static str],
+    channels: Channels,
+    wrap: bool,
+    input: u32,
+}
+
+static GAINS: [GainWords; 5] = [
+    GainWords {
+        words: &["gain", "-s", "s", "-w", "-g", "-7", "a", "b"],
+        channels: Channels::Both,
+        wrap: true,
+        input: 7,
+    },
+    GainWords {
+        words: &["gain", "-w", "-s", "s", "-g", "-7", "a", "b"],
+        channels: Channels::Both,
+        wrap: true,
+        input: 7,
+    },
+    GainWords {
+        words: &["gain", "-s", "s", "-l", "0", "-7", "a", "b"],
+        channels: Channels::Left,
+        wrap: false,
+        input: 7,
+    },
+    GainWords {
+        words: &["gain", "-s", "s", "-w", "-l", "1", "-7", "a", "b"],
+        channels: Channels::Right,
+        wrap: true,
+        input: 8,
+    },
+    GainWords {
+        words: &["gain", "-w", "-s", "s", "-l", "1", "-7", "a", "b"],
+        channels: Channels::Right,
+        wrap: true,
+        input: 8,
+    },
+];
+
+#[test]
+fn words_of_gains(rt: HostRuntime) -> Result<(), Fail> {
+    for gain in &GAINS {
+        let shift = Shift {
+            channels: gain.channels,
+            steps: -7,
+            wrap: gain.wrap,
+        };
+        let wanted = Job::Gain {
+            shift,
+            tags: false,
+            input: gain.input,
+            output: gain.input + 1,
+        };
+        assert_eq!(rt; read(rt.alloc(), gain.words)?, Ok(wanted));
+    }
+    let alloc = rt.alloc();
+    assert_eq!(rt; read(alloc, &["gain", "-w", "-u", "a", "b"])?, Err(3));
+    assert_eq!(rt;
+        read(alloc, &["gain", "-w", "-s", "s", "-w", "-g", "1", "a", "b"])?,
+        Err(5)
+    );
+    assert_eq!(rt;
+        read(alloc, &["gain", "-s", "s", "-l", "2", "1", "a", "b"])?,
+        Err(5)
+    );
+    Ok(())
+}
+
 /// Words, and the text that they give on standard output.
 struct Said {
     word: &'static str,
@@ -79,6 +149,8 @@ const USAGE: &[u8] = b"usage: mp3edit COMMAND
   list IN                say what stands in the MP3 file IN: tags, junk, head and frames
   gain -s s [-w] -g N IN OUT
                          write IN to OUT, louder by N steps of 1.5 dB (quieter below 0)
+  gain -s s [-w] -l C N IN OUT
+                         the same of the left (C is 0) or right (C is 1) channel alone
   --help, -h             say this
   --version              say which version this is
 status: 0 done; 1 refused; 2 bad word; 3 a file is absent, or reading or writing failed;
@@ -164,11 +236,21 @@ struct Line {
     line: &'static [u8],
 }
 
-static LINES: [Line; 19] = [
+static LINES: [Line; 21] = [
     Line {
         fault: EditFault::EqualNames(0),
         status: 1,
         line: b"a.mp3: input is an output\n",
+    },
+    Line {
+        fault: EditFault::Mono,
+        status: 1,
+        line: b"one channel only\n",
+    },
+    Line {
+        fault: EditFault::Joint(30417),
+        status: 1,
+        line: b"joint stereo at 30417\n",
     },
     Line {
         fault: EditFault::Sent,

@@ -21,13 +21,16 @@ fn input_status(fault: &SurveyFault) -> u8
     }
 }
 
-/// The status of a fault: 1 for a refused input (EqualNames, Input, GainRange), 3 for a fault of the outside
+/// The status of a fault: 1 for a refused input (EqualNames, Input, GainRange, Mono, Joint), 3 for a fault of the outside
 /// (Input with Absent, Read or Shrunk, Write, and Sent), 4 for want of memory (Memory).
 pub fn status(fault: &EditFault) -> u8
     ensures { result ≡ status_of fault.now }
 {
     match fault {
-        EditFault::EqualNames(_) | EditFault::GainRange(..) => 1,
+        EditFault::EqualNames(_)
+        | EditFault::GainRange(..)
+        | EditFault::Mono
+        | EditFault::Joint(_) => 1,
         EditFault::Input(_, fault) => input_status(fault),
         EditFault::Write(_) | EditFault::Sent => 3,
         EditFault::Memory => 4,
@@ -57,7 +60,7 @@ fn send_pieces<E: Sink>(err: &mut E, pieces: &[&str])
 static HELP: [&str; 7] = [
     "usage: mp3edit COMMAND\n",
     "  list IN                say what stands in the MP3 file IN: tags, junk, head and frames\n",
-    "  gain -s s [-w] -g N IN OUT\n                         write IN to OUT, louder by N steps of 1.5 dB (quieter below 0)\n",
+    "  gain -s s [-w] -g N IN OUT\n                         write IN to OUT, louder by N steps of 1.5 dB (quieter below 0)\n  gain -s s [-w] -l C N IN OUT\n                         the same of the left (C is 0) or right (C is 1) channel alone\n",
     "  --help, -h             say this\n",
     "  --version              say which version this is\n",
     "status: 0 done; 1 refused; 2 bad word; 3 a file is absent, or reading or writing failed;\n",
@@ -279,6 +282,8 @@ fn name_in<'a>(names: &[&'a str], place: u32) -> &'a str
 /// | Read | `NAME: read fault` |
 /// | Shrunk(F, S) | `NAME: shrunk from F to S` |
 /// | GainRange(O, G, C, V) | `gain V out of range at O, granule G, channel C` |
+/// | Mono | `one channel only` |
+/// | Joint(O) | `joint stereo at O` |
 /// | Write | `NAME: write fault` |
 /// | Sent | `standard output: write fault` |
 /// | Memory | `out of memory` |
@@ -294,6 +299,8 @@ pub fn send_fault<E: Sink>(err: &mut E, fault: &EditFault, inputs: &[&str], outp
         EditFault::GainRange(offset, granule, channel, gain) => {
             send_gain_range(err, offset, granule, channel, gain);
         }
+        EditFault::Mono => send_pieces(err, &["one channel only\n"]),
+        EditFault::Joint(offset) => send_number(err, "", "joint stereo at ", offset, "\n"),
         EditFault::Write(place) => {
             send_pieces(err, &[name_in(outputs, place), ": write fault\n"]);
         }

@@ -1,10 +1,11 @@
 //! The program's words.
-ghost use Rattle.std.specs.Prelude.{◌≡◌, ◌≤◌, ◌<◌, ◌^◌, ◌+◌, false, unwrap_or, List, length, map, string_bytes, option_map, pos, IfOk, IfErr};
+ghost use Rattle.std.specs.Prelude.{◌≡◌, ◌≤◌, ◌<◌, ◌^◌, ◌+◌, ◌++◌, ◌∷◌, codes, false, unwrap_or, List, length, map, string_bytes, option_map, pos, IfOk, IfErr};
 ghost use Rattle.std.specs.List.{common_prefix_len};
-ghost use Rattle.mp3_cli.specs.Words.{is_name, step_count, steps_of, fits_kind, job_of, IsReading, IsBadWord, IsSound};
-ghost use Rattle.mp3_cli.specs.Table.{word_kind, form_named};
+ghost use Rattle.mp3_cli.specs.Words.{Fixed, word_at as word_at_lem, is_name, step_count, steps_of, channel_of, option_kinds, do_wrap, fits_kind, job_of, IsReading, IsBadWord, IsSound};
+ghost use Rattle.mp3_cli.specs.Table.{word_kind, options_named, form_named};
 
 use crate::jobs::Job;
+use arrayvec::ArrayVec;
 use edits::{Channels, Shift};
 
 /// What a word of a form is.
@@ -16,6 +17,26 @@ enum WordKind {
     Name,
     /// A number of steps.
     Steps,
+    /// A channel.
+    Channel,
+}
+
+impl Default for WordKind {
+    /// A name.
+    fn default() -> Self {
+        WordKind::Name
+    }
+}
+
+/// The options of a gain: tags are untouched, and gains may wrap, in either order.
+#[derive(Clone, Copy)]
+enum GainOptions {
+    /// `-s s`.
+    Tagless,
+    /// `-s s -w`.
+    TaglessWrapping,
+    /// `-w -s s`.
+    WrappingTagless,
 }
 
 /// The forms.
@@ -25,60 +46,62 @@ enum FormName {
     ShortHelp,
     Version,
     List,
-    GainWithoutTags,
-    GainWrapping,
-    WrappingGain,
+    Gain(GainOptions),
+    ChannelGain(GainOptions),
 }
 
-const FORMS: [FormName; 7] = [
+const FORMS: [FormName; 10] = [
     FormName::Help,
     FormName::ShortHelp,
     FormName::Version,
     FormName::List,
-    FormName::GainWithoutTags,
-    FormName::GainWrapping,
-    FormName::WrappingGain,
+    FormName::Gain(GainOptions::Tagless),
+    FormName::Gain(GainOptions::TaglessWrapping),
+    FormName::Gain(GainOptions::WrappingTagless),
+    FormName::ChannelGain(GainOptions::Tagless),
+    FormName::ChannelGain(GainOptions::TaglessWrapping),
+    FormName::ChannelGain(GainOptions::WrappingTagless),
 ];
 
-static HELP: [WordKind; 1] = [WordKind::Fixed("--help")];
+static TAGLESS: [WordKind; 2] = [WordKind::Fixed("-s"), WordKind::Fixed("s")];
 
-static SHORT_HELP: [WordKind; 1] = [WordKind::Fixed("-h")];
-
-static VERSION: [WordKind; 1] = [WordKind::Fixed("--version")];
-
-static LIST: [WordKind; 2] = [WordKind::Fixed("list"), WordKind::Name];
-
-static GAIN_WITHOUT_TAGS: [WordKind; 7] = [
-    WordKind::Fixed("gain"),
-    WordKind::Fixed("-s"),
-    WordKind::Fixed("s"),
-    WordKind::Fixed("-g"),
-    WordKind::Steps,
-    WordKind::Name,
-    WordKind::Name,
-];
-
-static GAIN_WRAPPING: [WordKind; 8] = [
-    WordKind::Fixed("gain"),
+static TAGLESS_WRAPPING: [WordKind; 3] = [
     WordKind::Fixed("-s"),
     WordKind::Fixed("s"),
     WordKind::Fixed("-w"),
+];
+
+static WRAPPING_TAGLESS: [WordKind; 3] = [
+    WordKind::Fixed("-w"),
+    WordKind::Fixed("-s"),
+    WordKind::Fixed("s"),
+];
+
+/// What stands behind the options where both channels change.
+static BOTH: [WordKind; 4] = [
     WordKind::Fixed("-g"),
     WordKind::Steps,
     WordKind::Name,
     WordKind::Name,
 ];
 
-static WRAPPING_GAIN: [WordKind; 8] = [
-    WordKind::Fixed("gain"),
-    WordKind::Fixed("-w"),
-    WordKind::Fixed("-s"),
-    WordKind::Fixed("s"),
-    WordKind::Fixed("-g"),
+/// What stands behind the options where one channel changes.
+static ONE: [WordKind; 5] = [
+    WordKind::Fixed("-l"),
+    WordKind::Channel,
     WordKind::Steps,
     WordKind::Name,
     WordKind::Name,
 ];
+
+/// The word at a place, counted from 1.
+pub(crate) fn word_at(words: &[String], place: u32) -> &str
+    requires first { 1 ≤ place }
+    requires last { place ≤ length words.now }
+    ensures { result.now ≡ word_at_lem (map string_bytes words.now) place }
+{
+    words[place as usize - 1].as_str()
+}
 
 // A name isn't empty, and doesn't begin with `-`.
 fn is_name(word: &str) -> bool
@@ -115,6 +138,17 @@ fn read_steps(word: &str) -> Option<i16>
     }
 }
 
+// `0` is the left channel, `1` the right one.
+fn read_channel(word: &str) -> Option<Channels>
+    ensures { result ≡ channel_of word.now }
+{
+    match word {
+        "0" => Some(Channels::Left),
+        "1" => Some(Channels::Right),
+        _ => None,
+    }
+}
+
 fn fits(word: &str, kind: &WordKind) -> bool
     ensures { result ≡ fits_kind (word_kind kind.now) word.now }
 {
@@ -122,6 +156,7 @@ fn fits(word: &str, kind: &WordKind) -> bool
         WordKind::Fixed(text) => word == *text,
         WordKind::Name => is_name(word),
         WordKind::Steps => read_steps(word).is_some(),
+        WordKind::Channel => read_channel(word).is_some(),
     }
 }
 
@@ -136,36 +171,78 @@ fn follow(words: &[String], kinds: &[WordKind]) -> usize
     count
 }
 
-// A change by these steps of the file that this word names, to the file that the next one does.
-fn gain_of(steps: &str, wrap: bool, input: u32) -> Job
-    requires { input < 2 ^ 31 }
-    ensures { result ≡ Job.Gain (record { channels = Channels.Both; steps = unwrap_or (steps_of steps.now) (pos 0); wrap = wrap }) false input (input + 1) }
-{
-    let shift = Shift {
-        channels: Channels::Both,
-        steps: read_steps(steps).unwrap_or(0),
-        wrap,
-    };
-    Job::Gain {
-        shift,
-        tags: false,
-        input,
-        output: input + 1,
+impl GainOptions {
+    fn kinds(self) -> &'static [WordKind]
+        ensures kinds { map word_kind result.now ≡ option_kinds (options_named self) }
+        ensures few { length result.now ≤ 3 }
+    {
+        match self {
+            GainOptions::Tagless => &TAGLESS,
+            GainOptions::TaglessWrapping => &TAGLESS_WRAPPING,
+            GainOptions::WrappingTagless => &WRAPPING_TAGLESS,
+        }
+    }
+
+    fn do_wrap(self) -> bool
+        ensures { result ≡ do_wrap (options_named self) }
+    {
+        match self {
+            GainOptions::Tagless => false,
+            GainOptions::TaglessWrapping | GainOptions::WrappingTagless => true,
+        }
+    }
+
+    // How many words they are.
+    fn count(self) -> u32
+        ensures { result ≡ length (option_kinds (options_named self)) }
+    {
+        match self {
+            GainOptions::Tagless => 2,
+            GainOptions::TaglessWrapping | GainOptions::WrappingTagless => 3,
+        }
     }
 }
 
+fn append(kinds: &mut ArrayVec<WordKind, 9>, more: &[WordKind])
+    requires { length kinds.old.items + length more.now ≤ 9 }
+    ensures items { kinds.new.items ≡ kinds.old.items ++ more.now }
+    ensures count { length kinds.new.items ≡ length kinds.old.items + length more.now }
+{
+    kinds.try_extend_from_slice(more).unwrap();
+}
+
+// `gain`, the options, and what stands behind them.
+fn gain_kinds(options: GainOptions, behind: &[WordKind]) -> ArrayVec<WordKind, 9>
+    requires { length behind.now ≤ 5 }
+    ensures { map word_kind result.items ≡ Fixed (codes "gain") ∷ (option_kinds (options_named options) ++ map word_kind behind.now) }
+{
+    let mut kinds = ArrayVec::new();
+    kinds.push(WordKind::Fixed("gain"));
+    append(&mut kinds, options.kinds());
+    append(&mut kinds, behind);
+    kinds
+}
+
+fn some_kinds(kinds: &[WordKind]) -> ArrayVec<WordKind, 9>
+    requires { length kinds.now ≤ 9 }
+    ensures { result.items ≡ kinds.now }
+{
+    let mut found = ArrayVec::new();
+    append(&mut found, kinds);
+    found
+}
+
 impl FormName {
-    fn kinds(self) -> &'static [WordKind]
-        ensures { map word_kind result.now ≡ (form_named self).kinds }
+    fn kinds(self) -> ArrayVec<WordKind, 9>
+        ensures { map word_kind result.items ≡ (form_named self).kinds }
     {
         match self {
-            FormName::Help => &HELP,
-            FormName::ShortHelp => &SHORT_HELP,
-            FormName::Version => &VERSION,
-            FormName::List => &LIST,
-            FormName::GainWithoutTags => &GAIN_WITHOUT_TAGS,
-            FormName::GainWrapping => &GAIN_WRAPPING,
-            FormName::WrappingGain => &WRAPPING_GAIN,
+            FormName::Help => some_kinds(&[WordKind::Fixed("--help")]),
+            FormName::ShortHelp => some_kinds(&[WordKind::Fixed("-h")]),
+            FormName::Version => some_kinds(&[WordKind::Fixed("--version")]),
+            FormName::List => some_kinds(&[WordKind::Fixed("list"), WordKind::Name]),
+            FormName::Gain(options) => gain_kinds(options, &BOTH),
+            FormName::ChannelGain(options) => gain_kinds(options, &ONE),
         }
     }
 
@@ -178,17 +255,47 @@ impl FormName {
             FormName::Help | FormName::ShortHelp => Job::Help,
             FormName::Version => Job::Version,
             FormName::List => Job::List { input: 2 },
-            FormName::GainWithoutTags => gain_of(&words[4], false, 6),
-            FormName::GainWrapping | FormName::WrappingGain => gain_of(&words[5], true, 7),
+            FormName::Gain(options) => {
+                let before = options.count();
+                gain_of(
+                    Channels::Both,
+                    word_at(words, before + 3),
+                    options,
+                    before + 4,
+                )
+            }
+            FormName::ChannelGain(options) => {
+                let before = options.count();
+                let channel = read_channel(word_at(words, before + 3)).unwrap_or(Channels::Left);
+                gain_of(channel, word_at(words, before + 4), options, before + 5)
+            }
         }
+    }
+}
+
+// A change of these channels by these steps of the file that this word names, to the file that the next one does.
+fn gain_of(channels: Channels, steps: &str, options: GainOptions, input: u32) -> Job
+    requires { input < 2 ^ 31 }
+    ensures { result ≡ Job.Gain (record { channels = channels; steps = unwrap_or (steps_of steps.now) (pos 0); wrap = do_wrap (options_named options) }) false input (input + 1) }
+{
+    let shift = Shift {
+        channels,
+        steps: read_steps(steps).unwrap_or(0),
+        wrap: options.do_wrap(),
+    };
+    Job::Gain {
+        shift,
+        tags: false,
+        input,
+        output: input + 1,
     }
 }
 
 /// What the words ask for. Where they have no form, it is refused with the place, counted from 1, of the
 /// first word that no form takes, or the number of words plus 1 where a word is missing.
-/// The forms are `list IN`; `gain -s s -g N IN OUT`, with `-w` before or behind `-s s` too; and `--help`, `-h` and
-/// `--version`, each alone. N is an optional `+` or `-` and one to three digits, from -255 to 255, and a name isn't empty
-/// and doesn't begin with `-`.
+/// The forms are `list IN`; `gain -s s -g N IN OUT` and `gain -s s -l C N IN OUT`, with `-w` before or behind `-s s` too;
+/// and `--help`, `-h` and `--version`, each alone. C is `0` or `1`. N is an optional `+` or `-` and one to three digits,
+/// from -255 to 255, and a name isn't empty and doesn't begin with `-`.
 pub fn job(words: &[String]) -> Result<Job, u32>
     ensures exact { result ≡ job_of (map string_bytes words.now) }
 
@@ -201,7 +308,8 @@ pub fn job(words: &[String]) -> Result<Job, u32>
 {
     let mut furthest = 0;
     for form in FORMS {
-        let kinds = form.kinds();
+        let all = form.kinds();
+        let kinds = all.as_slice();
         let count = follow(words, kinds);
         if count == words.len() && count == kinds.len() {
             return Ok(form.read(words));

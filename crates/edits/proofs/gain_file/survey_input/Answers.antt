@@ -1,8 +1,7 @@
 -- A fault of the survey is one of the input, and so is a gain that would leave its range.
-use Rattle.std.proofs.Common.{sym, ◌∙◌, ap, ap₂}
+use Rattle.std.proofs.Common.{sym, ap₂}
 use Rattle.std.proofs.lemmas.Result.{err_from_is_err_and}
 use Rattle.sync_survey.specs.Faults.{tells}
-use Rattle.edits.specs.Edited.{choice_fault}
 use Rattle.edits.specs.Left.{seen}
 use Rattle.edits.proofs.GainLaws.{survey_is_input, survey_numbers, range_is_input, range_of_input, gained-free}
 use Rattle.edits.proofs.gain_file.survey_input.Goals as goal

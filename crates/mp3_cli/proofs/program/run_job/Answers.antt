@@ -28,5 +28,5 @@ returns-in-Version-clause-answers g c =
 
 pub returns-in-Gain-clause-answers : goal.returns-in-Gain-clause-answers
 returns-in-Gain-clause-answers g c =
-    let says = gain_says c.in-Gain.shift c.name_at-input-in-Gain.result.now c.name_at-output.result.now (g.D.Folder.files c.args.folder.now) (heard (g.T.Sink.sent c.args.out.now) (g.T.Sink.faults c.args.out.now)) c.gain-done.result c.gain-done.ensures.numbers in
+    let says = gain_says c.in-Gain.shift c.word_at-input-in-Gain.result.now c.word_at-output.result.now (g.D.Folder.files c.args.folder.now) (heard (g.T.Sink.sent c.args.out.now) (g.T.Sink.faults c.args.out.now)) c.gain-done.result c.gain-done.ensures.numbers in
     search (rules, says)

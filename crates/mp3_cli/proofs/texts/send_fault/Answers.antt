@@ -16,6 +16,14 @@ pub returns-in-GainRange : goal.returns-in-GainRange
 unfolding fault_line
 returns-in-GainRange g c = line_is _ _ _ _ _ _ (rw c.in-GainRange.is refl) c.send_gain_range.ensures
 
+pub returns-in-Mono : goal.returns-in-Mono
+unfolding fault_line
+returns-in-Mono g c = line_is _ _ _ _ _ _ (rw c.in-Mono.is refl) c.send_pieces-in-Mono.ensures
+
+pub returns-in-Joint : goal.returns-in-Joint
+unfolding fault_line
+returns-in-Joint g c = line_is _ _ _ _ _ _ (rw c.in-Joint.is refl) c.send_number.ensures
+
 pub returns-in-Write : goal.returns-in-Write
 unfolding fault_line
 returns-in-Write g c = line_is _ _ _ _ _ _ (rw (c.in-Write.is, c.name_in-in-Write.ensures) refl) c.send_pieces-in-Write.ensures

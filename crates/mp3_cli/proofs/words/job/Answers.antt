@@ -1,5 +1,5 @@
 -- A form that the words have ends the loop; else it goes on, and the furthest front stays known.
-use Rattle.std.proofs.Common.{◌≡◌, ◌+◌, Ok, Err, length, map, string_bytes, ◌∙◌, arith}
+use Rattle.std.proofs.Common.{◌≡◌, ◌+◌, Ok, Err, length, map, string_bytes, ap, ◌∙◌, arith}
 use Rattle.std.proofs.lemmas.List.{length-map}
 use Rattle.mp3_cli.specs.declared.words.FormName.TheVariants.{Help}
 use Rattle.mp3_cli.specs.Words.{forms, job_of}
@@ -13,30 +13,30 @@ use Rattle.mp3_cli.proofs.words.job.Goals.{else-count-words-via-then-count-words
 accepted : (c : goal.After-read) → Ok c.read.result ≡ job_of (map string_bytes c.args.words.now)
 unfolding job_of
 accepted c =
-    let turn : Turn form_names forms c.loop-form.form-index Help (map string_bytes c.args.words.now) (map word_kind c.kinds-kinds.result.now) c.follow-count.result = record {
+    let turn : Turn form_names forms c.loop-form.form-index Help (map string_bytes c.args.words.now) (map word_kind c.as_slice-kinds.result.now) c.follow-count.result = record {
       all = c.loop-form.invariant.0;
       index = c.loop-form-test.true;
       none = c.loop-form.invariant.1;
-      its_kinds = c.kinds-kinds.ensures;
+      its_kinds = ap (map word_kind) c.as_slice-kinds.ensures.value ∙ c.kinds-all.ensures;
       followed = c.follow-count.ensures;
     } in
-    accepts form_names forms c.loop-form.form-index Help (map string_bytes c.args.words.now) (map word_kind c.kinds-kinds.result.now) c.follow-count.result c.read.result turn
+    accepts form_names forms c.loop-form.form-index Help (map string_bytes c.args.words.now) (map word_kind c.as_slice-kinds.result.now) c.follow-count.result c.read.result turn
     (rw length-map c.if-count-words.true) (rw length-map c.if-count-kinds.true) c.read.ensures
 
 pub loop-form-preserved : goal.loop-form-preserved
 loop-form-preserved c =
-    let turn : Turn form_names forms c.loop-form.form-index Help (map string_bytes c.args.words.now) (map word_kind c.kinds-kinds.result.now) c.follow-count.result = record {
+    let turn : Turn form_names forms c.loop-form.form-index Help (map string_bytes c.args.words.now) (map word_kind c.as_slice-kinds.result.now) c.follow-count.result = record {
       all = c.loop-form.invariant.0;
       index = c.loop-form-test.true;
       none = c.loop-form.invariant.1;
-      its_kinds = c.kinds-kinds.ensures;
+      its_kinds = ap (map word_kind) c.as_slice-kinds.ensures.value ∙ c.kinds-all.ensures;
       followed = c.follow-count.ensures;
     } in
-    let not_all : c.follow-count.result ≡ length (map string_bytes c.args.words.now) → c.follow-count.result ≡ length (map word_kind c.kinds-kinds.result.now) → ⊥ =
+    let not_all : c.follow-count.result ≡ length (map string_bytes c.args.words.now) → c.follow-count.result ≡ length (map word_kind c.as_slice-kinds.result.now) → ⊥ =
     simp length-map (λ all_words all_kinds. omega (arith, c.else-count-words.either)) in
-    let on = furthest_on form_names forms c.loop-form.form-index Help (map string_bytes c.args.words.now) (map word_kind c.kinds-kinds.result.now) c.follow-count.result c.loop-form.furthest turn c.loop-form.invariant.2 c.loop-form.invariant.3 in
+    let on = furthest_on form_names forms c.loop-form.form-index Help (map string_bytes c.args.words.now) (map word_kind c.as_slice-kinds.result.now) c.follow-count.result c.loop-form.furthest turn c.loop-form.invariant.2 c.loop-form.invariant.3 in
     let max-is = c.max-furthest.ensures ∙ ord_max_is c.loop-form.furthest c.follow-count.result in
-    (c.loop-form.invariant.0, goes_on form_names forms c.loop-form.form-index Help (map string_bytes c.args.words.now) (map word_kind c.kinds-kinds.result.now) c.follow-count.result turn not_all, max-is ∙ on.0, omega (arith, max-is, on.1))
+    (c.loop-form.invariant.0, goes_on form_names forms c.loop-form.form-index Help (map string_bytes c.args.words.now) (map word_kind c.as_slice-kinds.result.now) c.follow-count.result turn not_all, max-is ∙ on.0, omega (arith, max-is, on.1))
 
 refused : (c : goal.After-loop-form) → Err (c.loop-form.furthest + 1) ≡ job_of (map string_bytes c.args.words.now)
 unfolding job_of
