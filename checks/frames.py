@@ -10,6 +10,7 @@
   frames.py ends FILE              the least and the greatest gain, but for the silent ones and those of lost frames
   frames.py moved IN N OUT         writes OUT: IN with each gain moved by N, but the silent ones and those of lost frames, with right
                                    check words, and without junk; and says what stands in IN
+  frames.py wrapped IN C N OUT     the same where gains wrap, of channel C alone (0 or 1), or of 'both'
   frames.py without-junk IN OUT    writes OUT: IN without the bytes between its blocks and its first frame
   frames.py spoilt IN PLACE OUT    writes OUT: IN with a wrong check word in its 'first' or 'last' frame
   frames.py differ A B N           says where A and B differ; status 1 where B is not A with the gains of silent granules and of lost
@@ -435,12 +436,28 @@ def moved_side(frame, steps):
     return side
 
 
+def wrapped_side(frame, channel, steps):
+    side = frame.side
+    for it in frame.moving():
+        if channel in ("both", str(it.channel)):
+            side += ((it.gain + steps) % 256) - it.gain << it.behind
+    return side
+
+
 def moved(name, steps, output):
+    change(name, lambda frame: moved_side(frame, int(steps)), output)
+
+
+def wrapped(name, channel, steps, output):
+    change(name, lambda frame: wrapped_side(frame, channel, int(steps)), output)
+
+
+def change(name, side_of, output):
     data = bytes_of(name)
     found = survey_of(data)
     new = bytearray(data)
     for frame in found.frames:
-        side = moved_side(frame, int(steps))
+        side = side_of(frame)
         new[frame.side_at : frame.side_end] = side.to_bytes(frame.side_size, "big")
         if frame.protected:
             new[frame.offset + 4 : frame.side_at] = frame.right_word(side).to_bytes(2, "big")
@@ -528,6 +545,7 @@ COMMANDS = {
     "past": (past, 2),
     "ends": (ends, 1),
     "moved": (moved, 3),
+    "wrapped": (wrapped, 4),
     "without-junk": (without_junk, 2),
     "spoilt": (spoilt, 3),
     "differ": (differ, 3),
