@@ -1,0 +1,52 @@
+-- Places in a stream: the words that say them, as those of mp3splt, and the frames that they are before.
+use Rattle.std.specs.Prelude.{ℕ, ◌+◌, ◌*◌, ◌/◌, ◌≤◌, ◌==◌, if◌then◌else◌, Bool, List, [], ◌∷◌, length, drop, Option, Some, option_map, option_and_then, codes, bytes_eq, ⊤}
+use Rattle.std.specs.List.{before_first, after_first, position_or_len}
+use Rattle.frame_header.specs.Fields.{ClassFields}
+use Rattle.frame_header.specs.Tables.{frequency_of, samples_of}
+use Rattle.cue_sheet.specs.declared.place.Place.{Place}
+use Rattle.cue_sheet.specs.declared.place.Place.TheVariants.{Frame, Time, End}
+use Rattle.cue_sheet.specs.Digits.{number_in}
+
+-- ---- words
+
+abbrev pub is_dot : ℕ → Bool
+is_dot byte = byte == 46
+
+-- a frame's number has one to seven digits
+abbrev pub frame_number : List ℕ → Option Place
+frame_number word = option_map Frame (number_in 1 7 9999999 word)
+
+-- behind the seconds stands nothing, or a dot and one or two digits
+abbrev pub hundredths_of : List ℕ → Option ℕ
+hundredths_of [] = Some 0
+hundredths_of (dot ∷ digits) = number_in 1 2 99 digits
+
+-- so many minutes, seconds and hundredths
+abbrev pub time_in : ℕ → ℕ → ℕ → Place
+time_in minutes seconds hundredths = Time ((60 * minutes + seconds) * 100 + hundredths) 100
+
+-- the minutes before the first dot, and behind it the seconds up to the next one or the end, and the hundredths
+unfoldable pub time_of : List ℕ → List ℕ → Option Place
+time_of minutes rest =
+    option_and_then (λ m. option_and_then (λ s. option_map (time_in m s) (hundredths_of (drop (position_or_len is_dot rest) rest))) (number_in 1 2 59 (before_first is_dot rest))) (number_in 1 4 9999 minutes)
+
+-- the place that a word says: `EOF`, a number without a dot, or a time with one
+unfoldable pub place_of : List ℕ → Option Place
+place_of word =
+    if bytes_eq word (codes "EOF") then Some End
+    else if position_or_len is_dot word == length word then frame_number word
+    else time_of (before_first is_dot word) (after_first is_dot word)
+
+-- ---- frames
+
+-- a second has 1 to 100 parts
+abbrev pub IsPlace : Place → Type 0
+IsPlace (Frame number) = ⊤
+IsPlace (Time time parts) = (1 ≤ parts) × (parts ≤ 100)
+IsPlace End = ⊤
+
+-- the frame before which a place is: so many whole frames take no longer than the time
+unfoldable pub frame_at : ClassFields → ℕ → Place → ℕ
+frame_at class frames (Frame number) = number
+frame_at class frames (Time time parts) = (time * frequency_of class) / (parts * samples_of class.version)
+frame_at class frames End = frames

@@ -1,0 +1,40 @@
+//! Numbers as decimal digits, and texts up to a byte.
+ghost use Rattle.std.specs.Prelude.{◌≡◌, ◌≤◌, ◌==◌, IfSome, length};
+ghost use Rattle.std.specs.List.{position_or_len};
+ghost use Rattle.cue_sheet.specs.Digits.{number_in};
+
+/// The number that these digits spell. `None` exactly where they are fewer than `least` or more than `most`, not all
+/// of them are digits, or the number is above `greatest`.
+pub(crate) fn read_number(digits: &[u8], least: usize, most: usize, greatest: u32) -> Option<u32>
+    requires { most ≤ 7 }
+    ensures number { result ≡ number_in least most greatest digits.now }
+    ensures most { IfSome result (λ number. number ≤ greatest) }
+{
+    if digits.len() < least || digits.len() > most {
+        return None;
+    }
+    let mut number: u32 = 0;
+    for digit in digits {
+        if !digit.is_ascii_digit() {
+            return None;
+        }
+        number = number * 10 + u32::from(*digit - b'0');
+    }
+    if number <= greatest {
+        Some(number)
+    } else {
+        None
+    }
+}
+
+/// The place of the first such byte, or the length where there is none.
+pub(crate) fn place_of(text: &[u8], byte: u8) -> usize
+    ensures place { result ≡ position_or_len (λ b. b == byte) text.now }
+    ensures within { result ≤ length text.now }
+{
+    let mut place = 0;
+    while place < text.len() && text[place] != byte {
+        place += 1;
+    }
+    place
+}

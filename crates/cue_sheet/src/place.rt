@@ -1,0 +1,86 @@
+//! Places in a stream.
+ghost use Rattle.std.specs.Prelude.{◌≡◌, ◌≤◌, IfSome};
+ghost use Rattle.cue_sheet.specs.Places.{place_of as place_of_lem, time_of, hundredths_of, frame_at, IsPlace};
+
+use crate::digits::{place_of, read_number};
+use frame_header::Class;
+
+/// A place between the frames of a stream. Frames are counted from 0, without a head.
+#[derive(Clone, Copy, Debug, PartialEq, Eq)]
+pub enum Place {
+    /// Before the frame with this number.
+    Frame(u32),
+    /// So many parts of a second from the start, and how many parts a second has, from 1 to 100. It is before the
+    /// frame that is heard then.
+    Time(u32, u32),
+    /// Behind the last frame.
+    End,
+}
+
+impl Default for Place {
+    fn default() -> Place {
+        Place::End
+    }
+}
+
+// What stands behind the seconds: nothing, or a dot and one or two digits.
+fn read_hundredths(tail: &[u8]) -> Option<u32>
+    ensures hundredths { result ≡ hundredths_of tail.now }
+    ensures most { IfSome result (λ hundredths. hundredths ≤ 99) }
+{
+    match tail {
+        [] => Some(0),
+        [_, digits @ ..] => read_number(digits, 1, 2, 99),
+    }
+}
+
+#[tactic(auto, unfolding(crate::specs::Places::time_of))]
+// Minutes, and what stands behind the first dot.
+fn read_time(minutes: &[u8], rest: &[u8]) -> Option<Place>
+    ensures time { result ≡ time_of minutes.now rest.now }
+    ensures place { IfSome result IsPlace }
+{
+    let end = place_of(rest, b'.');
+    let minutes = read_number(minutes, 1, 4, 9_999)?;
+    let seconds = read_number(&rest[..end], 1, 2, 59)?;
+    let hundredths = read_hundredths(&rest[end..])?;
+    Some(Place::Time((60 * minutes + seconds) * 100 + hundredths, 100))
+}
+
+#[tactic(auto, unfolding(crate::specs::Places::frame_at, crate::specs::Places::place_of))]
+impl Place {
+    /// The place that a word says, as mp3splt writes them: `EOF`, the end; one to seven digits, a frame's number; or
+    /// one to four digits, a dot, one or two digits of at most 59, and optionally a dot and one or two digits, minutes,
+    /// seconds and hundredths of a second. A single digit counts hundredths too. `None` exactly for every other word.
+    pub fn read(word: &str) -> Option<Place>
+        ensures place { result ≡ place_of_lem word.now }
+        ensures sound { IfSome result IsPlace }
+    {
+        if word == "EOF" {
+            return Some(Place::End);
+        }
+        let word = word.as_bytes();
+        let end = place_of(word, b'.');
+        if end == word.len() {
+            return read_number(word, 1, 7, 9_999_999).map(Place::Frame);
+        }
+        read_time(&word[..end], &word[end + 1..])
+    }
+
+    /// The number of the frame before which the place is, in a stream of so many frames of this class: the number
+    /// itself, the number of frames for the end, and for a time the whole frames up to it, rounded down. It may be
+    /// above the number of frames.
+    pub fn frame_of(&self, class: Class, frames: u32) -> u64
+        requires { IsPlace self.now }
+        ensures { result ≡ frame_at class frames self.now }
+    {
+        match *self {
+            Place::Frame(number) => u64::from(number),
+            Place::End => u64::from(frames),
+            Place::Time(time, parts) => {
+                u64::from(time) * u64::from(class.frequency())
+                    / (u64::from(parts) * u64::from(class.samples()))
+            }
+        }
+    }
+}
