@@ -1,2 +1,6 @@
 -- The lemmas of this crate.
 pub mod NumbersLaws
+pub mod PartsLaws
+pub mod WordsLaws
+pub mod RisingLaws
+pub mod CuesLaws

@@ -6,5 +6,6 @@ use Rattle.std.specs.Str.Parse.{digits_value}
 -- from `least` to `most` digits, of a number up to `greatest`
 unfoldable pub number_in : ℕ → ℕ → ℕ → List ℕ → Option ℕ
 number_in least most greatest digits =
-    if nat_le least (length digits) && nat_le (length digits) most && all_ascii_digits digits && nat_le (digits_value 10 digits) greatest
+    if nat_le least (length digits) && nat_le (length digits) most && all_ascii_digits digits
+    && nat_le (digits_value 10 digits) greatest
     then Some (digits_value 10 digits) else None

@@ -25,10 +25,17 @@ hundredths_of (dot ∷ digits) = number_in 1 2 99 digits
 abbrev pub time_in : ℕ → ℕ → ℕ → Place
 time_in minutes seconds hundredths = Time ((60 * minutes + seconds) * 100 + hundredths) 100
 
--- the minutes before the first dot, and behind it the seconds up to the next one or the end, and the hundredths
+-- behind the first dot stand the seconds, up to the next dot or the end, and then the hundredths
+abbrev pub seconds_in : List ℕ → Option ℕ
+seconds_in rest = number_in 1 2 59 (before_first is_dot rest)
+
+abbrev pub hundredths_in : List ℕ → Option ℕ
+hundredths_in rest = hundredths_of (drop (position_or_len is_dot rest) rest)
+
+-- the time of minutes and what stands behind the first dot
 unfoldable pub time_of : List ℕ → List ℕ → Option Place
 time_of minutes rest =
-    option_and_then (λ m. option_and_then (λ s. option_map (time_in m s) (hundredths_of (drop (position_or_len is_dot rest) rest))) (number_in 1 2 59 (before_first is_dot rest))) (number_in 1 4 9999 minutes)
+    option_and_then (λ m. option_and_then (λ s. option_map (time_in m s) (hundredths_in rest)) (seconds_in rest)) (number_in 1 4 9999 minutes)
 
 -- the place that a word says: `EOF`, a number without a dot, or a time with one
 unfoldable pub place_of : List ℕ → Option Place

@@ -34,8 +34,8 @@ fn read_hundredths(tail: &[u8]) -> Option<u32>
     }
 }
 
-#[tactic(auto, unfolding(crate::specs::Places::time_of))]
 // Minutes, and what stands behind the first dot.
+#[tactic(auto, unfolding(crate::specs::Places::time_of))]
 fn read_time(minutes: &[u8], rest: &[u8]) -> Option<Place>
     ensures time { result ≡ time_of minutes.now rest.now }
     ensures place { IfSome result IsPlace }

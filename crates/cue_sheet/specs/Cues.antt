@@ -1,0 +1,155 @@
+-- Cue sheets: the first fault of their lines, and the starts of their tracks.
+use Rattle.std.specs.Prelude.{◌≡◌, ℕ, ◌+◌, ◌<◌, ◌==◌, not, ◌||◌, nat_le, nat_lt, if◌then◌else◌, Bool, true, false, List, [], ◌∷◌, ◌++◌, length, drop, map, reverse, find, Option, Some, None, Result, Ok, Err}
+use Rattle.std.specs.List.{All, AllPairs, list_any, count_by, filter_map, last_or, slice_split}
+use Rattle.std.specs.Option.{option_or}
+use Rattle.std.specs.Str.Lines.{strip_carriage_return}
+use Rattle.cue_sheet.specs.declared.entry.Entry.{Entry}
+use Rattle.cue_sheet.specs.declared.entry.Entry.TheVariants.{Passed, File, Track, Index, Start, Broken}
+use Rattle.cue_sheet.specs.declared.cue_fault.CueFault.{CueFault}
+use Rattle.cue_sheet.specs.declared.cue_fault.CueFault.TheVariants.{Line, NotRising, NoTracks}
+use Rattle.cue_sheet.specs.declared.place.Place.{Place}
+use Rattle.cue_sheet.specs.declared.place.Place.TheVariants.{Time}
+use Rattle.cue_sheet.specs.declared.seen.Seen.{Seen}
+use Rattle.cue_sheet.specs.Places.{IsPlace}
+use Rattle.cue_sheet.specs.Lines.{words_of, lines_of}
+use Rattle.cue_sheet.specs.Entries.{entry_of}
+
+-- ---- lines
+
+abbrev pub is_file : Entry → Bool
+is_file Passed = false
+is_file File = true
+is_file Track = false
+is_file Index = false
+is_file (Start time) = false
+is_file Broken = false
+
+abbrev pub is_track : Entry → Bool
+is_track Passed = false
+is_track File = false
+is_track Track = true
+is_track Index = false
+is_track (Start time) = false
+is_track Broken = false
+
+-- the time of a start, an index with number 1
+abbrev pub start_time : Entry → Option ℕ
+start_time Passed = None
+start_time File = None
+start_time Track = None
+start_time Index = None
+start_time (Start time) = Some time
+start_time Broken = None
+
+abbrev pub is_start : Entry → Bool
+is_start Passed = false
+is_start File = false
+is_start Track = false
+is_start Index = false
+is_start (Start time) = true
+is_start Broken = false
+
+-- what a line says, but for one carriage return at its end
+abbrev pub entry_in : List ℕ → Entry
+entry_in line = entry_of (words_of (strip_carriage_return line))
+
+abbrev pub entries_of : List ℕ → List Entry
+entries_of bytes = map entry_in (lines_of bytes)
+
+-- ---- what stands before a line
+
+abbrev pub has_track : List Entry → Bool
+has_track before = nat_le 1 (count_by is_track before)
+
+abbrev pub is_start_there : Option Entry → Bool
+is_start_there None = false
+is_start_there (Some entry) = is_start entry
+
+-- the track has a start: of the TRACK lines and the starts so far, the last is a start
+abbrev pub is_started : List Entry → Bool
+is_started before = is_start_there (find (λ entry. is_track entry || is_start entry) (reverse before))
+
+-- the times of the starts
+abbrev pub times_of : List Entry → List ℕ
+times_of entries = filter_map start_time entries
+
+-- a start is greater than the one before it
+abbrev pub is_behind : Option ℕ → ℕ → Bool
+is_behind None time = true
+is_behind (Some last) time = nat_lt last time
+
+-- what the lines so far say together
+pub record IsSeen (before : List Entry) (seen : Seen) : Type 0 where
+  pub lines : seen.lines ≡ length before
+  pub file : seen.file ≡ list_any is_file before
+  pub tracks : seen.tracks ≡ count_by is_track before
+  pub started : seen.started ≡ is_started before
+  pub last : seen.last ≡ last_or None (times_of before)
+
+-- ---- faults
+
+abbrev pub line_fault : Bool → ℕ → Option CueFault
+line_fault is line = if is then Some (Line line) else None
+
+-- The fault of a line with this number behind others. FILE stands once, TRACK 99 times, INDEX behind a TRACK line, and in one
+-- track its number 1 once; a start is behind the one before it.
+abbrev pub fault_in : ℕ → List Entry → Entry → Option CueFault
+fault_in line before Passed = None
+fault_in line before File = line_fault (list_any is_file before) line
+fault_in line before Track = line_fault (nat_le 99 (count_by is_track before)) line
+fault_in line before Index = line_fault (not (has_track before)) line
+fault_in line before (Start time) =
+    if not (has_track before) || is_started before then Some (Line line)
+    else if is_behind (last_or None (times_of before)) time then None
+    else Some (NotRising line)
+fault_in line before Broken = Some (Line line)
+
+-- lines are counted from 1
+unfoldable pub fault_of : List Entry → Entry → Option CueFault
+fault_of before entry = fault_in (length before + 1) before entry
+
+-- the first fault of lines behind others
+unfoldable pub first_fault : List Entry → List Entry → Option CueFault
+first_fault before [] = None
+first_fault before (entry ∷ more) = option_or (fault_of before entry) (first_fault (before ++ (entry ∷ [])) more)
+
+-- ---- the cue
+
+-- a start as a place: parts of 1/75 second
+abbrev pub place_at : ℕ → Place
+place_at time = Time time 75
+
+abbrev pub places_of : List Entry → List Place
+places_of entries = map place_at (times_of entries)
+
+abbrev pub some_starts : List Place → Result (List Place) CueFault
+some_starts [] = Err NoTracks
+some_starts (place ∷ more) = Ok (place ∷ more)
+
+abbrev pub unless : Option CueFault → Result (List Place) CueFault → Result (List Place) CueFault
+unless None answer = answer
+unless (Some fault) answer = Err fault
+
+abbrev pub cue_in : List Entry → Result (List Place) CueFault
+cue_in entries = unless (first_fault [] entries) (some_starts (places_of entries))
+
+-- the starts of the tracks, or the first fault
+unfoldable pub cue_of : List ℕ → Result (List Place) CueFault
+cue_of bytes = cue_in (entries_of bytes)
+
+-- each is greater than those before it
+abbrev pub IsRising : List ℕ → Type 0
+IsRising times = AllPairs (λ s t. s < t) times
+
+-- places at times that rise
+pub record AreStarts (places : List Place) : Type 0 where
+  pub times : List ℕ
+  pub all : places ≡ map place_at times
+  pub rising : IsRising times
+  pub sound : All IsPlace places
+
+-- ---- what is left of a text
+
+-- the lines from a place on, where a line begins there; none behind the end
+abbrev pub entries_from : List ℕ → ℕ → List Entry
+entries_from text at = if nat_le at (length text) then map entry_in (slice_split (λ b. b == 10) (drop at text)) else []

@@ -1,0 +1,75 @@
+-- What a line of a cue sheet says by its words, whatever stands before it.
+use Rattle.std.specs.Prelude.{ℕ, ◌+◌, ◌*◌, ◌==◌, ◌&&◌, nat_le, if◌then◌else◌, Bool, false, List, [], ◌∷◌, Option, Some, None, option_map, option_and_then, codes}
+use Rattle.std.specs.List.{before_first, after_first}
+use Rattle.std.specs.Str.{str_eq_ignore_ascii_case}
+use Rattle.cue_sheet.specs.declared.entry.Entry.{Entry}
+use Rattle.cue_sheet.specs.declared.entry.Entry.TheVariants.{Passed, File, Track, Index, Start, Broken}
+use Rattle.cue_sheet.specs.Digits.{number_in}
+
+-- keywords are compared without ASCII case
+unfoldable pub is_word : List ℕ → List ℕ → Bool
+is_word word keyword = str_eq_ignore_ascii_case word keyword
+
+-- two words, and no other number of them
+abbrev pub of_two : (List ℕ → List ℕ → Entry) → List (List ℕ) → Entry
+of_two says [] = Broken
+of_two says (first ∷ []) = Broken
+of_two says (first ∷ second ∷ []) = says first second
+of_two says (first ∷ second ∷ third ∷ more) = Broken
+
+-- ---- TRACK
+
+abbrev pub is_from_one : Option ℕ → Bool
+is_from_one None = false
+is_from_one (Some number) = nat_le 1 number
+
+-- one or two digits, of a number from 1 to 99
+abbrev pub is_track_number : List ℕ → Bool
+is_track_number digits = is_from_one (number_in 1 2 99 digits)
+
+abbrev pub track_of : List ℕ → List ℕ → Entry
+track_of number kind = if is_track_number number && is_word kind (codes "AUDIO") then Track else Broken
+
+-- ---- INDEX
+
+abbrev pub is_colon : ℕ → Bool
+is_colon byte = byte == 58
+
+-- so many minutes, seconds and frames of a disc, in frames, of which a second has 75
+abbrev pub disc_frames : ℕ → ℕ → ℕ → ℕ
+disc_frames minutes seconds frames = (60 * minutes + seconds) * 75 + frames
+
+-- two to four digits
+abbrev pub minutes_in : List ℕ → Option ℕ
+minutes_in word = number_in 2 4 9999 (before_first is_colon word)
+
+-- behind the first colon two digits of at most 59
+abbrev pub seconds_in : List ℕ → Option ℕ
+seconds_in word = number_in 2 2 59 (before_first is_colon (after_first is_colon word))
+
+-- and behind the second colon two digits of at most 74
+abbrev pub frames_in : List ℕ → Option ℕ
+frames_in word = number_in 2 2 74 (after_first is_colon (after_first is_colon word))
+
+unfoldable pub sheet_time : List ℕ → Option ℕ
+sheet_time word = option_and_then (λ m. option_and_then (λ s. option_map (disc_frames m s) (frames_in word)) (seconds_in word)) (minutes_in word)
+
+abbrev pub index_with : Option ℕ → Option ℕ → Entry
+index_with None time = Broken
+index_with (Some number) None = Broken
+index_with (Some number) (Some time) = if number == 1 then Start time else Index
+
+-- a number of one or two digits, and a time
+abbrev pub index_of : List ℕ → List ℕ → Entry
+index_of number time = index_with (number_in 1 2 99 number) (sheet_time time)
+
+-- ---- lines
+
+-- what the first word decides
+unfoldable pub entry_of : List (List ℕ) → Entry
+entry_of [] = Passed
+entry_of (first ∷ rest) =
+    if is_word first (codes "FILE") then File
+    else if is_word first (codes "TRACK") then of_two track_of rest
+    else if is_word first (codes "INDEX") then of_two index_of rest
+    else Passed

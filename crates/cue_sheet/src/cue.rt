@@ -1,0 +1,125 @@
+//! Cue sheets.
+ghost use Rattle.std.specs.Prelude.{◌≡◌, ◌+◌, ◌<◌, ◌≤◌, ◌++◌, ◌⊎◌, ◌∷◌, [], length, IfOk, MatchResult, Ok, Err};
+ghost use Rattle.cue_sheet.specs.declared.cue_fault.CueFault.TheVariants.{Memory};
+ghost use Rattle.cue_sheet.specs.Cues.{places_of, entries_from, cue_in, cue_of, AreStarts};
+
+use crate::cue_fault::CueFault;
+use crate::entry::{Entry, read_entry};
+use crate::place::Place;
+use crate::seen::Seen;
+use crate::words::{front_of, without_mark, without_return};
+use std::alloc::Global;
+use std::marker::Model;
+
+/// A line, and where the next one begins.
+#[derive(Clone, Copy)]
+struct LineAt {
+    entry: Entry,
+    next: usize,
+}
+
+/// The line that begins there.
+fn line_at(text: &[u8], at: usize) -> LineAt
+    requires { at ≤ length text.now }
+    ensures line { entries_from text.now at ≡ result.entry ∷ entries_from text.now result.next }
+    ensures on { at < result.next }
+    ensures within { result.next ≤ length text.now + 1 }
+{
+    let line = front_of(&text[at..], b'\n');
+    LineAt {
+        entry: read_entry(without_return(line)),
+        next: at + line.len() + 1,
+    }
+}
+
+/// Keeps the time of a line that is a start.
+fn keep_start(starts: &mut Vec<Place>, entry: Entry) -> Result<(), CueFault>
+    ensures kept { MatchResult result
+        (λ _. starts.new.items ≡ starts.old.items ++ places_of (entry ∷ []))
+        (λ fault. fault ≡ Memory) }
+{
+    if let Entry::Start(time) = entry {
+        starts.push(Place::Time(time, 75))?;
+    }
+    Ok(())
+}
+
+/// The starts of the tracks of a sheet without a byte order mark, or the first fault.
+fn read_lines(alloc: Global, text: &[u8]) -> Result<Vec<Place>, CueFault>
+    requires { length text.now ≤ 65536 }
+    ensures cue { MatchResult result
+        (λ starts. cue_in (entries_from text.now 0) ≡ Ok starts.items)
+        (λ fault. (fault ≡ Memory) ⊎ (cue_in (entries_from text.now 0) ≡ Err fault)) }
+    ensures rising { IfOk result (λ starts. AreStarts starts.items) }
+{
+    let mut starts = Vec::new(alloc);
+    let mut seen = Seen::new();
+    let mut at = 0;
+    while at <= text.len() {
+        let line = line_at(text, at);
+        if let Some(fault) = seen.fault(line.entry) {
+            return Err(fault);
+        }
+        keep_start(&mut starts, line.entry)?;
+        seen = seen.behind(line.entry);
+        at = line.next;
+    }
+    if starts.is_empty() {
+        return Err(CueFault::NoTracks);
+    }
+    Ok(starts)
+}
+
+/// The starts of the tracks of a cue sheet. Contracts see it as the list of these places.
+#[derive(Drop)]
+pub struct Cue {
+    starts: Vec<Place>,
+}
+
+impl Model for Cue {
+    ghost use Rattle.std.specs.Prelude.{List};
+    ghost use Rattle.cue_sheet.specs.declared.place.Place.{Place as PlaceData};
+
+    ghost Value = { List PlaceData };
+
+    ghost view = { λ cue. cue.starts.items };
+}
+
+impl Cue {
+    /// Reads a cue sheet of at most 65,536 bytes, and keeps where its tracks start. A byte order mark at its front is
+    /// passed over. Lines end with a line feed or at the end of the sheet; a carriage return at a line's end is dropped.
+    /// Words are separated by spaces and tabs, and keywords are compared without ASCII case. The first word decides:
+    ///
+    /// - `FILE`: the rest isn't read. It stands once;
+    /// - `TRACK`: one or two digits, from 1 to 99, and `AUDIO` follow. It stands 99 times at most. The numbers may repeat
+    ///   and fall;
+    /// - `INDEX`: one or two digits follow, and a time `mm:ss:ff` of two to four digits, two of at most 59, and two of at
+    ///   most 74, frames of 1/75 second. A `TRACK` line stands before it, and number 1 stands once in a track: there
+    ///   the track starts. Each start is greater than the one before it;
+    /// - any other line isn't read.
+    ///
+    /// A track without an index of number 1 has no start.
+    ///
+    /// # Errors
+    /// The first line at fault, counted from 1: `Line` where it breaks its rule, `NotRising` where it is a start that isn't
+    /// greater than the one before it. `NoTracks` where no line is at fault and there is no start. `Memory` where there is
+    /// no memory.
+    #[tactic(auto, unfolding(crate::specs::Cues::cue_of))]
+    pub fn read(alloc: Global, bytes: &[u8]) -> Result<Cue, CueFault>
+        requires { length bytes.now ≤ 65536 }
+        ensures cue { MatchResult result
+            (λ cue. cue_of bytes.now ≡ Ok cue)
+            (λ fault. (fault ≡ Memory) ⊎ (cue_of bytes.now ≡ Err fault)) }
+        ensures rising { IfOk result AreStarts }
+    {
+        let starts = read_lines(alloc, without_mark(bytes))?;
+        Ok(Cue { starts })
+    }
+
+    /// Where the tracks start, in their order: times in parts of 1/75 second.
+    pub fn starts(&self) -> &[Place]
+        ensures { result.now ≡ self.now }
+    {
+        &self.starts
+    }
+}

@@ -1,0 +1,110 @@
+//! What a line of a sheet says.
+ghost use Rattle.std.specs.Prelude.{◌≡◌, ◌∷◌};
+ghost use Rattle.cue_sheet.specs.Lines.{words_of};
+ghost use Rattle.cue_sheet.specs.Entries.{is_word as is_word_lem, is_track_number as is_track_number_lem, sheet_time, track_of, index_of, entry_of, of_two};
+
+use crate::digits::read_number;
+use crate::words::{behind, front_of, next_word, read_pair};
+
+/// What a line says by itself.
+#[derive(Clone, Copy)]
+pub(crate) enum Entry {
+    /// Nothing that counts.
+    Passed,
+    File,
+    Track,
+    /// An index whose number isn't 1.
+    Index,
+    /// An index with number 1, at so many parts of 1/75 second.
+    Start(u32),
+    /// A line that breaks its rule, whatever stands before it.
+    Broken,
+}
+
+/// Whether the word is this keyword, compared without ASCII case.
+fn is_word(word: &[u8], keyword: &[u8]) -> bool
+    ensures { result ≡ is_word_lem word.now keyword.now }
+{
+    word.eq_ignore_ascii_case(keyword)
+}
+
+/// One or two digits, of a number from 1 to 99.
+fn is_track_number(digits: &[u8]) -> bool
+    ensures { result ≡ is_track_number_lem digits.now }
+{
+    match read_number(digits, 1, 2, 99) {
+        Some(number) => number >= 1,
+        None => false,
+    }
+}
+
+/// A time, `mm:ss:ff`, in parts of 1/75 second.
+#[tactic(auto, unfolding(crate::specs::Entries::sheet_time))]
+fn read_time(word: &[u8]) -> Option<u32>
+    ensures time { result ≡ sheet_time word.now }
+{
+    let rest = behind(word, b':');
+    let minutes = read_number(front_of(word, b':'), 2, 4, 9_999)?;
+    let seconds = read_number(front_of(rest, b':'), 2, 2, 59)?;
+    let frames = read_number(behind(rest, b':'), 2, 2, 74)?;
+    Some((60 * minutes + seconds) * 75 + frames)
+}
+
+/// What stands behind `TRACK`: a number and `AUDIO`.
+fn read_track(rest: &[u8]) -> Entry
+    ensures { result ≡ of_two track_of (words_of rest.now) }
+{
+    match read_pair(rest) {
+        Some(pair) if is_track_number(pair.first) && is_word(pair.second, b"AUDIO") => Entry::Track,
+        _ => Entry::Broken,
+    }
+}
+
+/// An index with this number at this time.
+fn index_at(number: &[u8], time: &[u8]) -> Entry
+    ensures { result ≡ index_of number.now time.now }
+{
+    match (read_number(number, 1, 2, 99), read_time(time)) {
+        (Some(1), Some(time)) => Entry::Start(time),
+        (Some(_), Some(_)) => Entry::Index,
+        _ => Entry::Broken,
+    }
+}
+
+/// What stands behind `INDEX`: a number and a time.
+fn read_index(rest: &[u8]) -> Entry
+    ensures { result ≡ of_two index_of (words_of rest.now) }
+{
+    match read_pair(rest) {
+        Some(pair) => index_at(pair.first, pair.second),
+        None => Entry::Broken,
+    }
+}
+
+/// What a line says, by its first word and what stands behind it.
+#[tactic(auto, unfolding(crate::specs::Entries::entry_of))]
+fn entry_behind(first: &[u8], rest: &[u8]) -> Entry
+    ensures { result ≡ entry_of (first.now ∷ words_of rest.now) }
+{
+    if is_word(first, b"FILE") {
+        return Entry::File;
+    }
+    if is_word(first, b"TRACK") {
+        return read_track(rest);
+    }
+    if is_word(first, b"INDEX") {
+        return read_index(rest);
+    }
+    Entry::Passed
+}
+
+/// What a line says by itself.
+#[tactic(auto, unfolding(crate::specs::Entries::entry_of))]
+pub(crate) fn read_entry(line: &[u8]) -> Entry
+    ensures { result ≡ entry_of (words_of line.now) }
+{
+    match next_word(line) {
+        Some(first) => entry_behind(first.word, first.rest),
+        None => Entry::Passed,
+    }
+}

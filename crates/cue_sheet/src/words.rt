@@ -1,0 +1,123 @@
+//! The lines of a sheet, and the words of a line.
+ghost use Rattle.std.specs.Prelude.{◌≡◌, ◌≤◌, ◌==◌, [], ◌∷◌, length, MatchOption};
+ghost use Rattle.std.specs.List.{prefix_len, position_or_len, before_first, after_first};
+ghost use Rattle.std.specs.Str.Lines.{strip_carriage_return};
+ghost use Rattle.cue_sheet.specs.Lines.{is_blank as is_blank_lem, words_of, HasNotTwo, without_mark as without_mark_lem};
+
+use crate::digits::place_of;
+
+/// The bytes without a byte order mark at their front.
+pub(crate) fn without_mark(bytes: &[u8]) -> &[u8]
+    ensures { result.now ≡ without_mark_lem bytes.now }
+{
+    match bytes {
+        [0xef, 0xbb, 0xbf, rest @ ..] => rest,
+        _ => bytes,
+    }
+}
+
+/// What stands before the first such byte, or all of it where there is none.
+pub(crate) fn front_of(text: &[u8], byte: u8) -> &[u8]
+    ensures { result.now ≡ before_first (λ b. b == byte) text.now }
+{
+    &text[..place_of(text, byte)]
+}
+
+/// What stands behind the first such byte, or nothing where there is none.
+pub(crate) fn behind(text: &[u8], byte: u8) -> &[u8]
+    ensures { result.now ≡ after_first (λ b. b == byte) text.now }
+{
+    let end = place_of(text, byte);
+    if end == text.len() {
+        return &[];
+    }
+    &text[end + 1..]
+}
+
+/// The line without one carriage return at its end.
+pub(crate) fn without_return(line: &[u8]) -> &[u8]
+    ensures { result.now ≡ strip_carriage_return line.now }
+{
+    match line {
+        [front @ .., b'\r'] => front,
+        _ => line,
+    }
+}
+
+fn is_blank(byte: u8) -> bool
+    ensures { result ≡ is_blank_lem byte }
+{
+    byte == b' ' || byte == b'\t'
+}
+
+/// How many blanks stand at the front.
+fn blanks(text: &[u8]) -> usize
+    ensures blanks { result ≡ prefix_len is_blank_lem text.now }
+    ensures within { result ≤ length text.now }
+{
+    let mut count = 0;
+    while count < text.len() && is_blank(text[count]) {
+        count += 1;
+    }
+    count
+}
+
+/// How many bytes stand before the first blank.
+fn word_length(text: &[u8]) -> usize
+    ensures word { result ≡ position_or_len is_blank_lem text.now }
+    ensures within { result ≤ length text.now }
+{
+    let mut count = 0;
+    while count < text.len() && !is_blank(text[count]) {
+        count += 1;
+    }
+    count
+}
+
+/// A word and what stands behind it.
+#[derive(Clone, Copy)]
+pub(crate) struct Word<'a> {
+    pub(crate) word: &'a [u8],
+    pub(crate) rest: &'a [u8],
+}
+
+/// The first word of a line. `None` exactly where there is none.
+pub(crate) fn next_word(line: &[u8]) -> Option<Word<'_>>
+    ensures { MatchOption result
+        (words_of line.now ≡ [])
+        (λ word. words_of line.now ≡ word.word.now ∷ words_of word.rest.now) }
+{
+    let text = &line[blanks(line)..];
+    if text.is_empty() {
+        return None;
+    }
+    let end = word_length(text);
+    Some(Word {
+        word: &text[..end],
+        rest: &text[end..],
+    })
+}
+
+/// Two words.
+#[derive(Clone, Copy)]
+pub(crate) struct Pair<'a> {
+    pub(crate) first: &'a [u8],
+    pub(crate) second: &'a [u8],
+}
+
+/// The two words of a line. `None` exactly where it has fewer or more.
+pub(crate) fn read_pair(line: &[u8]) -> Option<Pair<'_>>
+    ensures { MatchOption result
+        (HasNotTwo (words_of line.now))
+        (λ pair. words_of line.now ≡ pair.first.now ∷ pair.second.now ∷ []) }
+{
+    let first = next_word(line)?;
+    let second = next_word(first.rest)?;
+    if next_word(second.rest).is_some() {
+        return None;
+    }
+    Some(Pair {
+        first: first.word,
+        second: second.word,
+    })
+}
