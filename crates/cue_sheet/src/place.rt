@@ -1,5 +1,6 @@
 //! Places in a stream.
 ghost use Rattle.std.specs.Prelude.{◌≡◌, ◌≤◌, IfSome};
+ghost use Rattle.cue_sheet.specs.declared.place.Place.TheVariants.{End};
 ghost use Rattle.cue_sheet.specs.Places.{place_of as place_of_lem, time_of, hundredths_of, frame_at, IsPlace};
 
 use crate::digits::{place_of, read_number};
@@ -18,6 +19,9 @@ pub enum Place {
 }
 
 impl Default for Place {
+    ghost is_default = { λ place. place ≡ End };
+
+    /// The end.
     fn default() -> Place {
         Place::End
     }
