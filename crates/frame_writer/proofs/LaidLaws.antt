@@ -1,0 +1,218 @@
+-- Laws of main data laid into areas.
+use Rattle.std.proofs.Common.{◌≡◌, ℕ, ◌⊎◌, inl, inr, ◌+◌, ◌-◌, ◌≤◌, ◌<◌, min, List, [], ◌∷◌, ◌++◌, length, take, drop, replicate, refl, sym, subst, ap, ap₂, ◌∙◌, append_assoc, append-nil, arith, length-append}
+use Rattle.std.proofs.lemmas.List.{length-drop, length-take-le, length-replicate, take-append-le, drop-append-le, take-append-drop, drop_all, take-replicate, drop-replicate, replicate-append-replicate, append_cancel_right}
+use Rattle.std.proofs.Math.Seq.{drop-append-add, take-append-add, drop-length, take-length}
+use Rattle.std.proofs.Math.Nat.{min-eq_left, min-eq_right}
+use Rattle.std.proofs.lemmas.Bool.{cases_lt}
+use Rattle.circular_buffer.specs.Buffer.{Buffer, buffer, keep_last}
+use Rattle.frame_writer.specs.Laid.{Piece, zeros, start_of, end_of, areas_end, data_end, CanBeLaidFrom, laid_from, CanBeLaid, laid, Waiting, put_at, AreLaid}
+
+-- ---- lists of zeros
+
+pub length-zeros : (n : ℕ) → length (zeros n) ≡ n
+length-zeros n = length-replicate n 0
+
+zeros_split : (n m : ℕ) → m ≤ n → zeros n ≡ zeros (n - m) ++ zeros m
+zeros_split n m le = ap zeros (omega (arith, le)) ∙ sym (replicate-append-replicate (n - m) m 0)
+
+-- ---- main data up to the last, and one frame more
+
+abbrev pub up_to : ℕ → ℕ → List Piece → List ℕ
+up_to end area_start [] = []
+up_to end area_start (p ∷ ps) = zeros (start_of area_start p - end) ++ (p.payload ++ up_to (end_of area_start p) (area_start + p.area) ps)
+
+-- behind the last main data all is 0
+laid_up_to : (end area_start : ℕ) (ps : List Piece) → laid_from end area_start ps ≡ up_to end area_start ps ++ zeros (areas_end area_start ps - data_end end area_start ps)
+laid_up_to end area_start [] = refl
+laid_up_to end area_start (p ∷ ps) =
+    let gap = zeros (start_of area_start p - end) in
+    let more = up_to (end_of area_start p) (area_start + p.area) ps in
+    let rest = zeros (areas_end (area_start + p.area) ps - data_end (end_of area_start p) (area_start + p.area) ps) in
+    ap (λ (xs : List ℕ). gap ++ (p.payload ++ xs)) (laid_up_to (end_of area_start p) (area_start + p.area) ps)
+    ∙ ap (λ (xs : List ℕ). gap ++ xs) (sym (append_assoc p.payload more rest))
+    ∙ sym (append_assoc gap (p.payload ++ more) rest)
+
+-- one frame more
+up_to-more : (end area_start : ℕ) (ps : List Piece) (p : Piece) →
+    up_to end area_start (ps ++ p ∷ []) ≡ up_to end area_start ps ++ (zeros (start_of (areas_end area_start ps) p - data_end end area_start ps) ++ p.payload)
+up_to-more end area_start [] p = ap (λ (xs : List ℕ). zeros (start_of area_start p - end) ++ xs) (append-nil p.payload)
+up_to-more end area_start (q ∷ ps) p =
+    let gap = zeros (start_of area_start q - end) in
+    let more = up_to (end_of area_start q) (area_start + q.area) ps in
+    let last = zeros (start_of (areas_end (area_start + q.area) ps) p - data_end (end_of area_start q) (area_start + q.area) ps) ++ p.payload in
+    ap (λ (xs : List ℕ). gap ++ (q.payload ++ xs)) (up_to-more (end_of area_start q) (area_start + q.area) ps p)
+    ∙ ap (λ (xs : List ℕ). gap ++ xs) (sym (append_assoc q.payload more last))
+    ∙ sym (append_assoc gap (q.payload ++ more) last)
+
+areas_end-more : (area_start : ℕ) (ps : List Piece) (p : Piece) → areas_end area_start (ps ++ p ∷ []) ≡ areas_end area_start ps + p.area
+areas_end-more area_start [] p = refl
+areas_end-more area_start (q ∷ ps) p = areas_end-more (area_start + q.area) ps p
+
+data_end-more : (end area_start : ℕ) (ps : List Piece) (p : Piece) → data_end end area_start (ps ++ p ∷ []) ≡ end_of (areas_end area_start ps) p
+data_end-more end area_start [] p = refl
+data_end-more end area_start (q ∷ ps) p = data_end-more (end_of area_start q) (area_start + q.area) ps p
+
+fit-more : (end area_start : ℕ) (ps : List Piece) (p : Piece) → CanBeLaidFrom end area_start ps →
+    data_end end area_start ps + p.begin ≤ areas_end area_start ps → end_of (areas_end area_start ps) p ≤ areas_end area_start ps + p.area →
+    CanBeLaidFrom end area_start (ps ++ p ∷ [])
+fit-more end area_start [] p fits from to = (from, to, tt)
+fit-more end area_start (q ∷ ps) p fits from to = (fits.0, fits.1, fit-more (end_of area_start q) (area_start + q.area) ps p fits.2 from to)
+
+-- ---- a queue of the bytes up to the end of the last main data, with zeros behind it
+
+-- where the bytes handed on and those in the queue end
+stored : (given items : List ℕ) (free : ℕ) (ps : List Piece) → given ++ (items ++ zeros free) ≡ laid ps → free + data_end 0 0 ps ≤ areas_end 0 ps →
+    given ++ items ≡ up_to 0 0 ps ++ zeros (areas_end 0 ps - data_end 0 0 ps - free)
+stored given items free ps same within =
+    let all = areas_end 0 ps - data_end 0 0 ps in
+    append_cancel_right (given ++ items) (up_to 0 0 ps ++ zeros (all - free)) (zeros free)
+    (append_assoc given items (zeros free)
+    ∙ same
+    ∙ laid_up_to 0 0 ps
+    ∙ ap (λ (xs : List ℕ). up_to 0 0 ps ++ xs) (zeros_split all free (omega (arith, within)))
+    ∙ sym (append_assoc (up_to 0 0 ps) (zeros (all - free)) (zeros free)))
+
+-- the zeros between two main data
+gap_joined : (front payload : List ℕ) (n m k : ℕ) → n + m ≡ k → (front ++ zeros n) ++ (zeros m ++ payload) ≡ front ++ (zeros k ++ payload)
+gap_joined front payload n m k is =
+    append_assoc front (zeros n) (zeros m ++ payload)
+    ∙ ap (λ (xs : List ℕ). front ++ xs) (sym (append_assoc (zeros n) (zeros m) payload) ∙ ap (λ (xs : List ℕ). xs ++ payload) (replicate-append-replicate n m 0 ∙ ap zeros is))
+
+-- main data more
+more_same : (given items payload : List ℕ) (begin free gap rest area : ℕ) (ps : List Piece) →
+    given ++ (items ++ zeros free) ≡ laid ps → free + data_end 0 0 ps ≤ areas_end 0 ps → begin ≤ free → gap ≡ free - begin →
+    length payload ≤ begin + area → rest ≡ begin + area - length payload →
+    given ++ ((items ++ (zeros gap ++ payload)) ++ zeros rest) ≡ laid (ps ++ record { payload = payload; begin = begin; area = area } ∷ [])
+more_same given items payload begin free gap rest area ps same within reach gaps fits rests =
+    let p : Piece = record { payload = payload; begin = begin; area = area } in
+    let end = data_end 0 0 ps in
+    let from = areas_end 0 ps in
+    let front : given ++ (items ++ (zeros gap ++ payload)) ≡ up_to 0 0 (ps ++ p ∷ []) =
+    sym (append_assoc given items (zeros gap ++ payload))
+    ∙ ap (λ (xs : List ℕ). xs ++ (zeros gap ++ payload)) (stored given items free ps same within)
+    ∙ gap_joined (up_to 0 0 ps) payload (from - end - free) gap (from - begin - end) (omega (arith, within, reach, gaps))
+    ∙ sym (up_to-more 0 0 ps p) in
+    let behind : rest ≡ areas_end 0 (ps ++ p ∷ []) - data_end 0 0 (ps ++ p ∷ []) =
+    omega (arith, within, reach, fits, rests, areas_end-more 0 ps p, data_end-more 0 0 ps p) in
+    sym (append_assoc given (items ++ (zeros gap ++ payload)) (zeros rest))
+    ∙ ap₂ (λ (xs : List ℕ) n. xs ++ zeros n) front behind
+    ∙ sym (laid_up_to 0 0 (ps ++ p ∷ []))
+
+abbrev pub waits : List ℕ → ℕ → Waiting
+waits items free = record { bytes = items ++ zeros free; free = free }
+
+pub more-laid : (given items payload : List ℕ) (begin free gap rest area : ℕ) (ps : List Piece) →
+    begin ≤ free → gap ≡ free - begin → length payload ≤ begin + area → rest ≡ begin + area - length payload →
+    AreLaid given (waits items free) ps → AreLaid given (waits (items ++ (zeros gap ++ payload)) rest) (ps ++ record { payload = payload; begin = begin; area = area } ∷ [])
+more-laid given items payload begin free gap rest area ps reach gaps fits rests are =
+    let p : Piece = record { payload = payload; begin = begin; area = area } in
+    record {
+      fit = fit-more 0 0 ps p are.fit (omega (arith, reach, are.free)) (omega (arith, reach, are.free, fits));
+      same = more_same given items payload begin free gap rest area ps are.same are.free reach gaps fits rests;
+      free = omega (arith, reach, are.free, fits, rests, areas_end-more 0 ps p, data_end-more 0 0 ps p);
+    }
+
+-- where the payload is put into the bytes that wait and a new area of zeros
+pub more-put : (items payload : List ℕ) (begin free gap rest area : ℕ) →
+    begin ≤ free → gap ≡ free - begin → length payload ≤ begin + area → rest ≡ begin + area - length payload →
+    (items ++ (zeros gap ++ payload)) ++ zeros rest ≡ put_at (length (items ++ zeros free) - begin) payload ((items ++ zeros free) ++ zeros area)
+more-put items payload begin free gap rest area reach gaps fits rests =
+    let n = length items in
+    let place : length (items ++ zeros free) - begin ≡ n + gap = omega (arith, length-append items (zeros free), length-zeros free, reach, gaps) in
+    let whole : (items ++ zeros free) ++ zeros area ≡ items ++ zeros (free + area) =
+    append_assoc items (zeros free) (zeros area) ∙ ap (λ (xs : List ℕ). items ++ xs) (replicate-append-replicate free area 0) in
+    let front : take (n + gap) (items ++ zeros (free + area)) ≡ items ++ zeros gap =
+    take-append-add items (zeros (free + area)) gap ∙ ap (λ (xs : List ℕ). items ++ xs) (take-replicate gap (free + area) 0 (omega (arith, reach, gaps))) in
+    let together : n + gap + length payload ≡ n + (gap + length payload) = omega arith in
+    let back : drop (n + gap + length payload) (items ++ zeros (free + area)) ≡ zeros rest =
+    ap (λ k. drop k (items ++ zeros (free + area))) together
+    ∙ drop-append-add items (zeros (free + area)) (gap + length payload)
+    ∙ drop-replicate (gap + length payload) (free + area) 0
+    ∙ ap zeros (omega (arith, reach, gaps, fits, rests)) in
+    ap (λ (xs : List ℕ). xs ++ zeros rest) (sym (append_assoc items (zeros gap) payload))
+    ∙ append_assoc (items ++ zeros gap) payload (zeros rest)
+    ∙ sym (rw (place, whole) (ap₂ (λ (xs ys : List ℕ). xs ++ (payload ++ ys)) front back))
+
+-- ---- the first bytes taken
+
+first_cases : (n free : ℕ) (items : List ℕ) → n ≤ length items + free → (n < length items) ⊎ (length items ≤ n) →
+    (take (min n (length items)) items ++ zeros (n - min n (length items)) ≡ take n (items ++ zeros free))
+    × (drop (min n (length items)) items ++ zeros (free - (n - min n (length items))) ≡ drop n (items ++ zeros free))
+first_cases n free items within (inl few) =
+    let least : min n (length items) ≡ n = min-eq_left (omega arith) in
+    let none : n - n ≡ 0 = omega arith in
+    let all : free - (n - n) ≡ free = omega arith in
+    rw (least) (
+      ap (λ k. take n items ++ zeros k) none ∙ append-nil (take n items) ∙ sym (take-append-le n items (zeros free) (omega arith)),
+      ap (λ k. drop n items ++ zeros k) all ∙ sym (drop-append-le n items (zeros free) (omega arith)),
+    )
+first_cases n free items within (inr many) =
+    let least : min n (length items) ≡ length items = min-eq_right many in
+    let split : n ≡ length items + (n - length items) = omega arith in
+    rw (least) (
+      ap₂ (λ (xs ys : List ℕ). xs ++ ys) (take-length items) (sym (take-replicate (n - length items) free 0 (omega arith)))
+          ∙ sym (ap (λ k. take k (items ++ zeros free)) split ∙ take-append-add items (zeros free) (n - length items)),
+      ap (λ (xs : List ℕ). xs ++ zeros (free - (n - length items))) (drop-length items)
+          ∙ sym (ap (λ k. drop k (items ++ zeros free)) split ∙ drop-append-add items (zeros free) (n - length items) ∙ drop-replicate (n - length items) free 0),
+    )
+
+pub first-taken : (n free : ℕ) (items : List ℕ) → n ≤ length items + free →
+    take (min n (length items)) items ++ zeros (n - min n (length items)) ≡ take n (items ++ zeros free)
+first-taken n free items within = (first_cases n free items within (cases_lt n (length items))).0
+
+pub first-left : (n free : ℕ) (items : List ℕ) → n ≤ length items + free →
+    drop (min n (length items)) items ++ zeros (free - (n - min n (length items))) ≡ drop n (items ++ zeros free)
+first-left n free items within = (first_cases n free items within (cases_lt n (length items))).1
+
+-- what was handed on and what waits stay the same together
+pub taken-laid : (given bytes taken left : List ℕ) (n free less : ℕ) (ps : List Piece) → taken ≡ take n bytes → left ≡ drop n bytes → less ≤ free →
+    AreLaid given (record { bytes = bytes; free = free }) ps → AreLaid (given ++ taken) (record { bytes = left; free = less }) ps
+taken-laid given bytes taken left n free less ps takes leaves fewer are = record {
+  fit = are.fit;
+  same =
+      append_assoc given taken left
+      ∙ ap (λ (xs : List ℕ). given ++ xs) (ap₂ (λ (xs ys : List ℕ). xs ++ ys) takes leaves ∙ take-append-drop n bytes)
+      ∙ are.same;
+  free = omega (arith, are.free, fewer);
+}
+
+-- ---- the queue
+
+-- nothing goes where all fits
+pub kept : (n : ℕ) (xs : List ℕ) → length xs ≤ n → keep_last n xs ≡ xs
+kept n xs fits = let none : length xs - n ≡ 0 = omega (arith, fits) in ap (λ k. drop k xs) none
+
+-- two pieces behind each other
+pub pushed : (old mid new : Buffer ℕ) (xs ys : List ℕ) → old.capacity ≡ 8192 → mid ≡ buffer (keep_last old.capacity (old.items ++ xs)) old.capacity →
+    new ≡ buffer (keep_last mid.capacity (mid.items ++ ys)) mid.capacity → length old.items + length xs + length ys ≤ 8192 → new.items ≡ old.items ++ (xs ++ ys)
+pushed old mid new xs ys many first second fits =
+    let first_is : mid.items ≡ old.items ++ xs =
+    ap (λ (b : Buffer ℕ). b.items) first ∙ kept old.capacity (old.items ++ xs) (omega (arith, length-append old.items xs, many, fits)) in
+    let same : mid.capacity ≡ old.capacity = ap (λ (b : Buffer ℕ). b.capacity) first in
+    ap (λ (b : Buffer ℕ). b.items) second
+    ∙ kept mid.capacity (mid.items ++ ys) (omega (arith, length-append mid.items ys, ap length first_is, length-append old.items xs, many, same, fits))
+    ∙ ap (λ (zs : List ℕ). zs ++ ys) first_is
+    ∙ append_assoc old.items xs ys
+
+-- as many as are taken from the queue
+counted : (n r : ℕ) (items before : List ℕ) → before ≡ zeros n → r ≡ min (length before) (length items) → r ≡ min n (length items)
+counted n r items before blank counts = counts ∙ ap (λ k. min k (length items)) (ap length blank ∙ length-zeros n)
+
+-- the first bytes of the queue, before zeros
+pub taken-is : (n free r : ℕ) (items before into now : List ℕ) → before ≡ zeros n → r ≡ min (length before) (length items) →
+    into ≡ take r items ++ drop r before → items ++ zeros free ≡ now → n ≤ length now → into ≡ take n now
+taken-is n free r items before into now blank counts reads views within =
+    reads
+    ∙ ap (λ (xs : List ℕ). take r items ++ drop r xs) blank
+    ∙ ap (λ (xs : List ℕ). take r items ++ xs) (drop-replicate r n 0)
+    ∙ ap (λ k. take k items ++ zeros (n - k)) (counted n r items before blank counts)
+    ∙ first-taken n free items (omega (arith, within, ap length views, length-append items (zeros free), length-zeros free))
+    ∙ ap (take n) views
+
+pub left-is : (n free r long : ℕ) (items before left now : List ℕ) → before ≡ zeros n → r ≡ min (length before) (length items) →
+    left ≡ drop r items → long ≡ n → items ++ zeros free ≡ now → n ≤ length now → left ++ zeros (free - (long - r)) ≡ drop n now
+left-is n free r long items before left now blank counts leaves longs views within =
+    ap₂ (λ (xs : List ℕ) k. xs ++ zeros (free - (k - r))) leaves longs
+    ∙ ap (λ k. drop k items ++ zeros (free - (n - k))) (counted n r items before blank counts)
+    ∙ first-left n free items (omega (arith, within, ap length views, length-append items (zeros free), length-zeros free))
+    ∙ ap (drop n) views

@@ -1,0 +1,67 @@
+-- Main data laid into the areas of frames (main_data_begin, ISO/IEC 11172-3 and 13818-3, 2.4.2.7). Places are counted among the bytes of
+-- all areas, one area behind the other.
+use Rattle.std.specs.Prelude.{◌≡◌, ℕ, ◌+◌, ◌-◌, ◌≤◌, List, [], ◌∷◌, ◌++◌, length, take, drop, replicate}
+
+-- a frame's main data, its main_data_begin, and how many bytes its own area has
+pub record Piece : Type 0 where
+  pub payload : List ℕ
+  pub begin : ℕ
+  pub area : ℕ
+
+abbrev pub zeros : ℕ → List ℕ
+zeros n = replicate n 0
+
+-- where the main data of a frame begin whose area starts at a place
+abbrev pub start_of : ℕ → Piece → ℕ
+start_of area_start p = area_start - p.begin
+
+-- where they end
+abbrev pub end_of : ℕ → Piece → ℕ
+end_of area_start p = start_of area_start p + length p.payload
+
+-- where the areas of these frames end, if the first of them starts at a place
+abbrev pub areas_end : ℕ → List Piece → ℕ
+areas_end area_start [] = area_start
+areas_end area_start (p ∷ ps) = areas_end (area_start + p.area) ps
+
+-- where the main data of the last of these frames end; those before them end at a place
+abbrev pub data_end : ℕ → ℕ → List Piece → ℕ
+data_end end area_start [] = end
+data_end end area_start (p ∷ ps) = data_end (end_of area_start p) (area_start + p.area) ps
+
+-- no main data begin before those before them end, and none end behind their frame's own area
+abbrev pub CanBeLaidFrom : ℕ → ℕ → List Piece → Type 0
+CanBeLaidFrom end area_start [] = Unit {0}
+CanBeLaidFrom end area_start (p ∷ ps) =
+    (end + p.begin ≤ area_start) × (end_of area_start p ≤ area_start + p.area) × CanBeLaidFrom (end_of area_start p) (area_start + p.area) ps
+
+-- the bytes from the end of the main data before these frames to the end of their areas: up to the start of each frame's main data 0,
+-- then these, and behind the last 0
+abbrev pub laid_from : ℕ → ℕ → List Piece → List ℕ
+laid_from end area_start [] = zeros (area_start - end)
+laid_from end area_start (p ∷ ps) =
+    zeros (start_of area_start p - end) ++ (p.payload ++ laid_from (end_of area_start p) (area_start + p.area) ps)
+
+abbrev pub CanBeLaid : List Piece → Type 0
+CanBeLaid ps = CanBeLaidFrom 0 0 ps
+
+-- the bytes of all areas
+abbrev pub laid : List Piece → List ℕ
+laid ps = laid_from 0 0 ps
+
+-- ---- areas that wait
+
+-- the bytes of areas that wait, and how many at their end stand behind the main data that were laid last
+pub record Waiting : Type 0 where
+  pub bytes : List ℕ
+  pub free : ℕ
+
+-- these bytes at a place in place of as many that stand there
+abbrev pub put_at : ℕ → List ℕ → List ℕ → List ℕ
+put_at place more bytes = take place bytes ++ (more ++ drop (place + length more) bytes)
+
+-- what was handed on and what waits are the bytes of the areas of these frames, and what is free is free in all of them
+pub record AreLaid (given : List ℕ) (waiting : Waiting) (ps : List Piece) : Type 0 where
+  pub fit : CanBeLaid ps
+  pub same : given ++ waiting.bytes ≡ laid ps
+  pub free : waiting.free + data_end 0 0 ps ≤ areas_end 0 ps

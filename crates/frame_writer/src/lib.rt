@@ -1,0 +1,17 @@
+//! Main data laid into the areas of frames anew: each frame's main data go where its main_data_begin says, into its
+//! own area and those before it, and the bytes of the areas come out in order. Memory is taken by `Areas::new` alone.
+//!
+//! ```text
+//! let mut areas = Areas::new(alloc)?;
+//! areas.push(main_data_begin, header.area(), payload);
+//! let settled = areas.settled(class.window());
+//! areas.take_into(&mut frame[place..place + area]);
+//! ```
+#![tactic(auto)]
+
+mod areas;
+
+pub use areas::Areas;
+
+#[cfg(test)]
+mod tests;
