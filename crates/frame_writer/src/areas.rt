@@ -80,6 +80,7 @@ impl Areas {
         requires room { length self.old.bytes + area ≤ 8192 }
         ensures put { self.new.bytes ≡ put_at (length self.old.bytes - begin) payload.now (self.old.bytes ++ zeros area) }
         ensures free { self.new.free + length payload.now ≡ begin + area }
+        ensures long { length self.new.bytes ≡ length self.old.bytes + area }
         ensures laid { (given : List ℕ) (ps : List Piece) → AreLaid given self.old ps → AreLaid given self.new (ps ++ record { payload = payload.now; begin = begin; area = area } ∷ []) }
     {
         let gap = self.free - begin;

@@ -10,8 +10,12 @@
 #![tactic(auto)]
 
 mod areas;
+mod frames;
+mod laws;
 
 pub use areas::Areas;
+pub use frames::{put_front, Frames, Kept};
+pub use laws::{few_frames_wait, laid_steps};
 
 #[cfg(test)]
 mod tests;

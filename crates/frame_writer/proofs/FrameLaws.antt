@@ -1,0 +1,245 @@
+-- Laws of frames that wait.
+use Rattle.std.proofs.Common.{◌≡◌, ℕ, ◌⊎◌, inl, inr, ◌+◌, ◌*◌, ◌-◌, ◌≤◌, ◌<◌, min, Bool, true, false, cond, eqb, List, [], ◌∷◌, ◌++◌, length, take, drop, map, refl, sym, subst, ap, ap₂, ◌∙◌, append_assoc, append-nil, arith, length-append, mul-suc, lit≤, zero, suc}
+use Rattle.std.proofs.lemmas.List.{length-drop, length-take-le, take-append-le, drop-append-le, take-append-drop, map-append, drop-drop}
+use Rattle.std.proofs.Math.Seq.{drop-append-add, take-append-add, drop-length, take-length}
+use Rattle.std.proofs.Math.Nat.{min-eq_left, min-eq_right}
+use Rattle.std.proofs.lemmas.Bool.{cases_lt}
+use Rattle.frame_header.specs.Fields.{ClassFields, SlotFields, IsClass, IsSlot, IsHeader}
+use Rattle.frame_header.specs.Slots.{slot_of}
+use Rattle.frame_header.specs.declared.version.Version.{Version}
+use Rattle.frame_header.specs.declared.version.Version.TheVariants.{One, Two, TwoFive}
+use Rattle.frame_header.specs.Tables.{class_of, area_of, length_of, overhead_of, side_size_of, side_bytes_of, rate_of, frequency_of, window_of}
+use Rattle.frame_header.specs.HeaderBits.{header_bits}
+use Rattle.frame_header.specs.Reading.{header_in, header_at}
+use Rattle.frame_header.specs.Fields.{HeaderFields}
+use Rattle.frame_header.proofs.HeaderLaws.{IsClass-class_of, AreBits-header_bits, length-header_bits}
+use Rattle.frame_header.proofs.SlotLaws.{area-most, length-first}
+use Rattle.bit_fields.specs.Bits.{bits, bytes, AreBytes}
+use Rattle.bit_fields.proofs.BitsLaws.{AreBytes-bytes, length-bytes, bits-bytes}
+use Rattle.side_info.specs.declared.side.Side.{Side}
+use Rattle.side_info.specs.Side.{SideFits, side_bits}
+use Rattle.side_info.specs.Frame.{frame_with, word_part}
+use Rattle.circular_buffer.specs.Buffer.{Buffer, buffer, keep_last}
+use Rattle.std.specs.Prelude.{slice_get, Some, unwrap_or, Ok}
+use borrow.Rule.Slice.PartMut.{put_mid, post_of}
+use Rattle.frame_writer.specs.declared.frames.Kept.{Kept}
+use Rattle.frame_writer.specs.Laid.{Piece, Waiting, laid, AreLaid}
+use Rattle.frame_writer.specs.Frames.{front_of, area_in, areas_in, first_area, framed, Frame, piece_of, all_kept, pieces, frame_bytes, Held, held_bytes, AreOf, IsNextSettled, AreWritten}
+use Rattle.frame_writer.specs.Laws.{LaidSteps, HaveRoom, FewWait}
+
+-- ---- areas cut off one after another
+
+-- frames behind others
+pub framed-more : (ks js : List Kept) (xs ys : List ℕ) → length xs ≡ areas_in ks → framed (ks ++ js) (xs ++ ys) ≡ framed ks xs ++ framed js ys
+framed-more [] js [] ys long = refl
+framed-more [] js (x ∷ xs) ys long = absurd (omega (arith, long))
+framed-more (k ∷ ks) js xs ys long =
+    let n = area_in k in
+    let front = front_of k.header k.side in
+    let within : n ≤ length xs = omega (arith, long) in
+    let rest : length (drop n xs) ≡ areas_in ks = omega (arith, length-drop n xs, long) in
+    ap₂ (λ (ps qs : List ℕ). front ++ (ps ++ framed (ks ++ js) qs)) (take-append-le n xs ys within) (drop-append-le n xs ys within)
+    ∙ ap (λ (qs : List ℕ). front ++ (take n xs ++ qs)) (framed-more ks js (drop n xs) ys rest)
+    ∙ ap (λ (qs : List ℕ). front ++ qs) (sym (append_assoc (take n xs) (framed ks (drop n xs)) (framed js ys)))
+    ∙ sym (append_assoc front (take n xs ++ framed ks (drop n xs)) (framed js ys))
+
+areas_in-more : (xs : List Kept) (k : Kept) → areas_in (xs ++ k ∷ []) ≡ areas_in xs + area_in k
+areas_in-more [] k = omega arith
+areas_in-more (x ∷ xs) k = omega (arith, areas_in-more xs k)
+
+pub laid-steps : LaidSteps
+laid-steps taken held fs are =
+    ap (λ (xs : List ℕ). xs ++ held_bytes held) are.bytes
+    ∙ sym (framed-more are.done held.kept are.given held.waiting.bytes are.long)
+    ∙ ap₂ framed are.all are.laid.same
+
+-- no frame was given
+pub none-written : (c : ClassFields) → AreLaid [] (record { bytes = []; free = 0 }) [] → AreWritten [] (record { class = c; kept = []; waiting = record { bytes = []; free = 0 } }) []
+none-written c are = record { done = []; given = []; all = refl; long = refl; laid = are; bytes = refl }
+
+-- one frame more
+pub more-written : (taken : List ℕ) (c : ClassFields) (kept : List Kept) (waiting more : Waiting) (fs : List Frame) (f : Frame) →
+    ((given : List ℕ) (ps : List Piece) → AreLaid given waiting ps → AreLaid given more (ps ++ piece_of f ∷ [])) →
+    AreWritten taken (record { class = c; kept = kept; waiting = waiting }) fs →
+    AreWritten taken (record { class = c; kept = kept ++ f.kept ∷ []; waiting = more }) (fs ++ f ∷ [])
+more-written taken c kept waiting more fs f step are = record {
+  done = are.done;
+  given = are.given;
+  all = sym (append_assoc are.done kept (f.kept ∷ [])) ∙ ap (λ (ks : List Kept). ks ++ f.kept ∷ []) are.all ∙ sym (map-append (λ (g : Frame). g.kept) fs (f ∷ []));
+  long = are.long;
+  laid = subst (AreLaid are.given more) (sym (map-append piece_of fs (f ∷ []))) (step are.given (pieces fs) are.laid);
+  bytes = are.bytes;
+}
+
+-- the first frame taken
+pub first-written : (taken area_bytes : List ℕ) (c : ClassFields) (k : Kept) (ks : List Kept) (waiting less : Waiting) (fs : List Frame) →
+    length area_bytes ≡ area_in k →
+    ((given : List ℕ) (ps : List Piece) → AreLaid given waiting ps → AreLaid (given ++ area_bytes) less ps) →
+    AreWritten taken (record { class = c; kept = k ∷ ks; waiting = waiting }) fs →
+    AreWritten (taken ++ (front_of k.header k.side ++ area_bytes)) (record { class = c; kept = ks; waiting = less }) fs
+first-written taken area_bytes c k ks waiting less fs long step are =
+    let cut : front_of k.header k.side ++ area_bytes ≡ framed (k ∷ []) area_bytes =
+    ap (λ (xs : List ℕ). front_of k.header k.side ++ xs)
+    (sym (append-nil area_bytes) ∙ ap (λ (xs : List ℕ). xs ++ []) (sym (take-length area_bytes) ∙ ap (λ n. take n area_bytes) long)) in
+    record {
+      done = are.done ++ k ∷ [];
+      given = are.given ++ area_bytes;
+      all = append_assoc are.done (k ∷ []) ks ∙ are.all;
+      long = omega (arith, length-append are.given area_bytes, are.long, long, areas_in-more are.done k);
+      laid = step are.given (pieces fs) are.laid;
+      bytes = ap₂ (λ (xs ys : List ℕ). xs ++ ys) are.bytes cut ∙ sym (framed-more are.done (k ∷ []) are.given area_bytes are.long);
+    }
+
+-- ---- frames in their queue
+
+pub AreOf-more : (c : ClassFields) (ks : List Kept) (k : Kept) → AreOf c ks → IsHeader k.header → class_of k.header ≡ c → SideFits c k.side → AreOf c (ks ++ k ∷ [])
+AreOf-more c [] k are is same fits = (is, same, fits, tt)
+AreOf-more c (j ∷ ks) k are is same fits = (are.0, are.1, are.2, AreOf-more c ks k are.3 is same fits)
+
+pub areas_in-pushed : (ks : List Kept) (k : Kept) (bytes more : List ℕ) → areas_in ks ≡ length bytes → length more ≡ length bytes + area_in k →
+    areas_in (ks ++ k ∷ []) ≡ length more
+areas_in-pushed ks k bytes more same long = omega (arith, areas_in-more ks k, same, long)
+
+pub pushed-kept : (old new : Buffer Kept) (k : Kept) → old.capacity ≡ 256 → length old.items < 256 → new ≡ buffer (keep_last old.capacity (old.items ++ k ∷ [])) old.capacity →
+    (new.capacity ≡ 256) × (new.items ≡ old.items ++ k ∷ [])
+pushed-kept old new k many few is =
+    let none : length (old.items ++ k ∷ []) - old.capacity ≡ 0 = omega (arith, length-append old.items (k ∷ []), many, few) in
+    (ap (λ (b : Buffer Kept). b.capacity) is ∙ many, ap (λ (b : Buffer Kept). b.items) is ∙ ap (λ n. drop n (old.items ++ k ∷ [])) none)
+
+pub first-kept : (ks : List Kept) (k : Kept) → 0 < length ks → slice_get ks 0 ≡ Some k → ks ≡ k ∷ drop 1 ks
+first-kept [] k some is = absurd (omega (arith, some))
+first-kept (j ∷ ks) k some is = ap (λ (i : Kept). i ∷ ks) (ap (λ o. unwrap_or o j) is)
+
+-- ---- the bytes of a frame
+
+-- the bytes of a header, by its bits
+pub header-bytes : (h : HeaderFields) (four : List ℕ) → bits four ≡ header_bits h → header_at four ≡ Ok h →
+    ((xs : List ℕ) → AreBytes xs → length xs ≡ 4 → header_at xs ≡ Ok h → four ≡ xs) → four ≡ bytes (header_bits h)
+unfolding header_at
+header-bytes h four is back same =
+    same (bytes (header_bits h)) (AreBytes-bytes (header_bits h) (AreBits-header_bits h)) (length-bytes 4 (header_bits h) (length-header_bits h))
+    (ap header_in (bits-bytes 4 (header_bits h) (AreBits-header_bits h) (length-header_bits h) ∙ sym is) ∙ back)
+
+overhead-least : (c : ClassFields) (protected : Bool) → 4 ≤ overhead_of c protected
+unfolding overhead_of
+overhead-least c true = omega arith
+overhead-least c false = omega arith
+
+behind_four : (n : ℕ) (four frame : List ℕ) → length four ≡ 4 → 4 ≤ n → drop n (four ++ drop 4 frame) ≡ drop n frame
+behind_four n four frame long least =
+    let split : n ≡ length four + (n - 4) = omega (arith, long, least) in
+    let back : 4 + (n - 4) ≡ n = omega (arith, least) in
+    ap (λ k. drop k (four ++ drop 4 frame)) split
+    ∙ drop-append-add four (drop 4 frame) (n - 4)
+    ∙ drop-drop (n - 4) 4 frame
+    ∙ ap (λ k. drop k frame) back
+
+pub front-put : (h : HeaderFields) (s : Side) (four frame new : List ℕ) → four ≡ bytes (header_bits h) → new ≡ frame_with h s (four ++ drop 4 frame) →
+    new ≡ front_of h s ++ drop (overhead_of (class_of h) h.protected) frame
+unfolding frame_with front_of
+front-put h s four frame new is put =
+    let n = overhead_of (class_of h) h.protected in
+    let long : length four ≡ 4 = ap length is ∙ length-bytes 4 (header_bits h) (length-header_bits h) in
+    let first : take 4 (four ++ drop 4 frame) ≡ bytes (header_bits h) =
+    take-append-le 4 four (drop 4 frame) (omega (arith, long)) ∙ ap (λ k. take k four) (sym long) ∙ take-length four ∙ is in
+    put
+    ∙ ap₂ (λ (xs ys : List ℕ). xs ++ (word_part h s ++ (bytes (side_bits (class_of h) s) ++ ys))) first (behind_four n four frame long (overhead-least (class_of h) h.protected))
+    ∙ ap (λ (xs : List ℕ). bytes (header_bits h) ++ xs) (sym (append_assoc (word_part h s) (bytes (side_bits (class_of h) s)) (drop n frame)))
+    ∙ sym (append_assoc (bytes (header_bits h)) (word_part h s ++ bytes (side_bits (class_of h) s)) (drop n frame))
+
+-- an area behind what stands before it
+pub taken-first : (whole area most : ℕ) (frame area_bytes front rest : List ℕ) → frame ≡ front ++ rest → length front + area ≡ whole → length area_bytes ≡ area →
+    take whole (put_mid (whole - area) most frame area_bytes) ≡ front ++ area_bytes
+taken-first whole area most frame area_bytes front rest is long many =
+    let from : whole - area ≡ length front = omega (arith, long) in
+    let first : take (whole - area) frame ≡ front =
+    ap₂ (λ n (xs : List ℕ). take n xs) from is ∙ take-append-le (length front) front rest (omega arith) ∙ take-length front in
+    let behind = post_of (whole - area) most frame in
+    let all : whole ≡ length (front ++ area_bytes) = omega (arith, length-append front area_bytes, long, many) in
+    ap (λ (xs : List ℕ). take whole (xs ++ (area_bytes ++ behind))) first
+    ∙ ap (take whole) (sym (append_assoc front area_bytes behind))
+    ∙ take-append-le whole (front ++ area_bytes) behind (omega (arith, all))
+    ∙ ap (λ n. take n (front ++ area_bytes)) all
+    ∙ take-length (front ++ area_bytes)
+
+-- where an area stands
+pub length-mid : (whole area : ℕ) (frame : List ℕ) → area ≤ whole → whole ≤ length frame → length (take (whole - (whole - area)) (drop (whole - area) frame)) ≡ area
+length-mid whole area frame fits within =
+    length-take-le (whole - (whole - area)) (drop (whole - area) frame) (omega (arith, length-drop (whole - area) frame, fits, within)) ∙ omega (arith, fits)
+
+pub length-front : (n : ℕ) (frame front into : List ℕ) → frame ≡ front ++ drop n into → length frame ≡ length into → n ≤ length into → length front ≡ n
+length-front n frame front into is same within = omega (arith, ap length is, length-append front (drop n into), length-drop n into, same, within)
+
+-- ---- how many can wait
+
+-- a bound below all areas of a version
+abbrev pub least_of : Version → ℕ
+least_of One = 3
+least_of Two = 1
+least_of TwoFive = 1
+
+-- the shortest frames hold it, with a check word too
+least_length : (version : Version) (frequency channels : ℕ) → frequency < 3 →
+    least_of version + 6 + side_bytes_of version channels ≤ length_of (record { version = version; frequency_index = frequency; channels = channels }) (slot_of 1 false)
+unfolding length_of rate_of frequency_of
+least_length One zero channels h = elim (eqb channels 1) as (λ b. 9 + cond b 17 32 ≤ 104) [ true ↦ lit≤ tt | false ↦ lit≤ tt ]
+least_length One (suc zero) channels h = elim (eqb channels 1) as (λ b. 9 + cond b 17 32 ≤ 96) [ true ↦ lit≤ tt | false ↦ lit≤ tt ]
+least_length One (suc (suc zero)) channels h = elim (eqb channels 1) as (λ b. 9 + cond b 17 32 ≤ 144) [ true ↦ lit≤ tt | false ↦ lit≤ tt ]
+least_length One (suc (suc (suc frequency))) channels h = absurd (omega arith)
+least_length Two zero channels h = elim (eqb channels 1) as (λ b. 7 + cond b 9 17 ≤ 26) [ true ↦ lit≤ tt | false ↦ lit≤ tt ]
+least_length Two (suc zero) channels h = elim (eqb channels 1) as (λ b. 7 + cond b 9 17 ≤ 24) [ true ↦ lit≤ tt | false ↦ lit≤ tt ]
+least_length Two (suc (suc zero)) channels h = elim (eqb channels 1) as (λ b. 7 + cond b 9 17 ≤ 36) [ true ↦ lit≤ tt | false ↦ lit≤ tt ]
+least_length Two (suc (suc (suc frequency))) channels h = absurd (omega arith)
+least_length TwoFive zero channels h = elim (eqb channels 1) as (λ b. 7 + cond b 9 17 ≤ 52) [ true ↦ lit≤ tt | false ↦ lit≤ tt ]
+least_length TwoFive (suc zero) channels h = elim (eqb channels 1) as (λ b. 7 + cond b 9 17 ≤ 48) [ true ↦ lit≤ tt | false ↦ lit≤ tt ]
+least_length TwoFive (suc (suc zero)) channels h = elim (eqb channels 1) as (λ b. 7 + cond b 9 17 ≤ 72) [ true ↦ lit≤ tt | false ↦ lit≤ tt ]
+least_length TwoFive (suc (suc (suc frequency))) channels h = absurd (omega arith)
+
+area-least : (c : ClassFields) (s : SlotFields) (protected : Bool) → IsClass c → IsSlot s → least_of c.version ≤ area_of c s protected
+unfolding area_of overhead_of side_size_of
+area-least c s true class is = omega (arith, length-first c s class is, least_length c.version c.frequency_index c.channels (omega (arith, class.0)))
+area-least c s false class is = omega (arith, length-first c s class is, least_length c.version c.frequency_index c.channels (omega (arith, class.0)))
+
+kept-least : (c : ClassFields) (k : Kept) → IsClass c → IsHeader k.header → class_of k.header ≡ c → least_of c.version ≤ area_in k
+kept-least c k class is same =
+    subst (λ d. least_of c.version ≤ area_of d k.header.slot k.header.protected) (sym same) (area-least c k.header.slot k.header.protected class is.slot)
+
+many : (c : ClassFields) (m : ℕ) (ks : List Kept) → IsClass c → AreOf c ks → m ≡ least_of c.version → m * length ks ≤ areas_in ks
+many c m [] class are is = omega arith
+many c m (k ∷ ks) class are is =
+    omega (arith, mul-suc m (length ks), many c m ks class are.3 is, kept-least c k class are.0 are.1, is)
+
+-- so many bytes behind the first frame, so many frames
+few_behind : (version : Version) (n bytes : ℕ) → least_of version * n ≤ bytes → bytes < window_of version → n + 1 < 256
+few_behind One n bytes all behind = omega (arith, all, behind)
+few_behind Two n bytes all behind = omega (arith, all, behind)
+few_behind TwoFive n bytes all behind = omega (arith, all, behind)
+
+window-most : (version : Version) → window_of version ≤ 511
+window-most One = lit≤ tt
+window-most Two = lit≤ tt
+window-most TwoFive = lit≤ tt
+
+least_left : (m n : ℕ) → (n < m) ⊎ (m ≤ n) → min m n ≤ m
+least_left m n (inl less) = let le : n ≤ m = omega (arith, less) in let is : min m n ≡ n = min-eq_right le in omega (arith, is, le)
+least_left m n (inr more) = let is : min m n ≡ m = min-eq_left more in omega (arith, is)
+
+have_room : (c : ClassFields) (kept : List Kept) (waiting : Waiting) → AreOf c kept → areas_in kept ≡ length waiting.bytes →
+    (IsNextSettled (record { class = c; kept = kept; waiting = waiting }) → ⊥) → HaveRoom (record { class = c; kept = kept; waiting = waiting })
+have_room c [] waiting are same unsettled = record { few = lit≤ tt; room = omega (arith, same) }
+have_room c (k ∷ ks) waiting are same unsettled =
+    let class : IsClass c = subst IsClass are.1 (IsClass-class_of k.header are.0) in
+    let held : Held = record { class = c; kept = k ∷ ks; waiting = waiting } in
+    let behind : areas_in ks < window_of c.version =
+    elim (cases_lt (areas_in ks) (window_of c.version)) as (λ _. areas_in ks < window_of c.version) [
+      | inl less ↦ less
+      | inr more ↦ absurd (unsettled (record { some = omega arith; behind = omega (arith, same, more, least_left (window_of c.version) waiting.free (cases_lt waiting.free (window_of c.version))) }))
+    ] in
+    let first : area_in k ≤ 1428 = subst (λ d. area_of d k.header.slot k.header.protected ≤ 1428) (sym are.1) (area-most c k.header.slot k.header.protected class are.0.slot) in
+    record {
+      few = omega (arith, few_behind c.version (length ks) (areas_in ks) (many c (least_of c.version) ks class are.3 refl) behind);
+      room = omega (arith, same, first, behind, window-most c.version);
+    }
+
+pub few-wait : FewWait
+few-wait held are same unsettled = have_room held.class held.kept held.waiting are same unsettled

@@ -1,0 +1,16 @@
+-- Of no frames nothing was taken.
+use Rattle.std.proofs.Common.{◌≡◌, [], List, ℕ, sym, subst, ap}
+use Rattle.circular_buffer.specs.Buffer.{Buffer}
+use Rattle.frame_writer.specs.declared.frames.Kept.{Kept}
+use Rattle.frame_writer.specs.Laid.{Waiting, AreLaid}
+use Rattle.frame_writer.specs.Frames.{AreWritten}
+use Rattle.frame_writer.proofs.FrameLaws.{none-written}
+use Rattle.frame_writer.proofs.frames.Frames.new.Goals as goal
+
+pub returns-clause-written : goal.returns-clause-written
+returns-clause-written c =
+    let none = c.in_ok-new.ensures.none in
+    subst (λ (w : Waiting). AreWritten [] (record { class = c.args.class; kept = c.in_ok-with_capacity.field-0.items; waiting = w }) []) (sym none)
+    (subst (λ (ks : List Kept). AreWritten [] (record { class = c.args.class; kept = ks; waiting = record { bytes = []; free = 0 } }) [])
+    (sym (ap (λ (b : Buffer Kept). b.items) c.in_ok-with_capacity.ensures))
+    (none-written c.args.class (subst (λ w. AreLaid [] w []) none c.in_ok-new.ensures.laid)))

@@ -1,0 +1,6 @@
+-- The frames that were taken, and behind them those that wait.
+use Rattle.frame_writer.proofs.FrameLaws.{laid-steps}
+use Rattle.frame_writer.proofs.laws.laid_steps.Goals as goal
+
+pub returns : goal.returns
+returns c = laid-steps
