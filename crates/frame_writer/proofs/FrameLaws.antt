@@ -1,7 +1,7 @@
 -- Laws of frames that wait.
-use Rattle.std.proofs.Common.{◌≡◌, ℕ, ◌⊎◌, inl, inr, ◌+◌, ◌*◌, ◌-◌, ◌≤◌, ◌<◌, min, Bool, true, false, cond, eqb, List, [], ◌∷◌, ◌++◌, length, take, drop, map, refl, sym, subst, ap, ap₂, ◌∙◌, append_assoc, append-nil, arith, length-append, mul-suc, lit≤, zero, suc}
-use Rattle.std.proofs.lemmas.List.{length-drop, length-take-le, take-append-le, drop-append-le, take-append-drop, map-append, drop-drop}
-use Rattle.std.proofs.Math.Seq.{drop-append-add, take-append-add, drop-length, take-length}
+use Rattle.std.proofs.Common.{◌≡◌, ℕ, ◌⊎◌, inl, inr, ◌+◌, ◌*◌, ◌-◌, ◌≤◌, ◌<◌, min, Bool, true, false, cond, eqb, List, [], ◌∷◌, ◌++◌, length, take, drop, refl, sym, subst, ap, ap₂, ◌∙◌, append_assoc, append-nil, arith, length-append, mul-suc, lit≤, zero, suc}
+use Rattle.std.proofs.lemmas.List.{length-drop, length-take-le, take-append-le, drop-append-le, map-append, drop-drop}
+use Rattle.std.proofs.Math.Seq.{drop-append-add, take-length}
 use Rattle.std.proofs.Math.Nat.{min-eq_left, min-eq_right}
 use Rattle.std.proofs.lemmas.Bool.{cases_lt}
 use Rattle.frame_header.specs.Fields.{ClassFields, SlotFields, IsClass, IsSlot, IsHeader}
@@ -23,8 +23,8 @@ use Rattle.circular_buffer.specs.Buffer.{Buffer, buffer, keep_last}
 use Rattle.std.specs.Prelude.{slice_get, Some, unwrap_or, Ok}
 use borrow.Rule.Slice.PartMut.{put_mid, post_of}
 use Rattle.frame_writer.specs.declared.frames.Kept.{Kept}
-use Rattle.frame_writer.specs.Laid.{Piece, Waiting, laid, AreLaid}
-use Rattle.frame_writer.specs.Frames.{front_of, area_in, areas_in, first_area, framed, Frame, piece_of, all_kept, pieces, frame_bytes, Held, held_bytes, AreOf, IsNextSettled, AreWritten}
+use Rattle.frame_writer.specs.Laid.{Piece, Waiting, AreLaid}
+use Rattle.frame_writer.specs.Frames.{front_of, area_in, areas_in, framed, Frame, piece_of, pieces, Held, held_bytes, AreOf, IsNextSettled, AreWritten}
 use Rattle.frame_writer.specs.Laws.{LaidSteps, HaveRoom, FewWait}
 
 -- ---- areas cut off one after another

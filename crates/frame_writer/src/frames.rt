@@ -9,7 +9,7 @@ ghost use Rattle.frame_writer.specs.declared.frames.Kept.{Kept};
 use crate::areas::Areas;
 use circular_buffer::HeapCircularBuffer;
 use frame_header::{Class, Header};
-use side_info::{put_side, Side};
+use side_info::{Side, put_side};
 use std::alloc::{AllocError, Global};
 use std::marker::Model;
 
@@ -62,6 +62,13 @@ impl Frames {
         })
     }
 
+    /// The class of the frames.
+    pub fn class(&self) -> Class
+        ensures { result ≡ self.now.class }
+    {
+        self.class
+    }
+
     /// How many frames wait, at most 256.
     pub fn count(&self) -> usize
         ensures count { result ≡ length self.now.kept }
@@ -70,7 +77,17 @@ impl Frames {
         self.kept.len()
     }
 
-    /// Adds a frame and lays its main data.
+    /// How many bytes at the end of the areas that wait stand behind the main data that were laid last: the next main
+    /// data may begin in them.
+    pub fn free(&self) -> u32
+        ensures { result ≡ self.now.waiting.free }
+    {
+        self.areas.free()
+    }
+
+    /// Adds a frame, and lays its main data into the areas that wait and its own: they begin main_data_begin bytes
+    /// before its own area (ISO/IEC 11172-3 and 13818-3, 2.4.2.7). There is always room for it where the first frame
+    /// that waits isn't settled: at most 255 frames wait then (`few_frames_wait`).
     pub fn push(&mut self, header: &Header, side: &Side, payload: &[u8])
         requires class { class_of header.now ≡ self.old.class }
         requires fits { SideFits self.old.class side.now }
@@ -83,8 +100,12 @@ impl Frames {
         ensures written { (taken : List ℕ) (fs : List Frame) → AreWritten taken self.old fs → AreWritten taken self.new (fs ++ record { kept = record { header = header.now; side = side.now }; payload = payload.now } ∷ []) }
     {
         let _ = &header.slot;
-        self.kept.push_back(Kept { header: *header, side: *side });
-        self.areas.push(u32::from(side.main_data_begin), header.area(), payload);
+        self.kept.push_back(Kept {
+            header: *header,
+            side: *side,
+        });
+        self.areas
+            .push(u32::from(side.main_data_begin), header.area(), payload);
     }
 
     /// Takes the first frame that waits into the first bytes of `into`, and answers how many these are: its header, its
@@ -111,7 +132,8 @@ impl Frames {
         whole
     }
 
-    /// Whether a frame waits whose area no later main data can reach.
+    /// Whether a frame waits whose area no later main data can reach: these begin at most 511 bytes before their frame's
+    /// own area in MPEG-1, 255 in MPEG-2 and MPEG-2.5, and not before the end of the last main data.
     pub fn is_next_settled(&self) -> bool
         ensures { IsTrue result ↔ IsNextSettled self.now }
     {

@@ -14,7 +14,7 @@ mod frames;
 mod laws;
 
 pub use areas::Areas;
-pub use frames::{put_front, Frames, Kept};
+pub use frames::{Frames, Kept, put_front};
 pub use laws::{few_frames_wait, laid_steps};
 
 #[cfg(test)]

@@ -1,14 +1,49 @@
-//! Main data laid by hand.
+//! Frames worked out by hand. Rates and lengths are those of ISO/IEC 11172-3 and 13818-3, 2.4.2.3 and 2.4.3.1.
 
 use super::*;
+use frame_header::Header;
+use side_info::Side;
 use std::alloc::AllocGlobal;
 use std::process::Abort;
 use std::test::Fail;
 
-/// Two frames of 417 bytes, 128 kbit/s at 44,100 Hz in two channels, have areas of 381 bytes. The second one's main
-/// data, 400 bytes, begin 81 bytes before its own area, right behind the 300 bytes of the first.
+/// 128 kbit/s at 44,100 Hz in two channels: 417 bytes, and an area of 381.
+static PLAIN: [u8; 4] = [0xff, 0xfb, 0x90, 0x00];
+
+/// 8 kbit/s at 24,000 Hz in two channels, protected: 24 bytes, and an area of 1.
+static SHORTEST: [u8; 4] = [0xff, 0xf2, 0x14, 0x00];
+
+/// 160 kbit/s at 8,000 Hz in two channels, padded: 1,441 bytes, and an area of 1,420.
+static LONGEST: [u8; 4] = [0xff, 0xe3, 0xea, 0x00];
+
+fn header_of(bytes: [u8; 4]) -> Result<Header, Fail> {
+    match Header::read(bytes) {
+        Ok(header) => Ok(header),
+        Err(_) => Err("no header".into()),
+    }
+}
+
+fn frames_of<R: AllocGlobal>(rt: &R, header: &Header) -> Result<Frames, Fail> {
+    Ok(Frames::new(rt.alloc(), header.class())?)
+}
+
+/// Adds a frame whose side fields are 0, but for main_data_begin.
+fn push(rt: &impl Abort, frames: &mut Frames, header: &Header, begin: u16, payload: &[u8]) {
+    let side = Side::empty().with_begin(begin);
+    assert!(rt; frames.class().is_same(header.class()) && side.fits(header.class()));
+    assert!(rt; !frames.is_next_settled() && u32::from(begin) <= frames.free());
+    assert!(rt; payload.len() <= usize::from(begin) + header.area() as usize);
+    frames.push(header, &side, payload);
+}
+
+/// Takes the first frame that waits, and answers its length.
+fn take(rt: &impl Abort, frames: &mut Frames, frame: &mut [u8; 1441]) -> usize {
+    assert!(rt; frames.count() > 0);
+    frames.take_frame(frame)
+}
+
 #[test]
-fn two_frames(rt: HostRuntime) -> Result<(), Fail> {
+fn two_areas(rt: HostRuntime) -> Result<(), Fail> {
     let mut areas = Areas::new(rt.alloc())?;
     areas.push(0, 381, &[0x11; 300]);
     assert_eq!(rt; areas.free(), 81);
@@ -16,16 +51,82 @@ fn two_frames(rt: HostRuntime) -> Result<(), Fail> {
     areas.push(81, 381, &[0x22; 400]);
     assert_eq!(rt; areas.waiting(), 762);
     assert_eq!(rt; areas.free(), 62);
-    assert_eq!(rt; areas.settled(511), 700);
     let mut area = [0xff; 381];
     areas.take_into(&mut area);
-    assert_eq!(rt; area[299], 0x11);
-    assert_eq!(rt; area[300], 0x22);
-    assert_eq!(rt; area[380], 0x22);
+    assert_eq!(rt; (area[299], area[300], area[380]), (0x11, 0x22, 0x22));
     areas.take_into(&mut area);
-    assert_eq!(rt; area[318], 0x22);
-    assert_eq!(rt; area[319], 0);
-    assert_eq!(rt; area[380], 0);
+    assert_eq!(rt; (area[318], area[319], area[380]), (0x22, 0, 0));
     assert_eq!(rt; areas.waiting(), 0);
+    Ok(())
+}
+
+/// The second frame's main data begin in the first one's area.
+#[test]
+fn two_frames(rt: HostRuntime) -> Result<(), Fail> {
+    let header = header_of(PLAIN)?;
+    let mut frames = frames_of(&rt, &header)?;
+    push(&rt, &mut frames, &header, 0, &[0x11; 300]);
+    push(&rt, &mut frames, &header, 81, &[0x22; 400]);
+    assert!(rt; frames.is_next_settled());
+    let mut frame = [0xff; 1441];
+    assert_eq!(rt; take(&rt, &mut frames, &mut frame), 417);
+    assert_eq!(rt;
+        (frame[1], frame[2], frame[4], frame[35]),
+        (0xfb, 0x90, 0, 0)
+    );
+    assert_eq!(rt;
+        (frame[36], frame[335], frame[336], frame[416]),
+        (0x11, 0x11, 0x22, 0x22)
+    );
+    assert!(rt; !frames.is_next_settled());
+    assert_eq!(rt; take(&rt, &mut frames, &mut frame), 417);
+    // 81 in nine bits is 0 0101 0001.
+    assert_eq!(rt;
+        (frame[3], frame[4], frame[5], frame[6]),
+        (0x00, 0x28, 0x80, 0)
+    );
+    assert_eq!(rt;
+        (frame[36], frame[354], frame[355], frame[416]),
+        (0x22, 0x22, 0, 0)
+    );
+    assert_eq!(rt; frames.count(), 0);
+    Ok(())
+}
+
+/// The main data of the 256th frame go through the areas of all of them. Its check word is the remainder of 14 00 ff
+/// and 16 times 00, worked out by another program.
+#[test]
+fn as_many_as_may_wait(rt: HostRuntime) -> Result<(), Fail> {
+    let header = header_of(SHORTEST)?;
+    let mut frames = frames_of(&rt, &header)?;
+    for begin in 0..255 {
+        push(&rt, &mut frames, &header, begin, &[]);
+    }
+    push(&rt, &mut frames, &header, 255, &[0x44; 256]);
+    assert_eq!(rt; frames.count(), 256);
+    let mut frame = [0xff; 1441];
+    for _ in 0..255 {
+        assert!(rt; frames.is_next_settled());
+        assert_eq!(rt; take(&rt, &mut frames, &mut frame), 24);
+        assert_eq!(rt; (frame[3], frame[23]), (0x00, 0x44));
+    }
+    assert_eq!(rt; take(&rt, &mut frames, &mut frame), 24);
+    assert_eq!(rt;
+        (frame[4], frame[5], frame[6], frame[7]),
+        (0x3c, 0x42, 0xff, 0)
+    );
+    assert_eq!(rt; (frame[22], frame[23]), (0, 0x44));
+    Ok(())
+}
+
+#[test]
+fn the_longest_frame(rt: HostRuntime) -> Result<(), Fail> {
+    let header = header_of(LONGEST)?;
+    let mut frames = frames_of(&rt, &header)?;
+    push(&rt, &mut frames, &header, 0, &[0x33; 1420]);
+    assert!(rt; frames.is_next_settled());
+    let mut frame = [0xff; 1441];
+    assert_eq!(rt; take(&rt, &mut frames, &mut frame), 1441);
+    assert_eq!(rt; (frame[20], frame[21], frame[1440]), (0, 0x33, 0x33));
     Ok(())
 }

@@ -57,5 +57,15 @@ returns-clause-long c =
     pushed c.self.inside.queue c.extend_from_slice.new.self c.extend_from_slice-2.new.self c.zeros_of.result.now payload
     c.self.invariant.0 c.extend_from_slice.ensures c.extend_from_slice-2.ensures (omega (arith, gap, long, reach, c.requires.within, c.requires.room))
     ∙ ap (λ (xs : List ℕ). items ++ (xs ++ payload)) c.zeros_of.ensures in
-    omega (arith, ap length is, length-append c.extend_from_slice-2.new.self.items (zeros rest), length-append items (zeros (free - begin) ++ payload),
-      length-append (zeros (free - begin)) payload, length-zeros (free - begin), length-zeros rest, long, reach, c.requires.within)
+    omega (
+      arith,
+      ap length is,
+      length-append c.extend_from_slice-2.new.self.items (zeros rest),
+      length-append items (zeros (free - begin) ++ payload),
+      length-append (zeros (free - begin)) payload,
+      length-zeros (free - begin),
+      length-zeros rest,
+      long,
+      reach,
+      c.requires.within,
+    )

@@ -1,9 +1,9 @@
 -- The first bytes of the queue, and zeros where these end.
-use Rattle.std.proofs.Common.{◌≡◌, ◌≤◌, ℕ, List, ◌+◌, ◌-◌, ◌++◌, length, take, drop, sym, ap, ◌∙◌, arith}
+use Rattle.std.proofs.Common.{◌≡◌, ℕ, ◌-◌, ◌++◌, length, take, drop, ap, ◌∙◌, arith}
 use Rattle.std.proofs.lemmas.List.{length-take-le}
 use Rattle.circular_buffer.specs.Buffer.{Buffer}
-use Rattle.frame_writer.specs.Laid.{Waiting, zeros, AreLaid}
-use Rattle.frame_writer.proofs.LaidLaws.{length-zeros, taken-is, left-is, taken-laid}
+use Rattle.frame_writer.specs.Laid.{Waiting, zeros}
+use Rattle.frame_writer.proofs.LaidLaws.{taken-is, left-is, taken-laid}
 use Rattle.frame_writer.proofs.areas.Areas.take_into.Goals as goal
 
 pub returns-clause-taken : goal.returns-clause-taken

@@ -1,5 +1,5 @@
 -- Of no frames nothing was taken.
-use Rattle.std.proofs.Common.{◌≡◌, [], List, ℕ, sym, subst, ap}
+use Rattle.std.proofs.Common.{[], List, sym, subst, ap}
 use Rattle.circular_buffer.specs.Buffer.{Buffer}
 use Rattle.frame_writer.specs.declared.frames.Kept.{Kept}
 use Rattle.frame_writer.specs.Laid.{Waiting, AreLaid}

@@ -1,11 +1,11 @@
 -- There is room, and what is pushed keeps what the queues hold together.
-use Rattle.std.proofs.Common.{◌≡◌, ◌+◌, ◌-◌, ◌≤◌, ℕ, List, [], ◌∷◌, ◌++◌, length, sym, subst, ap, ap₂, ◌∙◌, arith, length-append}
-use Rattle.circular_buffer.specs.Buffer.{Buffer, buffer, keep_last}
+use Rattle.std.proofs.Common.{◌≡◌, ◌+◌, List, [], ◌∷◌, ◌++◌, length, sym, subst, ap, ◌∙◌, arith, length-append}
+use Rattle.circular_buffer.specs.Buffer.{buffer, keep_last}
 use Rattle.frame_header.specs.Fields.{HeaderFields, IsHeader}
-use Rattle.frame_header.specs.Tables.{class_of, area_of}
+use Rattle.frame_header.specs.Tables.{class_of}
 use Rattle.side_info.specs.Side.{SideFits}
 use Rattle.frame_writer.specs.declared.frames.Kept.{Kept}
-use Rattle.frame_writer.specs.Laid.{Waiting, Piece, AreLaid, put_at, zeros}
+use Rattle.frame_writer.specs.Laid.{AreLaid}
 use Rattle.frame_writer.specs.Frames.{Held, Frame, area_in, areas_in, AreOf, IsNextSettled, AreWritten}
 use Rattle.frame_writer.specs.Laws.{HaveRoom}
 use Rattle.frame_writer.proofs.FrameLaws.{few-wait, pushed-kept, areas_in-pushed, AreOf-more, more-written}
@@ -33,11 +33,13 @@ invariant_of-self c =
     let fits : SideFits c.self.inside.class c.args.side.now = subst (λ (h : Held). SideFits h.class c.args.side.now) (sym c.self.view_is) c.requires.fits in
     let is : IsHeader c.args.header.now = subst IsHeader c.header.view_is c.header.invariant in
     let bytes = c.self.inside.areas.bytes in
-    let long : length c.push.new.self.bytes ≡ length bytes + area_in k = c.push.ensures.long ∙ ap (λ n. length bytes + n) c.area.ensures.area in
-    (pushed.0, omega (arith, ap length pushed.1, length-append queue.items (k ∷ []), room.few),
+    let long : length c.push.new.self.bytes ≡ length bytes + area_in k = c.push.ensures.long ∙ ap (λ n. length bytes + n) c.area.ensures.area in (
+      pushed.0,
+      omega (arith, ap length pushed.1, length-append queue.items (k ∷ []), room.few),
       ap (λ (ks : List Kept). areas_in ks) pushed.1
-      ∙ areas_in-pushed queue.items k bytes c.push.new.self.bytes c.self.invariant.2 long,
-      subst (AreOf c.self.inside.class) (sym pushed.1) (AreOf-more c.self.inside.class queue.items k c.self.invariant.3 is class fits))
+          ∙ areas_in-pushed queue.items k bytes c.push.new.self.bytes c.self.invariant.2 long,
+      subst (AreOf c.self.inside.class) (sym pushed.1) (AreOf-more c.self.inside.class queue.items k c.self.invariant.3 is class fits),
+    )
 
 pub returns-clause-kept : goal.returns-clause-kept
 returns-clause-kept c =
@@ -66,7 +68,7 @@ returns-clause-written c = λ taken fs are.
     subst (λ (ks : List Kept). AreWritten taken (record { class = c.self.inside.class; kept = ks; waiting = c.push.new.self }) (fs ++ f ∷ [])) (sym pushed.1)
     (more-written taken c.self.inside.class queue.items c.self.inside.areas c.push.new.self fs f
     (λ given ps laid.
-      subst (λ n. AreLaid given c.push.new.self (ps ++ record { payload = c.args.payload.now; begin = n; area = area_in k } ∷ [])) c.from.ensures
-      (subst (λ n. AreLaid given c.push.new.self (ps ++ record { payload = c.args.payload.now; begin = c.from.result; area = n } ∷ [])) c.area.ensures.area
-      (c.push.ensures.laid given ps laid)))
+    subst (λ n. AreLaid given c.push.new.self (ps ++ record { payload = c.args.payload.now; begin = n; area = area_in k } ∷ [])) c.from.ensures
+    (subst (λ n. AreLaid given c.push.new.self (ps ++ record { payload = c.args.payload.now; begin = c.from.result; area = n } ∷ [])) c.area.ensures.area
+    (c.push.ensures.laid given ps laid)))
     (subst (λ h. AreWritten taken h fs) (sym c.self.view_is) are))

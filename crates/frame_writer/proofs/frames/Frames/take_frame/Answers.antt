@@ -1,9 +1,8 @@
 -- The front of the first frame that waits, and behind it the first bytes of the areas.
-use Rattle.std.proofs.Common.{◌≡◌, ◌+◌, ◌-◌, ◌≤◌, ◌<◌, ℕ, List, [], ◌∷◌, ◌++◌, length, take, drop, sym, subst, ap, ap₂, ◌∙◌, arith, append_assoc}
+use Rattle.std.proofs.Common.{◌≡◌, ◌-◌, ◌≤◌, ◌<◌, ℕ, List, ◌∷◌, ◌++◌, length, take, drop, sym, subst, ap, ap₂, ◌∙◌, arith, append_assoc}
 use Rattle.frame_header.specs.Tables.{class_of, overhead_of}
 use Rattle.circular_buffer.specs.Buffer.{Buffer}
 use Rattle.frame_writer.specs.declared.frames.Kept.{Kept}
-use Rattle.frame_writer.specs.Laid.{Waiting}
 use Rattle.frame_writer.specs.Frames.{front_of, area_in, framed, Held, held_bytes, AreWritten}
 use Rattle.frame_writer.proofs.FrameLaws.{first-kept, length-front, length-mid, taken-first, first-written}
 use borrow.Rule.Slice.PartMut.{put_mid}
