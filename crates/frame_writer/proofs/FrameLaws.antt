@@ -243,3 +243,23 @@ have_room c (k ∷ ks) waiting are same unsettled =
 
 pub few-wait : FewWait
 few-wait held are same unsettled = have_room held.class held.kept held.waiting are same unsettled
+
+-- what is free stays in reach where what is left is as much
+pub reach-kept : (w f n : ℕ) → min w f ≤ n → min w (min f n) ≡ min w f
+reach-kept w f n enough = reach_cases w f n enough (cases_lt n f)
+  where
+    reach_cases : (w f n : ℕ) → min w f ≤ n → (n < f) ⊎ (f ≤ n) → min w (min f n) ≡ min w f
+    reach_cases w f n enough (inr all) = ap (min w) (min-eq_left all)
+    reach_cases w f n enough (inl less) =
+        elim (cases_lt n w) as (λ _. min w (min f n) ≡ min w f) [
+          | inl below ↦ absurd (elim (cases_lt w f) as (λ _. ⊥) [
+            | inl wide ↦ (let le : w ≤ f = omega (arith, wide) in let is : min w f ≡ w = min-eq_left le in omega (arith, is, enough, below))
+            | inr far ↦ (let is : min w f ≡ f = min-eq_right far in omega (arith, is, enough, less))
+          ])
+          | inr there ↦
+              (let le : n ≤ f = omega (arith, less) in let is : min f n ≡ n = min-eq_right le in
+              let wide : w ≤ f = omega (arith, there, less) in
+              let left : min w n ≡ w = min-eq_left there in
+              let right : min w f ≡ w = min-eq_left wide in
+              ap (min w) is ∙ left ∙ sym right)
+        ]

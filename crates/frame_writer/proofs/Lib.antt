@@ -1,3 +1,4 @@
 -- The lemmas of this crate.
 pub mod LaidLaws
 pub mod FrameLaws
+pub mod WritingLaws

@@ -67,6 +67,10 @@ abbrev pub AreOf : ClassFields → List Kept → Type 0
 AreOf c [] = Unit {0}
 AreOf c (k ∷ ks) = IsHeader k.header × (class_of k.header ≡ c) × SideFits c k.side × AreOf c ks
 
+-- how many bytes before the next frame's own area its main data may begin
+abbrev pub reach_of : Held → ℕ
+reach_of held = min (window_of held.class.version) held.waiting.free
+
 -- a frame waits, and no later main data can reach the area of the first
 pub record IsNextSettled (held : Held) : Type 0 where
   pub some : 0 < length held.kept

@@ -1,8 +1,12 @@
 pub mod Laid
 pub mod Frames
+pub mod Writing
 pub mod Laws
 pub use Rattle.bit_fields.specs.Bits
 pub use Rattle.frame_header.specs.Fields
 pub use Rattle.frame_header.specs.Tables
 pub use Rattle.side_info.specs.Side
 pub use Rattle.side_info.specs.Frame
+pub use Rattle.outside.specs.Files
+pub use Rattle.outside.specs.Passed
+pub use Rattle.outside.specs.Counts

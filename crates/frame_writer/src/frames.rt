@@ -3,7 +3,7 @@ ghost use Rattle.std.specs.Prelude.{◌≡◌, ℕ, ◌+◌, ◌-◌, ◌<◌, �
 ghost use Rattle.frame_header.specs.Tables.{class_of, area_of, overhead_of, length_of, window_of};
 ghost use Rattle.side_info.specs.Side.{SideFits};
 ghost use Rattle.frame_writer.specs.Laid.{put_at, zeros, Waiting};
-ghost use Rattle.frame_writer.specs.Frames.{held_bytes, first_area, front_of, area_in, areas_in, AreOf, framed, Frame, Held, IsNextSettled, AreWritten};
+ghost use Rattle.frame_writer.specs.Frames.{held_bytes, first_area, front_of, area_in, areas_in, AreOf, framed, Frame, Held, IsNextSettled, reach_of, AreWritten};
 ghost use Rattle.frame_writer.specs.declared.frames.Kept.{Kept};
 
 use crate::areas::Areas;
@@ -14,7 +14,7 @@ use std::alloc::{AllocError, Global};
 use std::marker::Model;
 
 /// As many frames as may wait.
-const MOST: usize = 256;
+pub(crate) const MOST: usize = 256;
 
 /// The bytes of a header.
 const HEADER_SIZE: usize = 4;
@@ -96,6 +96,7 @@ impl Frames {
         requires unsettled { IsNextSettled self.old → ⊥ }
         ensures class { self.new.class ≡ self.old.class }
         ensures kept { self.new.kept ≡ self.old.kept ++ record { header = header.now; side = side.now } ∷ [] }
+        ensures free { self.new.waiting.free + length payload.now ≡ side.now.main_data_begin + area_of (class_of header.now) header.now.slot header.now.protected }
         ensures put { self.new.waiting.bytes ≡ put_at (length self.old.waiting.bytes - side.now.main_data_begin) payload.now (self.old.waiting.bytes ++ zeros (area_of (class_of header.now) header.now.slot header.now.protected)) }
         ensures written { (taken : List ℕ) (fs : List Frame) → AreWritten taken self.old fs → AreWritten taken self.new (fs ++ record { kept = record { header = header.now; side = side.now }; payload = payload.now } ∷ []) }
     {
@@ -122,6 +123,7 @@ impl Frames {
         ensures kept { self.new.kept ≡ drop 1 self.old.kept }
         ensures left { self.new.waiting.bytes ≡ drop (first_area self.old.kept) self.old.waiting.bytes }
         ensures free { self.new.waiting.free ≡ min self.old.waiting.free (length self.new.waiting.bytes) }
+        ensures reach { IsNextSettled self.old → reach_of self.new ≡ reach_of self.old }
         ensures written { (taken : List ℕ) (fs : List Frame) → AreWritten taken self.old fs → AreWritten (taken ++ take result into.new) self.new fs }
     {
         let first = self.kept.pop_front().unwrap();

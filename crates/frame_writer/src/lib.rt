@@ -1,21 +1,22 @@
-//! Main data laid into the areas of frames anew: each frame's main data go where its main_data_begin says, into its
-//! own area and those before it, and the bytes of the areas come out in order. Memory is taken by `Areas::new` alone.
+//! Main data laid into the areas of frames anew, and the frames written to a file: each frame's main data go where its
+//! main_data_begin says, into its own area and those before it. Memory is taken by the `new` functions alone.
 //!
 //! ```text
-//! let mut areas = Areas::new(alloc)?;
-//! areas.push(main_data_begin, header.area(), payload);
-//! let settled = areas.settled(class.window());
-//! areas.take_into(&mut frame[place..place + area]);
+//! let mut writer = Writer::new(alloc, header.class())?;
+//! writer.frame(&header, &side, payload, &mut folder, name)?;
+//! writer.finish(&mut folder, name)?;
 //! ```
 #![tactic(auto)]
 
 mod areas;
 mod frames;
 mod laws;
+mod writer;
 
 pub use areas::Areas;
 pub use frames::{Frames, Kept, put_front};
 pub use laws::{few_frames_wait, laid_steps};
+pub use writer::Writer;
 
 #[cfg(test)]
 mod tests;

@@ -2,6 +2,7 @@
 
 use super::*;
 use frame_header::Header;
+use outside::{Call, Failed, Folder, MemFolder};
 use side_info::Side;
 use std::alloc::AllocGlobal;
 use std::process::Abort;
@@ -128,5 +129,70 @@ fn the_longest_frame(rt: HostRuntime) -> Result<(), Fail> {
     let mut frame = [0xff; 1441];
     assert_eq!(rt; take(&rt, &mut frames, &mut frame), 1441);
     assert_eq!(rt; (frame[20], frame[21], frame[1440]), (0, 0x33, 0x33));
+    Ok(())
+}
+
+/// A folder in which `o` is a file without bytes.
+fn folder_of<R: AllocGlobal>(rt: &R) -> Result<MemFolder, Fail> {
+    let mut folder = MemFolder::new(rt.alloc());
+    folder.put("o", &[])?;
+    folder.reserve("o", 834)?;
+    Ok(folder)
+}
+
+/// Writes a frame whose side fields are 0, but for main_data_begin.
+#[tactic(auto, using(outside::proofs::FilesLaws::emptied_there))]
+fn write<D: Folder>(
+    rt: &impl Abort,
+    writer: &mut Writer,
+    header: &Header,
+    begin: u16,
+    payload: &[u8],
+    folder: &mut D,
+) -> Result<(), Failed> {
+    let side = Side::empty().with_begin(begin);
+    assert!(rt; writer.class().is_same(header.class()) && side.fits(header.class()));
+    assert!(rt; writer.is_ready() && u32::from(begin) <= writer.reach());
+    assert!(rt; payload.len() <= usize::from(begin) + header.area() as usize);
+    // Nothing is appended before the end, so the file may be made anew.
+    folder.create("o")?;
+    writer.frame(header, &side, payload, folder, "o")
+}
+
+/// Writes the end of the file.
+#[tactic(auto, using(outside::proofs::FilesLaws::emptied_there))]
+fn finish<D: Folder>(writer: &mut Writer, folder: &mut D) -> Result<(), Failed> {
+    folder.create("o")?;
+    writer.finish(folder, "o")
+}
+
+/// The two frames above, written to a file in one write.
+#[test]
+fn two_frames_in_a_file(rt: HostRuntime) -> Result<(), Fail> {
+    let header = header_of(PLAIN)?;
+    let mut folder = folder_of(&rt)?;
+    let mut writer = Writer::new(rt.alloc(), header.class())?;
+    assert!(rt; write(&rt, &mut writer, &header, 0, &[0x11; 300], &mut folder).is_ok());
+    assert_eq!(rt; writer.reach(), 81);
+    assert!(rt; write(&rt, &mut writer, &header, 81, &[0x22; 400], &mut folder).is_ok());
+    assert!(rt; finish(&mut writer, &mut folder).is_ok());
+    let bytes = folder.get("o").ok_or("no file")?;
+    assert_eq!(rt; bytes.len(), 834);
+    for (place, byte) in [(335, 0x11), (336, 0x22), (421, 0x28), (771, 0x22), (772, 0)] {
+        assert_eq!(rt; bytes.get(place), Some(&byte));
+    }
+    Ok(())
+}
+
+/// The one write fails, and nothing is in the file.
+#[test]
+fn a_write_fails(rt: HostRuntime) -> Result<(), Fail> {
+    let header = header_of(PLAIN)?;
+    let mut folder = folder_of(&rt)?;
+    folder.fail(Call::Write, 1)?;
+    let mut writer = Writer::new(rt.alloc(), header.class())?;
+    assert!(rt; write(&rt, &mut writer, &header, 0, &[0x11; 300], &mut folder).is_ok());
+    assert!(rt; finish(&mut writer, &mut folder).is_err());
+    assert!(rt; folder.get("o") == Some([].as_slice()));
     Ok(())
 }
