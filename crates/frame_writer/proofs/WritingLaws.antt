@@ -1,13 +1,13 @@
 -- Laws of frames on their way to a file.
-use Rattle.std.proofs.Common.{◌≡◌, ℕ, ◌+◌, ◌≤◌, List, [], ◌∷◌, ◌++◌, length, take, refl, sym, subst, ap, ◌∙◌, append_assoc, append-nil, arith, length-append}
+use Rattle.std.proofs.Common.{◌≡◌, ℕ, List, [], ◌++◌, length, take, refl, sym, subst, ap, ◌∙◌, append_assoc, append-nil, arith, length-append}
 use Rattle.std.specs.Prelude.{Result, Ok, Err, OnOk, OnErr}
 use Rattle.std.proofs.lemmas.List.{take-append-le, append_cancel_right, nil_from_length}
-use Rattle.outside.specs.Files.{Files, appended, IsThere}
+use Rattle.outside.specs.Files.{Files, appended}
 use Rattle.outside.specs.Passed.{PassedOn, AppendedPrefix}
 use Rattle.outside.proofs.PassedLaws.{passed_with}
 use Rattle.frame_writer.specs.declared.frames.Kept.{Kept}
 use Rattle.frame_writer.specs.Frames.{Frame, Held, framed, held_bytes, AreWritten}
-use Rattle.frame_writer.specs.Writing.{Writing, waiting_bytes, HandedOn, IsWriterOf, WritesOn}
+use Rattle.frame_writer.specs.Writing.{Writing, waiting_bytes, HandedOn, WritesOn}
 
 -- ---- facts of an answer
 

@@ -1,10 +1,7 @@
 -- One frame after another, and then what the buffer holds.
-use Rattle.std.proofs.Common.{◌≡◌, List, ℕ, [], ◌++◌, length, refl, ◌∙◌, ap, sym, subst, append-nil, arith}
-use Rattle.std.proofs.lemmas.List.{nil_from_length}
+use Rattle.std.proofs.Common.{◌≡◌, List, ℕ, length, refl, ◌∙◌, ap, sym, subst, arith}
 use Rattle.outside.specs.Passed.{PassedOn}
 use Rattle.outside.proofs.PassedLaws.{on_err, passed_nothing, passed_then, passed_then_prefix, passed_then_all, passed_there}
-use Rattle.frame_writer.specs.declared.frames.Kept.{Kept}
-use Rattle.frame_writer.specs.Frames.{framed}
 use Rattle.frame_writer.specs.Writing.{Writing, waiting_bytes}
 use Rattle.frame_writer.proofs.WritingLaws.{ok-map, err-map, none-left}
 use Rattle.frame_writer.proofs.writer.Writer.finish.Goals as goal

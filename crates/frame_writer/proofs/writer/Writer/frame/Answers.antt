@@ -1,5 +1,5 @@
 -- The frame waits, and then what is settled is handed on.
-use Rattle.std.proofs.Common.{◌≡◌, List, ℕ, [], ◌∷◌, ◌++◌, sym, subst}
+use Rattle.std.proofs.Common.{[], ◌∷◌, ◌++◌, sym, subst}
 use Rattle.frame_writer.specs.Frames.{Frame}
 use Rattle.frame_writer.specs.Writing.{Writing, IsWriterOf}
 use Rattle.frame_writer.proofs.WritingLaws.{ok-both, writes-on}

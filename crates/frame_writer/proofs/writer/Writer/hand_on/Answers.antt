@@ -1,5 +1,5 @@
 -- One frame after another.
-use Rattle.std.proofs.Common.{◌≡◌, refl, subst, ◌∙◌}
+use Rattle.std.proofs.Common.{refl, subst, ◌∙◌}
 use Rattle.outside.proofs.PassedLaws.{on_err, passed_nothing, passed_then, passed_then_prefix, passed_there}
 use Rattle.frame_writer.specs.Frames.{IsNextSettled}
 use Rattle.frame_writer.specs.Writing.{Writing, waiting_bytes}

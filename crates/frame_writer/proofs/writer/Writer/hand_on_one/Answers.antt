@@ -1,5 +1,5 @@
 -- The first frame goes into the buffer, and out of it what doesn't fit.
-use Rattle.std.proofs.Common.{◌≡◌, List, ℕ, ◌++◌, length, take, sym, subst, ap}
+use Rattle.std.proofs.Common.{subst}
 use Rattle.std.specs.Prelude.{OnOk, OnErr}
 use Rattle.outside.specs.Passed.{PassedOn, AppendedPrefix}
 use Rattle.frame_writer.specs.Frames.{held_bytes}
