@@ -1,0 +1,38 @@
+-- The tag of the file is that of the block's bytes.
+use Rattle.std.proofs.Common.{◌≡◌, ◌<◌, ◌≤◌, ◌+◌, length, refl, sym, ◌∙◌, ap, arith}
+use Rattle.sync_survey.specs.Faults.{tells}
+use Rattle.file_tag.proofs.FoundTag.{tag-within}
+use Rattle.file_tag.proofs.ReadingLaws.{place-some, too_large-refused, block-tag, block-cause, ok_by, err_by}
+use Rattle.file_tag.proofs.reading.read_piece.Goals as goal
+
+pub returns-then-piece-gt-LONGEST_TAG-clause-cause : goal.returns-then-piece-gt-LONGEST_TAG-clause-cause
+returns-then-piece-gt-LONGEST_TAG-clause-cause g c =
+    let s = tells c.args.survey.now in
+    let b = c.args.piece.now in (
+      too_large-refused c.args.name.now (g.D.Folder.files c.args.folder.now) s c.requires.surveyed b c.requires.tag (omega (arith, c.if-piece-gt-LONGEST_TAG.true)),
+      sym (place-some s b c.requires.tag).1,
+      omega (arith, c.if-piece-gt-LONGEST_TAG.true),
+      refl,
+    )
+
+pub tag_at_offset-requires-clause-place : goal.tag_at_offset-requires-clause-place
+tag_at_offset-requires-clause-place g c =
+    omega (arith, tag-within (tells c.args.survey.now) c.args.piece.now c.requires.laid c.requires.tag, c.requires.laid.few, c.deref.ensures.len, c.in_ok-block.ensures.length)
+
+pub returns-clause-exact : goal.returns-clause-exact
+returns-clause-exact g c =
+    let own = c.deref.result.now in
+    let same : own ≡ c.in_ok-block.block.items = c.deref.ensures.value in
+    let long : length own ≡ c.args.piece.now.block.length = ap length same ∙ c.in_ok-block.ensures.length in
+    ok_by c.tag_at_offset.result _ _ c.tag_at_offset.ensures.tag
+    (block-tag c.args.name.now (g.D.Folder.files c.args.folder.now) (tells c.args.survey.now) c.requires.surveyed c.args.piece.now c.requires.tag own (λ bytes holds. same ∙ c.in_ok-block.ensures.bytes bytes holds) long)
+
+pub returns-clause-cause : goal.returns-clause-cause
+returns-clause-cause g c =
+    let own = c.deref.result.now in
+    let same : own ≡ c.in_ok-block.block.items = c.deref.ensures.value in
+    let long : length own ≡ c.args.piece.now.block.length = ap length same ∙ c.in_ok-block.ensures.length in
+    err_by c.tag_at_offset.result _ _ c.tag_at_offset.ensures.cause
+    (λ fault cause.
+    block-cause c.args.name.now (g.D.Folder.files c.args.folder.now) (tells c.args.survey.now) c.requires.surveyed c.args.piece.now c.requires.tag own (λ bytes holds. same ∙ c.in_ok-block.ensures.bytes bytes holds) long
+    (g.D.Folder.counts c.args.folder.now) (g.D.Folder.counts c.read_block.new.folder) fault c.in_ok-block.ensures.done cause)

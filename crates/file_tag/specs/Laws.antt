@@ -1,0 +1,56 @@
+-- Laws of the tag of a file.
+use Rattle.std.specs.Prelude.{◌≡◌, ℕ, ◌+◌, ◌-◌, List, length, take, drop, IsSome, Some, Ok}
+use Rattle.bit_fields.specs.Bits.{AreBytes}
+use Rattle.tag_blocks.specs.declared.block.Kind.TheVariants.{Ape}
+use Rattle.tag_blocks.specs.Blocks.{block_front}
+use Rattle.tag_blocks.specs.Tags.{TagFields, IsTag, tag_bytes}
+use Rattle.sync_survey.specs.Faults.{SurveyFields, surveyed, stream_of_survey}
+use Rattle.file_tag.specs.Places.{tag_block, tag_at, tag_length, IsTagBytes, with_tag, retagged}
+use Rattle.file_tag.specs.Reading.{tag_of_block, file_tag}
+
+-- a file without junk has no fault with another tag, or none, in the place of its tag, and this is its survey then
+abbrev pub RetaggedSurvey : Type 0
+RetaggedSurvey =
+    (file bytes : List ℕ) (allowed : ℕ) (s : SurveyFields) → surveyed file allowed ≡ Ok s → s.junk ≡ s.first → IsTagBytes bytes
+    → surveyed (with_tag bytes s file) allowed ≡ Ok (retagged (length bytes) s)
+
+-- and its stream is the same
+abbrev pub SameStream : Type 0
+SameStream =
+    (file bytes : List ℕ) (allowed : ℕ) (s : SurveyFields) → surveyed file allowed ≡ Ok s → s.junk ≡ s.first → IsTagBytes bytes
+    → stream_of_survey (with_tag bytes s file) (retagged (length bytes) s) ≡ stream_of_survey file s
+
+-- A file that got this block as its tag: another tag takes its place as that of the first, the tag is that of the block, and it stands
+-- where the first stood.
+pub record HasNewTag (file block : List ℕ) (s : SurveyFields) : Type 0 where
+  pub again : (other : List ℕ) → with_tag other (retagged (length block) s) (with_tag block s file) ≡ with_tag other s file
+  pub tag : file_tag (with_tag block s file) (retagged (length block) s) ≡ tag_of_block (tag_at s) block
+  pub place : tag_at (retagged (length block) s) ≡ tag_at s
+  pub size : tag_length (retagged (length block) s) ≡ length block
+
+abbrev pub TagAgain : Type 0
+TagAgain =
+    (file block : List ℕ) (allowed : ℕ) (s : SurveyFields) → surveyed file allowed ≡ Ok s → block_front block ≡ Some (record { kind = Ape; length = length block })
+    → HasNewTag file block s
+
+-- the bytes of the file where its tag stands, none where there is none
+abbrev pub own_bytes : List ℕ → SurveyFields → List ℕ
+own_bytes file s = take (tag_length s) (drop (tag_at s) file)
+
+-- The bytes of the file's own tag are such as may stand there, and in their place give the file. Where a tag stands there and is read,
+-- they are the bytes of that tag.
+pub record HasOwnTag (file : List ℕ) (s : SurveyFields) : Type 0 where
+  pub same : with_tag (own_bytes file s) s file ≡ file
+  pub are : IsTagBytes (own_bytes file s)
+  pub tag : (tag : TagFields) → AreBytes file → IsSome (tag_block s) → file_tag file s ≡ Ok tag → IsTag tag × (tag_bytes tag ≡ own_bytes file s)
+
+abbrev pub OwnTag : Type 0
+OwnTag = (file : List ℕ) (allowed : ℕ) (s : SurveyFields) → surveyed file allowed ≡ Ok s → HasOwnTag file s
+
+-- the length of the file with another tag; its bytes are bytes
+pub record AreTaggedBytes (file bytes : List ℕ) (s : SurveyFields) : Type 0 where
+  pub long : length (with_tag bytes s file) ≡ length file - tag_length s + length bytes
+  pub all : AreBytes file → AreBytes bytes → AreBytes (with_tag bytes s file)
+
+abbrev pub TaggedBytes : Type 0
+TaggedBytes = (file bytes : List ℕ) (allowed : ℕ) (s : SurveyFields) → surveyed file allowed ≡ Ok s → AreTaggedBytes file bytes s

@@ -1,0 +1,4 @@
+-- What the contracts of this crate cite.
+pub mod Places
+pub mod Reading
+pub mod Laws

@@ -1,0 +1,104 @@
+-- Where the tag of a file stands, and the file with another tag in its place.
+use Rattle.std.specs.Prelude.{◌≡◌, ◌⊎◌, ℕ, ◌+◌, ◌-◌, ◌==◌, nat_le, nat_lt, if◌then◌else◌, Bool, true, false, List, [], ◌∷◌, ◌++◌, length, take, drop, map, filter, slice_get, Option, Some, None, option_map}
+use Rattle.std.specs.List.{find}
+use Rattle.frame_header.specs.Tables.{class_of, length_of}
+use Rattle.tag_blocks.specs.declared.block.Kind.{Kind}
+use Rattle.tag_blocks.specs.declared.block.Kind.TheVariants.{Id3v2, Id3v1, Ape}
+use Rattle.tag_blocks.specs.declared.block.Block.{Block}
+use Rattle.tag_blocks.specs.Blocks.{block_front}
+use Rattle.sync_survey.specs.declared.places.Piece.{Piece}
+use Rattle.sync_survey.specs.declared.places.Head.{Head}
+use Rattle.sync_survey.specs.declared.rows.Row.{Row}
+use Rattle.sync_survey.specs.Faults.{SurveyFields}
+
+-- ---- where the tag stands
+
+-- the block is an APEv2 tag
+abbrev pub is_tag : Piece → Bool
+is_tag piece = is_ape piece.block.kind
+  where
+    is_ape : Kind → Bool
+    is_ape Id3v2 = false
+    is_ape Id3v1 = false
+    is_ape Ape = true
+
+-- the tag's block: the first APEv2 block of the file, where there is one
+abbrev pub tag_block : SurveyFields → Option Piece
+tag_block s = find is_tag s.blocks
+
+-- where a frame ends
+abbrev pub frame_end : Row → ℕ
+frame_end r = r.offset + length_of (class_of r.header) r.header.slot
+
+-- where the last of these frames ends
+abbrev pub last_end : List Row → ℕ
+last_end rows = end_of (slice_get rows (length rows - 1))
+  where
+    end_of : Option Row → ℕ
+    end_of None = 0
+    end_of (Some r) = frame_end r
+
+-- the offset of the tag, or the place for one, right behind the last frame
+abbrev pub tag_at : SurveyFields → ℕ
+tag_at s = place_of s.frames (tag_block s)
+  where
+    place_of : List Row → Option Piece → ℕ
+    place_of rows (Some b) = b.offset
+    place_of rows None = last_end rows
+
+-- its length in bytes, 0 where there is none
+abbrev pub tag_length : SurveyFields → ℕ
+tag_length s = length_in (tag_block s)
+  where
+    length_in : Option Piece → ℕ
+    length_in (Some b) = b.block.length
+    length_in None = 0
+
+-- ---- another tag
+
+-- no bytes, or those of one APEv2 block
+abbrev pub IsTagBytes : List ℕ → Type 0
+IsTagBytes bytes = (bytes ≡ []) ⊎ (block_front bytes ≡ Some (record { kind = Ape; length = length bytes }))
+
+-- the file with these bytes in the place of its tag
+unfoldable pub with_tag : List ℕ → SurveyFields → List ℕ → List ℕ
+with_tag bytes s file = take (tag_at s) file ++ (bytes ++ drop (tag_at s + tag_length s) file)
+
+-- ---- what a survey tells of that file
+
+-- where what stands at an offset of the file stands then, if the new tag has n bytes: what stood behind the tag follows the new one
+abbrev pub moved_at : ℕ → SurveyFields → ℕ → ℕ
+moved_at n s at = if nat_lt at (tag_at s) then at else at - tag_length s + n
+
+abbrev pub moved_row : ℕ → SurveyFields → Row → Row
+moved_row n s r = record r { offset = moved_at n s r.offset }
+
+abbrev pub moved_head : ℕ → SurveyFields → Head → Head
+moved_head n s head = record head { offset = moved_at n s head.offset }
+
+abbrev pub moved_piece : ℕ → SurveyFields → Piece → Piece
+moved_piece n s piece = record piece { offset = moved_at n s piece.offset }
+
+-- the block of the new tag, where it has bytes
+abbrev pub new_blocks : ℕ → SurveyFields → List Piece
+new_blocks n s = if n == 0 then [] else record { offset = tag_at s; block = record { kind = Ape; length = n } } ∷ []
+
+-- the block stands in front of the tag, or behind it
+abbrev pub stands_before : SurveyFields → Piece → Bool
+stands_before s piece = nat_lt piece.offset (tag_at s)
+
+abbrev pub stands_behind : SurveyFields → Piece → Bool
+stands_behind s piece = nat_le (tag_at s + tag_length s) piece.offset
+
+-- What a survey tells of the file where its tag has n bytes: the same frames, head and blocks, at the offsets where they then stand,
+-- and the new block among the others where the old one stood.
+unfoldable pub retagged : ℕ → SurveyFields → SurveyFields
+retagged n s = record {
+  frames = map (moved_row n s) s.frames;
+  blocks = filter (stands_before s) s.blocks ++ (new_blocks n s ++ map (moved_piece n s) (filter (stands_behind s) s.blocks));
+  head = option_map (moved_head n s) s.head;
+  junk = moved_at n s s.junk;
+  first = moved_at n s s.first;
+  class = s.class;
+  length = s.length - tag_length s + n;
+}

@@ -1,0 +1,28 @@
+//! Why the tag of a file isn't read.
+ghost use Rattle.std.specs.Prelude.{◌≡◌};
+ghost use Rattle.file_tag.specs.declared.fault.FileTagFault.TheVariants.{Memory};
+
+use std::alloc::AllocError;
+
+/// Why the tag of a file isn't read. Lengths and offsets are in bytes.
+#[derive(Clone, Copy, Debug, PartialEq, Eq)]
+pub enum FileTagFault {
+    /// The tag's block is longer than 1,048,576 bytes: its length.
+    TooLarge(u64),
+    /// The tag's block isn't an APEv2 tag: the offset in the file of its first fault.
+    Bad(u64),
+    /// The file could not be read.
+    Read,
+    /// The file was of the first length when it was found, and ended at the second when it was read.
+    Shrunk(u64, u64),
+    /// There was no memory left.
+    Memory,
+}
+
+impl From<AllocError> for FileTagFault {
+    ghost from_gives = { λ _ fault. fault ≡ Memory };
+
+    fn from(_: AllocError) -> FileTagFault {
+        FileTagFault::Memory
+    }
+}

@@ -1,0 +1,131 @@
+//! The tag of a file, read.
+ghost use Rattle.std.specs.Prelude.{◌≡◌, ℕ, ◌+◌, ◌^◌, ◌≤◌, List, length, take, drop, Some, Ok, None, IfOk, IfErr, OnOk};
+ghost use Rattle.outside.specs.Files.{Holds, IsThere};
+ghost use Rattle.outside.specs.Counts.{OnlyReads};
+ghost use Rattle.sync_survey.specs.Faults.{tells};
+ghost use Rattle.sync_survey.specs.Survey.{IsLaidOut};
+ghost use Rattle.tag_blocks.specs.declared.block.Kind.TheVariants.{Ape};
+ghost use Rattle.tag_blocks.specs.Blocks.{block_front};
+ghost use Rattle.file_tag.specs.Places.{tag_block};
+ghost use Rattle.file_tag.specs.Reading.{empty_tag, longest_tag, tag_of_block, file_tag, IsSurveyOf, IsTagCause, IsBlockCause};
+
+use crate::fault::FileTagFault;
+use crate::places::first_tag;
+use outside::{Folder, read_full};
+use std::alloc::Global;
+use sync_survey::{Piece, Survey};
+use tag_blocks::{Kind, Tag, TagFault, block_at};
+
+/// A tag that is read has at most so many bytes.
+const LONGEST_TAG: u64 = 1_048_576;
+
+/// The bytes of the block of the file's tag.
+fn read_block<D: Folder>(
+    alloc: Global,
+    folder: &mut D,
+    name: &str,
+    survey: &Survey,
+    piece: &Piece,
+) -> Result<Vec<u8>, FileTagFault>
+    requires there { IsThere (D.files folder.old) name.now }
+    requires laid { IsLaidOut (tells survey.now) }
+    requires surveyed { (bytes : List ℕ) → Holds (D.files folder.old) name.now bytes → IsSurveyOf bytes (tells survey.now) }
+    requires tag { tag_block (tells survey.now) ≡ Some piece.now }
+    requires few { piece.now.block.length ≤ longest_tag }
+    ensures length { IfOk result (λ block. length block.items ≡ piece.now.block.length) }
+    ensures bytes { IfOk result (λ block. (bytes : List ℕ) → Holds (D.files folder.old) name.now bytes → block.items ≡ take piece.now.block.length (drop piece.now.offset bytes)) }
+    ensures done { OnOk result (D.counts folder.new ≡ D.counts folder.old) }
+    ensures cause { IfErr result (IsTagCause name.now (D.files folder.old) (tells survey.now) (D.counts folder.old) (D.counts folder.new)) }
+    ensures files { D.files folder.new ≡ D.files folder.old }
+    ensures counts { OnlyReads (D.counts folder.old) (D.counts folder.new) }
+{
+    let mut block = vec![in alloc; 0; piece.block.length as usize]?;
+    match read_full(folder, name, piece.offset, &mut block) {
+        Ok(got) if got < block.len() => Err(FileTagFault::Shrunk(
+            survey.length(),
+            piece.offset + got as u64,
+        )),
+        Ok(_) => Ok(block),
+        Err(_) => Err(FileTagFault::Read),
+    }
+}
+
+/// The tag of a block at this offset of a file. It takes no more than the bytes, so that bytes which aren't such a
+/// block are refused too: with the offset.
+fn tag_at_offset(alloc: Global, offset: u64, block: &[u8]) -> Result<Tag, FileTagFault>
+    requires few { length block.now ≤ longest_tag }
+    requires place { offset + length block.now ≤ 2 ^ 62 }
+    ensures tag { IfOk result (λ tag. block_front block.now ≡ Some (record { kind = Ape; length = length block.now }) → tag_of_block offset block.now ≡ Ok tag) }
+    ensures cause { IfErr result (IsBlockCause offset block.now) }
+{
+    match block_at(block) {
+        Some(front) if matches!(front.kind, Kind::Ape) && front.length == block.len() as u64 => {
+            match Tag::read(alloc, block) {
+                Ok(tag) => Ok(tag),
+                Err(TagFault::BadTag(place)) => Err(FileTagFault::Bad(offset + place)),
+                Err(TagFault::Memory) => Err(FileTagFault::Memory),
+            }
+        }
+        _ => Err(FileTagFault::Bad(offset)),
+    }
+}
+
+/// The tag of the block, which stands in the file.
+fn read_piece<D: Folder>(
+    alloc: Global,
+    folder: &mut D,
+    name: &str,
+    survey: &Survey,
+    piece: &Piece,
+) -> Result<Tag, FileTagFault>
+    requires there { IsThere (D.files folder.old) name.now }
+    requires laid { IsLaidOut (tells survey.now) }
+    requires surveyed { (bytes : List ℕ) → Holds (D.files folder.old) name.now bytes → IsSurveyOf bytes (tells survey.now) }
+    requires tag { tag_block (tells survey.now) ≡ Some piece.now }
+    ensures exact { IfOk result (λ tag. (bytes : List ℕ) → Holds (D.files folder.old) name.now bytes → file_tag bytes (tells survey.now) ≡ Ok tag) }
+    ensures done { OnOk result (D.counts folder.new ≡ D.counts folder.old) }
+    ensures cause { IfErr result (IsTagCause name.now (D.files folder.old) (tells survey.now) (D.counts folder.old) (D.counts folder.new)) }
+    ensures files { D.files folder.new ≡ D.files folder.old }
+    ensures counts { OnlyReads (D.counts folder.old) (D.counts folder.new) }
+{
+    if piece.block.length > LONGEST_TAG {
+        return Err(FileTagFault::TooLarge(piece.block.length));
+    }
+    let block = read_block(alloc, folder, name, survey, piece)?;
+    tag_at_offset(alloc, piece.offset, &block)
+}
+
+/// The tag of a file: what `Tag::read` gives of its first APEv2 block, and `Tag::new` where there is none. The file is
+/// there, and the survey is its own. The files stay.
+///
+/// # Errors
+/// In this order, and none where the file has no tag:
+/// - `TooLarge` with the length of the block, before any byte is read, where it is longer than 1,048,576 bytes;
+/// - `Memory` where there is no memory, here or later;
+/// - `Read` where a call failed;
+/// - `Shrunk` with the survey's length and the offset where a read gave no byte, before the end of the block. It comes
+///   only where the folder doesn't tell its files;
+/// - `Bad` with the offset in the file of the first fault that `Tag::read` has, and, where the folder doesn't tell its
+///   files, with that of the block where no such block stands there any more.
+pub fn read_tag<D: Folder>(
+    alloc: Global,
+    folder: &mut D,
+    name: &str,
+    survey: &Survey,
+) -> Result<Tag, FileTagFault>
+    requires there { IsThere (D.files folder.old) name.now }
+    requires laid { IsLaidOut (tells survey.now) }
+    requires surveyed { (bytes : List ℕ) → Holds (D.files folder.old) name.now bytes → IsSurveyOf bytes (tells survey.now) }
+    ensures exact { IfOk result (λ tag. (bytes : List ℕ) → Holds (D.files folder.old) name.now bytes → file_tag bytes (tells survey.now) ≡ Ok tag) }
+    // Whether the files are told or not.
+    ensures none { tag_block (tells survey.now) ≡ None → result ≡ Ok empty_tag }
+    ensures done { OnOk result (D.counts folder.new ≡ D.counts folder.old) }
+    ensures cause { IfErr result (IsTagCause name.now (D.files folder.old) (tells survey.now) (D.counts folder.old) (D.counts folder.new)) }
+    ensures files { D.files folder.new ≡ D.files folder.old }
+    ensures counts { OnlyReads (D.counts folder.old) (D.counts folder.new) }
+{
+    match first_tag(survey) {
+        Some(piece) => read_piece(alloc, folder, name, survey, &piece),
+        None => Ok(Tag::new(alloc)),
+    }
+}
