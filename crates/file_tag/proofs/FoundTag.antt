@@ -1,5 +1,5 @@
 -- The tag's block that a survey tells: it is an APEv2 block, within the file, and stands there.
-use Rattle.std.proofs.Common.{suc, ◌≡◌, ℕ, ◌+◌, ◌-◌, ◌<◌, ◌≤◌, Bool, true, false, cond, ltb, List, [], ◌∷◌, ◌++◌, length, take, drop, Option, Some, None, Result, Ok, Err, refl, sym, ◌∙◌, ap, subst, arith, length-drop}
+use Rattle.std.proofs.Common.{suc, ◌≡◌, ℕ, ◌+◌, ◌-◌, ◌≤◌, Bool, true, false, cond, List, [], ◌∷◌, length, take, drop, Option, Some, None, Ok, Err, refl, sym, ◌∙◌, ap, subst, arith, length-drop}
 use Rattle.std.specs.List.{find, cons_option}
 use Rattle.std.specs.Option.{option_or}
 use Rattle.std.proofs.lemmas.Bool.{false≢true}
@@ -24,8 +24,8 @@ use Rattle.sync_survey.specs.Faults.{SurveyFields, surveyed, longest_file}
 use Rattle.sync_survey.specs.Survey.{survey_of, AreLaid, BlocksAreLaid, IsLaidOut}
 use Rattle.sync_survey.proofs.ItemsLaws.{stands}
 use Rattle.sync_survey.proofs.RunsLaws.{item_of-is, run-ends}
-use Rattle.sync_survey.proofs.ItemBytes.{IsItem, kept_item}
-use Rattle.sync_survey.proofs.SurveyParts.{told_from, surveyed-parts}
+use Rattle.sync_survey.proofs.ItemBytes.{kept_item}
+use Rattle.sync_survey.proofs.SurveyParts.{surveyed-parts}
 use Rattle.file_tag.specs.Places.{is_tag, tag_block, frame_end, last_end}
 
 -- ---- the first of several blocks
@@ -141,12 +141,12 @@ surveyed-length file allowed s e = let parts = surveyed-parts file allowed s e i
 
 -- ---- the end of the last frame
 
-last_more : (r q : Row) (rows : List Row) → last_end (r ∷ q ∷ rows) ≡ last_end (q ∷ rows)
+pub last_more : (r q : Row) (rows : List Row) → last_end (r ∷ q ∷ rows) ≡ last_end (q ∷ rows)
 last_more r q rows =
     let m : length (r ∷ q ∷ rows) - 1 ≡ suc (length (q ∷ rows) - 1) = omega arith in
     rw m refl
 
-last_one : (r : Row) → last_end (r ∷ []) ≡ frame_end r
+pub last_one : (r : Row) → last_end (r ∷ []) ≡ frame_end r
 last_one r = refl
 
 last_laid : (from : ℕ) (rows : List Row) (to : ℕ) → AreLaid from rows to → last_end rows ≤ to

@@ -1,21 +1,20 @@
 -- The tag of a file, from the bytes of its block.
-use Rattle.std.proofs.Common.{◌≡◌, ◌≢◌, ℕ, ◌+◌, ◌-◌, ◌<◌, ◌≤◌, Bool, true, false, cond, ltb, List, length, take, drop, Option, Some, None, Result, Ok, Err, refl, sym, ◌∙◌, ap, subst, arith}
+use Rattle.std.proofs.Common.{◌≡◌, ℕ, ◌+◌, ◌-◌, ◌<◌, ◌≤◌, true, ltb, List, length, take, drop, Some, None, Result, Ok, Err, refl, sym, ◌∙◌, ap, subst, arith}
 use Rattle.std.specs.Prelude.{IfOk, IfErr}
 use Rattle.std.proofs.lemmas.Bool.{lt-ltb}
 use Rattle.tag_blocks.specs.declared.block.Kind.TheVariants.{Ape}
 use Rattle.tag_blocks.specs.Blocks.{block_front}
-use Rattle.tag_blocks.specs.Tags.{TagFields, tag_of}
+use Rattle.tag_blocks.specs.Tags.{TagFields}
 use Rattle.outside.specs.Files.{Files, untold, Holds, IsThere}
 use Rattle.outside.specs.Counts.{Counts}
 use Rattle.sync_survey.specs.declared.places.Piece.{Piece}
 use Rattle.sync_survey.specs.Faults.{SurveyFields}
-use Rattle.sync_survey.specs.Survey.{IsLaidOut}
 use Rattle.sync_survey.proofs.FoldersLaws.{nothing_told}
 use Rattle.file_tag.specs.declared.fault.FileTagFault.{FileTagFault}
 use Rattle.file_tag.specs.declared.fault.FileTagFault.TheVariants.{TooLarge, Bad, Read, Shrunk, Memory}
 use Rattle.file_tag.specs.Places.{tag_block, tag_at, tag_length}
 use Rattle.file_tag.specs.Reading.{longest_tag, empty_tag, tag_of_block, file_tag, IsSurveyOf, RefusesTag, IsTagCause, IsBlockCause}
-use Rattle.file_tag.proofs.FoundTag.{IsTagThere, tag-within, tag-there, survey_of-surveyed, surveyed-length}
+use Rattle.file_tag.proofs.FoundTag.{IsTagThere, tag-there, survey_of-surveyed, surveyed-length}
 
 -- ---- the tag of a file
 

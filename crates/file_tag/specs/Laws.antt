@@ -1,9 +1,10 @@
 -- Laws of the tag of a file.
-use Rattle.std.specs.Prelude.{◌≡◌, ℕ, ◌+◌, ◌-◌, List, length, take, drop, IsSome, Some, Ok}
+use Rattle.std.specs.Prelude.{◌≡◌, ℕ, ◌+◌, ◌-◌, List, length, take, drop, Some, Ok}
 use Rattle.bit_fields.specs.Bits.{AreBytes}
 use Rattle.tag_blocks.specs.declared.block.Kind.TheVariants.{Ape}
 use Rattle.tag_blocks.specs.Blocks.{block_front}
 use Rattle.tag_blocks.specs.Tags.{TagFields, IsTag, tag_bytes}
+use Rattle.sync_survey.specs.declared.places.Piece.{Piece}
 use Rattle.sync_survey.specs.Faults.{SurveyFields, surveyed, stream_of_survey}
 use Rattle.file_tag.specs.Places.{tag_block, tag_at, tag_length, IsTagBytes, with_tag, retagged}
 use Rattle.file_tag.specs.Reading.{tag_of_block, file_tag}
@@ -30,7 +31,7 @@ pub record HasNewTag (file block : List ℕ) (s : SurveyFields) : Type 0 where
 
 abbrev pub TagAgain : Type 0
 TagAgain =
-    (file block : List ℕ) (allowed : ℕ) (s : SurveyFields) → surveyed file allowed ≡ Ok s → block_front block ≡ Some (record { kind = Ape; length = length block })
+    (file block : List ℕ) (allowed : ℕ) (s : SurveyFields) → surveyed file allowed ≡ Ok s → s.junk ≡ s.first → block_front block ≡ Some (record { kind = Ape; length = length block })
     → HasNewTag file block s
 
 -- the bytes of the file where its tag stands, none where there is none
@@ -42,7 +43,7 @@ own_bytes file s = take (tag_length s) (drop (tag_at s) file)
 pub record HasOwnTag (file : List ℕ) (s : SurveyFields) : Type 0 where
   pub same : with_tag (own_bytes file s) s file ≡ file
   pub are : IsTagBytes (own_bytes file s)
-  pub tag : (tag : TagFields) → AreBytes file → IsSome (tag_block s) → file_tag file s ≡ Ok tag → IsTag tag × (tag_bytes tag ≡ own_bytes file s)
+  pub tag : (tag : TagFields) (b : Piece) → AreBytes file → tag_block s ≡ Some b → file_tag file s ≡ Ok tag → IsTag tag × (tag_bytes tag ≡ own_bytes file s)
 
 abbrev pub OwnTag : Type 0
 OwnTag = (file : List ℕ) (allowed : ℕ) (s : SurveyFields) → surveyed file allowed ≡ Ok s → HasOwnTag file s
@@ -53,4 +54,4 @@ pub record AreTaggedBytes (file bytes : List ℕ) (s : SurveyFields) : Type 0 wh
   pub all : AreBytes file → AreBytes bytes → AreBytes (with_tag bytes s file)
 
 abbrev pub TaggedBytes : Type 0
-TaggedBytes = (file bytes : List ℕ) (allowed : ℕ) (s : SurveyFields) → surveyed file allowed ≡ Ok s → AreTaggedBytes file bytes s
+TaggedBytes = (file bytes : List ℕ) (allowed : ℕ) (s : SurveyFields) → surveyed file allowed ≡ Ok s → s.junk ≡ s.first → AreTaggedBytes file bytes s

@@ -4,7 +4,6 @@ use Rattle.std.specs.List.{find}
 use Rattle.frame_header.specs.Tables.{class_of, length_of}
 use Rattle.tag_blocks.specs.declared.block.Kind.{Kind}
 use Rattle.tag_blocks.specs.declared.block.Kind.TheVariants.{Id3v2, Id3v1, Ape}
-use Rattle.tag_blocks.specs.declared.block.Block.{Block}
 use Rattle.tag_blocks.specs.Blocks.{block_front}
 use Rattle.sync_survey.specs.declared.places.Piece.{Piece}
 use Rattle.sync_survey.specs.declared.places.Head.{Head}

@@ -22,14 +22,15 @@ longest_tag = 1048576
 abbrev pub empty_tag : TagFields
 empty_tag = record { header_flags = 0xa0000000; footer_flags = 0x80000000; items = [] }
 
--- the tag of a block that stands at an offset of a file, or why it isn't read: it is too long, or else at fault at an offset of the file
+-- the same tag, or the fault by its offset in the file where the block stands
+abbrev pub in_file : ℕ → Result TagFields TagFault → Result TagFields FileTagFault
+in_file at (Ok tag) = Ok tag
+in_file at (Err (BadTag inside)) = Err (Bad (at + inside))
+in_file at (Err NoMemory) = Err Memory
+
+-- the tag of a block that stands at an offset of a file, or why it isn't read: it is too long, or else at fault
 abbrev pub tag_of_block : ℕ → List ℕ → Result TagFields FileTagFault
-tag_of_block at block = if nat_lt longest_tag (length block) then Err (TooLarge (length block)) else in_file (tag_of block)
-  where
-    in_file : Result TagFields TagFault → Result TagFields FileTagFault
-    in_file (Ok tag) = Ok tag
-    in_file (Err (BadTag place)) = Err (Bad (at + place))
-    in_file (Err NoMemory) = Err Memory
+tag_of_block at block = if nat_lt longest_tag (length block) then Err (TooLarge (length block)) else in_file at (tag_of block)
 
 -- the tag of a file
 unfoldable pub file_tag : List ℕ → SurveyFields → Result TagFields FileTagFault

@@ -3,9 +3,11 @@
 #![tactic(auto)]
 
 mod fault;
+mod laws;
 mod places;
 mod reading;
 
 pub use fault::FileTagFault;
+pub use laws::{own_tag, retagged_survey, same_stream, tag_again, tagged_bytes};
 pub use places::{TagPlace, first_tag, tag_place};
 pub use reading::read_tag;

@@ -1,5 +1,5 @@
 -- The block is within the file, and where the files are told all of it comes.
-use Rattle.std.proofs.Common.{◌≡◌, ◌<◌, ◌≤◌, ◌+◌, length, refl, arith}
+use Rattle.std.proofs.Common.{◌<◌, length, arith}
 use Rattle.sync_survey.specs.Faults.{tells}
 use Rattle.file_tag.proofs.FoundTag.{tag-within}
 use Rattle.file_tag.proofs.ReadingLaws.{short-untold}

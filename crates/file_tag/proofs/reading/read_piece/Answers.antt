@@ -1,5 +1,5 @@
 -- The tag of the file is that of the block's bytes.
-use Rattle.std.proofs.Common.{◌≡◌, ◌<◌, ◌≤◌, ◌+◌, length, refl, sym, ◌∙◌, ap, arith}
+use Rattle.std.proofs.Common.{◌≡◌, length, refl, sym, ◌∙◌, ap, arith}
 use Rattle.sync_survey.specs.Faults.{tells}
 use Rattle.file_tag.proofs.FoundTag.{tag-within}
 use Rattle.file_tag.proofs.ReadingLaws.{place-some, too_large-refused, block-tag, block-cause, ok_by, err_by}

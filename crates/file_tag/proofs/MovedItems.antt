@@ -1,0 +1,145 @@
+-- Items of a file that stand in another one, each at an offset that its own decides.
+use Rattle.std.proofs.Common.{◌≡◌, ℕ, ◌+◌, ◌-◌, ◌<◌, ◌≤◌, List, [], ◌∷◌, ◌++◌, length, take, drop, map, Some, refl, sym, ◌∙◌, ap, subst, arith, length-drop}
+use Rattle.std.specs.List.{cons_option}
+use Rattle.std.proofs.lemmas.List.{length-take, take-append-drop}
+use Rattle.frame_header.specs.Fields.{IsHeader}
+use Rattle.sync_survey.specs.declared.items.Item.{Item}
+use Rattle.sync_survey.specs.declared.items.Item.TheVariants.{Frame, Free, Block, Zero, End, Nothing}
+use Rattle.sync_survey.specs.declared.places.PlacedFrame.{PlacedFrame}
+use Rattle.sync_survey.specs.declared.places.Piece.{Piece}
+use Rattle.sync_survey.specs.declared.runs.Part.{Part}
+use Rattle.sync_survey.specs.declared.runs.Part.TheVariants.{Stream}
+use Rattle.sync_survey.specs.Items.{item_front, item_at, size_of}
+use Rattle.sync_survey.specs.Runs.{Placed, item_of, AreEndToEnd, frame_as, block_as, frames_of, blocks_of}
+use Rattle.sync_survey.specs.Walk.{frame_bytes}
+use Rattle.sync_survey.proofs.ItemsLaws.{stands-at, header_front-in_range}
+use Rattle.sync_survey.proofs.RunsLaws.{item_of-is, item_of-whole}
+use Rattle.sync_survey.proofs.ItemBytes.{IsItem, kept_item}
+
+-- ---- one item
+
+there : (own at : ℕ) (item : Item) (file : List ℕ) (bytes : List ℕ) → IsItem item bytes → take own (drop at file) ≡ bytes → item_at file at ≡ item
+unfolding item_at
+there own at item file bytes is same =
+    ap item_front (sym (take-append-drop own (drop at file)) ∙ ap (λ l. l ++ drop own (drop at file)) same) ∙ is.known (drop own (drop at file))
+
+-- a whole item stands where its bytes stand
+pub item-moved : (file new : List ℕ) (at place : ℕ) (item : Item) → item_of Stream file at ≡ Some item → take (size_of item) (drop place new) ≡ take (size_of item) (drop at file) → item_of Stream new place ≡ Some item
+item-moved file new at place item is same =
+    let here = item_of-is Stream file at item is in
+    let size = size_of item in
+    let own = take size (drop at file) in
+    let kept : IsItem item own = kept_item file at item here.is here.belongs here.within in
+    item_of-whole Stream new place item (there size place item new own kept same) here.belongs
+    (omega (arith, ap length same, kept.size, here.some, length-take size (drop place new), length-drop place new))
+
+-- ---- several
+
+abbrev pub placed_by : (ℕ → ℕ) → Placed → Placed
+placed_by to p = record p { offset = to p.offset }
+
+abbrev pub frame_by : (ℕ → ℕ) → PlacedFrame → PlacedFrame
+frame_by to p = record p { offset = to p.offset }
+
+abbrev pub piece_by : (ℕ → ℕ) → Piece → Piece
+piece_by to p = record p { offset = to p.offset }
+
+-- the bytes of the file between two offsets stand in the other one, where their offsets then are
+pub record IsMovedTo (to : ℕ → ℕ) (file new : List ℕ) (from end at : ℕ) : Type 0 where
+  pub place : (x : ℕ) → from ≤ x → x < end → to x ≡ at + (x - from)
+  pub same : (x k : ℕ) → from ≤ x → x < end → x + k ≤ end → take k (drop (to x) new) ≡ take k (drop x file)
+
+module _ (to : ℕ → ℕ) (file new : List ℕ) where
+  -- so far behind the first offset
+  behind : (from end at size : ℕ) → IsMovedTo to file new from end at → IsMovedTo to file new (from + size) end (at + size)
+  behind from end at size moved = record {
+    place = λ x low high. omega (arith, moved.place x (omega (arith, low)) high, low);
+    same = λ x k low high within. moved.same x k (omega (arith, low)) high within;
+  }
+
+  rises : (from : ℕ) (ps : List Placed) (end : ℕ) → AreEndToEnd Stream file from ps end → from ≤ end
+  rises from [] end ends = omega (arith, ends)
+  rises from (p ∷ ps) end ends = omega (arith, ends.0, rises (p.offset + size_of p.item) ps end ends.2)
+
+  -- items end to end stand so there
+  pub ends-moved : (from : ℕ) (ps : List Placed) (end at : ℕ) → AreEndToEnd Stream file from ps end → IsMovedTo to file new from end at → AreEndToEnd Stream new at (map (placed_by to) ps) (at + (end - from))
+  ends-moved from [] end at ends moved = omega (arith, ends)
+  ends-moved from (p ∷ ps) end at ends moved =
+      let size = size_of p.item in
+      let some = (item_of-is Stream file p.offset p.item ends.1).some in
+      let rise = rises (p.offset + size) ps end ends.2 in
+      let high : p.offset < end = omega (arith, some, rise) in
+      let place : to p.offset ≡ at = omega (arith, moved.place p.offset (omega (arith, ends.0)) high, ends.0) in
+      let here = item-moved file new p.offset (to p.offset) p.item ends.1 (moved.same p.offset size (omega (arith, ends.0)) high rise) in
+      let next : IsMovedTo to file new (p.offset + size) end (at + size) = subst (λ n. IsMovedTo to file new (n + size) end (at + size)) (sym ends.0) (behind from end at size moved) in
+      let last : (at + size) + (end - (p.offset + size)) ≡ at + (end - from) = omega (arith, ends.0, rise) in (
+        place,
+        here,
+        subst (λ n. AreEndToEnd Stream new (to p.offset + size) (map (placed_by to) ps) n) last
+            (subst (λ n. AreEndToEnd Stream new (n + size) (map (placed_by to) ps) ((at + size) + (end - (p.offset + size)))) (sym place) (ends-moved (p.offset + size) ps end (at + size) ends.2 next)),
+      )
+
+  -- the bytes of a frame are the same there
+  pub record IsKept (p : PlacedFrame) : Type 0 where
+    pub header : IsHeader p.header
+    pub bytes : frame_bytes new (frame_by to p) ≡ frame_bytes file p
+
+  abbrev pub AreKept : List PlacedFrame → Type 0
+  AreKept [] = Unit {0}
+  AreKept (p ∷ ps) = IsKept p × AreKept ps
+
+  pub kept-append : (ps qs : List PlacedFrame) → AreKept ps → AreKept qs → AreKept (ps ++ qs)
+  kept-append [] qs kept more = more
+  kept-append (p ∷ ps) qs kept more = (kept.0, kept-append ps qs kept.1 more)
+
+  kept_more : (at : ℕ) (item : Item) (frames : List PlacedFrame) → item_of Stream file at ≡ Some item → take (size_of item) (drop (to at) new) ≡ take (size_of item) (drop at file) → AreKept frames → AreKept (cons_option (frame_as at item) frames)
+  kept_more at (Frame h) frames is same kept =
+      let here = item_of-is Stream file at (Frame h) is in
+      (record { header = header_front-in_range (drop at file) h (stands-at file at (Frame h) here.is); bytes = same }, kept)
+  kept_more at Free frames is same kept = kept
+  kept_more at (Block b) frames is same kept = kept
+  kept_more at Zero frames is same kept = kept
+  kept_more at End frames is same kept = kept
+  kept_more at Nothing frames is same kept = kept
+
+  pub frames-kept : (from : ℕ) (ps : List Placed) (end at : ℕ) → AreEndToEnd Stream file from ps end → IsMovedTo to file new from end at → AreKept (frames_of ps)
+  frames-kept from [] end at ends moved = tt
+  frames-kept from (p ∷ ps) end at ends moved =
+      let size = size_of p.item in
+      let some = (item_of-is Stream file p.offset p.item ends.1).some in
+      let rise = rises (p.offset + size) ps end ends.2 in
+      let high : p.offset < end = omega (arith, some, rise) in
+      let next : IsMovedTo to file new (p.offset + size) end (at + size) = subst (λ n. IsMovedTo to file new (n + size) end (at + size)) (sym ends.0) (behind from end at size moved) in
+      kept_more p.offset p.item (frames_of ps) ends.1 (moved.same p.offset size (omega (arith, ends.0)) high rise) (frames-kept (p.offset + size) ps end (at + size) ends.2 next)
+
+-- ---- frames and blocks among them
+
+frame_more : (to : ℕ → ℕ) (at : ℕ) (item : Item) (xs ys : List PlacedFrame) → xs ≡ map (frame_by to) ys → cons_option (frame_as (to at) item) xs ≡ map (frame_by to) (cons_option (frame_as at item) ys)
+frame_more to at (Frame h) xs ys same = ap (λ l. record { offset = to at; header = h } ∷ l) same
+frame_more to at Free xs ys same = same
+frame_more to at (Block b) xs ys same = same
+frame_more to at Zero xs ys same = same
+frame_more to at End xs ys same = same
+frame_more to at Nothing xs ys same = same
+
+pub frames-by : (to : ℕ → ℕ) (ps : List Placed) → frames_of (map (placed_by to) ps) ≡ map (frame_by to) (frames_of ps)
+frames-by to [] = refl
+frames-by to (p ∷ ps) = frame_more to p.offset p.item (frames_of (map (placed_by to) ps)) (frames_of ps) (frames-by to ps)
+
+block_more : (to : ℕ → ℕ) (at : ℕ) (item : Item) (xs ys : List Piece) → xs ≡ map (piece_by to) ys → cons_option (block_as (to at) item) xs ≡ map (piece_by to) (cons_option (block_as at item) ys)
+block_more to at (Frame h) xs ys same = same
+block_more to at Free xs ys same = same
+block_more to at (Block b) xs ys same = ap (λ l. record { offset = to at; block = b } ∷ l) same
+block_more to at Zero xs ys same = same
+block_more to at End xs ys same = same
+block_more to at Nothing xs ys same = same
+
+pub blocks-by : (to : ℕ → ℕ) (ps : List Placed) → blocks_of (map (placed_by to) ps) ≡ map (piece_by to) (blocks_of ps)
+blocks-by to [] = refl
+blocks-by to (p ∷ ps) = block_more to p.offset p.item (blocks_of (map (placed_by to) ps)) (blocks_of ps) (blocks-by to ps)
+
+-- ---- one list behind another
+
+pub ends-append : (part : Part) (file : List ℕ) (from : ℕ) (ps : List Placed) (mid : ℕ) (qs : List Placed) (end : ℕ) → AreEndToEnd part file from ps mid → AreEndToEnd part file mid qs end → AreEndToEnd part file from (ps ++ qs) end
+ends-append part file from [] mid qs end ends more = subst (λ n. AreEndToEnd part file n qs end) (sym ends) more
+ends-append part file from (p ∷ ps) mid qs end ends more = (ends.0, ends.1, ends-append part file (p.offset + size_of p.item) ps mid qs end ends.2 more)

@@ -1,0 +1,6 @@
+-- The bytes of the file are those before the tag, its own, and those behind it.
+use Rattle.file_tag.proofs.NewTag.{own-tag}
+use Rattle.file_tag.proofs.laws.own_tag.Goals as goal
+
+pub returns : goal.returns
+returns c = own-tag

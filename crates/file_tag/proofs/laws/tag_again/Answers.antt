@@ -1,0 +1,6 @@
+-- The new tag is the first of its kind, where the old one stood.
+use Rattle.file_tag.proofs.NewTag.{tagged-again}
+use Rattle.file_tag.proofs.laws.tag_again.Goals as goal
+
+pub returns : goal.returns
+returns c = tagged-again
