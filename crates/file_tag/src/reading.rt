@@ -1,12 +1,12 @@
 //! The tag of a file, read.
-ghost use Rattle.std.specs.Prelude.{◌≡◌, ℕ, ◌+◌, ◌^◌, ◌≤◌, List, length, take, drop, Some, Ok, None, IfOk, IfErr, OnOk};
+ghost use Rattle.std.specs.Prelude.{◌≡◌, ℕ, ◌+◌, ◌^◌, ◌≤◌, ◌<◌, List, length, take, drop, Some, None, Ok, Err, IfOk, IfErr, OnOk};
 ghost use Rattle.outside.specs.Files.{Holds, IsThere};
 ghost use Rattle.outside.specs.Counts.{OnlyReads};
 ghost use Rattle.sync_survey.specs.Faults.{tells};
 ghost use Rattle.sync_survey.specs.Survey.{IsLaidOut};
 ghost use Rattle.tag_blocks.specs.declared.block.Kind.TheVariants.{Ape};
 ghost use Rattle.tag_blocks.specs.Blocks.{block_front};
-ghost use Rattle.file_tag.specs.Places.{tag_block};
+ghost use Rattle.file_tag.specs.Places.{tag_block, tag_length};
 ghost use Rattle.file_tag.specs.Reading.{empty_tag, longest_tag, tag_of_block, file_tag, IsSurveyOf, IsTagCause, IsBlockCause};
 
 use crate::fault::FileTagFault;
@@ -50,8 +50,8 @@ fn read_block<D: Folder>(
     }
 }
 
-/// The tag of a block at this offset of a file. It takes no more than the bytes, so that bytes which aren't such a
-/// block are refused too: with the offset.
+/// The tag of a block at this offset of a file. Bytes that aren't an APEv2 block of exactly their length are refused too,
+/// with the offset: a file that changed since its survey may hold any.
 fn tag_at_offset(alloc: Global, offset: u64, block: &[u8]) -> Result<Tag, FileTagFault>
     requires few { length block.now ≤ longest_tag }
     requires place { offset + length block.now ≤ 2 ^ 62 }
@@ -83,6 +83,7 @@ fn read_piece<D: Folder>(
     requires surveyed { (bytes : List ℕ) → Holds (D.files folder.old) name.now bytes → IsSurveyOf bytes (tells survey.now) }
     requires tag { tag_block (tells survey.now) ≡ Some piece.now }
     ensures exact { IfOk result (λ tag. (bytes : List ℕ) → Holds (D.files folder.old) name.now bytes → file_tag bytes (tells survey.now) ≡ Ok tag) }
+    ensures large { longest_tag < piece.now.block.length → result ≡ Err (FileTagFault.TooLarge piece.now.block.length) }
     ensures done { OnOk result (D.counts folder.new ≡ D.counts folder.old) }
     ensures cause { IfErr result (IsTagCause name.now (D.files folder.old) (tells survey.now) (D.counts folder.old) (D.counts folder.new)) }
     ensures files { D.files folder.new ≡ D.files folder.old }
@@ -101,12 +102,13 @@ fn read_piece<D: Folder>(
 /// # Errors
 /// In this order, and none where the file has no tag:
 /// - `TooLarge` with the length of the block, before any byte is read, where it is longer than 1,048,576 bytes;
-/// - `Memory` where there is no memory, here or later;
+/// - `Memory` where there is no memory for the block's bytes;
 /// - `Read` where a call failed;
 /// - `Shrunk` with the survey's length and the offset where a read gave no byte, before the end of the block. It comes
 ///   only where the folder doesn't tell its files;
 /// - `Bad` with the offset in the file of the first fault that `Tag::read` has, and, where the folder doesn't tell its
-///   files, with that of the block where no such block stands there any more.
+///   files, with that of the block where no such block stands there any more;
+/// - `Memory` where there is no memory for the tag's items.
 pub fn read_tag<D: Folder>(
     alloc: Global,
     folder: &mut D,
@@ -119,6 +121,7 @@ pub fn read_tag<D: Folder>(
     ensures exact { IfOk result (λ tag. (bytes : List ℕ) → Holds (D.files folder.old) name.now bytes → file_tag bytes (tells survey.now) ≡ Ok tag) }
     // Whether the files are told or not.
     ensures none { tag_block (tells survey.now) ≡ None → result ≡ Ok empty_tag }
+    ensures large { longest_tag < tag_length (tells survey.now) → result ≡ Err (FileTagFault.TooLarge (tag_length (tells survey.now))) }
     ensures done { OnOk result (D.counts folder.new ≡ D.counts folder.old) }
     ensures cause { IfErr result (IsTagCause name.now (D.files folder.old) (tells survey.now) (D.counts folder.old) (D.counts folder.new)) }
     ensures files { D.files folder.new ≡ D.files folder.old }
