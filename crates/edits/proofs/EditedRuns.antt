@@ -23,7 +23,7 @@ use Rattle.sync_survey.proofs.ItemBytes.{IsItem}
 use Rattle.sync_survey.proofs.ItemLists.{AreItems, ends-stream, items-length, kept_items, nearer, item_at-known, items-run, nearer-none, nearer_frame, nearer_piece, frames-nearer, blocks-nearer}
 use Rattle.sync_survey.proofs.HeadSame.{nearer_head, head_of-nearer}
 use Rattle.sync_survey.proofs.SurveyParts.{frames_from, told_from, IsRead}
-use Rattle.edits.specs.declared.shift.Shift.{Shift}
+use Rattle.edits.specs.declared.shift.Steps.{Steps}
 use Rattle.edits.specs.Edited.{moved_unless_lost, moved_items, moved_stream, is_lost_at, edited}
 use Rattle.edits.proofs.MovedFrame.{IsWhole, moved_unless-whole, whole_item}
 use Rattle.edits.proofs.EditedItems.{frame_whole, moved-cons, moved_are, AreMovedAt, frames_moved}
@@ -61,14 +61,14 @@ low_cases file start (inr least) = omega (arith, least.0)
 -- ---- the bytes of the edited file
 
 -- the bytes of the first frame in the edited file: a head stays
-abbrev pub first_bytes : Shift → (ℕ → Bool) → List ℕ → PlacedFrame → Option Head → List ℕ
-first_bytes shift lost file first None = moved_unless_lost (lost first.offset) shift first.header (frame_bytes file first)
-first_bytes shift lost file first (Some head) = frame_bytes file first
+abbrev pub first_bytes : Steps → (ℕ → Bool) → List ℕ → PlacedFrame → Option Head → List ℕ
+first_bytes steps lost file first None = moved_unless_lost (lost first.offset) steps first.header (frame_bytes file first)
+first_bytes steps lost file first (Some head) = frame_bytes file first
 
-pub moved_first : (shift : Shift) (lost : ℕ → Bool) (file : List ℕ) (first : PlacedFrame) (ps : List Placed) (o : Option Head)
-    → moved_stream shift lost file o (record { offset = first.offset; item = Frame first.header } ∷ ps) ≡ first_bytes shift lost file first o ++ moved_items shift lost file ps
-moved_first shift lost file first ps None = moved-cons shift lost file (record { offset = first.offset; item = Frame first.header }) ps
-moved_first shift lost file first ps (Some head) = ap (λ l. l ++ moved_items shift lost file ps) (append-nil (frame_bytes file first))
+pub moved_first : (steps : Steps) (lost : ℕ → Bool) (file : List ℕ) (first : PlacedFrame) (ps : List Placed) (o : Option Head)
+    → moved_stream steps lost file o (record { offset = first.offset; item = Frame first.header } ∷ ps) ≡ first_bytes steps lost file first o ++ moved_items steps lost file ps
+moved_first steps lost file first ps None = moved-cons steps lost file (record { offset = first.offset; item = Frame first.header }) ps
+moved_first steps lost file first ps (Some head) = ap (λ l. l ++ moved_items steps lost file ps) (append-nil (frame_bytes file first))
 
 numbered-mapped : (gap : ℕ) (o : Option Head) (frames : List PlacedFrame) → numbered (option_map (nearer_head gap) o) (map (nearer_frame gap) frames) ≡ map (nearer_frame gap) (numbered o frames)
 numbered-mapped gap None frames = refl
@@ -79,9 +79,9 @@ numbered-mapped gap (Some head) (p ∷ ps) = refl
 abbrev pub lost_from : List ℕ → Start → ℕ → Bool
 lost_from file start = is_lost_at (told_from file start).frames
 
-module _ (shift : Shift) (file : List ℕ) (allowed : ℕ) (start : Start) (all : AreBytes file) (read : IsRead file allowed start) where
+module _ (steps : Steps) (file : List ℕ) (allowed : ℕ) (start : Start) (all : AreBytes file) (read : IsRead file allowed start) where
   abbrev pub new_file : List ℕ
-  new_file = edited shift file (told_from file start)
+  new_file = edited steps file (told_from file start)
 
   abbrev lost : ℕ → Bool
   lost = lost_from file start
@@ -157,29 +157,29 @@ module _ (shift : Shift) (file : List ℕ) (allowed : ℕ) (start : Start) (all 
   before = bytes_of_items file front.items
 
   abbrev own : List ℕ
-  own = first_bytes shift lost file start.first head
+  own = first_bytes steps lost file start.first head
 
   abbrev after : List ℕ
-  after = moved_items shift lost file later.items
+  after = moved_items steps lost file later.items
 
   pub first_frame : IsWhole h (frame_bytes file start.first)
   first_frame = frame_whole file first h all first_whole.is first_whole.within
 
-  own_by : (o : Option Head) → IsItem (Frame h) (first_bytes shift lost file start.first o)
-  own_by None = whole_item h (first_bytes shift lost file start.first None) (moved_unless-whole (lost first) shift h (frame_bytes file start.first) first_frame).whole
+  own_by : (o : Option Head) → IsItem (Frame h) (first_bytes steps lost file start.first o)
+  own_by None = whole_item h (first_bytes steps lost file start.first None) (moved_unless-whole (lost first) steps h (frame_bytes file start.first) first_frame).whole
   own_by (Some found) = whole_item h (frame_bytes file start.first) first_frame
 
   before_are : AreItems front.items before
   before_are = kept_items file 0 front.items front.stop (ends-stream Front file 0 front.items front.stop front_ends)
 
   after_are : AreItems later.items after
-  after_are = moved_are shift lost file (first + size) later.items later.stop all later_ends
+  after_are = moved_are steps lost file (first + size) later.items later.stop all later_ends
 
   new-is : new_file ≡ before ++ (own ++ after)
   unfolding edited
   new-is =
-      ap (λ (r : Run). before ++ moved_stream shift lost file head r.items) stream_is
-      ∙ ap (λ l. before ++ l) (moved_first shift lost file start.first later.items head)
+      ap (λ (r : Run). before ++ moved_stream steps lost file head r.items) stream_is
+      ∙ ap (λ l. before ++ l) (moved_first steps lost file start.first later.items head)
 
   pub before_long : length before ≡ front_end
   before_long = omega (arith, items-length Front file 0 front.items front.stop before front_ends before_are, front_stop)
@@ -240,24 +240,24 @@ module _ (shift : Shift) (file : List ℕ) (allowed : ℕ) (start : Start) (all 
   pub new-later : drop (front_end + size) new_file ≡ after ++ []
   new-later = sym (drop-drop size front_end new_file) ∙ ap (drop size) new-stands ∙ drop_at own after size (own_by head).size ∙ sym (append-nil after)
 
-  later_moved : AreMovedAt shift lost file new_file gap (frames_of later.items)
-  later_moved = frames_moved shift lost file new_file gap (first + size) (front_end + size) later.items later.stop [] all later_ends (omega (arith, front_low)) new-later
+  later_moved : AreMovedAt steps lost file new_file gap (frames_of later.items)
+  later_moved = frames_moved steps lost file new_file gap (first + size) (front_end + size) later.items later.stop [] all later_ends (omega (arith, front_low)) new-later
 
-  moved_by : (o : Option Head) → drop front_end new_file ≡ first_bytes shift lost file start.first o ++ after → AreMovedAt shift lost file new_file gap (numbered o (start.first ∷ frames_of later.items))
+  moved_by : (o : Option Head) → drop front_end new_file ≡ first_bytes steps lost file start.first o ++ after → AreMovedAt steps lost file new_file gap (numbered o (start.first ∷ frames_of later.items))
   moved_by None is = (record { whole = first_frame; rest = after; stands = ap (λ n. drop n new_file) place ∙ is }, later_moved)
   moved_by (Some found) is = later_moved
 
   -- the frames of the file stand in the edited one, with moved gains where they aren't lost
-  pub frames-moved : AreMovedAt shift lost file new_file gap (frames_from file start)
-  frames-moved = subst (λ (r : Run). AreMovedAt shift lost file new_file gap (numbered head (frames_of r.items))) (sym stream_is) (moved_by head new-stands)
+  pub frames-moved : AreMovedAt steps lost file new_file gap (frames_from file start)
+  frames-moved = subst (λ (r : Run). AreMovedAt steps lost file new_file gap (numbered head (frames_of r.items))) (sym stream_is) (moved_by head new-stands)
 
   -- the first frame is the same there from two bytes before its area on
-  end_by : (o : Option Head) → drop (overhead_of (class_of h) h.protected - 2) (first_bytes shift lost file start.first o) ≡ drop (overhead_of (class_of h) h.protected - 2) (frame_bytes file start.first)
-  end_by None = (moved_unless-whole (lost first) shift h (frame_bytes file start.first) first_frame).same_end
+  end_by : (o : Option Head) → drop (overhead_of (class_of h) h.protected - 2) (first_bytes steps lost file start.first o) ≡ drop (overhead_of (class_of h) h.protected - 2) (frame_bytes file start.first)
+  end_by None = (moved_unless-whole (lost first) steps h (frame_bytes file start.first) first_frame).same_end
   end_by (Some found) = refl
 
-  area_by : (o : Option Head) → drop (overhead_of (class_of h) h.protected) (first_bytes shift lost file start.first o) ≡ drop (overhead_of (class_of h) h.protected) (frame_bytes file start.first)
-  area_by None = (moved_unless-whole (lost first) shift h (frame_bytes file start.first) first_frame).same_area
+  area_by : (o : Option Head) → drop (overhead_of (class_of h) h.protected) (first_bytes steps lost file start.first o) ≡ drop (overhead_of (class_of h) h.protected) (frame_bytes file start.first)
+  area_by None = (moved_unless-whole (lost first) steps h (frame_bytes file start.first) first_frame).same_area
   area_by (Some found) = refl
 
   new_own : frame_bytes new_file (moved_start start).first ≡ own

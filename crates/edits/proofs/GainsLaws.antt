@@ -9,8 +9,8 @@ use Rattle.side_info.specs.declared.side.Side.{Side}
 use Rattle.side_info.specs.Granule.{no_granule, GranuleFits}
 use Rattle.side_info.specs.Side.{granule_in, has_granule, SideFits}
 use Rattle.side_info.proofs.SideLaws.{granules_fit}
-use Rattle.edits.specs.declared.shift.Shift.{Shift}
-use Rattle.edits.specs.Gains.{left_steps, right_steps, is_silent_granule, moved_gain, moved, moved_side}
+use Rattle.edits.specs.declared.shift.Steps.{Steps}
+use Rattle.edits.specs.Gains.{is_silent_granule, moved_gain, moved, moved_side}
 
 below : (sum : ℤ) → unsigned_abs (int_rem_euclid sum (pos 256)) < 256
 below (pos n) = omega arith
@@ -35,15 +35,15 @@ moved_at : (version : Version) (has : Bool) (steps : ℤ) (g : Granule) → Matc
 moved_at version true steps g fits = moved-fits version steps g fits
 moved_at version false steps g none = ap (moved steps) none
 
-pub SideFits-moved_side : (c : ClassFields) (shift : Shift) (s : Side) → SideFits c s → SideFits c (moved_side shift s)
+pub SideFits-moved_side : (c : ClassFields) (steps : Steps) (s : Side) → SideFits c s → SideFits c (moved_side steps s)
 unfolding moved_side
-SideFits-moved_side c shift s fits = record {
+SideFits-moved_side c steps s fits = record {
   main_data_begin = fits.main_data_begin;
   private_bits = fits.private_bits;
   scfsi = fits.scfsi;
   granules = granules_fit c s.main_data_begin s.private_bits 0 0 _ _ _ _
-      (moved_at c.version (has_granule c 0 0) (left_steps shift) (granule_in s 0 0) (fits.granules 0 0))
-      (moved_at c.version (has_granule c 0 1) (right_steps shift) (granule_in s 0 1) (fits.granules 0 1))
-      (moved_at c.version (has_granule c 1 0) (left_steps shift) (granule_in s 1 0) (fits.granules 1 0))
-      (moved_at c.version (has_granule c 1 1) (right_steps shift) (granule_in s 1 1) (fits.granules 1 1));
+      (moved_at c.version (has_granule c 0 0) steps.left (granule_in s 0 0) (fits.granules 0 0))
+      (moved_at c.version (has_granule c 0 1) steps.right (granule_in s 0 1) (fits.granules 0 1))
+      (moved_at c.version (has_granule c 1 0) steps.left (granule_in s 1 0) (fits.granules 1 0))
+      (moved_at c.version (has_granule c 1 1) steps.right (granule_in s 1 1) (fits.granules 1 1));
 }

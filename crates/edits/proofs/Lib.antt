@@ -1,11 +1,11 @@
 -- The lemmas of this crate.
-pub mod GainsBack
+pub mod MovedGains
 pub mod RangeLaws
 pub mod JointLaws
 pub mod MovingLaws
+pub mod WrittenLaws
 pub mod PassLaws
 pub mod OutputLaws
-pub mod GainLaws
 pub mod GainsLaws
 pub mod MovedFrame
 pub mod EditedItems
@@ -13,8 +13,15 @@ pub mod EditedRuns
 pub mod LostOffsets
 pub mod MovedSurvey
 pub mod MovedStream
-pub mod GainedStream
-pub mod Undone
+pub mod TagPlaces
+pub mod WrittenTag
+pub mod FileTags
+pub mod ChangedStream
+pub mod UndoPlaces
+pub mod Refusals
+pub mod ChangeLaws
+pub mod TagFaults
+pub mod Proper
 pub mod ThingsLaws
 pub mod ListingLaws
 pub mod ListLaws

@@ -16,7 +16,7 @@ use Rattle.sync_survey.specs.Runs.{Placed, AreEndToEnd, frame_as, frames_of}
 use Rattle.sync_survey.specs.Walk.{stream_run, numbered}
 use Rattle.sync_survey.specs.MainData.{row_of, rows_of, is_lost, marked_row, marked}
 use Rattle.sync_survey.proofs.RunsLaws.{cons_list, item_of-is, run-ends}
-use Rattle.edits.specs.declared.shift.Shift.{Shift}
+use Rattle.edits.specs.declared.shift.Steps.{Steps}
 use Rattle.edits.specs.Edited.{is_lost_at}
 use Rattle.edits.specs.Streams.{moved_row}
 
@@ -144,9 +144,9 @@ near_cases m n k low_m low_n true is = eq-eqb (m - k) (n - k) (ap (λ x. x - k) 
 near_cases m n k low_m low_n false is = ne_eqb (m - k) (n - k) (λ e. eqb-false m n is (omega (arith, e, low_m, low_n)))
 
 -- the lost frames stand at the same offsets, so many bytes nearer to the front
-pub lost-nearer : (shift : Shift) (gap from at : ℕ) (rows : List Row) → AreRising from rows → gap ≤ from → gap ≤ at → is_lost_at (map (moved_row shift gap) rows) (at - gap) ≡ is_lost_at rows at
-lost-nearer shift gap from at [] rise low here = refl
-lost-nearer shift gap from at (r ∷ rows) rise low here =
+pub lost-nearer : (steps : Steps) (gap from at : ℕ) (rows : List Row) → AreRising from rows → gap ≤ from → gap ≤ at → is_lost_at (map (moved_row steps gap) rows) (at - gap) ≡ is_lost_at rows at
+lost-nearer steps gap from at [] rise low here = refl
+lost-nearer steps gap from at (r ∷ rows) rise low here =
     let above : gap ≤ r.offset = omega (arith, low, rise.0) in
     ap₂ (λ (a b : Bool). (r.lost && a) || b) (near_cases r.offset at gap above here (r.offset == at) refl)
-    (lost-nearer shift gap (suc r.offset) at rows rise.1 (omega (arith, above)) here)
+    (lost-nearer steps gap (suc r.offset) at rows rise.1 (omega (arith, above)) here)

@@ -28,21 +28,26 @@ use Rattle.sync_survey.proofs.ItemsLaws.{stands-at, header_front-in_range}
 use Rattle.sync_survey.proofs.RunsLaws.{cons_list, IsItemOf, item_of-is, run-ends, bytes-ends}
 use Rattle.sync_survey.proofs.StartLaws.{start-first, start-front}
 use Rattle.sync_survey.proofs.SurveyLaws.{surveyed-is, walked, overhead-within}
-use Rattle.edits.specs.declared.shift.Shift.{Shift}
+use Rattle.edits.specs.declared.shift.Steps.{Steps}
 use Rattle.edits.specs.Gains.{moved_side}
 use Rattle.edits.specs.Edited.{moved_unless_lost, moved_item, moved_items, moved_stream, is_lost_at, edited}
-use Rattle.edits.specs.Moving.{row_end, AreRowsOf, moved_row_bytes, bytes_between, moved_from}
+use Rattle.edits.specs.Moving.{row_end, AreRowsOf, moved_row_bytes, bytes_between}
 use Rattle.edits.proofs.EditedItems.{moved-nil, moved-cons}
 use Rattle.edits.proofs.LostOffsets.{rows_by, marked-by, walk_rising}
 
-pub moved_from-nil : (shift : Shift) (file : List ℕ) (at : ℕ) → moved_from shift file at [] ≡ drop at file
-unfolding moved_from
-moved_from-nil shift file at = refl
+-- the bytes of the file from an offset on, with the gains of these frames moved, which stand behind it in their order
+unfoldable pub moved_from : Steps → List ℕ → ℕ → List Row → List ℕ
+moved_from steps file at [] = drop at file
+moved_from steps file at (row ∷ rows) = bytes_between file at row.offset ++ (moved_row_bytes steps file row ++ moved_from steps file (row_end row) rows)
 
-pub moved_from-cons : (shift : Shift) (file : List ℕ) (at : ℕ) (row : Row) (rows : List Row)
-    → moved_from shift file at (row ∷ rows) ≡ bytes_between file at row.offset ++ (moved_row_bytes shift file row ++ moved_from shift file (row_end row) rows)
+pub moved_from-nil : (steps : Steps) (file : List ℕ) (at : ℕ) → moved_from steps file at [] ≡ drop at file
 unfolding moved_from
-moved_from-cons shift file at row rows = refl
+moved_from-nil steps file at = refl
+
+pub moved_from-cons : (steps : Steps) (file : List ℕ) (at : ℕ) (row : Row) (rows : List Row)
+    → moved_from steps file at (row ∷ rows) ≡ bytes_between file at row.offset ++ (moved_row_bytes steps file row ++ moved_from steps file (row_end row) rows)
+unfolding moved_from
+moved_from-cons steps file at row rows = refl
 
 -- the first of these frames stands at this offset or behind it
 abbrev pub IsBehind : ℕ → List Row → Type 0
@@ -50,20 +55,20 @@ IsBehind at [] = Unit {0}
 IsBehind at (row ∷ rows) = at ≤ row.offset
 
 -- bytes before the first frame stay
-pub moved_from-later : (shift : Shift) (file : List ℕ) (at size : ℕ) (rows : List Row) → IsBehind (at + size) rows
-    → moved_from shift file at rows ≡ take size (drop at file) ++ moved_from shift file (at + size) rows
-moved_from-later shift file at size [] behind =
-    moved_from-nil shift file at
+pub moved_from-later : (steps : Steps) (file : List ℕ) (at size : ℕ) (rows : List Row) → IsBehind (at + size) rows
+    → moved_from steps file at rows ≡ take size (drop at file) ++ moved_from steps file (at + size) rows
+moved_from-later steps file at size [] behind =
+    moved_from-nil steps file at
     ∙ sym (take-append-drop size (drop at file))
-    ∙ ap (λ (l : List ℕ). take size (drop at file) ++ l) (drop-drop size at file ∙ sym (moved_from-nil shift file (at + size)))
-moved_from-later shift file at size (row ∷ rows) behind =
-    let rest = moved_row_bytes shift file row ++ moved_from shift file (row_end row) rows in
+    ∙ ap (λ (l : List ℕ). take size (drop at file) ++ l) (drop-drop size at file ∙ sym (moved_from-nil steps file (at + size)))
+moved_from-later steps file at size (row ∷ rows) behind =
+    let rest = moved_row_bytes steps file row ++ moved_from steps file (row_end row) rows in
     let sum : row.offset - at ≡ size + (row.offset - (at + size)) = omega (arith, behind) in
-    moved_from-cons shift file at row rows
+    moved_from-cons steps file at row rows
     ∙ ap (λ n. take n (drop at file) ++ rest) sum
     ∙ ap (λ (l : List ℕ). l ++ rest) (take-add size (row.offset - (at + size)) (drop at file) ∙ ap (λ (l : List ℕ). take size (drop at file) ++ take (row.offset - (at + size)) l) (drop-drop size at file))
     ∙ append_assoc (take size (drop at file)) (bytes_between file (at + size) row.offset) rest
-    ∙ ap (λ (l : List ℕ). take size (drop at file) ++ l) (sym (moved_from-cons shift file (at + size) row rows))
+    ∙ ap (λ (l : List ℕ). take size (drop at file) ++ l) (sym (moved_from-cons steps file (at + size) row rows))
 
 -- ---- the items one after another
 
@@ -91,68 +96,68 @@ abbrev item_bytes : List ℕ → ℕ → Item → List ℕ
 item_bytes file at item = take (size_of item) (drop at file)
 
 -- an item that isn't a frame
-kept : (shift : Shift) (lost : ℕ → Bool) (file : List ℕ) (frames : List PlacedFrame) (at : ℕ) (item : Item) → IsBehind (at + size_of item) (rows_by lost file frames)
-    → moved_from shift file at (rows_by lost file frames) ≡ item_bytes file at item ++ moved_from shift file (at + size_of item) (rows_by lost file frames)
-kept shift lost file frames at item behind = moved_from-later shift file at (size_of item) (rows_by lost file frames) behind
+kept : (steps : Steps) (lost : ℕ → Bool) (file : List ℕ) (frames : List PlacedFrame) (at : ℕ) (item : Item) → IsBehind (at + size_of item) (rows_by lost file frames)
+    → moved_from steps file at (rows_by lost file frames) ≡ item_bytes file at item ++ moved_from steps file (at + size_of item) (rows_by lost file frames)
+kept steps lost file frames at item behind = moved_from-later steps file at (size_of item) (rows_by lost file frames) behind
 
 -- a frame
-frame_step : (shift : Shift) (lost : ℕ → Bool) (part : Part) (file : List ℕ) (frames : List PlacedFrame) (at : ℕ) (h : HeaderFields) → IsItemOf part file at (Frame h)
-    → moved_from shift file at (rows_by lost file (record { offset = at; header = h } ∷ frames)) ≡ moved_unless_lost (lost at) shift h (item_bytes file at (Frame h)) ++ moved_from shift file (at + size_of (Frame h)) (rows_by lost file frames)
-frame_step shift lost part file frames at h here =
+frame_step : (steps : Steps) (lost : ℕ → Bool) (part : Part) (file : List ℕ) (frames : List PlacedFrame) (at : ℕ) (h : HeaderFields) → IsItemOf part file at (Frame h)
+    → moved_from steps file at (rows_by lost file (record { offset = at; header = h } ∷ frames)) ≡ moved_unless_lost (lost at) steps h (item_bytes file at (Frame h)) ++ moved_from steps file (at + size_of (Frame h)) (rows_by lost file frames)
+frame_step steps lost part file frames at h here =
     let row : Row = record { offset = at; header = h; side = side_in h (drop at file); lost = lost at } in
     let len = length_of (class_of h) h.slot in
     let room = overhead-within h (header_front-in_range (drop at file) h (stands-at file at (Frame h) here.is)) in
     let none : at - at ≡ 0 = omega arith in
-    moved_from-cons shift file at row (rows_by lost file frames)
-    ∙ ap (λ n. take n (drop at file) ++ (moved_row_bytes shift file row ++ moved_from shift file (row_end row) (rows_by lost file frames))) none
-    ∙ ap (λ (s : Side). cond (lost at) (item_bytes file at (Frame h)) (frame_with h (moved_side shift s) (item_bytes file at (Frame h))) ++ moved_from shift file (at + len) (rows_by lost file frames)) (sym (side_in-take h len (drop at file) room))
+    moved_from-cons steps file at row (rows_by lost file frames)
+    ∙ ap (λ n. take n (drop at file) ++ (moved_row_bytes steps file row ++ moved_from steps file (row_end row) (rows_by lost file frames))) none
+    ∙ ap (λ (s : Side). cond (lost at) (item_bytes file at (Frame h)) (frame_with h (moved_side steps s) (item_bytes file at (Frame h))) ++ moved_from steps file (at + len) (rows_by lost file frames)) (sym (side_in-take h len (drop at file) room))
 
-item_step : (shift : Shift) (lost : ℕ → Bool) (part : Part) (file : List ℕ) (frames : List PlacedFrame) (at : ℕ) (item : Item) → IsItemOf part file at item → IsBehind (at + size_of item) (rows_by lost file frames)
-    → moved_from shift file at (rows_by lost file (option_to_list (frame_as at item) ++ frames)) ≡ moved_item shift (lost at) item (item_bytes file at item) ++ moved_from shift file (at + size_of item) (rows_by lost file frames)
-item_step shift lost part file frames at (Frame h) here behind = frame_step shift lost part file frames at h here
-item_step shift lost part file frames at Free here behind = kept shift lost file frames at Free behind
-item_step shift lost part file frames at (Block b) here behind = kept shift lost file frames at (Block b) behind
-item_step shift lost part file frames at Zero here behind = kept shift lost file frames at Zero behind
-item_step shift lost part file frames at End here behind = kept shift lost file frames at End behind
-item_step shift lost part file frames at Nothing here behind = kept shift lost file frames at Nothing behind
+item_step : (steps : Steps) (lost : ℕ → Bool) (part : Part) (file : List ℕ) (frames : List PlacedFrame) (at : ℕ) (item : Item) → IsItemOf part file at item → IsBehind (at + size_of item) (rows_by lost file frames)
+    → moved_from steps file at (rows_by lost file (option_to_list (frame_as at item) ++ frames)) ≡ moved_item steps (lost at) item (item_bytes file at item) ++ moved_from steps file (at + size_of item) (rows_by lost file frames)
+item_step steps lost part file frames at (Frame h) here behind = frame_step steps lost part file frames at h here
+item_step steps lost part file frames at Free here behind = kept steps lost file frames at Free behind
+item_step steps lost part file frames at (Block b) here behind = kept steps lost file frames at (Block b) behind
+item_step steps lost part file frames at Zero here behind = kept steps lost file frames at Zero behind
+item_step steps lost part file frames at End here behind = kept steps lost file frames at End behind
+item_step steps lost part file frames at Nothing here behind = kept steps lost file frames at Nothing behind
 
 -- items that stand end to end are written as the moved items
-pub moved_from-items : (shift : Shift) (lost : ℕ → Bool) (part : Part) (file : List ℕ) (ps : List Placed) (from to : ℕ) → AreEndToEnd part file from ps to
-    → moved_from shift file from (rows_by lost file (frames_of ps)) ≡ moved_items shift lost file ps ++ drop to file
-moved_from-items shift lost part file [] from to e =
-    moved_from-nil shift file from ∙ ap (λ n. drop n file) e ∙ ap (λ (l : List ℕ). l ++ drop to file) (sym (moved-nil shift lost file))
-moved_from-items shift lost part file (p ∷ ps) from to e =
+pub moved_from-items : (steps : Steps) (lost : ℕ → Bool) (part : Part) (file : List ℕ) (ps : List Placed) (from to : ℕ) → AreEndToEnd part file from ps to
+    → moved_from steps file from (rows_by lost file (frames_of ps)) ≡ moved_items steps lost file ps ++ drop to file
+moved_from-items steps lost part file [] from to e =
+    moved_from-nil steps file from ∙ ap (λ n. drop n file) e ∙ ap (λ (l : List ℕ). l ++ drop to file) (sym (moved-nil steps lost file))
+moved_from-items steps lost part file (p ∷ ps) from to e =
     let here = item_of-is part file p.offset p.item e.1 in
     let next = p.offset + size_of p.item in
-    ap₂ (λ n (l : List PlacedFrame). moved_from shift file n (rows_by lost file l)) (sym e.0) (cons_list (frame_as p.offset p.item) (frames_of ps))
-    ∙ item_step shift lost part file (frames_of ps) p.offset p.item here (frames_behind lost file part ps next to e.2)
-    ∙ ap (λ (l : List ℕ). moved_item shift (lost p.offset) p.item (bytes_in file p) ++ l) (moved_from-items shift lost part file ps next to e.2)
-    ∙ sym (append_assoc (moved_item shift (lost p.offset) p.item (bytes_in file p)) (moved_items shift lost file ps) (drop to file))
-    ∙ ap (λ (l : List ℕ). l ++ drop to file) (sym (moved-cons shift lost file p ps))
+    ap₂ (λ n (l : List PlacedFrame). moved_from steps file n (rows_by lost file l)) (sym e.0) (cons_list (frame_as p.offset p.item) (frames_of ps))
+    ∙ item_step steps lost part file (frames_of ps) p.offset p.item here (frames_behind lost file part ps next to e.2)
+    ∙ ap (λ (l : List ℕ). moved_item steps (lost p.offset) p.item (bytes_in file p) ++ l) (moved_from-items steps lost part file ps next to e.2)
+    ∙ sym (append_assoc (moved_item steps (lost p.offset) p.item (bytes_in file p)) (moved_items steps lost file ps) (drop to file))
+    ∙ ap (λ (l : List ℕ). l ++ drop to file) (sym (moved-cons steps lost file p ps))
 
 -- ---- the stream
 
-whole : (shift : Shift) (lost : ℕ → Bool) (file : List ℕ) (ps : List Placed) (from to : ℕ) → AreEndToEnd Stream file from ps to → drop to file ≡ [] → moved_from shift file from (rows_by lost file (frames_of ps)) ≡ moved_items shift lost file ps
-whole shift lost file ps from to e nothing =
-    moved_from-items shift lost Stream file ps from to e
-    ∙ ap (λ (l : List ℕ). moved_items shift lost file ps ++ l) nothing
-    ∙ append-nil (moved_items shift lost file ps)
+whole : (steps : Steps) (lost : ℕ → Bool) (file : List ℕ) (ps : List Placed) (from to : ℕ) → AreEndToEnd Stream file from ps to → drop to file ≡ [] → moved_from steps file from (rows_by lost file (frames_of ps)) ≡ moved_items steps lost file ps
+whole steps lost file ps from to e nothing =
+    moved_from-items steps lost Stream file ps from to e
+    ∙ ap (λ (l : List ℕ). moved_items steps lost file ps ++ l) nothing
+    ∙ append-nil (moved_items steps lost file ps)
 
 -- behind the head, where the first frame is one
-behind_head : (shift : Shift) (lost : ℕ → Bool) (file : List ℕ) (head : Option Head) (ps : List Placed) (from to : ℕ) (h : HeaderFields) → AreEndToEnd Stream file from ps to → drop to file ≡ [] → item_at file from ≡ Frame h
-    → moved_from shift file from (rows_by lost file (numbered head (frames_of ps))) ≡ moved_stream shift lost file head ps
-behind_head shift lost file None ps from to h e nothing first = whole shift lost file ps from to e nothing
-behind_head shift lost file (Some head) [] from to h e nothing first =
-    moved_from-nil shift file from ∙ ap (λ n. drop n file) e ∙ nothing ∙ sym (moved-nil shift lost file)
-behind_head shift lost file (Some head) (p ∷ ps) from to h e nothing first =
+behind_head : (steps : Steps) (lost : ℕ → Bool) (file : List ℕ) (head : Option Head) (ps : List Placed) (from to : ℕ) (h : HeaderFields) → AreEndToEnd Stream file from ps to → drop to file ≡ [] → item_at file from ≡ Frame h
+    → moved_from steps file from (rows_by lost file (numbered head (frames_of ps))) ≡ moved_stream steps lost file head ps
+behind_head steps lost file None ps from to h e nothing first = whole steps lost file ps from to e nothing
+behind_head steps lost file (Some head) [] from to h e nothing first =
+    moved_from-nil steps file from ∙ ap (λ n. drop n file) e ∙ nothing ∙ sym (moved-nil steps lost file)
+behind_head steps lost file (Some head) (p ∷ ps) from to h e nothing first =
     let here = item_of-is Stream file p.offset p.item e.1 in
     let is : p.item ≡ Frame h = sym here.is ∙ ap (item_at file) e.0 ∙ first in
     let size = size_of p.item in
     let one : drop 1 (frames_of (p ∷ ps)) ≡ frames_of ps =
     ap (drop 1) (cons_list (frame_as p.offset p.item) (frames_of ps) ∙ ap (λ i. option_to_list (frame_as p.offset i) ++ frames_of ps) is) in
-    ap₂ (λ n l. moved_from shift file n (rows_by lost file l)) (sym e.0) one
-    ∙ moved_from-later shift file p.offset size (rows_by lost file (frames_of ps)) (frames_behind lost file Stream ps (p.offset + size) to e.2)
-    ∙ ap₂ (λ (l m : List ℕ). l ++ m) (sym (append-nil (bytes_in file p))) (whole shift lost file ps (p.offset + size) to e.2 nothing)
+    ap₂ (λ n l. moved_from steps file n (rows_by lost file l)) (sym e.0) one
+    ∙ moved_from-later steps file p.offset size (rows_by lost file (frames_of ps)) (frames_behind lost file Stream ps (p.offset + size) to e.2)
+    ∙ ap₂ (λ (l m : List ℕ). l ++ m) (sym (append-nil (bytes_in file p))) (whole steps lost file ps (p.offset + size) to e.2 nothing)
 
 -- ---- the front
 
@@ -176,9 +181,9 @@ front_end-is file = refl
 -- ---- the whole file
 
 -- the bytes up to the junk, and from the first frame on with the gains of the frames moved
-pub written-edited : (shift : Shift) (file : List ℕ) (allowed : ℕ) (s : SurveyFields) → surveyed file allowed ≡ Ok s → take s.junk file ++ moved_from shift file s.first s.frames ≡ edited shift file s
+pub written-edited : (steps : Steps) (file : List ℕ) (allowed : ℕ) (s : SurveyFields) → surveyed file allowed ≡ Ok s → take s.junk file ++ moved_from steps file s.first s.frames ≡ edited steps file s
 unfolding edited
-written-edited shift file allowed s e =
+written-edited steps file allowed s e =
     let is = surveyed-is file allowed s e in
     let walk = walked file allowed s is in
     let first = start-first file is.start is.begins in
@@ -188,10 +193,10 @@ written-edited shift file allowed s e =
     walk.frames_are
     ∙ marked-by file s.head is.start.first.offset (numbered s.head (frames_of (stream_run file is.start).items)) (walk_rising file is.start s.head)
     ∙ ap (λ rs. rows_by (is_lost_at rs) file (numbered s.head (frames_of (stream_run file is.start).items))) (sym walk.frames_are) in
-    let moved : moved_from shift file s.first s.frames ≡ moved_stream shift lost file s.head (run Stream file s.first).items =
-    ap₂ (moved_from shift file) walk.first_is marks
-    ∙ behind_head shift lost file s.head (stream_run file is.start).items is.start.first.offset (stream_run file is.start).stop is.start.first.header (run-ends Stream file is.start.first.offset) walk.nothing_behind first.frame.is
-    ∙ ap (λ n. moved_stream shift lost file s.head (run Stream file n).items) (sym walk.first_is) in
+    let moved : moved_from steps file s.first s.frames ≡ moved_stream steps lost file s.head (run Stream file s.first).items =
+    ap₂ (moved_from steps file) walk.first_is marks
+    ∙ behind_head steps lost file s.head (stream_run file is.start).items is.start.first.offset (stream_run file is.start).stop is.start.first.header (run-ends Stream file is.start.first.offset) walk.nothing_behind first.frame.is
+    ∙ ap (λ n. moved_stream steps lost file s.head (run Stream file n).items) (sym walk.first_is) in
     ap₂ (λ (l m : List ℕ). l ++ m) (ap (λ n. take n file) junk ∙ sym (front_bytes file)) moved
 
 -- ---- frames one behind the other
@@ -200,15 +205,6 @@ written-edited shift file allowed s e =
 pub laid_end : (from : ℕ) (rows : List Row) (to : ℕ) → AreLaid from rows to → from ≤ to
 laid_end from [] to laid = laid
 laid_end from (row ∷ rows) to laid = omega (arith, laid.0, laid_end (row_end row) rows to laid.2)
-
--- what is left to be written at the frame at i
-pub left_at : (shift : Shift) (file : List ℕ) (at : ℕ) (rows : List Row) (i : ℕ) (row : Row) → drop i rows ≡ row ∷ drop (i + 1) rows
-    → moved_from shift file at (drop i rows) ≡ bytes_between file at row.offset ++ (moved_row_bytes shift file row ++ moved_from shift file (row_end row) (drop (i + 1) rows))
-left_at shift file at rows i row is = ap (moved_from shift file at) is ∙ moved_from-cons shift file at row (drop (i + 1) rows)
-
--- behind the last frame that is the rest of the file
-pub left_behind : (shift : Shift) (file : List ℕ) (at size : ℕ) (rows : List Row) → rows ≡ [] → length file ≡ size → moved_from shift file at rows ≡ bytes_between file at size
-left_behind shift file at size rows none is = ap (moved_from shift file at) none ∙ moved_from-nil shift file at ∙ sym (take_all (size - at) (drop at file) (omega (arith, is, length-drop at file)))
 
 -- ---- a survey over a folder
 
@@ -228,12 +224,6 @@ pub survey_of-length : (file : List ℕ) (allowed : ℕ) (s : SurveyFields) → 
 survey_of-length file allowed s e =
     let is = surveyed-is file allowed s (survey_of-surveyed file allowed s e) in
     sym (fields-length file is.start) ∙ ap (λ (t : SurveyFields). t.length) is.fields_are
-
--- the edited file, by what is written first and what is written then
-pub survey_of-written : (shift : Shift) (file : List ℕ) (allowed : ℕ) (s : SurveyFields) → survey_of file allowed ≡ Ok s → edited shift file s ≡ bytes_between file 0 s.junk ++ moved_from shift file s.first s.frames
-survey_of-written shift file allowed s e =
-    let all : s.junk - 0 ≡ s.junk = omega arith in
-    sym (ap (λ n. take n file ++ moved_from shift file s.first s.frames) all ∙ written-edited shift file allowed s (survey_of-surveyed file allowed s e))
 
 -- ---- the rows are those of the file
 

@@ -5,7 +5,7 @@ use Rattle.std.proofs.lemmas.List.{drop_all}
 use Rattle.sync_survey.specs.declared.rows.Row.{Row}
 use Rattle.edits.specs.declared.fault.EditFault.{EditFault}
 use Rattle.edits.specs.declared.gains.Stuck.{Stuck}
-use Rattle.edits.specs.declared.shift.Shift.{Shift}
+use Rattle.edits.specs.declared.shift.Steps.{Steps}
 use Rattle.edits.specs.Edited.{stuck_fault, stuck_of, range_fault}
 
 -- the item at i, and those behind it
@@ -14,20 +14,20 @@ next_row rows i d lt =
     let one : suc i ≡ i + 1 = omega arith in
     drop-cons rows i d lt ∙ ap (λ n. get_or rows i d ∷ drop n rows) one
 
-range-cons : (shift : Shift) (row : Row) (rows : List Row) → range_fault shift (row ∷ rows) ≡ stuck_fault row.offset (stuck_of shift row) (range_fault shift rows)
+range-cons : (steps : Steps) (row : Row) (rows : List Row) → range_fault steps (row ∷ rows) ≡ stuck_fault row.offset (stuck_of steps row) (range_fault steps rows)
 unfolding range_fault
-range-cons shift row rows = refl
+range-cons steps row rows = refl
 
-range-nil : (shift : Shift) → range_fault shift [] ≡ None
+range-nil : (steps : Steps) → range_fault steps [] ≡ None
 unfolding range_fault
-range-nil shift = refl
+range-nil steps = refl
 
-range_next : (shift : Shift) (rows : List Row) (i : ℕ) (row : Row) → i < length rows → row ≡ get_or rows i row
-    → range_fault shift (drop i rows) ≡ stuck_fault row.offset (stuck_of shift row) (range_fault shift (drop (i + 1) rows))
-range_next shift rows i row lt is =
-    ap (range_fault shift) (next_row rows i row lt)
-    ∙ ap (λ (r : Row). range_fault shift (r ∷ drop (i + 1) rows)) (sym is)
-    ∙ range-cons shift row (drop (i + 1) rows)
+range_next : (steps : Steps) (rows : List Row) (i : ℕ) (row : Row) → i < length rows → row ≡ get_or rows i row
+    → range_fault steps (drop i rows) ≡ stuck_fault row.offset (stuck_of steps row) (range_fault steps (drop (i + 1) rows))
+range_next steps rows i row lt is =
+    ap (range_fault steps) (next_row rows i row lt)
+    ∙ ap (λ (r : Row). range_fault steps (r ∷ drop (i + 1) rows)) (sym is)
+    ∙ range-cons steps row (drop (i + 1) rows)
 
 stuck_later : (offset : ℕ) (s : Option Stuck) (later : Option EditFault) → stuck_fault offset s None ≡ None → stuck_fault offset s later ≡ later
 stuck_later offset (Some s) later e = absurd cc
@@ -38,14 +38,14 @@ stuck_first offset (Some s) later fault e = e
 stuck_first offset None later fault e = absurd cc
 
 -- no gain of the frame leaves its range
-pub range_more : (shift : Shift) (rows : List Row) (i : ℕ) (row : Row) → i < length rows → row ≡ get_or rows i row → stuck_fault row.offset (stuck_of shift row) None ≡ None
-    → range_fault shift (drop i rows) ≡ range_fault shift (drop (i + 1) rows)
-range_more shift rows i row lt is none = range_next shift rows i row lt is ∙ stuck_later row.offset (stuck_of shift row) (range_fault shift (drop (i + 1) rows)) none
+pub range_more : (steps : Steps) (rows : List Row) (i : ℕ) (row : Row) → i < length rows → row ≡ get_or rows i row → stuck_fault row.offset (stuck_of steps row) None ≡ None
+    → range_fault steps (drop i rows) ≡ range_fault steps (drop (i + 1) rows)
+range_more steps rows i row lt is none = range_next steps rows i row lt is ∙ stuck_later row.offset (stuck_of steps row) (range_fault steps (drop (i + 1) rows)) none
 
 -- one does
-pub range_here : (shift : Shift) (rows : List Row) (i : ℕ) (row : Row) (fault : EditFault) → i < length rows → row ≡ get_or rows i row → stuck_fault row.offset (stuck_of shift row) None ≡ Some fault
-    → range_fault shift (drop i rows) ≡ Some fault
-range_here shift rows i row fault lt is some = range_next shift rows i row lt is ∙ stuck_first row.offset (stuck_of shift row) (range_fault shift (drop (i + 1) rows)) fault some
+pub range_here : (steps : Steps) (rows : List Row) (i : ℕ) (row : Row) (fault : EditFault) → i < length rows → row ≡ get_or rows i row → stuck_fault row.offset (stuck_of steps row) None ≡ Some fault
+    → range_fault steps (drop i rows) ≡ Some fault
+range_here steps rows i row fault lt is some = range_next steps rows i row lt is ∙ stuck_first row.offset (stuck_of steps row) (range_fault steps (drop (i + 1) rows)) fault some
 
-pub range_all : (shift : Shift) (rows : List Row) (i : ℕ) → length rows ≤ i → range_fault shift (drop i rows) ≡ None
-range_all shift rows i end = ap (range_fault shift) (drop_all i rows end) ∙ range-nil shift
+pub range_all : (steps : Steps) (rows : List Row) (i : ℕ) → length rows ≤ i → range_fault steps (drop i rows) ≡ None
+range_all steps rows i end = ap (range_fault steps) (drop_all i rows end) ∙ range-nil steps

@@ -1,107 +1,41 @@
--- The gain command.
-use Rattle.std.specs.Prelude.{◌≡◌, ◌⊎◌, ℕ, ◌≤◌, take, List, [], ◌∷◌, length, map, unwrap_or, Some, Result, Ok, Err, option_map}
-use Rattle.outside.specs.Files.{Files, untold, with_file, Holds, IsThere, IsMissing}
-use Rattle.outside.specs.Counts.{Rose, NothingFailed}
-use Rattle.sync_survey.specs.Faults.{longest_file}
-use Rattle.sync_survey.specs.declared.survey_fault.SurveyFault.TheVariants.{Absent}
-use Rattle.edits.specs.declared.fault.EditFault.{EditFault}
-use Rattle.edits.specs.declared.fault.EditFault.TheVariants.{Input}
-use Rattle.edits.specs.declared.shift.Shift.{Shift}
-use Rattle.edits.specs.Command.{Made, Command}
-use Rattle.edits.specs.Left.{Why, Refused, Missing, Unread, Shorter, Unwritten, Unsent, NoMemory, why_of, Seen}
+-- The gain command: how it changes a file, and when it refuses it.
+use Rattle.std.specs.Prelude.{ℕ, if◌then◌else◌, Bool, List, Option, Some, None, Result, Ok, Err}
+use Rattle.tag_blocks.specs.declared.undo.Undo.{Undo}
+use Rattle.tag_blocks.specs.Tags.{TagFields, tag_bytes}
+use Rattle.tag_blocks.specs.UndoItems.{undo_from}
+use Rattle.file_tag.specs.Places.{tag_at}
+use Rattle.file_tag.specs.Reading.{file_tag}
 use Rattle.sync_survey.specs.Faults.{SurveyFields}
-use Rattle.edits.specs.Edited.{edited, gained, gain_result}
-use Rattle.edits.specs.Streams.{stream_in, moved_stream_frame}
+use Rattle.edits.specs.declared.fault.EditFault.{EditFault}
+use Rattle.edits.specs.declared.shift.Shift.{Shift}
+use Rattle.edits.specs.Gains.{steps_of}
+use Rattle.edits.specs.Edited.{range_fault}
+use Rattle.edits.specs.Choice.{or_else, unless, then_made, channel_fault}
+use Rattle.edits.specs.Noted.{tag_read, noted_undo, next_undo, undo_fault, tag_with, size_fault, output_fault}
+use Rattle.edits.specs.Change.{Change, Changing}
+use Rattle.edits.specs.Changing.{change_command}
+use Rattle.edits.specs.Command.{Command}
 
--- ---- the command
+-- Tags are neither read nor written: one channel can't change alone, or else a gain would leave the range.
+abbrev pub plain_change : Shift → SurveyFields → Result Change EditFault
+plain_change shift s = unless (or_else (channel_fault shift s) (range_fault (steps_of shift) s.frames)) (record { steps = steps_of shift; tag = None })
 
-abbrev pub made_of : List ℕ → Result (List ℕ) EditFault → Result Made EditFault
-made_of output (Ok bytes) = Ok (record { outputs = record { name = output; bytes = bytes } ∷ []; text = [] })
-made_of output (Err fault) = Err fault
+-- The change is noted in this tag, which says this undo: one channel can't change alone, or else a number of the next undo is too large, or else the
+-- new tag, or else the file with it, or else a gain would leave the range.
+abbrev pub noted_change : Shift → SurveyFields → TagFields → Undo → Result Change EditFault
+noted_change shift s tag undo =
+    let next = next_undo shift undo in
+    let bytes = tag_bytes (tag_with next tag) in
+    unless (or_else (channel_fault shift s) (or_else (undo_fault next) (or_else (size_fault bytes) (or_else (output_fault s bytes) (range_fault (steps_of shift) s.frames)))))
+    (record { steps = steps_of shift; tag = Some bytes })
+
+-- the tag is at fault, or else its undo item, or else the change is noted
+abbrev pub tagged_change : Shift → List ℕ → SurveyFields → Result Change EditFault
+tagged_change shift file s = then_made (tag_read (file_tag file s)) (λ tag. then_made (noted_undo (tag_at s) (undo_from 32 tag.items)) (noted_change shift s tag))
+
+unfoldable pub gain_change : Shift → Bool → Changing
+gain_change shift tags file s = if tags then tagged_change shift file s else plain_change shift s
 
 -- the output is the input with its gains moved, and so is its stream
-abbrev pub gain_command : Shift → List ℕ → List ℕ → Command
-gain_command shift input output = record {
-  inputs = input ∷ [];
-  outputs = output ∷ [];
-  sources = input ∷ [];
-  always = Some [];
-  makes = λ files. made_of output (gain_result shift input output files);
-  streams = λ files. map (moved_stream_frame shift) (stream_in (unwrap_or (files input) [])) ∷ [];
-}
-
--- ---- its steps
-
--- the same files, where they are told, but that the name holds these bytes
-unfoldable pub holding : Files → List ℕ → List ℕ → Files
-holding files name bytes = option_map (λ f. with_file f name bytes) files
-
--- the input is there, and its bytes are refused
-pub record RefusesInput (shift : Shift) (name : List ℕ) (old new : Seen) (fault : EditFault) : Type 0 where
-  pub there : IsThere old.files name
-  pub bytes : (bytes : List ℕ) → Holds old.files name bytes → gained shift bytes ≡ Err fault
-  pub stays : new ≡ old
-
-pub record MissesInput (name : List ℕ) (old new : Seen) (fault : EditFault) : Type 0 where
-  pub is : fault ≡ Input 0 Absent
-  pub missing : IsMissing old.files name
-  pub rose : Rose old.counts.misses new.counts.misses
-  pub files : new.files ≡ old.files
-
-pub record ReadsNothing (old new : Seen) : Type 0 where
-  pub rose : Rose old.counts.read_faults new.counts.read_faults
-  pub files : new.files ≡ old.files
-
-pub record LosesInput (old new : Seen) : Type 0 where
-  pub rose : Rose old.counts.ends new.counts.ends
-  pub counts : NothingFailed old.counts new.counts
-  pub untold_before : old.files ≡ untold
-  pub untold_after : new.files ≡ untold
-
--- the input is there with a length that it may have, so that memory is taken for it
-pub record NeedsMemory (name : List ℕ) (old new : Seen) : Type 0 where
-  pub there : IsThere old.files name
-  pub few : (bytes : List ℕ) → Holds old.files name bytes → length bytes ≤ longest_file
-  pub stays : new ≡ old
-
-abbrev pub IsInputFaultBy : Shift → List ℕ → Seen → Seen → EditFault → Why → Type 0
-IsInputFaultBy shift name old new fault Refused = RefusesInput shift name old new fault
-IsInputFaultBy shift name old new fault Missing = MissesInput name old new fault
-IsInputFaultBy shift name old new fault Unread = ReadsNothing old new
-IsInputFaultBy shift name old new fault Shorter = LosesInput old new
-IsInputFaultBy shift name old new fault (Unwritten k) = ⊥
-IsInputFaultBy shift name old new fault Unsent = ⊥
-IsInputFaultBy shift name old new fault NoMemory = NeedsMemory name old new
-
--- what a fault that was met before the output is created says of the input
-abbrev pub IsInputFault : Shift → List ℕ → Seen → Seen → EditFault → Type 0
-IsInputFault shift name old new fault = IsInputFaultBy shift name old new fault (why_of fault)
-
--- ---- the second pass
-
--- the output wasn't created, or holds a prefix of these bytes
-abbrev pub HoldsPrefix : List ℕ → List ℕ → Files → Files → Type 0
-HoldsPrefix name bytes old new = (new ≡ old) ⊎ ((count : ℕ) × (new ≡ holding old name (take count bytes)))
-
--- the output wasn't created, or holds a prefix of what it is to hold, where the input is told
-abbrev pub IsBegun : Shift → SurveyFields → List ℕ → List ℕ → Files → Files → Type 0
-IsBegun shift s input output old new = (bytes : List ℕ) → Holds old input bytes → HoldsPrefix output (edited shift bytes s) old new
-
-pub record StopsReading (shift : Shift) (s : SurveyFields) (input output : List ℕ) (old new : Seen) : Type 0 where
-  pub rose : Rose old.counts.read_faults new.counts.read_faults
-  pub files : IsBegun shift s input output old.files new.files
-
-pub record StopsWriting (shift : Shift) (s : SurveyFields) (input output : List ℕ) (old new : Seen) : Type 0 where
-  pub rose : Rose old.counts.write_faults new.counts.write_faults
-  pub files : IsBegun shift s input output old.files new.files
-
-abbrev pub IsPassFaultBy : Shift → SurveyFields → List ℕ → List ℕ → Seen → Seen → Why → Type 0
-IsPassFaultBy shift s input output old new Unread = StopsReading shift s input output old new
-IsPassFaultBy shift s input output old new Shorter = LosesInput old new
-IsPassFaultBy shift s input output old new (Unwritten k) = (k ≡ 0) × StopsWriting shift s input output old new
-IsPassFaultBy shift s input output old new NoMemory = new ≡ old
-IsPassFaultBy shift s input output old new _ = ⊥
-
--- what a fault leaves that was met while the output was written
-abbrev pub IsPassFault : Shift → SurveyFields → List ℕ → List ℕ → Seen → Seen → EditFault → Type 0
-IsPassFault shift s input output old new fault = IsPassFaultBy shift s input output old new (why_of fault)
+abbrev pub gain_command : Shift → Bool → List ℕ → List ℕ → Command
+gain_command shift tags input output = change_command (gain_change shift tags) (λ file. steps_of shift) input output

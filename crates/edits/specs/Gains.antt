@@ -8,6 +8,7 @@ use Rattle.side_info.specs.declared.side.Side.{Side}
 use Rattle.side_info.specs.Side.{granule_in}
 use Rattle.edits.specs.declared.gains.Stuck.{Stuck}
 use Rattle.edits.specs.declared.shift.Shift.{Shift}
+use Rattle.edits.specs.declared.shift.Steps.{Steps}
 use Rattle.edits.specs.declared.shift.Channels.{Channels}
 use Rattle.edits.specs.declared.shift.Channels.TheVariants.{Both, Left, Right}
 
@@ -22,11 +23,8 @@ right_steps_of Both steps = steps
 right_steps_of Left steps = pos 0
 right_steps_of Right steps = steps
 
-abbrev pub left_steps : Shift → ℤ
-left_steps shift = left_steps_of shift.channels shift.steps
-
-abbrev pub right_steps : Shift → ℤ
-right_steps shift = right_steps_of shift.channels shift.steps
+abbrev pub steps_of : Shift → Steps
+steps_of shift = record { left = left_steps_of shift.channels shift.steps; right = right_steps_of shift.channels shift.steps; wrap = shift.wrap }
 
 -- silent: no main data, so that the gain is of no account
 abbrev pub is_silent_granule : Granule → Bool
@@ -40,17 +38,17 @@ abbrev pub moved : ℤ → Granule → Granule
 moved steps g = if is_silent_granule g then g else record g { global_gain = moved_gain steps g.global_gain }
 
 -- a granule with channel 0 moved by the steps of the left and channel 1 by those of the right
-abbrev pub moved_channels : Shift → Side → ℕ → List Granule
-moved_channels shift s granule =
-    moved (left_steps shift) (granule_in s granule 0) ∷ moved (right_steps shift) (granule_in s granule 1) ∷ []
+abbrev pub moved_channels : Steps → Side → ℕ → List Granule
+moved_channels steps s granule =
+    moved steps.left (granule_in s granule 0) ∷ moved steps.right (granule_in s granule 1) ∷ []
 
 -- all other side fields stay
-unfoldable pub moved_side : Shift → Side → Side
-moved_side shift s = record s { granules = moved_channels shift s 0 ∷ moved_channels shift s 1 ∷ [] }
+unfoldable pub moved_side : Steps → Side → Side
+moved_side steps s = record s { granules = moved_channels steps s 0 ∷ moved_channels steps s 1 ∷ [] }
 
 -- so does a frame that is lost, whole
-abbrev pub moved_unless : Bool → Shift → Side → Side
-moved_unless lost shift s = if lost then s else moved_side shift s
+abbrev pub moved_unless : Bool → Steps → Side → Side
+moved_unless lost steps s = if lost then s else moved_side steps s
 
 -- ---- the range
 
@@ -65,8 +63,8 @@ stuck_at steps s granule channel = let g = granule_in s granule channel in
     then Some (record { granule = granule; channel = channel; gain = g.global_gain }) else None
 
 -- the first gain of a frame that would leave the range, in order of granules and channels; none with wrap
-unfoldable pub stuck_in : Shift → Side → Option Stuck
-stuck_in shift s =
-    if shift.wrap then None
-    else option_or (stuck_at (left_steps shift) s 0 0) (option_or (stuck_at (right_steps shift) s 0 1)
-    (option_or (stuck_at (left_steps shift) s 1 0) (stuck_at (right_steps shift) s 1 1)))
+unfoldable pub stuck_in : Steps → Side → Option Stuck
+stuck_in steps s =
+    if steps.wrap then None
+    else option_or (stuck_at steps.left s 0 0) (option_or (stuck_at steps.right s 0 1)
+    (option_or (stuck_at steps.left s 1 0) (stuck_at steps.right s 1 1)))

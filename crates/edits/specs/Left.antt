@@ -5,7 +5,7 @@ use Rattle.outside.specs.Counts.{Counts, Rose, NothingFailed}
 use Rattle.sync_survey.specs.declared.survey_fault.SurveyFault.TheVariants.{Absent, TooLong, Memory as NoRoom}
 use Rattle.edits.specs.Kinds.{kind_of, by_kind, HasRightNumbers}
 use Rattle.edits.specs.declared.fault.EditFault.{EditFault}
-use Rattle.edits.specs.declared.fault.EditFault.TheVariants.{EqualNames, Input, GainRange, Mono, Joint, Write, Sent, Memory}
+use Rattle.edits.specs.declared.fault.EditFault.TheVariants.{EqualNames, Input, Write, Sent, Memory}
 use Rattle.edits.specs.Command.{Made, Command, clash_of, written, written_to, Gives}
 
 -- what can be seen of a folder at a moment: the files, where they are told, and the counts
@@ -135,9 +135,15 @@ IsOfInput _ = Unit {0}
 abbrev pub IsOfPass : EditFault → Type 0
 IsOfPass (EqualNames place) = ⊥
 IsOfPass (Input place fault) = (place ≡ 0) × (fault ≢ NoRoom) × HasRightNumbers fault
-IsOfPass (GainRange offset granule channel gain) = ⊥
-IsOfPass Mono = ⊥
-IsOfPass (Joint offset) = ⊥
 IsOfPass (Write place) = place ≡ 0
-IsOfPass Sent = ⊥
 IsOfPass Memory = Unit {0}
+IsOfPass _ = ⊥
+
+-- a file that is there is refused by the command's choice
+abbrev pub IsRefusal : EditFault → Type 0
+IsRefusal (EqualNames place) = ⊥
+IsRefusal (Input place fault) = ⊥
+IsRefusal (Write place) = ⊥
+IsRefusal Sent = ⊥
+IsRefusal Memory = ⊥
+IsRefusal _ = Unit {0}

@@ -1,10 +1,11 @@
 //! The first gain that would leave its range.
 ghost use Rattle.std.specs.Prelude.{◌≡◌, IfSome};
-ghost use Rattle.edits.specs.Edited.{stuck_fault, stuck_of as stuck_of_lem, range_fault as range_fault_lem, IsRangeFault};
+ghost use Rattle.edits.specs.Edited.{stuck_fault, stuck_of as stuck_of_lem, range_fault as range_fault_lem};
+ghost use Rattle.edits.specs.Left.{IsRefusal};
 
 use crate::fault::EditFault;
 use crate::gains::{Stuck, stuck_in};
-use crate::shift::Shift;
+use crate::shift::Steps;
 use sync_survey::Row;
 
 /// The gain as a fault of the file, where its frame stands.
@@ -16,22 +17,22 @@ fn fault_at(offset: u64, stuck: Option<Stuck>) -> Option<EditFault>
 }
 
 /// The first gain of a frame that would leave the range. A lost frame stays, so it has none.
-fn stuck_of(shift: &Shift, row: &Row) -> Option<Stuck>
-    ensures { result ≡ stuck_of_lem shift.now row.now }
+fn stuck_of(steps: &Steps, row: &Row) -> Option<Stuck>
+    ensures { result ≡ stuck_of_lem steps.now row.now }
 {
     if row.lost {
         return None;
     }
-    stuck_in(shift, &row.side)
+    stuck_in(steps, &row.side)
 }
 
 /// The first gain of the frames that would leave the range, in order of frames, granules and channels.
-pub(crate) fn range_fault(shift: &Shift, rows: &[Row]) -> Option<EditFault>
-    ensures fault { result ≡ range_fault_lem shift.now rows.now }
-    ensures range { IfSome result IsRangeFault }
+pub(crate) fn range_fault(steps: &Steps, rows: &[Row]) -> Option<EditFault>
+    ensures fault { result ≡ range_fault_lem steps.now rows.now }
+    ensures refusal { IfSome result IsRefusal }
 {
     for row in rows {
-        if let Some(fault) = fault_at(row.offset, stuck_of(shift, row)) {
+        if let Some(fault) = fault_at(row.offset, stuck_of(steps, row)) {
             return Some(fault);
         }
     }

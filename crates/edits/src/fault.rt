@@ -3,9 +3,11 @@
 ghost use Rattle.std.specs.Prelude.{◌≡◌};
 ghost use Rattle.edits.specs.declared.fault.EditFault.TheVariants.{Memory};
 ghost use Rattle.edits.specs.Kinds.{of_input};
+ghost use Rattle.edits.specs.Noted.{of_tag};
 ghost use Rattle.edits.specs.Pass.{of_pass};
 
 use crate::moving::CopyFault;
+use file_tag::FileTagFault;
 use std::alloc::{AllocError, AllocFailed};
 use sync_survey::SurveyFault;
 
@@ -23,6 +25,18 @@ pub enum EditFault {
     Mono,
     /// One channel is to change, and the two of the frame at this offset in bytes are coded jointly.
     Joint(u64),
+    /// The tag of the file, or the one that is to be written, has so many bytes, more than 1,048,576.
+    TagTooLarge(u64),
+    /// The tag of the file is at fault at this offset in bytes.
+    BadTag(u64),
+    /// The tag of the file has no undo item.
+    NoUndo,
+    /// The undo item at this offset in bytes has no value of its form.
+    BadUndo(u64),
+    /// The undo item would have to hold this number of steps, which isn't from -999 to 999.
+    UndoRange(i32),
+    /// The file that is to be written would have so many bytes, more than 1,073,741,824.
+    OutputTooLong(u64),
     /// This output, counted from 0, could not be written.
     Write(u32),
     /// Standard output could not be written.
@@ -70,6 +84,23 @@ impl From<CopyFault> for EditFault {
                 EditFault::Input(0, SurveyFault::Shrunk(first, second))
             }
             CopyFault::Write => EditFault::Write(0),
+        }
+    }
+}
+
+/// Why the tag of the one input of a command isn't read.
+impl From<FileTagFault> for EditFault {
+    ghost from_gives = { λ fault e. e ≡ of_tag fault };
+
+    fn from(fault: FileTagFault) -> EditFault {
+        match fault {
+            FileTagFault::TooLarge(size) => EditFault::TagTooLarge(size),
+            FileTagFault::Bad(at) => EditFault::BadTag(at),
+            FileTagFault::Read => EditFault::Input(0, SurveyFault::Read),
+            FileTagFault::Shrunk(first, second) => {
+                EditFault::Input(0, SurveyFault::Shrunk(first, second))
+            }
+            FileTagFault::Memory => EditFault::Memory,
         }
     }
 }

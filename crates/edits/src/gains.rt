@@ -1,8 +1,8 @@
 //! Gains of one frame, moved by steps of 1.5 dB.
 ghost use Rattle.std.specs.Prelude.{◌≡◌, ◌+ℤ◌, ◌<◌, ◌&&◌, not, pos};
-ghost use Rattle.edits.specs.Gains.{left_steps as left_steps_lem, right_steps as right_steps_lem, is_silent_granule, is_outside, moved as moved_lem, moved_side as moved_side_lem, stuck_at as stuck_at_lem, stuck_in as stuck_in_lem};
+ghost use Rattle.edits.specs.Gains.{is_silent_granule, is_outside, moved as moved_lem, moved_side as moved_side_lem, stuck_at as stuck_at_lem, stuck_in as stuck_in_lem};
 
-use crate::shift::{Channels, Shift};
+use crate::shift::Steps;
 use side_info::{Granule, Side};
 
 /// A gain that would leave the range from 0 to 255: its granule, its channel, and the gain that stands.
@@ -11,24 +11,6 @@ pub struct Stuck {
     pub granule: u8,
     pub channel: u8,
     pub gain: u8,
-}
-
-fn left_steps(shift: &Shift) -> i16
-    ensures { result ≡ left_steps_lem shift.now }
-{
-    match shift.channels {
-        Channels::Both | Channels::Left => shift.steps,
-        Channels::Right => 0,
-    }
-}
-
-fn right_steps(shift: &Shift) -> i16
-    ensures { result ≡ right_steps_lem shift.now }
-{
-    match shift.channels {
-        Channels::Both | Channels::Right => shift.steps,
-        Channels::Left => 0,
-    }
 }
 
 /// The gain by so many steps, which may leave the range.
@@ -51,12 +33,11 @@ fn moved(steps: i16, granule: Granule) -> Granule
 
 #[tactic(auto, unfolding(crate::specs::Gains::moved_side))]
 /// The gains of channel 0 and channel 1 moved by their steps; all other fields stay.
-pub(crate) fn moved_side(shift: &Shift, side: &Side) -> Side
-    ensures { result ≡ moved_side_lem shift.now side.now }
+pub(crate) fn moved_side(steps: &Steps, side: &Side) -> Side
+    ensures { result ≡ moved_side_lem steps.now side.now }
 {
     let [[a, b], [c, d]] = side.granules;
-    let left = left_steps(shift);
-    let right = right_steps(shift);
+    let Steps { left, right, .. } = *steps;
     Side {
         granules: [
             [moved(left, a), moved(right, b)],
@@ -91,14 +72,13 @@ fn stuck_at(steps: i16, side: &Side, granule: u8, channel: u8) -> Option<Stuck>
 
 #[tactic(auto, unfolding(crate::specs::Gains::stuck_in))]
 /// The first gain that would leave the range, in order of granules and channels; none with wrap.
-pub(crate) fn stuck_in(shift: &Shift, side: &Side) -> Option<Stuck>
-    ensures { result ≡ stuck_in_lem shift.now side.now }
+pub(crate) fn stuck_in(steps: &Steps, side: &Side) -> Option<Stuck>
+    ensures { result ≡ stuck_in_lem steps.now side.now }
 {
-    if shift.wrap {
+    if steps.wrap {
         return None;
     }
-    let left = left_steps(shift);
-    let right = right_steps(shift);
+    let Steps { left, right, .. } = *steps;
     stuck_at(left, side, 0, 0)
         .or(stuck_at(right, side, 0, 1))
         .or(stuck_at(left, side, 1, 0))

@@ -1,6 +1,8 @@
 //! The commands: from the files of a folder they make new ones, or are refused.
 #![tactic(auto)]
 
+mod change;
+mod change_file;
 mod choice;
 mod edit;
 mod fault;
@@ -11,16 +13,17 @@ mod line;
 mod lines;
 mod list_file;
 mod moving;
+mod noted;
 mod shift;
 mod things;
-mod undoing;
+mod undo_file;
 
 pub use fault::EditFault;
 pub use gain_file::gain;
 pub use gains::Stuck;
 pub use list_file::list;
-pub use shift::{Channels, Shift};
-pub use undoing::opposite_gives_back;
+pub use shift::{Channels, Shift, Steps};
+pub use undo_file::undo;
 
 #[cfg(test)]
 mod tests;

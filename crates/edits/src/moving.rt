@@ -1,5 +1,5 @@
 //! The second pass over an input: it is read from front to back, and written with the gains of its frames moved,
-//! but for lost ones.
+//! but for lost ones, and with another tag where that changes.
 ghost use Rattle.std.specs.Prelude.{◌≡◌, ◌≢◌, ◌+◌, ◌≤◌, ◌++◌, List, ℕ, [], length, take, drop, IfOk, IfErr, OnOk, OnErr, Ok};
 ghost use Rattle.frame_header.specs.Fields.{HeaderFields};
 ghost use Rattle.frame_header.specs.Tables.{class_of, length_of, overhead_of};
@@ -9,12 +9,14 @@ ghost use Rattle.outside.specs.Feed.{IsFedFrom};
 ghost use Rattle.outside.specs.Passed.{PassedOn, AppendedPrefix};
 ghost use Rattle.sync_survey.specs.Faults.{tells};
 ghost use Rattle.sync_survey.specs.Survey.{survey_of, AreLaid, IsLaidOut};
-ghost use Rattle.edits.specs.Edited.{most_frames, edited};
-ghost use Rattle.edits.specs.Moving.{row_length, row_end, IsRowOf, AreRowsOf, moved_bytes, moved_row_bytes, bytes_between, moved_from};
+ghost use Rattle.edits.specs.Change.{changed, change_in, most_frames};
+ghost use Rattle.edits.specs.Moving.{row_length, row_end, IsRowOf, AreRowsOf, moved_bytes, moved_row_bytes, bytes_between, copied, written_from, IsNewTag};
 ghost use Rattle.edits.specs.Pass.{IsReady, Writes, WritesPrefix, Appends, AppendsPrefix, HasCopyCause};
 
+use crate::change::Change;
 use crate::gains::moved_side;
-use crate::shift::Shift;
+use crate::shift::Steps;
+use file_tag::tag_place;
 use frame_header::Header;
 use outside::{Feed, Folder, WriteBuffer};
 use side_info::put_gains;
@@ -58,14 +60,22 @@ fn frame_length(header: &Header) -> u32
 
 /// Moves the gains in the bytes of a frame that stand before its main data, and in a protected frame puts
 /// the check word that is right for them. A lost frame stays.
-fn move_front(shift: &Shift, row: &Row, front: &mut [u8])
+fn move_front(steps: &Steps, row: &Row, front: &mut [u8])
     requires { overhead_of (class_of row.now.header) row.now.header.protected ≤ length front.old }
-    ensures { side_in row.now.header front.old ≡ row.now.side → front.new ≡ moved_bytes shift.now row.now front.old }
+    ensures { side_in row.now.header front.old ≡ row.now.side → front.new ≡ moved_bytes steps.now row.now front.old }
 {
     if row.lost {
         return;
     }
-    put_gains(&row.header, &moved_side(shift, &row.side), front);
+    put_gains(&row.header, &moved_side(steps, &row.side), front);
+}
+
+/// The bytes of a new tag, and from where to where in the input stands what they replace.
+#[derive(Clone, Copy)]
+struct NewTag<'a> {
+    at: u64,
+    end: u64,
+    bytes: &'a [u8],
 }
 
 /// What a pass reads, and what it writes.
@@ -75,7 +85,9 @@ struct Pass<'a> {
     output: &'a str,
     /// The length in bytes that the input was found with.
     length: u64,
-    shift: &'a Shift,
+    steps: &'a Steps,
+    /// The new tag, where that changes.
+    tag: Option<NewTag<'a>>,
 }
 
 impl<'a> Pass<'a> {
@@ -145,8 +157,8 @@ impl<'a> Pass<'a> {
         self.push(folder, feed.bytes(), waiting)
     }
 
-    /// Copies the bytes from one offset to another.
-    fn copy<D: Folder>(
+    /// Copies the bytes from one offset to another as they are.
+    fn copy_plain<D: Folder>(
         &self,
         folder: &mut D,
         from: u64,
@@ -172,6 +184,58 @@ impl<'a> Pass<'a> {
         Ok(())
     }
 
+    /// Copies the bytes from one offset to another, with the new tag where what it replaces stands among them.
+    fn copy<D: Folder>(
+        &self,
+        folder: &mut D,
+        from: u64,
+        to: u64,
+        feed: &mut Feed,
+        waiting: &mut WriteBuffer,
+    ) -> Result<(), CopyFault>
+        requires ready { IsReady self.now.input.now self.now.output.now self.now.length (D.files folder.old) feed.old }
+        requires ordered { from ≤ to }
+        requires within { to ≤ self.now.length }
+        ensures written { OnOk result (Writes self.now.input.now self.now.output.now (λ file. copied self.now.tag file from to) waiting.old waiting.new (D.files folder.old) (D.files folder.new)) }
+        ensures prefix { OnErr result (WritesPrefix self.now.input.now self.now.output.now (λ file. copied self.now.tag file from to) waiting.old (D.files folder.old) (D.files folder.new)) }
+        ensures done { OnOk result (D.counts folder.new ≡ D.counts folder.old) }
+        ensures cause { IfErr result (HasCopyCause self.now.length (D.files folder.old) (D.counts folder.old) (D.counts folder.new)) }
+        ensures ready { OnOk result (IsReady self.now.input.now self.now.output.now self.now.length (D.files folder.new) feed.new) }
+    {
+        match &self.tag {
+            Some(tag) if from <= tag.at && tag.at <= tag.end && tag.end <= to => {
+                self.copy_around(folder, from, tag, to, feed, waiting)
+            }
+            _ => self.copy_plain(folder, from, to, feed, waiting),
+        }
+    }
+
+    /// Copies the bytes from one offset to another with a new tag between them.
+    fn copy_around<D: Folder>(
+        &self,
+        folder: &mut D,
+        from: u64,
+        tag: &NewTag,
+        to: u64,
+        feed: &mut Feed,
+        waiting: &mut WriteBuffer,
+    ) -> Result<(), CopyFault>
+        requires ready { IsReady self.now.input.now self.now.output.now self.now.length (D.files folder.old) feed.old }
+        requires ordered { from ≤ tag.now.at }
+        requires around { tag.now.at ≤ tag.now.end }
+        requires behind { tag.now.end ≤ to }
+        requires within { to ≤ self.now.length }
+        ensures written { OnOk result (Writes self.now.input.now self.now.output.now (λ file. bytes_between file from tag.now.at ++ (tag.now.bytes.now ++ bytes_between file tag.now.end to)) waiting.old waiting.new (D.files folder.old) (D.files folder.new)) }
+        ensures prefix { OnErr result (WritesPrefix self.now.input.now self.now.output.now (λ file. bytes_between file from tag.now.at ++ (tag.now.bytes.now ++ bytes_between file tag.now.end to)) waiting.old (D.files folder.old) (D.files folder.new)) }
+        ensures done { OnOk result (D.counts folder.new ≡ D.counts folder.old) }
+        ensures cause { IfErr result (HasCopyCause self.now.length (D.files folder.old) (D.counts folder.old) (D.counts folder.new)) }
+        ensures ready { OnOk result (IsReady self.now.input.now self.now.output.now self.now.length (D.files folder.new) feed.new) }
+    {
+        self.copy_plain(folder, from, tag.at, feed, waiting)?;
+        self.push(folder, tag.bytes, waiting)?;
+        self.copy_plain(folder, tag.end, to, feed, waiting)
+    }
+
     /// Copies a frame and moves its gains, where it isn't lost. The answer is the offset where it ends.
     fn move_frame<D: Folder>(
         &self,
@@ -183,8 +247,8 @@ impl<'a> Pass<'a> {
         requires ready { IsReady self.now.input.now self.now.output.now self.now.length (D.files folder.old) feed.old }
         requires within { row_end row.now ≤ self.now.length }
         requires told { (file : List ℕ) → Holds (D.files folder.old) self.now.input.now file → IsRowOf file row.now }
-        ensures written { OnOk result (Writes self.now.input.now self.now.output.now (λ file. moved_row_bytes self.now.shift.now file row.now) waiting.old waiting.new (D.files folder.old) (D.files folder.new)) }
-        ensures prefix { OnErr result (WritesPrefix self.now.input.now self.now.output.now (λ file. moved_row_bytes self.now.shift.now file row.now) waiting.old (D.files folder.old) (D.files folder.new)) }
+        ensures written { OnOk result (Writes self.now.input.now self.now.output.now (λ file. moved_row_bytes self.now.steps.now file row.now) waiting.old waiting.new (D.files folder.old) (D.files folder.new)) }
+        ensures prefix { OnErr result (WritesPrefix self.now.input.now self.now.output.now (λ file. moved_row_bytes self.now.steps.now file row.now) waiting.old (D.files folder.old) (D.files folder.new)) }
         ensures end { IfOk result (λ end. end ≡ row_end row.now) }
         ensures done { OnOk result (D.counts folder.new ≡ D.counts folder.old) }
         ensures cause { IfErr result (HasCopyCause self.now.length (D.files folder.old) (D.counts folder.old) (D.counts folder.new)) }
@@ -197,7 +261,7 @@ impl<'a> Pass<'a> {
         let mut room = [0; MOST_OVERHEAD];
         let front = &mut room[..size];
         front.copy_from_slice(&frame[..size]);
-        move_front(self.shift, row, front);
+        move_front(self.steps, row, front);
         self.push(folder, front, waiting)?;
         self.push(folder, &frame[size..], waiting)?;
         Ok(row.offset + u64::from(length))
@@ -215,8 +279,8 @@ impl<'a> Pass<'a> {
         requires ready { IsReady self.now.input.now self.now.output.now self.now.length (D.files folder.old) feed.old }
         requires laid { AreLaid from rows.now self.now.length }
         requires told { (file : List ℕ) → Holds (D.files folder.old) self.now.input.now file → AreRowsOf file rows.now }
-        ensures written { OnOk result (Writes self.now.input.now self.now.output.now (λ file. moved_from self.now.shift.now file from rows.now) waiting.old waiting.new (D.files folder.old) (D.files folder.new)) }
-        ensures prefix { OnErr result (WritesPrefix self.now.input.now self.now.output.now (λ file. moved_from self.now.shift.now file from rows.now) waiting.old (D.files folder.old) (D.files folder.new)) }
+        ensures written { OnOk result (Writes self.now.input.now self.now.output.now (λ file. written_from self.now.steps.now self.now.tag file from rows.now) waiting.old waiting.new (D.files folder.old) (D.files folder.new)) }
+        ensures prefix { OnErr result (WritesPrefix self.now.input.now self.now.output.now (λ file. written_from self.now.steps.now self.now.tag file from rows.now) waiting.old (D.files folder.old) (D.files folder.new)) }
         ensures done { OnOk result (D.counts folder.new ≡ D.counts folder.old) }
         ensures cause { IfErr result (HasCopyCause self.now.length (D.files folder.old) (D.counts folder.old) (D.counts folder.new)) }
     {
@@ -243,18 +307,32 @@ impl<'a> Pass<'a> {
     }
 }
 
-/// Appends the input to the output, with its gains moved by the shift, but those of lost frames, and without its
-/// junk. It takes no memory.
+/// The new tag of a change, in place of the input's, where it changes.
+fn new_tag<'a>(survey: &Survey, change: &'a Change) -> Option<NewTag<'a>>
+    requires { IsLaidOut (tells survey.now) }
+    ensures { IsNewTag (tells survey.now) (change_in change.now) result }
+{
+    let bytes = change.tag.as_ref()?;
+    let place = tag_place(survey);
+    Some(NewTag {
+        at: place.offset,
+        end: place.offset + place.length,
+        bytes,
+    })
+}
+
+/// Appends the input to the output, with its gains moved, but those of lost frames, with the new tag where that changes,
+/// and without its junk. It takes no memory.
 ///
 /// Ends early with `Read` where a read failed; with `Shrunk`, the length that the input was found with and
 /// the one that it had when it was read, where a read gave no byte before that length; and with `Write` where
 /// a write failed. Then a prefix of the bytes, none to all of them, was appended.
-pub(crate) fn write_moved<D: Folder>(
+pub(crate) fn write_changed<D: Folder>(
     folder: &mut D,
     input: &str,
     output: &str,
     survey: &Survey,
-    shift: &Shift,
+    change: &Change,
     feed: &mut Feed,
     waiting: &mut WriteBuffer,
 ) -> Result<(), CopyFault>
@@ -265,8 +343,8 @@ pub(crate) fn write_moved<D: Folder>(
     requires exact { (file : List ℕ) → Holds (D.files folder.old) input.now file → survey_of file most_frames ≡ Ok (tells survey.now) }
     requires fed { IsFedFrom feed.old (D.files folder.old) input.now }
     requires none { waiting.old ≡ [] }
-    ensures written { OnOk result (Appends input.now output.now (λ file. edited shift.now file (tells survey.now)) (D.files folder.old) (D.files folder.new)) }
-    ensures prefix { OnErr result (AppendsPrefix input.now output.now (λ file. edited shift.now file (tells survey.now)) (D.files folder.old) (D.files folder.new)) }
+    ensures written { OnOk result (Appends input.now output.now (λ file. changed (change_in change.now) file (tells survey.now)) (D.files folder.old) (D.files folder.new)) }
+    ensures prefix { OnErr result (AppendsPrefix input.now output.now (λ file. changed (change_in change.now) file (tells survey.now)) (D.files folder.old) (D.files folder.new)) }
     ensures done { OnOk result (D.counts folder.new ≡ D.counts folder.old) }
     ensures cause { IfErr result (HasCopyCause (tells survey.now).length (D.files folder.old) (D.counts folder.old) (D.counts folder.new)) }
 {
@@ -274,7 +352,8 @@ pub(crate) fn write_moved<D: Folder>(
         input,
         output,
         length: survey.length(),
-        shift,
+        steps: &change.steps,
+        tag: new_tag(survey, change),
     };
     let (junk, _) = survey.junk();
     pass.copy(folder, 0, junk, feed, waiting)?;

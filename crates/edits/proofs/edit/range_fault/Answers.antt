@@ -8,15 +8,15 @@ pub returns-in-Some-clause-fault : goal.returns-in-Some-clause-fault
 returns-in-Some-clause-fault c =
     let row = c.row-item.result in
     sym (c.loop-row.invariant
-    ∙ range_here c.args.shift.now c.args.rows.now c.loop-row.row-index row c.in-Some.fault (omega (arith, c.loop-row-test.true)) c.row-item.is
+    ∙ range_here c.args.steps.now c.args.rows.now c.loop-row.row-index row c.in-Some.fault (omega (arith, c.loop-row-test.true)) c.row-item.is
     (sym (c.fault_at.ensures ∙ ap (λ s. stuck_fault row.offset s None) c.stuck_of.ensures) ∙ c.in-Some.is))
 
 pub loop-row-preserved : goal.loop-row-preserved
 loop-row-preserved c =
     let row = c.row-item.result in
     c.loop-row.invariant
-    ∙ range_more c.args.shift.now c.args.rows.now c.loop-row.row-index row (omega (arith, c.loop-row-test.true)) c.row-item.is
+    ∙ range_more c.args.steps.now c.args.rows.now c.loop-row.row-index row (omega (arith, c.loop-row-test.true)) c.row-item.is
     (sym (c.fault_at.ensures ∙ ap (λ s. stuck_fault row.offset s None) c.stuck_of.ensures) ∙ c.in_default.is)
 
 pub returns-clause-fault : goal.returns-clause-fault
-returns-clause-fault c = sym (c.loop-row.invariant ∙ range_all c.args.shift.now c.args.rows.now c.loop-row.row-index c.loop-row-test.false)
+returns-clause-fault c = sym (c.loop-row.invariant ∙ range_all c.args.steps.now c.args.rows.now c.loop-row.row-index c.loop-row-test.false)

@@ -4,4 +4,4 @@ use Rattle.edits.specs.Edited.{range_fault}
 use Rattle.edits.proofs.edit.range_fault.Given as goal
 
 abbrev pub invariant-loop-row : goal.invariant-loop-row
-invariant-loop-row l = range_fault l.shift l.rows ≡ range_fault l.shift (drop l.row-index l.rows)
+invariant-loop-row l = range_fault l.steps l.rows ≡ range_fault l.steps (drop l.row-index l.rows)

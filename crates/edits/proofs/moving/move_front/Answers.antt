@@ -10,12 +10,12 @@ use Rattle.edits.proofs.moving.move_front.Goals as goal
 pub returns : goal.returns
 returns c is =
     let h = c.args.row.now.header in
-    let shift = c.args.shift.now in
+    let steps = c.args.steps.now in
     let front = c.args.front.now in
     let moved = c.moved_side.ensures in
     let other : HasOtherGains (side_in h front) c.moved_side.result =
-    subst (HasOtherGains (side_in h front)) (ap (moved_side shift) is ∙ sym moved) (other_gains shift (side_in h front) (shaped-side_in h front)) in
+    subst (HasOtherGains (side_in h front)) (ap (moved_side steps) is ∙ sym moved) (other_gains steps (side_in h front) (shaped-side_in h front)) in
     let moves : c.args.row.now.lost ≡ false = c.if-row.false in
     c.put_gains.ensures.gains other
     ∙ ap (λ s. frame_with h s front) moved
-    ∙ sym (ap (λ lost. cond lost front (frame_with h (moved_side shift c.args.row.now.side) front)) moves)
+    ∙ sym (ap (λ lost. cond lost front (frame_with h (moved_side steps c.args.row.now.side) front)) moves)

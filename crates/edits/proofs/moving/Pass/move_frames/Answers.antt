@@ -1,13 +1,15 @@
 -- One frame more, and what stands before it, goes on.
-use Rattle.std.proofs.Common.{◌≡◌, ◌+◌, ◌<◌, ◌++◌, ◌∷◌, List, [], ℕ, length, get_or, drop, refl, sym, ◌∙◌, ap, subst, arith}
+use Rattle.std.proofs.Common.{◌≡◌, ◌+◌, ◌<◌, ◌++◌, ◌∷◌, List, [], ℕ, Option, length, get_or, drop, refl, sym, ◌∙◌, ap, subst, arith}
 use Rattle.std.proofs.lemmas.List.{drop_all}
 use Rattle.std.proofs.lemmas.Result.{err_from_is_err_and, on_ok_weaker, on_err_weaker}
 use Rattle.sync_survey.specs.declared.rows.Row.{Row}
 use Rattle.sync_survey.specs.Survey.{AreLaid}
-use Rattle.edits.specs.declared.shift.Shift.{Shift}
-use Rattle.edits.specs.Moving.{row_end, AreRowsOf, moved_row_bytes, bytes_between, moved_from}
+use Rattle.edits.specs.declared.moving.NewTag.{NewTag}
+use Rattle.edits.specs.declared.shift.Steps.{Steps}
+use Rattle.edits.specs.Moving.{row_end, AreRowsOf, moved_row_bytes, copied, written_from}
 use Rattle.edits.proofs.RangeLaws.{next_row}
-use Rattle.edits.proofs.MovingLaws.{laid_end, left_at, left_behind}
+use Rattle.edits.proofs.MovingLaws.{laid_end}
+use Rattle.edits.proofs.WrittenLaws.{left_at, left_behind}
 use Rattle.edits.proofs.PassLaws.{on_err, up_to_begun, up_to_held, up_to_more, up_to_prefix, up_to_last, up_to_last_prefix, cause_behind, causes_behind}
 use Rattle.edits.proofs.moving.Pass.move_frames.Goals as goal
 
@@ -22,8 +24,8 @@ told : (file : List ℕ) (rows : List Row) (i : ℕ) (row : Row) → drop i rows
 told file rows i row is all = subst (AreRowsOf file) is all
 
 -- what is left behind the bytes before the frame
-abbrev left : Shift → List Row → ℕ → Row → List ℕ → List ℕ
-left shift rows i row file = moved_row_bytes shift file row ++ moved_from shift file (row_end row) (drop (i + 1) rows)
+abbrev left : Steps → Option NewTag → List Row → ℕ → Row → List ℕ → List ℕ
+left steps tag rows i row file = moved_row_bytes steps file row ++ written_from steps tag file (row_end row) (drop (i + 1) rows)
 
 pub loop-row-init : goal.loop-row-init
 loop-row-init g c =
@@ -31,7 +33,7 @@ loop-row-init g c =
     record {
       laid = c.requires.laid;
       told = c.requires.told;
-      up_to = up_to_begun self.input.now self.output.now c.requires.ready.apart (λ file. moved_from self.shift.now file c.args.from c.args.rows.now) c.args.waiting.now (g.D.Folder.files c.args.folder.now) c.requires.ready.target;
+      up_to = up_to_begun self.input.now self.output.now c.requires.ready.apart (λ file. written_from self.steps.now self.tag file c.args.from c.args.rows.now) c.args.waiting.now (g.D.Folder.files c.args.folder.now) c.requires.ready.target;
       ready = c.requires.ready;
       counts = refl;
     }
@@ -52,8 +54,8 @@ returns-in_err-copy-clause-prefix g c =
     let i = c.loop-row.row-index in
     let is = here rows i row (omega (arith, c.loop-row-test.true)) c.row-item.is in
     on_err c.from_residual.result
-    (up_to_prefix self.input.now self.output.now c.requires.ready.apart _ (λ file. moved_from self.shift.now file c.loop-row.at (drop i rows)) _ _ _ _ c.loop-row.invariant.up_to
-    (λ file. bytes_between file c.loop-row.at row.offset) (left self.shift.now rows i row) (λ file holds. left_at self.shift.now file c.loop-row.at rows i row is) _ c.in_err-copy.ensures.prefix)
+    (up_to_prefix self.input.now self.output.now c.requires.ready.apart _ (λ file. written_from self.steps.now self.tag file c.loop-row.at (drop i rows)) _ _ _ _ c.loop-row.invariant.up_to
+    (λ file. copied self.tag file c.loop-row.at row.offset) (left self.steps.now self.tag rows i row) (λ file holds. left_at self.steps.now self.tag file c.loop-row.at rows i row is) _ c.in_err-copy.ensures.prefix)
 
 pub returns-in_err-copy-clause-cause : goal.returns-in_err-copy-clause-cause
 returns-in_err-copy-clause-cause g c =
@@ -76,8 +78,8 @@ move_frame-requires-clause-told g c file holds =
     let row = c.row-item.result in
     let i = c.loop-row.row-index in
     let is = here rows i row (omega (arith, c.loop-row-test.true)) c.row-item.is in
-    let before = up_to_more self.input.now self.output.now c.requires.ready.apart _ (λ file. moved_from self.shift.now file c.loop-row.at (drop i rows)) _ _ _ _ c.loop-row.invariant.up_to
-    (λ file. bytes_between file c.loop-row.at row.offset) (left self.shift.now rows i row) (λ file holds. left_at self.shift.now file c.loop-row.at rows i row is) _ _ c.in_ok-copy.ensures.written in
+    let before = up_to_more self.input.now self.output.now c.requires.ready.apart _ (λ file. written_from self.steps.now self.tag file c.loop-row.at (drop i rows)) _ _ _ _ c.loop-row.invariant.up_to
+    (λ file. copied self.tag file c.loop-row.at row.offset) (left self.steps.now self.tag rows i row) (λ file holds. left_at self.steps.now self.tag file c.loop-row.at rows i row is) _ _ c.in_ok-copy.ensures.written in
     (told file rows i row is (c.loop-row.invariant.told file (up_to_held self.input.now self.output.now c.requires.ready.apart _ _ _ _ _ _ before file holds))).0
 
 pub returns-in_err-at-clause-prefix : goal.returns-in_err-at-clause-prefix
@@ -88,11 +90,11 @@ returns-in_err-at-clause-prefix g c =
     let row = c.row-item.result in
     let i = c.loop-row.row-index in
     let is = here rows i row (omega (arith, c.loop-row-test.true)) c.row-item.is in
-    let before = up_to_more self.input.now self.output.now apart _ (λ file. moved_from self.shift.now file c.loop-row.at (drop i rows)) _ _ _ _ c.loop-row.invariant.up_to
-    (λ file. bytes_between file c.loop-row.at row.offset) (left self.shift.now rows i row) (λ file holds. left_at self.shift.now file c.loop-row.at rows i row is) _ _ c.in_ok-copy.ensures.written in
+    let before = up_to_more self.input.now self.output.now apart _ (λ file. written_from self.steps.now self.tag file c.loop-row.at (drop i rows)) _ _ _ _ c.loop-row.invariant.up_to
+    (λ file. copied self.tag file c.loop-row.at row.offset) (left self.steps.now self.tag rows i row) (λ file holds. left_at self.steps.now self.tag file c.loop-row.at rows i row is) _ _ c.in_ok-copy.ensures.written in
     on_err c.from_residual-in_err-at.result
-    (up_to_prefix self.input.now self.output.now apart _ (left self.shift.now rows i row) _ _ _ _ before
-    (λ file. moved_row_bytes self.shift.now file row) (λ file. moved_from self.shift.now file (row_end row) (drop (i + 1) rows)) (λ file holds. refl) _ c.in_err-at.ensures.prefix)
+    (up_to_prefix self.input.now self.output.now apart _ (left self.steps.now self.tag rows i row) _ _ _ _ before
+    (λ file. moved_row_bytes self.steps.now file row) (λ file. written_from self.steps.now self.tag file (row_end row) (drop (i + 1) rows)) (λ file holds. refl) _ c.in_err-at.ensures.prefix)
 
 pub returns-in_err-at-clause-cause : goal.returns-in_err-at-clause-cause
 returns-in_err-at-clause-cause g c =
@@ -102,8 +104,8 @@ returns-in_err-at-clause-cause g c =
     let row = c.row-item.result in
     let i = c.loop-row.row-index in
     let is = here rows i row (omega (arith, c.loop-row-test.true)) c.row-item.is in
-    let before = up_to_more self.input.now self.output.now apart _ (λ file. moved_from self.shift.now file c.loop-row.at (drop i rows)) _ _ _ _ c.loop-row.invariant.up_to
-    (λ file. bytes_between file c.loop-row.at row.offset) (left self.shift.now rows i row) (λ file holds. left_at self.shift.now file c.loop-row.at rows i row is) _ _ c.in_ok-copy.ensures.written in
+    let before = up_to_more self.input.now self.output.now apart _ (λ file. written_from self.steps.now self.tag file c.loop-row.at (drop i rows)) _ _ _ _ c.loop-row.invariant.up_to
+    (λ file. copied self.tag file c.loop-row.at row.offset) (left self.steps.now self.tag rows i row) (λ file holds. left_at self.steps.now self.tag file c.loop-row.at rows i row is) _ _ c.in_ok-copy.ensures.written in
     let p = err_from_is_err_and c.from_residual-in_err-at.result c.from_residual-in_err-at.ensures.1 in
     rw (p.1, p.2) (cause_behind self.input.now self.output.now _ _ _ _ _ _ before self.length _ _ _ _ (c.in_ok-copy.ensures.done ∙ c.loop-row.invariant.counts) c.in_err-at.ensures.cause)
 
@@ -118,14 +120,14 @@ loop-row-preserved g c =
     let all_laid = laid c.loop-row.at self.length rows i row is c.loop-row.invariant.laid in
     let end = c.in_ok-at.at in
     let end_is : row_end row ≡ end = sym c.in_ok-at.ensures.end in
-    let before = up_to_more self.input.now self.output.now apart _ (λ file. moved_from self.shift.now file c.loop-row.at (drop i rows)) _ _ _ _ c.loop-row.invariant.up_to
-    (λ file. bytes_between file c.loop-row.at row.offset) (left self.shift.now rows i row) (λ file holds. left_at self.shift.now file c.loop-row.at rows i row is) _ _ c.in_ok-copy.ensures.written in
+    let before = up_to_more self.input.now self.output.now apart _ (λ file. written_from self.steps.now self.tag file c.loop-row.at (drop i rows)) _ _ _ _ c.loop-row.invariant.up_to
+    (λ file. copied self.tag file c.loop-row.at row.offset) (left self.steps.now self.tag rows i row) (λ file holds. left_at self.steps.now self.tag file c.loop-row.at rows i row is) _ _ c.in_ok-copy.ensures.written in
     record {
       laid = subst (λ n. AreLaid n (drop (i + 1) rows) self.length) end_is all_laid.2;
       told = λ file holds. (told file rows i row is (c.loop-row.invariant.told file holds)).1;
-      up_to = up_to_more self.input.now self.output.now apart _ (left self.shift.now rows i row) _ _ _ _ before
-          (λ file. moved_row_bytes self.shift.now file row) (λ file. moved_from self.shift.now file end (drop (i + 1) rows))
-          (λ file holds. ap (λ n. moved_row_bytes self.shift.now file row ++ moved_from self.shift.now file n (drop (i + 1) rows)) end_is) _ _ c.in_ok-at.ensures.written;
+      up_to = up_to_more self.input.now self.output.now apart _ (left self.steps.now self.tag rows i row) _ _ _ _ before
+          (λ file. moved_row_bytes self.steps.now file row) (λ file. written_from self.steps.now self.tag file end (drop (i + 1) rows))
+          (λ file holds. ap (λ n. moved_row_bytes self.steps.now file row ++ written_from self.steps.now self.tag file n (drop (i + 1) rows)) end_is) _ _ c.in_ok-at.ensures.written;
       ready = c.in_ok-at.ensures.ready;
       counts = c.in_ok-at.ensures.done ∙ c.in_ok-copy.ensures.done ∙ c.loop-row.invariant.counts;
     }
@@ -136,8 +138,8 @@ returns-clause-written g c =
     let rows = drop c.loop-row.row-index c.args.rows.now in
     let none : rows ≡ [] = drop_all c.loop-row.row-index c.args.rows.now (omega (arith, c.loop-row-test.false)) in
     on_ok_weaker c.copy-2.result
-    (up_to_last self.input.now self.output.now c.requires.ready.apart _ (λ file. moved_from self.shift.now file c.loop-row.at rows) _ _ _ _ c.loop-row.invariant.up_to
-    (λ file. bytes_between file c.loop-row.at self.length) (λ file holds. left_behind self.shift.now file c.loop-row.at self.length rows none (c.requires.ready.length_is file holds)) _ _)
+    (up_to_last self.input.now self.output.now c.requires.ready.apart _ (λ file. written_from self.steps.now self.tag file c.loop-row.at rows) _ _ _ _ c.loop-row.invariant.up_to
+    (λ file. copied self.tag file c.loop-row.at self.length) (λ file holds. left_behind self.steps.now self.tag file c.loop-row.at self.length rows none (c.requires.ready.length_is file holds)) _ _)
     c.copy-2.ensures.written
 
 pub returns-clause-prefix : goal.returns-clause-prefix
@@ -146,8 +148,8 @@ returns-clause-prefix g c =
     let rows = drop c.loop-row.row-index c.args.rows.now in
     let none : rows ≡ [] = drop_all c.loop-row.row-index c.args.rows.now (omega (arith, c.loop-row-test.false)) in
     on_err_weaker c.copy-2.result
-    (up_to_last_prefix self.input.now self.output.now c.requires.ready.apart _ (λ file. moved_from self.shift.now file c.loop-row.at rows) _ _ _ _ c.loop-row.invariant.up_to
-    (λ file. bytes_between file c.loop-row.at self.length) (λ file holds. left_behind self.shift.now file c.loop-row.at self.length rows none (c.requires.ready.length_is file holds)) _)
+    (up_to_last_prefix self.input.now self.output.now c.requires.ready.apart _ (λ file. written_from self.steps.now self.tag file c.loop-row.at rows) _ _ _ _ c.loop-row.invariant.up_to
+    (λ file. copied self.tag file c.loop-row.at self.length) (λ file holds. left_behind self.steps.now self.tag file c.loop-row.at self.length rows none (c.requires.ready.length_is file holds)) _)
     c.copy-2.ensures.prefix
 
 pub returns-clause-cause : goal.returns-clause-cause

@@ -3,7 +3,7 @@ use Rattle.std.proofs.Common.{◌+◌, ◌≤◌, take, drop, refl, ◌∙◌, a
 use Rattle.std.proofs.lemmas.Result.{err_from_is_err_and}
 use Rattle.edits.specs.Moving.{bytes_between}
 use Rattle.edits.proofs.PassLaws.{on_err, up_to_begun, up_to_more, up_to_prefix, between_split, cause_behind}
-use Rattle.edits.proofs.moving.Pass.copy.Goals as goal
+use Rattle.edits.proofs.moving.Pass.copy_plain.Goals as goal
 
 pub loop-at-init : goal.loop-at-init
 loop-at-init g c =

@@ -3,7 +3,7 @@ use Rattle.std.proofs.Common.{◌≡◌, ◌-◌, ◌≤◌}
 use Rattle.edits.specs.Moving.{bytes_between}
 use Rattle.edits.specs.Pass.{IsReady}
 use Rattle.edits.proofs.PassLaws.{WritesUpTo}
-use Rattle.edits.proofs.moving.Pass.copy.Given as goal
+use Rattle.edits.proofs.moving.Pass.copy_plain.Given as goal
 
 abbrev pub invariant-loop-at : goal.invariant-loop-at
 invariant-loop-at g l = record {
