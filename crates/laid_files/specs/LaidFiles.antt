@@ -1,0 +1,119 @@
+-- Files into whose frames all main data were laid anew: blocks of tags, an Info frame, the frames, and other blocks
+-- (ISO/IEC 11172-3 and 13818-3, 2.4.1 and 2.4.2.7).
+use Rattle.std.specs.Prelude.{◌≡◌, ℕ, ◌+◌, ◌-◌, ◌*◌, ◌<◌, false, List, [], ◌∷◌, ◌++◌, length, take, drop, slice_index_or, Some, IfSome, option_map, option_to_list}
+use Rattle.std.specs.List.{concat}
+use Rattle.bit_fields.specs.Bits.{bits, AreBytes}
+use Rattle.frame_header.specs.Fields.{HeaderFields, ClassFields, IsHeader}
+use Rattle.frame_header.specs.Tables.{class_of, length_of}
+use Rattle.side_info.specs.declared.side.Side.{Side}
+use Rattle.side_info.specs.Side.{SideFits, payload_bits, payload_bytes}
+use Rattle.tag_blocks.specs.declared.block.Block.{Block}
+use Rattle.tag_blocks.specs.Blocks.{block_front}
+use Rattle.info_header.specs.declared.fields.Info.{Info}
+use Rattle.info_header.specs.HeadText.{low_place}
+use Rattle.info_header.specs.InfoFrame.{info_header_of, info_frame}
+use Rattle.frame_writer.specs.Laid.{zeros, CanBeLaid}
+use Rattle.frame_writer.specs.Frames.{Frame, pieces, frame_bytes}
+use Rattle.sync_survey.specs.declared.places.Piece.{Piece}
+use Rattle.sync_survey.specs.declared.places.Head.{Head}
+use Rattle.sync_survey.specs.declared.rows.Row.{Row}
+use Rattle.sync_survey.specs.MainData.{StreamFrame, no_slot, part_lengths, parts_of}
+use Rattle.sync_survey.specs.Faults.{SurveyFields}
+
+-- ---- what stands in such a file
+
+-- these are the bytes of one block
+abbrev pub IsBlock : List ℕ → Type 0
+IsBlock bytes = (block : Block) × (block_front bytes ≡ Some block) × (block.length ≡ length bytes)
+
+-- each of these is
+abbrev pub IsBlocks : List (List ℕ) → Type 0
+IsBlocks [] = Unit {0}
+IsBlocks (b ∷ blocks) = IsBlock b × IsBlocks blocks
+
+-- side information has two granules of two channels each, and scfsi of two channels; those that the class lacks are 0
+pub record HasPairs (s : Side) : Type 0 where
+  pub scfsi : length s.scfsi ≡ 2
+  pub granules : length s.granules ≡ 2
+  pub first : length (slice_index_or s.granules 0 []) ≡ 2
+  pub second : length (slice_index_or s.granules 1 []) ≡ 2
+
+-- a frame of the class and its main data, as many bytes as its side information says, the last of them filled up with 0
+pub record IsEntry (c : ClassFields) (f : Frame) : Type 0 where
+  pub header : IsHeader f.kept.header
+  pub class : class_of f.kept.header ≡ c
+  pub pairs : HasPairs f.kept.side
+  pub fits : SideFits c f.kept.side
+  pub octets : AreBytes f.payload
+  pub size : length f.payload ≡ payload_bytes f.kept.side
+  pub filled : drop (payload_bits f.kept.side) (bits f.payload) ≡ zeros (8 * payload_bytes f.kept.side - payload_bits f.kept.side)
+
+abbrev pub AreEntries : ClassFields → List Frame → Type 0
+AreEntries c [] = Unit {0}
+AreEntries c (f ∷ frames) = IsEntry c f × AreEntries c frames
+
+-- what such a frame is in a stream
+abbrev pub entry_of : Frame → StreamFrame
+entry_of f = record {
+  header = record f.kept.header { slot = no_slot };
+  side = record f.kept.side { main_data_begin = 0 };
+  payload = parts_of (part_lengths f.kept.header f.kept.side) (take (payload_bits f.kept.side) (bits f.payload));
+}
+
+-- the table of an Info frame, where it has one, has 100 entries, and the extension 36 bytes
+pub record HasInfoSizes (info : Info) : Type 0 where
+  pub table : IfSome info.table (λ table. length table ≡ 100)
+  pub extension : length info.extension ≡ 36
+
+-- ---- the file
+
+-- blocks, an Info frame like this header, the frames with all main data laid into their areas, and blocks
+unfoldable pub laid_file : List (List ℕ) → HeaderFields → Info → List Frame → List (List ℕ) → List ℕ
+laid_file front first info frames back = concat front ++ (info_frame first info ++ (frame_bytes frames ++ concat back))
+
+-- there are frames; they and the Info frame are of the class, and the main data can be laid into their areas
+pub record IsLaidFile (c : ClassFields) (front : List (List ℕ)) (first : HeaderFields) (info : Info) (frames : List Frame) (back : List (List ℕ)) : Type 0 where
+  pub blocks_before : IsBlocks front
+  pub header : IsHeader first
+  pub class : class_of first ≡ c
+  pub sizes : HasInfoSizes info
+  pub some : 0 < length frames
+  pub entries : AreEntries c frames
+  pub laid : CanBeLaid (pieces frames)
+  pub blocks_behind : IsBlocks back
+
+-- ---- what a survey tells of it
+
+-- the bytes of a frame
+abbrev pub frame_length : Frame → ℕ
+frame_length f = length_of (class_of f.kept.header) f.kept.header.slot
+
+-- frames one behind the other, the first of them at an offset; none is lost
+abbrev pub rows_from : ℕ → List Frame → List Row
+rows_from at [] = []
+rows_from at (f ∷ frames) = record { offset = at; header = f.kept.header; side = f.kept.side; lost = false } ∷ rows_from (at + frame_length f) frames
+
+-- blocks one behind the other, the first of them at an offset
+abbrev pub blocks_from : ℕ → List (List ℕ) → List Piece
+blocks_from at [] = []
+blocks_from at (b ∷ blocks) = option_to_list (option_map (λ block. record { offset = at; block = block }) (block_front b)) ++ blocks_from (at + length b) blocks
+
+-- the Info frame at an offset is a head; its text stands right behind its side information
+abbrev pub head_at : ℕ → HeaderFields → Head
+head_at at first = record { offset = at; header = info_header_of first; text_at = low_place (info_header_of first) }
+
+-- where the frames behind the Info frame begin
+abbrev pub frames_place : List (List ℕ) → HeaderFields → Info → ℕ
+frames_place front first info = length (concat front) + length (info_frame first info)
+
+-- There is no junk, the Info frame is the head, and the frames and blocks are those that were given.
+unfoldable pub laid_fields : List (List ℕ) → HeaderFields → Info → List Frame → List (List ℕ) → SurveyFields
+laid_fields front first info frames back = record {
+  frames = rows_from (frames_place front first info) frames;
+  blocks = blocks_from 0 front ++ blocks_from (frames_place front first info + length (frame_bytes frames)) back;
+  head = Some (head_at (length (concat front)) first);
+  junk = length (concat front);
+  first = length (concat front);
+  class = class_of first;
+  length = length (laid_file front first info frames back);
+}

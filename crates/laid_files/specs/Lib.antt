@@ -1,0 +1,2 @@
+pub mod LaidFiles
+pub mod Laws

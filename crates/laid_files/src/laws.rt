@@ -1,0 +1,15 @@
+//! Laws of files into whose frames all main data were laid anew. Each function does nothing: a proof that needs its law
+//! calls it.
+ghost use Rattle.laid_files.specs.Laws.{LaidStream, LaidSurvey};
+
+/// Blocks, an Info frame, at least one frame, all main data laid into the areas of the frames, and blocks: such a file is
+/// well-formed, and its stream is the frames that were given, with the main data that were given.
+pub fn laid_stream()
+    ensures { LaidStream }
+{}
+
+/// A survey of such a file that allows at least as many frames as it has has no fault. It finds the Info frame as the
+/// head, behind the blocks and no junk, and the frames and blocks where they were put; none of the frames is lost.
+pub fn laid_survey()
+    ensures { LaidSurvey }
+{}
