@@ -6,3 +6,6 @@
 mod laws;
 
 pub use laws::{laid_stream, laid_survey};
+
+#[cfg(test)]
+mod tests;

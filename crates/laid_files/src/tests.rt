@@ -1,0 +1,152 @@
+//! A file that the crates below put together, and what a survey finds in it. Its places were worked out by hand from the
+//! standard's rule of the frame length (ISO/IEC 11172-3, 2.4.3.1).
+
+use arrayvec::ArrayVec;
+use frame_header::Header;
+use frame_writer::Writer;
+use info_header::{info_over, write_info};
+use outside::{Failed, Folder, MemFolder};
+use side_info::Side;
+use std::alloc::{AllocGlobal, Global};
+use std::process::Abort;
+use std::test::Fail;
+use sync_survey::{Piece, Row, Survey, survey};
+use tag_blocks::{Block, Kind};
+
+/// MPEG-1, 128 kbit/s at 44,100 Hz in two channels: 417 bytes, and an area of 381. An Info frame in front of such frames
+/// has 208 bytes, at 64 kbit/s.
+static PLAIN: [u8; 4] = [0xff, 0xfb, 0x90, 0x00];
+
+/// An ID3v2 tag of 2 bytes behind its header of 10.
+static ID3V2: [u8; 12] = *b"ID3\x03\x00\x00\x00\x00\x00\x02ab";
+
+/// An ID3v1 tag, of 128 bytes with 125 spaces behind it.
+static ID3V1: [u8; 3] = *b"TAG";
+
+static BLOCKS: [Piece; 2] = [
+    Piece {
+        offset: 0,
+        block: Block {
+            kind: Kind::Id3v2,
+            length: 12,
+        },
+    },
+    Piece {
+        offset: 1471,
+        block: Block {
+            kind: Kind::Id3v1,
+            length: 128,
+        },
+    },
+];
+
+/// Writes a frame whose side fields are 0, but for main_data_begin and the bits of its first granule and channel, whose
+/// main data these are.
+#[tactic(auto, using(outside::proofs::FilesLaws::emptied_there))]
+fn write<D: Folder>(
+    rt: &impl Abort,
+    writer: &mut Writer,
+    header: &Header,
+    begin: u16,
+    payload: &[u8],
+    folder: &mut D,
+) -> Result<(), Failed> {
+    assert!(rt; payload.len() < 512);
+    let mut side = Side::empty().with_begin(begin);
+    side.granules[0][0].part2_3_length = 8 * payload.len() as u16;
+    assert!(rt; writer.class().is_same(header.class()) && side.fits(header.class()));
+    assert!(rt; writer.is_ready() && u32::from(begin) <= writer.reach());
+    assert!(rt; payload.len() <= usize::from(begin) + header.area() as usize);
+    // Nothing is appended before the end, so the file may be made anew.
+    folder.create("frames")?;
+    writer.frame(header, &side, payload, folder, "frames")
+}
+
+/// Writes the end of the frames.
+#[tactic(auto, using(outside::proofs::FilesLaws::emptied_there))]
+fn finish<D: Folder>(writer: &mut Writer, folder: &mut D) -> Result<(), Failed> {
+    folder.create("frames")?;
+    writer.finish(folder, "frames")
+}
+
+/// Three frames: the second is silent, and the main data of the third begin in the first one's area.
+fn write_frames<D: Folder>(
+    rt: &impl Abort,
+    alloc: Global,
+    header: &Header,
+    folder: &mut D,
+) -> Result<(), Fail> {
+    let mut writer = Writer::new(alloc, header.class())?;
+    assert!(rt; write(rt, &mut writer, header, 0, &[0x11; 300], folder).is_ok());
+    assert!(rt; write(rt, &mut writer, header, 81, &[], folder).is_ok());
+    assert!(rt; write(rt, &mut writer, header, 462, &[0x22; 499], folder).is_ok());
+    assert!(rt; finish(&mut writer, folder).is_ok());
+    Ok(())
+}
+
+/// ID3v2, an Info frame at 12, the frames at 220, 637 and 1,054, and ID3v1 at 1,471: 1,599 bytes.
+fn file_around(alloc: Global, header: &Header, frames: &[u8]) -> Result<Vec<u8>, Fail> {
+    let mut info: ArrayVec<u8, 1441> = ArrayVec::new();
+    write_info(
+        header,
+        &info_over(header.class(), &[header.slot; 3]),
+        &mut info,
+    );
+    let mut file = Vec::new(alloc);
+    file.extend_from_slice(&ID3V2)?;
+    file.extend_from_slice(info.as_slice())?;
+    file.extend_from_slice(frames)?;
+    file.extend_from_slice(&ID3V1)?;
+    file.extend_from_slice(&[b' '; 125])?;
+    Ok(file)
+}
+
+fn expect_row(rt: &impl Abort, row: &Row, offset: u64, begin: u16, bits: u32) {
+    assert_eq!(rt; row.offset, offset);
+    assert_eq!(rt; row.side.main_data_begin, begin);
+    assert_eq!(rt; row.side.bits(), bits);
+    assert!(rt; !row.lost);
+}
+
+fn expect_survey(rt: &impl Abort, survey: &Survey) {
+    assert_eq!(rt; (survey.junk(), survey.length()), ((12, 0), 1599));
+    assert_eq!(rt; survey.blocks(), BLOCKS.as_slice());
+    assert_eq!(rt;
+        survey.head().map(|head| (head.offset, head.text_at)),
+        Some((12, 36))
+    );
+    let [first, second, third] = survey.frames() else {
+        panic!(rt; "three frames");
+    };
+    expect_row(rt, first, 220, 0, 2400);
+    expect_row(rt, second, 637, 81, 0);
+    expect_row(rt, third, 1054, 462, 3992);
+}
+
+#[test]
+fn a_file_of_three_frames(rt: HostRuntime) -> Result<(), Fail> {
+    let header = Header::read(PLAIN)?;
+    let mut folder = MemFolder::new(rt.alloc());
+    folder.put("frames", &[])?;
+    folder.reserve("frames", 1251)?;
+    write_frames(&rt, rt.alloc(), &header, &mut folder)?;
+    let frames = folder.get("frames").ok_or("no frames")?;
+    let file = file_around(rt.alloc(), &header, frames)?;
+    // The third frame's main data begin 300 bytes into the first one's area, at 256, and pass the 36 bytes before the two
+    // areas behind it.
+    for (place, byte) in [
+        (555, 0x11),
+        (556, 0x22),
+        (673, 0x22),
+        (1126, 0x22),
+        (1127, 0),
+    ] {
+        assert_eq!(rt; file.get(place), Some(&byte), "{place}");
+    }
+    folder.put("whole", &file)?;
+    let Ok(survey) = survey(rt.alloc(), &mut folder, "whole", 3) else {
+        panic!(&rt; "no survey");
+    };
+    expect_survey(&rt, &survey);
+    Ok(())
+}
