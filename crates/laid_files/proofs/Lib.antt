@@ -7,3 +7,4 @@ pub mod LaidFrames
 pub mod LaidRuns
 pub mod LaidSound
 pub mod LaidLaws
+pub mod KeptBlocks

@@ -31,6 +31,10 @@ abbrev pub IsBlocks : List (List ℕ) → Type 0
 IsBlocks [] = Unit {0}
 IsBlocks (b ∷ blocks) = IsBlock b × IsBlocks blocks
 
+-- the bytes of a block of a file
+abbrev pub block_bytes : List ℕ → Piece → List ℕ
+block_bytes file p = take p.block.length (drop p.offset file)
+
 -- side information has two granules of two channels each, and scfsi of two channels; those that the class lacks are 0
 pub record HasPairs (s : Side) : Type 0 where
   pub scfsi : length s.scfsi ≡ 2

@@ -1,6 +1,6 @@
 //! Laws of files into whose frames all main data were laid anew. Each function does nothing: a proof that needs its law
 //! calls it.
-ghost use Rattle.laid_files.specs.Laws.{LaidStream, LaidSurvey};
+ghost use Rattle.laid_files.specs.Laws.{LaidStream, LaidSurvey, SurveyedBlocks};
 
 /// Blocks, an Info frame, at least one frame, all main data laid into the areas of the frames, and blocks: such a file is
 /// well-formed, and its stream is the frames that were given, with the main data that were given.
@@ -12,4 +12,10 @@ pub fn laid_stream()
 /// head, behind the blocks and no junk, and the frames and blocks where they were put; none of the frames is lost.
 pub fn laid_survey()
     ensures { LaidSurvey }
+{}
+
+/// The bytes of each block that a survey of a file without fault tells are those of a block, wherever they are put, so they
+/// may stand in front of and behind the frames of such a file.
+pub fn surveyed_blocks()
+    ensures { SurveyedBlocks }
 {}

@@ -1,11 +1,11 @@
 //! Files of which all main data were laid anew: blocks of tags, an Info frame, the frames with the main data of all of
-//! them in their areas, and other blocks. This is the form of each file that is written with frames that were put
-//! together. The definitions stand in `specs/`, and the laws say what a survey of such a file tells.
+//! them in their areas, and other blocks. A file that is put together from frames of other files has this form. The
+//! definitions stand in `specs/`; there is no code, and the laws say what a survey of such a file tells.
 #![tactic(auto)]
 
 mod laws;
 
-pub use laws::{laid_stream, laid_survey};
+pub use laws::{laid_stream, laid_survey, surveyed_blocks};
 
 #[cfg(test)]
 mod tests;
