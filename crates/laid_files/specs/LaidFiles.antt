@@ -35,7 +35,7 @@ IsBlocks (b ∷ blocks) = IsBlock b × IsBlocks blocks
 abbrev pub block_bytes : List ℕ → Piece → List ℕ
 block_bytes file p = take p.block.length (drop p.offset file)
 
--- side information has two granules of two channels each, and scfsi of two channels; those that the class lacks are 0
+-- the lists of side information have two granules of two channels each, and scfsi two channels, also where the class has fewer
 pub record HasPairs (s : Side) : Type 0 where
   pub scfsi : length s.scfsi ≡ 2
   pub granules : length s.granules ≡ 2
