@@ -138,7 +138,3 @@ left-block t piece some is =
     ap (λ ts. merged (map Block ts) (stream_left t))
     (drop_more t.pieces.now t.next_piece piece (ltb-true t.next_piece (length t.pieces.now) (sym some)) ∙ ap (λ p. p ∷ drop (t.next_piece + 1) t.pieces.now) (sym is))
 
--- the walk with as many blocks left
-pub left-same : (t u : Things) → u.pieces ≡ t.pieces → u.next_piece ≡ t.next_piece → left u ≡ merged (map Block (drop t.next_piece t.pieces.now)) (stream_left u)
-unfolding left
-left-same t u blocks next = rw (blocks, next) refl

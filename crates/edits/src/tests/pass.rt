@@ -96,7 +96,7 @@ fn moves_the_gains_of_a_long_file(rt: HostRuntime) -> Result<(), Fail> {
     folder.reserve("loud", 80_000)?;
     let loud = file_of(rt.alloc(), &LOUD)?;
     assert_eq!(rt;
-        gain(rt.alloc(), &mut folder, "quiet", "loud", &LOUDER),
+        gain(rt.alloc(), &mut folder, "quiet", "loud", &LOUDER, false),
         Ok(())
     );
     assert_eq!(rt; folder.get("loud"), Some(&loud[..]));
@@ -140,7 +140,7 @@ fn reads_and_writes_a_few_bytes_at_a_time(rt: HostRuntime) -> Result<(), Fail> {
     for case in &CASES {
         let quiet = file_of(rt.alloc(), &QUIET)?;
         let mut folder = Slow::new(rt.alloc(), quiet, case.trouble);
-        let answer = gain(rt.alloc(), &mut folder, "quiet", "loud", &LOUDER);
+        let answer = gain(rt.alloc(), &mut folder, "quiet", "loud", &LOUDER, false);
         assert_eq!(rt; answer, case.answer);
         assert_eq!(rt; folder.output.len(), case.written, "{:?}", case.trouble);
         assert!(rt; loud.starts_with(&folder.output), "{:?}", case.trouble);
