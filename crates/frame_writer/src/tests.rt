@@ -184,15 +184,121 @@ fn two_frames_in_a_file(rt: HostRuntime) -> Result<(), Fail> {
     Ok(())
 }
 
-/// The one write fails, and nothing is in the file.
-#[test]
-fn a_write_fails(rt: HostRuntime) -> Result<(), Fail> {
-    let header = header_of(PLAIN)?;
-    let mut folder = folder_of(&rt)?;
-    folder.fail(Call::Write, 1)?;
+/// How many bytes of its area the first of several frames of the longest kind uses.
+const USED: usize = 1400;
+
+/// The other bytes of its area, in which the main data of the next begin.
+const LEFT: u16 = 20;
+
+/// Writes a frame as `write` does, behind what the file holds.
+fn append<D: Folder>(
+    rt: &impl Abort,
+    writer: &mut Writer,
+    header: &Header,
+    begin: u16,
+    payload: &[u8],
+    folder: &mut D,
+) -> Result<(), Failed> {
+    let side = Side::empty().with_begin(begin);
+    assert!(rt; writer.class().is_same(header.class()) && side.fits(header.class()));
+    assert!(rt; writer.is_ready() && u32::from(begin) <= writer.reach());
+    assert!(rt; payload.len() <= usize::from(begin) + header.area() as usize);
+    folder.find("o")?;
+    writer.frame(header, &side, payload, folder, "o")
+}
+
+/// Writes so many frames of the longest kind, and the end. The main data of frame n, counted from 0, are bytes n + 1.
+fn write_many<D: Folder>(
+    rt: &impl Abort,
+    writer: &mut Writer,
+    header: &Header,
+    count: u8,
+    folder: &mut D,
+) -> Result<(), Failed> {
+    for number in 0..count {
+        let begin = if number == 0 { 0 } else { LEFT };
+        let payload = [number + 1; USED + LEFT as usize];
+        let size = USED + usize::from(begin);
+        append(rt, writer, header, begin, &payload[..size], folder)?;
+    }
+    folder.find("o")?;
+    writer.finish(folder, "o")
+}
+
+/// The byte at this place of a file of so many such frames. Before the area stand the header's 4 bytes, and the side
+/// information's 17, of which the first is main_data_begin.
+fn byte_at(place: usize, count: u8) -> u8 {
+    let number = (place / 1441 % 256) as u8;
+    match place % 1441 {
+        0 => 0xff,
+        1 => 0xe3,
+        2 => 0xea,
+        4 if number > 0 => 20,
+        at if at < 21 => 0,
+        at if at < 1421 => number.wrapping_add(1),
+        _ if number.wrapping_add(1) == count => 0,
+        _ => number.wrapping_add(2),
+    }
+}
+
+/// So many frames, and how many bytes the file holds where its first write fails, its second, and so on, and at last
+/// where none does.
+struct Run {
+    count: u8,
+    held: &'static [usize],
+}
+
+/// 65,536 bytes are written at once, so 100 frames of 1,441 bytes fill them twice before the end. Of 46 frames the last
+/// waits up to the end, and with it they are filled there.
+static RUNS: [Run; 2] = [
+    Run {
+        count: 100,
+        held: &[0, 65_536, 131_072, 144_100],
+    },
+    Run {
+        count: 46,
+        held: &[0, 65_536, 66_286],
+    },
+];
+
+/// Lets one write fail, counted from 1: the file holds a prefix of the bytes.
+fn expect_held<R: Abort + AllocGlobal>(
+    rt: &R,
+    run: &Run,
+    failing: usize,
+    held: usize,
+) -> Result<(), Fail> {
+    let header = header_of(LONGEST)?;
+    let mut folder = MemFolder::new(rt.alloc());
+    folder.put("o", &[])?;
+    folder.reserve("o", 144_100)?;
+    folder.fail(Call::Write, failing as u64)?;
     let mut writer = Writer::new(rt.alloc(), header.class())?;
-    assert!(rt; write(&rt, &mut writer, &header, 0, &[0x11; 300], &mut folder).is_ok());
-    assert!(rt; finish(&mut writer, &mut folder).is_err());
-    assert!(rt; folder.get("o") == Some([].as_slice()));
+    let outcome = write_many(rt, &mut writer, &header, run.count, &mut folder);
+    assert_eq!(rt;
+        outcome.is_ok(),
+        failing == run.held.len(),
+        "write {failing}"
+    );
+    let bytes = folder.get("o").ok_or("no file")?;
+    assert_eq!(rt; bytes.len(), held, "write {failing}");
+    for (place, byte) in bytes.iter().enumerate() {
+        assert_eq!(rt;
+            *byte,
+            byte_at(place, run.count),
+            "write {failing}, byte {place}"
+        );
+    }
+    Ok(())
+}
+
+/// Each write fails in turn.
+#[test]
+fn writes_fail(rt: HostRuntime) -> Result<(), Fail> {
+    for run in &RUNS {
+        for (at, held) in run.held.iter().enumerate() {
+            expect_held(&rt, run, at + 1, *held)?;
+        }
+    }
     Ok(())
 }
