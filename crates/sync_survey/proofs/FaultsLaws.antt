@@ -51,12 +51,12 @@ module _ (said : ℕ) (class : ClassFields) (allowed place ended count : ℕ) (r
 
 -- ---- one frame more behind these
 
-get_more : (rows more : List Row) (i : ℕ) → i < length rows → slice_get (rows ++ more) i ≡ slice_get rows i
+pub get_more : (rows more : List Row) (i : ℕ) → i < length rows → slice_get (rows ++ more) i ≡ slice_get rows i
 get_more [] more i lt = absurd (omega (arith, lt))
 get_more (r ∷ rows) more zero lt = refl
 get_more (r ∷ rows) more (suc i) lt = get_more rows more i (omega (arith, lt))
 
-get_next : (rows : List Row) (r : Row) → slice_get (rows ++ r ∷ []) (length rows) ≡ Some r
+pub get_next : (rows : List Row) (r : Row) → slice_get (rows ++ r ∷ []) (length rows) ≡ Some r
 get_next [] r = refl
 get_next (q ∷ rows) r = get_next rows r
 

@@ -18,3 +18,4 @@ pub mod FirstFault
 pub mod ItemLists
 pub mod SurveyParts
 pub mod HeadSame
+pub mod PlacedRows

@@ -31,6 +31,7 @@ use Rattle.sync_survey.proofs.SurveyLaws.{overhead-within}
 use Rattle.sync_survey.proofs.BytesFaults.{frame_rightly}
 use Rattle.sync_survey.proofs.FrontLaws.{blocks_more}
 use Rattle.sync_survey.proofs.FoldersLaws.{memory_refusal, bytes_refusal}
+use Rattle.sync_survey.proofs.PlacedRows.{ArePlacedTo, placed_same, placed_next}
 use Rattle.sync_survey.proofs.Progress.{IsSurveyedTo, IsMarkedTo, IsBegun, passed_zeros, passed_block, passed_frame, first_fault}
 
 -- ---- a whole frame is shown up to its area
@@ -177,24 +178,27 @@ unfolding area_of
 area_within h = omega arith
 
 -- what is known of the frames and blocks, whatever is told of the file
-pub record IsLaidTo (first : ℕ) (found : Found) (at : ℕ) : Type 0 where
+pub record IsLaidTo (head : Option Head) (class : ClassFields) (first : ℕ) (found : Found) (at : ℕ) : Type 0 where
   pub rows : AreLaid first found.rows.items at
   pub pieces : BlocksAreLaid 0 found.pieces.items at
   pub low : found.before.place ≤ 1441 + at
+  pub placed : ArePlacedTo head class found.rows.items found.before.place found.before.ended
 
-module _ (first : ℕ) (class : ClassFields) (allowed at : ℕ) (front : List ℕ) (old new : Found) (size : ℕ) (laid : IsLaidTo first old at) where
-  laid_blocks : (item : Item) (blocks : List Piece) → option_to_list (block_as at item) ≡ blocks → size_of item ≤ size → KeepsBlocks blocks old new → IsLaidTo first new (at + size)
+module _ (head : Option Head) (first : ℕ) (class : ClassFields) (allowed at : ℕ) (front : List ℕ) (old new : Found) (size : ℕ) (laid : IsLaidTo head class first old at) where
+  laid_blocks : (item : Item) (blocks : List Piece) → option_to_list (block_as at item) ≡ blocks → size_of item ≤ size → KeepsBlocks blocks old new → IsLaidTo head class first new (at + size)
   laid_blocks item blocks are least keeps = record {
     rows = subst (λ l. AreLaid first l (at + size)) (sym keeps.rows) (laid_later first old.rows.items at (at + size) laid.rows (omega arith));
     pieces = blocks_more old.pieces.items new.pieces.items at size item laid.pieces least (keeps.pieces ∙ ap (λ l. old.pieces.items ++ l) (sym are));
     low = omega (arith, ap (λ b. b.place) keeps.before, laid.low);
+    placed = placed_same head class old.rows.items new.rows.items old.before new.before keeps.rows keeps.before laid.placed;
   }
 
-  pub laid_more : (item : Item) → size_of item ≤ size → Keeps class allowed at item front old new → IsLaidTo first new (at + size)
+  pub laid_more : (item : Item) → size_of item ≤ size → Keeps class allowed at item front old new → IsLaidTo head class first new (at + size)
   laid_more (Frame h) least keeps = record {
     rows = subst (λ l. AreLaid first l (at + size)) (sym keeps.rows) (laid_push first old.rows.items at (at + size) (record (row_in at h front) { lost = lacks_data old.before.place old.before.ended (row_in at h front) }) laid.rows keeps.fits (omega arith) (omega (arith, least)));
     pieces = blocks_more old.pieces.items new.pieces.items at size (Frame h) laid.pieces least (keeps.pieces ∙ sym (append-nil old.pieces.items));
     low = omega (arith, keeps.place, area_within h, laid.low, least);
+    placed = placed_next head class (word_said front) allowed (row_in at h front) old new keeps laid.placed;
   }
   laid_more Free least keeps = laid_blocks Free [] refl least keeps
   laid_more (Block b) least keeps = laid_blocks (Block b) (record { offset = at; block = b } ∷ []) refl least keeps

@@ -20,7 +20,7 @@ use Rattle.sync_survey.specs.Runs.{frames_of}
 use Rattle.sync_survey.specs.Start.{start_of}
 use Rattle.sync_survey.specs.Walk.{stream_run, head_of, numbered, all_blocks, fault_at, end_fault, walk_from}
 use Rattle.sync_survey.specs.MainData.{row_of, rows_of, lacks_data, place, end_before}
-use Rattle.sync_survey.specs.Faults.{where_true, has_wrong_word, points_too_far, overlaps, overruns, own_faults, faults_at, frame_faults, all_faults, first_of, class_from, faults_from, SurveyFields, fields_from, surveyed, surveyed_freely, stream_of_survey, stream_by, stream_of, HoldsStream}
+use Rattle.sync_survey.specs.Faults.{where_true, has_wrong_word, points_too_far, overlaps, overruns, own_faults, data_faults, faults_at, frame_faults, all_faults, first_of, class_from, faults_from, SurveyFields, fields_from, surveyed, surveyed_freely, stream_of_survey, stream_by, stream_of, HoldsStream}
 use Rattle.sync_survey.proofs.FaultsLaws.{none-of}
 use Rattle.sync_survey.proofs.SurveyLaws.{told_by, survey-whole, surveyed-is}
 use Rattle.sync_survey.proofs.RunsLaws.{run-ends}
@@ -135,6 +135,14 @@ sound-no_faults said class allowed place ended count r sound =
     (empty_both _ _ (empty_both _ _ (nothing_false _ _ sound.same) (nothing_false _ _ sound.word))
     (none-unless (lacks_data place ended r) (own_faults place ended r) (λ is. well-no_own place ended r (sound.main is))))
     (nothing_false _ _ sound.few)
+
+pub sound-no_data : (said : ℕ) (class : ClassFields) (allowed place ended count : ℕ) (r : Row) → IsSound said class allowed place ended count r → data_faults place ended r ≡ []
+sound-no_data said class allowed place ended count r sound =
+    none-unless (lacks_data place ended r) (own_faults place ended r) (λ is. well-no_own place ended r (sound.main is))
+
+-- main data without a fault stand where they may, unless the frame is lost
+pub data-none_well : (place ended : ℕ) (r : Row) → data_faults place ended r ≡ [] → lacks_data place ended r ≡ false → StandWell place ended r
+data-none_well place ended r none is = own-none_well place ended r (unless-none (lacks_data place ended r) (own_faults place ended r) none is)
 
 -- ---- all frames
 

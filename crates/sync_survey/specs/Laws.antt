@@ -11,6 +11,7 @@ use Rattle.sync_survey.specs.Runs.{Placed, run, item_of, AreEndToEnd, bytes_of_i
 use Rattle.sync_survey.specs.Start.{start_of, IsLeastStart}
 use Rattle.sync_survey.specs.MainData.{is_silent, points_too_far, place, is_lost}
 use Rattle.sync_survey.specs.Faults.{SurveyFields, surveyed, stream_of_survey, HoldsStream}
+use Rattle.sync_survey.specs.Survey.{AreWellPlaced}
 
 -- at the front of bytes one item stands, and no other
 abbrev pub OneItemStands : Type 0
@@ -50,3 +51,7 @@ LostFramesLead =
 -- a file without fault holds the stream that its survey tells, and is well-formed whatever number of frames was allowed
 abbrev pub SurveysHoldStreams : Type 0
 SurveysHoldStreams = (file : List ℕ) (allowed : ℕ) (s : SurveyFields) → surveyed file allowed ≡ Ok s → HoldsStream file (stream_of_survey file s)
+
+-- the frames of a file without fault are well placed
+abbrev pub SurveysArePlaced : Type 0
+SurveysArePlaced = (file : List ℕ) (allowed : ℕ) (s : SurveyFields) → surveyed file allowed ≡ Ok s → AreWellPlaced s.head s.class s.frames

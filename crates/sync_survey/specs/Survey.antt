@@ -1,14 +1,17 @@
 -- What a survey of a file of a folder answers.
-use Rattle.std.specs.Prelude.{◌≡◌, ℕ, ◌+◌, ◌≤◌, nat_lt, if◌then◌else◌, List, [], ◌∷◌, length, Result, Err}
+use Rattle.std.specs.Prelude.{◌≡◌, ℕ, ◌+◌, ◌≤◌, nat_lt, if◌then◌else◌, List, [], ◌∷◌, length, slice_get, Option, Some, Result, Err}
+use Rattle.frame_header.specs.Fields.{ClassFields}
 use Rattle.frame_header.specs.Tables.{class_of, length_of}
 use Rattle.side_info.specs.Side.{SideFits}
 use Rattle.outside.specs.Files.{Files, untold, Holds, IsThere, IsMissing}
 use Rattle.outside.specs.Counts.{Counts, Rose, NothingFailed}
+use Rattle.sync_survey.specs.declared.places.Head.{Head}
 use Rattle.sync_survey.specs.declared.places.Piece.{Piece}
 use Rattle.sync_survey.specs.declared.rows.Row.{Row}
 use Rattle.sync_survey.specs.declared.survey_fault.SurveyFault.{SurveyFault}
 use Rattle.sync_survey.specs.declared.survey_fault.SurveyFault.TheVariants.{TooLong}
-use Rattle.sync_survey.specs.Faults.{SurveyFields, surveyed, longest_file}
+use Rattle.sync_survey.specs.MainData.{place, end_before, is_lost}
+use Rattle.sync_survey.specs.Faults.{SurveyFields, surveyed, data_faults, longest_file}
 use Rattle.sync_survey.specs.Kinds.{kind_of, by_kind, HasRightNumbers}
 
 -- the survey of a file with these bytes, or why there is none: it is too long, or else its first fault
@@ -73,6 +76,18 @@ abbrev pub BlocksAreLaid : ℕ → List Piece → ℕ → Type 0
 BlocksAreLaid from [] to = from ≤ to
 BlocksAreLaid from (b ∷ blocks) to = (from ≤ b.offset) × BlocksAreLaid (b.offset + b.block.length) blocks to
 
+-- frame i of a stream of this class: it is of the class, its side fields are within their bits, its main data have no fault, and it is
+-- marked exactly where it is lost
+pub record IsWellPlaced (head : Option Head) (class : ClassFields) (rows : List Row) (i : ℕ) (r : Row) : Type 0 where
+  pub class_is : class_of r.header ≡ class
+  pub fits : SideFits class r.side
+  pub mark : r.lost ≡ is_lost head rows i r
+  pub sound : data_faults (place head rows i) (end_before head rows i) r ≡ []
+
+-- so is each frame
+abbrev pub AreWellPlaced : Option Head → ClassFields → List Row → Type 0
+AreWellPlaced head class rows = (i : ℕ) (r : Row) → slice_get rows i ≡ Some r → IsWellPlaced head class rows i r
+
 -- the junk ends where the first frame begins, and all frames and blocks are within the length
 pub record IsLaidOut (s : SurveyFields) : Type 0 where
   pub junk : s.junk ≤ s.first
@@ -80,3 +95,4 @@ pub record IsLaidOut (s : SurveyFields) : Type 0 where
   pub frames : AreLaid s.first s.frames s.length
   pub blocks : BlocksAreLaid 0 s.blocks s.length
   pub few : s.length ≤ longest_file
+  pub placed : AreWellPlaced s.head s.class s.frames

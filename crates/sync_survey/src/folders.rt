@@ -141,7 +141,7 @@ pub fn survey<D: Folder>(
     allowed: u32,
 ) -> Result<Survey, SurveyFault>
     ensures exact { IfOk result (λ s. (bytes : List ℕ) → Holds (D.files folder.old) name.now bytes → survey_of bytes allowed ≡ Ok (tells s)) }
-    // Whether the files are told or not: where frames and blocks stand.
+    // Whether the files are told or not: where frames and blocks stand, and that the main data of the frames do so well.
     ensures laid { IfOk result (λ s. IsLaidOut (tells s)) }
     ensures there { OnOk result (IsThere (D.files folder.old) name.now) }
     ensures octets { OnOk result ((bytes : List ℕ) → Holds (D.files folder.old) name.now bytes → AreBytes bytes) }

@@ -1,6 +1,6 @@
 //! Laws of the definitions that the survey's contract cites. Each function does nothing: a proof that needs
 //! its law calls it.
-ghost use Rattle.sync_survey.specs.Laws.{OneItemStands, RunsAreOnly, StartsAreLeast, LostFramesLead, SurveysHoldStreams};
+ghost use Rattle.sync_survey.specs.Laws.{OneItemStands, RunsAreOnly, StartsAreLeast, LostFramesLead, SurveysHoldStreams, SurveysArePlaced};
 
 /// At the front of bytes one item stands, and no other: a header, a block, a zero byte, the end, or nothing
 /// of these.
@@ -30,4 +30,11 @@ pub fn lost_frames_lead()
 /// allowed.
 pub fn surveys_hold_streams()
     ensures { SurveysHoldStreams }
+{}
+
+/// Each frame of a file without fault is of the class of the survey, its main data begin neither before all main
+/// data nor before the end of those before it and end within its own area, or it is marked as lost. The survey of
+/// a folder says so too where the folder doesn't tell its files (`laid`).
+pub fn surveys_are_placed()
+    ensures { SurveysArePlaced }
 {}

@@ -18,7 +18,8 @@ mod surveys;
 pub use folders::survey;
 pub use items::Item;
 pub use laws::{
-    lost_frames_lead, one_item_stands, runs_are_only, starts_are_least, surveys_hold_streams,
+    lost_frames_lead, one_item_stands, runs_are_only, starts_are_least, surveys_are_placed,
+    surveys_hold_streams,
 };
 pub use places::{Head, Piece, PlacedFrame, Start};
 pub use rows::Row;

@@ -2,6 +2,7 @@
 use Rattle.std.proofs.Common.{◌≡◌, ℕ, ◌-◌, ◌≤◌, List}
 use Rattle.outside.specs.Files.{Holds}
 use Rattle.outside.specs.Feed.{IsFedFrom}
+use Rattle.sync_survey.specs.Faults.{class_from}
 use Rattle.sync_survey.proofs.Progress.{IsMarkedTo}
 use Rattle.sync_survey.proofs.StepLaws.{IsLaidTo}
 use Rattle.sync_survey.proofs.folders.judge_frames.Given as goal
@@ -9,7 +10,7 @@ use Rattle.sync_survey.proofs.folders.judge_frames.Given as goal
 abbrev pub invariant-loop-at : goal.invariant-loop-at
 invariant-loop-at g l = record {
   surveyed : (bytes : List ℕ) → Holds (g.D.Folder.files l.initial.folder) l.name bytes → IsMarkedTo bytes l.start l.head l.allowed l.found.rows.items l.found.pieces.items l.found.before.place l.found.before.ended l.at;
-  laid : IsLaidTo l.start.first.offset l.found l.at;
+  laid : IsLaidTo l.head (class_from l.start) l.start.first.offset l.found l.at;
   within : l.at ≤ l.size;
   fed : IsFedFrom l.feed (g.D.Folder.files l.folder) l.name;
   files : g.D.Folder.files l.folder ≡ g.D.Folder.files l.initial.folder;

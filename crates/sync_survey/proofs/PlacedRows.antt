@@ -1,0 +1,224 @@
+-- The main data of the frames so far stand where they may, whatever is told of the file.
+use Rattle.std.proofs.Common.{◌≡◌, ℕ, zero, suc, ◌+◌, ◌<◌, ◌==◌, ◌&&◌, Bool, true, false, List, [], ◌∷◌, ◌++◌, length, length-append, take, map, Option, Some, None, Ok, refl, sym, ◌∙◌, ap, ap₂, subst, inl, inr, arith}
+use Rattle.std.specs.Prelude.{not, slice_get, sum_by, option_map}
+use Rattle.std.specs.List.{enumerate_from}
+use Rattle.std.proofs.lemmas.Bool.{eqb-true, cases_lt}
+use Rattle.std.proofs.lemmas.Option.{slice_get_within}
+use Rattle.std.proofs.lemmas.List.Sums.{sum_by-cons}
+use Rattle.frame_header.specs.declared.version.Version.{Version}
+use Rattle.frame_header.specs.declared.version.Version.TheVariants.{One, Two, TwoFive}
+use Rattle.frame_header.specs.Fields.{ClassFields, IsClass, version_number, same_class}
+use Rattle.frame_header.specs.Tables.{class_of}
+use Rattle.frame_header.proofs.HeaderLaws.{IsClass-class_of}
+use Rattle.side_info.specs.Side.{SideFits}
+use Rattle.side_info.proofs.FrameLaws.{fits-side_in}
+use Rattle.sync_survey.specs.declared.found.Found.{Found}
+use Rattle.sync_survey.specs.declared.items.Item.TheVariants.{Frame}
+use Rattle.sync_survey.specs.declared.places.Head.{Head}
+use Rattle.sync_survey.specs.declared.places.PlacedFrame.{PlacedFrame}
+use Rattle.sync_survey.specs.declared.places.Start.{Start}
+use Rattle.sync_survey.specs.declared.rows.Before.{Before}
+use Rattle.sync_survey.specs.declared.rows.Row.{Row}
+use Rattle.sync_survey.specs.Looks.{KeepsFrame}
+use Rattle.sync_survey.specs.Start.{start_of}
+use Rattle.sync_survey.specs.Walk.{head_of}
+use Rattle.sync_survey.specs.MainData.{row_of, rows_of, own_area, head_area, lacks_data, end_behind, place, end_before, marked_row, marked}
+use Rattle.sync_survey.specs.Faults.{data_faults, faults_at, first_of, class_from, SurveyFields, surveyed}
+use Rattle.sync_survey.specs.Survey.{IsWellPlaced, AreWellPlaced}
+use Rattle.sync_survey.proofs.ItemsLaws.{header_front-in_range, stands-at}
+use Rattle.sync_survey.proofs.StartLaws.{start-first}
+use Rattle.sync_survey.proofs.FaultsLaws.{none-of, get_more, get_next, place-more, place-next, place-none, end-more, end-next}
+use Rattle.sync_survey.proofs.SurveyParts.{frames_from, surveyed-parts, IsSound, faults-none_sound, sound-no_data, AreSound, all_faults-none_sound}
+
+-- ---- the same class
+
+version-same : (v w : Version) → version_number v ≡ version_number w → v ≡ w
+version-same One One e = refl
+version-same One Two e = absurd cc
+version-same One TwoFive e = absurd cc
+version-same Two One e = absurd cc
+version-same Two Two e = refl
+version-same Two TwoFive e = absurd cc
+version-same TwoFive One e = absurd cc
+version-same TwoFive Two e = absurd cc
+version-same TwoFive TwoFive e = refl
+
+both_of : (a b : Bool) → (a && b) ≡ true → (a ≡ true) × (b ≡ true)
+both_of true b e = (refl, e)
+both_of false b e = absurd cc
+
+class-parts : (c d : ClassFields) → c.version ≡ d.version → c.frequency_index ≡ d.frequency_index → c.channels ≡ d.channels → c ≡ d
+class-parts c d version frequency channels =
+    ap (λ v. record { version = v; frequency_index = c.frequency_index; channels = c.channels }) version
+    ∙ ap (λ n. record { version = d.version; frequency_index = n; channels = c.channels }) frequency
+    ∙ ap (λ n. record { version = d.version; frequency_index = d.frequency_index; channels = n }) channels
+
+same_class-is : (c d : ClassFields) → same_class c d ≡ true → c ≡ d
+unfolding same_class
+same_class-is c d e =
+    let all = both_of _ (c.channels == d.channels) e in
+    let front = both_of _ (c.frequency_index == d.frequency_index) all.0 in
+    class-parts c d (version-same c.version d.version (eqb-true _ _ front.0)) (eqb-true _ _ front.1) (eqb-true _ _ all.1)
+
+not_not : (b : Bool) → not b ≡ false → b ≡ true
+not_not true e = refl
+not_not false e = absurd cc
+
+class-sound : (c d : ClassFields) → not (same_class c d) ≡ false → c ≡ d
+class-sound c d e = same_class-is c d (not_not (same_class c d) e)
+
+-- ---- one frame more
+
+-- the frames so far, and the two numbers behind them
+pub record ArePlacedTo (head : Option Head) (class : ClassFields) (rows : List Row) (place_now ended : ℕ) : Type 0 where
+  pub frames : AreWellPlaced head class rows
+  pub place_is : place_now ≡ place head rows (length rows)
+  pub ended_is : ended ≡ end_before head rows (length rows)
+
+pub placed_none : (head : Option Head) (class : ClassFields) (place_now : ℕ) → place_now ≡ head_area head → ArePlacedTo head class [] place_now 0
+unfolding end_before
+placed_none head class place_now is = record { frames = λ i r found. absurd cc; place_is = is ∙ place-none head; ended_is = refl }
+
+pub placed_same : (head : Option Head) (class : ClassFields) (old new : List Row) (before behind : Before) → new ≡ old → behind ≡ before → ArePlacedTo head class old before.place before.ended
+    → ArePlacedTo head class new behind.place behind.ended
+placed_same head class old new before behind same stays placed =
+    subst (λ (b : Before). ArePlacedTo head class new b.place b.ended) (sym stays) (subst (λ rows. ArePlacedTo head class rows before.place before.ended) (sym same) placed)
+
+-- by place and end
+placed_by : (head : Option Head) (class : ClassFields) (rows : List Row) (i : ℕ) (r : Row) (place_now ended : ℕ) → place_now ≡ place head rows i → ended ≡ end_before head rows i
+    → class_of r.header ≡ class → SideFits class r.side → r.lost ≡ lacks_data place_now ended r → data_faults place_now ended r ≡ [] → IsWellPlaced head class rows i r
+placed_by head class rows i r place_now ended at ends same fits mark none = record {
+  class_is = same;
+  fits = fits;
+  mark = mark ∙ ap₂ (λ m n. lacks_data m n r) at ends;
+  sound = sym (ap₂ (λ m n. data_faults m n r) at ends) ∙ none;
+}
+
+-- those before stay
+placed_before : (head : Option Head) (class : ClassFields) (rows more : List Row) (i : ℕ) (r : Row) → i < length rows → IsWellPlaced head class rows i r → IsWellPlaced head class (rows ++ more) i r
+placed_before head class rows more i r lt is =
+    placed_by head class (rows ++ more) i r (place head rows i) (end_before head rows i) (sym (place-more head rows more i (omega (arith, lt)))) (sym (end-more head rows more i (omega (arith, lt)))) is.class_is is.fits is.mark is.sound
+
+module _ (head : Option Head) (class : ClassFields) (said allowed : ℕ) (r : Row) (rows : List Row) (place_now ended count : ℕ) (placed : ArePlacedTo head class rows place_now ended)
+    (none : first_of (faults_at said class allowed place_now ended count r) ≡ None) (fits : SideFits (class_of r.header) r.side) where
+  -- the frame with its mark
+  abbrev frame : Row
+  frame = record r { lost = lacks_data place_now ended r }
+
+  sound : IsSound said class allowed place_now ended count r
+  sound = faults-none_sound said class allowed place_now ended count r (none-of _ none)
+
+  class_is : class_of r.header ≡ class
+  class_is = class-sound (class_of r.header) class sound.same
+
+  last : IsWellPlaced head class (rows ++ frame ∷ []) (length rows) frame
+  last = placed_by head class (rows ++ frame ∷ []) (length rows) frame place_now ended
+      (placed.place_is ∙ sym (place-more head rows (frame ∷ []) (length rows) (omega arith)))
+      (placed.ended_is ∙ sym (end-more head rows (frame ∷ []) (length rows) (omega arith)))
+      class_is (subst (λ c. SideFits c r.side) class_is fits) refl (sound-no_data said class allowed place_now ended count r sound)
+
+  each : (i : ℕ) (q : Row) → slice_get (rows ++ frame ∷ []) i ≡ Some q → IsWellPlaced head class (rows ++ frame ∷ []) i q
+  each i q found =
+      elim (cases_lt i (length rows)) as (λ _. IsWellPlaced head class (rows ++ frame ∷ []) i q) [
+        | inl before ↦ placed_before head class rows (frame ∷ []) i q before (placed.frames i q (sym (get_more rows (frame ∷ []) i before) ∙ found))
+        | inr behind ↦
+            let at : i ≡ length rows = omega (arith, behind, slice_get_within (rows ++ frame ∷ []) i q found, length-append rows (frame ∷ [])) in
+            let one : Some frame ≡ Some q = sym (get_next rows frame) ∙ ap (slice_get (rows ++ frame ∷ [])) (sym at) ∙ found in
+            let same : frame ≡ q = cc in
+            subst (IsWellPlaced head class (rows ++ frame ∷ []) i) same (subst (λ n. IsWellPlaced head class (rows ++ frame ∷ []) n frame) (sym at) last)
+      ]
+
+  one_more : ArePlacedTo head class (rows ++ frame ∷ []) (place_now + own_area r.header) (end_behind place_now ended (Some r))
+  one_more = record {
+    frames = each;
+    place_is = omega (arith, placed.place_is, place-next head rows frame);
+    ended_is = ap₂ (λ m n. end_behind m n (Some frame)) placed.place_is placed.ended_is ∙ sym (end-next head rows frame);
+  }
+
+pub placed_next : (head : Option Head) (class : ClassFields) (said allowed : ℕ) (r : Row) (old new : Found) → KeepsFrame said class allowed r old new
+    → ArePlacedTo head class old.rows.items old.before.place old.before.ended → ArePlacedTo head class new.rows.items new.before.place new.before.ended
+placed_next head class said allowed r old new keeps placed =
+    let more = one_more head class said allowed r old.rows.items old.before.place old.before.ended (length old.rows.items) placed keeps.sound keeps.fits in
+    subst (λ n. ArePlacedTo head class new.rows.items new.before.place n) (sym keeps.ended)
+    (subst (λ n. ArePlacedTo head class new.rows.items n (end_behind old.before.place old.before.ended (Some r))) (sym keeps.place)
+    (subst (λ l. ArePlacedTo head class l (old.before.place + own_area r.header) (end_behind old.before.place old.before.ended (Some r))) (sym keeps.rows) more))
+
+-- ---- the frames of a file without fault
+
+-- marks change no place and no end
+module _ (head : Option Head) (rows : List Row) where
+  abbrev marks_from : ℕ → List Row → List Row
+  marks_from n xs = map (λ (p : ℕ × Row). marked_row head rows p.0 p.1) (enumerate_from n xs)
+
+  abbrev areas_in : List Row → ℕ
+  areas_in l = sum_by (λ (r : Row). own_area r.header) l
+
+  areas-marked : (i n : ℕ) (xs : List Row) → areas_in (take i (marks_from n xs)) ≡ areas_in (take i xs)
+  areas-marked zero n xs = refl
+  areas-marked (suc i) n [] = refl
+  areas-marked (suc i) n (x ∷ xs) =
+      sum_by-cons (λ (r : Row). own_area r.header) (marked_row head rows n x) (take i (marks_from (n + 1) xs))
+      ∙ ap (λ m. own_area x.header + m) (areas-marked i (n + 1) xs)
+      ∙ sym (sum_by-cons (λ (r : Row). own_area r.header) x (take i xs))
+
+  get-marked : (i n : ℕ) (xs : List Row) → slice_get (marks_from n xs) i ≡ option_map (marked_row head rows (n + i)) (slice_get xs i)
+  get-marked i n [] = refl
+  get-marked zero n (x ∷ xs) = ap (λ m. Some (marked_row head rows m x)) (omega arith)
+  get-marked (suc i) n (x ∷ xs) = get-marked i (n + 1) xs ∙ ap (λ m. option_map (marked_row head rows m) (slice_get xs i)) (omega arith)
+
+  place-marked : (i : ℕ) → place head (marked head rows) i ≡ place head rows i
+  unfolding place marked
+  place-marked i = ap (λ m. head_area head + m) (areas-marked i 0 rows)
+
+  found-marked : (i : ℕ) → slice_get (marked head rows) i ≡ option_map (marked_row head rows i) (slice_get rows i)
+  unfolding marked
+  found-marked i = get-marked i 0 rows ∙ ap (λ m. option_map (marked_row head rows m) (slice_get rows i)) (omega arith)
+
+  behind-marked : (i m n : ℕ) (o : Option Row) → end_behind m n (option_map (marked_row head rows i) o) ≡ end_behind m n o
+  behind-marked i m n None = refl
+  behind-marked i m n (Some r) = refl
+
+  end-marked : (i : ℕ) → end_before head (marked head rows) i ≡ end_before head rows i
+  unfolding end_before
+  end-marked zero = refl
+  end-marked (suc i) =
+      ap (λ o. end_behind (place head (marked head rows) i) (end_before head (marked head rows) i) o) (found-marked i)
+      ∙ behind-marked i (place head (marked head rows) i) (end_before head (marked head rows) i) (slice_get rows i)
+      ∙ ap₂ (λ m n. end_behind m n (slice_get rows i)) (place-marked i) (end-marked i)
+
+  from_some : (f : Row → Row) (o : Option Row) (q : Row) → option_map f o ≡ Some q → (r : Row) × (o ≡ Some r) × (f r ≡ q)
+  from_some f None q e = absurd cc
+  from_some f (Some r) q e = (r, refl, cc)
+
+row_fits : (file : List ℕ) (ps : List PlacedFrame) (i : ℕ) (r : Row) → IsClass (class_of r.header) → slice_get (rows_of file ps) i ≡ Some r → SideFits (class_of r.header) r.side
+row_fits file [] i r class is = absurd cc
+row_fits file (p ∷ ps) zero r class is =
+    let same : row_of file p ≡ r = cc in
+    subst (λ (q : Row). SideFits (class_of q.header) q.side) same (fits-side_in p.header _ (subst (λ (q : Row). IsClass (class_of q.header)) (sym same) class))
+row_fits file (p ∷ ps) (suc i) r class is = row_fits file ps i r class is
+
+class-start : (file : List ℕ) (start : Start) → start_of file ≡ Ok start → IsClass (class_from start)
+class-start file start is =
+    let h = start.first.header in
+    IsClass-class_of h (header_front-in_range _ h (stands-at file start.first.offset (Frame h) (start-first file start is).frame.is))
+
+well_placed : (file : List ℕ) (allowed : ℕ) (start : Start) (head : Option Head) (ps : List PlacedFrame) → start_of file ≡ Ok start → AreSound file head (class_from start) allowed (rows_of file ps)
+    → AreWellPlaced head (class_from start) (marked head (rows_of file ps))
+well_placed file allowed start head ps begins sound = λ i q found.
+    let rows : List Row = rows_of file ps in
+    let parts = from_some head rows (marked_row head rows i) (slice_get rows i) q (sym (found-marked head rows i) ∙ found) in
+    let r : Row = parts.0 in
+    let here = sound i r parts.1 in
+    let same = class-sound (class_of r.header) (class_from start) here.same in
+    let fits = row_fits file ps i r (subst IsClass (sym same) (class-start file start begins)) parts.1 in
+    subst (IsWellPlaced head (class_from start) (marked head rows) i) parts.2
+    (placed_by head (class_from start) (marked head rows) i (marked_row head rows i r) (place head rows i) (end_before head rows i) (sym (place-marked head rows i)) (sym (end-marked head rows i))
+    same (subst (λ c. SideFits c r.side) same fits) refl (sound-no_data _ (class_from start) allowed (place head rows i) (end_before head rows i) i r here))
+
+pub surveyed-placed : (file : List ℕ) (allowed : ℕ) (s : SurveyFields) → surveyed file allowed ≡ Ok s → AreWellPlaced s.head s.class s.frames
+surveyed-placed file allowed s e =
+    let parts = surveyed-parts file allowed s e in
+    let start = parts.0 in
+    let head = head_of file start.first in
+    let sound = all_faults-none_sound file head (class_from start) allowed _ parts.1.frames in
+    subst (λ (t : SurveyFields). AreWellPlaced t.head t.class t.frames) parts.2 (well_placed file allowed start head (frames_from file start) parts.1.start_is sound)
