@@ -56,6 +56,23 @@ pub Contains-area : (c : ClassFields) (p : Bool) (slots : List SlotFields) (slot
 Contains-area c p slots slot has =
     (has.0, omega (arith, has.1, areas-many c p slots), area_at c p slots has.0 (area_of c slot p) slot has.1 ∙ ap (λ s. area_of c s p) has.2)
 
+-- where the areas ascend, slots of one area are one slot
+pub one-slot : (c : ClassFields) (p : Bool) (slots : List SlotFields) (s t : SlotFields) → Ascend (areas_with c p slots) → Contains slots s → Contains slots t → area_of c s p ≡ area_of c t p → s ≡ t
+one-slot c p slots s t ascend first second same =
+    let many = areas-many c p slots in
+    let here = area_at c p slots first.0 0 s first.1 ∙ ap (λ x. area_of c x p) first.2 in
+    let there = area_at c p slots second.0 0 t second.1 ∙ ap (λ x. area_of c x p) second.2 in
+    elim (cases_lt first.0 second.0) as (λ _. s ≡ t) [
+      | inl before ↦ let less = ascend first.0 second.0 0 before (omega (arith, many, second.1)) in absurd (omega (arith, less, here, there, same))
+      | inr from ↦
+          elim (cases_lt second.0 first.0) as (λ _. s ≡ t) [
+            | inl behind ↦ let less = ascend second.0 first.0 0 behind (omega (arith, many, first.1)) in absurd (omega (arith, less, here, there, same))
+            | inr till ↦
+                let at : first.0 ≡ second.0 = omega (arith, from, till) in
+                sym first.2 ∙ get_or_default slots first.0 s t first.1 ∙ ap (λ k. get_or slots k t) at ∙ second.2
+          ]
+    ]
+
 -- the first that is large enough has the least area
 pub least-first : (wanted : ℕ) (c : ClassFields) (p : Bool) (slots : List SlotFields) (i : ℕ) (slot : SlotFields) → i < length slots → slot ≡ get_or slots i slot → Ascend (areas_with c p slots)
     → ((k : ℕ) → k < i → area_of c (get_or slots k slot) p < wanted) → wanted ≤ area_of c slot p → IsLeastSlot wanted c p slots slot

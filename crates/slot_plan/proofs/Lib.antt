@@ -4,3 +4,4 @@ pub mod PartLaws
 pub mod PlacedLaws
 pub mod CheckedLaws
 pub mod LeadInLaws
+pub mod OnePlan

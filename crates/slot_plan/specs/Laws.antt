@@ -1,11 +1,13 @@
 -- What holds of the definitions, whatever the code.
-use Rattle.std.specs.Prelude.{ℕ, ◌↔◌, false, List, ◌∷◌, map, Contains, Some, None}
-use Rattle.frame_header.specs.Fields.{SlotFields, HeaderFields}
+use Rattle.std.specs.Prelude.{◌≡◌, ℕ, ◌<◌, ◌↔◌, false, List, ◌∷◌, map, Contains, All, AllPairs, Some, None}
+use Rattle.frame_header.specs.Fields.{SlotFields, HeaderFields, IsClass}
 use Rattle.frame_header.specs.Tables.{class_of, area_of}
 use Rattle.frame_header.specs.Slots.{all_slots}
 use Rattle.slot_plan.specs.declared.needs.Need.{Need}
+use Rattle.slot_plan.specs.declared.needs.Placed.{Placed}
 use Rattle.slot_plan.specs.Lists.{Open, CanBeLaid, IsLeast}
-use Rattle.slot_plan.specs.Parts.{open_of, item_of, lead_in_of, items_of, IsLeadIn}
+use Rattle.slot_plan.specs.Parts.{open_of, item_of, lead_in_of, items_of, areas_with, IsLeadIn}
+use Rattle.slot_plan.specs.Plans.{IsPlan}
 
 -- a part's frames behind one lead-in, which may have any slot
 abbrev pub behind_any : (HeaderFields → List SlotFields) → Need → List Need → List Open
@@ -17,3 +19,20 @@ LeadInsComeFirst =
     (window : ℕ) (choices : HeaderFields → List SlotFields) (first : Need) (part : List Need) (slot : SlotFields)
     → (CanBeLaid window (map open_of (items_of choices (first ∷ part) None)) → ⊥) → Contains all_slots slot
     → IsLeadIn window choices (first ∷ part) (Some slot) ↔ ((rest : List ℕ) × IsLeast window (behind_any choices first part) (area_of (class_of first.header) slot false ∷ rest))
+
+-- the areas among which the frame chooses ascend, its own slot is among them, and its class is one of the standard's: what a policy's
+-- `choices` ensures of each header
+pub record ChoosesInOrder (choices : HeaderFields → List SlotFields) (need : Need) : Type 0 where
+  pub class : IsClass (class_of need.header)
+  pub ascending : AllPairs (λ m n. m < n) (areas_with (class_of need.header) need.header.protected (choices need.header))
+  pub own : Contains (choices need.header) need.header.slot
+
+-- so does each frame of each part
+abbrev pub ChooseInOrder : (HeaderFields → List SlotFields) → List (List Need) → Type 0
+ChooseInOrder choices parts = All (λ part. All (ChoosesInOrder choices) part) parts
+
+-- parts have no two plans
+abbrev pub PlansAreUnique : Type 0
+PlansAreUnique =
+    (window : ℕ) (choices : HeaderFields → List SlotFields) (parts : List (List Need)) (a b : List Placed)
+    → ChooseInOrder choices parts → IsPlan window choices parts a → IsPlan window choices parts b → a ≡ b

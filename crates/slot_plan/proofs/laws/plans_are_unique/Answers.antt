@@ -1,0 +1,6 @@
+-- One plan at most.
+use Rattle.slot_plan.proofs.OnePlan.{one-plan}
+use Rattle.slot_plan.proofs.laws.plans_are_unique.Goals as goal
+
+pub returns : goal.returns
+returns c = one-plan
