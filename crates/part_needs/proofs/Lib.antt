@@ -1,0 +1,3 @@
+pub mod BeginLaws
+pub mod FitLaws
+pub mod PartsLaws

@@ -1,0 +1,40 @@
+-- Parts of streams, and what a plan of them stands on.
+use Rattle.std.specs.Prelude.{◌≡◌, ℕ, ◌<◌, ◌≤◌, List, length, slice_index, slice_range, All, AllPairs}
+use Rattle.frame_header.specs.Fields.{ClassFields}
+use Rattle.frame_header.specs.Tables.{window_of}
+use Rattle.sync_survey.specs.declared.rows.Row.{Row}
+use Rattle.sync_survey.specs.Faults.{SurveyFields}
+use Rattle.sync_survey.specs.Survey.{AreWellPlaced}
+use Rattle.slot_plan.specs.Parts.{parts_of, window_in, AreOfClass, AreOfOneClass, ArePartsFeasible}
+use Rattle.part_needs.specs.Needs.{Asked}
+
+-- the frames of this survey are of its class, and their main data have no fault (`surveys_are_placed` says so of every well-formed file,
+-- and the clause `laid` of every survey of a folder)
+abbrev pub IsPlaced : SurveyFields → Type 0
+IsPlaced s = AreWellPlaced s.head s.class s.frames
+
+-- frames of a stream of this class, from one on and before another; there is at least one
+pub record IsPartOf (class : ClassFields) (rows : List Row) : Type 0 where
+  pub survey : SurveyFields
+  pub from : ℕ
+  pub to : ℕ
+  pub placed : IsPlaced survey
+  pub same : survey.class ≡ class
+  pub some : from < to
+  pub within : to ≤ length survey.frames
+  pub are : rows ≡ slice_range survey.frames from to
+
+-- what `plan` stands on, but the numbers of frames and parts
+pub record CanBePlanned (asked : Asked) : Type 0 where
+  pub class : AreOfOneClass asked.needs
+  pub some : 1 ≤ length asked.places
+  pub first : slice_index asked.places 0 ≡ 0
+  pub ascending : AllPairs (λ m n. m < n) asked.places
+  pub within : All (λ place. place < length asked.needs) asked.places
+  pub feasible : ArePartsFeasible (window_in asked.needs) (parts_of asked.needs asked.places)
+
+-- that holds, and all frames are of this class
+pub record AreFit (class : ClassFields) (asked : Asked) : Type 0 where
+  pub all : AreOfClass class asked.needs
+  pub window : window_in asked.needs ≡ window_of class.version
+  pub planned : CanBePlanned asked

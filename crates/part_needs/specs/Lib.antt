@@ -1,0 +1,4 @@
+-- What the contracts of this crate cite.
+pub mod Needs
+pub mod Fit
+pub mod Laws
