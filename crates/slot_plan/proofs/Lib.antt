@@ -5,3 +5,4 @@ pub mod PlacedLaws
 pub mod CheckedLaws
 pub mod LeadInLaws
 pub mod OnePlan
+pub mod ThePlan

@@ -95,7 +95,7 @@ one-lead_in window choices first part slot some most within own least =
     )
 
 -- with its lead-in a part needs nothing before it
-lead_in-needed : (window : ℕ) (choices : HeaderFields → List SlotFields) (part : List Need) (lead_in : Option SlotFields) → IsLeadIn window choices part lead_in
+pub lead_in-needed : (window : ℕ) (choices : HeaderFields → List SlotFields) (part : List Need) (lead_in : Option SlotFields) → IsLeadIn window choices part lead_in
     → (needed (map open_of (items_of choices part lead_in)) ≡ 0) × AllWithin window (map open_of (items_of choices part lead_in))
 unfolding IsLeadIn
 lead_in-needed window choices part None is = needed-can window (map open_of (items_of choices part None)) is

@@ -1,13 +1,14 @@
 -- What holds of the definitions, whatever the code.
 use Rattle.std.specs.Prelude.{◌≡◌, ℕ, ◌<◌, ◌↔◌, false, List, ◌∷◌, map, Contains, All, AllPairs, Some, None}
-use Rattle.frame_header.specs.Fields.{SlotFields, HeaderFields, IsClass}
-use Rattle.frame_header.specs.Tables.{class_of, area_of}
+use Rattle.frame_header.specs.Fields.{SlotFields, ClassFields, HeaderFields, IsClass}
+use Rattle.frame_header.specs.Tables.{class_of, area_of, window_of}
 use Rattle.frame_header.specs.Slots.{all_slots}
 use Rattle.slot_plan.specs.declared.needs.Need.{Need}
 use Rattle.slot_plan.specs.declared.needs.Placed.{Placed}
 use Rattle.slot_plan.specs.Lists.{Open, CanBeLaid, IsLeast}
-use Rattle.slot_plan.specs.Parts.{open_of, item_of, lead_in_of, items_of, areas_with, IsLeadIn}
+use Rattle.slot_plan.specs.Parts.{open_of, item_of, lead_in_of, items_of, areas_with, AreOfClass, ArePartsFeasible, IsLeadIn}
 use Rattle.slot_plan.specs.Plans.{IsPlan}
+use Rattle.slot_plan.specs.ThePlan.{the_plan}
 
 -- a part's frames behind one lead-in, which may have any slot
 abbrev pub behind_any : (HeaderFields → List SlotFields) → Need → List Need → List Open
@@ -36,3 +37,10 @@ abbrev pub PlansAreUnique : Type 0
 PlansAreUnique =
     (window : ℕ) (choices : HeaderFields → List SlotFields) (parts : List (List Need)) (a b : List Placed)
     → ChooseInOrder choices parts → IsPlan window choices parts a → IsPlan window choices parts b → a ≡ b
+
+-- parts of one class, each with a layout in its own slots, have one plan, which is that of the function
+abbrev pub ThePlanIsThePlan : Type 0
+ThePlanIsThePlan =
+    (class : ClassFields) (choices : HeaderFields → List SlotFields) (parts : List (List Need)) (placed : List Placed)
+    → All (λ part. AreOfClass class part) parts → ChooseInOrder choices parts → ArePartsFeasible (window_of class.version) parts
+    → IsPlan (window_of class.version) choices parts placed ↔ (placed ≡ the_plan (window_of class.version) choices parts)

@@ -1,4 +1,5 @@
--- How `plan` goes about it: the bytes that have to be free before a frame, and the choice by them. No contract of a public function cites these.
+-- How `plan` goes about it: the bytes that have to be free before a frame, and the choice by them. Of these the plan as a function
+-- (`ThePlan`) cites the bytes alone.
 use Rattle.std.specs.Prelude.{◌≡◌, ℕ, ◌+◌, ◌-◌, ◌≤◌, max, Bool, List, [], ◌∷◌, ◌++◌, map, Contains, Option}
 use Rattle.frame_header.specs.Fields.{SlotFields, ClassFields, HeaderFields}
 use Rattle.frame_header.specs.Tables.{area_of}

@@ -1,6 +1,6 @@
 //! Laws of the definitions that the contract of `plan` cites. Each function does nothing: a proof that needs its law
 //! calls it.
-ghost use Rattle.slot_plan.specs.Laws.{LeadInsComeFirst, PlansAreUnique};
+ghost use Rattle.slot_plan.specs.Laws.{LeadInsComeFirst, PlansAreUnique, ThePlanIsThePlan};
 
 /// The lead-in of a part, defined as the one of the least area with which the part can be laid, is what stands
 /// first in the lexicographically least list of the part's frames behind one lead-in, if they can't be laid
@@ -12,4 +12,10 @@ pub fn lead_ins_come_first()
 /// No parts have two plans, where the areas among which each frame chooses ascend.
 pub fn plans_are_unique()
     ensures { PlansAreUnique }
+{}
+
+/// Parts of one class, each with a layout in its own slots behind a whole window of free bytes, have one plan: what is
+/// placed frame by frame, each in the least area of its choices that leaves what is needed behind it.
+pub fn the_plan_is_the_plan()
+    ensures { ThePlanIsThePlan }
 {}
