@@ -138,6 +138,10 @@ unfolding ArePartsFeasible
 feasible_all class [] all = tt
 feasible_all class (rows ∷ parts) all = (all.0.feasible, feasible_all class parts all.1)
 
+each_class : (class : ClassFields) (parts : List (List Row)) → AllFits class parts → All (λ part. AreOfClass class part) (map (map need_of) parts)
+each_class class [] all = λ k d lt. absurd (omega (arith, lt))
+each_class class (rows ∷ parts) all = All-cons (λ part. AreOfClass class part) (map need_of rows) (map (map need_of) parts) all.0.all (each_class class parts all.1)
+
 -- ---- all of it
 
 planned : (class : ClassFields) (parts : List (List Row)) → 1 ≤ length parts → AllFits class parts → AreFit class (asked_of parts)
@@ -151,6 +155,7 @@ planned class (rows ∷ parts) some all =
     let within = places_within class 0 whole all in
     record {
       all = classes;
+      each = subst (All (λ part. AreOfClass class part)) (sym (parts_are [] 0 whole refl)) (each_class class whole all);
       window = window;
       planned = record {
         class = one_class class needs classes;

@@ -33,8 +33,9 @@ pub record CanBePlanned (asked : Asked) : Type 0 where
   pub within : All (λ place. place < length asked.needs) asked.places
   pub feasible : ArePartsFeasible (window_in asked.needs) (parts_of asked.needs asked.places)
 
--- that holds, and all frames are of this class
+-- that holds, and all frames are of this class, also part by part
 pub record AreFit (class : ClassFields) (asked : Asked) : Type 0 where
   pub all : AreOfClass class asked.needs
+  pub each : All (λ part. AreOfClass class part) (parts_of asked.needs asked.places)
   pub window : window_in asked.needs ≡ window_of class.version
   pub planned : CanBePlanned asked
