@@ -1,31 +1,37 @@
 -- The main data of the frames so far stand where they may, whatever is told of the file.
 use Rattle.std.proofs.Common.{◌≡◌, ℕ, zero, suc, ◌+◌, ◌<◌, ◌==◌, ◌&&◌, Bool, true, false, List, [], ◌∷◌, ◌++◌, length, length-append, take, map, Option, Some, None, Ok, refl, sym, ◌∙◌, ap, ap₂, subst, inl, inr, arith}
 use Rattle.std.specs.Prelude.{not, slice_get, sum_by, option_map}
-use Rattle.std.specs.List.{enumerate_from}
+use Rattle.std.specs.List.{enumerate_from, cons_option}
 use Rattle.std.proofs.lemmas.Bool.{eqb-true, cases_lt}
 use Rattle.std.proofs.lemmas.Option.{slice_get_within}
 use Rattle.std.proofs.lemmas.List.Sums.{sum_by-cons}
 use Rattle.frame_header.specs.declared.version.Version.{Version}
 use Rattle.frame_header.specs.declared.version.Version.TheVariants.{One, Two, TwoFive}
-use Rattle.frame_header.specs.Fields.{ClassFields, IsClass, version_number, same_class}
+use Rattle.frame_header.specs.Fields.{ClassFields, IsClass, IsHeader, version_number, same_class}
 use Rattle.frame_header.specs.Tables.{class_of}
 use Rattle.frame_header.proofs.HeaderLaws.{IsClass-class_of}
 use Rattle.side_info.specs.Side.{SideFits}
 use Rattle.side_info.proofs.FrameLaws.{fits-side_in}
 use Rattle.sync_survey.specs.declared.found.Found.{Found}
-use Rattle.sync_survey.specs.declared.items.Item.TheVariants.{Frame}
+use Rattle.sync_survey.specs.declared.items.Item.{Item}
+use Rattle.sync_survey.specs.declared.items.Item.TheVariants.{Frame, Free, Block, Zero, End, Nothing}
+use Rattle.sync_survey.specs.declared.runs.Part.{Part}
+use Rattle.sync_survey.specs.declared.runs.Part.TheVariants.{Stream}
 use Rattle.sync_survey.specs.declared.places.Head.{Head}
 use Rattle.sync_survey.specs.declared.places.PlacedFrame.{PlacedFrame}
 use Rattle.sync_survey.specs.declared.places.Start.{Start}
 use Rattle.sync_survey.specs.declared.rows.Before.{Before}
 use Rattle.sync_survey.specs.declared.rows.Row.{Row}
+use Rattle.sync_survey.specs.Items.{item_at, size_of}
+use Rattle.sync_survey.specs.Runs.{Placed, frame_as, frames_of, AreEndToEnd}
 use Rattle.sync_survey.specs.Looks.{KeepsFrame}
 use Rattle.sync_survey.specs.Start.{start_of}
-use Rattle.sync_survey.specs.Walk.{head_of}
+use Rattle.sync_survey.specs.Walk.{head_of, stream_run, numbered}
 use Rattle.sync_survey.specs.MainData.{row_of, rows_of, own_area, head_area, lacks_data, end_behind, place, end_before, marked_row, marked}
 use Rattle.sync_survey.specs.Faults.{data_faults, faults_at, first_of, class_from, SurveyFields, surveyed}
 use Rattle.sync_survey.specs.Survey.{IsWellPlaced, AreWellPlaced}
 use Rattle.sync_survey.proofs.ItemsLaws.{header_front-in_range, stands-at}
+use Rattle.sync_survey.proofs.RunsLaws.{item_of-is, run-ends}
 use Rattle.sync_survey.proofs.StartLaws.{start-first}
 use Rattle.sync_survey.proofs.FaultsLaws.{none-of, get_more, get_next, place-more, place-next, place-none, end-more, end-next}
 use Rattle.sync_survey.proofs.SurveyParts.{frames_from, surveyed-parts, IsSound, faults-none_sound, sound-no_data, AreSound, all_faults-none_sound}
@@ -86,8 +92,9 @@ placed_same head class old new before behind same stays placed =
 
 -- by place and end
 placed_by : (head : Option Head) (class : ClassFields) (rows : List Row) (i : ℕ) (r : Row) (place_now ended : ℕ) → place_now ≡ place head rows i → ended ≡ end_before head rows i
-    → class_of r.header ≡ class → SideFits class r.side → r.lost ≡ lacks_data place_now ended r → data_faults place_now ended r ≡ [] → IsWellPlaced head class rows i r
-placed_by head class rows i r place_now ended at ends same fits mark none = record {
+    → IsHeader r.header → class_of r.header ≡ class → SideFits class r.side → r.lost ≡ lacks_data place_now ended r → data_faults place_now ended r ≡ [] → IsWellPlaced head class rows i r
+placed_by head class rows i r place_now ended at ends known same fits mark none = record {
+  known = known;
   class_is = same;
   fits = fits;
   mark = mark ∙ ap₂ (λ m n. lacks_data m n r) at ends;
@@ -97,10 +104,10 @@ placed_by head class rows i r place_now ended at ends same fits mark none = reco
 -- those before stay
 placed_before : (head : Option Head) (class : ClassFields) (rows more : List Row) (i : ℕ) (r : Row) → i < length rows → IsWellPlaced head class rows i r → IsWellPlaced head class (rows ++ more) i r
 placed_before head class rows more i r lt is =
-    placed_by head class (rows ++ more) i r (place head rows i) (end_before head rows i) (sym (place-more head rows more i (omega (arith, lt)))) (sym (end-more head rows more i (omega (arith, lt)))) is.class_is is.fits is.mark is.sound
+    placed_by head class (rows ++ more) i r (place head rows i) (end_before head rows i) (sym (place-more head rows more i (omega (arith, lt)))) (sym (end-more head rows more i (omega (arith, lt)))) is.known is.class_is is.fits is.mark is.sound
 
 module _ (head : Option Head) (class : ClassFields) (said allowed : ℕ) (r : Row) (rows : List Row) (place_now ended count : ℕ) (placed : ArePlacedTo head class rows place_now ended)
-    (none : first_of (faults_at said class allowed place_now ended count r) ≡ None) (fits : SideFits (class_of r.header) r.side) where
+    (known : IsHeader r.header) (none : first_of (faults_at said class allowed place_now ended count r) ≡ None) (fits : SideFits (class_of r.header) r.side) where
   -- the frame with its mark
   abbrev frame : Row
   frame = record r { lost = lacks_data place_now ended r }
@@ -115,7 +122,7 @@ module _ (head : Option Head) (class : ClassFields) (said allowed : ℕ) (r : Ro
   last = placed_by head class (rows ++ frame ∷ []) (length rows) frame place_now ended
       (placed.place_is ∙ sym (place-more head rows (frame ∷ []) (length rows) (omega arith)))
       (placed.ended_is ∙ sym (end-more head rows (frame ∷ []) (length rows) (omega arith)))
-      class_is (subst (λ c. SideFits c r.side) class_is fits) refl (sound-no_data said class allowed place_now ended count r sound)
+      known class_is (subst (λ c. SideFits c r.side) class_is fits) refl (sound-no_data said class allowed place_now ended count r sound)
 
   each : (i : ℕ) (q : Row) → slice_get (rows ++ frame ∷ []) i ≡ Some q → IsWellPlaced head class (rows ++ frame ∷ []) i q
   each i q found =
@@ -135,10 +142,10 @@ module _ (head : Option Head) (class : ClassFields) (said allowed : ℕ) (r : Ro
     ended_is = ap₂ (λ m n. end_behind m n (Some frame)) placed.place_is placed.ended_is ∙ sym (end-next head rows frame);
   }
 
-pub placed_next : (head : Option Head) (class : ClassFields) (said allowed : ℕ) (r : Row) (old new : Found) → KeepsFrame said class allowed r old new
+pub placed_next : (head : Option Head) (class : ClassFields) (said allowed : ℕ) (r : Row) (old new : Found) → IsHeader r.header → KeepsFrame said class allowed r old new
     → ArePlacedTo head class old.rows.items old.before.place old.before.ended → ArePlacedTo head class new.rows.items new.before.place new.before.ended
-placed_next head class said allowed r old new keeps placed =
-    let more = one_more head class said allowed r old.rows.items old.before.place old.before.ended (length old.rows.items) placed keeps.sound keeps.fits in
+placed_next head class said allowed r old new known keeps placed =
+    let more = one_more head class said allowed r old.rows.items old.before.place old.before.ended (length old.rows.items) placed known keeps.sound keeps.fits in
     subst (λ n. ArePlacedTo head class new.rows.items new.before.place n) (sym keeps.ended)
     (subst (λ n. ArePlacedTo head class new.rows.items n (end_behind old.before.place old.before.ended (Some r))) (sym keeps.place)
     (subst (λ l. ArePlacedTo head class l (old.before.place + own_area r.header) (end_behind old.before.place old.before.ended (Some r))) (sym keeps.rows) more))
@@ -202,9 +209,43 @@ class-start file start is =
     let h = start.first.header in
     IsClass-class_of h (header_front-in_range _ h (stands-at file start.first.offset (Frame h) (start-first file start is).frame.is))
 
-well_placed : (file : List ℕ) (allowed : ℕ) (start : Start) (head : Option Head) (ps : List PlacedFrame) → start_of file ≡ Ok start → AreSound file head (class_from start) allowed (rows_of file ps)
+-- the headers of items that stand end to end
+AllKnown : List PlacedFrame → Type 0
+AllKnown [] = Unit {0}
+AllKnown (p ∷ ps) = IsHeader p.header × AllKnown ps
+
+known_cons : (file : List ℕ) (at : ℕ) (item : Item) (ps : List PlacedFrame) → item_at file at ≡ item → AllKnown ps → AllKnown (cons_option (frame_as at item) ps)
+unfolding AllKnown
+known_cons file at (Frame h) ps is behind = (header_front-in_range _ h (stands-at file at (Frame h) is), behind)
+known_cons file at Free ps is behind = behind
+known_cons file at (Block b) ps is behind = behind
+known_cons file at Zero ps is behind = behind
+known_cons file at End ps is behind = behind
+known_cons file at Nothing ps is behind = behind
+
+known_items : (part : Part) (file : List ℕ) (from : ℕ) (ps : List Placed) (to : ℕ) → AreEndToEnd part file from ps to → AllKnown (frames_of ps)
+unfolding AllKnown
+known_items part file from [] to ends = tt
+known_items part file from (p ∷ ps) to ends =
+    known_cons file p.offset p.item (frames_of ps) (item_of-is part file p.offset p.item ends.1).is (known_items part file (p.offset + size_of p.item) ps to ends.2)
+
+known_numbered : (head : Option Head) (ps : List PlacedFrame) → AllKnown ps → AllKnown (numbered head ps)
+unfolding AllKnown
+known_numbered None ps all = all
+known_numbered (Some head) [] all = all
+known_numbered (Some head) (p ∷ ps) all = all.1
+
+row_known : (file : List ℕ) (ps : List PlacedFrame) (i : ℕ) (r : Row) → AllKnown ps → slice_get (rows_of file ps) i ≡ Some r → IsHeader r.header
+unfolding AllKnown
+row_known file [] i r all is = absurd cc
+row_known file (p ∷ ps) zero r all is =
+    let same : row_of file p ≡ r = cc in
+    subst (λ (q : Row). IsHeader q.header) same all.0
+row_known file (p ∷ ps) (suc i) r all is = row_known file ps i r all.1 is
+
+well_placed : (file : List ℕ) (allowed : ℕ) (start : Start) (head : Option Head) (ps : List PlacedFrame) → start_of file ≡ Ok start → AllKnown ps → AreSound file head (class_from start) allowed (rows_of file ps)
     → AreWellPlaced head (class_from start) (marked head (rows_of file ps))
-well_placed file allowed start head ps begins sound = λ i q found.
+well_placed file allowed start head ps begins all sound = λ i q found.
     let rows : List Row = rows_of file ps in
     let parts = from_some head rows (marked_row head rows i) (slice_get rows i) q (sym (found-marked head rows i) ∙ found) in
     let r : Row = parts.0 in
@@ -213,12 +254,14 @@ well_placed file allowed start head ps begins sound = λ i q found.
     let fits = row_fits file ps i r (subst IsClass (sym same) (class-start file start begins)) parts.1 in
     subst (IsWellPlaced head (class_from start) (marked head rows) i) parts.2
     (placed_by head (class_from start) (marked head rows) i (marked_row head rows i r) (place head rows i) (end_before head rows i) (sym (place-marked head rows i)) (sym (end-marked head rows i))
-    same (subst (λ c. SideFits c r.side) same fits) refl (sound-no_data _ (class_from start) allowed (place head rows i) (end_before head rows i) i r here))
+    (row_known file ps i r all parts.1) same (subst (λ c. SideFits c r.side) same fits) refl (sound-no_data _ (class_from start) allowed (place head rows i) (end_before head rows i) i r here))
 
 pub surveyed-placed : (file : List ℕ) (allowed : ℕ) (s : SurveyFields) → surveyed file allowed ≡ Ok s → AreWellPlaced s.head s.class s.frames
 surveyed-placed file allowed s e =
     let parts = surveyed-parts file allowed s e in
     let start = parts.0 in
     let head = head_of file start.first in
+    let stream = stream_run file start in
+    let all = known_numbered head (frames_of stream.items) (known_items Stream file start.first.offset stream.items stream.stop (run-ends Stream file start.first.offset)) in
     let sound = all_faults-none_sound file head (class_from start) allowed _ parts.1.frames in
-    subst (λ (t : SurveyFields). AreWellPlaced t.head t.class t.frames) parts.2 (well_placed file allowed start head (frames_from file start) parts.1.start_is sound)
+    subst (λ (t : SurveyFields). AreWellPlaced t.head t.class t.frames) parts.2 (well_placed file allowed start head (frames_from file start) parts.1.start_is all sound)

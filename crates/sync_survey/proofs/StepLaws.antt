@@ -1,7 +1,7 @@
 -- One item more is judged and kept.
 use Rattle.std.proofs.Common.{◌≡◌, ℕ, ◌+◌, ◌≤◌, ◌⊎◌, min, false, List, [], ◌∷◌, ◌++◌, length, drop, Option, Some, None, Err, refl, sym, ◌∙◌, ap, ap₂, subst, inl, inr, arith, append-nil}
 use Rattle.std.specs.Prelude.{option_to_list}
-use Rattle.frame_header.specs.Fields.{HeaderFields, ClassFields}
+use Rattle.frame_header.specs.Fields.{HeaderFields, ClassFields, IsHeader}
 use Rattle.frame_header.specs.Tables.{class_of, length_of, overhead_of, area_of}
 use Rattle.side_info.specs.Side.{SideFits}
 use Rattle.side_info.specs.Frame.{side_in, word_said}
@@ -36,8 +36,11 @@ use Rattle.sync_survey.proofs.Progress.{IsSurveyedTo, IsMarkedTo, IsBegun, passe
 
 -- ---- a whole frame is shown up to its area
 
+pub item_header : (front : List ℕ) (item : Item) → item ≡ item_front front → (h : HeaderFields) → item ≡ Frame h → IsHeader h
+item_header front item is h frame = header_front-in_range front h (subst (Stands front) (sym is ∙ frame) (stands front))
+
 pub overhead_few : (front : List ℕ) (item : Item) (h : HeaderFields) → item ≡ item_front front → item ≡ Frame h → overhead_of (class_of h) h.protected ≤ length_of (class_of h) h.slot
-overhead_few front item h is frame = overhead-within h (header_front-in_range front h (subst (Stands front) (sym is ∙ frame) (stands front)))
+overhead_few front item h is frame = overhead-within h (item_header front item is h frame)
 
 pub shown_room : (front : List ℕ) (item : Item) (h : HeaderFields) (size left : ℕ) → item ≡ item_front front → item ≡ Frame h → size_of item ≤ 1441 → size_of item ≤ size → size ≤ left → length front ≡ min look_size left
     → overhead_of (class_of h) h.protected ≤ length front
@@ -193,18 +196,18 @@ module _ (head : Option Head) (first : ℕ) (class : ClassFields) (allowed at : 
     placed = placed_same head class old.rows.items new.rows.items old.before new.before keeps.rows keeps.before laid.placed;
   }
 
-  pub laid_more : (item : Item) → size_of item ≤ size → Keeps class allowed at item front old new → IsLaidTo head class first new (at + size)
-  laid_more (Frame h) least keeps = record {
+  pub laid_more : (item : Item) → ((h : HeaderFields) → item ≡ Frame h → IsHeader h) → size_of item ≤ size → Keeps class allowed at item front old new → IsLaidTo head class first new (at + size)
+  laid_more (Frame h) known least keeps = record {
     rows = subst (λ l. AreLaid first l (at + size)) (sym keeps.rows) (laid_push first old.rows.items at (at + size) (record (row_in at h front) { lost = lacks_data old.before.place old.before.ended (row_in at h front) }) laid.rows keeps.fits (omega arith) (omega (arith, least)));
     pieces = blocks_more old.pieces.items new.pieces.items at size (Frame h) laid.pieces least (keeps.pieces ∙ sym (append-nil old.pieces.items));
     low = omega (arith, keeps.place, area_within h, laid.low, least);
-    placed = placed_next head class (word_said front) allowed (row_in at h front) old new keeps laid.placed;
+    placed = placed_next head class (word_said front) allowed (row_in at h front) old new (known h refl) keeps laid.placed;
   }
-  laid_more Free least keeps = laid_blocks Free [] refl least keeps
-  laid_more (Block b) least keeps = laid_blocks (Block b) (record { offset = at; block = b } ∷ []) refl least keeps
-  laid_more Zero least keeps = laid_blocks Zero [] refl least keeps
-  laid_more End least keeps = laid_blocks End [] refl least keeps
-  laid_more Nothing least keeps = laid_blocks Nothing [] refl least keeps
+  laid_more Free known least keeps = laid_blocks Free [] refl least keeps
+  laid_more (Block b) known least keeps = laid_blocks (Block b) (record { offset = at; block = b } ∷ []) refl least keeps
+  laid_more Zero known least keeps = laid_blocks Zero [] refl least keeps
+  laid_more End known least keeps = laid_blocks End [] refl least keeps
+  laid_more Nothing known least keeps = laid_blocks Nothing [] refl least keeps
 
 -- ---- the refusal of one item
 

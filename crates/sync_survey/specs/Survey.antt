@@ -1,6 +1,6 @@
 -- What a survey of a file of a folder answers.
 use Rattle.std.specs.Prelude.{◌≡◌, ℕ, ◌+◌, ◌≤◌, nat_lt, if◌then◌else◌, List, [], ◌∷◌, length, slice_get, Option, Some, Result, Err}
-use Rattle.frame_header.specs.Fields.{ClassFields}
+use Rattle.frame_header.specs.Fields.{ClassFields, IsHeader}
 use Rattle.frame_header.specs.Tables.{class_of, length_of}
 use Rattle.side_info.specs.Side.{SideFits}
 use Rattle.outside.specs.Files.{Files, untold, Holds, IsThere, IsMissing}
@@ -76,9 +76,10 @@ abbrev pub BlocksAreLaid : ℕ → List Piece → ℕ → Type 0
 BlocksAreLaid from [] to = from ≤ to
 BlocksAreLaid from (b ∷ blocks) to = (from ≤ b.offset) × BlocksAreLaid (b.offset + b.block.length) blocks to
 
--- frame i of a stream of this class: it is of the class, its side fields are within their bits, its main data have no fault, and it is
--- marked exactly where it is lost
+-- frame i of a stream of this class: its header is one of the standard's and of the class, its side fields are within their bits, its main
+-- data have no fault, and it is marked exactly where it is lost
 pub record IsWellPlaced (head : Option Head) (class : ClassFields) (rows : List Row) (i : ℕ) (r : Row) : Type 0 where
+  pub known : IsHeader r.header
   pub class_is : class_of r.header ≡ class
   pub fits : SideFits class r.side
   pub mark : r.lost ≡ is_lost head rows i r

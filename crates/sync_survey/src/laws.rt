@@ -32,9 +32,9 @@ pub fn surveys_hold_streams()
     ensures { SurveysHoldStreams }
 {}
 
-/// Each frame of a file without fault is of the class of the survey, its main data begin neither before all main
-/// data nor before the end of those before it and end within its own area, or it is marked as lost. The survey of
-/// a folder says so too where the folder doesn't tell its files (`laid`).
+/// Each frame of a file without fault has a header of the standard and is of the class of the survey, its main data
+/// begin neither before all main data nor before the end of those before it and end within its own area, or it is
+/// marked as lost. The survey of a folder says so too where the folder doesn't tell its files (`laid`).
 pub fn surveys_are_placed()
     ensures { SurveysArePlaced }
 {}

@@ -21,7 +21,7 @@ use Rattle.sync_survey.proofs.LooksLaws.{item_at-shown}
 use Rattle.sync_survey.proofs.FoldersLaws.{refusal_later, bytes_refusal, survey_of-short}
 use Rattle.sync_survey.proofs.PlacedRows.{ArePlacedTo, placed_none}
 use Rattle.sync_survey.proofs.Progress.{IsSurveyedTo, surveyed_none, stopped_fault, no_frame, whole}
-use Rattle.sync_survey.proofs.StepLaws.{shown_room, few_by, kept, refused, laid_more, keep_refusal}
+use Rattle.sync_survey.proofs.StepLaws.{item_header, shown_room, few_by, kept, refused, laid_more, keep_refusal}
 use Rattle.sync_survey.proofs.folders.judge_frames.Goals as goal
 
 nothing_in : (rows : List Row) → length rows ≡ 0 → rows ≡ []
@@ -110,7 +110,7 @@ loop-at-preserved g c =
           let seen = subst (λ l. Shows bytes c.loop-at.at l c.in_ok-left.left) (sym c.bytes.ensures) shows in
           kept bytes c.args.start c.args.head c.args.allowed now c.loop-at.at (c.loop-at.invariant.surveyed bytes holds) front c.in_ok-left.left seen item c.keep.new.self c.in-Some.step.size
           (few_by front item c.in-Some.ensures.item c.in-Some.ensures.most) (c.in-Some.ensures.step bytes c.loop-at.at seen) keeps;
-      laid = laid_more c.args.head c.args.start.first.offset (class_from c.args.start) c.args.allowed c.loop-at.at front now c.keep.new.self c.in-Some.step.size c.loop-at.invariant.laid item c.in-Some.ensures.least keeps;
+      laid = laid_more c.args.head c.args.start.first.offset (class_from c.args.start) c.args.allowed c.loop-at.at front now c.keep.new.self c.in-Some.step.size c.loop-at.invariant.laid item (item_header front item c.in-Some.ensures.item) c.in-Some.ensures.least keeps;
       within = omega (arith, c.in-Some.ensures.within, c.in_ok-left.ensures.left, c.loop-at.invariant.within);
       fed = c.in_ok-left.ensures.fed;
       files = c.in_ok-left.ensures.files ∙ c.loop-at.invariant.files;
