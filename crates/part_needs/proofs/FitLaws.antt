@@ -7,7 +7,7 @@ use Rattle.std.specs.Prelude.{slice_get, slice_range, sum_by}
 use Rattle.std.proofs.lemmas.Bool.{eqb-true, ltb-false}
 use Rattle.std.proofs.lemmas.List.{drop-map, take-map}
 use Rattle.std.proofs.lemmas.List.Sums.{sum_by-cons}
-use Rattle.frame_header.specs.Fields.{ClassFields}
+use Rattle.frame_header.specs.Fields.{ClassFields, IsHeader}
 use Rattle.frame_header.specs.Tables.{window_of}
 use Rattle.side_info.specs.Side.{payload_bits, payload_bytes}
 use Rattle.sync_survey.specs.declared.places.Head.{Head}
@@ -73,6 +73,21 @@ end_more : (head : Option Head) (rows : List Row) (n : ℕ) (r : Row) → slice_
 unfolding end_before
 end_more head rows n r is = ap (end_behind (place head rows n) (end_before head rows n)) is
 
+-- the headers of rows are the standard's
+abbrev pub AreKnown : List Row → Type 0
+AreKnown [] = Unit {0}
+AreKnown (r ∷ rows) = IsHeader r.header × AreKnown rows
+
+known-take : (n : ℕ) (rows : List Row) → AreKnown rows → AreKnown (take n rows)
+known-take zero rows all = tt
+known-take (suc n) [] all = tt
+known-take (suc n) (r ∷ rows) all = (all.0, known-take n rows all.1)
+
+known-drop : (n : ℕ) (rows : List Row) → AreKnown rows → AreKnown (drop n rows)
+known-drop zero rows all = all
+known-drop (suc n) [] all = all
+known-drop (suc n) (r ∷ rows) all = known-drop n rows all.1
+
 module _ (head : Option Head) (class : ClassFields) (rows : List Row) (placed : AreWellPlaced head class rows) where
   -- these rows stand from number n on
   abbrev StandFrom : ℕ → List Row → Type 0
@@ -91,6 +106,10 @@ module _ (head : Option Head) (class : ClassFields) (rows : List Row) (placed : 
   unfolding AreOfClass
   classes_from n [] stand = tt
   classes_from n (r ∷ xs) stand = ((placed n r (first_stands n r xs stand)).class_is, classes_from (suc n) xs (rest_stand n r xs stand))
+
+  known_from : (n : ℕ) (xs : List Row) → StandFrom n xs → AreKnown xs
+  known_from n [] stand = tt
+  known_from n (r ∷ xs) stand = ((placed n r (first_stands n r xs stand)).known, known_from (suc n) xs (rest_stand n r xs stand))
 
   abbrev of_class : ℕ
   of_class = window_of class.version
@@ -157,3 +176,7 @@ part_of s from to classes fit =
 
 pub part-fits : (s : SurveyFields) (from to : ℕ) → IsPlaced s → Fits s from to
 part-fits s from to placed = part_of s from to (classes_from s.head s.class s.frames placed 0 s.frames (all_stand s.head s.class s.frames placed)) (fit_all s.head s.class s.frames placed)
+
+pub part-known : (s : SurveyFields) (from to : ℕ) → IsPlaced s → AreKnown (slice_range s.frames from to)
+part-known s from to placed =
+    known-take (to - from) (drop from s.frames) (known-drop from s.frames (known_from s.head s.class s.frames placed 0 s.frames (all_stand s.head s.class s.frames placed)))

@@ -6,22 +6,28 @@ use Rattle.std.proofs.lemmas.List.Concat.{flat_map-append}
 use Rattle.std.proofs.lemmas.List.Elements.{All-cons}
 use Rattle.std.proofs.lemmas.List.Kept.{AllPairs-cons}
 use Rattle.std.proofs.Math.Seq.{take-append_seam, drop-append_seam}
-use Rattle.frame_header.specs.Fields.{ClassFields}
-use Rattle.frame_header.specs.Tables.{window_of}
+use Rattle.frame_header.specs.Fields.{SlotFields, ClassFields, HeaderFields, IsHeader}
+use Rattle.frame_header.specs.Tables.{class_of, window_of}
 use Rattle.sync_survey.specs.declared.rows.Row.{Row}
 use Rattle.sync_survey.specs.Faults.{SurveyFields}
+use Rattle.frame_header.specs.Slots.{all_slots}
+use Rattle.frame_header.proofs.HeaderLaws.{IsClass-class_of}
+use Rattle.frame_header.proofs.SlotLaws.{areas-ascend, Contains-all_slots}
+use Rattle.slot_plan.specs.Laws.{ChoosesInOrder, ChooseInOrder}
+use Rattle.slot_plan.proofs.AreaLaws.{class-ascend}
 use Rattle.slot_plan.specs.declared.needs.Need.{Need}
 use Rattle.slot_plan.specs.Layouts.{IsFeasible}
 use Rattle.slot_plan.specs.Parts.{own_frame, parts_of, window_in, AreOfClass, AreOfOneClass, ArePartsFeasible}
 use Rattle.part_needs.specs.Needs.{need_of, needs_of, places_from, Asked, asked_of}
-use Rattle.part_needs.specs.Fit.{IsPlaced, IsPartOf, AreFit}
-use Rattle.part_needs.proofs.FitLaws.{part-fits}
+use Rattle.part_needs.specs.Fit.{IsPlaced, IsPartOf, own_choice, any_choice, AreFit}
+use Rattle.part_needs.proofs.FitLaws.{AreKnown, part-fits, part-known}
 
 -- ---- one part
 
 -- a part has a frame, is of the class, and has a layout behind a whole window
 record Fits (class : ClassFields) (rows : List Row) : Type 0 where
   some : 0 < length rows
+  known : AreKnown rows
   all : AreOfClass class (map need_of rows)
   feasible : IsFeasible (window_of class.version) (window_of class.version) (map own_frame (map need_of rows))
 
@@ -32,7 +38,7 @@ fits : (class : ClassFields) (rows : List Row) → IsPartOf class rows → Fits 
 fits class rows part =
     let is = part-fits part.survey part.from part.to part.placed in
     let here : Fits part.survey.class (slice_range part.survey.frames part.from part.to) =
-    record { some = part_some part.survey.frames part.from part.to part.some part.within; all = is.0; feasible = is.1 } in
+    record { some = part_some part.survey.frames part.from part.to part.some part.within; known = part-known part.survey part.from part.to part.placed; all = is.0; feasible = is.1 } in
     subst (Fits class) (sym part.are) (subst (λ c. Fits c (slice_range part.survey.frames part.from part.to)) part.same here)
 
 -- each part is one
@@ -142,6 +148,34 @@ each_class : (class : ClassFields) (parts : List (List Row)) → AllFits class p
 each_class class [] all = λ k d lt. absurd (omega (arith, lt))
 each_class class (rows ∷ parts) all = All-cons (λ part. AreOfClass class part) (map need_of rows) (map (map need_of) parts) all.0.all (each_class class parts all.1)
 
+-- ---- choices in order
+
+keeps : (r : Row) → IsHeader r.header → ChoosesInOrder own_choice (need_of r)
+keeps r known = record {
+  class = IsClass-class_of r.header known;
+  ascending = λ i j d before lt. absurd (omega (arith, before, lt));
+  own = (0, omega arith, refl);
+}
+
+may_any : (r : Row) → IsHeader r.header → ChoosesInOrder any_choice (need_of r)
+may_any r known =
+    let class = IsClass-class_of r.header known in
+    record {
+      class = class;
+      ascending = class-ascend (class_of r.header) (class_of r.header) r.header.protected all_slots refl refl (areas-ascend (class_of r.header) class r.header.protected);
+      own = Contains-all_slots r.header.slot known.slot;
+    }
+
+module _ (choices : HeaderFields → List SlotFields) (each : (r : Row) → IsHeader r.header → ChoosesInOrder choices (need_of r)) where
+  rows_choose : (rows : List Row) → AreKnown rows → All (ChoosesInOrder choices) (map need_of rows)
+  rows_choose [] known = λ k d lt. absurd (omega (arith, lt))
+  rows_choose (r ∷ rows) known = All-cons (ChoosesInOrder choices) (need_of r) (map need_of rows) (each r known.0) (rows_choose rows known.1)
+
+  parts_choose : (class : ClassFields) (parts : List (List Row)) → AllFits class parts → ChooseInOrder choices (map (map need_of) parts)
+  parts_choose class [] all = λ k d lt. absurd (omega (arith, lt))
+  parts_choose class (rows ∷ parts) all =
+      All-cons (λ part. All (ChoosesInOrder choices) part) (map need_of rows) (map (map need_of) parts) (rows_choose rows all.0.known) (parts_choose class parts all.1)
+
 -- ---- all of it
 
 planned : (class : ClassFields) (parts : List (List Row)) → 1 ≤ length parts → AllFits class parts → AreFit class (asked_of parts)
@@ -156,6 +190,8 @@ planned class (rows ∷ parts) some all =
     record {
       all = classes;
       each = subst (All (λ part. AreOfClass class part)) (sym (parts_are [] 0 whole refl)) (each_class class whole all);
+      kept = subst (ChooseInOrder own_choice) (sym (parts_are [] 0 whole refl)) (parts_choose own_choice keeps class whole all);
+      least = subst (ChooseInOrder any_choice) (sym (parts_are [] 0 whole refl)) (parts_choose any_choice may_any class whole all);
       window = window;
       planned = record {
         class = one_class class needs classes;

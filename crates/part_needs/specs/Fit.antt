@@ -1,11 +1,13 @@
 -- Parts of streams, and what a plan of them stands on.
-use Rattle.std.specs.Prelude.{◌≡◌, ℕ, ◌<◌, ◌≤◌, List, length, slice_index, slice_range, All, AllPairs}
-use Rattle.frame_header.specs.Fields.{ClassFields}
+use Rattle.std.specs.Prelude.{◌≡◌, ℕ, ◌<◌, ◌≤◌, List, [], ◌∷◌, length, slice_index, slice_range, All, AllPairs}
+use Rattle.frame_header.specs.Fields.{SlotFields, ClassFields, HeaderFields}
 use Rattle.frame_header.specs.Tables.{window_of}
+use Rattle.frame_header.specs.Slots.{all_slots}
 use Rattle.sync_survey.specs.declared.rows.Row.{Row}
 use Rattle.sync_survey.specs.Faults.{SurveyFields}
 use Rattle.sync_survey.specs.Survey.{AreWellPlaced}
 use Rattle.slot_plan.specs.Parts.{parts_of, window_in, AreOfClass, AreOfOneClass, ArePartsFeasible}
+use Rattle.slot_plan.specs.Laws.{ChooseInOrder}
 use Rattle.part_needs.specs.Needs.{Asked}
 
 -- the frames of this survey are of its class, and their main data have no fault (`surveys_are_placed` says so of every well-formed file,
@@ -33,9 +35,18 @@ pub record CanBePlanned (asked : Asked) : Type 0 where
   pub within : All (λ place. place < length asked.needs) asked.places
   pub feasible : ArePartsFeasible (window_in asked.needs) (parts_of asked.needs asked.places)
 
--- that holds, and all frames are of this class, also part by part
+-- a frame keeps its own slot, or may have any
+abbrev pub own_choice : HeaderFields → List SlotFields
+own_choice h = h.slot ∷ []
+
+abbrev pub any_choice : HeaderFields → List SlotFields
+any_choice h = all_slots
+
+-- that holds, all frames are of this class, also part by part, and their choices are in order by either policy
 pub record AreFit (class : ClassFields) (asked : Asked) : Type 0 where
   pub all : AreOfClass class asked.needs
   pub each : All (λ part. AreOfClass class part) (parts_of asked.needs asked.places)
+  pub kept : ChooseInOrder own_choice (parts_of asked.needs asked.places)
+  pub least : ChooseInOrder any_choice (parts_of asked.needs asked.places)
   pub window : window_in asked.needs ≡ window_of class.version
   pub planned : CanBePlanned asked
