@@ -1,7 +1,7 @@
 //! Gains that wrap, and changes of one channel alone. The side information is worked out by hand.
 
-use crate::commands::{expect, expect_frames, folder_of_frames};
-use crate::frames::{Frame, G, MONO, Z};
+use acceptance_kit::commands::{expect, expect_frames, folder_of_frames};
+use acceptance_kit::frames::{Frame, G, MONO, Z};
 use std::test::Fail;
 
 /// G with the gains 101, 102, 0, 91: one step up, and 255 wraps.

@@ -1,7 +1,7 @@
 //! Frames with check words: what is refused of them, and in which order.
 
-use crate::commands::{expect, expect_frames, folder_of, folder_of_frames};
-use crate::frames::{Frame, LOUD, PROTECTED_G, Z};
+use acceptance_kit::commands::{expect, expect_frames, folder_of, folder_of_frames};
+use acceptance_kit::frames::{Frame, LOUD, PROTECTED_G, Z};
 use std::test::Fail;
 
 /// MPEG-2, 24,000 Hz, 8 kbit/s, one channel, with a check word: 8 bits of main data in an area of 9 bytes,

@@ -6,13 +6,7 @@ mod channels;
 #[cfg(test)]
 mod check_words;
 #[cfg(test)]
-mod commands;
-#[cfg(test)]
 mod faults;
-#[cfg(test)]
-mod files;
-#[cfg(test)]
-mod frames;
 #[cfg(test)]
 mod gains;
 #[cfg(test)]

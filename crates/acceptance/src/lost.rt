@@ -2,10 +2,10 @@
 //! are lost, and stay as they are; the gains of all others move.
 
 use crate::check_words::BACK_POINTER as PROTECTED_BACK_POINTER;
-use crate::commands::{expect, expect_file, folder_of_file, folder_of_frames};
-use crate::files::{APE, Stretch};
-use crate::frames::{BACK_POINTER, Frame, HEAD, Z};
 use crate::reservoir::{FIRST, FIRST_LOUDER, SECOND, SECOND_LOUDER, SILENT_BACK_POINTER, TOO_FAR};
+use acceptance_kit::commands::{expect, expect_file, folder_of_file, folder_of_frames};
+use acceptance_kit::files::{APE, Stretch};
+use acceptance_kit::frames::{BACK_POINTER, Frame, HEAD, Z};
 use std::test::Fail;
 
 /// PROTECTED_BACK_POINTER with main_data_begin 0.

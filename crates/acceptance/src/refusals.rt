@@ -1,14 +1,16 @@
 //! What is refused, with its line, before an output is created.
 
-use crate::commands::{expect, expect_file, expect_frames, folder_of_file, folder_of_frames};
-use crate::files::{ID3V1, ID3V2, Stretch};
-use crate::frames::{
-    FORBIDDEN_RATE, FREE, Frame, G, G_AT_48_KHZ, HEAD, LAYER_2, MONO, MPEG_2, OVERFULL,
-    RESERVED_FREQUENCY, RESERVED_VERSION, Z,
-};
 use crate::reservoir::{
     FIRST, OVERFULL_BEHIND, OVERLAPPING, OVERLAPPING_AND_OVERFULL, SECOND, SILENT_BACK_POINTER,
     SILENT_TOO_FAR, TOO_FAR,
+};
+use acceptance_kit::commands::{
+    expect, expect_file, expect_frames, folder_of_file, folder_of_frames,
+};
+use acceptance_kit::files::{ID3V1, ID3V2, Stretch};
+use acceptance_kit::frames::{
+    FORBIDDEN_RATE, FREE, Frame, G, G_AT_48_KHZ, HEAD, LAYER_2, MONO, MPEG_2, OVERFULL,
+    RESERVED_FREQUENCY, RESERVED_VERSION, Z,
 };
 use outside::{Call, MemFolder};
 use std::alloc::{AllocError, Global};
@@ -228,7 +230,7 @@ static REFUSED: [Refused; 9] = [
         line: "bad word 2\n",
     },
     Refused {
-        words: "gain -g 5 a b",
+        words: "gain -t -g 5 a b",
         status: 2,
         line: "bad word 2\n",
     },

@@ -1,8 +1,8 @@
 //! A whole song.
 
-use crate::commands::{expect, folder_of, list_to};
-use crate::files::{ID3V1, ID3V1_REST, Stretch, bytes_of};
-use crate::frames::{Frame, file_of};
+use acceptance_kit::commands::{expect, folder_of, list_to};
+use acceptance_kit::files::{ID3V1, ID3V1_REST, Stretch, bytes_of};
+use acceptance_kit::frames::{Frame, file_of};
 use std::alloc::{AllocError, Global};
 use std::test::Fail;
 

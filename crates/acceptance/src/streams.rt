@@ -1,13 +1,13 @@
 //! What a change of gains makes of whole files: with bit reservoir, blocks, zero bytes, junk and heads.
 
-use crate::commands::{expect, expect_file, folder_of_file};
-use crate::files::{APE, ID3V1, ID3V1_REST, ID3V2, ID3V2_REST, Stretch};
-use crate::frames::{
-    EARLY_HEAD, G, G_LOWER, HEAD, LOWER, LOWER_QUIETER, MONO, MONO_HEAD, MONO_HEAD_LOWER,
-    MONO_LOWER, PADDED, PROTECTED_G, PROTECTED_G_LOWER, PROTECTED_HEAD, RESERVED_VERSION, Z,
-};
 use crate::reservoir::{
     FARTHER, FARTHER_LOUDER, FIRST, FIRST_LOUDER, NEARER, NEARER_LOUDER, SECOND, SECOND_LOUDER,
+};
+use acceptance_kit::commands::{expect, expect_file, folder_of_file};
+use acceptance_kit::files::{APE, ID3V1, ID3V1_REST, ID3V2, ID3V2_REST, Stretch};
+use acceptance_kit::frames::{
+    EARLY_HEAD, G, G_LOWER, HEAD, LOWER, LOWER_QUIETER, MONO, MONO_HEAD, MONO_HEAD_LOWER,
+    MONO_LOWER, PADDED, PROTECTED_G, PROTECTED_G_LOWER, PROTECTED_HEAD, RESERVED_VERSION, Z,
 };
 use std::test::Fail;
 
