@@ -8,8 +8,8 @@ use Rattle.std.proofs.Math.ListN as listn
 use Rattle.std.proofs.lemmas.List.{get_or-map, length-map, take-map, take_all}
 use Rattle.std.proofs.lemmas.List.Sums.{fold_more, common_prefix_len-le}
 use Rattle.mp3_cli.specs.declared.words.FormName.{FormName}
-use Rattle.mp3_cli.specs.declared.words.FormName.TheVariants.{Help, ShortHelp, Version, List as ListFile, Gain, ChannelGain}
-use Rattle.mp3_cli.specs.declared.words.GainOptions.TheVariants.{Tagless, TaglessWrapping, WrappingTagless}
+use Rattle.mp3_cli.specs.declared.words.FormName.TheVariants.{Help, ShortHelp, Version, List as ListFile, Gain, ChannelGain, Undo}
+use Rattle.mp3_cli.specs.declared.words.GainOptions.TheVariants.{Plain, Tagless, Wrapping, TaglessWrapping, WrappingTagless}
 use Rattle.mp3_cli.specs.declared.jobs.Job.{Job}
 use Rattle.mp3_cli.specs.Words.{Kind, Form, fits_kind, followed, furthest, form_of, have_kinds, reading}
 use Rattle.mp3_cli.specs.Table.{form_named}
@@ -71,12 +71,17 @@ short Help = omega arith
 short ShortHelp = omega arith
 short Version = omega arith
 short ListFile = omega arith
+short (Gain Plain) = omega arith
 short (Gain Tagless) = omega arith
+short (Gain Wrapping) = omega arith
 short (Gain TaglessWrapping) = omega arith
 short (Gain WrappingTagless) = omega arith
+short (ChannelGain Plain) = omega arith
 short (ChannelGain Tagless) = omega arith
+short (ChannelGain Wrapping) = omega arith
 short (ChannelGain TaglessWrapping) = omega arith
 short (ChannelGain WrappingTagless) = omega arith
+short Undo = omega arith
 
 -- what the code knows at the form at i: its kinds, and how far the words follow them
 pub record Turn (names : List FormName) (table : List Form) (i : ℕ) (d : FormName) (words : List (List ℕ)) (kinds : List Kind) (count : ℕ) : Type 0 where

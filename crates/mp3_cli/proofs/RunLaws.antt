@@ -1,19 +1,20 @@
 -- What `run` promises, from the answer of a command.
-use Rattle.std.proofs.Common.{◌≡◌, ◌≢◌, ◌↔◌, ◌⊎◌, ℕ, ◌≤◌, List, [], Option, Some, None, Result, Ok, Err, refl, sym, ◌∙◌, ap, subst, inl, inr, arith}
+use Rattle.std.proofs.Common.{◌≡◌, ◌≢◌, ◌↔◌, ◌⊎◌, ℕ, ◌≤◌, Bool, true, false, List, [], Option, Some, None, Result, Ok, Err, refl, sym, ◌∙◌, ap, subst, inl, inr, arith}
 use Rattle.std.proofs.Math.Seq.{take-nil}
-use Rattle.std.specs.Prelude.{IfSome, IfErr}
+use Rattle.std.proofs.lemmas.Slice.Eq.{bytes_eq-Decides}
+use Rattle.std.specs.Prelude.{IfSome, IfErr, IsErrOf, OnOk, bytes_eq}
 use Rattle.outside.specs.Files.{Contents, Files, untold, Sent, sent_more}
 use Rattle.outside.specs.Counts.{Rose}
 use Rattle.outside.proofs.FilesLaws.{sent_nothing}
 use Rattle.edits.specs.declared.fault.EditFault.{EditFault}
-use Rattle.edits.specs.declared.fault.EditFault.TheVariants.{EqualNames, Input, GainRange, Mono, Joint, Write, Sent as NotSent, Memory}
+use Rattle.edits.specs.declared.fault.EditFault.TheVariants.{EqualNames, Input, GainRange, Mono, Joint, TagTooLarge, BadTag, NoUndo, BadUndo, UndoRange, OutputTooLong, Write, Sent as NotSent, Memory}
 use Rattle.edits.specs.Kinds.{InputKind, IsAbsent, IsUnread as NotRead, IsShorter as Shrank, IsTooMuch, IsRefused as AtFault, kind_of, by_kind}
-use Rattle.edits.specs.Edited.{gain_result}
-use Rattle.edits.specs.Command.{Made, Command, written, Gives, MakesStreams, HoldsStreams}
-use Rattle.edits.specs.declared.shift.Shift.{Shift}
+use Rattle.edits.specs.Change.{Changing, change_result}
+use Rattle.edits.specs.Changing.{made_of, change_command}
+use Rattle.edits.specs.Command.{Made, Command, clash_of, written, Gives, MakesStreams, HoldsStreams}
+use Rattle.edits.specs.declared.shift.Steps.{Steps}
 use Rattle.edits.specs.Said.{Heard, IsText, SaysAll, Says, fault_of}
-use Rattle.edits.specs.Gain.{made_of, gain_command}
-use Rattle.edits.specs.Left.{Why, Refused, Missing, Unread, Shorter, Unwritten, Unsent, NoMemory, why_of, Seen, IsRefused, LeavesBy, Leaves, HasNumbers}
+use Rattle.edits.specs.Left.{Why, Refused, Missing, Unread, Shorter, Unwritten, Unsent, NoMemory, why_of, Seen, IsDone, IsRefused, LeavesBy, Leaves, HasNumbers}
 use Rattle.mp3_cli.specs.declared.jobs.Job.{Job}
 use Rattle.mp3_cli.specs.Words.{job_of}
 use Rattle.mp3_cli.specs.Texts.{status_by, bad_word_line, GotWhole, GotFront, GotLine}
@@ -47,6 +48,12 @@ module _ (command : Command) (files : Files) (old new : Heard) where
   sent_rose (GainRange offset granule channel gain) is says = absurd cc
   sent_rose Mono is says = absurd cc
   sent_rose (Joint offset) is says = absurd cc
+  sent_rose (TagTooLarge length) is says = absurd cc
+  sent_rose (BadTag offset) is says = absurd cc
+  sent_rose NoUndo is says = absurd cc
+  sent_rose (BadUndo offset) is says = absurd cc
+  sent_rose (UndoRange sum) is says = absurd cc
+  sent_rose (OutputTooLong length) is says = absurd cc
   sent_rose (Write place) is says = absurd cc
   sent_rose NotSent is says = says.rose
   sent_rose Memory is says = absurd cc
@@ -57,6 +64,12 @@ module _ (command : Command) (files : Files) (old new : Heard) where
   sent_none (GainRange offset granule channel gain) other says = says
   sent_none Mono other says = says
   sent_none (Joint offset) other says = says
+  sent_none (TagTooLarge length) other says = says
+  sent_none (BadTag offset) other says = says
+  sent_none NoUndo other says = says
+  sent_none (BadUndo offset) other says = says
+  sent_none (UndoRange sum) other says = says
+  sent_none (OutputTooLong length) other says = says
   sent_none (Write place) other says = says
   sent_none NotSent other says = absurd (other refl)
   sent_none Memory other says = says
@@ -287,29 +300,74 @@ made_is a b e = cc
 some_is : {A : Type 0} (a b : A) → Some a ≡ Some b → a ≡ b
 some_is a b e = cc
 
--- what gain makes has no text
-no_text : (shift : Shift) (input output : List ℕ) (files : Files) (text : List ℕ) → IsText (gain_command shift input output) files text → text ≡ []
-no_text shift input output files text (inl always) = sym (some_is [] text always)
-no_text shift input output files text (inr told) = sym told.4 ∙ silent_made output (gain_result shift input output told.0) told.1 told.3
+-- what a command that changes one file makes has no text
+no_text : (of : Changing) (steps_in : List ℕ → Steps) (input output : List ℕ) (files : Files) (text : List ℕ) → IsText (change_command of steps_in input output) files text → text ≡ []
+no_text of steps_in input output files text (inl always) = sym (some_is [] text always)
+no_text of steps_in input output files text (inr told) = sym told.4 ∙ silent_made output (change_result of input output told.0) told.1 told.3
 
-module _ (shift : Shift) (input output : List ℕ) (files : Files) (out : Heard) where
-  says_nothing : SaysAll (gain_command shift input output) files out out
-  says_nothing = record { text = λ text is. sym (ap (sent_more out.sent) (no_text shift input output files text is) ∙ sent_nothing out.sent); faults = refl }
+module _ (of : Changing) (steps_in : List ℕ → Steps) (input output : List ℕ) (files : Files) (out : Heard) where
+  says_nothing : SaysAll (change_command of steps_in input output) files out out
+  says_nothing = record { text = λ text is. sym (ap (sent_more out.sent) (no_text of steps_in input output files text is) ∙ sent_nothing out.sent); faults = refl }
 
   -- so it is silent with every fault that it has
-  says_fault : (fault : EditFault) → HasNumbers (gain_command shift input output) fault → Says (gain_command shift input output) files out out (Some fault)
+  says_fault : (fault : EditFault) → HasNumbers (change_command of steps_in input output) fault → Says (change_command of steps_in input output) files out out (Some fault)
   says_fault (EqualNames place) numbers = refl
   says_fault (Input place fault) numbers = refl
   says_fault (GainRange offset granule channel gain) numbers = refl
   says_fault Mono numbers = refl
   says_fault (Joint offset) numbers = refl
+  says_fault (TagTooLarge length) numbers = refl
+  says_fault (BadTag offset) numbers = refl
+  says_fault NoUndo numbers = refl
+  says_fault (BadUndo offset) numbers = refl
+  says_fault (UndoRange sum) numbers = refl
+  says_fault (OutputTooLong length) numbers = refl
   says_fault (Write place) numbers = refl
   says_fault NotSent numbers = absurd (numbers refl)
   says_fault Memory numbers = refl
 
-  pub gain_says : {T : Type 0} (r : Result T EditFault) → IfErr r (HasNumbers (gain_command shift input output)) → Says (gain_command shift input output) files out out (fault_of r)
-  gain_says (Ok x) numbers = says_nothing
-  gain_says (Err fault) numbers = says_fault fault numbers
+none_some : (place : ℕ) → None ≡ Some place → ⊥
+none_some place e = absurd cc
+
+module _ (of : Changing) (steps_in : List ℕ → Steps) (input output : List ℕ) where
+  -- the fault is that of equal names where they are
+  names_told : {T : Type 0} (r : Result T EditFault) → (IsErrOf r (EqualNames 0) ↔ (input ≡ output)) → (place : ℕ) → clash_of (change_command of steps_in input output) ≡ Some place → fault_of r ≡ Some (EqualNames place)
+  names_told r both place clash =
+      elim (bytes_eq input output) as (λ b. bytes_eq input output ≡ b → fault_of r ≡ Some (EqualNames place)) [
+        | true ↦ λ same.
+            let here : clash_of (change_command of steps_in input output) ≡ Some 0 = rw same refl in
+            let first : 0 ≡ place = some_is 0 place (sym here ∙ clash) in
+            ap fault_of (both.1 ((bytes_eq-Decides input output).0 same)) ∙ ap (λ (k : ℕ). Some (EqualNames k)) first
+        | false ↦ λ differ.
+            let none : clash_of (change_command of steps_in input output) ≡ None = rw differ refl in
+            absurd (none_some place (sym none ∙ clash))
+      ] refl
+
+  -- the answer of such a command, from what it promises
+  pub change_answers : {T : Type 0} (r : Result T EditFault) (old new : Seen) (out err_old err_new : Heard) (status : ℕ)
+      → OnOk r (IsDone (change_command of steps_in input output) old new) → IfErr r (Leaves (change_command of steps_in input output) old new) → IfErr r (HasNumbers (change_command of steps_in input output))
+      → (IsErrOf r (EqualNames 0) ↔ (input ≡ output)) → status ≡ fault_status (fault_of r) → GetsLine err_old err_new (line_of (change_command of steps_in input output) (fault_of r))
+      → Answers (change_command of steps_in input output) old new out out err_old err_new status
+  change_answers (Ok x) old new out err_old err_new status done left numbers both status_is line = record {
+    fault = None;
+    status_is = status_is;
+    line = line;
+    says = says_nothing of steps_in input output old.files out;
+    done = λ e. done;
+    left = tt;
+    numbers = tt;
+    names = names_told (Ok x) both;
+  }
+  change_answers (Err fault) old new out err_old err_new status done left numbers both status_is line = record {
+    fault = Some fault;
+    status_is = status_is;
+    line = line;
+    says = says_fault of steps_in input output old.files out fault numbers;
+    done = λ e. absurd cc;
+    left = left;
+    numbers = numbers;
+    names = names_told (Err fault) both;
+  }
 
 -- ---- a text that is said
 

@@ -1,12 +1,12 @@
 -- What a job names and asks for is in range.
-use Rattle.std.proofs.Common.{◌≡◌, ℕ, zero, suc, ◌<◌, ◌≤◌, ◌&&◌, ◌==◌, Bool, true, false, cond, List, [], ◌∷◌, length, get_or, Option, Some, None, Ok, refl, sym, subst, leb, pos, neg_ℤ, arith, rules}
+use Rattle.std.proofs.Common.{◌≡◌, ℕ, zero, suc, ◌<◌, ◌≤◌, ◌&&◌, ◌==◌, Bool, true, false, cond, ◌+◌, ◌-◌, List, [], ◌∷◌, length, get_or, Option, Some, None, Ok, refl, sym, ◌∙◌, subst, leb, pos, neg_ℤ, arith, rules}
 use Rattle.std.specs.Prelude.{IfSome, unwrap_or, option_map}
 use Rattle.std.specs.Str.{all_ascii_digits}
 use Rattle.std.specs.Str.Parse.{digits_value}
 use Rattle.std.proofs.lemmas.Int.{ints}
 use Rattle.std.proofs.lemmas.Bool.{leb-true}
 use Rattle.mp3_cli.specs.declared.jobs.Job.{Job}
-use Rattle.mp3_cli.specs.Words.{Kind, Name, Form, fits_kind, Tagless, TaglessWrapping, WrappingTagless, forms, list_file, gain_form, channel_form, have_kinds, job_of, step_count, steps_of, word_at, IsStepCount, IsSound}
+use Rattle.mp3_cli.specs.Words.{Kind, Name, Form, fits_kind, Options, Plain, Tagless, Wrapping, TaglessWrapping, WrappingTagless, forms, list_file, gain_form, channel_form, undo_form, have_kinds, job_of, step_count, steps_of, word_at, IsNamePlace, IsStepCount, IsSound}
 use Rattle.mp3_cli.proofs.Places.{reading_ok}
 
 and_last : (x d : Bool) → (x && d) ≡ true → d ≡ true
@@ -60,75 +60,60 @@ each_fits (kind ∷ kinds) (word ∷ words) (suc k) c h lt = each_fits kinds wor
 
 -- ---- each form
 
-gain_is_sound : (words : List (List ℕ)) → have_kinds (gain_form Tagless).kinds words ≡ true → IsSound words ((gain_form Tagless).reads words)
-gain_is_sound words h =
-    let many : length words ≡ 7 = as_many (gain_form Tagless).kinds words h in (
-      record { counted = omega arith; in_range = omega arith; name = each_fits (gain_form Tagless).kinds words 5 Name h (omega arith) },
-      record { counted = omega arith; in_range = omega arith; name = each_fits (gain_form Tagless).kinds words 6 Name h (omega arith) },
-      steps_in_range (word_at words 5),
-    )
-
-gain_wrapping_is_sound : (words : List (List ℕ)) → have_kinds (gain_form TaglessWrapping).kinds words ≡ true → IsSound words ((gain_form TaglessWrapping).reads words)
-gain_wrapping_is_sound words h =
-    let many : length words ≡ 8 = as_many (gain_form TaglessWrapping).kinds words h in (
-      record { counted = omega arith; in_range = omega arith; name = each_fits (gain_form TaglessWrapping).kinds words 6 Name h (omega arith) },
-      record { counted = omega arith; in_range = omega arith; name = each_fits (gain_form TaglessWrapping).kinds words 7 Name h (omega arith) },
-      steps_in_range (word_at words 6),
-    )
-
-wrapping_gain_is_sound : (words : List (List ℕ)) → have_kinds (gain_form WrappingTagless).kinds words ≡ true → IsSound words ((gain_form WrappingTagless).reads words)
-wrapping_gain_is_sound words h =
-    let many : length words ≡ 8 = as_many (gain_form WrappingTagless).kinds words h in (
-      record { counted = omega arith; in_range = omega arith; name = each_fits (gain_form WrappingTagless).kinds words 6 Name h (omega arith) },
-      record { counted = omega arith; in_range = omega arith; name = each_fits (gain_form WrappingTagless).kinds words 7 Name h (omega arith) },
-      steps_in_range (word_at words 6),
-    )
-
-channel_is_sound : (words : List (List ℕ)) → have_kinds (channel_form Tagless).kinds words ≡ true → IsSound words ((channel_form Tagless).reads words)
-channel_is_sound words h =
-    let many : length words ≡ 8 = as_many (channel_form Tagless).kinds words h in (
-      record { counted = omega arith; in_range = omega arith; name = each_fits (channel_form Tagless).kinds words 6 Name h (omega arith) },
-      record { counted = omega arith; in_range = omega arith; name = each_fits (channel_form Tagless).kinds words 7 Name h (omega arith) },
-      steps_in_range (word_at words 6),
-    )
-
-channel_wrapping_is_sound : (words : List (List ℕ)) → have_kinds (channel_form TaglessWrapping).kinds words ≡ true → IsSound words ((channel_form TaglessWrapping).reads words)
-channel_wrapping_is_sound words h =
-    let many : length words ≡ 9 = as_many (channel_form TaglessWrapping).kinds words h in (
-      record { counted = omega arith; in_range = omega arith; name = each_fits (channel_form TaglessWrapping).kinds words 7 Name h (omega arith) },
-      record { counted = omega arith; in_range = omega arith; name = each_fits (channel_form TaglessWrapping).kinds words 8 Name h (omega arith) },
-      steps_in_range (word_at words 7),
-    )
-
-wrapping_channel_is_sound : (words : List (List ℕ)) → have_kinds (channel_form WrappingTagless).kinds words ≡ true → IsSound words ((channel_form WrappingTagless).reads words)
-wrapping_channel_is_sound words h =
-    let many : length words ≡ 9 = as_many (channel_form WrappingTagless).kinds words h in (
-      record { counted = omega arith; in_range = omega arith; name = each_fits (channel_form WrappingTagless).kinds words 7 Name h (omega arith) },
-      record { counted = omega arith; in_range = omega arith; name = each_fits (channel_form WrappingTagless).kinds words 8 Name h (omega arith) },
-      steps_in_range (word_at words 7),
-    )
+-- the last two words, at k and behind it, counted from 0, are names
+two_names : (kinds : List Kind) (words : List (List ℕ)) (k : ℕ) → have_kinds kinds words ≡ true → length kinds ≡ k + 2 → get_or kinds k Name ≡ Name → get_or kinds (k + 1) Name ≡ Name
+    → IsNamePlace words (k + 1) × IsNamePlace words (k + 2)
+two_names kinds words k h many first second =
+    let all : length words ≡ k + 2 = as_many kinds words h ∙ many in
+    let fits_first : fits_kind Name (get_or words k []) ≡ true = subst (λ kind. fits_kind kind (get_or words k []) ≡ true) first (each_fits kinds words k Name h (omega (arith, many))) in
+    let fits_second : fits_kind Name (get_or words (k + 1) []) ≡ true = subst (λ kind. fits_kind kind (get_or words (k + 1) []) ≡ true) second (each_fits kinds words (k + 1) Name h (omega (arith, many))) in
+    let at_first : k + 1 - 1 ≡ k = omega arith in
+    let at_second : k + 2 - 1 ≡ k + 1 = omega arith in
+    (record { counted = omega arith; in_range = omega (arith, all); name = rw at_first fits_first }, record { counted = omega arith; in_range = omega (arith, all); name = rw at_second fits_second })
 
 -- what words of a form ask for is sound
 abbrev AreSound : Form → Type 0
 AreSound f = (words : List (List ℕ)) → have_kinds f.kinds words ≡ true → IsSound words (f.reads words)
 
-list_is_sound : (words : List (List ℕ)) → have_kinds list_file.kinds words ≡ true → IsSound words (list_file.reads words)
+list_is_sound : AreSound list_file
 list_is_sound words h =
     let two : length words ≡ 2 = as_many list_file.kinds words h in
     record { counted = omega arith; in_range = omega arith; name = each_fits list_file.kinds words 1 Name h (omega arith) }
+
+undo_is_sound : AreSound undo_form
+undo_is_sound words h = two_names undo_form.kinds words 2 h refl refl refl
+
+gain_is_sound : (options : Options) → AreSound (gain_form options)
+gain_is_sound Plain words h = let names = two_names (gain_form Plain).kinds words 3 h refl refl refl in (names.0, names.1, steps_in_range (word_at words 3))
+gain_is_sound Tagless words h = let names = two_names (gain_form Tagless).kinds words 5 h refl refl refl in (names.0, names.1, steps_in_range (word_at words 5))
+gain_is_sound Wrapping words h = let names = two_names (gain_form Wrapping).kinds words 4 h refl refl refl in (names.0, names.1, steps_in_range (word_at words 4))
+gain_is_sound TaglessWrapping words h = let names = two_names (gain_form TaglessWrapping).kinds words 6 h refl refl refl in (names.0, names.1, steps_in_range (word_at words 6))
+gain_is_sound WrappingTagless words h = let names = two_names (gain_form WrappingTagless).kinds words 6 h refl refl refl in (names.0, names.1, steps_in_range (word_at words 6))
+
+channel_is_sound : (options : Options) → AreSound (channel_form options)
+channel_is_sound Plain words h = let names = two_names (channel_form Plain).kinds words 4 h refl refl refl in (names.0, names.1, steps_in_range (word_at words 4))
+channel_is_sound Tagless words h = let names = two_names (channel_form Tagless).kinds words 6 h refl refl refl in (names.0, names.1, steps_in_range (word_at words 6))
+channel_is_sound Wrapping words h = let names = two_names (channel_form Wrapping).kinds words 5 h refl refl refl in (names.0, names.1, steps_in_range (word_at words 5))
+channel_is_sound TaglessWrapping words h = let names = two_names (channel_form TaglessWrapping).kinds words 7 h refl refl refl in (names.0, names.1, steps_in_range (word_at words 7))
+channel_is_sound WrappingTagless words h = let names = two_names (channel_form WrappingTagless).kinds words 7 h refl refl refl in (names.0, names.1, steps_in_range (word_at words 7))
 
 form_is_sound : (k : ℕ) (form : Form) → k < length forms → get_or forms k form ≡ form → (words : List (List ℕ)) → have_kinds form.kinds words ≡ true → IsSound words (form.reads words)
 form_is_sound zero form lt here = subst AreSound here (λ words h. tt)
 form_is_sound (suc zero) form lt here = subst AreSound here (λ words h. tt)
 form_is_sound (suc (suc zero)) form lt here = subst AreSound here (λ words h. tt)
 form_is_sound (suc (suc (suc zero))) form lt here = subst AreSound here list_is_sound
-form_is_sound (suc (suc (suc (suc zero)))) form lt here = subst AreSound here gain_is_sound
-form_is_sound (suc (suc (suc (suc (suc zero))))) form lt here = subst AreSound here gain_wrapping_is_sound
-form_is_sound (suc (suc (suc (suc (suc (suc zero)))))) form lt here = subst AreSound here wrapping_gain_is_sound
-form_is_sound (suc (suc (suc (suc (suc (suc (suc zero))))))) form lt here = subst AreSound here channel_is_sound
-form_is_sound (suc (suc (suc (suc (suc (suc (suc (suc zero)))))))) form lt here = subst AreSound here channel_wrapping_is_sound
-form_is_sound (suc (suc (suc (suc (suc (suc (suc (suc (suc zero))))))))) form lt here = subst AreSound here wrapping_channel_is_sound
-form_is_sound (suc (suc (suc (suc (suc (suc (suc (suc (suc (suc k)))))))))) form lt here = absurd (omega (arith, lt))
+form_is_sound (suc (suc (suc (suc zero)))) form lt here = subst AreSound here (gain_is_sound Plain)
+form_is_sound (suc (suc (suc (suc (suc zero))))) form lt here = subst AreSound here (gain_is_sound Tagless)
+form_is_sound (suc (suc (suc (suc (suc (suc zero)))))) form lt here = subst AreSound here (gain_is_sound Wrapping)
+form_is_sound (suc (suc (suc (suc (suc (suc (suc zero))))))) form lt here = subst AreSound here (gain_is_sound TaglessWrapping)
+form_is_sound (suc (suc (suc (suc (suc (suc (suc (suc zero)))))))) form lt here = subst AreSound here (gain_is_sound WrappingTagless)
+form_is_sound (suc (suc (suc (suc (suc (suc (suc (suc (suc zero))))))))) form lt here = subst AreSound here (channel_is_sound Plain)
+form_is_sound (suc (suc (suc (suc (suc (suc (suc (suc (suc (suc zero)))))))))) form lt here = subst AreSound here (channel_is_sound Tagless)
+form_is_sound (suc (suc (suc (suc (suc (suc (suc (suc (suc (suc (suc zero))))))))))) form lt here = subst AreSound here (channel_is_sound Wrapping)
+form_is_sound (suc (suc (suc (suc (suc (suc (suc (suc (suc (suc (suc (suc zero)))))))))))) form lt here = subst AreSound here (channel_is_sound TaglessWrapping)
+form_is_sound (suc (suc (suc (suc (suc (suc (suc (suc (suc (suc (suc (suc (suc zero))))))))))))) form lt here = subst AreSound here (channel_is_sound WrappingTagless)
+form_is_sound (suc (suc (suc (suc (suc (suc (suc (suc (suc (suc (suc (suc (suc (suc zero)))))))))))))) form lt here = subst AreSound here undo_is_sound
+form_is_sound (suc (suc (suc (suc (suc (suc (suc (suc (suc (suc (suc (suc (suc (suc (suc k))))))))))))))) form lt here = absurd (omega (arith, lt))
 
 pub is_sound : (words : List (List ℕ)) (job : Job) → Ok job ≡ job_of words → IsSound words job
 unfolding job_of

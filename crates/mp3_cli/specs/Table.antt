@@ -1,12 +1,12 @@
 -- The kinds and forms of the code, as those of `Words`.
 use Rattle.std.specs.Prelude.{List, [], ◌∷◌}
-use Rattle.mp3_cli.specs.Words.{Kind, Fixed, Name, Steps, Channel, Form, Options, Tagless, TaglessWrapping, WrappingTagless, help, short_help, version, list_file, gain_form, channel_form}
+use Rattle.mp3_cli.specs.Words.{Kind, Fixed, Name, Steps, Channel, Form, Options, Plain, Tagless, Wrapping, TaglessWrapping, WrappingTagless, help, short_help, version, list_file, gain_form, channel_form, undo_form}
 use Rattle.mp3_cli.specs.declared.words.WordKind.{WordKind}
 use Rattle.mp3_cli.specs.declared.words.WordKind.TheVariants as code
 use Rattle.mp3_cli.specs.declared.words.GainOptions.{GainOptions}
 use Rattle.mp3_cli.specs.declared.words.GainOptions.TheVariants as given
 use Rattle.mp3_cli.specs.declared.words.FormName.{FormName}
-use Rattle.mp3_cli.specs.declared.words.FormName.TheVariants.{Help, ShortHelp, Version, List as ListFile, Gain, ChannelGain}
+use Rattle.mp3_cli.specs.declared.words.FormName.TheVariants.{Help, ShortHelp, Version, List as ListFile, Gain, ChannelGain, Undo}
 
 abbrev pub word_kind : WordKind → Kind
 word_kind (code.Fixed text) = Fixed text.now
@@ -15,7 +15,9 @@ word_kind code.Steps = Steps
 word_kind code.Channel = Channel
 
 abbrev pub options_named : GainOptions → Options
+options_named given.Plain = Plain
 options_named given.Tagless = Tagless
+options_named given.Wrapping = Wrapping
 options_named given.TaglessWrapping = TaglessWrapping
 options_named given.WrappingTagless = WrappingTagless
 
@@ -26,10 +28,12 @@ form_named Version = version
 form_named ListFile = list_file
 form_named (Gain options) = gain_form (options_named options)
 form_named (ChannelGain options) = channel_form (options_named options)
+form_named Undo = undo_form
 
 -- the names in the order of the code
 abbrev pub form_names : List FormName
 form_names =
     Help ∷ ShortHelp ∷ Version ∷ ListFile
-    ∷ Gain given.Tagless ∷ Gain given.TaglessWrapping ∷ Gain given.WrappingTagless
-    ∷ ChannelGain given.Tagless ∷ ChannelGain given.TaglessWrapping ∷ ChannelGain given.WrappingTagless ∷ []
+    ∷ Gain given.Plain ∷ Gain given.Tagless ∷ Gain given.Wrapping ∷ Gain given.TaglessWrapping ∷ Gain given.WrappingTagless
+    ∷ ChannelGain given.Plain ∷ ChannelGain given.Tagless ∷ ChannelGain given.Wrapping ∷ ChannelGain given.TaglessWrapping ∷ ChannelGain given.WrappingTagless
+    ∷ Undo ∷ []

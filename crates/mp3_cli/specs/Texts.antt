@@ -1,12 +1,13 @@
 -- The status and the line of each fault, and what a sink got of a line.
 use Rattle.std.specs.Prelude.{◌≡◌, ◌≢◌, ◌⊎◌, ℕ, ◌/◌, ◌%◌, ◌≤◌, List, [], ◌∷◌, ◌++◌, length, take, slice_index, slice_index_or, codes, decimal}
+use Rattle.std.specs.Fmt.{signed_decimal}
 use Rattle.outside.specs.Files.{Sent, sent_more}
 use Rattle.outside.specs.Counts.{Rose}
 use Rattle.edits.specs.Left.{Why, Refused, NoMemory, why_of}
 use Rattle.sync_survey.specs.declared.survey_fault.SurveyFault.{SurveyFault}
 use Rattle.sync_survey.specs.declared.survey_fault.SurveyFault.TheVariants.{Absent, TooLong, NoFrame, LostSync, Truncated, FreeFormat, Mixed, CheckWord, BackPointer, Overlap, Overrun, TooManyFrames, Shrunk, Read, Memory}
 use Rattle.edits.specs.declared.fault.EditFault.{EditFault}
-use Rattle.edits.specs.declared.fault.EditFault.TheVariants.{EqualNames, Input, GainRange, Mono, Joint, Write, Sent as NotSent, Memory as OutOfMemory}
+use Rattle.edits.specs.declared.fault.EditFault.TheVariants.{EqualNames, Input, GainRange, Mono, Joint, TagTooLarge, BadTag, NoUndo, BadUndo, UndoRange, OutputTooLong, Write, Sent as NotSent, Memory as OutOfMemory}
 
 abbrev pub status_by : Why → ℕ
 status_by Refused = 1
@@ -55,6 +56,12 @@ fault_line (GainRange offset granule channel gain) inputs outputs =
     ++ codes ", granule " ++ decimal granule ++ codes ", channel " ++ decimal channel ++ codes "\n"
 fault_line Mono inputs outputs = codes "one channel only\n"
 fault_line (Joint offset) inputs outputs = codes "joint stereo at " ++ decimal offset ++ codes "\n"
+fault_line (TagTooLarge length) inputs outputs = codes "tag too large, " ++ decimal length ++ codes "\n"
+fault_line (BadTag offset) inputs outputs = codes "bad tag at " ++ decimal offset ++ codes "\n"
+fault_line NoUndo inputs outputs = codes "no undo item\n"
+fault_line (BadUndo offset) inputs outputs = codes "bad undo item at " ++ decimal offset ++ codes "\n"
+fault_line (UndoRange sum) inputs outputs = codes "undo sum " ++ signed_decimal sum ++ codes " is out of range\n"
+fault_line (OutputTooLong length) inputs outputs = codes "output too long, " ++ decimal length ++ codes " bytes\n"
 fault_line (Write place) inputs outputs = name_in outputs place ++ codes ": write fault\n"
 fault_line NotSent inputs outputs = codes "standard output: write fault\n"
 fault_line OutOfMemory inputs outputs = codes "out of memory\n"
@@ -73,11 +80,17 @@ unfoldable pub help_text : List ℕ
 help_text =
     codes "usage: mp3edit COMMAND\n"
     ++ (codes "  list IN                say what stands in the MP3 file IN: tags, junk, head and frames\n"
-    ++ (codes "  gain -s s [-w] -g N IN OUT\n                         write IN to OUT, louder by N steps of 1.5 dB (quieter below 0)\n  gain -s s [-w] -l C N IN OUT\n                         the same of the left (C is 0) or right (C is 1) channel alone\n"
+    ++ (codes "  gain [-s s] [-w] -g N IN OUT\n"
+    ++ (codes "                         write IN to OUT, louder by N steps of 1.5 dB (quieter below 0)\n"
+    ++ (codes "  gain [-s s] [-w] -l C N IN OUT\n"
+    ++ (codes "                         the same of the left (C is 0) or right (C is 1) channel alone\n"
+    ++ (codes "                         -s s: keep no note of the change in the tag of OUT\n"
+    ++ (codes "                         -w: let gains wrap around from 255 to 0 and back, which else is refused\n"
+    ++ (codes "  gain -u IN OUT         write IN to OUT, with all changes taken back that its tag has a note of\n"
     ++ (codes "  --help, -h             say this\n"
     ++ (codes "  --version              say which version this is\n"
     ++ (codes "status: 0 done; 1 refused; 2 bad word; 3 a file is absent, or reading or writing failed;\n"
-    ++ codes "        4 out of memory\n")))))
+    ++ codes "        4 out of memory\n")))))))))))
 
 -- the program's name and version
 unfoldable pub version_text : List ℕ

@@ -7,7 +7,7 @@ use Rattle.std.specs.Str.Parse.{digits_value}
 use Rattle.edits.specs.declared.shift.Channels.{Channels}
 use Rattle.edits.specs.declared.shift.Channels.TheVariants.{Both, Left, Right}
 use Rattle.mp3_cli.specs.declared.jobs.Job.{Job}
-use Rattle.mp3_cli.specs.declared.jobs.Job.TheVariants.{Help, Version, List as ListFile, Gain}
+use Rattle.mp3_cli.specs.declared.jobs.Job.TheVariants.{Help, Version, List as ListFile, Gain, Undo}
 
 -- ---- words
 
@@ -85,18 +85,29 @@ tags_untouched = Fixed (codes "-s") ∷ Fixed (codes "s") ∷ []
 abbrev pub wrapping : List Kind
 wrapping = Fixed (codes "-w") ∷ []
 
--- the options of a gain, in either order, and whether gains wrap
+-- the options of a gain: each at most once, in either order
 pub data Options : Type 0 where
+  Plain : Options
   Tagless : Options
+  Wrapping : Options
   TaglessWrapping : Options
   WrappingTagless : Options
 
 abbrev pub option_kinds : Options → List Kind
+option_kinds Plain = []
 option_kinds Tagless = tags_untouched
+option_kinds Wrapping = wrapping
 option_kinds TaglessWrapping = tags_untouched ++ wrapping
 option_kinds WrappingTagless = wrapping ++ tags_untouched
 
+-- whether a note of the change is kept in the tag: where `-s s` doesn't stand there
+abbrev pub keep_tags : Options → Bool
+keep_tags Plain = true
+keep_tags Wrapping = true
+keep_tags _ = false
+
 abbrev pub do_wrap : Options → Bool
+do_wrap Plain = false
 do_wrap Tagless = false
 do_wrap _ = true
 
@@ -105,7 +116,8 @@ abbrev pub gain_form : Options → Form
 gain_form options =
     let before : ℕ = length (option_kinds options) in record {
       kinds = Fixed (codes "gain") ∷ (option_kinds options ++ (Fixed (codes "-g") ∷ Steps ∷ Name ∷ Name ∷ []));
-      reads = λ words. Gain (record { channels = Both; steps = unwrap_or (steps_of (word_at words (before + 3))) (pos 0); wrap = do_wrap options }) false (before + 4) (before + 5);
+      reads = λ words.
+          Gain (record { channels = Both; steps = unwrap_or (steps_of (word_at words (before + 3))) (pos 0); wrap = do_wrap options }) (keep_tags options) (before + 4) (before + 5);
     }
 
 -- `gain OPTIONS -l C N IN OUT`
@@ -114,15 +126,20 @@ channel_form options =
     let before : ℕ = length (option_kinds options) in record {
       kinds = Fixed (codes "gain") ∷ (option_kinds options ++ (Fixed (codes "-l") ∷ Channel ∷ Steps ∷ Name ∷ Name ∷ []));
       reads = λ words.
-          Gain (record { channels = unwrap_or (channel_of (word_at words (before + 3))) Left; steps = unwrap_or (steps_of (word_at words (before + 4))) (pos 0); wrap = do_wrap options }) false (before + 5) (before + 6);
+          Gain (record { channels = unwrap_or (channel_of (word_at words (before + 3))) Left; steps = unwrap_or (steps_of (word_at words (before + 4))) (pos 0); wrap = do_wrap options }) (keep_tags options) (before + 5) (before + 6);
     }
+
+-- `gain -u IN OUT`
+abbrev pub undo_form : Form
+undo_form = record { kinds = Fixed (codes "gain") ∷ Fixed (codes "-u") ∷ Name ∷ Name ∷ []; reads = λ words. Undo 3 4 }
 
 -- all of them
 abbrev pub forms : List Form
 forms =
     help ∷ short_help ∷ version ∷ list_file
-    ∷ gain_form Tagless ∷ gain_form TaglessWrapping ∷ gain_form WrappingTagless
-    ∷ channel_form Tagless ∷ channel_form TaglessWrapping ∷ channel_form WrappingTagless ∷ []
+    ∷ gain_form Plain ∷ gain_form Tagless ∷ gain_form Wrapping ∷ gain_form TaglessWrapping ∷ gain_form WrappingTagless
+    ∷ channel_form Plain ∷ channel_form Tagless ∷ channel_form Wrapping ∷ channel_form TaglessWrapping ∷ channel_form WrappingTagless
+    ∷ undo_form ∷ []
 
 -- ---- the reading
 
@@ -196,3 +213,4 @@ IsSound words Help = Unit {0}
 IsSound words Version = Unit {0}
 IsSound words (ListFile input) = IsNamePlace words input
 IsSound words (Gain shift tags input output) = IsNamePlace words input × IsNamePlace words output × IsStepCount shift.steps
+IsSound words (Undo input output) = IsNamePlace words input × IsNamePlace words output

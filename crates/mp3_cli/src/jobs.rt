@@ -25,4 +25,11 @@ pub enum Job {
         /// The place of the word that names the file to write.
         output: u32,
     },
+    /// Take back all changes that the tag of the file `input` keeps a note of, and write the result to `output`.
+    Undo {
+        /// The place of the word that names the file to read.
+        input: u32,
+        /// The place of the word that names the file to write.
+        output: u32,
+    },
 }

@@ -69,43 +69,85 @@ fn words_of_the_other_forms(rt: HostRuntime) -> Result<(), Fail> {
     Ok(())
 }
 
-/// The words of a gain, the channels that change, whether gains wrap, and the place of the input's name.
+/// The words of a gain, the channels that change, whether gains wrap and a note is kept in the tag, and the place of
+/// the input's name.
 struct GainWords {
     words: &'static [&'static str],
     channels: Channels,
     wrap: bool,
+    tags: bool,
     input: u32,
 }
 
-static GAINS: [GainWords; 5] = [
+static GAINS: [GainWords; 10] = [
+    GainWords {
+        words: &["gain", "-g", "-7", "a", "b"],
+        channels: Channels::Both,
+        wrap: false,
+        tags: true,
+        input: 4,
+    },
+    GainWords {
+        words: &["gain", "-s", "s", "-g", "-7", "a", "b"],
+        channels: Channels::Both,
+        wrap: false,
+        tags: false,
+        input: 6,
+    },
+    GainWords {
+        words: &["gain", "-w", "-g", "-7", "a", "b"],
+        channels: Channels::Both,
+        wrap: true,
+        tags: true,
+        input: 5,
+    },
     GainWords {
         words: &["gain", "-s", "s", "-w", "-g", "-7", "a", "b"],
         channels: Channels::Both,
         wrap: true,
+        tags: false,
         input: 7,
     },
     GainWords {
         words: &["gain", "-w", "-s", "s", "-g", "-7", "a", "b"],
         channels: Channels::Both,
         wrap: true,
+        tags: false,
         input: 7,
+    },
+    GainWords {
+        words: &["gain", "-l", "0", "-7", "a", "b"],
+        channels: Channels::Left,
+        wrap: false,
+        tags: true,
+        input: 5,
     },
     GainWords {
         words: &["gain", "-s", "s", "-l", "0", "-7", "a", "b"],
         channels: Channels::Left,
         wrap: false,
+        tags: false,
         input: 7,
+    },
+    GainWords {
+        words: &["gain", "-w", "-l", "0", "-7", "a", "b"],
+        channels: Channels::Left,
+        wrap: true,
+        tags: true,
+        input: 6,
     },
     GainWords {
         words: &["gain", "-s", "s", "-w", "-l", "1", "-7", "a", "b"],
         channels: Channels::Right,
         wrap: true,
+        tags: false,
         input: 8,
     },
     GainWords {
         words: &["gain", "-w", "-s", "s", "-l", "1", "-7", "a", "b"],
         channels: Channels::Right,
         wrap: true,
+        tags: false,
         input: 8,
     },
 ];
@@ -120,14 +162,22 @@ fn words_of_gains(rt: HostRuntime) -> Result<(), Fail> {
         };
         let wanted = Job::Gain {
             shift,
-            tags: false,
+            tags: gain.tags,
             input: gain.input,
             output: gain.input + 1,
         };
         assert_eq!(rt; read(rt.alloc(), gain.words)?, Ok(wanted));
     }
     let alloc = rt.alloc();
-    assert_eq!(rt; read(alloc, &["gain", "-w", "-u", "a", "b"])?, Err(3));
+    assert_eq!(rt;
+        read(alloc, &["gain", "-w", "-w", "-g", "1", "a", "b"])?,
+        Err(3)
+    );
+    assert_eq!(rt;
+        read(alloc, &["gain", "-s", "s", "-s", "s", "-g", "1", "a", "b"])?,
+        Err(4)
+    );
+    assert_eq!(rt; read(alloc, &["gain", "-g", "1", "-w", "a", "b"])?, Err(4));
     assert_eq!(rt;
         read(alloc, &["gain", "-w", "-s", "s", "-w", "-g", "1", "a", "b"])?,
         Err(5)
@@ -139,6 +189,22 @@ fn words_of_gains(rt: HostRuntime) -> Result<(), Fail> {
     Ok(())
 }
 
+#[test]
+fn words_of_an_undo(rt: HostRuntime) -> Result<(), Fail> {
+    let alloc = rt.alloc();
+    let wanted = Job::Undo {
+        input: 3,
+        output: 4,
+    };
+    assert_eq!(rt; read(alloc, &["gain", "-u", "a", "b"])?, Ok(wanted));
+    assert_eq!(rt; read(alloc, &["gain", "-w", "-u", "a", "b"])?, Err(3));
+    assert_eq!(rt; read(alloc, &["gain", "-s", "s", "-u", "a", "b"])?, Err(4));
+    assert_eq!(rt; read(alloc, &["gain", "-u", "-w", "a", "b"])?, Err(3));
+    assert_eq!(rt; read(alloc, &["gain", "-u", "a"])?, Err(4));
+    assert_eq!(rt; read(alloc, &["gain", "-u", "a", "b", "c"])?, Err(5));
+    Ok(())
+}
+
 /// Words, and the text that they give on standard output.
 struct Said {
     word: &'static str,
@@ -147,10 +213,13 @@ struct Said {
 
 const USAGE: &[u8] = b"usage: mp3edit COMMAND
   list IN                say what stands in the MP3 file IN: tags, junk, head and frames
-  gain -s s [-w] -g N IN OUT
+  gain [-s s] [-w] -g N IN OUT
                          write IN to OUT, louder by N steps of 1.5 dB (quieter below 0)
-  gain -s s [-w] -l C N IN OUT
+  gain [-s s] [-w] -l C N IN OUT
                          the same of the left (C is 0) or right (C is 1) channel alone
+                         -s s: keep no note of the change in the tag of OUT
+                         -w: let gains wrap around from 255 to 0 and back, which else is refused
+  gain -u IN OUT         write IN to OUT, with all changes taken back that its tag has a note of
   --help, -h             say this
   --version              say which version this is
 status: 0 done; 1 refused; 2 bad word; 3 a file is absent, or reading or writing failed;
@@ -181,7 +250,7 @@ fn texts_that_are_said(rt: HostRuntime) -> Result<(), Fail> {
             words.push(String::from_str(rt.alloc(), said.word)?)?;
             let mut folder = MemFolder::new(rt.alloc());
             let mut out = MemSink::new(rt.alloc());
-            out.reserve(1000)?;
+            out.reserve(2000)?;
             if failing {
                 out.fail(1)?;
             }
@@ -208,7 +277,7 @@ fn bad_words(rt: HostRuntime) -> Result<(), Fail> {
     assert_eq!(rt; read(alloc, &[])?, Err(1));
     assert_eq!(rt; read(alloc, &["lisp", "a"])?, Err(1));
     assert_eq!(rt; read(alloc, &["gain"])?, Err(2));
-    assert_eq!(rt; read(alloc, &["gain", "-g", "300", "a", "b"])?, Err(2));
+    assert_eq!(rt; read(alloc, &["gain", "-g", "300", "a", "b"])?, Err(3));
     assert_eq!(rt;
         read(alloc, &["gain", "-s", "t", "-g", "3", "a", "b"])?,
         Err(3)
@@ -236,7 +305,7 @@ struct Line {
     line: &'static [u8],
 }
 
-static LINES: [Line; 21] = [
+static LINES: [Line; 28] = [
     Line {
         fault: EditFault::EqualNames(0),
         status: 1,
@@ -251,6 +320,41 @@ static LINES: [Line; 21] = [
         fault: EditFault::Joint(30417),
         status: 1,
         line: b"joint stereo at 30417\n",
+    },
+    Line {
+        fault: EditFault::TagTooLarge(1_048_577),
+        status: 1,
+        line: b"tag too large, 1048577\n",
+    },
+    Line {
+        fault: EditFault::BadTag(441),
+        status: 1,
+        line: b"bad tag at 441\n",
+    },
+    Line {
+        fault: EditFault::NoUndo,
+        status: 1,
+        line: b"no undo item\n",
+    },
+    Line {
+        fault: EditFault::BadUndo(449),
+        status: 1,
+        line: b"bad undo item at 449\n",
+    },
+    Line {
+        fault: EditFault::UndoRange(-1020),
+        status: 1,
+        line: b"undo sum -1020 is out of range\n",
+    },
+    Line {
+        fault: EditFault::UndoRange(1254),
+        status: 1,
+        line: b"undo sum 1254 is out of range\n",
+    },
+    Line {
+        fault: EditFault::OutputTooLong(1_073_741_920),
+        status: 1,
+        line: b"output too long, 1073741920 bytes\n",
     },
     Line {
         fault: EditFault::Sent,

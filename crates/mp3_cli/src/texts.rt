@@ -21,8 +21,8 @@ fn input_status(fault: &SurveyFault) -> u8
     }
 }
 
-/// The status of a fault: 1 for a refused input (EqualNames, Input, GainRange, Mono, Joint), 3 for a fault of the outside
-/// (Input with Absent, Read or Shrunk, Write, and Sent), 4 for want of memory (Memory).
+/// The status of a fault: 3 for a fault of the outside (Input with Absent, Read or Shrunk, Write, and Sent), 4 for want of
+/// memory (Memory), and 1 for every other, which refuses the input or the change.
 pub fn status(fault: &EditFault) -> u8
     ensures { result ≡ status_of fault.now }
 {
@@ -30,7 +30,13 @@ pub fn status(fault: &EditFault) -> u8
         EditFault::EqualNames(_)
         | EditFault::GainRange(..)
         | EditFault::Mono
-        | EditFault::Joint(_) => 1,
+        | EditFault::Joint(_)
+        | EditFault::TagTooLarge(_)
+        | EditFault::BadTag(_)
+        | EditFault::NoUndo
+        | EditFault::BadUndo(_)
+        | EditFault::UndoRange(_)
+        | EditFault::OutputTooLong(_) => 1,
         EditFault::Input(_, fault) => input_status(fault),
         EditFault::Write(_) | EditFault::Sent => 3,
         EditFault::Memory => 4,
@@ -57,10 +63,16 @@ fn send_pieces<E: Sink>(err: &mut E, pieces: &[&str])
 }
 
 /// What the program does, form by form, and the statuses.
-static HELP: [&str; 7] = [
+static HELP: [&str; 13] = [
     "usage: mp3edit COMMAND\n",
     "  list IN                say what stands in the MP3 file IN: tags, junk, head and frames\n",
-    "  gain -s s [-w] -g N IN OUT\n                         write IN to OUT, louder by N steps of 1.5 dB (quieter below 0)\n  gain -s s [-w] -l C N IN OUT\n                         the same of the left (C is 0) or right (C is 1) channel alone\n",
+    "  gain [-s s] [-w] -g N IN OUT\n",
+    "                         write IN to OUT, louder by N steps of 1.5 dB (quieter below 0)\n",
+    "  gain [-s s] [-w] -l C N IN OUT\n",
+    "                         the same of the left (C is 0) or right (C is 1) channel alone\n",
+    "                         -s s: keep no note of the change in the tag of OUT\n",
+    "                         -w: let gains wrap around from 255 to 0 and back, which else is refused\n",
+    "  gain -u IN OUT         write IN to OUT, with all changes taken back that its tag has a note of\n",
     "  --help, -h             say this\n",
     "  --version              say which version this is\n",
     "status: 0 done; 1 refused; 2 bad word; 3 a file is absent, or reading or writing failed;\n",
@@ -116,6 +128,15 @@ fn send_gain_range<E: Sink>(err: &mut E, offset: u64, granule: u8, channel: u8, 
             Buffer::new().format(channel),
             "\n",
         ],
+    );
+}
+
+fn send_undo_range<E: Sink>(err: &mut E, sum: i32)
+    ensures { GotLine (E.sent err.old) (E.sent err.new) (E.faults err.old) (E.faults err.new) (fault_line (EditFault.UndoRange sum) [] []) }
+{
+    send_pieces(
+        err,
+        &["undo sum ", Buffer::new().format(sum), " is out of range\n"],
     );
 }
 
@@ -261,8 +282,8 @@ fn name_in<'a>(names: &[&'a str], place: u32) -> &'a str
 /// Sends the line of a fault, by the names of the inputs and of the outputs, without taking memory.
 /// It stops at the first write that fails, and such a failure is not answered.
 ///
-/// NAME is that of the input or, for Write, of the output whose place the fault has. O is an offset and N a
-/// number of bytes.
+/// NAME is that of the input or, for Write, of the output whose place the fault has. O is an offset, N a number of bytes,
+/// and S a number of steps with `-` before it where it is negative.
 ///
 /// | fault | line |
 /// |---|---|
@@ -284,6 +305,12 @@ fn name_in<'a>(names: &[&'a str], place: u32) -> &'a str
 /// | GainRange(O, G, C, V) | `gain V out of range at O, granule G, channel C` |
 /// | Mono | `one channel only` |
 /// | Joint(O) | `joint stereo at O` |
+/// | TagTooLarge(N) | `tag too large, N` |
+/// | BadTag(O) | `bad tag at O` |
+/// | NoUndo | `no undo item` |
+/// | BadUndo(O) | `bad undo item at O` |
+/// | UndoRange(S) | `undo sum S is out of range` |
+/// | OutputTooLong(N) | `output too long, N bytes` |
 /// | Write | `NAME: write fault` |
 /// | Sent | `standard output: write fault` |
 /// | Memory | `out of memory` |
@@ -301,6 +328,14 @@ pub fn send_fault<E: Sink>(err: &mut E, fault: &EditFault, inputs: &[&str], outp
         }
         EditFault::Mono => send_pieces(err, &["one channel only\n"]),
         EditFault::Joint(offset) => send_number(err, "", "joint stereo at ", offset, "\n"),
+        EditFault::TagTooLarge(length) => send_number(err, "", "tag too large, ", length, "\n"),
+        EditFault::BadTag(offset) => send_number(err, "", "bad tag at ", offset, "\n"),
+        EditFault::NoUndo => send_pieces(err, &["no undo item\n"]),
+        EditFault::BadUndo(offset) => send_number(err, "", "bad undo item at ", offset, "\n"),
+        EditFault::UndoRange(sum) => send_undo_range(err, sum),
+        EditFault::OutputTooLong(length) => {
+            send_number(err, "", "output too long, ", length, " bytes\n");
+        }
         EditFault::Write(place) => {
             send_pieces(err, &[name_in(outputs, place), ": write fault\n"]);
         }

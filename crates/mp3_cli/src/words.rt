@@ -1,7 +1,7 @@
 //! The program's words.
 ghost use Rattle.std.specs.Prelude.{◌≡◌, ◌≤◌, ◌<◌, ◌^◌, ◌+◌, ◌++◌, ◌∷◌, codes, false, unwrap_or, List, length, map, string_bytes, option_map, pos, IfOk, IfErr};
 ghost use Rattle.std.specs.List.{common_prefix_len};
-ghost use Rattle.mp3_cli.specs.Words.{Fixed, word_at as word_at_lem, is_name, step_count, steps_of, channel_of, option_kinds, do_wrap, fits_kind, job_of, IsReading, IsBadWord, IsSound};
+ghost use Rattle.mp3_cli.specs.Words.{Fixed, word_at as word_at_lem, is_name, step_count, steps_of, channel_of, option_kinds, keep_tags, do_wrap, fits_kind, job_of, IsReading, IsBadWord, IsSound};
 ghost use Rattle.mp3_cli.specs.Table.{word_kind, options_named, form_named};
 
 use crate::jobs::Job;
@@ -28,11 +28,15 @@ impl Default for WordKind {
     }
 }
 
-/// The options of a gain: tags are untouched, and gains may wrap, in either order.
+/// The options of a gain, in the order of their words: tags are untouched, and gains may wrap.
 #[derive(Clone, Copy)]
 enum GainOptions {
+    /// None.
+    Plain,
     /// `-s s`.
     Tagless,
+    /// `-w`.
+    Wrapping,
     /// `-s s -w`.
     TaglessWrapping,
     /// `-w -s s`.
@@ -48,22 +52,30 @@ enum FormName {
     List,
     Gain(GainOptions),
     ChannelGain(GainOptions),
+    Undo,
 }
 
-const FORMS: [FormName; 10] = [
+const FORMS: [FormName; 15] = [
     FormName::Help,
     FormName::ShortHelp,
     FormName::Version,
     FormName::List,
+    FormName::Gain(GainOptions::Plain),
     FormName::Gain(GainOptions::Tagless),
+    FormName::Gain(GainOptions::Wrapping),
     FormName::Gain(GainOptions::TaglessWrapping),
     FormName::Gain(GainOptions::WrappingTagless),
+    FormName::ChannelGain(GainOptions::Plain),
     FormName::ChannelGain(GainOptions::Tagless),
+    FormName::ChannelGain(GainOptions::Wrapping),
     FormName::ChannelGain(GainOptions::TaglessWrapping),
     FormName::ChannelGain(GainOptions::WrappingTagless),
+    FormName::Undo,
 ];
 
 static TAGLESS: [WordKind; 2] = [WordKind::Fixed("-s"), WordKind::Fixed("s")];
+
+static WRAPPING: [WordKind; 1] = [WordKind::Fixed("-w")];
 
 static TAGLESS_WRAPPING: [WordKind; 3] = [
     WordKind::Fixed("-s"),
@@ -177,19 +189,24 @@ impl GainOptions {
         ensures few { length result.now ≤ 3 }
     {
         match self {
+            GainOptions::Plain => &[],
             GainOptions::Tagless => &TAGLESS,
+            GainOptions::Wrapping => &WRAPPING,
             GainOptions::TaglessWrapping => &TAGLESS_WRAPPING,
             GainOptions::WrappingTagless => &WRAPPING_TAGLESS,
         }
     }
 
+    fn keep_tags(self) -> bool
+        ensures { result ≡ keep_tags (options_named self) }
+    {
+        matches!(self, GainOptions::Plain | GainOptions::Wrapping)
+    }
+
     fn do_wrap(self) -> bool
         ensures { result ≡ do_wrap (options_named self) }
     {
-        match self {
-            GainOptions::Tagless => false,
-            GainOptions::TaglessWrapping | GainOptions::WrappingTagless => true,
-        }
+        !matches!(self, GainOptions::Plain | GainOptions::Tagless)
     }
 
     // How many words they are.
@@ -197,6 +214,8 @@ impl GainOptions {
         ensures { result ≡ length (option_kinds (options_named self)) }
     {
         match self {
+            GainOptions::Plain => 0,
+            GainOptions::Wrapping => 1,
             GainOptions::Tagless => 2,
             GainOptions::TaglessWrapping | GainOptions::WrappingTagless => 3,
         }
@@ -243,6 +262,12 @@ impl FormName {
             FormName::List => some_kinds(&[WordKind::Fixed("list"), WordKind::Name]),
             FormName::Gain(options) => gain_kinds(options, &BOTH),
             FormName::ChannelGain(options) => gain_kinds(options, &ONE),
+            FormName::Undo => some_kinds(&[
+                WordKind::Fixed("gain"),
+                WordKind::Fixed("-u"),
+                WordKind::Name,
+                WordKind::Name,
+            ]),
         }
     }
 
@@ -269,6 +294,10 @@ impl FormName {
                 let channel = read_channel(word_at(words, before + 3)).unwrap_or(Channels::Left);
                 gain_of(channel, word_at(words, before + 4), options, before + 5)
             }
+            FormName::Undo => Job::Undo {
+                input: 3,
+                output: 4,
+            },
         }
     }
 }
@@ -276,7 +305,7 @@ impl FormName {
 // A change of these channels by these steps of the file that this word names, to the file that the next one does.
 fn gain_of(channels: Channels, steps: &str, options: GainOptions, input: u32) -> Job
     requires { input < 2 ^ 31 }
-    ensures { result ≡ Job.Gain (record { channels = channels; steps = unwrap_or (steps_of steps.now) (pos 0); wrap = do_wrap (options_named options) }) false input (input + 1) }
+    ensures { result ≡ Job.Gain (record { channels = channels; steps = unwrap_or (steps_of steps.now) (pos 0); wrap = do_wrap (options_named options) }) (keep_tags (options_named options)) input (input + 1) }
 {
     let shift = Shift {
         channels,
@@ -285,7 +314,7 @@ fn gain_of(channels: Channels, steps: &str, options: GainOptions, input: u32) ->
     };
     Job::Gain {
         shift,
-        tags: false,
+        tags: options.keep_tags(),
         input,
         output: input + 1,
     }
@@ -293,8 +322,8 @@ fn gain_of(channels: Channels, steps: &str, options: GainOptions, input: u32) ->
 
 /// What the words ask for. Where they have no form, it is refused with the place, counted from 1, of the
 /// first word that no form takes, or the number of words plus 1 where a word is missing.
-/// The forms are `list IN`; `gain -s s -g N IN OUT` and `gain -s s -l C N IN OUT`, with `-w` before or behind `-s s` too;
-/// and `--help`, `-h` and `--version`, each alone. C is `0` or `1`. N is an optional `+` or `-` and one to three digits,
+/// The forms are `list IN`; `gain [-s s] [-w] -g N IN OUT` and `gain [-s s] [-w] -l C N IN OUT`, with the two options in
+/// either order; `gain -u IN OUT`; and `--help`, `-h` and `--version`, each alone. C is `0` or `1`. N is an optional `+` or `-` and one to three digits,
 /// from -255 to 255, and a name isn't empty and doesn't begin with `-`.
 pub fn job(words: &[String]) -> Result<Job, u32>
     ensures exact { result ≡ job_of (map string_bytes words.now) }

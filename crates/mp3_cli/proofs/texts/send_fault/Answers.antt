@@ -1,5 +1,7 @@
 -- The pieces are the line of each fault.
-use Rattle.std.proofs.Common.{refl}
+use Rattle.std.proofs.Common.{refl, arith}
+use Rattle.std.proofs.lemmas.Grind.{common_steps}
+use Rattle.std.proofs.lemmas.Int.{to_z-of_z}
 use Rattle.mp3_cli.specs.Texts.{fault_line}
 use Rattle.mp3_cli.proofs.Lines.{line_is}
 use Rattle.mp3_cli.proofs.texts.send_fault.Goals as goal
@@ -23,6 +25,30 @@ returns-in-Mono g c = line_is _ _ _ _ _ _ (rw c.in-Mono.is refl) c.send_pieces-i
 pub returns-in-Joint : goal.returns-in-Joint
 unfolding fault_line
 returns-in-Joint g c = line_is _ _ _ _ _ _ (rw c.in-Joint.is refl) c.send_number.ensures
+
+pub returns-in-TagTooLarge : goal.returns-in-TagTooLarge
+unfolding fault_line
+returns-in-TagTooLarge g c = line_is _ _ _ _ _ _ (rw c.in-TagTooLarge.is refl) c.send_number-in-TagTooLarge.ensures
+
+pub returns-in-BadTag : goal.returns-in-BadTag
+unfolding fault_line
+returns-in-BadTag g c = line_is _ _ _ _ _ _ (rw c.in-BadTag.is refl) c.send_number-in-BadTag.ensures
+
+pub returns-in-NoUndo : goal.returns-in-NoUndo
+unfolding fault_line
+returns-in-NoUndo g c = line_is _ _ _ _ _ _ (rw c.in-NoUndo.is refl) c.send_pieces-in-NoUndo.ensures
+
+pub returns-in-BadUndo : goal.returns-in-BadUndo
+unfolding fault_line
+returns-in-BadUndo g c = line_is _ _ _ _ _ _ (rw c.in-BadUndo.is refl) c.send_number-in-BadUndo.ensures
+
+pub returns-in-UndoRange : goal.returns-in-UndoRange
+unfolding fault_line
+returns-in-UndoRange g c = line_is _ _ _ _ _ _ (rw c.in-UndoRange.is (grind (arith, common_steps, to_z-of_z))) c.send_undo_range.ensures
+
+pub returns-in-OutputTooLong : goal.returns-in-OutputTooLong
+unfolding fault_line
+returns-in-OutputTooLong g c = line_is _ _ _ _ _ _ (rw c.in-OutputTooLong.is refl) c.send_number-in-OutputTooLong.ensures
 
 pub returns-in-Write : goal.returns-in-Write
 unfolding fault_line
