@@ -11,13 +11,19 @@
   frames.py moved IN N OUT         writes OUT: IN with each gain moved by N, but the silent ones and those of lost frames, with right
                                    check words, and without junk; and says what stands in IN
   frames.py wrapped IN C N OUT     the same where gains wrap, of channel C alone (0 or 1), or of 'both'
+  frames.py noted IN C N W OUT     the same of both or of one, where gains wrap if W is 'W', and not if it is 'N', with the change noted in the tag
+  frames.py undone IN OUT          the same with all changes taken back that the tag notes, and without the note
+  frames.py items FILE             the items of the tag, each in a line: KEY: VALUE
+  frames.py note FILE              the value of the undo item
+  frames.py stripped IN OUT        writes OUT: IN without its tag
   frames.py without-junk IN OUT    writes OUT: IN without the bytes between its blocks and its first frame
   frames.py spoilt IN PLACE OUT    writes OUT: IN with a wrong check word in its 'first' or 'last' frame
   frames.py differ A B N           says where A and B differ; status 1 where B is not A with the gains of silent granules and of lost
                                    frames alone moved by N, and with the check words that are right for them
   frames.py decoded A B FACTOR     compares two WAV files of 16 bits: B is A times FACTOR, within rounding, and A is not silent
 
-Layout of frames: ISO/IEC 11172-3 and 13818-3, 2.4.1 and 2.4.2; of blocks: ID3v2, ID3v1 and APEv2. A granule of a channel is
+Layout of frames: ISO/IEC 11172-3 and 13818-3, 2.4.1 and 2.4.2; of blocks: ID3v2, ID3v1 and APEv2. The tag is the
+first APEv2 block. Its item MP3GAIN_UNDO has the steps that take all changes back, left and right, and W where gains wrap. A granule of a channel is
 silent where its part2_3_length is 0. The main bytes of a file are the areas of its frames (what is left of a frame behind
 header, check word and side information) end to end; a frame's main data begin main_data_begin bytes before its own area there.
 A frame is lost where that is before the first area, and no frame before it has main data, but lost ones: a plain cutter left it.
@@ -191,6 +197,64 @@ def block_at(data, at):
         if version == 2000 and size >= 32 and flags >> 31 & 1 and flags >> 29 & 1:
             return Block("APEv2", at, at + 32 + size)
     return None
+
+
+# ---- the tag
+
+
+UNDO_KEY = b"MP3GAIN_UNDO"
+
+
+def number_of(data, at):
+    return int.from_bytes(data[at : at + 4], "little")
+
+
+def four(number):
+    return number.to_bytes(4, "little")
+
+
+class Tag:
+    """An APEv2 block: a header of 32 bytes, items of value size, flags, key, zero byte and value, and a footer of 32 bytes."""
+
+    def __init__(self, block=None):
+        self.flags = 0xA0000000, 0x80000000
+        self.items = []  # (key, flags, value)
+        if block:
+            self.read(block)
+
+    def read(self, block):
+        self.flags = number_of(block, 20), number_of(block, len(block) - 12)
+        at = 32
+        for _ in range(number_of(block, 16)):
+            size, flags = number_of(block, at), number_of(block, at + 4)
+            end_of_key = block.index(b"\0", at + 8)
+            self.items.append((block[at + 8 : end_of_key], flags, block[end_of_key + 1 : end_of_key + 1 + size]))
+            at = end_of_key + 1 + size
+        if bytes(self) != block:
+            sys.exit("the tag isn't what is written of its items")
+
+    def __bytes__(self):
+        items = b"".join(four(len(value)) + four(flags) + key + b"\0" + value for key, flags, value in self.items)
+        ends = [b"APETAGEX" + four(2000) + four(len(items) + 32) + four(len(self.items)) + four(it) + bytes(8) for it in self.flags]
+        return ends[0] + items + ends[1]
+
+    def note(self):
+        """The value of the undo item, or None."""
+        return next((value for key, _, value in self.items if key.upper() == UNDO_KEY), None)
+
+    def undo(self):
+        """Steps of the left and of the right channel, and whether gains wrap."""
+        left, right, wraps = (self.note() or b"+000,+000,N").decode("ascii").split(",")
+        return int(left), int(right), wraps == "W"
+
+    def set_note(self, left, right, wraps):
+        value = f"{left:+04},{right:+04},{'W' if wraps else 'N'}".encode("ascii")
+        if self.note() is None:
+            self.items.append((UNDO_KEY, 0, value))
+        self.items = [(key, flags, value if key.upper() == UNDO_KEY else old) for key, flags, old in self.items]
+
+    def drop_note(self):
+        self.items = [it for it in self.items if it[0].upper() != UNDO_KEY]
 
 
 # ---- a whole file
@@ -426,44 +490,92 @@ def ends(name):
     print(min(gains), max(gains))
 
 
-def moved_side(frame, steps):
+def side_of(frame, steps, wraps):
+    """The side information with the gains of each channel moved by its own steps."""
     side = frame.side
     for it in frame.moving():
-        new = it.gain + steps
+        new = it.gain + steps[it.channel]
+        if wraps:
+            new %= 256
         if not 0 <= new <= 255:
             sys.exit(f"gain {it.gain} would become {new}")
         side += new - it.gain << it.behind
     return side
 
 
-def wrapped_side(frame, channel, steps):
-    side = frame.side
-    for it in frame.moving():
-        if channel in ("both", str(it.channel)):
-            side += ((it.gain + steps) % 256) - it.gain << it.behind
-    return side
+def steps_of(channel, steps):
+    """Those of the left and of the right channel."""
+    return tuple(int(steps) if channel in ("both", number) else 0 for number in "01")
 
 
 def moved(name, steps, output):
-    change(name, lambda frame: moved_side(frame, int(steps)), output)
+    change(name, steps_of("both", steps), False, output)
 
 
 def wrapped(name, channel, steps, output):
-    change(name, lambda frame: wrapped_side(frame, channel, int(steps)), output)
+    change(name, steps_of(channel, steps), True, output)
 
 
-def change(name, side_of, output):
+def tag_of(data, found):
+    """The tag, and where it stands or would stand."""
+    for it in found.blocks:
+        if it.kind == "APEv2":
+            return Tag(data[it.offset : it.end]), (it.offset, it.end)
+    end = found.frames[-1].end
+    return Tag(), (end, end)
+
+
+def noted(name, channel, steps, wraps, output):
+    data = bytes_of(name)
+    tag, place = tag_of(data, survey_of(data))
+    steps = steps_of(channel, steps)
+    left, right, wrapped_before = tag.undo()
+    tag.set_note(left - steps[0], right - steps[1], wrapped_before or wraps == "W")
+    change(name, steps, wraps == "W", output, (place, bytes(tag)))
+
+
+def undone(name, output):
+    data = bytes_of(name)
+    tag, place = tag_of(data, survey_of(data))
+    if tag.note() is None:
+        sys.exit("no undo item")
+    left, right, wraps = tag.undo()
+    tag.drop_note()
+    change(name, (left, right), wraps, output, (place, bytes(tag) if tag.items else b""))
+
+
+def items(name):
+    data = bytes_of(name)
+    for key, _, value in tag_of(data, survey_of(data))[0].items:
+        print(f"{key.decode('ascii')}: {value.decode()}")
+
+
+def note(name):
+    data = bytes_of(name)
+    print((tag_of(data, survey_of(data))[0].note() or b"").decode("ascii"))
+
+
+def change(name, steps, wraps, output, tag=None):
+    """Writes the file with moved gains, without junk, and with other bytes where the tag stands."""
     data = bytes_of(name)
     found = survey_of(data)
     new = bytearray(data)
     for frame in found.frames:
-        side = side_of(frame)
+        side = side_of(frame, steps, wraps)
         new[frame.side_at : frame.side_end] = side.to_bytes(frame.side_size, "big")
         if frame.protected:
             new[frame.offset + 4 : frame.side_at] = frame.right_word(side).to_bytes(2, "big")
-    del new[slice(*found.junk)]
+    # The last place first, so that the others stay where they are.
+    for place, there in sorted([(found.junk, b"")] + ([tag] if tag else []), reverse=True):
+        new[slice(*place)] = there
     write(output, new)
     print(found.text(data))
+
+
+def stripped(name, output):
+    data = bytearray(bytes_of(name))
+    del data[slice(*tag_of(bytes(data), survey_of(bytes(data)))[1])]
+    write(output, data)
 
 
 def without_junk(name, output):
@@ -546,6 +658,11 @@ COMMANDS = {
     "ends": (ends, 1),
     "moved": (moved, 3),
     "wrapped": (wrapped, 4),
+    "noted": (noted, 5),
+    "undone": (undone, 2),
+    "items": (items, 1),
+    "note": (note, 1),
+    "stripped": (stripped, 2),
     "without-junk": (without_junk, 2),
     "spoilt": (spoilt, 3),
     "differ": (differ, 3),
