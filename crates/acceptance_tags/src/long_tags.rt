@@ -1,0 +1,148 @@
+//! Tags about as long as a tag may be, 1,048,576 bytes.
+
+use crate::edits::{Edit, Refusal, expect_edit, expect_refusal};
+use acceptance_kit::files::Stretch;
+use acceptance_kit::frames::{G, G_LOWER, MONO, Z};
+use std::test::Fail;
+
+/// The header of a tag that is one byte longer than that.
+const TOO_LONG: Stretch = Stretch::Bytes(
+    b"APETAGEX\xd0\x07\0\0\xe1\xff\x0f\0\x01\0\0\0\0\0\0\xa0\0\0\0\0\0\0\0\0",
+);
+
+/// What stands behind that header.
+const TOO_LONG_REST: Stretch = Stretch::Fill(0, 1_048_545);
+
+/// A tag of 1,048,576 bytes with the item `Title` alone, up to its value.
+const LONGEST: Stretch = Stretch::Bytes(
+    b"APETAGEX\xd0\x07\0\0\xe0\xff\x0f\0\x01\0\0\0\0\0\0\xa0\0\0\0\0\0\0\0\0\xb2\xff\x0f\0\0\0\0\0Title\0",
+);
+
+const LONGEST_VALUE: Stretch = Stretch::Fill(b'x', 1_048_498);
+
+const LONGEST_BACK: Stretch = Stretch::Bytes(
+    b"APETAGEX\xd0\x07\0\0\xe0\xff\x0f\0\x01\0\0\0\0\0\0\x80\0\0\0\0\0\0\0\0",
+);
+
+/// Such a tag of 1,048,545 bytes: an undo item of 32 bytes has one byte too few.
+const NO_ROOM: Stretch = Stretch::Bytes(
+    b"APETAGEX\xd0\x07\0\0\xc1\xff\x0f\0\x01\0\0\0\0\0\0\xa0\0\0\0\0\0\0\0\0\x93\xff\x0f\0\0\0\0\0Title\0",
+);
+
+const NO_ROOM_VALUE: Stretch = Stretch::Fill(b'x', 1_048_467);
+
+const NO_ROOM_BACK: Stretch = Stretch::Bytes(
+    b"APETAGEX\xd0\x07\0\0\xc1\xff\x0f\0\x01\0\0\0\0\0\0\x80\0\0\0\0\0\0\0\0",
+);
+
+/// Such a tag of 1,048,544 bytes: an undo item has room.
+const ROOM: Stretch = Stretch::Bytes(
+    b"APETAGEX\xd0\x07\0\0\xc0\xff\x0f\0\x01\0\0\0\0\0\0\xa0\0\0\0\0\0\0\0\0\x92\xff\x0f\0\0\0\0\0Title\0",
+);
+
+const ROOM_VALUE: Stretch = Stretch::Fill(b'x', 1_048_466);
+
+const ROOM_BACK: Stretch = Stretch::Bytes(
+    b"APETAGEX\xd0\x07\0\0\xc0\xff\x0f\0\x01\0\0\0\0\0\0\x80\0\0\0\0\0\0\0\0",
+);
+
+/// The same tag with an undo item, which stands last, up to the value of `Title`.
+const FILLED: Stretch = Stretch::Bytes(
+    b"APETAGEX\xd0\x07\0\0\xe0\xff\x0f\0\x02\0\0\0\0\0\0\xa0\0\0\0\0\0\0\0\0\x92\xff\x0f\0\0\0\0\0Title\0",
+);
+
+const FILLED_BACK: Stretch = Stretch::Bytes(
+    b"\x0b\0\0\0\0\0\0\0MP3GAIN_UNDO\0+005,+005,NAPETAGEX\xd0\x07\0\0\xe0\xff\x0f\0\x02\0\0\0\0\0\0\x80\0\0\0\0\0\0\0\0",
+);
+
+static DONE: [Edit; 3] = [
+    Edit {
+        what: "a tag that fills up",
+        words: "gain -g -5 a o",
+        before: &[Stretch::Frames(&[G]), ROOM, ROOM_VALUE, ROOM_BACK],
+        after: &[Stretch::Frames(&[G_LOWER]), FILLED, ROOM_VALUE, FILLED_BACK],
+    },
+    Edit {
+        what: "and is full no more",
+        words: "gain -u a o",
+        before: &[Stretch::Frames(&[G_LOWER]), FILLED, ROOM_VALUE, FILLED_BACK],
+        after: &[Stretch::Frames(&[G]), ROOM, ROOM_VALUE, ROOM_BACK],
+    },
+    Edit {
+        what: "a tag that is too long, and isn't read",
+        words: "gain -s s -g -5 a o",
+        before: &[Stretch::Frames(&[G]), TOO_LONG, TOO_LONG_REST],
+        after: &[Stretch::Frames(&[G_LOWER]), TOO_LONG, TOO_LONG_REST],
+    },
+];
+
+#[test]
+fn long_tags(rt: HostRuntime) -> Result<(), Fail> {
+    for edit in &DONE {
+        expect_edit(&rt, edit)?;
+    }
+    Ok(())
+}
+
+static REFUSED: [Refusal; 7] = [
+    Refusal {
+        what: "too long, before one channel only",
+        words: "gain -l 0 1 a o",
+        file: &[Stretch::Frames(&[MONO]), TOO_LONG, TOO_LONG_REST],
+        line: "tag too large, 1048577\n",
+    },
+    Refusal {
+        what: "too long, before no undo item",
+        words: "gain -u a o",
+        file: &[TOO_LONG, TOO_LONG_REST, Stretch::Frames(&[G])],
+        line: "tag too large, 1048577\n",
+    },
+    Refusal {
+        what: "a fault of the frames before a tag that is too long",
+        words: "gain -u a o",
+        file: &[
+            Stretch::Frames(&[Z]),
+            TOO_LONG,
+            TOO_LONG_REST,
+            Stretch::Bytes(b"x"),
+        ],
+        line: "a: lost synchronisation at 1048994\n",
+    },
+    Refusal {
+        what: "the longest tag is read",
+        words: "gain -u a o",
+        file: &[Stretch::Frames(&[Z]), LONGEST, LONGEST_VALUE, LONGEST_BACK],
+        line: "no undo item\n",
+    },
+    Refusal {
+        what: "no room for an undo item",
+        words: "gain -g 0 a o",
+        file: &[Stretch::Frames(&[Z]), LONGEST, LONGEST_VALUE, LONGEST_BACK],
+        line: "tag too large, 1048608\n",
+    },
+    Refusal {
+        what: "room for all but a byte, before a gain out of range",
+        words: "gain -g 1 a o",
+        file: &[Stretch::Frames(&[G]), NO_ROOM, NO_ROOM_VALUE, NO_ROOM_BACK],
+        line: "tag too large, 1048577\n",
+    },
+    Refusal {
+        what: "one channel only, before no room",
+        words: "gain -l 1 1 a o",
+        file: &[
+            Stretch::Frames(&[MONO]),
+            NO_ROOM,
+            NO_ROOM_VALUE,
+            NO_ROOM_BACK,
+        ],
+        line: "one channel only\n",
+    },
+];
+
+#[test]
+fn tags_that_are_too_long(rt: HostRuntime) -> Result<(), Fail> {
+    for refusal in &REFUSED {
+        expect_refusal(&rt, refusal)?;
+    }
+    Ok(())
+}

@@ -1,0 +1,125 @@
+//! A file that becomes shorter behind the survey: while its tag is read, or in the second pass.
+
+use crate::blocks::{UNDO_BACK, UNDO_FRONT};
+use acceptance_kit::commands::expect;
+use acceptance_kit::files::{Stretch, bytes_of};
+use acceptance_kit::frames::G_LOWER;
+use outside::{Failed, FindFault, Folder};
+use std::test::Fail;
+
+/// A folder whose files all have these bytes for so many reads, and then no more than the shorter length. It tells
+/// nothing of them. What is written is counted.
+#[derive(Drop)]
+struct Shrinking {
+    bytes: Vec<u8>,
+    whole_reads: u64,
+    shorter: usize,
+    ends: u64,
+    created: u64,
+}
+
+impl Folder for Shrinking {
+    ghost use Rattle.outside.specs.Files.{untold};
+
+    ghost files = { λ _. untold };
+
+    ghost counts = { λ folder. record { misses = 0; ends = folder.ends; read_faults = 0; write_faults = 0 } };
+
+    fn find(&mut self, _name: &str) -> Result<u64, FindFault> {
+        Ok(self.bytes.len() as u64)
+    }
+
+    fn read(&mut self, _name: &str, at: u64, into: &mut [u8]) -> Result<usize, Failed> {
+        let there = if self.whole_reads > 0 {
+            self.whole_reads -= 1;
+            self.bytes.len()
+        } else {
+            self.shorter.min(self.bytes.len())
+        };
+        let begin = (at as usize).min(there);
+        let count = into.len().min(there - begin);
+        into[..count].copy_from_slice(&self.bytes[begin..begin + count]);
+        if count == 0 && !into.is_empty() {
+            self.ends = self.ends.saturating_add(1);
+        }
+        Ok(count)
+    }
+
+    fn create(&mut self, _name: &str) -> Result<(), Failed> {
+        self.created = self.created.saturating_add(1);
+        Ok(())
+    }
+
+    fn write(&mut self, _name: &str, bytes: &[u8]) -> Result<usize, Failed> {
+        Ok(bytes.len())
+    }
+}
+
+/// 513 bytes, of which the last 96 are the tag.
+static NOTED: [Stretch; 4] = [
+    Stretch::Frames(&[G_LOWER]),
+    UNDO_FRONT,
+    Stretch::Bytes(b"+005,+005,N"),
+    UNDO_BACK,
+];
+
+/// How many reads find the file whole, its length afterwards, the line, and how many outputs are created.
+struct Case {
+    whole_reads: u64,
+    shorter: usize,
+    line: &'static str,
+    created: u64,
+}
+
+// The survey makes the first read, and the tag is read by the second.
+static CASES: [Case; 5] = [
+    Case {
+        whole_reads: 0,
+        shorter: 500,
+        line: "a: shrunk from 513 to 500\n",
+        created: 0,
+    },
+    Case {
+        whole_reads: 1,
+        shorter: 512,
+        line: "a: shrunk from 513 to 512\n",
+        created: 0,
+    },
+    Case {
+        whole_reads: 1,
+        shorter: 417,
+        line: "a: shrunk from 513 to 417\n",
+        created: 0,
+    },
+    Case {
+        whole_reads: 1,
+        shorter: 100,
+        line: "a: shrunk from 513 to 417\n",
+        created: 0,
+    },
+    Case {
+        whole_reads: 2,
+        shorter: 100,
+        line: "a: shrunk from 513 to 100\n",
+        created: 1,
+    },
+];
+
+#[test]
+fn a_file_that_becomes_shorter(rt: HostRuntime) -> Result<(), Fail> {
+    for case in &CASES {
+        for words in ["gain -g 1 a o", "gain -u a o"] {
+            let mut folder = Shrinking {
+                bytes: bytes_of(rt.alloc(), &NOTED)?,
+                whole_reads: case.whole_reads,
+                shorter: case.shorter,
+                ends: 0,
+                created: 0,
+            };
+            expect(&rt, &mut folder, words, 3, case.line)?;
+            assert_eq!(rt; folder.created, case.created, "{}", case.line);
+            assert_eq!(rt; folder.ends, 1, "{}", case.line);
+        }
+    }
+    Ok(())
+}
