@@ -1,5 +1,5 @@
 -- Steps of a command that changes one file, and what it leaves by them.
-use Rattle.std.proofs.Common.{◌≡◌, ℕ, ◌+◌, ◌≤◌, ◌==◌, true, false, cond, List, [], ◌∷◌, length, Option, Some, None, refl, sym, ◌∙◌, ap, ap₂, subst, bytes_eq, Result, Ok, Err, inl, inr, arith}
+use Rattle.std.proofs.Common.{◌≡◌, ℕ, ◌+◌, ◌≤◌, true, false, List, [], ◌∷◌, length, Option, Some, None, refl, sym, ◌∙◌, ap, ap₂, subst, bytes_eq, Result, Ok, Err, inl, inr, arith}
 use Rattle.std.specs.Prelude.{IfSome, IfErr, OnOk, is_some, map, unwrap_or}
 use Rattle.bit_fields.specs.Bits.{AreBytes}
 use Rattle.outside.specs.Files.{Contents, Files, Holds, IsThere, IsMissing}
@@ -21,7 +21,7 @@ use Rattle.edits.specs.Streams.{IsStreamMoved, moved_stream_frame}
 use Rattle.edits.specs.Command.{Made, clash_of, Gives, written, written_to, MakesStreams, HoldsStreams}
 use Rattle.edits.specs.Left.{Why, Refused, Missing, Unread, Shorter, Unwritten, Unsent, NoMemory, why_of, Seen, seen, IsDone, IsWrittenTo, TakesMemory, is_before_memory, LeavesBy, Leaves, HasNumbers, IsOfInput, IsOfPass, IsRefusal}
 use Rattle.file_tag.specs.Places.{IsTagBytes}
-use Rattle.edits.proofs.ChangedStream.{IsChanged, changed-parts, changed-ok, survey_of-parts, changed-stream}
+use Rattle.edits.proofs.ChangedStream.{changed-parts, changed-ok, survey_of-parts, changed-stream}
 
 -- what has to hold of a command that changes one file
 pub record IsProper (of : Changing) (steps_in : List ℕ → Steps) : Type 0 where
@@ -334,8 +334,11 @@ makes_streams of steps_in proper input output f bytes differ holds octets made i
         subst (MakesStreams (change_command of steps_in input output) f) (made_is _ made is)
         (record {
           sources = ((bytes, holds, moved.before), tt);
-          streams = (subst (λ o. HoldsStream new (map (moved_stream_frame (steps_in (unwrap_or o []))) (stream_of (unwrap_or o [])))) (sym holds)
-              (subst (λ steps. HoldsStream new (map (moved_stream_frame steps) (stream_of bytes))) same (moved_holds c.change.steps bytes new moved)), tt);
+          streams = (
+            subst (λ o. HoldsStream new (map (moved_stream_frame (steps_in (unwrap_or o []))) (stream_of (unwrap_or o [])))) (sym holds)
+                (subst (λ steps. HoldsStream new (map (moved_stream_frame steps) (stream_of bytes))) same (moved_holds c.change.steps bytes new moved)),
+            tt,
+          );
         })
       where
         made_is : (a b : Made) → ok_made a ≡ ok_made b → a ≡ b

@@ -1,7 +1,7 @@
 -- What is written from front to back is the edited file.
 use Rattle.std.proofs.Common.{◌≡◌, ℕ, ◌+◌, ◌-◌, ◌≤◌, List, [], ◌∷◌, ◌++◌, length, take, drop, Option, Some, None, Ok, refl, sym, ◌∙◌, ap, ap₂, subst, arith, append_assoc, take-append-drop, append-nil, length-drop, length-append}
 use Rattle.std.specs.Prelude.{option_to_list, Bool, true, false, cond, Err, if◌then◌else◌, nat_lt}
-use Rattle.std.proofs.lemmas.List.{drop-drop, take_all, take_at}
+use Rattle.std.proofs.lemmas.List.{drop-drop, take_at}
 use Rattle.std.proofs.Math.Seq.{take-add}
 use Rattle.frame_header.specs.Fields.{HeaderFields}
 use Rattle.frame_header.specs.Tables.{class_of, length_of}

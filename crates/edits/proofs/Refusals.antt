@@ -1,5 +1,5 @@
 -- The refusals of a choice: none of them is found before any memory is taken.
-use Rattle.std.proofs.Common.{◌≡◌, ℕ, ◌==◌, ltb, Bool, true, false, cond, List, [], ◌∷◌, Option, Some, None, Result, Ok, Err, refl, ap, subst, ℤ}
+use Rattle.std.proofs.Common.{◌≡◌, ℕ, ◌==◌, Bool, true, false, cond, List, [], ◌∷◌, Option, Some, None, Result, Ok, Err, refl, subst}
 use Rattle.std.specs.Prelude.{IfSome, IfErr, nat_lt, unsigned_abs}
 use Rattle.tag_blocks.specs.declared.undo.Undo.{Undo}
 use Rattle.tag_blocks.specs.declared.undo.UndoItem.{UndoItem}
@@ -16,7 +16,7 @@ use Rattle.edits.specs.declared.shift.Shift.{Shift}
 use Rattle.edits.specs.declared.shift.Steps.{Steps}
 use Rattle.edits.specs.Edited.{stuck_fault, stuck_of, range_fault}
 use Rattle.edits.specs.Choice.{or_else, unless, then_made, is_joint, joint_fault, are_both, apart_fault, channel_fault}
-use Rattle.edits.specs.Noted.{of_tag, tag_read, noted_undo, found_undo, number_fault, undo_fault, size_fault, output_fault}
+use Rattle.edits.specs.Noted.{tag_read, noted_undo, found_undo, number_fault, undo_fault, size_fault, output_fault}
 use Rattle.edits.specs.Left.{is_before_memory}
 
 -- the fault comes after memory was taken

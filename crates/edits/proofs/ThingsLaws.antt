@@ -137,4 +137,3 @@ unfolding left merged
 left-block t piece some is =
     ap (λ ts. merged (map Block ts) (stream_left t))
     (drop_more t.pieces.now t.next_piece piece (ltb-true t.next_piece (length t.pieces.now) (sym some)) ∙ ap (λ p. p ∷ drop (t.next_piece + 1) t.pieces.now) (sym is))
-

@@ -1,9 +1,9 @@
 -- The place of an undo item in its tag.
-use Rattle.std.proofs.Common.{◌≡◌, ℕ, ◌+◌, ◌≤◌, Bool, true, false, cond, List, [], ◌∷◌, Option, Some, None, refl, sym, ◌∙◌, ap, arith}
+use Rattle.std.proofs.Common.{◌≡◌, ℕ, ◌+◌, ◌≤◌, Bool, true, false, cond, List, [], ◌∷◌, Option, Some, None, arith}
 use Rattle.std.proofs.lemmas.List.Sums.{sum_by-cons}
 use Rattle.tag_blocks.specs.declared.undo.Undo.{Undo}
 use Rattle.tag_blocks.specs.declared.undo.UndoItem.{UndoItem}
-use Rattle.tag_blocks.specs.declared.undo.UndoItem.TheVariants.{Missing, Bad, Found}
+use Rattle.tag_blocks.specs.declared.undo.UndoItem.TheVariants.{Bad}
 use Rattle.tag_blocks.specs.UndoText.{undo_of}
 use Rattle.tag_blocks.specs.Items.{TagItem, is_undo, item_length, items_length}
 use Rattle.tag_blocks.specs.UndoItems.{undo_at, undo_from}

@@ -1,5 +1,5 @@
 -- A file with the gains of its frames moved.
-use Rattle.std.specs.Prelude.{ℕ, ◌==◌, ◌&&◌, ◌||◌, Bool, true, false, List, [], ◌∷◌, ◌++◌, take, drop, Option, Some, None, if◌then◌else◌, flat_map}
+use Rattle.std.specs.Prelude.{ℕ, ◌==◌, ◌&&◌, ◌||◌, Bool, false, List, [], ◌∷◌, ◌++◌, take, drop, Option, Some, None, if◌then◌else◌, flat_map}
 use Rattle.frame_header.specs.Fields.{HeaderFields}
 use Rattle.side_info.specs.Frame.{side_in, frame_with}
 use Rattle.sync_survey.specs.declared.items.Item.{Item}

@@ -1,5 +1,5 @@
 -- The gain command: how it changes a file, and when it refuses it.
-use Rattle.std.specs.Prelude.{ℕ, if◌then◌else◌, Bool, List, Option, Some, None, Result, Ok, Err}
+use Rattle.std.specs.Prelude.{ℕ, if◌then◌else◌, Bool, List, Some, None, Result}
 use Rattle.tag_blocks.specs.declared.undo.Undo.{Undo}
 use Rattle.tag_blocks.specs.Tags.{TagFields, tag_bytes}
 use Rattle.tag_blocks.specs.UndoItems.{undo_from}

@@ -1,5 +1,5 @@
 -- The undo command: it takes back the changes that the undo item of the tag tells of, and then the item.
-use Rattle.std.specs.Prelude.{ℕ, List, Option, Some, None, Result, Ok, Err, pos, false}
+use Rattle.std.specs.Prelude.{ℕ, List, Some, Result, Ok, Err}
 use Rattle.tag_blocks.specs.declared.undo.Undo.{Undo}
 use Rattle.tag_blocks.specs.Tags.{TagFields}
 use Rattle.tag_blocks.specs.UndoItems.{undo_from}

@@ -36,12 +36,7 @@ fn bytes_unless_empty(alloc: Global, tag: &Tag) -> Result<Vec<u8>, AllocError>
 
 /// The steps of the undo item are taken, and the item is taken out of the tag: `GainRange` for the first gain that would
 /// leave its range.
-fn undone_change(
-    alloc: Global,
-    survey: &Survey,
-    tag: Tag,
-    undo: &Undo,
-) -> Result<Change, EditFault>
+fn undone_change(alloc: Global, survey: &Survey, tag: Tag, undo: &Undo) -> Result<Change, EditFault>
     ensures change { MatchResult result
         (λ change. undone_change_lem (tells survey.now) tag undo.now ≡ Ok (change_in change))
         (λ fault. (fault ≡ Memory) ⊎ (IsRefusal fault × (undone_change_lem (tells survey.now) tag undo.now ≡ Err fault))) }

@@ -2,7 +2,7 @@
 use Rattle.std.proofs.Common.{◌≡◌, ◌≤◌, ℕ, List, Result, Ok, Err, refl, sym, ◌∙◌, ap, inl, inr, subst}
 use Rattle.std.specs.Prelude.{◌⊎◌, IfOk, IfErr, MatchResult}
 use Rattle.std.proofs.lemmas.Result.{err_from_is_err_and}
-use Rattle.outside.specs.Files.{Files, Holds, IsThere}
+use Rattle.outside.specs.Files.{Holds}
 use Rattle.tag_blocks.specs.declared.undo.Undo.{Undo}
 use Rattle.tag_blocks.specs.Tags.{TagFields}
 use Rattle.tag_blocks.specs.UndoItems.{undo_from}
@@ -13,14 +13,11 @@ use Rattle.sync_survey.specs.Faults.{SurveyFields, tells, longest_file}
 use Rattle.edits.specs.declared.fault.EditFault.{EditFault}
 use Rattle.edits.specs.declared.fault.EditFault.TheVariants.{Memory}
 use Rattle.edits.specs.declared.change.Change.{Change as CodeChange}
-use Rattle.edits.specs.Change.{Change, Changing, change_in}
-use Rattle.edits.specs.Choice.{then_made}
+use Rattle.edits.specs.Change.{Change, change_in}
 use Rattle.edits.specs.Undo.{undone_change, undo_change}
-use Rattle.edits.specs.Noted.{of_tag, tag_read, found_undo}
-use Rattle.edits.specs.Left.{Seen, seen, IsRefusal, IsOfInput}
-use Rattle.edits.specs.Changing.{IsInputFault}
-use Rattle.edits.proofs.ChangeLaws.{refusal_of_input}
-use Rattle.edits.proofs.TagFaults.{tag_at-most, tag_is_input, choice_is_input, tag_numbers}
+use Rattle.edits.specs.Noted.{of_tag, found_undo}
+use Rattle.edits.specs.Left.{IsRefusal}
+use Rattle.edits.proofs.TagFaults.{tag_at-most, tag_is_input, choice_is_input}
 use Rattle.edits.proofs.undo_file.undo_change.Goals as goal
 
 -- ---- what the definition says
@@ -58,9 +55,12 @@ returns-in_err-undo-clause-refused g c =
     let p = err_from_is_err_and c.from_residual-in_err-undo.result c.from_residual-in_err-undo.ensures.1 in
     rw (p.1, p.2)
     (choice_is_input (undo_change) c.args.name.now (g.D.Folder.files c.args.folder.now) _ _ _ c.read_tag.ensures.files s c.requires.there c.requires.surveyed _ c.in_ok-tag.ensures.done
-    (inr (c.in_err-undo.ensures.refusal, λ bytes holds.
-    refused_item bytes s c.in_ok-tag.tag _ (c.in_ok-tag.ensures.exact bytes holds)
-    (ap (λ n. found_undo n (undo_from 32 c.in_ok-tag.tag.items)) (sym c.tag_place.ensures.offset) ∙ sym c.in_err-undo.ensures.undo))))
+    (inr (
+      c.in_err-undo.ensures.refusal,
+      λ bytes holds.
+          refused_item bytes s c.in_ok-tag.tag _ (c.in_ok-tag.ensures.exact bytes holds)
+          (ap (λ n. found_undo n (undo_from 32 c.in_ok-tag.tag.items)) (sym c.tag_place.ensures.offset) ∙ sym c.in_err-undo.ensures.undo),
+    )))
 
 noted_ok : (r : Result CodeChange EditFault) (made : Result Change EditFault) (whole : List ℕ → Result Change EditFault) (P : List ℕ → Type 0) → ((bytes : List ℕ) → P bytes → whole bytes ≡ made)
     → MatchResult r (λ change. made ≡ Ok (change_in change)) (λ fault. (fault ≡ Memory) ⊎ (IsRefusal fault × (made ≡ Err fault)))

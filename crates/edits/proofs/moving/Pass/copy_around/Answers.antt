@@ -1,5 +1,5 @@
 -- The bytes before the tag, the new tag, and the bytes behind it.
-use Rattle.std.proofs.Common.{◌≡◌, ◌++◌, List, ℕ, refl, sym, ◌∙◌}
+use Rattle.std.proofs.Common.{◌++◌, List, ℕ, refl, ◌∙◌}
 use Rattle.std.proofs.lemmas.Result.{err_from_is_err_and, on_ok_weaker, on_err_weaker}
 use Rattle.edits.specs.declared.moving.NewTag.{NewTag}
 use Rattle.edits.specs.Moving.{bytes_between}
