@@ -12,14 +12,14 @@ use Rattle.sync_survey.specs.Faults.{SurveyFields, surveyed}
 IsTag-empty : IsTag empty_tag
 IsTag-empty = record { items = refl; one = omega arith; others = omega arith; own = omega arith; header_bits = refl; footer_bits = refl; header_number = refl; footer_number = refl }
 
-file_tag-none : (file : List ℕ) (s : SurveyFields) → tag_block s ≡ None → file_tag file s ≡ Ok empty_tag
+pub file_tag-none : (file : List ℕ) (s : SurveyFields) → tag_block s ≡ None → file_tag file s ≡ Ok empty_tag
 unfolding file_tag
 file_tag-none file s none = rw none refl
 
 abbrev ok_tag : TagFields → Result TagFields FileTagFault
 ok_tag tag = Ok tag
 
-same_tag : (a b : TagFields) → ok_tag a ≡ ok_tag b → a ≡ b
+pub same_tag : (a b : TagFields) → ok_tag a ≡ ok_tag b → a ≡ b
 same_tag a b e = cc
 
 pub file_tag-is : (file : List ℕ) (allowed : ℕ) (s : SurveyFields) (tag : TagFields) → AreBytes file → surveyed file allowed ≡ Ok s → file_tag file s ≡ Ok tag → IsTag tag

@@ -25,3 +25,10 @@ pub mod Proper
 pub mod ThingsLaws
 pub mod ListingLaws
 pub mod ListLaws
+pub mod FramesThere
+pub mod MovedAgain
+pub mod RangeAgain
+pub mod TaggedAgain
+pub mod NoStep
+pub mod NotedAgain
+pub mod UndoneGains

@@ -21,7 +21,7 @@ use Rattle.edits.specs.Gains.{is_silent_granule, is_outside, moved_gain, moved, 
 
 -- ---- one gain
 
-abbrev rem : ℤ → ℕ
+abbrev pub rem : ℤ → ℕ
 rem z = unsigned_abs (int_rem_euclid z (pos 256))
 
 -- the remainder of a sum goes by that of its first part
@@ -43,19 +43,19 @@ rem_sum (negsuc n) (negsuc m) =
 gain_twice : (a b : ℤ) (gain : ℕ) → moved_gain b (moved_gain a gain) ≡ moved_gain (a +ℤ b) gain
 gain_twice a b gain = rem_sum (pos gain +ℤ a) b ∙ ap rem (+ℤ_assoc (pos gain) a b)
 
-gain_as_is : (n : ℕ) → n < 256 → rem (pos n) ≡ n
+pub gain_as_is : (n : ℕ) → n < 256 → rem (pos n) ≡ n
 gain_as_is n small = omega arith
 
 gain_none : (gain : ℕ) → gain < 256 → moved_gain (pos 0) gain ≡ gain
 gain_none gain small = ap rem (+ℤ_idr (pos gain)) ∙ gain_as_is gain small
 
 -- a sum within the range is a gain
-record IsGain (sum : ℤ) : Type 0 where
-  gain : ℕ
-  is : sum ≡ pos gain
-  small : gain < 256
+pub record IsGain (sum : ℤ) : Type 0 where
+  pub gain : ℕ
+  pub is : sum ≡ pos gain
+  pub small : gain < 256
 
-within : (sum : ℤ) → is_outside sum ≡ false → IsGain sum
+pub within : (sum : ℤ) → is_outside sum ≡ false → IsGain sum
 within (pos n) inside = record { gain = n; is = refl; small = omega (arith, ltb-false 255 n inside) }
 within (negsuc n) inside = absurd (false≢true (sym inside))
 
@@ -71,11 +71,11 @@ gain_then a b gain inside all =
 moved-silent : (steps : ℤ) (g : Granule) → is_silent_granule g ≡ true → moved steps g ≡ g
 moved-silent steps g silent = ap (λ b. cond b g (record g { global_gain = moved_gain steps g.global_gain })) silent
 
-moved-loud : (steps : ℤ) (g : Granule) → is_silent_granule g ≡ false → moved steps g ≡ record g { global_gain = moved_gain steps g.global_gain }
+pub moved-loud : (steps : ℤ) (g : Granule) → is_silent_granule g ≡ false → moved steps g ≡ record g { global_gain = moved_gain steps g.global_gain }
 moved-loud steps g loud = ap (λ b. cond b g (record g { global_gain = moved_gain steps g.global_gain })) loud
 
 -- the gain would leave the range
-abbrev is_stuck : ℤ → Granule → Bool
+abbrev pub is_stuck : ℤ → Granule → Bool
 is_stuck steps g = not (is_silent_granule g) && is_outside (pos g.global_gain +ℤ steps)
 
 granule_twice : (a b : ℤ) (g : Granule) → moved b (moved a g) ≡ moved (a +ℤ b) g
@@ -159,7 +159,7 @@ free_of : (b : Bool) (stuck : Stuck) → cond b (Some stuck) None ≡ None → b
 free_of true stuck e = absurd cc
 free_of false stuck e = refl
 
-none_of : (b : Bool) (stuck : Stuck) → b ≡ false → cond b (Some stuck) None ≡ None
+pub none_of : (b : Bool) (stuck : Stuck) → b ≡ false → cond b (Some stuck) None ≡ None
 none_of b stuck e = ap (λ a. cond a (Some stuck) None) e
 
 record AllNone (a b c d : Option Stuck) : Type 0 where
@@ -174,20 +174,20 @@ all_none None (Some x) c d e = absurd cc
 all_none None None (Some x) d e = absurd cc
 all_none None None None d e = record { first = refl; second = refl; third = refl; fourth = e }
 
-none_then : (a b c d : Option Stuck) → a ≡ None → b ≡ None → c ≡ None → d ≡ None → option_or a (option_or b (option_or c d)) ≡ None
+pub none_then : (a b c d : Option Stuck) → a ≡ None → b ≡ None → c ≡ None → d ≡ None → option_or a (option_or b (option_or c d)) ≡ None
 none_then (Some x) b c d p q r s = absurd cc
 none_then None (Some x) c d p q r s = absurd cc
 none_then None None (Some x) d p q r s = absurd cc
 none_then None None None d p q r s = s
 
 -- the four gains stay within the range
-record AreFree (left right : ℤ) (g h k l : Granule) : Type 0 where
-  first : is_stuck left g ≡ false
-  second : is_stuck right h ≡ false
-  third : is_stuck left k ≡ false
-  fourth : is_stuck right l ≡ false
+pub record AreFree (left right : ℤ) (g h k l : Granule) : Type 0 where
+  pub first : is_stuck left g ≡ false
+  pub second : is_stuck right h ≡ false
+  pub third : is_stuck left k ≡ false
+  pub fourth : is_stuck right l ≡ false
 
-free-parts : (steps : Steps) (m p a b : ℕ) (g h k l : Granule) → steps.wrap ≡ false → stuck_in steps (side_with m p a b g h k l) ≡ None → AreFree steps.left steps.right g h k l
+pub free-parts : (steps : Steps) (m p a b : ℕ) (g h k l : Granule) → steps.wrap ≡ false → stuck_in steps (side_with m p a b g h k l) ≡ None → AreFree steps.left steps.right g h k l
 unfolding stuck_in
 free-parts steps m p a b g h k l strict free =
     let s = side_with m p a b g h k l in
@@ -203,7 +203,7 @@ free-whole one two m p a b g h k l free strict =
     ap (λ w. cond w None (option_or (stuck_at two.left s 0 0) (option_or (stuck_at two.right s 0 1) (option_or (stuck_at two.left s 1 0) (stuck_at two.right s 1 1))))) strict
     ∙ none_then _ _ _ _ (none_of _ _ free.first) (none_of _ _ free.second) (none_of _ _ free.third) (none_of _ _ free.fourth)
 
-wrapped-free : (steps : Steps) (s : Side) → steps.wrap ≡ true → stuck_in steps s ≡ None
+pub wrapped-free : (steps : Steps) (s : Side) → steps.wrap ≡ true → stuck_in steps s ≡ None
 unfolding stuck_in
 wrapped-free steps s wraps = ap (λ w. cond w None (option_or (stuck_at steps.left s 0 0) (option_or (stuck_at steps.right s 0 1) (option_or (stuck_at steps.left s 1 0) (stuck_at steps.right s 1 1))))) wraps
 

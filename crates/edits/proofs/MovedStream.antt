@@ -60,7 +60,7 @@ counts-moved steps false s = refl
 none_shaped : IsShaped no_side
 none_shaped = record { scfsi = refl; granules = refl; first = refl; second = refl }
 
-counts_shaped : (lost : Bool) (s : Side) → IsShaped s → IsShaped (cond lost no_side s)
+pub counts_shaped : (lost : Bool) (s : Side) → IsShaped s → IsShaped (cond lost no_side s)
 counts_shaped true s shaped = none_shaped
 counts_shaped false s shaped = shaped
 

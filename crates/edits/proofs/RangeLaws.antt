@@ -14,11 +14,11 @@ next_row rows i d lt =
     let one : suc i ≡ i + 1 = omega arith in
     drop-cons rows i d lt ∙ ap (λ n. get_or rows i d ∷ drop n rows) one
 
-range-cons : (steps : Steps) (row : Row) (rows : List Row) → range_fault steps (row ∷ rows) ≡ stuck_fault row.offset (stuck_of steps row) (range_fault steps rows)
+pub range-cons : (steps : Steps) (row : Row) (rows : List Row) → range_fault steps (row ∷ rows) ≡ stuck_fault row.offset (stuck_of steps row) (range_fault steps rows)
 unfolding range_fault
 range-cons steps row rows = refl
 
-range-nil : (steps : Steps) → range_fault steps [] ≡ None
+pub range-nil : (steps : Steps) → range_fault steps [] ≡ None
 unfolding range_fault
 range-nil steps = refl
 

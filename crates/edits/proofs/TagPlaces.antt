@@ -8,7 +8,6 @@ use Rattle.std.proofs.lemmas.List.Folds.{find-append}
 use Rattle.frame_header.specs.Fields.{HeaderFields}
 use Rattle.frame_header.specs.Tables.{class_of, length_of}
 use Rattle.frame_header.proofs.HeaderLaws.{IsClass-class_of}
-use Rattle.side_info.specs.declared.side.Side.{Side}
 use Rattle.side_info.specs.Frame.{side_in, frame_with}
 use Rattle.side_info.proofs.FrameLaws.{shaped-side_in, length-frame_with}
 use Rattle.sync_survey.specs.declared.items.Item.{Item}
@@ -24,7 +23,7 @@ use Rattle.sync_survey.specs.Items.{item_at, size_of}
 use Rattle.sync_survey.specs.Runs.{Placed, Run, run, AreEndToEnd, frame_as, block_as, frames_of, blocks_of}
 use Rattle.sync_survey.specs.declared.survey_fault.SurveyFault.{SurveyFault}
 use Rattle.sync_survey.specs.Start.{front_end_of, IsLeastStart}
-use Rattle.sync_survey.specs.Walk.{stream_run, head_of, numbered, all_blocks, fault_at, end_fault}
+use Rattle.sync_survey.specs.Walk.{stream_run, head_of, numbered, fault_at, end_fault}
 use Rattle.sync_survey.specs.MainData.{row_of, rows_of, marked_row, marked}
 use Rattle.sync_survey.specs.Faults.{SurveyFields, surveyed}
 use Rattle.sync_survey.proofs.ItemsLaws.{stands-at, header_front-in_range}
@@ -39,7 +38,7 @@ use Rattle.file_tag.proofs.FoundTag.{found_case}
 use Rattle.edits.specs.declared.shift.Steps.{Steps}
 use Rattle.edits.specs.Gains.{moved_side}
 use Rattle.edits.specs.Edited.{is_lost_at}
-use Rattle.edits.specs.Moving.{row_length, row_end, moved_row_bytes}
+use Rattle.edits.specs.Moving.{row_end}
 use Rattle.edits.proofs.MovedGains.{IsShaped-moved}
 use Rattle.edits.proofs.LostOffsets.{rows_by, marked-by, walk_rising}
 use Rattle.edits.proofs.WrittenLaws.{EndBy, AreSized, end_rises}
@@ -116,9 +115,12 @@ module _ (lost : ℕ → Bool) (file : List ℕ) where
 
   cut_later : (from at : ℕ) (frames : List PlacedFrame) (b : Piece) (to : ℕ) → from ≤ at → IsCut at frames b to → IsCut from frames b to
   cut_later from at frames b to low cut = record {
-    before = cut.before; behind = cut.behind; all = cut.all;
+    before = cut.before;
+    behind = cut.behind;
+    all = cut.all;
     front = end_earlier from at (by cut.before) b.offset low cut.front;
-    rest = cut.rest; some = cut.some;
+    rest = cut.rest;
+    some = cut.some;
   }
 
   cut_more : (part : Part) (at : ℕ) (item : Item) (ps : List Placed) (b : Piece) (to : ℕ) → IsItemOf part file at item → EndBy (at + size_of item) (by (frames_of ps)) to
@@ -191,7 +193,7 @@ pub record IsAmong (s : SurveyFields) : Type 0 where
   pub before : List Row
   pub behind : List Row
   pub all : s.frames ≡ before ++ behind
-  pub low : s.first ≤ tag_at s
+  pub low : s.first < tag_at s
   pub past : s.junk < tag_at s + tag_length s
   pub front : EndBy s.first before (tag_at s)
   pub rest : EndBy (tag_at s + tag_length s) behind s.length
@@ -303,17 +305,16 @@ module _ (steps : Steps) (file : List ℕ) (allowed : ℕ) (start : Start) (read
   }
   cut_by (Some found) b cut = cut_later lost file first (first + size) (frames_of later.items) b later.stop (omega arith) cut
 
-  among_by : (b : Piece) → tag_block s ≡ Some b → IsCut lost file first (numbered head (start.first ∷ frames_of later.items)) b later.stop → IsAmong s
-  among_by b is cut =
+  among_by : (b : Piece) → tag_block s ≡ Some b → first < b.offset → IsCut lost file first (numbered head (start.first ∷ frames_of later.items)) b later.stop → IsAmong s
+  among_by b is beyond cut =
       let tag = tag_some s b is in
-      let low = end_rises first (rows_by lost file cut.before) b.offset cut.front in
       let high = end_rises (b.offset + b.block.length) (rows_by lost file cut.behind) later.stop cut.rest in
       record {
         before = rows_by lost file cut.before;
         behind = rows_by lost file cut.behind;
         all = rows_told ∙ ap (rows_by lost file) cut.all ∙ map-append (λ (p : PlacedFrame). record (row_of file p) { lost = lost p.offset }) cut.before cut.behind;
-        low = omega (arith, tag.0, low);
-        past = omega (arith, tag.0, tag.1, low, front_low, cut.some);
+        low = omega (arith, tag.0, beyond);
+        past = omega (arith, tag.0, tag.1, beyond, front_low, cut.some);
         front = subst (EndBy first (rows_by lost file cut.before)) (sym tag.0) cut.front;
         rest = end_later (tag_at s + tag_length s) (rows_by lost file cut.behind) later.stop (length file) stop_within
             (subst (λ n. EndBy n (rows_by lost file cut.behind) later.stop) (ap₂ (λ m n. m + n) (sym tag.0) (sym tag.1)) cut.rest);
@@ -344,7 +345,7 @@ module _ (steps : Steps) (file : List ℕ) (allowed : ℕ) (start : Start) (read
         before = row ∷ rows;
         behind = [];
         all = sym same ∙ sym (append-nil (row ∷ rows));
-        low = omega (arith, place, end_rises first (row ∷ rows) (last_end (row ∷ rows)) last.0);
+        low = omega (arith, place, ends.0, ends.1, end_rises (row_end row) rows (last_end (row ∷ rows)) last.0.2);
         past = omega (arith, place, tag.1, ends.0, ends.1, end_rises (row_end row) rows (last_end (row ∷ rows)) last.0.2, front_low);
         front = subst (EndBy first (row ∷ rows)) (sym place) last.0;
         rest = omega (arith, place, tag.1, last.1);
@@ -359,7 +360,10 @@ module _ (steps : Steps) (file : List ℕ) (allowed : ℕ) (start : Start) (read
       let tag = tag_some s b is in
       let here = items_within lost file Front 0 front.items b front.stop (run-ends Front file 0) front_is in
       inl (record { some = omega (arith, tag.1, here.0); before = omega (arith, tag.0, tag.1, here.1, front_stop) })
-  place_by None (Some b) front_is later_is is = inr (among_by b is (cut_by head b (items_cut lost file Stream (first + size) later.items b later.stop later_ends later_is)))
+  place_by None (Some b) front_is later_is is =
+      let cut = items_cut lost file Stream (first + size) later.items b later.stop later_ends later_is in
+      let beyond = end_rises (first + size) (rows_by lost file cut.before) b.offset cut.front in
+      inr (among_by b is (omega (arith, beyond, first_whole.some)) (cut_by head b cut))
   place_by None None front_is later_is is =
       inr (last_by s.frames refl rows_ends frames_some is)
 

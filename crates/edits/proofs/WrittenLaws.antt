@@ -1,8 +1,7 @@
 -- What is written from front to back, with the new tag in its place, is the changed file.
-use Rattle.std.proofs.Common.{◌≡◌, ℕ, ◌+◌, ◌-◌, ◌<◌, ◌≤◌, leb, ltb, Bool, true, false, cond, ◌&&◌, List, [], ◌∷◌, ◌++◌, length, take, drop, map, Option, Some, None, Ok, refl, sym, ◌∙◌, ap, ap₂, subst, arith, append_assoc, take-append-drop, length-append, length-drop}
+use Rattle.std.proofs.Common.{◌≡◌, ℕ, ◌+◌, ◌-◌, ◌<◌, ◌≤◌, leb, Bool, true, false, cond, ◌&&◌, List, [], ◌∷◌, ◌++◌, length, drop, Option, Some, None, refl, sym, ◌∙◌, ap, ap₂, subst, arith, append_assoc, length-append, length-drop}
 use Rattle.std.proofs.lemmas.Bool.{le-leb, lt-leb}
-use Rattle.std.proofs.lemmas.List.{drop-drop, take_all, take_at, drop_at, length-take-le}
-use Rattle.std.proofs.Math.Seq.{take-add}
+use Rattle.std.proofs.lemmas.List.{take_all, length-take-le}
 use Rattle.sync_survey.specs.declared.rows.Row.{Row}
 use Rattle.edits.specs.declared.moving.NewTag.{NewTag}
 use Rattle.edits.specs.declared.shift.Steps.{Steps}
@@ -62,7 +61,7 @@ abbrev pub AreSized : Steps → List ℕ → List Row → Type 0
 AreSized steps file [] = Unit {0}
 AreSized steps file (row ∷ rows) = (length (moved_row_bytes steps file row) ≡ row_length row) × AreSized steps file rows
 
-between_long : (file : List ℕ) (from to : ℕ) → from ≤ to → to ≤ length file → length (bytes_between file from to) ≡ to - from
+pub between_long : (file : List ℕ) (from to : ℕ) → from ≤ to → to ≤ length file → length (bytes_between file from to) ≡ to - from
 between_long file from to up within = length-take-le (to - from) (drop from file) (omega (arith, length-drop from file, up, within))
 
 pub moved_to-long : (steps : Steps) (file : List ℕ) (at to : ℕ) (rows : List Row) → AreSized steps file rows → EndBy at rows to → to ≤ length file → length (moved_to steps file at to rows) ≡ to - at
@@ -81,7 +80,7 @@ moved_to-long steps file at to (row ∷ rows) sized ends within =
       up,
     )
 
-append_three : (a b c d : List ℕ) → (a ++ (b ++ c)) ++ d ≡ a ++ (b ++ (c ++ d))
+pub append_three : (a b c d : List ℕ) → (a ++ (b ++ c)) ++ d ≡ a ++ (b ++ (c ++ d))
 append_three a b c d = append_assoc a (b ++ c) d ∙ ap (λ (l : List ℕ). a ++ l) (append_assoc b c d)
 
 -- the moved bytes up to an offset that isn't behind the next frame, and those from it on

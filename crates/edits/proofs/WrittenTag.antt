@@ -1,5 +1,5 @@
 -- What is written from front to back is the changed file: the edited one with the new tag in the place of its tag.
-use Rattle.std.proofs.Common.{◌≡◌, ℕ, suc, ◌+◌, ◌-◌, ◌<◌, ◌≤◌, ltb, Bool, true, false, cond, List, [], ◌∷◌, ◌++◌, length, take, drop, map, Option, Some, None, option_map, Ok, refl, sym, ◌∙◌, ap, ap₂, subst, arith, inl, inr, append_assoc, length-append, length-drop}
+use Rattle.std.proofs.Common.{◌≡◌, ℕ, ◌+◌, ◌-◌, ◌<◌, ◌≤◌, ltb, Bool, true, false, cond, List, [], ◌∷◌, ◌++◌, length, take, drop, map, Option, Some, None, option_map, Ok, refl, sym, ◌∙◌, ap, ap₂, subst, arith, inl, inr, append_assoc, length-append, length-drop}
 use Rattle.std.specs.Prelude.{◌⊎◌}
 use Rattle.std.specs.List.{find}
 use Rattle.std.proofs.lemmas.Bool.{lt-ltb, le-ltb}
@@ -13,10 +13,10 @@ use Rattle.edits.specs.declared.shift.Steps.{Steps}
 use Rattle.edits.specs.Edited.{edited}
 use Rattle.edits.specs.Streams.{moved_row, moved_block, junk_length, moved_survey}
 use Rattle.edits.specs.Change.{Change, retag, changed}
-use Rattle.edits.specs.Moving.{row_end, moved_row_bytes, bytes_between, copied, written_from, IsTagOf, IsNewTag}
+use Rattle.edits.specs.Moving.{row_end, bytes_between, copied, written_from, IsTagOf, IsNewTag}
 use Rattle.edits.proofs.MovingLaws.{moved_from, IsBehind, moved_from-later, written-edited}
-use Rattle.edits.proofs.WrittenLaws.{written-none, EndBy, end_rises, moved_to, AreSized, moved_to-long, moved_split, before_tag, around_tag, written-behind, written-split}
-use Rattle.edits.proofs.TagPlaces.{last_more, last_ends, tag_some, tag_none, IsAmong, IsInFront, StandsSomewhere, stands_somewhere}
+use Rattle.edits.proofs.WrittenLaws.{written-none, EndBy, moved_to, AreSized, moved_to-long, moved_split, before_tag, around_tag, written-behind, written-split}
+use Rattle.edits.proofs.TagPlaces.{last_more, tag_some, tag_none, IsAmong, IsInFront, StandsSomewhere, stands_somewhere}
 
 -- ---- the tag of the edited file
 
@@ -90,6 +90,7 @@ module _ (steps : Steps) (s : SurveyFields) where
       last : (rows : List Row) → EndBy s.first rows to → 0 < length rows → last_end (map (moved_row steps gap) rows) ≡ last_end rows - gap
       last [] ends some = absurd (omega (arith, some))
       last (row ∷ rows) ends some = last_moved steps gap s.first row rows to ends (omega arith)
+
       at : (o : Option Piece) → tag_block s ≡ o → tag_at m ≡ tag_at s - gap
       at None is =
           (tag_none m (none_moved is)).0 ∙ ap last_end frames_moved ∙ last s.frames ends some ∙ ap (λ n. n - gap) (sym (tag_none s is).0)
@@ -101,6 +102,18 @@ module _ (steps : Steps) (s : SurveyFields) where
           ∙ ap (λ n. n - gap) (sym place)
 
 -- ---- the bytes
+
+pub is_behind : (at : ℕ) (rows : List Row) (to : ℕ) → EndBy at rows to → IsBehind at rows
+is_behind at [] to ends = tt
+is_behind at (row ∷ rows) to ends = ends.0
+
+pub is_earlier : (at later : ℕ) (rows : List Row) → at ≤ later → IsBehind later rows → IsBehind at rows
+is_earlier at later [] low behind = tt
+is_earlier at later (row ∷ rows) low behind = omega (arith, low, behind)
+
+pub sized_front : (steps : Steps) (file : List ℕ) (before behind : List Row) → AreSized steps file (before ++ behind) → AreSized steps file before
+sized_front steps file [] behind sized = tt
+sized_front steps file (row ∷ before) behind sized = (sized.0, sized_front steps file before behind sized.1)
 
 with_tag-is : (bytes : List ℕ) (s : SurveyFields) (file : List ℕ) → with_tag bytes s file ≡ take (tag_at s) file ++ (bytes ++ drop (tag_at s + tag_length s) file)
 unfolding with_tag
@@ -167,7 +180,7 @@ module _ (steps : Steps) (file : List ℕ) (allowed : ℕ) (s : SurveyFields) (i
       let rest = moved_from steps file (a + size) among.behind in
       let front = take junk file ++ before in
       let behind_rest : IsBehind (a + size) among.behind = is_behind (a + size) among.behind s.length among.rest in
-      let before_long : length before ≡ a - s.first = moved_to-long steps file s.first a among.before (sized_front among.before among.behind (subst (AreSized steps file) among.all known.sized)) among.front (omega (arith, up)) in
+      let before_long : length before ≡ a - s.first = moved_to-long steps file s.first a among.before (sized_front steps file among.before among.behind (subst (AreSized steps file) among.all known.sized)) among.front (omega (arith, up)) in
       let own_long : length own ≡ size = length-take-le size (drop a file) (omega (arith, length-drop a file, up)) in
       let all : moved ≡ front ++ (own ++ rest) =
       moved_is
@@ -191,17 +204,7 @@ module _ (steps : Steps) (file : List ℕ) (allowed : ℕ) (s : SurveyFields) (i
       ∙ ap (λ (l : List ℕ). before ++ (l ++ rest)) new.2)
       ∙ sym (append_assoc (take junk file) before (bytes ++ rest))
       ∙ ap₂ (λ (l r : List ℕ). l ++ (bytes ++ r)) (sym taken) (sym dropped)
-      ∙ goal_from (a - junk_length s) (at_behind steps s s.length among.low known.ends some)
-    where
-      is_behind : (at : ℕ) (rows : List Row) (to : ℕ) → EndBy at rows to → IsBehind at rows
-      is_behind at [] to ends = tt
-      is_behind at (row ∷ rows) to ends = ends.0
-      is_earlier : (at later : ℕ) (rows : List Row) → at ≤ later → IsBehind later rows → IsBehind at rows
-      is_earlier at later [] low behind = tt
-      is_earlier at later (row ∷ rows) low behind = omega (arith, low, behind)
-      sized_front : (before behind : List Row) → AreSized steps file (before ++ behind) → AreSized steps file before
-      sized_front [] behind sized = tt
-      sized_front (row ∷ before) behind sized = (sized.0, sized_front before behind sized.1)
+      ∙ goal_from (a - junk_length s) (at_behind steps s s.length (omega (arith, among.low)) known.ends some)
 
   tag_case : copied (Some tag) file 0 s.junk ++ written_from steps (Some tag) file s.first s.frames ≡ with_tag bytes m2 moved
   tag_case = at known.place
@@ -218,6 +221,7 @@ written-changed change tag file allowed s new is = at change.tag tag new
   where
     none : s.junk - 0 ≡ s.junk
     none = omega arith
+
     at : (o : Option (List ℕ)) (t : Option NewTag) → IsTagOf s o t → copied t file 0 s.junk ++ written_from change.steps t file s.first s.frames ≡ retag o (moved_survey change.steps s) (edited change.steps file s)
     at None None new =
         ap₂ (λ n (l : List ℕ). take n file ++ l) none (written-none change.steps file s.first s.frames)

@@ -16,4 +16,4 @@ pub mod Listing
 pub mod Changing
 pub mod Gain
 pub mod Undo
-
+pub mod Undoing

@@ -17,6 +17,7 @@ mod noted;
 mod shift;
 mod things;
 mod undo_file;
+mod undoing;
 
 pub use fault::EditFault;
 pub use gain_file::gain;
@@ -24,6 +25,7 @@ pub use gains::Stuck;
 pub use list_file::list;
 pub use shift::{Channels, Shift, Steps};
 pub use undo_file::undo;
+pub use undoing::undo_gives_back;
 
 #[cfg(test)]
 mod tests;
