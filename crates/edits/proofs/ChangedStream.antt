@@ -1,21 +1,23 @@
 -- What a command makes of a file is well-formed, and its stream is that of the file with each gain moved.
-use Rattle.std.proofs.Common.{◌≡◌, ℕ, ◌+◌, ◌≤◌, ltb, Bool, true, false, cond, List, length, map, Option, Some, None, Result, Ok, Err, refl, ◌∙◌, ap, subst, arith}
+use Rattle.std.proofs.Common.{◌≡◌, ℕ, ◌+◌, ◌≤◌, ltb, Bool, true, false, cond, List, length, map, Option, Some, None, Result, Ok, Err, refl, sym, ◌∙◌, ap, ap₂, subst, arith}
 use Rattle.std.specs.Prelude.{IfSome}
 use Rattle.std.proofs.lemmas.Bool.{ltb-false}
 use Rattle.bit_fields.specs.Bits.{AreBytes}
-use Rattle.file_tag.specs.Places.{IsTagBytes, retagged}
+use Rattle.file_tag.specs.Places.{IsTagBytes, with_tag, retagged}
 use Rattle.file_tag.proofs.Retagged.{surveyed-retagged, stream-retagged}
 use Rattle.sync_survey.specs.declared.survey_fault.SurveyFault.{SurveyFault}
-use Rattle.sync_survey.specs.Faults.{SurveyFields, surveyed, stream_of_survey, longest_file}
+use Rattle.sync_survey.specs.Faults.{SurveyFields, surveyed, stream_of_survey, HoldsStream, stream_by, stream_of}
 use Rattle.sync_survey.specs.Survey.{survey_of}
 use Rattle.sync_survey.proofs.SurveyParts.{surveyed-allowed}
 use Rattle.edits.specs.declared.fault.EditFault.{EditFault}
 use Rattle.edits.specs.declared.shift.Steps.{Steps}
 use Rattle.edits.specs.Edited.{edited}
-use Rattle.edits.specs.Change.{Change, Changing, retag, changed, most_frames, changed_with, changed_by, changed_file}
+use Rattle.edits.specs.One.{most_frames, made_by, made_file}
+use Rattle.edits.specs.Change.{Change, Changing, retag, changed, changed_with, changing, changed_file}
 use Rattle.edits.specs.Streams.{moved_stream_frame, moved_survey, IsStreamMoved}
 use Rattle.edits.proofs.MovedSurvey.{surveyed-edited}
 use Rattle.edits.proofs.MovedStream.{stream-edited}
+use Rattle.edits.proofs.SurveyedFiles.{survey_of-parts}
 
 -- ---- what is made of a file
 
@@ -27,29 +29,21 @@ pub record IsChanged (of : Changing) (file new : List ℕ) : Type 0 where
   pub made : of file survey ≡ Ok change
   pub bytes : changed change file survey ≡ new
 
-change_cases : (of : Changing) (file new : List ℕ) (s : SurveyFields) (r : Result Change EditFault) → survey_of file most_frames ≡ Ok s → of file s ≡ r → changed_with file s r ≡ Ok new → IsChanged of file new
+pub change_cases : (of : Changing) (file new : List ℕ) (s : SurveyFields) (r : Result Change EditFault) → survey_of file most_frames ≡ Ok s → of file s ≡ r → changed_with file s r ≡ Ok new → IsChanged of file new
 change_cases of file new s (Err fault) is made e = absurd cc
 change_cases of file new s (Ok change) is made e = record { survey = s; is = is; change = change; made = made; bytes = cc }
 
-survey_cases : (of : Changing) (file new : List ℕ) (r : Result SurveyFields SurveyFault) → survey_of file most_frames ≡ r → changed_by of file r ≡ Ok new → IsChanged of file new
+survey_cases : (of : Changing) (file new : List ℕ) (r : Result SurveyFields SurveyFault) → survey_of file most_frames ≡ r → made_by (changing of) file r ≡ Ok new → IsChanged of file new
 survey_cases of file new (Err fault) is e = absurd cc
 survey_cases of file new (Ok s) is e = change_cases of file new s (of file s) is refl e
 
 pub changed-parts : (of : Changing) (file new : List ℕ) → changed_file of file ≡ Ok new → IsChanged of file new
-unfolding changed_file
+unfolding made_file
 changed-parts of file new e = survey_cases of file new (survey_of file most_frames) refl e
 
 pub changed-ok : (of : Changing) (file : List ℕ) (s : SurveyFields) (change : Change) → survey_of file most_frames ≡ Ok s → of file s ≡ Ok change → changed_file of file ≡ Ok (changed change file s)
-unfolding changed_file
-changed-ok of file s change is made = ap (changed_by of file) is ∙ ap (changed_with file s) made
-
-long_cases : (long : Bool) (file : List ℕ) (r : Result SurveyFields SurveyFault) (fault : SurveyFault) (s : SurveyFields) → ltb longest_file (length file) ≡ long → cond long (Err fault) r ≡ Ok s → (length file ≤ longest_file) × (r ≡ Ok s)
-long_cases true file r fault s is e = absurd cc
-long_cases false file r fault s is e = (ltb-false longest_file (length file) is, e)
-
-pub survey_of-parts : (file : List ℕ) (allowed : ℕ) (s : SurveyFields) → survey_of file allowed ≡ Ok s → (length file ≤ longest_file) × (surveyed file allowed ≡ Ok s)
-unfolding survey_of
-survey_of-parts file allowed s e = long_cases (ltb longest_file (length file)) file (surveyed file allowed) _ s refl e
+unfolding made_file
+changed-ok of file s change is made = ap (made_by (changing of) file) is ∙ ap (changed_with file s) made
 
 -- ---- the stream
 
@@ -100,3 +94,14 @@ module _ (file : List ℕ) (allowed : ℕ) (s : SurveyFields) (all : AreBytes fi
 pub changed-stream : (of : Changing) (file new : List ℕ) (c : IsChanged of file new) → AreBytes file → IfSome c.change.tag IsTagBytes → IsStreamMoved c.change.steps file new
 changed-stream of file new c all tags =
     subst (IsStreamMoved c.change.steps file) c.bytes (changed-moved file most_frames c.survey all (survey_of-parts file most_frames c.survey c.is).1 c.change tags)
+
+stream_of-survey : (file : List ℕ) (s : SurveyFields) → surveyed file (length file + 1) ≡ Ok s → stream_of file ≡ stream_of_survey file s
+unfolding stream_of
+stream_of-survey file s is = ap (stream_by file) is
+
+-- as a stream that it holds
+pub moved_holds : (steps : Steps) (file new : List ℕ) → IsStreamMoved steps file new → HoldsStream new (map (moved_stream_frame steps) (stream_of file))
+moved_holds steps file new h = record {
+  well_formed = h.after;
+  stream_is = stream_of-survey new h.after.0 h.after.1 ∙ h.stream ∙ ap (map (moved_stream_frame steps)) (sym (stream_of-survey file h.before.0 h.before.1));
+}

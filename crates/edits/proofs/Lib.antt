@@ -13,13 +13,14 @@ pub mod EditedRuns
 pub mod LostOffsets
 pub mod MovedSurvey
 pub mod MovedStream
+pub mod SurveyedFiles
 pub mod TagPlaces
 pub mod WrittenTag
 pub mod FileTags
 pub mod ChangedStream
 pub mod UndoPlaces
 pub mod Refusals
-pub mod ChangeLaws
+pub mod OneLaws
 pub mod TagFaults
 pub mod Proper
 pub mod ThingsLaws

@@ -14,13 +14,13 @@ use Rattle.sync_survey.proofs.SurveyParts.{surveyed-allowed}
 use Rattle.edits.specs.declared.fault.EditFault.{EditFault}
 use Rattle.edits.specs.declared.fault.EditFault.TheVariants.{Input, Sent as NotSent, Memory}
 use Rattle.edits.specs.Kinds.{of_input}
-use Rattle.edits.specs.Change.{most_frames}
+use Rattle.edits.specs.One.{most_frames}
 use Rattle.edits.specs.Command.{Made, Gives, written, MakesStreams, HoldsStreams}
 use Rattle.edits.specs.Left.{seen, IsDone, IsRefused, TakesMemory, Leaves}
 use Rattle.edits.specs.Said.{IsText}
 use Rattle.edits.specs.Listing.{listed_by, listed_where, listing, list_command}
-use Rattle.edits.proofs.ChangeLaws.{of_bytes_behind, ok_made}
-use Rattle.edits.proofs.ChangedStream.{survey_of-parts}
+use Rattle.edits.proofs.OneLaws.{of_bytes_behind, ok_made}
+use Rattle.edits.proofs.SurveyedFiles.{survey_of-parts}
 
 made_is : (a b : Made) → ok_made a ≡ ok_made b → a ≡ b
 made_is a b e = cc

@@ -3,11 +3,9 @@ use Rattle.std.proofs.Common.{◌≡◌, ◌≢◌, ℕ, List, [], ◌++◌, len
 use Rattle.outside.specs.Files.{Files, untold, emptied, appended, with_file, Holds}
 use Rattle.outside.specs.Counts.{Counts, Rose, NoneFell, NothingFailed}
 use Rattle.outside.proofs.FilesLaws.{with_file_here, with_file_other, with_file_twice, emptied_told, appended_told}
-use Rattle.sync_survey.specs.Faults.{SurveyFields}
 use Rattle.edits.specs.declared.moving.CopyFault.{CopyFault}
 use Rattle.edits.specs.declared.moving.CopyFault.TheVariants.{Read, Shrunk, Write}
-use Rattle.edits.specs.Change.{Change, changed}
-use Rattle.edits.specs.Changing.{holding, IsBegun, IsPassFault}
+use Rattle.edits.specs.One.{holding, IsBegun, IsPassFault}
 use Rattle.edits.specs.Left.{seen, IsOfPass}
 use Rattle.edits.specs.Pass.{Appends, AppendsPrefix, HasCopyCause, of_pass}
 
@@ -55,30 +53,30 @@ cause_counts (Shrunk first second) size files before after h =
 cause_counts Write size files before after h = record { misses = h.1.misses; ends = omega (arith, h.1.ends); read_faults = omega (arith, h.1.read_faults); write_faults = h.1.write_faults }
 
 -- the output was created, and then written to
-module _ (change : Change) (s : SurveyFields) (input output : List ℕ) (apart : input ≢ output) (old mid new : Files) (created : mid ≡ emptied old output) where
+module _ (made : List ℕ → List ℕ) (size : ℕ) (input output : List ℕ) (apart : input ≢ output) (old mid new : Files) (created : mid ≡ emptied old output) where
   held_mid : (file : List ℕ) → Holds old input file → Holds mid input file
   held_mid file holds = subst (λ f. Holds f input file) (sym created) (held_emptied old input output file apart holds)
 
   holding_new : (bytes : List ℕ) → new ≡ appended mid output bytes → new ≡ holding old output bytes
   holding_new bytes is = is ∙ ap (λ f. appended f output bytes) created ∙ appended-emptied old output bytes
 
-  pub output_whole : Appends input output (λ file. changed change file s) mid new → (file : List ℕ) → Holds old input file → new ≡ holding old output (changed change file s)
+  pub output_whole : Appends input output made mid new → (file : List ℕ) → Holds old input file → new ≡ holding old output (made file)
   output_whole done file holds = holding_new done.bytes done.files ∙ ap (holding old output) (done.is file (held_mid file holds))
 
-  pub output_prefix : AppendsPrefix input output (λ file. changed change file s) mid new → IsBegun change s input output old new
+  pub output_prefix : AppendsPrefix input output made mid new → IsBegun made input output old new
   output_prefix part file holds = inr (length part.bytes, holding_new part.bytes part.files ∙ ap (holding old output) (part.prefix file (held_mid file holds)))
 
   appended_told_new : (bytes : List ℕ) → new ≡ appended mid output bytes → is_some new ≡ is_some old
   appended_told_new bytes is = ap is_some is ∙ appended_told mid output bytes ∙ ap is_some created ∙ emptied_told old output
 
-  pub told_whole : Appends input output (λ file. changed change file s) mid new → is_some new ≡ is_some old
+  pub told_whole : Appends input output made mid new → is_some new ≡ is_some old
   told_whole done = appended_told_new done.bytes done.files
 
-  pub told_prefix : AppendsPrefix input output (λ file. changed change file s) mid new → is_some new ≡ is_some old
+  pub told_prefix : AppendsPrefix input output made mid new → is_some new ≡ is_some old
   told_prefix part = appended_told_new part.bytes part.files
 
-  pub pass_fault : (fault : CopyFault) (before between after : Counts) → between ≡ before → AppendsPrefix input output (λ file. changed change file s) mid new → HasCopyCause s.length mid between after fault
-      → IsPassFault change s input output (seen old before) (seen new after) (of_pass fault)
+  pub pass_fault : (fault : CopyFault) (before between after : Counts) → between ≡ before → AppendsPrefix input output made mid new → HasCopyCause size mid between after fault
+      → IsPassFault made input output (seen old before) (seen new after) (of_pass fault)
   pass_fault Read before between after same part h = record { rose = subst (λ c. Rose c.read_faults after.read_faults) same h.0; files = output_prefix part }
   pass_fault (Shrunk first second) before between after same part h =
       let none = untold_before old output (sym created ∙ h.0) in
@@ -91,5 +89,5 @@ module _ (change : Change) (s : SurveyFields) (input output : List ℕ) (apart :
   pass_fault Write before between after same part h = (refl, record { rose = subst (λ c. Rose c.write_faults after.write_faults) same h.0; files = output_prefix part })
 
 -- the output could not be created
-pub not_created : (change : Change) (s : SurveyFields) (input output : List ℕ) (old new : Files) → new ≡ old → IsBegun change s input output old new
-not_created change s input output old new stays bytes holds = inl stays
+pub not_created : (made : List ℕ → List ℕ) (input output : List ℕ) (old new : Files) → new ≡ old → IsBegun made input output old new
+not_created made input output old new stays bytes holds = inl stays

@@ -1,10 +1,10 @@
 -- Gain and undo are commands that change one file: their refusals, their steps, and their new tags.
-use Rattle.std.proofs.Common.{◌≡◌, ℕ, ◌==◌, Bool, true, false, cond, List, [], length, Option, Some, None, Result, Ok, Err, refl, sym, ◌∙◌, ap, subst, inl, inr}
+use Rattle.std.proofs.Common.{◌≡◌, ℕ, ◌==◌, Bool, true, false, cond, List, [], ◌∷◌, length, map, Option, Some, None, Result, Ok, Err, refl, sym, ◌∙◌, ap, subst, inl, inr}
 use Rattle.std.specs.Prelude.{IfSome, IfErr}
 use Rattle.bit_fields.specs.Bits.{AreBytes}
 use Rattle.tag_blocks.specs.declared.undo.Undo.{Undo}
 use Rattle.tag_blocks.specs.Tags.{TagFields, IsTag, tag_bytes}
-use Rattle.tag_blocks.specs.UndoItems.{undo_from}
+use Rattle.tag_blocks.specs.UndoItems.{undo_from, with_undo, without_undo}
 use Rattle.tag_blocks.proofs.TagsLaws.{block_front-tag_bytes}
 use Rattle.tag_blocks.proofs.UndoItemsLaws.{IsTag-with_undo, IsTag-without_undo}
 use Rattle.file_tag.specs.declared.fault.FileTagFault.{FileTagFault}
@@ -14,16 +14,21 @@ use Rattle.sync_survey.specs.Faults.{SurveyFields}
 use Rattle.sync_survey.specs.Survey.{survey_of}
 use Rattle.edits.specs.declared.fault.EditFault.{EditFault}
 use Rattle.edits.specs.declared.shift.Shift.{Shift}
+use Rattle.edits.specs.declared.shift.Steps.{Steps}
 use Rattle.edits.specs.Edited.{range_fault}
 use Rattle.edits.specs.Gains.{steps_of}
 use Rattle.edits.specs.Choice.{or_else, unless, then_made, channel_fault}
 use Rattle.edits.specs.Noted.{tag_read, noted_undo, found_undo, undo_steps, next_undo, undo_fault, tag_with, tag_without, bytes_unless_empty, size_fault, output_fault}
-use Rattle.edits.specs.Change.{Change, most_frames}
+use Rattle.edits.specs.One.{most_frames}
+use Rattle.edits.specs.Change.{Change, Changing, changed_with, changing}
+use Rattle.edits.specs.Streams.{moved_stream_frame, stream_in}
+use Rattle.sync_survey.specs.Faults.{HoldsStream}
 use Rattle.edits.specs.Gain.{plain_change, noted_change, tagged_change, gain_change}
 use Rattle.edits.specs.Undo.{undone_change, undo_change, steps_when, steps_by, steps_back}
-use Rattle.edits.proofs.ChangedStream.{survey_of-parts}
+use Rattle.edits.proofs.SurveyedFiles.{survey_of-parts}
+use Rattle.edits.proofs.ChangedStream.{change_cases, changed-stream, moved_holds}
 use Rattle.edits.proofs.FileTags.{file_tag-is}
-use Rattle.edits.proofs.ChangeLaws.{IsProper}
+use Rattle.edits.proofs.OneLaws.{IsProper}
 use Rattle.edits.proofs.Refusals.{IsLate, or_late, unless_late, then_late, err_late, range_late, channel_late, tag_late, noted_late, found_late, undo_late, size_late, output_late}
 
 -- ---- refusals
@@ -154,16 +159,28 @@ undo_tags file s change all is e =
     subst (λ (c : Change). IfSome c.tag IsTagBytes) parts.is
     (unless_empty-are (tag_without parts.tag) (IsTag-without_undo parts.tag (read-tag file s parts.tag all is parts.read)))
 
-pub gain_proper : (shift : Shift) (tags : Bool) → IsProper (gain_change shift tags) (λ file. steps_of shift)
-gain_proper shift tags = record {
-  late = λ file s fault e. err_late (gain_change shift tags file s) fault (gain_late shift tags file s) e;
-  steps = λ file s change is made. gain_steps shift tags file s change made;
-  tags = gain_tags shift tags;
-}
+-- ---- as commands
 
-pub undo_proper : IsProper undo_change steps_back
-undo_proper = record {
-  late = λ file s fault e. err_late (undo_change file s) fault (undo_change_late file s) e;
-  steps = back_steps;
-  tags = undo_tags;
-}
+with_err : (file : List ℕ) (s : SurveyFields) (r : Result Change EditFault) (fault : EditFault) → changed_with file s r ≡ Err fault → r ≡ Err fault
+with_err file s (Err first) fault e = cc
+with_err file s (Ok change) fault e = absurd cc
+
+module _ (of : Changing) (steps_in : List ℕ → Steps)
+    (late : (file : List ℕ) (s : SurveyFields) → IfErr (of file s) IsLate)
+    (steps : (file : List ℕ) (s : SurveyFields) (change : Change) → survey_of file most_frames ≡ Ok s → of file s ≡ Ok change → change.steps ≡ steps_in file)
+    (tags : (file : List ℕ) (s : SurveyFields) (change : Change) → AreBytes file → survey_of file most_frames ≡ Ok s → of file s ≡ Ok change → IfSome change.tag IsTagBytes) where
+  moved_stream : (file : List ℕ) (s : SurveyFields) (new : List ℕ) → AreBytes file → survey_of file most_frames ≡ Ok s → changing of file s ≡ Ok new → HoldsStream new (map (moved_stream_frame (steps_in file)) (stream_in file))
+  moved_stream file s new all is e =
+      let c = change_cases of file new s (of file s) is refl e in
+      let moved = changed-stream of file new c all (tags file c.survey c.change all c.is c.made) in
+      subst (λ t. HoldsStream new (map (moved_stream_frame t) (stream_in file))) (steps file c.survey c.change c.is c.made) (moved_holds c.change.steps file new moved)
+
+  change_proper : IsProper (changing of) (λ file. map (moved_stream_frame (steps_in file)) (stream_in file))
+  change_proper = record { late = λ file s fault e. err_late (of file s) fault (late file s) (with_err file s (of file s) fault e); streams = moved_stream }
+
+pub gain_proper : (shift : Shift) (tags : Bool) → IsProper (changing (gain_change shift tags)) (λ file. map (moved_stream_frame (steps_of shift)) (stream_in file))
+gain_proper shift tags =
+    change_proper (gain_change shift tags) (λ file. steps_of shift) (gain_late shift tags) (λ file s change is made. gain_steps shift tags file s change made) (gain_tags shift tags)
+
+pub undo_proper : IsProper (changing undo_change) (λ file. map (moved_stream_frame (steps_back file)) (stream_in file))
+undo_proper = change_proper undo_change steps_back undo_change_late back_steps undo_tags

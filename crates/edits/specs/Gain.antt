@@ -12,8 +12,7 @@ use Rattle.edits.specs.Gains.{steps_of}
 use Rattle.edits.specs.Edited.{range_fault}
 use Rattle.edits.specs.Choice.{or_else, unless, then_made, channel_fault}
 use Rattle.edits.specs.Noted.{tag_read, noted_undo, next_undo, undo_fault, tag_with, size_fault, output_fault}
-use Rattle.edits.specs.Change.{Change, Changing}
-use Rattle.edits.specs.Changing.{change_command}
+use Rattle.edits.specs.Change.{Change, Changing, change_command}
 use Rattle.edits.specs.Command.{Command}
 
 -- Tags are neither read nor written: one channel can't change alone, or else a gain would leave the range.

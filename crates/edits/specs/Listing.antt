@@ -16,7 +16,7 @@ use Rattle.edits.specs.declared.fault.EditFault.{EditFault}
 use Rattle.edits.specs.declared.fault.EditFault.TheVariants.{Input}
 use Rattle.edits.specs.declared.things.Thing.{Thing}
 use Rattle.edits.specs.declared.things.Thing.TheVariants.{Block, Junk, FirstHead, Frame}
-use Rattle.edits.specs.Change.{most_frames}
+use Rattle.edits.specs.One.{most_frames}
 use Rattle.edits.specs.Command.{Made, Command}
 use Rattle.edits.specs.Things.{things_of, in_order}
 

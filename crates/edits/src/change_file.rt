@@ -5,8 +5,8 @@ ghost use Rattle.outside.specs.Files.{Holds, IsThere};
 ghost use Rattle.outside.specs.Counts.{NoneFell, OnlyReads};
 ghost use Rattle.sync_survey.specs.Faults.{tells};
 ghost use Rattle.sync_survey.specs.Survey.{survey_of, IsLaidOut};
-ghost use Rattle.edits.specs.Change.{Changing, changed, change_in, most_frames};
-ghost use Rattle.edits.specs.Changing.{holding, IsInputFault, IsPassFault};
+ghost use Rattle.edits.specs.Change.{changed, change_in};
+ghost use Rattle.edits.specs.One.{Making, most_frames, holding, IsInputFault, IsPassFault};
 ghost use Rattle.edits.specs.Left.{seen, IsOfInput, IsOfPass};
 
 use crate::change::Change;
@@ -28,7 +28,7 @@ pub(crate) fn survey_input<D: Folder>(
     ensures laid { IfOk result (λ s. IsLaidOut (tells s)) }
     ensures octets { OnOk result ((bytes : List ℕ) → Holds (D.files folder.old) name.now bytes → AreBytes bytes) }
     // Whatever the command changes.
-    ensures refused { IfErr result (λ fault. (of : Changing) → IsInputFault of name.now (seen (D.files folder.old) (D.counts folder.old)) (seen (D.files folder.new) (D.counts folder.new)) fault) }
+    ensures refused { IfErr result (λ fault. (make : Making) → IsInputFault make name.now (seen (D.files folder.old) (D.counts folder.old)) (seen (D.files folder.new) (D.counts folder.new)) fault) }
     ensures numbers { IfErr result IsOfInput }
     ensures done { OnOk result (D.counts folder.new ≡ D.counts folder.old) }
     ensures files { D.files folder.new ≡ D.files folder.old }
@@ -54,7 +54,7 @@ pub(crate) fn write_change<D: Folder>(
     ensures written { OnOk result ((bytes : List ℕ) → Holds (D.files folder.old) input.now bytes → D.files folder.new ≡ holding (D.files folder.old) output.now (changed (change_in change.now) bytes (tells survey.now))) }
     ensures told { is_some (D.files folder.new) ≡ is_some (D.files folder.old) }
     ensures done { OnOk result (D.counts folder.new ≡ D.counts folder.old) }
-    ensures left { IfErr result (IsPassFault (change_in change.now) (tells survey.now) input.now output.now (seen (D.files folder.old) (D.counts folder.old)) (seen (D.files folder.new) (D.counts folder.new))) }
+    ensures left { IfErr result (IsPassFault (λ file. changed (change_in change.now) file (tells survey.now)) input.now output.now (seen (D.files folder.old) (D.counts folder.old)) (seen (D.files folder.new) (D.counts folder.new))) }
     ensures numbers { IfErr result IsOfPass }
     ensures counts { NoneFell (D.counts folder.old) (D.counts folder.new) }
 {

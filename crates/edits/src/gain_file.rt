@@ -6,8 +6,8 @@ ghost use Rattle.sync_survey.specs.Faults.{tells};
 ghost use Rattle.sync_survey.specs.Survey.{survey_of, IsLaidOut};
 ghost use Rattle.edits.specs.declared.fault.EditFault.TheVariants.{Memory};
 ghost use Rattle.file_tag.specs.Places.{tag_length};
-ghost use Rattle.edits.specs.Change.{change_in, most_frames};
-ghost use Rattle.edits.specs.Changing.{IsInputFault};
+ghost use Rattle.edits.specs.Change.{change_in, changing};
+ghost use Rattle.edits.specs.One.{most_frames, IsInputFault};
 ghost use Rattle.edits.specs.Command.{HoldsStreams};
 ghost use Rattle.edits.specs.Gain.{plain_change as plain_change_lem, noted_change as noted_change_lem, gain_change as gain_change_lem, gain_command};
 ghost use Rattle.edits.specs.Left.{seen, IsDone, Leaves, HasNumbers, IsRefusal, IsOfInput};
@@ -102,7 +102,7 @@ fn gain_change<D: Folder>(
     requires laid { IsLaidOut (tells survey.now) }
     requires surveyed { (bytes : List ℕ) → Holds (D.files folder.old) name.now bytes → survey_of bytes most_frames ≡ Ok (tells survey.now) }
     ensures change { IfOk result (λ change. (bytes : List ℕ) → Holds (D.files folder.old) name.now bytes → gain_change_lem shift.now tags bytes (tells survey.now) ≡ Ok (change_in change)) }
-    ensures refused { IfErr result (IsInputFault (gain_change_lem shift.now tags) name.now (seen (D.files folder.old) (D.counts folder.old)) (seen (D.files folder.new) (D.counts folder.new))) }
+    ensures refused { IfErr result (IsInputFault (changing (gain_change_lem shift.now tags)) name.now (seen (D.files folder.old) (D.counts folder.old)) (seen (D.files folder.new) (D.counts folder.new))) }
     ensures numbers { IfErr result IsOfInput }
     ensures done { OnOk result (D.counts folder.new ≡ D.counts folder.old) }
     ensures files { D.files folder.new ≡ D.files folder.old }

@@ -9,7 +9,8 @@ ghost use Rattle.outside.specs.Feed.{IsFedFrom};
 ghost use Rattle.outside.specs.Passed.{PassedOn, AppendedPrefix};
 ghost use Rattle.sync_survey.specs.Faults.{tells};
 ghost use Rattle.sync_survey.specs.Survey.{survey_of, AreLaid, IsLaidOut};
-ghost use Rattle.edits.specs.Change.{changed, change_in, most_frames};
+ghost use Rattle.edits.specs.One.{most_frames};
+ghost use Rattle.edits.specs.Change.{changed, change_in};
 ghost use Rattle.edits.specs.Moving.{row_length, row_end, IsRowOf, AreRowsOf, moved_bytes, moved_row_bytes, bytes_between, copied, written_from, IsNewTag};
 ghost use Rattle.edits.specs.Pass.{IsReady, Writes, WritesPrefix, Appends, AppendsPrefix, HasCopyCause};
 

@@ -5,8 +5,8 @@ ghost use Rattle.outside.specs.Counts.{NoneFell, OnlyReads};
 ghost use Rattle.sync_survey.specs.Faults.{tells};
 ghost use Rattle.sync_survey.specs.Survey.{survey_of, IsLaidOut};
 ghost use Rattle.edits.specs.declared.fault.EditFault.TheVariants.{Memory};
-ghost use Rattle.edits.specs.Change.{change_in, most_frames};
-ghost use Rattle.edits.specs.Changing.{IsInputFault};
+ghost use Rattle.edits.specs.Change.{change_in, changing};
+ghost use Rattle.edits.specs.One.{most_frames, IsInputFault};
 ghost use Rattle.edits.specs.Command.{HoldsStreams};
 ghost use Rattle.edits.specs.Left.{seen, IsDone, Leaves, HasNumbers, IsRefusal, IsOfInput};
 ghost use Rattle.edits.specs.Noted.{bytes_unless_empty as bytes_unless_empty_lem};
@@ -65,7 +65,7 @@ fn undo_change<D: Folder>(
     requires laid { IsLaidOut (tells survey.now) }
     requires surveyed { (bytes : List ℕ) → Holds (D.files folder.old) name.now bytes → survey_of bytes most_frames ≡ Ok (tells survey.now) }
     ensures change { IfOk result (λ change. (bytes : List ℕ) → Holds (D.files folder.old) name.now bytes → undo_change_lem bytes (tells survey.now) ≡ Ok (change_in change)) }
-    ensures refused { IfErr result (IsInputFault undo_change_lem name.now (seen (D.files folder.old) (D.counts folder.old)) (seen (D.files folder.new) (D.counts folder.new))) }
+    ensures refused { IfErr result (IsInputFault (changing undo_change_lem) name.now (seen (D.files folder.old) (D.counts folder.old)) (seen (D.files folder.new) (D.counts folder.new))) }
     ensures numbers { IfErr result IsOfInput }
     ensures done { OnOk result (D.counts folder.new ≡ D.counts folder.old) }
     ensures files { D.files folder.new ≡ D.files folder.old }

@@ -5,8 +5,8 @@ use Rattle.outside.proofs.FilesLaws.{emptied_there, emptied_keeps}
 use Rattle.outside.specs.Counts.{NoneFell}
 use Rattle.sync_survey.specs.Faults.{tells}
 use Rattle.edits.specs.Left.{seen}
-use Rattle.edits.specs.Change.{change_in}
-use Rattle.edits.specs.Changing.{IsPassFault}
+use Rattle.edits.specs.Change.{changed, change_in}
+use Rattle.edits.specs.One.{IsPassFault}
 use Rattle.edits.proofs.OutputLaws.{emptied_held, output_whole, told_whole, told_prefix, pass_fault, cause_counts}
 use Rattle.edits.proofs.change_file.write_change.Goals as goal
 
@@ -25,22 +25,22 @@ write_changed-requires-clause-exact g c file holds =
 
 pub returns-in-Ok-write_changed-clause-written : goal.returns-in-Ok-write_changed-clause-written
 returns-in-Ok-write_changed-clause-written g c =
-    output_whole (change_in c.args.change.now) (tells c.args.survey.now) c.args.input.now c.args.output.now c.requires.apart (g.D.Folder.files c.args.folder.now) _ _ c.in-Ok.ensures.created c.in-Ok-write_changed.ensures.written
+    output_whole (λ file. changed (change_in c.args.change.now) file (tells c.args.survey.now)) (tells c.args.survey.now).length c.args.input.now c.args.output.now c.requires.apart (g.D.Folder.files c.args.folder.now) _ _ c.in-Ok.ensures.created c.in-Ok-write_changed.ensures.written
 
 pub returns-in-Ok-write_changed-clause-told : goal.returns-in-Ok-write_changed-clause-told
 returns-in-Ok-write_changed-clause-told g c =
-    told_whole (change_in c.args.change.now) (tells c.args.survey.now) c.args.input.now c.args.output.now c.requires.apart (g.D.Folder.files c.args.folder.now) _ _ c.in-Ok.ensures.created c.in-Ok-write_changed.ensures.written
+    told_whole (λ file. changed (change_in c.args.change.now) file (tells c.args.survey.now)) (tells c.args.survey.now).length c.args.input.now c.args.output.now c.requires.apart (g.D.Folder.files c.args.folder.now) _ _ c.in-Ok.ensures.created c.in-Ok-write_changed.ensures.written
 
 pub returns-clause-told : goal.returns-clause-told
 returns-clause-told g c =
-    told_prefix (change_in c.args.change.now) (tells c.args.survey.now) c.args.input.now c.args.output.now c.requires.apart (g.D.Folder.files c.args.folder.now) _ _ c.in-Ok.ensures.created c.in-Err.ensures.prefix
+    told_prefix (λ file. changed (change_in c.args.change.now) file (tells c.args.survey.now)) (tells c.args.survey.now).length c.args.input.now c.args.output.now c.requires.apart (g.D.Folder.files c.args.folder.now) _ _ c.in-Ok.ensures.created c.in-Err.ensures.prefix
 
 pub returns-clause-left : goal.returns-clause-left
 returns-clause-left g c =
     subst
-    (IsPassFault (change_in c.args.change.now) (tells c.args.survey.now) c.args.input.now c.args.output.now (seen (g.D.Folder.files c.args.folder.now) (g.D.Folder.counts c.args.folder.now)) (seen (g.D.Folder.files c.write_changed.new.folder) (g.D.Folder.counts c.write_changed.new.folder)))
+    (IsPassFault (λ file. changed (change_in c.args.change.now) file (tells c.args.survey.now)) c.args.input.now c.args.output.now (seen (g.D.Folder.files c.args.folder.now) (g.D.Folder.counts c.args.folder.now)) (seen (g.D.Folder.files c.write_changed.new.folder) (g.D.Folder.counts c.write_changed.new.folder)))
     (sym c.into.ensures)
-    (pass_fault (change_in c.args.change.now) (tells c.args.survey.now) c.args.input.now c.args.output.now c.requires.apart (g.D.Folder.files c.args.folder.now) _ _ c.in-Ok.ensures.created c.in-Err.fault
+    (pass_fault (λ file. changed (change_in c.args.change.now) file (tells c.args.survey.now)) (tells c.args.survey.now).length c.args.input.now c.args.output.now c.requires.apart (g.D.Folder.files c.args.folder.now) _ _ c.in-Ok.ensures.created c.in-Err.fault
     (g.D.Folder.counts c.args.folder.now) _ _ c.in-Ok.ensures.done c.in-Err.ensures.prefix c.in-Err.ensures.cause)
 
 pub returns-clause-counts : goal.returns-clause-counts

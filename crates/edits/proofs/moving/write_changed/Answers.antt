@@ -7,11 +7,12 @@ use Rattle.sync_survey.specs.Faults.{SurveyFields, tells, longest_file}
 use Rattle.sync_survey.specs.Survey.{survey_of}
 use Rattle.edits.specs.declared.shift.Steps.{Steps}
 use Rattle.edits.specs.declared.moving.NewTag.{NewTag}
-use Rattle.edits.specs.Change.{Change, changed, change_in, most_frames}
+use Rattle.edits.specs.One.{most_frames}
+use Rattle.edits.specs.Change.{Change, changed, change_in}
 use Rattle.edits.specs.Moving.{AreRowsOf, copied, written_from, IsNewTag}
 use Rattle.edits.specs.Pass.{Writes, WritesPrefix, HasCopyCause}
 use Rattle.edits.proofs.MovingLaws.{laid_end, survey_of-length, survey_of-rows}
-use Rattle.edits.proofs.ChangedStream.{survey_of-parts}
+use Rattle.edits.proofs.SurveyedFiles.{survey_of-parts}
 use Rattle.edits.proofs.WrittenTag.{written-changed}
 use Rattle.edits.proofs.PassLaws.{on_err, writes_held, writes_there, writes_then, writes_as, writes_all, writes_end, prefix_as, prefix_then, cause_later, causes_later}
 use Rattle.edits.proofs.moving.write_changed.Goals as goal
