@@ -29,14 +29,16 @@ use Rattle.edits.specs.Edited.{edited, range_fault}
 use Rattle.edits.specs.Gains.{steps_of}
 use Rattle.edits.specs.Noted.{tag_read, no_undo, noted_undo, found_undo, undo_steps, next_undo, tag_with, tag_without, bytes_unless_empty}
 use Rattle.edits.specs.Streams.{junk_length, moved_survey, without_junk}
-use Rattle.edits.specs.Change.{Change, Changing, changed, changed_file, most_frames}
+use Rattle.edits.specs.One.{most_frames}
+use Rattle.edits.specs.Change.{Change, Changing, changed, changed_file}
 use Rattle.edits.specs.Gain.{gain_change}
 use Rattle.edits.specs.Undo.{undone_change, undo_change}
 use Rattle.edits.specs.Undoing.{gained_by_all, tidied, HasNoEmptyTag, IsGivenBack, UndoGivesBack}
 use Rattle.edits.proofs.MovedGains.{sum_of, IsNoStep}
 use Rattle.edits.proofs.TagPlaces.{tag_none}
 use Rattle.edits.proofs.WrittenTag.{length_moved}
-use Rattle.edits.proofs.ChangedStream.{changed-parts, changed-ok, survey_of-parts, changed_survey, surveyed-changed, stream-changed}
+use Rattle.edits.proofs.SurveyedFiles.{survey_of-parts}
+use Rattle.edits.proofs.ChangedStream.{changed-parts, changed-ok, changed_survey, surveyed-changed, stream-changed}
 use Rattle.edits.proofs.Proper.{then_ok}
 use Rattle.edits.proofs.FileTags.{file_tag-is, file_tag-none, same_tag}
 use Rattle.edits.proofs.FramesThere.{AreFramesOf, frames_there}

@@ -13,7 +13,8 @@ use Rattle.edits.specs.declared.shift.Shift.{Shift}
 use Rattle.edits.specs.Choice.{then_made}
 use Rattle.edits.specs.Noted.{no_undo, undo_steps, bytes_unless_empty}
 use Rattle.edits.specs.Streams.{moved_survey, without_junk}
-use Rattle.edits.specs.Change.{most_frames, changed_file}
+use Rattle.edits.specs.One.{most_frames}
+use Rattle.edits.specs.Change.{changed_file}
 use Rattle.edits.specs.Gain.{gain_change}
 use Rattle.edits.specs.Undo.{undo_change}
 

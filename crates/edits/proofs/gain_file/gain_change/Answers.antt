@@ -16,15 +16,9 @@ use Rattle.edits.specs.declared.shift.Shift.{Shift}
 use Rattle.edits.specs.declared.change.Change.{Change as CodeChange}
 use Rattle.edits.specs.Change.{Change, change_in}
 use Rattle.edits.specs.Gain.{plain_change, noted_change, gain_change}
-<<<<<<< HEAD
 use Rattle.edits.specs.Noted.{of_tag, noted_undo}
 use Rattle.edits.specs.Left.{IsRefusal}
 use Rattle.edits.proofs.TagFaults.{tag_at-most, tag_is_input, choice_is_input}
-=======
-use Rattle.edits.specs.Noted.{of_tag, tag_read, noted_undo}
-use Rattle.edits.specs.Left.{Seen, seen, IsRefusal, IsOfInput}
-use Rattle.edits.proofs.TagFaults.{tag_at-most, tag_is_input, choice_is_input, tag_numbers}
->>>>>>> 9365146 (edits: one shape for commands that make one file of one)
 use Rattle.edits.proofs.gain_file.gain_change.Goals as goal
 
 -- ---- what the definition says

@@ -15,15 +15,9 @@ use Rattle.edits.specs.declared.fault.EditFault.TheVariants.{Memory}
 use Rattle.edits.specs.declared.change.Change.{Change as CodeChange}
 use Rattle.edits.specs.Change.{Change, change_in}
 use Rattle.edits.specs.Undo.{undone_change, undo_change}
-<<<<<<< HEAD
 use Rattle.edits.specs.Noted.{of_tag, found_undo}
 use Rattle.edits.specs.Left.{IsRefusal}
 use Rattle.edits.proofs.TagFaults.{tag_at-most, tag_is_input, choice_is_input}
-=======
-use Rattle.edits.specs.Noted.{of_tag, tag_read, found_undo}
-use Rattle.edits.specs.Left.{Seen, seen, IsRefusal, IsOfInput}
-use Rattle.edits.proofs.TagFaults.{tag_at-most, tag_is_input, choice_is_input, tag_numbers}
->>>>>>> 9365146 (edits: one shape for commands that make one file of one)
 use Rattle.edits.proofs.undo_file.undo_change.Goals as goal
 
 -- ---- what the definition says
