@@ -9,10 +9,9 @@ use Rattle.outside.proofs.FilesLaws.{sent_nothing}
 use Rattle.edits.specs.declared.fault.EditFault.{EditFault}
 use Rattle.edits.specs.declared.fault.EditFault.TheVariants.{EqualNames, Input, GainRange, Mono, Joint, TagTooLarge, BadTag, NoUndo, BadUndo, UndoRange, OutputTooLong, Write, Sent as NotSent, Memory}
 use Rattle.edits.specs.Kinds.{InputKind, IsAbsent, IsUnread as NotRead, IsShorter as Shrank, IsTooMuch, IsRefused as AtFault, kind_of, by_kind}
-use Rattle.edits.specs.Change.{Changing, change_result}
-use Rattle.edits.specs.Changing.{made_of, change_command}
+use Rattle.edits.specs.One.{Making, made_result, made_of, one_command}
 use Rattle.edits.specs.Command.{Made, Command, clash_of, written, Gives, MakesStreams, HoldsStreams}
-use Rattle.edits.specs.declared.shift.Steps.{Steps}
+use Rattle.sync_survey.specs.MainData.{StreamFrame}
 use Rattle.edits.specs.Said.{Heard, IsText, SaysAll, Says, fault_of}
 use Rattle.edits.specs.Left.{Why, Refused, Missing, Unread, Shorter, Unwritten, Unsent, NoMemory, why_of, Seen, IsDone, IsRefused, LeavesBy, Leaves, HasNumbers}
 use Rattle.mp3_cli.specs.declared.jobs.Job.{Job}
@@ -300,17 +299,17 @@ made_is a b e = cc
 some_is : {A : Type 0} (a b : A) → Some a ≡ Some b → a ≡ b
 some_is a b e = cc
 
--- what a command that changes one file makes has no text
-no_text : (of : Changing) (steps_in : List ℕ → Steps) (input output : List ℕ) (files : Files) (text : List ℕ) → IsText (change_command of steps_in input output) files text → text ≡ []
-no_text of steps_in input output files text (inl always) = sym (some_is [] text always)
-no_text of steps_in input output files text (inr told) = sym told.4 ∙ silent_made output (change_result of input output told.0) told.1 told.3
+-- what a command that makes one file of one makes has no text
+no_text : (make : Making) (stream : List ℕ → List StreamFrame) (input output : List ℕ) (files : Files) (text : List ℕ) → IsText (one_command make stream input output) files text → text ≡ []
+no_text make stream input output files text (inl always) = sym (some_is [] text always)
+no_text make stream input output files text (inr told) = sym told.4 ∙ silent_made output (made_result make input output told.0) told.1 told.3
 
-module _ (of : Changing) (steps_in : List ℕ → Steps) (input output : List ℕ) (files : Files) (out : Heard) where
-  says_nothing : SaysAll (change_command of steps_in input output) files out out
-  says_nothing = record { text = λ text is. sym (ap (sent_more out.sent) (no_text of steps_in input output files text is) ∙ sent_nothing out.sent); faults = refl }
+module _ (make : Making) (stream : List ℕ → List StreamFrame) (input output : List ℕ) (files : Files) (out : Heard) where
+  says_nothing : SaysAll (one_command make stream input output) files out out
+  says_nothing = record { text = λ text is. sym (ap (sent_more out.sent) (no_text make stream input output files text is) ∙ sent_nothing out.sent); faults = refl }
 
   -- so it is silent with every fault that it has
-  says_fault : (fault : EditFault) → HasNumbers (change_command of steps_in input output) fault → Says (change_command of steps_in input output) files out out (Some fault)
+  says_fault : (fault : EditFault) → HasNumbers (one_command make stream input output) fault → Says (one_command make stream input output) files out out (Some fault)
   says_fault (EqualNames place) numbers = refl
   says_fault (Input place fault) numbers = refl
   says_fault (GainRange offset granule channel gain) numbers = refl
@@ -329,40 +328,40 @@ module _ (of : Changing) (steps_in : List ℕ → Steps) (input output : List �
 none_some : (place : ℕ) → None ≡ Some place → ⊥
 none_some place e = absurd cc
 
-module _ (of : Changing) (steps_in : List ℕ → Steps) (input output : List ℕ) where
+module _ (make : Making) (stream : List ℕ → List StreamFrame) (input output : List ℕ) where
   -- the fault is that of equal names where they are
-  names_told : {T : Type 0} (r : Result T EditFault) → (IsErrOf r (EqualNames 0) ↔ (input ≡ output)) → (place : ℕ) → clash_of (change_command of steps_in input output) ≡ Some place → fault_of r ≡ Some (EqualNames place)
+  names_told : {T : Type 0} (r : Result T EditFault) → (IsErrOf r (EqualNames 0) ↔ (input ≡ output)) → (place : ℕ) → clash_of (one_command make stream input output) ≡ Some place → fault_of r ≡ Some (EqualNames place)
   names_told r both place clash =
       elim (bytes_eq input output) as (λ b. bytes_eq input output ≡ b → fault_of r ≡ Some (EqualNames place)) [
         | true ↦ λ same.
-            let here : clash_of (change_command of steps_in input output) ≡ Some 0 = rw same refl in
+            let here : clash_of (one_command make stream input output) ≡ Some 0 = rw same refl in
             let first : 0 ≡ place = some_is 0 place (sym here ∙ clash) in
             ap fault_of (both.1 ((bytes_eq-Decides input output).0 same)) ∙ ap (λ (k : ℕ). Some (EqualNames k)) first
         | false ↦ λ differ.
-            let none : clash_of (change_command of steps_in input output) ≡ None = rw differ refl in
+            let none : clash_of (one_command make stream input output) ≡ None = rw differ refl in
             absurd (none_some place (sym none ∙ clash))
       ] refl
 
   -- the answer of such a command, from what it promises
-  pub change_answers : {T : Type 0} (r : Result T EditFault) (old new : Seen) (out err_old err_new : Heard) (status : ℕ)
-      → OnOk r (IsDone (change_command of steps_in input output) old new) → IfErr r (Leaves (change_command of steps_in input output) old new) → IfErr r (HasNumbers (change_command of steps_in input output))
-      → (IsErrOf r (EqualNames 0) ↔ (input ≡ output)) → status ≡ fault_status (fault_of r) → GetsLine err_old err_new (line_of (change_command of steps_in input output) (fault_of r))
-      → Answers (change_command of steps_in input output) old new out out err_old err_new status
-  change_answers (Ok x) old new out err_old err_new status done left numbers both status_is line = record {
+  pub one_answers : {T : Type 0} (r : Result T EditFault) (old new : Seen) (out err_old err_new : Heard) (status : ℕ)
+      → OnOk r (IsDone (one_command make stream input output) old new) → IfErr r (Leaves (one_command make stream input output) old new) → IfErr r (HasNumbers (one_command make stream input output))
+      → (IsErrOf r (EqualNames 0) ↔ (input ≡ output)) → status ≡ fault_status (fault_of r) → GetsLine err_old err_new (line_of (one_command make stream input output) (fault_of r))
+      → Answers (one_command make stream input output) old new out out err_old err_new status
+  one_answers (Ok x) old new out err_old err_new status done left numbers both status_is line = record {
     fault = None;
     status_is = status_is;
     line = line;
-    says = says_nothing of steps_in input output old.files out;
+    says = says_nothing make stream input output old.files out;
     done = λ e. done;
     left = tt;
     numbers = tt;
     names = names_told (Ok x) both;
   }
-  change_answers (Err fault) old new out err_old err_new status done left numbers both status_is line = record {
+  one_answers (Err fault) old new out err_old err_new status done left numbers both status_is line = record {
     fault = Some fault;
     status_is = status_is;
     line = line;
-    says = says_fault of steps_in input output old.files out fault numbers;
+    says = says_fault make stream input output old.files out fault numbers;
     done = λ e. absurd cc;
     left = left;
     numbers = numbers;

@@ -1,12 +1,14 @@
 -- The answers of texts that are said, and of commands without a text.
-use Rattle.std.proofs.Common.{◌≢◌, [], Some}
+use Rattle.std.proofs.Common.{◌≢◌, [], map, Some}
 use Rattle.edits.specs.Left.{seen}
 use Rattle.edits.specs.Said.{heard}
 use Rattle.edits.specs.Gains.{steps_of}
+use Rattle.edits.specs.Change.{changing}
+use Rattle.edits.specs.Streams.{moved_stream_frame, stream_in}
 use Rattle.edits.specs.Gain.{gain_change}
 use Rattle.edits.specs.Undo.{undo_change, steps_back}
 use Rattle.mp3_cli.specs.Texts.{help_text, version_text}
-use Rattle.mp3_cli.proofs.RunLaws.{said_answers, change_answers}
+use Rattle.mp3_cli.proofs.RunLaws.{said_answers, one_answers}
 use Rattle.mp3_cli.proofs.program.run_job.Goals as goal
 
 some_help : Some help_text ≢ Some []
@@ -32,13 +34,13 @@ returns-in-Version-clause-answers g c =
 pub returns-in-Gain-clause-answers : goal.returns-in-Gain-clause-answers
 returns-in-Gain-clause-answers g c =
     rw (c.in-Gain.is, ← c.word_at-input-in-Gain.ensures, ← c.word_at-output.ensures)
-    (change_answers (gain_change c.in-Gain.shift c.in-Gain.tags) (λ file. steps_of c.in-Gain.shift) c.word_at-input-in-Gain.result.now c.word_at-output.result.now c.gain-done.result
+    (one_answers (changing (gain_change c.in-Gain.shift c.in-Gain.tags)) (λ file. map (moved_stream_frame (steps_of c.in-Gain.shift)) (stream_in file)) c.word_at-input-in-Gain.result.now c.word_at-output.result.now c.gain-done.result
     (seen (g.D.Folder.files c.args.folder.now) (g.D.Folder.counts c.args.folder.now)) (seen (g.D.Folder.files c.gain-done.new.folder) (g.D.Folder.counts c.gain-done.new.folder))
     _ _ _ _ c.gain-done.ensures.done c.gain-done.ensures.left c.gain-done.ensures.numbers c.gain-done.ensures.names c.report-in-Gain.ensures.status c.report-in-Gain.ensures.line)
 
 pub returns-in-Undo-clause-answers : goal.returns-in-Undo-clause-answers
 returns-in-Undo-clause-answers g c =
     rw (c.in-Undo.is, ← c.word_at-input-in-Undo.ensures, ← c.word_at-output-in-Undo.ensures)
-    (change_answers undo_change steps_back c.word_at-input-in-Undo.result.now c.word_at-output-in-Undo.result.now c.undo-done.result
+    (one_answers (changing undo_change) (λ file. map (moved_stream_frame (steps_back file)) (stream_in file)) c.word_at-input-in-Undo.result.now c.word_at-output-in-Undo.result.now c.undo-done.result
     (seen (g.D.Folder.files c.args.folder.now) (g.D.Folder.counts c.args.folder.now)) (seen (g.D.Folder.files c.undo-done.new.folder) (g.D.Folder.counts c.undo-done.new.folder))
     _ _ _ _ c.undo-done.ensures.done c.undo-done.ensures.left c.undo-done.ensures.numbers c.undo-done.ensures.names c.report-in-Undo.ensures.status c.report-in-Undo.ensures.line)
