@@ -23,8 +23,9 @@ use Rattle.circular_buffer.specs.Buffer.{Buffer, buffer, keep_last}
 use Rattle.std.specs.Prelude.{slice_get, Some, unwrap_or, Ok}
 use borrow.Rule.Slice.PartMut.{put_mid, post_of}
 use Rattle.frame_writer.specs.declared.frames.Kept.{Kept}
-use Rattle.frame_writer.specs.Laid.{Piece, Waiting, AreLaid}
-use Rattle.frame_writer.specs.Frames.{front_of, area_in, areas_in, framed, Frame, piece_of, pieces, Held, held_bytes, AreOf, IsNextSettled, AreWritten}
+use Rattle.frame_writer.specs.Laid.{Piece, Waiting, laid, AreLaid, BeginsWithin}
+use Rattle.frame_writer.specs.Frames.{front_of, area_in, areas_in, framed, Frame, piece_of, all_kept, pieces, frame_bytes, Held, held_bytes, AreOf, IsNextSettled, AreWritten}
+use Rattle.frame_writer.proofs.LaidLaws.{laid-later}
 use Rattle.frame_writer.specs.Laws.{LaidSteps, HaveRoom, FewWait}
 
 -- ---- areas cut off one after another
@@ -89,6 +90,18 @@ first-written taken area_bytes c k ks waiting less fs long step are =
       laid = step are.given (pieces fs) are.laid;
       bytes = ap₂ (λ (xs ys : List ℕ). xs ++ ys) are.bytes cut ∙ sym (framed-more are.done (k ∷ []) are.given area_bytes are.long);
     }
+
+-- whatever frames follow, what was taken stays, where the first of them begins within what is free
+pub later-frames : (taken : List ℕ) (held : Held) (fs more : List Frame) → AreWritten taken held fs → BeginsWithin held.waiting.free (pieces more) → (rest : List ℕ) × (frame_bytes (fs ++ more) ≡ taken ++ rest)
+later-frames taken held fs more are within =
+    let found = laid-later are.given held.waiting (pieces fs) (pieces more) are.laid within in
+    let all : all_kept (fs ++ more) ≡ are.done ++ (held.kept ++ all_kept more) =
+    map-append (λ (f : Frame). f.kept) fs more ∙ ap (λ (ks : List Kept). ks ++ all_kept more) (sym are.all) ∙ append_assoc are.done held.kept (all_kept more) in (
+      framed (held.kept ++ all_kept more) found.0,
+      ap₂ framed all (ap laid (map-append piece_of fs more) ∙ found.1)
+          ∙ framed-more are.done (held.kept ++ all_kept more) are.given found.0 are.long
+          ∙ ap (λ (xs : List ℕ). xs ++ framed (held.kept ++ all_kept more) found.0) (sym are.bytes),
+    )
 
 -- ---- frames in their queue
 

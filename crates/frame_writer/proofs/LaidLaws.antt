@@ -5,7 +5,7 @@ use Rattle.std.proofs.Math.Seq.{drop-append-add, take-append-add, drop-length, t
 use Rattle.std.proofs.Math.Nat.{min-eq_left, min-eq_right}
 use Rattle.std.proofs.lemmas.Bool.{cases_lt}
 use Rattle.circular_buffer.specs.Buffer.{Buffer, buffer, keep_last}
-use Rattle.frame_writer.specs.Laid.{Piece, zeros, start_of, end_of, areas_end, data_end, CanBeLaidFrom, laid_from, laid, Waiting, put_at, AreLaid}
+use Rattle.frame_writer.specs.Laid.{Piece, zeros, start_of, end_of, areas_end, data_end, CanBeLaidFrom, laid_from, laid, Waiting, put_at, AreLaid, BeginsWithin}
 
 -- ---- lists of zeros
 
@@ -110,6 +110,7 @@ more-laid given items payload begin free gap rest area ps reach gaps fits rests 
       fit = fit-more 0 0 ps p are.fit (omega (arith, reach, are.free)) (omega (arith, reach, are.free, fits));
       same = more_same given items payload begin free gap rest area ps are.same are.free reach gaps fits rests;
       free = omega (arith, reach, are.free, fits, rests, areas_end-more 0 ps p, data_end-more 0 0 ps p);
+      room = omega (arith, length-append (items ++ (zeros gap ++ payload)) (zeros rest), length-zeros rest);
     }
 
 -- where the payload is put into the bytes that wait and a new area of zeros
@@ -165,16 +166,58 @@ pub first-left : (n free : ℕ) (items : List ℕ) → n ≤ length items + free
 first-left n free items within = (first_cases n free items within (cases_lt n (length items))).1
 
 -- what was handed on and what waits stay the same together
-pub taken-laid : (given bytes taken left : List ℕ) (n free less : ℕ) (ps : List Piece) → taken ≡ take n bytes → left ≡ drop n bytes → less ≤ free →
+pub taken-laid : (given bytes taken left : List ℕ) (n free less : ℕ) (ps : List Piece) → taken ≡ take n bytes → left ≡ drop n bytes → less ≤ free → less ≤ length left →
     AreLaid given (record { bytes = bytes; free = free }) ps → AreLaid (given ++ taken) (record { bytes = left; free = less }) ps
-taken-laid given bytes taken left n free less ps takes leaves fewer are = record {
+taken-laid given bytes taken left n free less ps takes leaves fewer some are = record {
   fit = are.fit;
   same =
       append_assoc given taken left
       ∙ ap (λ (xs : List ℕ). given ++ xs) (ap₂ (λ (xs ys : List ℕ). xs ++ ys) takes leaves ∙ take-append-drop n bytes)
       ∙ are.same;
   free = omega (arith, are.free, fewer);
+  room = some;
 }
+
+-- ---- frames that follow
+
+laid_from-append : (end area_start : ℕ) (ps qs : List Piece) → laid_from end area_start (ps ++ qs) ≡ up_to end area_start ps ++ laid_from (data_end end area_start ps) (areas_end area_start ps) qs
+laid_from-append end area_start [] qs = refl
+laid_from-append end area_start (p ∷ ps) qs =
+    let gap = zeros (start_of area_start p - end) in
+    let more = up_to (end_of area_start p) (area_start + p.area) ps in
+    let rest = laid_from (data_end (end_of area_start p) (area_start + p.area) ps) (areas_end (area_start + p.area) ps) qs in
+    ap (λ (xs : List ℕ). gap ++ (p.payload ++ xs)) (laid_from-append (end_of area_start p) (area_start + p.area) ps qs)
+    ∙ ap (λ (xs : List ℕ). gap ++ xs) (sym (append_assoc p.payload more rest))
+    ∙ sym (append_assoc gap (p.payload ++ more) rest)
+
+-- before the main data of the first of them stand zeros
+zeros_first : (end area_start free : ℕ) (qs : List Piece) → BeginsWithin free qs → (begin : ℕ) × (begin ≤ free) × (rest : List ℕ) × (laid_from end area_start qs ≡ zeros (area_start - begin - end) ++ rest)
+zeros_first end area_start free [] within = (0, omega arith, [], ap zeros (omega arith) ∙ sym (append-nil (zeros (area_start - 0 - end))))
+zeros_first end area_start free (q ∷ qs) within = (q.begin, within, q.payload ++ laid_from (end_of area_start q) (area_start + q.area) qs, refl)
+
+-- a front of a list with zeros behind it is one of the list and fewer zeros
+front_of_zeros : (given bytes front rest : List ℕ) (n m : ℕ) → given ++ bytes ≡ front ++ zeros n → m ≤ n → n - m ≤ length bytes → (more : List ℕ) × (front ++ (zeros m ++ rest) ≡ given ++ more)
+front_of_zeros given bytes front rest n m same few many =
+    let all : given ++ bytes ≡ (front ++ zeros m) ++ zeros (n - m) =
+    same ∙ ap (λ (xs : List ℕ). front ++ xs) (ap zeros (omega (arith, few)) ∙ sym (replicate-append-replicate m (n - m) 0)) ∙ sym (append_assoc front (zeros m) (zeros (n - m))) in
+    let short : length given ≤ length (front ++ zeros m) =
+    omega (arith, ap length all, length-append given bytes, length-append (front ++ zeros m) (zeros (n - m)), length-zeros (n - m), many) in
+    let is : given ≡ take (length given) (front ++ zeros m) =
+    sym (take-length given) ∙ sym (take-append-le (length given) given bytes (omega arith)) ∙ ap (take (length given)) all ∙ take-append-le (length given) (front ++ zeros m) (zeros (n - m)) short in (
+      drop (length given) (front ++ zeros m) ++ rest,
+      sym (append_assoc front (zeros m) rest)
+          ∙ ap (λ (xs : List ℕ). xs ++ rest) (sym (take-append-drop (length given) (front ++ zeros m)) ∙ ap (λ (xs : List ℕ). xs ++ drop (length given) (front ++ zeros m)) (sym is))
+          ∙ append_assoc given (drop (length given) (front ++ zeros m)) rest,
+    )
+
+-- what was handed on stays, whatever is laid behind it within what is free
+pub laid-later : (given : List ℕ) (waiting : Waiting) (ps qs : List Piece) → AreLaid given waiting ps → BeginsWithin waiting.free qs → (rest : List ℕ) × (laid (ps ++ qs) ≡ given ++ rest)
+laid-later given waiting ps qs are within =
+    let end = data_end 0 0 ps in
+    let all = areas_end 0 ps in
+    let first = zeros_first end all waiting.free qs within in
+    let found = front_of_zeros given waiting.bytes (up_to 0 0 ps) first.2 (all - end) (all - first.0 - end) (are.same ∙ laid_up_to 0 0 ps) (omega arith) (omega (arith, first.1, are.free, are.room)) in
+    (found.0, laid_from-append 0 0 ps qs ∙ ap (λ (xs : List ℕ). up_to 0 0 ps ++ xs) first.3 ∙ found.1)
 
 -- ---- the queue
 

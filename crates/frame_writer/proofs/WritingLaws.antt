@@ -1,13 +1,13 @@
 -- Laws of frames on their way to a file.
-use Rattle.std.proofs.Common.{◌≡◌, ℕ, List, [], ◌++◌, length, take, refl, sym, subst, ap, ◌∙◌, append_assoc, append-nil, arith, length-append}
+use Rattle.std.proofs.Common.{◌≡◌, ℕ, List, [], ◌∷◌, ◌++◌, length, take, refl, sym, subst, ap, ◌∙◌, append_assoc, append-nil, arith, length-append}
 use Rattle.std.specs.Prelude.{Result, Ok, Err, OnOk, OnErr}
 use Rattle.std.proofs.lemmas.List.{take-append-le, append_cancel_right, nil_from_length}
 use Rattle.outside.specs.Files.{Files, appended}
 use Rattle.outside.specs.Passed.{PassedOn, AppendedPrefix}
-use Rattle.outside.proofs.PassedLaws.{passed_with}
+use Rattle.outside.proofs.PassedLaws.{passed_with, passed_then_prefix}
 use Rattle.frame_writer.specs.declared.frames.Kept.{Kept}
 use Rattle.frame_writer.specs.Frames.{Frame, Held, framed, held_bytes, AreWritten}
-use Rattle.frame_writer.specs.Writing.{Writing, waiting_bytes, HandedOn, WritesOn}
+use Rattle.frame_writer.specs.Writing.{Writing, waiting_bytes, HandedOn, HandedPart, IsWriterOf, WritesOn, WritesPart}
 
 -- ---- facts of an answer
 
@@ -62,24 +62,54 @@ handed-then {old} {mid} {new} p q = record {
       subst (λ (xs : List ℕ). AreWritten xs new fs) (append_assoc taken p.moved q.moved) (q.written (taken ++ p.moved) fs (p.written taken fs are));
 }
 
--- the writer goes on
-pub writes-on : (name unsent : List ℕ) (mid : Held) (new : Writing) (f g : Files) (out : List ℕ) (fs : List Frame) →
-    AreWritten (out ++ unsent) mid fs → PassedOn name (unsent ++ held_bytes mid) (waiting_bytes new) f g → HandedOn mid new.held → WritesOn name out new fs f g
-writes-on name unsent mid new f g out fs are p h =
-    let same : unsent ++ h.moved ≡ p.passed ++ new.unsent =
+-- what was passed on, and what waits in the buffer, are the bytes before and those of the frames that were taken
+passed-same : (name unsent : List ℕ) (mid : Held) (new : Writing) (f g : Files) (p : PassedOn name (unsent ++ held_bytes mid) (waiting_bytes new) f g) (h : HandedOn mid new.held)
+    → unsent ++ h.moved ≡ p.passed ++ new.unsent
+passed-same name unsent mid new f g p h =
     append_cancel_right (unsent ++ h.moved) (p.passed ++ new.unsent) (held_bytes new.held)
     (append_assoc unsent h.moved (held_bytes new.held)
     ∙ ap (λ (xs : List ℕ). unsent ++ xs) h.bytes
     ∙ p.split
-    ∙ sym (append_assoc p.passed new.unsent (held_bytes new.held))) in
+    ∙ sym (append_assoc p.passed new.unsent (held_bytes new.held)))
+
+-- the frame behind those before waits, in front of the file these bytes
+module _ (name : List ℕ) (f : Frame) (old : Writing) (unsent : List ℕ) (mid : Held) where
+  abbrev Waits : Type 0
+  Waits = (out : List ℕ) (fs : List Frame) → IsWriterOf out old fs → AreWritten (out ++ unsent) mid (fs ++ f ∷ [])
+
+  -- the writer goes on
+  pub writes-on : (new : Writing) (before after : Files) → Waits → PassedOn name (unsent ++ held_bytes mid) (waiting_bytes new) before after → HandedOn mid new.held → WritesOn name f old new before after
+  writes-on new before after waits p h =
+      let same = passed-same name unsent mid new before after p h in
+      record {
+        passed = p.passed;
+        files = p.files;
+        writer = λ out fs are.
+            subst
+            (λ (xs : List ℕ). AreWritten xs new.held (fs ++ f ∷ []))
+            (append_assoc out unsent h.moved ∙ ap (λ (xs : List ℕ). out ++ xs) same ∙ sym (append_assoc out p.passed new.unsent))
+            (h.written (out ++ unsent) (fs ++ f ∷ []) (waits out fs are));
+      }
+
+  -- a write fails
+  pub writes-part : (held : Held) (before after : Files) → Waits → HandedPart name (record { held = mid; unsent = unsent }) held before after → WritesPart name f old held before after
+  writes-part held before after waits part = record {
+    settled = unsent ++ part.on.moved;
+    prefix = part.prefix;
+    writer = λ out fs are.
+        subst (λ (xs : List ℕ). AreWritten xs held (fs ++ f ∷ [])) (append_assoc out unsent part.on.moved) (part.on.written (out ++ unsent) (fs ++ f ∷ []) (waits out fs are));
+  }
+
+-- behind frames that were handed on
+pub part-then : (name : List ℕ) (old mid : Writing) (held : Held) (f g h : Files) → PassedOn name (waiting_bytes old) (waiting_bytes mid) f g → HandedOn old.held mid.held → HandedPart name mid held g h → HandedPart name old held f h
+unfolding handed-then
+part-then name old mid held f g h passed on part =
+    let same = passed-same name old.unsent old.held mid f g passed on in
+    let moved = part.on.moved in
+    let all : PassedOn name (old.unsent ++ on.moved) mid.unsent f g = record { passed = passed.passed; split = same; files = passed.files } in
     record {
-      passed = p.passed;
-      files = p.files;
-      writer =
-          subst
-          (λ (xs : List ℕ). AreWritten xs new.held fs)
-          (append_assoc out unsent h.moved ∙ ap (λ (xs : List ℕ). out ++ xs) same ∙ sym (append_assoc out p.passed new.unsent))
-          (h.written (out ++ unsent) fs are);
+      on = handed-then on part.on;
+      prefix = subst (λ (xs : List ℕ). AppendedPrefix name xs f h) (append_assoc old.unsent on.moved moved) (passed_then_prefix (passed_with moved all) part.prefix);
     }
 
 -- where no frame waits, what waits is in the buffer

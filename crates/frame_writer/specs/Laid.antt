@@ -65,3 +65,9 @@ pub record AreLaid (given : List ℕ) (waiting : Waiting) (ps : List Piece) : Ty
   pub fit : CanBeLaid ps
   pub same : given ++ waiting.bytes ≡ laid ps
   pub free : waiting.free + data_end 0 0 ps ≤ areas_end 0 ps
+  pub room : waiting.free ≤ length waiting.bytes
+
+-- the first of these begins no more than so many bytes before its own area
+abbrev pub BeginsWithin : ℕ → List Piece → Type 0
+BeginsWithin free [] = Unit {0}
+BeginsWithin free (p ∷ ps) = p.begin ≤ free

@@ -7,7 +7,7 @@ ghost use Rattle.outside.specs.Passed.{PassedOn, AppendedPrefix};
 ghost use Rattle.outside.specs.Counts.{OnlyWrites, Rose};
 ghost use Rattle.frame_writer.specs.Laid.{put_at, zeros};
 ghost use Rattle.frame_writer.specs.Frames.{Frame, framed, held_bytes, reach_of, IsNextSettled};
-ghost use Rattle.frame_writer.specs.Writing.{Writing, waiting_bytes, HandedOn, IsWriterOf, WritesOn};
+ghost use Rattle.frame_writer.specs.Writing.{Writing, waiting_bytes, HandedOn, HandedPart, IsWriterOf, WritesOn, WritesPart};
 
 use crate::frames::Frames;
 use frame_header::{Class, Header};
@@ -76,7 +76,8 @@ impl Writer {
     /// Adds a frame, lays its main data, and hands on what no later main data can reach.
     ///
     /// # Errors
-    /// Where a write failed. Then a prefix of what waited, with the frame behind it, was appended.
+    /// Where a write failed. Then a prefix of what waited, with the frame behind it, was appended, of bytes that no later
+    /// main data can reach.
     pub fn frame<D: Folder>(
         &mut self,
         header: &Header,
@@ -91,10 +92,11 @@ impl Writer {
         requires start { side.now.main_data_begin ≤ self.old.held.waiting.free }
         requires within { length payload.now ≤ side.now.main_data_begin + area_of (class_of header.now) header.now.slot header.now.protected }
         requires unsettled { IsNextSettled self.old.held → ⊥ }
-        ensures written { (out : List ℕ) (fs : List Frame) → IsWriterOf out self.old fs → OnOk result (WritesOn name.now out self.new (fs ++ record { kept = record { header = header.now; side = side.now }; payload = payload.now } ∷ []) (D.files folder.old) (D.files folder.new)) }
+        ensures written { OnOk result (WritesOn name.now (record { kept = record { header = header.now; side = side.now }; payload = payload.now }) self.old self.new (D.files folder.old) (D.files folder.new)) }
+        ensures part { OnErr result (WritesPart name.now (record { kept = record { header = header.now; side = side.now }; payload = payload.now }) self.old self.new.held (D.files folder.old) (D.files folder.new)) }
         ensures prefix { OnErr result (AppendedPrefix name.now (self.old.unsent ++ framed (self.old.held.kept ++ record { header = header.now; side = side.now } ∷ []) (put_at (length self.old.held.waiting.bytes - side.now.main_data_begin) payload.now (self.old.held.waiting.bytes ++ zeros (area_of (class_of header.now) header.now.slot header.now.protected)))) (D.files folder.old) (D.files folder.new)) }
         ensures class { OnOk result (self.new.held.class ≡ self.old.held.class) }
-        ensures reach { OnOk result (reach_of self.new.held ≡ min (window_of self.old.held.class.version) (side.now.main_data_begin + area_of (class_of header.now) header.now.slot header.now.protected - length payload.now)) }
+        ensures reach { reach_of self.new.held ≡ min (window_of self.old.held.class.version) (side.now.main_data_begin + area_of (class_of header.now) header.now.slot header.now.protected - length payload.now) }
         ensures unsettled { OnOk result (IsNextSettled self.new.held → ⊥) }
         ensures failed { OnErr result (Rose (D.counts folder.old).write_faults (D.counts folder.new).write_faults) }
         ensures done { OnOk result (D.counts folder.new ≡ D.counts folder.old) }
@@ -128,7 +130,8 @@ impl Writer {
         requires there { IsThere (D.files folder.old) name.now }
         ensures passed { OnOk result (PassedOn name.now (waiting_bytes self.old) (waiting_bytes self.new) (D.files folder.old) (D.files folder.new)) }
         ensures moved { OnOk result (HandedOn self.old.held self.new.held) }
-        ensures reach { OnOk result (reach_of self.new.held ≡ reach_of self.old.held) }
+        ensures part { OnErr result (HandedPart name.now self.old self.new.held (D.files folder.old) (D.files folder.new)) }
+        ensures reach { reach_of self.new.held ≡ reach_of self.old.held }
         ensures unsettled { OnOk result (IsNextSettled self.new.held → ⊥) }
         ensures prefix { OnErr result (AppendedPrefix name.now (waiting_bytes self.old) (D.files folder.old) (D.files folder.new)) }
         ensures failed { OnErr result (Rose (D.counts folder.old).write_faults (D.counts folder.new).write_faults) }
@@ -147,6 +150,7 @@ impl Writer {
         requires some { 0 < length self.old.held.kept }
         ensures passed { OnOk result (PassedOn name.now (waiting_bytes self.old) (waiting_bytes self.new) (D.files folder.old) (D.files folder.new)) }
         ensures moved { OnOk result (HandedOn self.old.held self.new.held) }
+        ensures part { OnErr result (HandedPart name.now self.old self.new.held (D.files folder.old) (D.files folder.new)) }
         ensures reach { IsNextSettled self.old.held → reach_of self.new.held ≡ reach_of self.old.held }
         ensures fewer { length self.new.held.kept + 1 ≡ length self.old.held.kept }
         ensures prefix { OnErr result (AppendedPrefix name.now (waiting_bytes self.old) (D.files folder.old) (D.files folder.new)) }

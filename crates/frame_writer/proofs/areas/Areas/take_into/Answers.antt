@@ -1,9 +1,9 @@
 -- The first bytes of the queue, and zeros where these end.
-use Rattle.std.proofs.Common.{◌≡◌, ℕ, ◌-◌, ◌++◌, length, take, drop, ap, ◌∙◌, arith}
+use Rattle.std.proofs.Common.{◌≡◌, ℕ, ◌-◌, ◌++◌, length, take, drop, ap, ◌∙◌, arith, length-append}
 use Rattle.std.proofs.lemmas.List.{length-take-le}
 use Rattle.circular_buffer.specs.Buffer.{Buffer}
 use Rattle.frame_writer.specs.Laid.{Waiting, zeros}
-use Rattle.frame_writer.proofs.LaidLaws.{taken-is, left-is, taken-laid}
+use Rattle.frame_writer.proofs.LaidLaws.{length-zeros, taken-is, left-is, taken-laid}
 use Rattle.frame_writer.proofs.areas.Areas.take_into.Goals as goal
 
 pub returns-clause-taken : goal.returns-clause-taken
@@ -29,4 +29,5 @@ returns-clause-laid c = λ given ps are.
     left-is n free r (length into) items c.copy_from_slice.new.self c.read_into-stored.new.self.items now blank c.read_into-stored.ensures.count
     (ap (λ (b : Buffer ℕ). b.items) c.read_into-stored.ensures.items) long views c.requires in
     taken-laid given now into (c.read_into-stored.new.self.items ++ zeros (free - (length into - r))) n c.args.self.now.free (free - (length into - r)) ps takes leaves
-    (omega (arith, ap (λ (w : Waiting). w.free) c.self.view_is)) are
+    (omega (arith, ap (λ (w : Waiting). w.free) c.self.view_is))
+    (omega (arith, length-append c.read_into-stored.new.self.items (zeros (free - (length into - r))), length-zeros (free - (length into - r)))) are

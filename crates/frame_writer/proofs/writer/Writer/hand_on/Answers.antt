@@ -3,7 +3,7 @@ use Rattle.std.proofs.Common.{refl, subst, ◌∙◌}
 use Rattle.outside.proofs.PassedLaws.{on_err, passed_nothing, passed_then, passed_then_prefix, passed_there}
 use Rattle.frame_writer.specs.Frames.{IsNextSettled}
 use Rattle.frame_writer.specs.Writing.{Writing, waiting_bytes}
-use Rattle.frame_writer.proofs.WritingLaws.{handed-none, handed-then}
+use Rattle.frame_writer.proofs.WritingLaws.{handed-none, handed-then, part-then}
 use Rattle.frame_writer.proofs.writer.Writer.hand_on.Goals as goal
 
 pub loop-self-init : goal.loop-self-init
@@ -27,3 +27,10 @@ loop-self-preserved g c = record {
 pub returns-in_err-hand_on_one-clause-prefix : goal.returns-in_err-hand_on_one-clause-prefix
 returns-in_err-hand_on_one-clause-prefix g c =
     on_err c.from_residual.result (passed_then_prefix c.loop-self.invariant.passed c.in_err-hand_on_one.ensures.prefix)
+
+pub returns-in_err-hand_on_one-clause-part : goal.returns-in_err-hand_on_one-clause-part
+returns-in_err-hand_on_one-clause-part g c =
+    on_err c.from_residual.result (part-then c.args.name.now c.args.self.now c.loop-self.self c.hand_on_one.new.self.held _ _ _ c.loop-self.invariant.passed c.loop-self.invariant.moved c.in_err-hand_on_one.ensures.part)
+
+pub returns-in_err-hand_on_one-clause-reach : goal.returns-in_err-hand_on_one-clause-reach
+returns-in_err-hand_on_one-clause-reach g c = c.hand_on_one.ensures.reach (subst (λ (w : Writing). IsNextSettled w.held) c.self.view_is (c.loop-self-test.ensures.0 refl)) ∙ c.loop-self.invariant.reach

@@ -3,7 +3,7 @@ use Rattle.std.proofs.Common.{subst}
 use Rattle.std.specs.Prelude.{OnOk, OnErr}
 use Rattle.outside.specs.Passed.{PassedOn, AppendedPrefix}
 use Rattle.frame_writer.specs.Frames.{held_bytes}
-use Rattle.frame_writer.specs.Writing.{Writing, waiting_bytes, HandedOn}
+use Rattle.frame_writer.specs.Writing.{Writing, waiting_bytes, HandedOn, HandedPart}
 use Rattle.frame_writer.proofs.WritingLaws.{ok-all, ok-map, err-map, passed-piece, prefix-piece}
 use Rattle.frame_writer.proofs.writer.Writer.hand_on_one.Goals as goal
 
@@ -34,3 +34,13 @@ returns-clause-moved g c =
       class = c.take_frame-length.ensures.class;
       written = c.take_frame-length.ensures.written;
     }))
+
+pub returns-clause-part : goal.returns-clause-part
+returns-clause-part g c =
+    let files = g.D.Folder.files in
+    let new = c.take_frame-length.new.self in
+    subst (λ (w : Writing). OnErr c.push.result (HandedPart c.args.name.now w new (files c.args.folder.now) (files c.push.new.folder))) c.self.view_is
+    (err-map c.push.result (λ prefix. record {
+      on = record { moved = _; bytes = c.take_frame-length.ensures.taken; class = c.take_frame-length.ensures.class; written = c.take_frame-length.ensures.written };
+      prefix = prefix;
+    }) c.push.ensures.prefix)
