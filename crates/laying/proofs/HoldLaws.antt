@@ -1,0 +1,154 @@
+-- The frames of parts as they were planned.
+use Rattle.std.proofs.Common.{◌≡◌, ℕ, zero, suc, ◌+◌, ◌-◌, cond, Bool, true, false, List, [], ◌∷◌, ◌++◌, length, map, take, drop, refl, sym, ◌∙◌, ap, ap₂, subst, arith, length-append, length-drop}
+use Rattle.std.specs.Prelude.{flat_map, slice_range, filter, not, ◌<◌, ◌≤◌}
+use Rattle.std.specs.List.{enumerate_from}
+use Rattle.std.proofs.lemmas.List.{take-map, drop-map, map-append, length-map, length-take}
+use Rattle.std.proofs.lemmas.List.FromFn.{length-enumerate_from}
+use Rattle.frame_header.specs.Fields.{ClassFields}
+use Rattle.side_info.specs.declared.side.Side.{Side}
+use Rattle.side_info.specs.Side.{no_side, payload_bytes}
+use Rattle.slot_plan.specs.declared.needs.Need.{Need}
+use Rattle.part_needs.specs.Needs.{need_of}
+use Rattle.frame_writer.specs.Laid.{CanBeLaid}
+use Rattle.frame_writer.specs.Frames.{Frame, pieces}
+use Rattle.sync_survey.specs.declared.rows.Row.{Row}
+use Rattle.sync_survey.specs.MainData.{StreamFrame}
+use Rattle.sync_survey.specs.Faults.{SurveyFields, HoldsStream}
+use Rattle.sync_survey.specs.declared.places.Piece.{Piece}
+use Rattle.laid_files.specs.LaidFiles.{IsBlock, IsBlocks, block_bytes, AreEntries, entry_of, laid_file}
+use Rattle.laid_files.proofs.LaidLaws.{laid-stream}
+use Rattle.laid_files.proofs.KeptBlocks.{surveyed-blocks}
+use Rattle.laying.specs.Written.{goes_in_front}
+use Rattle.laying.specs.Relaid.{frame_of, all_frames, Part, frames_in, stream_in, IsPart, AreParts, needs_in, relaid, with_lead_ins}
+use Rattle.laying.specs.Laws.{EntriesHold, FilesHold, BlocksAreKept}
+use Rattle.laying.proofs.PlannedFrames.{no_bytes, AreNeedsOf, AllNeedsOf, AllEntries, joined, plan-laid, plan-some}
+use Rattle.laying.proofs.ChosenFrames.{surveyed-frames}
+
+-- ---- some of the frames
+
+entries-take : (c : ClassFields) (n : ℕ) (fs : List Frame) → AreEntries c fs → AreEntries c (take n fs)
+entries-take c zero fs are = tt
+entries-take c (suc n) [] are = tt
+entries-take c (suc n) (f ∷ fs) are = (are.0, entries-take c n fs are.1)
+
+entries-drop : (c : ClassFields) (n : ℕ) (fs : List Frame) → AreEntries c fs → AreEntries c (drop n fs)
+entries-drop c zero fs are = are
+entries-drop c (suc n) [] are = tt
+entries-drop c (suc n) (f ∷ fs) are = entries-drop c n fs are.1
+
+needs-take : (n : ℕ) (needs : List Need) (fs : List Frame) → AreNeedsOf needs fs → AreNeedsOf (take n needs) (take n fs)
+needs-take zero needs fs are = tt
+needs-take (suc n) [] [] are = tt
+needs-take (suc n) [] (f ∷ fs) are = absurd are
+needs-take (suc n) (need ∷ needs) [] are = absurd are
+needs-take (suc n) (need ∷ needs) (f ∷ fs) are = (are.0, are.1, needs-take n needs fs are.2)
+
+needs-drop : (n : ℕ) (needs : List Need) (fs : List Frame) → AreNeedsOf needs fs → AreNeedsOf (drop n needs) (drop n fs)
+needs-drop zero needs fs are = are
+needs-drop (suc n) [] [] are = tt
+needs-drop (suc n) [] (f ∷ fs) are = absurd are
+needs-drop (suc n) (need ∷ needs) [] are = absurd are
+needs-drop (suc n) (need ∷ needs) (f ∷ fs) are = needs-drop n needs fs are.2
+
+range-map : {X Y : Type 0} (f : X → Y) (from to : ℕ) (xs : List X) → map f (slice_range xs from to) ≡ slice_range (map f xs) from to
+range-map f from to xs = sym (ap (take (to - from)) (drop-map f from xs) ∙ take-map f (to - from) (drop from xs))
+
+-- ---- what a plan is given of the frames of a file
+
+bytes_by : (lost : Bool) (s : Side) → cond lost 0 (payload_bytes s) ≡ payload_bytes (cond lost no_side s)
+bytes_by true s = sym no_bytes
+bytes_by false s = refl
+
+needs-each : (c : ClassFields) (file : List ℕ) (s : SurveyFields) (n : ℕ) (rows : List Row) → AreEntries c (map (λ (p : ℕ × Row). frame_of file s p.0 p.1) (enumerate_from n rows))
+    → AreNeedsOf (map need_of rows) (map (λ (p : ℕ × Row). frame_of file s p.0 p.1) (enumerate_from n rows))
+needs-each c file s n [] are = tt
+needs-each c file s n (r ∷ rows) are = (refl, bytes_by r.lost r.side ∙ sym are.0.size, needs-each c file s (n + 1) rows are.1)
+
+needs-all : (c : ClassFields) (file : List ℕ) (s : SurveyFields) → AreEntries c (all_frames file s) → AreNeedsOf (map need_of s.frames) (all_frames file s)
+unfolding all_frames
+needs-all c file s are = needs-each c file s 0 s.frames are
+
+-- ---- a part
+
+part-entries : (c : ClassFields) (p : Part) → IsPart c p → AreEntries c (frames_in p)
+part-entries c p is =
+    let are = surveyed-frames p.file is.allowed p.survey is.is in
+    entries-take c (p.to - p.from) (drop p.from (all_frames p.file p.survey)) (entries-drop c p.from (all_frames p.file p.survey) (subst (λ d. AreEntries d (all_frames p.file p.survey)) is.class are.entries))
+
+part-needs : (c : ClassFields) (p : Part) → IsPart c p → AreNeedsOf (needs_in p) (frames_in p)
+part-needs c p is =
+    let are = surveyed-frames p.file is.allowed p.survey is.is in
+    subst (λ (l : List Need). AreNeedsOf l (frames_in p)) (sym (range-map need_of p.from p.to p.survey.frames))
+    (needs-take (p.to - p.from) (drop p.from (map need_of p.survey.frames)) (drop p.from (all_frames p.file p.survey))
+    (needs-drop p.from (map need_of p.survey.frames) (all_frames p.file p.survey) (needs-all p.survey.class p.file p.survey are.entries)))
+
+part-stream : (c : ClassFields) (p : Part) → IsPart c p → map entry_of (frames_in p) ≡ stream_in p
+part-stream c p is =
+    let are = surveyed-frames p.file is.allowed p.survey is.is in
+    range-map entry_of p.from p.to (all_frames p.file p.survey) ∙ ap (λ (l : List StreamFrame). slice_range l p.from p.to) are.stream_is
+
+-- ---- all parts
+
+parts-entries : (c : ClassFields) (parts : List Part) → AreParts c parts → AllEntries c (map frames_in parts)
+parts-entries c [] are = tt
+parts-entries c (p ∷ parts) are = (part-entries c p are.0, parts-entries c parts are.1)
+
+parts-needs : (c : ClassFields) (parts : List Part) → AreParts c parts → AllNeedsOf (map needs_in parts) (map frames_in parts)
+parts-needs c [] are = tt
+parts-needs c (p ∷ parts) are = (part-needs c p are.0, parts-needs c parts are.1)
+
+parts-stream : (c : ClassFields) (parts : List Part) → AreParts c parts → map entry_of (flat_map frames_in parts) ≡ flat_map stream_in parts
+parts-stream c [] are = refl
+parts-stream c (p ∷ parts) are =
+    map-append entry_of (frames_in p) (flat_map frames_in parts) ∙ ap₂ (λ (x y : List StreamFrame). x ++ y) (part-stream c p are.0) (parts-stream c parts are.1)
+
+joined-is : (parts : List Part) → joined (map frames_in parts) ≡ flat_map frames_in parts
+joined-is [] = refl
+joined-is (p ∷ parts) = ap (λ (l : List Frame). frames_in p ++ l) (joined-is parts)
+
+all-length : (file : List ℕ) (s : SurveyFields) → length (all_frames file s) ≡ length s.frames
+unfolding all_frames
+all-length file s = length-map (enumerate_from 0 s.frames) (λ (p : ℕ × Row). frame_of file s p.0 p.1) ∙ length-enumerate_from 0 s.frames
+
+part-some : (c : ClassFields) (p : Part) → IsPart c p → 0 < length (frames_in p)
+part-some c p is = omega (arith, is.some, is.within, all-length p.file p.survey, length-drop p.from (all_frames p.file p.survey), length-take (p.to - p.from) (drop p.from (all_frames p.file p.survey)))
+
+parts-some : (c : ClassFields) (parts : List Part) → 1 ≤ length parts → AreParts c parts → 0 < length (joined (map frames_in parts))
+parts-some c [] some are = absurd (omega (arith, some))
+parts-some c (p ∷ parts) some are = omega (arith, part-some c p are.0, length-append (frames_in p) (joined (map frames_in parts)))
+
+pub entries-hold : EntriesHold
+entries-hold c choices parts placed some are slots plan =
+    let laid = plan-laid c choices (map needs_in parts) (map frames_in parts) placed slots (parts-entries c parts are) (parts-needs c parts are) plan in
+    let same = joined-is parts in
+    record {
+      some =
+          subst (λ (l : List Frame). 0 < length (relaid l placed)) same
+          (plan-some c choices (map needs_in parts) (map frames_in parts) placed slots (parts-some c parts some are) (parts-entries c parts are) (parts-needs c parts are) plan);
+      entries = subst (λ (l : List Frame). AreEntries c (relaid l placed)) same laid.entries;
+      fit = subst (λ (l : List Frame). CanBeLaid (pieces (relaid l placed))) same laid.fit;
+      stream_is =
+          subst (λ (l : List Frame). map entry_of (relaid l placed) ≡ with_lead_ins placed (map entry_of l)) same laid.stream_is
+          ∙ ap (with_lead_ins placed) (parts-stream c parts are);
+    }
+
+pub files-hold : FilesHold
+files-hold c choices parts placed some are slots plan front first info back before is class sizes behind =
+    let hold = entries-hold c choices parts placed some are slots plan in
+    subst (HoldsStream (laid_file front first info (relaid (flat_map frames_in parts) placed) back)) hold.stream_is
+    (laid-stream c front first info (relaid (flat_map frames_in parts) placed) back
+    (record { blocks_before = before; header = is; class = class; sizes = sizes; some = hold.some; entries = hold.entries; laid = hold.fit; blocks_behind = behind }))
+
+-- ---- blocks
+
+kept_cons : (keep : Bool) (file : List ℕ) (p : Piece) (ps : List Piece) → IsBlock (block_bytes file p) → IsBlocks (map (block_bytes file) ps) → IsBlocks (map (block_bytes file) (cond keep (p ∷ ps) ps))
+kept_cons true file p ps is are = (is, are)
+kept_cons false file p ps is are = are
+
+kept-blocks : (keep : Piece → Bool) (file : List ℕ) (ps : List Piece) → IsBlocks (map (block_bytes file) ps) → IsBlocks (map (block_bytes file) (filter keep ps))
+kept-blocks keep file [] are = tt
+kept-blocks keep file (p ∷ ps) are = kept_cons (keep p) file p (filter keep ps) are.0 (kept-blocks keep file ps are.1)
+
+pub blocks-kept : BlocksAreKept
+blocks-kept file allowed s e =
+    let all = surveyed-blocks file allowed s e in (kept-blocks (goes_in_front s) file s.blocks all, kept-blocks (λ p. not (goes_in_front s p)) file s.blocks all)

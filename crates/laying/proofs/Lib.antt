@@ -1,0 +1,3 @@
+pub mod PlannedFrames
+pub mod ChosenFrames
+pub mod HoldLaws

@@ -1,0 +1,38 @@
+-- Laws of files of chosen frames.
+use Rattle.std.specs.Prelude.{◌≡◌, ℕ, ◌<◌, ◌≤◌, List, map, flat_map, length, Ok}
+use Rattle.frame_header.specs.Fields.{SlotFields, HeaderFields, ClassFields, IsHeader}
+use Rattle.frame_header.specs.Tables.{class_of, window_of}
+use Rattle.slot_plan.specs.declared.needs.Placed.{Placed}
+use Rattle.slot_plan.specs.Plans.{IsPlan}
+use Rattle.info_header.specs.declared.fields.Info.{Info}
+use Rattle.frame_writer.specs.Laid.{CanBeLaid}
+use Rattle.frame_writer.specs.Frames.{Frame, pieces}
+use Rattle.sync_survey.specs.Faults.{SurveyFields, surveyed, HoldsStream}
+use Rattle.laid_files.specs.LaidFiles.{IsBlocks, AreEntries, entry_of, HasInfoSizes, laid_file}
+use Rattle.sync_survey.specs.MainData.{StreamFrame}
+use Rattle.laying.specs.Written.{front_blocks, back_blocks}
+use Rattle.laying.specs.Relaid.{Part, frames_in, stream_in, AreParts, needs_in, AreSlots, relaid, with_lead_ins}
+
+-- there are frames; they are of this class, their main data can be laid as they say, and this is what they are in a stream
+pub record AreLaidAs (c : ClassFields) (frames : List Frame) (stream : List StreamFrame) : Type 0 where
+  pub some : 0 < length frames
+  pub entries : AreEntries c frames
+  pub fit : CanBeLaid (pieces frames)
+  pub stream_is : map entry_of frames ≡ stream
+
+-- the frames of parts as they were planned can be laid, and are the lead-ins and, else as they were, the frames of the files' streams
+abbrev pub EntriesHold : Type 0
+EntriesHold =
+    (c : ClassFields) (choices : HeaderFields → List SlotFields) (parts : List Part) (placed : List Placed) → 1 ≤ length parts → AreParts c parts → AreSlots choices → IsPlan (window_of c.version) choices (map needs_in parts) placed
+    → AreLaidAs c (relaid (flat_map frames_in parts) placed) (with_lead_ins placed (flat_map stream_in parts))
+
+-- so a file of them between blocks and behind an Info frame is well-formed, and that is its stream
+abbrev pub FilesHold : Type 0
+FilesHold =
+    (c : ClassFields) (choices : HeaderFields → List SlotFields) (parts : List Part) (placed : List Placed) → 1 ≤ length parts → AreParts c parts → AreSlots choices → IsPlan (window_of c.version) choices (map needs_in parts) placed
+    → (front : List (List ℕ)) (first : HeaderFields) (info : Info) (back : List (List ℕ)) → IsBlocks front → IsHeader first → class_of first ≡ c → HasInfoSizes info → IsBlocks back
+    → HoldsStream (laid_file front first info (relaid (flat_map frames_in parts) placed) back) (with_lead_ins placed (flat_map stream_in parts))
+
+-- the blocks of a file without fault that are kept may stand in such a file
+abbrev pub BlocksAreKept : Type 0
+BlocksAreKept = (file : List ℕ) (allowed : ℕ) (s : SurveyFields) → surveyed file allowed ≡ Ok s → IsBlocks (front_blocks file s) × IsBlocks (back_blocks file s)

@@ -1,0 +1,3 @@
+pub mod Relaid
+pub mod Written
+pub mod Laws

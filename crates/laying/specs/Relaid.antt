@@ -1,0 +1,104 @@
+-- Frames that are chosen of surveyed files, and the same frames in the slots of a plan with all main data laid anew (main_data_begin
+-- and main data, ISO/IEC 11172-3 and 13818-3, 2.4.2.7).
+use Rattle.std.specs.Prelude.{◌≡◌, ℕ, ◌+◌, ◌-◌, ◌*◌, ◌/◌, ◌<◌, ◌≤◌, if◌then◌else◌, false, List, [], ◌∷◌, ◌++◌, length, map, slice_range, Contains, Ok}
+use Rattle.std.specs.List.{enumerate_from}
+use Rattle.bit_fields.specs.Bits.{bytes}
+use Rattle.frame_header.specs.Fields.{SlotFields, HeaderFields, ClassFields, IsSlot, IsHeader}
+use Rattle.side_info.specs.Side.{no_side}
+use Rattle.slot_plan.specs.declared.needs.Need.{Need}
+use Rattle.slot_plan.specs.declared.needs.Placed.{Placed}
+use Rattle.part_needs.specs.Needs.{need_of}
+use Rattle.frame_writer.specs.Laid.{zeros}
+use Rattle.frame_writer.specs.Frames.{Frame}
+use Rattle.sync_survey.specs.declared.rows.Row.{Row}
+use Rattle.sync_survey.specs.MainData.{StreamFrame, main_bytes, payload_at, start_of_data, place, side_of, part_lengths, parts_of}
+use Rattle.sync_survey.specs.Faults.{SurveyFields, surveyed, stream_of_survey}
+
+-- ---- the frames of a surveyed file
+
+-- as few bytes as hold these bits, the unused low bits of the last 0
+abbrev pub packed : List ℕ → List ℕ
+packed bs = bytes (bs ++ zeros (8 * ((length bs + 7) / 8) - length bs))
+
+-- the bytes of the main data of frame i; a lost frame has none
+abbrev pub payload_of : List ℕ → SurveyFields → ℕ → Row → List ℕ
+payload_of file s i r = packed (payload_at (main_bytes file s.head s.frames) (start_of_data (place s.head s.frames i) r) (side_of r))
+
+-- frame i with its main data; a lost frame is an empty one
+abbrev pub frame_of : List ℕ → SurveyFields → ℕ → Row → Frame
+frame_of file s i r = record { kept = record { header = r.header; side = side_of r }; payload = payload_of file s i r }
+
+-- all frames
+unfoldable pub all_frames : List ℕ → SurveyFields → List Frame
+all_frames file s = map (λ (p : ℕ × Row). frame_of file s p.0 p.1) (enumerate_from 0 s.frames)
+
+-- ---- the frames that are chosen
+
+-- the frames of a surveyed file from one on and before another
+pub record Part : Type 0 where
+  pub file : List ℕ
+  pub survey : SurveyFields
+  pub from : ℕ
+  pub to : ℕ
+
+abbrev pub rows_in : Part → List Row
+rows_in p = slice_range p.survey.frames p.from p.to
+
+abbrev pub frames_in : Part → List Frame
+frames_in p = slice_range (all_frames p.file p.survey) p.from p.to
+
+-- what they are in the stream of the file
+abbrev pub stream_in : Part → List StreamFrame
+stream_in p = slice_range (stream_of_survey p.file p.survey) p.from p.to
+
+-- the file has no fault, its frames are of this class, and the part has a frame
+pub record IsPart (c : ClassFields) (p : Part) : Type 0 where
+  pub allowed : ℕ
+  pub is : surveyed p.file allowed ≡ Ok p.survey
+  pub class : p.survey.class ≡ c
+  pub some : p.from < p.to
+  pub within : p.to ≤ length p.survey.frames
+
+abbrev pub AreParts : ClassFields → List Part → Type 0
+AreParts c [] = Unit {0}
+AreParts c (p ∷ parts) = IsPart c p × AreParts c parts
+
+-- what a plan is given of them
+abbrev pub needs_in : Part → List Need
+needs_in p = map need_of (rows_in p)
+
+-- ---- the same frames as they were planned
+
+-- a frame in its slot, with its main_data_begin
+abbrev pub moved_to : Placed → Frame → Frame
+moved_to p f = record { kept = record { header = record f.kept.header { slot = p.slot }; side = record f.kept.side { main_data_begin = p.begin } }; payload = f.payload }
+
+-- a lead-in: an empty frame without a check word, else with the header of the frame behind it
+abbrev pub lead_in_to : Placed → Frame → Frame
+lead_in_to p behind = record { kept = record { header = record behind.kept.header { protected = false; slot = p.slot }; side = record no_side { main_data_begin = p.begin } }; payload = [] }
+
+-- the lead-ins and frames of a plan, in order
+unfoldable pub relaid : List Frame → List Placed → List Frame
+relaid [] placed = []
+relaid (f ∷ frames) [] = []
+relaid (f ∷ frames) (p ∷ placed) = if p.lead_in then lead_in_to p f ∷ relaid (f ∷ frames) placed else moved_to p f ∷ relaid frames placed
+
+-- ---- their stream
+
+-- a lead-in as a frame of a stream, by the frame behind it: no field of its side information is set, and it has no main data
+abbrev pub silent_before : StreamFrame → StreamFrame
+silent_before behind = record {
+  header = record behind.header { protected = false };
+  side = no_side;
+  payload = parts_of (part_lengths behind.header no_side) [];
+}
+
+-- the frames of a stream with the lead-ins of a plan, and else as they are
+unfoldable pub with_lead_ins : List Placed → List StreamFrame → List StreamFrame
+with_lead_ins placed [] = []
+with_lead_ins [] (f ∷ stream) = []
+with_lead_ins (p ∷ placed) (f ∷ stream) = if p.lead_in then silent_before f ∷ with_lead_ins placed (f ∷ stream) else f ∷ with_lead_ins placed stream
+
+-- the slots among which frames choose are slots
+abbrev pub AreSlots : (HeaderFields → List SlotFields) → Type 0
+AreSlots choices = (h : HeaderFields) (slot : SlotFields) → IsHeader h → Contains (choices h) slot → IsSlot slot

@@ -1,0 +1,66 @@
+-- A file of chosen frames: blocks, an Info frame, the frames with all main data laid anew, and other blocks.
+use Rattle.std.specs.Prelude.{ℕ, ◌+◌, ◌*◌, ◌/◌, ◌&&◌, not, nat_lt, Bool, true, false, List, [], length, map, filter, take, drop, replicate, Option, Some, None}
+use Rattle.std.specs.List.{range_with_len}
+use Rattle.frame_header.specs.Fields.{SlotFields, ClassFields}
+use Rattle.frame_header.specs.Tables.{class_of, length_of}
+use Rattle.tag_blocks.specs.declared.block.Kind.{Kind}
+use Rattle.tag_blocks.specs.declared.block.Kind.TheVariants.{Id3v2}
+use Rattle.info_header.specs.declared.fields.Info.{Info}
+use Rattle.info_header.specs.Info.{info_in, entry_of}
+use Rattle.info_header.specs.Over.{info_length, bytes_of, all_bytes, has_one_rate}
+use Rattle.frame_writer.specs.Frames.{Frame}
+use Rattle.sync_survey.specs.declared.places.Piece.{Piece}
+use Rattle.sync_survey.specs.declared.places.Head.{Head}
+use Rattle.sync_survey.specs.Faults.{SurveyFields}
+use Rattle.laid_files.specs.LaidFiles.{block_bytes}
+
+-- ---- blocks
+
+abbrev pub is_id3v2 : Kind → Bool
+is_id3v2 Id3v2 = true
+is_id3v2 _ = false
+
+-- an ID3v2 block that stands before the first frame or the head
+abbrev pub goes_in_front : SurveyFields → Piece → Bool
+goes_in_front s p = is_id3v2 p.block.kind && nat_lt p.offset s.first
+
+-- the bytes of these
+abbrev pub front_blocks : List ℕ → SurveyFields → List (List ℕ)
+front_blocks file s = map (block_bytes file) (filter (goes_in_front s) s.blocks)
+
+-- those of all others, in the order of the file
+abbrev pub back_blocks : List ℕ → SurveyFields → List (List ℕ)
+back_blocks file s = map (block_bytes file) (filter (λ p. not (goes_in_front s p)) s.blocks)
+
+-- ---- the Info frame
+
+abbrev pub slot_in : Frame → SlotFields
+slot_in f = f.kept.header.slot
+
+-- entry i of the table of an Info frame in front of these frames
+abbrev pub table_entry : ClassFields → List Frame → ℕ → ℕ
+table_entry c frames i = entry_of (info_length c + bytes_of c slot_in (take (i * length frames / 100) frames)) (all_bytes c slot_in frames)
+
+-- the fields of the Info frame in front of these frames, with this quality and extension
+abbrev pub info_for : ClassFields → List Frame → Option ℕ → List ℕ → Info
+info_for c frames quality extension = record {
+  vbr = not (has_one_rate c slot_in frames);
+  frames = Some (length frames);
+  bytes = Some (all_bytes c slot_in frames);
+  table = Some (map (table_entry c frames) (range_with_len 0 100));
+  quality = quality;
+  extension = extension;
+}
+
+-- without a quality, and with an extension that is all 0
+abbrev pub plain_info : ClassFields → List Frame → Info
+plain_info c frames = info_for c frames None (replicate 36 0)
+
+-- the fields of the head of a file, from its text on; where there is no head no field is there
+unfoldable pub head_info : List ℕ → Option Head → Info
+head_info file None = info_in []
+head_info file (Some head) = info_in (drop head.text_at (take (length_of (class_of head.header) head.header.slot) (drop head.offset file)))
+
+-- with the quality and the extension of a file's head
+abbrev pub kept_info : ClassFields → List Frame → List ℕ → Option Head → Info
+kept_info c frames file head = info_for c frames (head_info file head).quality (head_info file head).extension

@@ -1,0 +1,22 @@
+//! Laws of files of chosen frames. Each function does nothing: a proof that needs its law calls it.
+ghost use Rattle.laying.specs.Laws.{EntriesHold, FilesHold, BlocksAreKept};
+
+/// The frames of parts of files without fault, in the slots and with the main_data_begin of their plan, are of the class, and
+/// their main data can be laid so. In a stream they are the plan's lead-ins, and each chosen frame as it is in the stream of its
+/// file: the same header but bit rate index and padding, the same side information but main_data_begin, the same main data. A
+/// lost frame is an empty one.
+pub fn entries_hold()
+    ensures { EntriesHold }
+{}
+
+/// A file of these frames, with blocks and an Info frame in front of them and blocks behind, is well-formed, and its stream
+/// is the lead-ins and the chosen frames.
+pub fn files_hold()
+    ensures { FilesHold }
+{}
+
+/// The bytes of the blocks of a file without fault, those that go in front of the frames and all others, may stand in such a
+/// file.
+pub fn blocks_are_kept()
+    ensures { BlocksAreKept }
+{}

@@ -1,0 +1,6 @@
+//! Frames of surveyed files in the slots of a plan, with all main data laid anew, as they are cut, split, joined and packed.
+#![tactic(auto)]
+
+mod laws;
+
+pub use laws::{blocks_are_kept, entries_hold, files_hold};
