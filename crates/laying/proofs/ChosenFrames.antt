@@ -151,10 +151,10 @@ zeros-bits zero = tt
 zeros-bits (suc n) = (omega arith, zeros-bits n)
 
 module _ (bs : List ℕ) (are : AreBits bs) where
-  abbrev count : ℕ
+  abbrev pub count : ℕ
   count = (length bs + 7) / 8
 
-  abbrev filling : List ℕ
+  abbrev pub filling : List ℕ
   filling = zeros (8 * count - length bs)
 
   whole : length (bs ++ filling) ≡ 8 * count
@@ -178,7 +178,7 @@ side_shaped : (lost : Bool) (s : Side) → IsShaped s → HasPairs (cond lost no
 side_shaped true s shaped = record { scfsi = refl; granules = refl; first = refl; second = refl }
 side_shaped false s shaped = record { scfsi = shaped.scfsi; granules = shaped.granules; first = shaped.first; second = shaped.second }
 
-side_fits : (c : ClassFields) (lost : Bool) (s : Side) → SideFits c s → SideFits c (cond lost no_side s)
+pub side_fits : (c : ClassFields) (lost : Bool) (s : Side) → SideFits c s → SideFits c (cond lost no_side s)
 side_fits c true s fits = SideFits-no_side c
 side_fits c false s fits = fits
 

@@ -1,5 +1,5 @@
 -- The frames of parts as they were planned.
-use Rattle.std.proofs.Common.{◌≡◌, ℕ, zero, suc, ◌+◌, ◌-◌, cond, Bool, true, false, List, [], ◌∷◌, ◌++◌, length, map, take, drop, refl, sym, ◌∙◌, ap, ap₂, subst, arith, length-append, length-drop}
+use Rattle.std.proofs.Common.{◌≡◌, ℕ, zero, suc, ◌+◌, ◌-◌, cond, Bool, true, false, List, [], ◌∷◌, ◌++◌, length, map, take, drop, Ok, refl, sym, ◌∙◌, ap, ap₂, subst, arith, length-append, length-drop}
 use Rattle.std.specs.Prelude.{flat_map, slice_range, filter, not, ◌<◌, ◌≤◌}
 use Rattle.std.specs.List.{enumerate_from}
 use Rattle.std.proofs.lemmas.List.{take-map, drop-map, map-append, length-map, length-take}
@@ -13,7 +13,7 @@ use Rattle.frame_writer.specs.Laid.{CanBeLaid}
 use Rattle.frame_writer.specs.Frames.{Frame, pieces}
 use Rattle.sync_survey.specs.declared.rows.Row.{Row}
 use Rattle.sync_survey.specs.MainData.{StreamFrame}
-use Rattle.sync_survey.specs.Faults.{SurveyFields, HoldsStream}
+use Rattle.sync_survey.specs.Faults.{SurveyFields, surveyed, HoldsStream}
 use Rattle.sync_survey.specs.declared.places.Piece.{Piece}
 use Rattle.laid_files.specs.LaidFiles.{IsBlock, IsBlocks, block_bytes, AreEntries, entry_of, laid_file}
 use Rattle.laid_files.proofs.LaidLaws.{laid-stream}
@@ -75,12 +75,15 @@ part-entries c p is =
     let are = surveyed-frames p.file is.allowed p.survey is.is in
     entries-take c (p.to - p.from) (drop p.from (all_frames p.file p.survey)) (entries-drop c p.from (all_frames p.file p.survey) (subst (λ d. AreEntries d (all_frames p.file p.survey)) is.class are.entries))
 
+-- those of some frames are of these
+pub needs-range : (file : List ℕ) (allowed : ℕ) (s : SurveyFields) (from to : ℕ) → surveyed file allowed ≡ Ok s → AreNeedsOf (map need_of (slice_range s.frames from to)) (slice_range (all_frames file s) from to)
+needs-range file allowed s from to e =
+    let are = surveyed-frames file allowed s e in
+    subst (λ (l : List Need). AreNeedsOf l (slice_range (all_frames file s) from to)) (sym (range-map need_of from to s.frames))
+    (needs-take (to - from) (drop from (map need_of s.frames)) (drop from (all_frames file s)) (needs-drop from (map need_of s.frames) (all_frames file s) (needs-all s.class file s are.entries)))
+
 part-needs : (c : ClassFields) (p : Part) → IsPart c p → AreNeedsOf (needs_in p) (frames_in p)
-part-needs c p is =
-    let are = surveyed-frames p.file is.allowed p.survey is.is in
-    subst (λ (l : List Need). AreNeedsOf l (frames_in p)) (sym (range-map need_of p.from p.to p.survey.frames))
-    (needs-take (p.to - p.from) (drop p.from (map need_of p.survey.frames)) (drop p.from (all_frames p.file p.survey))
-    (needs-drop p.from (map need_of p.survey.frames) (all_frames p.file p.survey) (needs-all p.survey.class p.file p.survey are.entries)))
+part-needs c p is = needs-range p.file is.allowed p.survey p.from p.to is.is
 
 part-stream : (c : ClassFields) (p : Part) → IsPart c p → map entry_of (frames_in p) ≡ stream_in p
 part-stream c p is =

@@ -1,3 +1,6 @@
 pub mod PlannedFrames
 pub mod ChosenFrames
 pub mod HoldLaws
+pub mod ReadLaws
+pub mod PassLaws
+pub mod RelayLaws

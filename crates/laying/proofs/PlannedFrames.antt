@@ -23,38 +23,23 @@ use Rattle.frame_writer.specs.Laid.{zeros, CanBeLaidFrom}
 use Rattle.frame_writer.specs.Frames.{Frame, pieces, area_in as kept_area}
 use Rattle.sync_survey.specs.MainData.{StreamFrame, no_slot, part_lengths, parts_of}
 use Rattle.laid_files.specs.LaidFiles.{IsEntry, AreEntries, entry_of}
-use Rattle.laying.specs.Relaid.{moved_to, lead_in_to, relaid, silent_before, with_lead_ins, AreSlots}
+use Rattle.laying.specs.Relaid.{moved_to, lead_in_to, relaid, silent_before, with_lead_ins, AreSlots, left_behind}
 
 -- ---- one frame of a plan
 
 abbrev pub one : Bool → Placed → Frame → Frame
 one lead_in p f = cond lead_in (lead_in_to p f) (moved_to p f)
 
--- the frames that are left behind it
-abbrev pub next : {X : Type 0} → Bool → X → List X → List X
-next true f fs = f ∷ fs
-next false f fs = fs
-
 abbrev one_in_stream : Bool → StreamFrame → StreamFrame
 one_in_stream lead_in f = cond lead_in (silent_before f) f
 
-relaid-by : (b : Bool) (p : Placed) (placed : List Placed) (f : Frame) (fs : List Frame)
-    → cond b (lead_in_to p f ∷ relaid (f ∷ fs) placed) (moved_to p f ∷ relaid fs placed) ≡ one b p f ∷ relaid (next b f fs) placed
-relaid-by true p placed f fs = refl
-relaid-by false p placed f fs = refl
-
-pub relaid-cons : (p : Placed) (placed : List Placed) (f : Frame) (fs : List Frame) → relaid (f ∷ fs) (p ∷ placed) ≡ one p.lead_in p f ∷ relaid (next p.lead_in f fs) placed
+pub relaid-cons : (p : Placed) (placed : List Placed) (f : Frame) (fs : List Frame) → relaid (f ∷ fs) (p ∷ placed) ≡ one p.lead_in p f ∷ relaid (left_behind p.lead_in f fs) placed
 unfolding relaid
-relaid-cons p placed f fs = relaid-by p.lead_in p placed f fs
+relaid-cons p placed f fs = refl
 
-stream-by : (b : Bool) (placed : List Placed) (f : StreamFrame) (fs : List StreamFrame)
-    → cond b (silent_before f ∷ with_lead_ins placed (f ∷ fs)) (f ∷ with_lead_ins placed fs) ≡ one_in_stream b f ∷ with_lead_ins placed (next b f fs)
-stream-by true placed f fs = refl
-stream-by false placed f fs = refl
-
-stream-cons : (p : Placed) (placed : List Placed) (f : StreamFrame) (fs : List StreamFrame) → with_lead_ins (p ∷ placed) (f ∷ fs) ≡ one_in_stream p.lead_in f ∷ with_lead_ins placed (next p.lead_in f fs)
+stream-cons : (p : Placed) (placed : List Placed) (f : StreamFrame) (fs : List StreamFrame) → with_lead_ins (p ∷ placed) (f ∷ fs) ≡ one_in_stream p.lead_in f ∷ with_lead_ins placed (left_behind p.lead_in f fs)
 unfolding with_lead_ins
-stream-cons p placed f fs = stream-by p.lead_in placed f fs
+stream-cons p placed f fs = refl
 
 -- ---- it is of the class
 
@@ -71,7 +56,7 @@ window_below One channels = below_one (channels == 1)
 window_below Two channels = below_two (channels == 1)
 window_below TwoFive channels = below_two (channels == 1)
 
-begun_fits : (c : ClassFields) (s : Side) (begin : ℕ) → SideFits c s → begin ≤ window_of c.version → SideFits c (record s { main_data_begin = begin })
+pub begun_fits : (c : ClassFields) (s : Side) (begin : ℕ) → SideFits c s → begin ≤ window_of c.version → SideFits c (record s { main_data_begin = begin })
 begun_fits c s begin fits within = record {
   main_data_begin = omega (arith, within, window_below c.version c.channels);
   private_bits = fits.private_bits;
@@ -142,11 +127,11 @@ one-stream false p f =
     ap₂ (λ lengths n. record { header = record f.kept.header { slot = no_slot }; side = record f.kept.side { main_data_begin = 0 }; payload = parts_of lengths (take n (bits f.payload)) })
     (lengths_begun f.kept.header f.kept.side p.begin) (bits_begun f.kept.side p.begin)
 
-next-map : {X Y : Type 0} (g : X → Y) (b : Bool) (x : X) (xs : List X) → map g (next b x xs) ≡ next b (g x) (map g xs)
+pub next-map : {X Y : Type 0} (g : X → Y) (b : Bool) (x : X) (xs : List X) → map g (left_behind b x xs) ≡ left_behind b (g x) (map g xs)
 next-map g true x xs = refl
 next-map g false x xs = refl
 
-next-entries : (c : ClassFields) (b : Bool) (f : Frame) (fs : List Frame) → IsEntry c f → AreEntries c fs → AreEntries c (next b f fs)
+next-entries : (c : ClassFields) (b : Bool) (f : Frame) (fs : List Frame) → IsEntry c f → AreEntries c fs → AreEntries c (left_behind b f fs)
 next-entries c true f fs is are = (is, are)
 next-entries c false f fs is are = are
 
@@ -165,7 +150,7 @@ abbrev pub Follow : List Item → List Frame → Type 0
 Follow [] [] = Unit {0}
 Follow [] (f ∷ fs) = ⊥
 Follow (item ∷ items) [] = ⊥
-Follow (item ∷ items) (f ∷ fs) = IsFor item.lead_in item f × AllSlots item × Follow items (next item.lead_in f fs)
+Follow (item ∷ items) (f ∷ fs) = IsFor item.lead_in item f × AllSlots item × Follow items (left_behind item.lead_in f fs)
 
 abbrev area_by : ClassFields → Bool → SlotFields → ℕ
 area_by c b slot = area_of c slot b
@@ -237,18 +222,18 @@ laid-on c (item ∷ items) (f ∷ fs) (p ∷ placed) end low before (start ∷ s
     let later = ap (drop 1) begins in
     let near : p.begin ≤ window = omega (arith, begin, begin-near window low end before start item.bytes area early layout.0 layout.1 layout.2 layout.3) in
     let fits : IsFor p.lead_in item f = subst (λ b. IsFor b item f) (sym for_items.0) follow.0 in
-    let follows : Follow items (next p.lead_in f fs) = subst (λ b. Follow items (next b f fs)) (sym for_items.0) follow.2 in
+    let follows : Follow items (left_behind p.lead_in f fs) = subst (λ b. Follow items (left_behind b f fs)) (sym for_items.0) follow.2 in
     let piece = one-piece p.lead_in item p f fits in
     let g = one p.lead_in p f in
     let back_at : before - g.kept.side.main_data_begin ≡ at = ap (λ n. before - n) (piece.1 ∙ begin) ∙ back window low end before start item.bytes area early layout.0 layout.1 layout.2 layout.3 in
-    let behind = laid-on c items (next p.lead_in f fs) placed (start + item.bytes) (at + item.bytes) (before + area) starts (next-entries c p.lead_in f fs are.0 are.1) follows for_items.2 layout.4
+    let behind = laid-on c items (left_behind p.lead_in f fs) placed (start + item.bytes) (at + item.bytes) (before + area) starts (next-entries c p.lead_in f fs are.0 are.1) follows for_items.2 layout.4
     (omega (arith, first-most window low end before start item.bytes area early layout.0 layout.1 layout.2 layout.3)) later in
-    let there : AreLaidFrom c (before - g.kept.side.main_data_begin + item.bytes) (before + area) (relaid (next p.lead_in f fs) placed) (with_lead_ins placed (next p.lead_in (entry_of f) (map entry_of fs))) =
-    subst (λ n. AreLaidFrom c (n + item.bytes) (before + area) (relaid (next p.lead_in f fs) placed) (with_lead_ins placed (next p.lead_in (entry_of f) (map entry_of fs)))) (sym back_at)
-    (subst (λ (l : List StreamFrame). AreLaidFrom c (at + item.bytes) (before + area) (relaid (next p.lead_in f fs) placed) (with_lead_ins placed l)) (next-map entry_of p.lead_in f fs) behind) in
+    let there : AreLaidFrom c (before - g.kept.side.main_data_begin + item.bytes) (before + area) (relaid (left_behind p.lead_in f fs) placed) (with_lead_ins placed (left_behind p.lead_in (entry_of f) (map entry_of fs))) =
+    subst (λ n. AreLaidFrom c (n + item.bytes) (before + area) (relaid (left_behind p.lead_in f fs) placed) (with_lead_ins placed (left_behind p.lead_in (entry_of f) (map entry_of fs)))) (sym back_at)
+    (subst (λ (l : List StreamFrame). AreLaidFrom c (at + item.bytes) (before + area) (relaid (left_behind p.lead_in f fs) placed) (with_lead_ins placed l)) (next-map entry_of p.lead_in f fs) behind) in
     subst (λ (l : List Frame). AreLaidFrom c low before l (with_lead_ins (p ∷ placed) (map entry_of (f ∷ fs)))) (sym (relaid-cons p placed f fs))
-    (subst (λ (l : List StreamFrame). AreLaidFrom c low before (g ∷ relaid (next p.lead_in f fs) placed) l) (sym (stream-cons p placed (entry_of f) (map entry_of fs)))
-    (laid_more c low before item.bytes area g (relaid (next p.lead_in f fs) placed) (one_in_stream p.lead_in (entry_of f)) (with_lead_ins placed (next p.lead_in (entry_of f) (map entry_of fs)))
+    (subst (λ (l : List StreamFrame). AreLaidFrom c low before (g ∷ relaid (left_behind p.lead_in f fs) placed) l) (sym (stream-cons p placed (entry_of f) (map entry_of fs)))
+    (laid_more c low before item.bytes area g (relaid (left_behind p.lead_in f fs) placed) (one_in_stream p.lead_in (entry_of f)) (with_lead_ins placed (left_behind p.lead_in (entry_of f) (map entry_of fs)))
     (one-entry c p f (follow.1 p.slot for_items.1) near are.0 p.lead_in) (one-stream p.lead_in p f) piece.0 piece.2
     (omega (arith, piece.1, begin, begin-starts window low end before start item.bytes area early layout.0 layout.1 layout.2 layout.3))
     (omega (arith, piece.1, begin, begin-ends window low end before start item.bytes area early layout.0 layout.1 layout.2 layout.3))

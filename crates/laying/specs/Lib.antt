@@ -1,3 +1,5 @@
 pub mod Relaid
 pub mod Written
+pub mod Fits
+pub mod Passing
 pub mod Laws

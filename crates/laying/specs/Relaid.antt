@@ -1,6 +1,6 @@
 -- Frames that are chosen of surveyed files, and the same frames in the slots of a plan with all main data laid anew (main_data_begin
 -- and main data, ISO/IEC 11172-3 and 13818-3, 2.4.2.7).
-use Rattle.std.specs.Prelude.{◌≡◌, ℕ, ◌+◌, ◌-◌, ◌*◌, ◌/◌, ◌<◌, ◌≤◌, if◌then◌else◌, false, List, [], ◌∷◌, ◌++◌, length, map, slice_range, Contains, Ok}
+use Rattle.std.specs.Prelude.{◌≡◌, ℕ, ◌+◌, ◌-◌, ◌*◌, ◌/◌, ◌<◌, ◌≤◌, if◌then◌else◌, false, List, [], ◌∷◌, ◌++◌, length, map, slice_range, Contains, Ok, Bool, true}
 use Rattle.std.specs.List.{enumerate_from}
 use Rattle.bit_fields.specs.Bits.{bytes}
 use Rattle.frame_header.specs.Fields.{SlotFields, HeaderFields, ClassFields, IsSlot, IsHeader}
@@ -74,14 +74,25 @@ abbrev pub moved_to : Placed → Frame → Frame
 moved_to p f = record { kept = record { header = record f.kept.header { slot = p.slot }; side = record f.kept.side { main_data_begin = p.begin } }; payload = f.payload }
 
 -- a lead-in: an empty frame without a check word, else with the header of the frame behind it
+abbrev pub lead_in_before : Placed → HeaderFields → Frame
+lead_in_before p h = record { kept = record { header = record h { protected = false; slot = p.slot }; side = record no_side { main_data_begin = p.begin } }; payload = [] }
+
 abbrev pub lead_in_to : Placed → Frame → Frame
-lead_in_to p behind = record { kept = record { header = record behind.kept.header { protected = false; slot = p.slot }; side = record no_side { main_data_begin = p.begin } }; payload = [] }
+lead_in_to p behind = lead_in_before p behind.kept.header
+
+abbrev pub placed_as : Placed → Frame → Frame
+placed_as p f = if p.lead_in then lead_in_to p f else moved_to p f
+
+-- what is left behind a lead-in is all, behind a frame the others
+abbrev pub left_behind : {X : Type 0} → Bool → X → List X → List X
+left_behind true x xs = x ∷ xs
+left_behind false x xs = xs
 
 -- the lead-ins and frames of a plan, in order
 unfoldable pub relaid : List Frame → List Placed → List Frame
 relaid [] placed = []
 relaid (f ∷ frames) [] = []
-relaid (f ∷ frames) (p ∷ placed) = if p.lead_in then lead_in_to p f ∷ relaid (f ∷ frames) placed else moved_to p f ∷ relaid frames placed
+relaid (f ∷ frames) (p ∷ placed) = placed_as p f ∷ relaid (left_behind p.lead_in f frames) placed
 
 -- ---- their stream
 
@@ -97,7 +108,7 @@ silent_before behind = record {
 unfoldable pub with_lead_ins : List Placed → List StreamFrame → List StreamFrame
 with_lead_ins placed [] = []
 with_lead_ins [] (f ∷ stream) = []
-with_lead_ins (p ∷ placed) (f ∷ stream) = if p.lead_in then silent_before f ∷ with_lead_ins placed (f ∷ stream) else f ∷ with_lead_ins placed stream
+with_lead_ins (p ∷ placed) (f ∷ stream) = (if p.lead_in then silent_before f else f) ∷ with_lead_ins placed (left_behind p.lead_in f stream)
 
 -- the slots among which frames choose are slots
 abbrev pub AreSlots : (HeaderFields → List SlotFields) → Type 0

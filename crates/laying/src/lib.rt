@@ -2,5 +2,7 @@
 #![tactic(auto)]
 
 mod laws;
+mod relay;
 
 pub use laws::{blocks_are_kept, entries_hold, files_hold};
+pub use relay::{PassFault, Relay};

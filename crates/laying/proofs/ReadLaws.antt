@@ -1,0 +1,182 @@
+-- The main data of frames as they are read, area by area.
+use Rattle.std.proofs.Common.{◌≡◌, ℕ, zero, suc, min, ◌+◌, ◌-◌, ◌*◌, ◌/◌, ◌≤◌, cond, Bool, true, false, List, [], ◌∷◌, ◌++◌, length, take, drop, Option, Some, Ok, refl, sym, ◌∙◌, ap, ap₂, subst, arith, length-drop, append-nil, append_assoc}
+use Rattle.std.specs.Prelude.{flat_map, slice_get, sum_by, nat_lt, replicate, Result, Err}
+use Rattle.std.proofs.lemmas.Bool.{ltb-false}
+use Rattle.std.proofs.lemmas.List.{length-take-le, take-append-drop, take-append-le, drop-append-le}
+use Rattle.std.proofs.lemmas.List.Sums.{sum_by-cons}
+use Rattle.bit_fields.specs.Bits.{bits, bytes, AreBits, AreBytes}
+use Rattle.bit_fields.proofs.BitsLaws.{length-bits, bits-append, bits-injective, AreBits-take, AreBits-drop, AreBits-bits}
+use Rattle.frame_header.specs.declared.version.Version.{Version}
+use Rattle.frame_header.specs.declared.version.Version.TheVariants.{One, Two, TwoFive}
+use Rattle.frame_header.specs.Fields.{ClassFields}
+use Rattle.frame_header.specs.Tables.{class_of, length_of, window_of}
+use Rattle.side_info.specs.declared.side.Side.{Side}
+use Rattle.side_info.specs.Side.{no_side, payload_bits, payload_bytes}
+use Rattle.reservoir.specs.Window.{IsWindowOver, main_bits, ArePacked}
+use Rattle.frame_writer.specs.Laid.{zeros}
+use Rattle.part_needs.proofs.BeginLaws.{begin-near}
+use Rattle.sync_survey.specs.declared.places.Head.{Head}
+use Rattle.sync_survey.specs.declared.rows.Row.{Row}
+use Rattle.sync_survey.specs.declared.survey_fault.SurveyFault.{SurveyFault}
+use Rattle.sync_survey.specs.declared.survey_fault.SurveyFault.TheVariants.{TooLong}
+use Rattle.sync_survey.specs.MainData.{own_area, head_area, place, end_before, start_of_data, end_of_data, area_bytes, head_bytes, main_bytes, payload_at}
+use Rattle.sync_survey.specs.Faults.{SurveyFields, surveyed, longest_file}
+use Rattle.sync_survey.specs.Survey.{survey_of, AreLaid, IsWellPlaced}
+use Rattle.sync_survey.proofs.SurveyParts.{surveyed-parts, data-none_well}
+use Rattle.laying.specs.Relaid.{packed, payload_of}
+use Rattle.laying.specs.Passing.{HasSurvey}
+use Rattle.laying.proofs.ChosenFrames.{packed-bits, packed-bytes, filling}
+
+-- ---- the survey of a file
+
+surveyed_by : (b : Bool) (r : Result SurveyFields SurveyFault) (n : ℕ) (s : SurveyFields) → cond b (Err (TooLong n)) r ≡ Ok s → r ≡ Ok s
+surveyed_by true r n s e = absurd cc
+surveyed_by false r n s e = e
+
+pub survey-surveyed : (file : List ℕ) (allowed : ℕ) (s : SurveyFields) → survey_of file allowed ≡ Ok s → surveyed file allowed ≡ Ok s
+unfolding survey_of
+survey-surveyed file allowed s e = surveyed_by (nat_lt longest_file (length file)) (surveyed file allowed) (length file) s e
+
+pub survey-length : (file : List ℕ) (s : SurveyFields) → HasSurvey file s → length file ≡ s.length
+survey-length file s has = ap (λ (t : SurveyFields). t.length) (surveyed-parts file has.0 s (survey-surveyed file has.0 s has.1)).2
+
+-- ---- a frame within the file
+
+pub laid-behind : (from to : ℕ) (rows : List Row) → AreLaid from rows to → from ≤ to
+laid-behind from to [] laid = laid
+laid-behind from to (r ∷ rows) laid = omega (arith, laid.0, laid-behind (r.offset + length_of (class_of r.header) r.header.slot) to rows laid.2)
+
+pub laid-within : (from to : ℕ) (rows : List Row) (i : ℕ) (r : Row) → AreLaid from rows to → slice_get rows i ≡ Some r → r.offset + length_of (class_of r.header) r.header.slot ≤ to
+laid-within from to [] i r laid is = absurd cc
+laid-within from to (q ∷ rows) zero r laid is =
+    let same : q ≡ r = cc in
+    subst (λ (x : Row). x.offset + length_of (class_of x.header) x.header.slot ≤ to) same (laid-behind (q.offset + length_of (class_of q.header) q.header.slot) to rows laid.2)
+laid-within from to (q ∷ rows) (suc i) r laid is = laid-within (q.offset + length_of (class_of q.header) q.header.slot) to rows i r laid.2 is
+
+-- ---- one area more
+
+take-next : (rows : List Row) (i : ℕ) (r : Row) → slice_get rows i ≡ Some r → take (i + 1) rows ≡ take i rows ++ r ∷ []
+take-next [] i r is = absurd cc
+take-next (q ∷ rows) zero r is = ap (λ (x : Row). x ∷ []) cc
+take-next (q ∷ rows) (suc i) r is =
+    let more : suc i + 1 ≡ suc (i + 1) = omega arith in
+    ap (λ n. take n (q ∷ rows)) more ∙ ap (λ (l : List Row). q ∷ l) (take-next rows i r is)
+
+sum-last : (rows : List Row) (r : Row) → sum_by (λ (q : Row). own_area q.header) (rows ++ r ∷ []) ≡ sum_by (λ (q : Row). own_area q.header) rows + own_area r.header
+sum-last [] r = sum_by-cons (λ (q : Row). own_area q.header) r [] ∙ omega arith
+sum-last (q ∷ rows) r =
+    sum_by-cons (λ (x : Row). own_area x.header) q (rows ++ r ∷ []) ∙ ap (λ n. own_area q.header + n) (sum-last rows r) ∙ omega (arith, sum_by-cons (λ (x : Row). own_area x.header) q rows)
+
+areas-last : (file : List ℕ) (rows : List Row) (r : Row) → flat_map (λ (q : Row). area_bytes file q.offset q.header) (rows ++ r ∷ []) ≡ flat_map (λ (q : Row). area_bytes file q.offset q.header) rows ++ area_bytes file r.offset r.header
+areas-last file [] r = append-nil (area_bytes file r.offset r.header)
+areas-last file (q ∷ rows) r =
+    ap (λ (l : List ℕ). area_bytes file q.offset q.header ++ l) (areas-last file rows r)
+    ∙ sym (append_assoc (area_bytes file q.offset q.header) (flat_map (λ (x : Row). area_bytes file x.offset x.header) rows) (area_bytes file r.offset r.header))
+
+pub place-next : (head : Option Head) (rows : List Row) (i : ℕ) (r : Row) → slice_get rows i ≡ Some r → place head rows (i + 1) ≡ place head rows i + own_area r.header
+unfolding place
+place-next head rows i r is = ap (λ (l : List Row). head_area head + sum_by (λ (q : Row). own_area q.header) l) (take-next rows i r is) ∙ ap (λ n. head_area head + n) (sum-last (take i rows) r) ∙ omega arith
+
+pub main-next : (file : List ℕ) (head : Option Head) (rows : List Row) (i : ℕ) (r : Row) → slice_get rows i ≡ Some r → main_bytes file head (take (i + 1) rows) ≡ main_bytes file head (take i rows) ++ area_bytes file r.offset r.header
+unfolding main_bytes
+main-next file head rows i r is =
+    ap (λ (l : List Row). head_bytes file head ++ flat_map (λ (q : Row). area_bytes file q.offset q.header) l) (take-next rows i r is)
+    ∙ ap (λ (l : List ℕ). head_bytes file head ++ l) (areas-last file (take i rows) r)
+    ∙ sym (append_assoc (head_bytes file head) (flat_map (λ (q : Row). area_bytes file q.offset q.header) (take i rows)) (area_bytes file r.offset r.header))
+
+-- the main data of the first frames are the first of all
+areas-append : (file : List ℕ) (rows more : List Row) → flat_map (λ (q : Row). area_bytes file q.offset q.header) (rows ++ more) ≡ flat_map (λ (q : Row). area_bytes file q.offset q.header) rows ++ flat_map (λ (q : Row). area_bytes file q.offset q.header) more
+areas-append file [] more = refl
+areas-append file (q ∷ rows) more =
+    ap (λ (l : List ℕ). area_bytes file q.offset q.header ++ l) (areas-append file rows more)
+    ∙ sym (append_assoc (area_bytes file q.offset q.header) (flat_map (λ (x : Row). area_bytes file x.offset x.header) rows) (flat_map (λ (x : Row). area_bytes file x.offset x.header) more))
+
+pub main-front : (file : List ℕ) (head : Option Head) (rows : List Row) (n : ℕ) → (rest : List ℕ) × (main_bytes file head rows ≡ main_bytes file head (take n rows) ++ rest)
+unfolding main_bytes
+main-front file head rows n =
+    let areas = λ (l : List Row). flat_map (λ (q : Row). area_bytes file q.offset q.header) l in (
+      areas (drop n rows),
+      ap (λ (l : List Row). head_bytes file head ++ areas l) (sym (take-append-drop n rows))
+          ∙ ap (λ (l : List ℕ). head_bytes file head ++ l) (areas-append file (take n rows) (drop n rows))
+          ∙ sym (append_assoc (head_bytes file head) (areas (take n rows)) (areas (drop n rows))),
+    )
+
+-- ---- the main data of one frame in a window
+
+-- where they stand and how far a window has to reach
+pub record IsWithin (head : Option Head) (rows : List Row) (i : ℕ) (r : Row) : Type 0 where
+  pub begins : r.side.main_data_begin ≤ place head rows i
+  pub near : r.side.main_data_begin ≤ 511
+  pub ends : payload_bytes r.side ≤ own_area r.header + r.side.main_data_begin
+
+window_most : (c : ClassFields) → window_of c.version ≤ 511
+window_most c = by_version c.version
+  where
+    by_version : (v : Version) → window_of v ≤ 511
+    by_version One = omega arith
+    by_version Two = omega arith
+    by_version TwoFive = omega arith
+
+pub data-within : (head : Option Head) (c : ClassFields) (rows : List Row) (i : ℕ) (r : Row) → IsWellPlaced head c rows i r → r.lost ≡ false → IsWithin head rows i r
+data-within head c rows i r is kept =
+    let stands = data-none_well (place head rows i) (end_before head rows i) r is.sound (sym is.mark ∙ kept) in
+    let begins : r.side.main_data_begin ≤ place head rows i = ltb-false (place head rows i) r.side.main_data_begin stands.begins in
+    record {
+      begins = begins;
+      near = omega (arith, begin-near c r.side is.fits, window_most c);
+      ends = omega (arith, begins, ltb-false (place head rows i + own_area r.header) (end_of_data (place head rows i) r) stands.within);
+    }
+
+pub bits-least : (n : ℕ) → n ≤ 8 * ((n + 7) / 8)
+bits-least n = omega arith
+
+-- bits of the first bytes are those of all
+front-bits : (main rest : List ℕ) (start count : ℕ) → 8 * start + count ≤ 8 * length main → take count (drop (8 * start) (bits (main ++ rest))) ≡ take count (drop (8 * start) (bits main))
+front-bits main rest start count within =
+    ap (λ (l : List ℕ). take count (drop (8 * start) l)) (bits-append main rest)
+    ∙ ap (take count) (drop-append-le (8 * start) (bits main) (bits rest) (omega (arith, within, length-bits main)))
+    ∙ take-append-le count (drop (8 * start) (bits main)) (bits rest) (omega (arith, within, length-bits main, length-drop (8 * start) (bits main)))
+
+-- bytes that hold these bits are the bits packed
+pub packed-is : (new bs : List ℕ) (count : ℕ) → AreBytes new → AreBits bs → length bs ≡ count → ArePacked new count bs → new ≡ packed bs
+packed-is new bs count octets are many is =
+    let same : replicate (8 * length new - count) 0 ≡ filling bs are = ap₂ (λ m n. zeros (8 * m - n)) (is.few ∙ ap (λ n. (n + 7) / 8) (sym many)) (sym many) in
+    bits-injective new (packed bs) octets (packed-bytes bs are) (is.same ∙ ap (λ (l : List ℕ). bs ++ l) same ∙ sym (packed-bits bs are))
+
+pub cut-is : (file main new : List ℕ) (s : SurveyFields) (i : ℕ) (r : Row) (area begin count : ℕ) → slice_get s.frames i ≡ Some r → r.lost ≡ false → IsWithin s.head s.frames i r
+    → length main ≡ place s.head s.frames (i + 1) → main ≡ main_bytes file s.head (take (i + 1) s.frames) → area ≡ own_area r.header → begin ≡ r.side.main_data_begin → count ≡ payload_bits r.side
+    → count ≤ 8 * payload_bytes r.side → AreBytes new → ArePacked new count (main_bits main (length main - area - begin) count) → new ≡ payload_of file s i r
+cut-is file main new s i r area begin count found kept within long is area_is begin_is count_is least octets cut =
+    let front = main-front file s.head s.frames (i + 1) in
+    let start : length main - area - begin ≡ start_of_data (place s.head s.frames i) r = omega (arith, long, place-next s.head s.frames i r found, area_is, begin_is) in
+    let at = start_of_data (place s.head s.frames i) r in
+    let reach : 8 * at + payload_bits r.side ≤ 8 * length main = omega (arith, long, place-next s.head s.frames i r found, within.begins, within.ends, least, count_is) in
+    let bits_are : main_bits main (length main - area - begin) count ≡ payload_at (main_bytes file s.head s.frames) at r.side =
+    ap₂ (λ n m. take m (drop (8 * n) (bits main))) start count_is
+    ∙ sym (front-bits main front.0 at (payload_bits r.side) reach)
+    ∙ ap (λ (l : List ℕ). take (payload_bits r.side) (drop (8 * at) (bits l))) (ap (λ (l : List ℕ). l ++ front.0) is ∙ sym front.1) in
+    let own = main_bits main (length main - area - begin) count in
+    let are : AreBits own = AreBits-take count (drop (8 * (length main - area - begin)) (bits main)) (AreBits-drop (8 * (length main - area - begin)) (bits main) (AreBits-bits main)) in
+    let many : length own ≡ count = length-take-le count (drop (8 * (length main - area - begin)) (bits main)) (omega (arith, start, reach, count_is, length-bits main, length-drop (8 * (length main - area - begin)) (bits main))) in
+    packed-is new own count octets are many cut
+    ∙ ap packed bits_are
+    ∙ ap (λ lost. packed (payload_at (main_bytes file s.head s.frames) at (cond lost no_side r.side))) (sym kept)
+
+-- a lost frame has none
+no_data : (main : List ℕ) (at : ℕ) → [] ≡ packed (payload_at main at no_side)
+unfolding bytes payload_bits
+no_data main at = refl
+
+pub lost-is : (file : List ℕ) (s : SurveyFields) (i : ℕ) (r : Row) → r.lost ≡ true → [] ≡ payload_of file s i r
+lost-is file s i r lost =
+    let at = start_of_data (place s.head s.frames i) r in
+    no_data (main_bytes file s.head s.frames) at ∙ ap (λ b. packed (payload_at (main_bytes file s.head s.frames) at (cond b no_side r.side))) (sym lost)
+
+-- a window over so many bytes holds as many, or 2,048
+pub window-holds : (held main : List ℕ) → IsWindowOver held main → min 2048 (length main) ≤ length held
+window-holds held main is = omega (arith, ap length is ∙ length-drop (length main - 2048) main)
+
+-- a number of bits in bytes
+pub bytes-are : (s : Side) → payload_bytes s ≡ (payload_bits s + 7) / 8
+unfolding payload_bytes
+bytes-are s = refl

@@ -1,0 +1,98 @@
+-- The frame is read, and given to the writer in its slot.
+use Rattle.std.proofs.Common.{◌≡◌, ℕ, ◌+◌, ◌-◌, ◌≤◌, min, List, [], ◌∷◌, length, sym, ◌∙◌, ap, subst, arith}
+use Rattle.frame_header.specs.Fields.{ClassFields, HeaderFields}
+use Rattle.frame_header.specs.Tables.{class_of, area_of, window_of}
+use Rattle.side_info.specs.declared.side.Side.{Side}
+use Rattle.side_info.specs.Side.{SideFits}
+use Rattle.outside.specs.Files.{Holds}
+use Rattle.outside.proofs.PassedLaws.{on_err}
+use Rattle.frame_writer.specs.Frames.{reach_of}
+use Rattle.frame_writer.proofs.WritingLaws.{ok-map, err-map}
+use Rattle.sync_survey.specs.MainData.{side_of}
+use Rattle.sync_survey.specs.Faults.{tells}
+use Rattle.part_needs.specs.Needs.{need_of}
+use Rattle.laying.specs.Relaid.{frame_of, moved_to}
+use Rattle.laying.specs.Passing.{Lays, LaysPart}
+use Rattle.laying.proofs.PlannedFrames.{begun_fits}
+use Rattle.laying.proofs.ChosenFrames.{side_fits}
+use Rattle.laying.proofs.PassLaws.{ready-later, over-later, lays_one, part_one, part_none}
+use Rattle.laying.proofs.relay.Relay.frame.Goals as goal
+
+-- how far back main data may begin behind a frame
+abbrev behind : ClassFields → HeaderFields → ℕ → ℕ → ℕ
+behind c h begin bytes = min (window_of c.version) (begin + area_of (class_of h) h.slot h.protected - bytes)
+
+pub returns-in_err-read_area-clause-part : goal.returns-in_err-read_area-clause-part
+returns-in_err-read_area-clause-part g c =
+    let self = c.args.self.now in
+    let s = tells self.survey.now in
+    let files = g.D.Folder.files in
+    let made = λ (file : List ℕ). moved_to c.args.place.now (frame_of file s c.args.i c.args.row.now) ∷ [] in
+    let near : c.args.place.now.begin ≤ c.args.writer.now.held.waiting.free = omega (arith, c.requires.begin) in
+    on_err c.from_residual.result
+    (subst (λ f. LaysPart self.input.now self.output.now made (behind s.class (record c.args.row.now.header { slot = c.args.place.now.slot }) c.args.place.now.begin (need_of c.args.row.now).bytes) c.args.writer.now (files c.args.folder.now) f) (sym c.read_area.ensures.files)
+    (part_none self.input.now self.output.now made (behind s.class (record c.args.row.now.header { slot = c.args.place.now.slot }) c.args.place.now.begin (need_of c.args.row.now).bytes) c.args.writer.now (files c.args.folder.now) c.requires.ready.target (λ file holds more begins. near)))
+
+pub write_frame-requires-clause-fits : goal.write_frame-requires-clause-fits
+write_frame-requires-clause-fits g c =
+    let s = tells c.args.self.now.survey.now in
+    let row = c.args.row.now in
+    let class = c.args.writer.now.held.class in
+    let well = c.requires.ready.laid.placed c.args.i row c.requires.found in
+    subst (SideFits class) (sym (c.with_begin-side.ensures ∙ ap (λ (t : Side). record t { main_data_begin = c.args.place.now.begin }) c.side_of.ensures))
+    (begun_fits class (side_of row) c.args.place.now.begin (subst (λ d. SideFits d (side_of row)) (sym c.requires.class) (side_fits s.class row.lost row.side well.fits)) (omega (arith, c.requires.begin)))
+
+pub returns-clause-lays : goal.returns-clause-lays
+returns-clause-lays g c =
+    let self = c.args.self.now in
+    let s = tells self.survey.now in
+    let files = g.D.Folder.files in
+    let over = c.in_ok-read_area.ensures.over in
+    let made = λ (file : List ℕ). moved_to c.args.place.now (frame_of file s c.args.i c.args.row.now) ∷ [] in
+    let side = c.with_begin-side.ensures ∙ ap (λ (t : Side). record t { main_data_begin = c.args.place.now.begin }) c.side_of.ensures in
+    let told : (file : List ℕ) → Holds (files c.read_area.new.folder) self.input.now file → (record { kept = record { header = c.with_slot-header.result; side = c.with_begin-side.result }; payload = c.as_slice.result.now }) ∷ [] ≡ made file =
+    λ file holds.
+    let payload = c.as_slice.ensures.value ∙ c.cut_payload.ensures.told file over.main over.held over.long (over.is file holds) in
+    let header = c.with_slot-header.ensures in
+    λ j. (record { kept = record { header = header j; side = side j }; payload = payload j }) ∷ [] in
+    ok-map c.write_frame.result
+    (λ on. subst (λ f. Lays self.input.now self.output.now made c.args.writer.now c.write_frame.new.writer f (files c.write_frame.new.folder)) c.read_area.ensures.files
+    (lays_one self.input.now self.output.now made _ c.args.writer.now c.write_frame.new.writer (files c.read_area.new.folder) (files c.write_frame.new.folder) told on))
+    c.write_frame.ensures.written
+
+pub returns-clause-part : goal.returns-clause-part
+returns-clause-part g c =
+    let self = c.args.self.now in
+    let s = tells self.survey.now in
+    let files = g.D.Folder.files in
+    let over = c.in_ok-read_area.ensures.over in
+    let made = λ (file : List ℕ). moved_to c.args.place.now (frame_of file s c.args.i c.args.row.now) ∷ [] in
+    let side = c.with_begin-side.ensures ∙ ap (λ (t : Side). record t { main_data_begin = c.args.place.now.begin }) c.side_of.ensures in
+    let header = c.with_slot-header.ensures in
+    let size : length c.as_slice.result.now ≡ (need_of c.args.row.now).bytes = ap length c.as_slice.ensures.value ∙ c.cut_payload.ensures.size in
+    let begin : c.with_begin-side.result.main_data_begin ≡ c.args.place.now.begin = ap (λ (t : Side). t.main_data_begin) side in
+    let class = c.requires.class in
+    let reach : reach_of c.write_frame.new.writer.held ≡ behind s.class (record c.args.row.now.header { slot = c.args.place.now.slot }) c.args.place.now.begin (need_of c.args.row.now).bytes =
+    c.write_frame.ensures.reach ∙ (λ j. behind (class j) (header j) (begin j) (size j)) in
+    let told : (file : List ℕ) → Holds (files c.read_area.new.folder) self.input.now file → (record { kept = record { header = c.with_slot-header.result; side = c.with_begin-side.result }; payload = c.as_slice.result.now }) ∷ [] ≡ made file =
+    λ file holds.
+    let payload = c.as_slice.ensures.value ∙ c.cut_payload.ensures.told file over.main over.held over.long (over.is file holds) in
+    λ j. (record { kept = record { header = header j; side = side j }; payload = payload j }) ∷ [] in
+    err-map c.write_frame.result
+    (λ part. subst (λ f. LaysPart self.input.now self.output.now made (behind s.class (record c.args.row.now.header { slot = c.args.place.now.slot }) c.args.place.now.begin (need_of c.args.row.now).bytes) c.args.writer.now f (files c.write_frame.new.folder)) c.read_area.ensures.files
+    (part_one self.input.now self.output.now made (behind s.class (record c.args.row.now.header { slot = c.args.place.now.slot }) c.args.place.now.begin (need_of c.args.row.now).bytes) _ c.args.writer.now c.write_frame.new.writer.held (files c.read_area.new.folder) (files c.write_frame.new.folder) told (omega (arith, reach)) part))
+    c.write_frame.ensures.part
+
+pub returns-clause-over : goal.returns-clause-over
+returns-clause-over g c =
+    let self = c.args.self.now in
+    ok-map c.write_frame.result
+    (λ on. over-later c.read_area.new.window self.input.now self.output.now (tells self.survey.now) (c.args.i + 1) _ _ on.passed c.requires.ready.apart on.files c.in_ok-read_area.ensures.over)
+    c.write_frame.ensures.written
+
+pub returns-clause-ready : goal.returns-clause-ready
+returns-clause-ready g c =
+    let self = c.args.self.now in
+    ok-map c.write_frame.result
+    (λ on. ready-later self.input.now self.output.now (tells self.survey.now) _ _ c.read_area.new.feed on.passed on.files c.in_ok-read_area.ensures.ready)
+    c.write_frame.ensures.written
