@@ -91,7 +91,7 @@ unfolding marked
 marked-whole file head rows are = marks-whole file head rows 0 rows are
 
 -- the head is a whole frame too
-abbrev IsWholeHead : List ℕ → Option Head → Type 0
+abbrev pub IsWholeHead : List ℕ → Option Head → Type 0
 IsWholeHead file None = Unit {0}
 IsWholeHead file (Some head) = IsWholeAt file head.offset head.header
 

@@ -4,3 +4,5 @@ pub mod HoldLaws
 pub mod ReadLaws
 pub mod PassLaws
 pub mod RelayLaws
+pub mod FitLaws
+pub mod EndLaws

@@ -25,7 +25,7 @@ use Rattle.sync_survey.specs.Survey.{survey_of, AreLaid, IsWellPlaced}
 use Rattle.sync_survey.proofs.SurveyParts.{surveyed-parts, data-none_well}
 use Rattle.laying.specs.Relaid.{packed, payload_of}
 use Rattle.laying.specs.Passing.{HasSurvey}
-use Rattle.laying.proofs.ChosenFrames.{packed-bits, packed-bytes, filling}
+use Rattle.laying.proofs.ChosenFrames.{IsWholeHead, surveyed-whole, packed-bits, packed-bytes, filling}
 
 -- ---- the survey of a file
 
@@ -180,3 +180,20 @@ window-holds held main is = omega (arith, ap length is ∙ length-drop (length m
 pub bytes-are : (s : Side) → payload_bytes s ≡ (payload_bits s + 7) / 8
 unfolding payload_bytes
 bytes-are s = refl
+
+-- ---- before the first frame
+
+pub place-first : (head : Option Head) (rows : List Row) → place head rows 0 ≡ head_area head
+unfolding place
+place-first head rows = omega arith
+
+pub main-first : (file : List ℕ) (head : Option Head) (rows : List Row) → main_bytes file head (take 0 rows) ≡ head_bytes file head
+unfolding main_bytes
+main-first file head rows = append-nil (head_bytes file head)
+
+-- the head of a file that is told is within it
+pub head-within : (file : List ℕ) (s : SurveyFields) (head : Head) → HasSurvey file s → s.head ≡ Some head → head.offset + length_of (class_of head.header) head.header.slot ≤ s.length
+head-within file s head has is =
+    let whole = surveyed-whole file has.0 s (survey-surveyed file has.0 s has.1) in
+    let own : IsWholeHead file (Some head) = subst (IsWholeHead file) is whole.head in
+    omega (arith, own.within, survey-length file s has)

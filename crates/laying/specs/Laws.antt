@@ -11,6 +11,9 @@ use Rattle.sync_survey.specs.Faults.{SurveyFields, surveyed, HoldsStream}
 use Rattle.laid_files.specs.LaidFiles.{IsBlocks, AreEntries, entry_of, HasInfoSizes, laid_file}
 use Rattle.sync_survey.specs.MainData.{StreamFrame}
 use Rattle.laying.specs.Written.{front_blocks, back_blocks}
+use Rattle.part_needs.specs.Needs.{need_of, needs_of}
+use Rattle.sync_survey.specs.declared.rows.Row.{Row}
+use Rattle.laying.specs.Fits.{FitsFrom}
 use Rattle.laying.specs.Relaid.{Part, frames_in, stream_in, AreParts, needs_in, AreSlots, relaid, with_lead_ins}
 
 -- there are frames; they are of this class, their main data can be laid as they say, and this is what they are in a stream
@@ -36,3 +39,9 @@ FilesHold =
 -- the blocks of a file without fault that are kept may stand in such a file
 abbrev pub BlocksAreKept : Type 0
 BlocksAreKept = (file : List ℕ) (allowed : ℕ) (s : SurveyFields) → surveyed file allowed ≡ Ok s → IsBlocks (front_blocks file s) × IsBlocks (back_blocks file s)
+
+-- a plan of parts can be written frame by frame, behind no frames
+abbrev pub PlansFit : Type 0
+PlansFit =
+    (window : ℕ) (choices : HeaderFields → List SlotFields) (parts : List (List Row)) (placed : List Placed) → IsPlan window choices (map (map need_of) parts) placed
+    → FitsFrom window 0 (needs_of parts) placed

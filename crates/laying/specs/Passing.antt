@@ -58,6 +58,18 @@ pub record LaysPart (input output : List ℕ) (made : List ℕ → List Frame) (
   pub is : (file : List ℕ) → Holds before input file → (more : List Frame) → BeginsWithin reach (pieces more)
       → (rest : List Frame) × (done ++ rest ≡ made file ++ more) × BeginsWithin held.waiting.free (pieces rest)
 
+-- The output has more bytes at its end: where the input is told, they are made of its bytes so.
+pub record Appends (input output : List ℕ) (made : List ℕ → List ℕ) (before after : Files) : Type 0 where
+  pub bytes : List ℕ
+  pub is : (file : List ℕ) → Holds before input file → bytes ≡ made file
+  pub files : after ≡ appended before output bytes
+
+-- only a prefix of them
+pub record AppendsPrefix (input output : List ℕ) (made : List ℕ → List ℕ) (before after : Files) : Type 0 where
+  pub bytes : List ℕ
+  pub prefix : (file : List ℕ) → Holds before input file → bytes ≡ take (length bytes) (made file)
+  pub files : after ≡ appended before output bytes
+
 -- The cause of a fault: the count that is named rose, and no count of the other kind. An input of which nothing is told had the first
 -- length, and a read at the second gave no byte.
 abbrev pub HasPassCause : ℕ → Files → Counts → Counts → PassFault → Type 0

@@ -1,5 +1,5 @@
 //! Laws of files of chosen frames. Each function does nothing: a proof that needs its law calls it.
-ghost use Rattle.laying.specs.Laws.{EntriesHold, FilesHold, BlocksAreKept};
+ghost use Rattle.laying.specs.Laws.{EntriesHold, FilesHold, BlocksAreKept, PlansFit};
 
 /// The frames of parts of files without fault, in the slots and with the main_data_begin of their plan, are of the class, and
 /// their main data can be laid so. In a stream they are the plan's lead-ins, and each chosen frame as it is in the stream of its
@@ -19,4 +19,11 @@ pub fn files_hold()
 /// file.
 pub fn blocks_are_kept()
     ensures { BlocksAreKept }
+{}
+
+/// A plan of parts can be written frame by frame: no main_data_begin reaches back before the end of the main data before,
+/// or further than the window, and no main data end behind their own area (main_data_begin, ISO/IEC 11172-3 and 13818-3,
+/// 2.4.2.7).
+pub fn plans_fit()
+    ensures { PlansFit }
 {}

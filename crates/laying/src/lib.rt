@@ -4,5 +4,5 @@
 mod laws;
 mod relay;
 
-pub use laws::{blocks_are_kept, entries_hold, files_hold};
+pub use laws::{blocks_are_kept, entries_hold, files_hold, plans_fit};
 pub use relay::{PassFault, Relay};

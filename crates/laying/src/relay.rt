@@ -2,11 +2,12 @@
 ghost use Rattle.std.specs.Prelude.{◌≡◌, ◌≢◌, false, if◌then◌else◌, ◌+◌, ◌-◌, ◌^◌, ◌<◌, ◌≤◌, ◌++◌, min, List, ℕ, [], ◌∷◌, length, take, drop, map, slice_range, slice_get, Some, Ok, IfOk, IfErr, OnOk, OnErr};
 ghost use Rattle.bit_fields.specs.Bits.{AreBytes};
 ghost use Rattle.frame_header.specs.Tables.{class_of, area_of, overhead_of, window_of};
-ghost use Rattle.outside.specs.Files.{Holds, IsThere};
+ghost use Rattle.outside.specs.Files.{appended, Holds, IsThere};
+ghost use Rattle.outside.specs.Passed.{AppendedPrefix};
 ghost use Rattle.slot_plan.specs.declared.needs.Need.{Need};
 ghost use Rattle.side_info.specs.Side.{SideFits};
-ghost use Rattle.frame_writer.specs.Frames.{Frame, reach_of, IsNextSettled};
-ghost use Rattle.frame_writer.specs.Writing.{WritesOn, WritesPart};
+ghost use Rattle.frame_writer.specs.Frames.{Frame, frame_bytes, reach_of, IsNextSettled};
+ghost use Rattle.frame_writer.specs.Writing.{waiting_bytes, IsWriterOf, WritesOn, WritesPart};
 ghost use Rattle.sync_survey.specs.Faults.{tells};
 ghost use Rattle.sync_survey.specs.MainData.{place, main_bytes, side_of as side_of_lem};
 ghost use Rattle.sync_survey.specs.Survey.{AreWellPlaced};
@@ -14,7 +15,7 @@ ghost use Rattle.reservoir.specs.Window.{IsWindowOver};
 ghost use Rattle.part_needs.specs.Needs.{need_of};
 ghost use Rattle.laying.specs.Relaid.{payload_of, frame_of, all_frames, moved_to, lead_in_before, placed_as, relaid};
 ghost use Rattle.laying.specs.Fits.{bytes_at, area_at, reach_behind, FitsFrom, last_reach};
-ghost use Rattle.laying.specs.Passing.{Reaches, IsReady, IsOver, Lays, LaysPart, HasPassCause};
+ghost use Rattle.laying.specs.Passing.{Reaches, Appends, AppendsPrefix, IsReady, IsOver, Lays, LaysPart, HasPassCause};
 
 use arrayvec::ArrayVec;
 use frame_header::Header;
@@ -159,6 +160,65 @@ impl<'a> Relay<'a> {
         Ok(())
     }
 
+    /// Reads the area of the head, where there is one, into a window over nothing.
+    fn read_head<D: Folder>(
+        &self,
+        folder: &mut D,
+        feed: &mut Feed,
+        window: &mut Window,
+    ) -> Result<(), PassFault>
+        requires ready { IsReady self.now.input.now self.now.output.now (tells self.now.survey.now) (D.files folder.old) feed.old }
+        requires none { IsWindowOver window.old [] }
+        ensures over { OnOk result (IsOver window.new self.now.input.now (D.files folder.new) (tells self.now.survey.now) 0) }
+        ensures done { OnOk result (D.counts folder.new ≡ D.counts folder.old) }
+        ensures cause { IfErr result (HasPassCause (tells self.now.survey.now).length (D.files folder.old) (D.counts folder.old) (D.counts folder.new)) }
+        ensures files { D.files folder.new ≡ D.files folder.old }
+        ensures ready { IsReady self.now.input.now self.now.output.now (tells self.now.survey.now) (D.files folder.new) feed.new }
+    {
+        let Some(head) = self.survey.head() else {
+            return Ok(());
+        };
+        let area = head.header.area();
+        let at = head
+            .offset
+            .saturating_add(u64::from(overhead(&head.header)));
+        if at.saturating_add(u64::from(area)) > self.survey.length() {
+            // No file that is told has a head that passes its end.
+            window.push_area(&[0; 1441][..area as usize]);
+            return Ok(());
+        }
+        self.fill(folder, at, area as usize, feed)?;
+        window.push_area(feed.bytes());
+        Ok(())
+    }
+
+    /// Reads the areas of the head and of all frames before frame `i` into a window over nothing.
+    pub fn read_before<D: Folder>(
+        &self,
+        folder: &mut D,
+        i: usize,
+        feed: &mut Feed,
+        window: &mut Window,
+    ) -> Result<(), PassFault>
+        requires ready { IsReady self.now.input.now self.now.output.now (tells self.now.survey.now) (D.files folder.old) feed.old }
+        requires within { i ≤ length (tells self.now.survey.now).frames }
+        requires none { IsWindowOver window.old [] }
+        ensures over { OnOk result (IsOver window.new self.now.input.now (D.files folder.new) (tells self.now.survey.now) i) }
+        ensures done { OnOk result (D.counts folder.new ≡ D.counts folder.old) }
+        ensures cause { IfErr result (HasPassCause (tells self.now.survey.now).length (D.files folder.old) (D.counts folder.old) (D.counts folder.new)) }
+        ensures files { D.files folder.new ≡ D.files folder.old }
+        ensures ready { IsReady self.now.input.now self.now.output.now (tells self.now.survey.now) (D.files folder.new) feed.new }
+    {
+        self.read_head(folder, feed, window)?;
+        let rows = self.survey.frames();
+        let mut at = 0;
+        while at < i {
+            self.read_area(folder, at, &rows[at], feed, window)?;
+            at += 1;
+        }
+        Ok(())
+    }
+
     /// Reads frame `i` and gives it to the writer.
     fn frame<D: Folder>(
         &self,
@@ -274,6 +334,56 @@ impl<'a> Relay<'a> {
             i = self.place(folder, i, row, place, feed, window, &mut payload, writer)?;
         }
         Ok(())
+    }
+
+    /// Hands on all that waits in the writer.
+    fn finish<D: Folder>(&self, folder: &mut D, writer: &mut Writer) -> Result<(), PassFault>
+        requires { IsThere (D.files folder.old) self.now.output.now }
+        ensures appended { OnOk result (D.files folder.new ≡ appended (D.files folder.old) self.now.output.now (waiting_bytes writer.old)) }
+        ensures prefix { OnErr result (AppendedPrefix self.now.output.now (waiting_bytes writer.old) (D.files folder.old) (D.files folder.new)) }
+        ensures done { OnOk result (D.counts folder.new ≡ D.counts folder.old) }
+        ensures cause { IfErr result (HasPassCause (tells self.now.survey.now).length (D.files folder.old) (D.counts folder.old) (D.counts folder.new)) }
+    {
+        match writer.finish(folder, self.output) {
+            Ok(()) => Ok(()),
+            Err(_) => Err(PassFault::Write),
+        }
+    }
+
+    /// Appends to the output the frames of the input from one on and before another, in the slots and with the lead-ins
+    /// of their plan, with all main data laid anew. The window and the writer are new. It takes no memory.
+    ///
+    /// # Errors
+    /// `Read` where a read failed; `Shrunk`, the length that the input was found with and the one that it had when it was
+    /// read, where a read gave no byte before that length; `Write` where a write failed. Then a prefix of the bytes, none to
+    /// all of them, was appended.
+    pub fn lay<D: Folder>(
+        &self,
+        folder: &mut D,
+        from: usize,
+        to: usize,
+        placed: &[Placed],
+        feed: &mut Feed,
+        window: &mut Window,
+        writer: &mut Writer,
+    ) -> Result<(), PassFault>
+        requires ready { IsReady self.now.input.now self.now.output.now (tells self.now.survey.now) (D.files folder.old) feed.old }
+        requires ordered { from ≤ to }
+        requires within { to ≤ length (tells self.now.survey.now).frames }
+        requires none { IsWindowOver window.old [] }
+        requires written { IsWriterOf [] writer.old [] }
+        requires free { writer.old.held.waiting.free ≡ 0 }
+        requires class { writer.old.held.class ≡ (tells self.now.survey.now).class }
+        requires fits { FitsFrom (window_of (tells self.now.survey.now).class.version) 0 (map need_of (slice_range (tells self.now.survey.now).frames from to)) placed.now }
+        requires unsettled { IsNextSettled writer.old.held → ⊥ }
+        ensures written { OnOk result (Appends self.now.input.now self.now.output.now (λ file. frame_bytes (relaid (slice_range (all_frames file (tells self.now.survey.now)) from to) placed.now)) (D.files folder.old) (D.files folder.new)) }
+        ensures prefix { OnErr result (AppendsPrefix self.now.input.now self.now.output.now (λ file. frame_bytes (relaid (slice_range (all_frames file (tells self.now.survey.now)) from to) placed.now)) (D.files folder.old) (D.files folder.new)) }
+        ensures done { OnOk result (D.counts folder.new ≡ D.counts folder.old) }
+        ensures cause { IfErr result (HasPassCause (tells self.now.survey.now).length (D.files folder.old) (D.counts folder.old) (D.counts folder.new)) }
+    {
+        self.read_before(folder, from, feed, window)?;
+        self.frames(folder, from, to, placed, feed, window, writer)?;
+        self.finish(folder, writer)
     }
 }
 

@@ -1,0 +1,97 @@
+-- A plan can be written frame by frame: its starts are as early as may be, so no later than those of a layout.
+use Rattle.std.proofs.Common.{◌≡◌, ℕ, ◌+◌, ◌-◌, ◌≤◌, min, cond, Bool, true, false, List, [], ◌∷◌, ◌++◌, map, get_or, drop, Option, Some, None, refl, sym, ap, ap₂, subst, arith}
+use Rattle.std.specs.Prelude.{max, flat_map}
+use Rattle.std.proofs.Math.Nat.{le-max_left, le-max_right, max-le}
+use Rattle.frame_header.specs.Fields.{SlotFields, HeaderFields}
+use Rattle.frame_header.specs.Tables.{class_of, area_of}
+use Rattle.slot_plan.specs.declared.needs.Need.{Need}
+use Rattle.slot_plan.specs.declared.needs.Placed.{Placed}
+use Rattle.slot_plan.specs.Layouts.{IsLayout, IsFeasible, begins_of}
+use Rattle.slot_plan.specs.Lists.{frames_of}
+use Rattle.slot_plan.specs.Parts.{Item, area_in, open_of, item_of, items_of, IsLeadIn, AreLeadIns, whole_of}
+use Rattle.slot_plan.specs.Plans.{AreFor, areas_in}
+use Rattle.part_needs.specs.Needs.{need_of, needs_of}
+use Rattle.sync_survey.specs.declared.rows.Row.{Row}
+use Rattle.laying.specs.Relaid.{left_behind}
+use Rattle.laying.specs.Fits.{bytes_at, reach_behind, FitsFrom}
+use Rattle.laying.specs.Laws.{PlansFit}
+
+-- ---- items of a plan, as they were asked for
+
+-- an item is the lead-in in front of this frame, or the frame
+abbrev IsAsked : Bool → Item → Need → Type 0
+IsAsked true item need = (item.class ≡ class_of need.header) × (item.protected ≡ false) × (item.bytes ≡ 0)
+IsAsked false item need = (item.class ≡ class_of need.header) × (item.protected ≡ need.header.protected) × (item.bytes ≡ need.bytes)
+
+abbrev Asks : List Item → List Need → Type 0
+Asks [] [] = Unit {0}
+Asks [] (need ∷ needs) = ⊥
+Asks (item ∷ items) [] = ⊥
+Asks (item ∷ items) (need ∷ needs) = IsAsked item.lead_in item need × Asks items (left_behind item.lead_in need needs)
+
+asked-area : (b : Bool) (item : Item) (need : Need) (slot : SlotFields) → IsAsked b item need → area_in item slot ≡ area_of (class_of need.header) slot (cond b false need.header.protected)
+asked-area true item need slot is = ap₂ (λ c protected. area_of c slot protected) is.0 is.1
+asked-area false item need slot is = ap₂ (λ c protected. area_of c slot protected) is.0 is.1
+
+asked-bytes : (b : Bool) (item : Item) (need : Need) → IsAsked b item need → item.bytes ≡ bytes_at b need
+asked-bytes true item need is = is.2
+asked-bytes false item need is = is.2
+
+-- ---- from one frame to the next
+
+fits-on : (window : ℕ) (items : List Item) (needs : List Need) (placed : List Placed) (end low before : ℕ) (starts : List ℕ) → Asks items needs → AreFor items placed
+    → IsLayout window end before (frames_of (map open_of items) (areas_in items placed)) starts → low ≤ end → low ≤ before
+    → map (λ (p : Placed). p.begin) placed ≡ begins_of window low before (frames_of (map open_of items) (areas_in items placed))
+    → FitsFrom window (min window (before - low)) needs placed
+unfolding AreFor IsLayout begins_of frames_of areas_in FitsFrom
+fits-on window [] [] placed end low before starts asks for_items layout early within begins = tt
+fits-on window [] (need ∷ needs) placed end low before starts asks for_items layout early within begins = absurd asks
+fits-on window (item ∷ items) [] placed end low before starts asks for_items layout early within begins = absurd asks
+fits-on window (item ∷ items) (need ∷ needs) [] end low before starts asks for_items layout early within begins = absurd for_items
+fits-on window (item ∷ items) (need ∷ needs) (p ∷ placed) end low before [] asks for_items layout early within begins = absurd layout
+fits-on window (item ∷ items) (need ∷ needs) (p ∷ placed) end low before (start ∷ starts) asks for_items layout early within begins =
+    let at = max low (before - window) in
+    let is : IsAsked p.lead_in item need = subst (λ b. IsAsked b item need) (sym for_items.0) asks.0 in
+    let follow : Asks items (left_behind p.lead_in need needs) = subst (λ b. Asks items (left_behind b need needs)) (sym for_items.0) asks.1 in
+    let area = asked-area p.lead_in item need p.slot is in
+    let bytes = asked-bytes p.lead_in item need is in
+    let begin : p.begin ≡ before - at = ap (λ l. get_or l 0 0) begins in
+    let first : at ≤ start = max-le (omega (arith, early, layout.0)) (omega (arith, layout.1)) in
+    let low_most = le-max_left low (before - window) in
+    let reach = le-max_right low (before - window) in
+    let behind : min window (before + area_in item p.slot - (at + item.bytes)) ≡ reach_behind window p need = ap (min window) (omega (arith, begin, area, bytes, first, layout.2)) in (
+      omega (arith, begin, low_most, reach),
+      omega (arith, begin, area, bytes, first, layout.2, layout.3),
+      subst (λ n. FitsFrom window n (left_behind p.lead_in need needs) placed) behind
+          (fits-on window items (left_behind p.lead_in need needs) placed (start + item.bytes) (at + item.bytes) (before + area_in item p.slot) starts follow for_items.2 layout.4 (omega (arith, first)) (omega (arith, first, layout.3)) (ap (drop 1) begins)),
+    )
+
+-- ---- all parts
+
+asks-items : (choices : HeaderFields → List SlotFields) (needs : List Need) (rest : List Item) (more : List Need) → Asks rest more → Asks (map (item_of choices) needs ++ rest) (needs ++ more)
+asks-items choices [] rest more asks = asks
+asks-items choices (need ∷ needs) rest more asks = ((refl, refl, refl), asks-items choices needs rest more asks)
+
+asks-part : (window : ℕ) (choices : HeaderFields → List SlotFields) (part : List Need) (lead_in : Option SlotFields) (rest : List Item) (more : List Need) → IsLeadIn window choices part lead_in → Asks rest more
+    → Asks (items_of choices part lead_in ++ rest) (part ++ more)
+unfolding items_of IsLeadIn
+asks-part window choices part None rest more lead asks = asks-items choices part rest more asks
+asks-part window choices [] (Some slot) rest more lead asks = absurd lead
+asks-part window choices (need ∷ part) (Some slot) rest more lead asks = ((refl, refl, refl), asks-items choices (need ∷ part) rest more asks)
+
+asks-whole : (window : ℕ) (choices : HeaderFields → List SlotFields) (parts : List (List Row)) (lead_ins : List (Option SlotFields)) → AreLeadIns window choices (map (map need_of) parts) lead_ins
+    → Asks (whole_of choices (map (map need_of) parts) lead_ins) (flat_map (map need_of) parts)
+unfolding whole_of AreLeadIns
+asks-whole window choices [] lead_ins leads = tt
+asks-whole window choices (part ∷ parts) [] leads = absurd leads
+asks-whole window choices (part ∷ parts) (lead_in ∷ lead_ins) leads =
+    asks-part window choices (map need_of part) lead_in (whole_of choices (map (map need_of) parts) lead_ins) (flat_map (map need_of) parts) leads.0 (asks-whole window choices parts lead_ins leads.1)
+
+pub plans-fit : PlansFit
+unfolding IsFeasible needs_of
+plans-fit window choices parts placed plan =
+    let feasible = plan.whole.least.feasible in
+    let none : min window (0 - 0) ≡ 0 = omega arith in
+    subst (λ n. FitsFrom window n (flat_map (map need_of) parts) placed) none
+    (fits-on window (whole_of choices (map (map need_of) parts) plan.lead_ins) (flat_map (map need_of) parts) placed 0 0 0 feasible.0 (asks-whole window choices parts plan.lead_ins plan.alone) plan.whole.slots feasible.1 (omega arith) (omega arith)
+    plan.whole.begins)
