@@ -92,11 +92,11 @@ part-stream c p is =
 
 -- ---- all parts
 
-parts-entries : (c : ClassFields) (parts : List Part) → AreParts c parts → AllEntries c (map frames_in parts)
+pub parts-entries : (c : ClassFields) (parts : List Part) → AreParts c parts → AllEntries c (map frames_in parts)
 parts-entries c [] are = tt
 parts-entries c (p ∷ parts) are = (part-entries c p are.0, parts-entries c parts are.1)
 
-parts-needs : (c : ClassFields) (parts : List Part) → AreParts c parts → AllNeedsOf (map needs_in parts) (map frames_in parts)
+pub parts-needs : (c : ClassFields) (parts : List Part) → AreParts c parts → AllNeedsOf (map needs_in parts) (map frames_in parts)
 parts-needs c [] are = tt
 parts-needs c (p ∷ parts) are = (part-needs c p are.0, parts-needs c parts are.1)
 
@@ -105,7 +105,7 @@ parts-stream c [] are = refl
 parts-stream c (p ∷ parts) are =
     map-append entry_of (frames_in p) (flat_map frames_in parts) ∙ ap₂ (λ (x y : List StreamFrame). x ++ y) (part-stream c p are.0) (parts-stream c parts are.1)
 
-joined-is : (parts : List Part) → joined (map frames_in parts) ≡ flat_map frames_in parts
+pub joined-is : (parts : List Part) → joined (map frames_in parts) ≡ flat_map frames_in parts
 joined-is [] = refl
 joined-is (p ∷ parts) = ap (λ (l : List Frame). frames_in p ++ l) (joined-is parts)
 

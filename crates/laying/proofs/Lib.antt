@@ -6,3 +6,4 @@ pub mod PassLaws
 pub mod RelayLaws
 pub mod FitLaws
 pub mod EndLaws
+pub mod SlotLaws

@@ -298,7 +298,7 @@ part-follows c window choices (need ∷ part) (Some slot) (f ∷ fs) rest more s
   items-follow c choices (need ∷ part) (f ∷ fs) rest more slots are needs_are follow,
 )
 
-whole-follows : (c : ClassFields) (window : ℕ) (choices : HeaderFields → List SlotFields) (parts : List (List Need)) (lead_ins : List (Option SlotFields)) (frames : List (List Frame)) → AreSlots choices
+pub whole-follows : (c : ClassFields) (window : ℕ) (choices : HeaderFields → List SlotFields) (parts : List (List Need)) (lead_ins : List (Option SlotFields)) (frames : List (List Frame)) → AreSlots choices
     → AllEntries c frames → AllNeedsOf parts frames → AreLeadIns window choices parts lead_ins → Follow (whole_of choices parts lead_ins) (joined frames)
 unfolding whole_of AreLeadIns
 whole-follows c window choices [] lead_ins [] slots are needs_are leads = tt

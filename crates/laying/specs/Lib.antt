@@ -3,3 +3,4 @@ pub mod Written
 pub mod Fits
 pub mod Passing
 pub mod Laws
+pub mod InfoLaws
