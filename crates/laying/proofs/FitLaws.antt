@@ -9,12 +9,14 @@ use Rattle.slot_plan.specs.declared.needs.Placed.{Placed}
 use Rattle.slot_plan.specs.Layouts.{IsLayout, IsFeasible, begins_of}
 use Rattle.slot_plan.specs.Lists.{frames_of}
 use Rattle.slot_plan.specs.Parts.{Item, area_in, open_of, item_of, items_of, IsLeadIn, AreLeadIns, whole_of}
-use Rattle.slot_plan.specs.Plans.{AreFor, areas_in}
+use Rattle.slot_plan.specs.Plans.{AreFor, areas_in, IsPlan}
+use Rattle.slot_plan.specs.Parts.{window_in}
 use Rattle.part_needs.specs.Needs.{need_of, needs_of}
+use Rattle.part_needs.proofs.PartsLaws.{parts_are}
 use Rattle.sync_survey.specs.declared.rows.Row.{Row}
 use Rattle.laying.specs.Relaid.{left_behind}
 use Rattle.laying.specs.Fits.{bytes_at, reach_behind, FitsFrom}
-use Rattle.laying.specs.Laws.{PlansFit}
+use Rattle.laying.specs.Laws.{PlansFit, AskedPlans}
 
 -- ---- items of a plan, as they were asked for
 
@@ -95,3 +97,8 @@ plans-fit window choices parts placed plan =
     subst (λ n. FitsFrom window n (flat_map (map need_of) parts) placed) none
     (fits-on window (whole_of choices (map (map need_of) parts) plan.lead_ins) (flat_map (map need_of) parts) placed 0 0 0 feasible.0 (asks-whole window choices parts plan.lead_ins plan.alone) plan.whole.slots feasible.1 (omega arith) (omega arith)
     plan.whole.begins)
+
+pub asked-plans : AskedPlans
+asked-plans c choices parts placed fit plan =
+    subst (λ window. IsPlan window choices (map (map need_of) parts) placed) fit.window
+    (subst (λ (l : List (List Need)). IsPlan (window_in (needs_of parts)) choices l placed) (parts_are [] 0 parts refl) plan)

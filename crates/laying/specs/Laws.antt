@@ -11,9 +11,11 @@ use Rattle.sync_survey.specs.Faults.{SurveyFields, surveyed, HoldsStream}
 use Rattle.laid_files.specs.LaidFiles.{IsBlocks, AreEntries, entry_of, HasInfoSizes, laid_file}
 use Rattle.sync_survey.specs.MainData.{StreamFrame}
 use Rattle.laying.specs.Written.{front_blocks, back_blocks}
-use Rattle.part_needs.specs.Needs.{need_of, needs_of}
+use Rattle.part_needs.specs.Needs.{need_of, needs_of, asked_of}
 use Rattle.sync_survey.specs.declared.rows.Row.{Row}
 use Rattle.laying.specs.Fits.{FitsFrom}
+use Rattle.part_needs.specs.Fit.{AreFit}
+use Rattle.slot_plan.specs.Parts.{window_in, parts_of}
 use Rattle.laying.specs.Relaid.{Part, frames_in, stream_in, AreParts, needs_in, AreSlots, relaid, with_lead_ins}
 
 -- there are frames; they are of this class, their main data can be laid as they say, and this is what they are in a stream
@@ -45,3 +47,9 @@ abbrev pub PlansFit : Type 0
 PlansFit =
     (window : ℕ) (choices : HeaderFields → List SlotFields) (parts : List (List Row)) (placed : List Placed) → IsPlan window choices (map (map need_of) parts) placed
     → FitsFrom window 0 (needs_of parts) placed
+
+-- what is planned of parts put together as the planner takes them is a plan of the parts
+abbrev pub AskedPlans : Type 0
+AskedPlans =
+    (c : ClassFields) (choices : HeaderFields → List SlotFields) (parts : List (List Row)) (placed : List Placed) → AreFit c (asked_of parts)
+    → IsPlan (window_in (asked_of parts).needs) choices (parts_of (asked_of parts).needs (asked_of parts).places) placed → IsPlan (window_of c.version) choices (map (map need_of) parts) placed

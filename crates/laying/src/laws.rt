@@ -1,5 +1,5 @@
 //! Laws of files of chosen frames. Each function does nothing: a proof that needs its law calls it.
-ghost use Rattle.laying.specs.Laws.{EntriesHold, FilesHold, BlocksAreKept, PlansFit};
+ghost use Rattle.laying.specs.Laws.{EntriesHold, FilesHold, BlocksAreKept, PlansFit, AskedPlans};
 
 /// The frames of parts of files without fault, in the slots and with the main_data_begin of their plan, are of the class, and
 /// their main data can be laid so. In a stream they are the plan's lead-ins, and each chosen frame as it is in the stream of its
@@ -26,4 +26,10 @@ pub fn blocks_are_kept()
 /// 2.4.2.7).
 pub fn plans_fit()
     ensures { PlansFit }
+{}
+
+/// What is planned of parts that were put together as the planner takes them is a plan of the parts, with the window of
+/// their class: so the other laws speak of it.
+pub fn asked_plans()
+    ensures { AskedPlans }
 {}

@@ -6,5 +6,8 @@ mod laws;
 mod relay;
 
 pub use info_laws::slots_are_planned;
-pub use laws::{blocks_are_kept, entries_hold, files_hold, plans_fit};
+pub use laws::{asked_plans, blocks_are_kept, entries_hold, files_hold, plans_fit};
 pub use relay::{PassFault, Relay};
+
+#[cfg(test)]
+mod tests;

@@ -116,7 +116,7 @@ middle before part behind from to is ends =
     ∙ ap (take (length part)) (drop-append_seam before (part ++ behind))
     ∙ take-append_seam part behind
 
-parts_are : (before : List Need) (at : ℕ) (parts : List (List Row)) → at ≡ length before → parts_of (before ++ needs_of parts) (places_from at parts) ≡ map (map need_of) parts
+pub parts_are : (before : List Need) (at : ℕ) (parts : List (List Row)) → at ≡ length before → parts_of (before ++ needs_of parts) (places_from at parts) ≡ map (map need_of) parts
 unfolding parts_of places_from
 parts_are before at [] is = refl
 parts_are before at (rows ∷ []) is =
