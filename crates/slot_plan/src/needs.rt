@@ -1,6 +1,7 @@
 //! What `plan` is given, and what it answers.
 
 use frame_header::{Header, Slot};
+use info_header::InSlot;
 
 /// A frame that is to be placed: its header, and the bytes of its main data.
 #[derive(Clone, Copy, Debug, PartialEq, Eq)]
@@ -16,6 +17,14 @@ pub struct Placed {
     pub lead_in: bool,
     pub slot: Slot,
     pub begin: u16,
+}
+
+impl InSlot for Placed {
+    ghost slot_of = { λ p. p.slot };
+
+    fn slot(&self) -> Slot {
+        self.slot
+    }
 }
 
 /// The frames of all parts with their lead-ins, in order of output.
