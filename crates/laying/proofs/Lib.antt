@@ -7,3 +7,4 @@ pub mod RelayLaws
 pub mod FitLaws
 pub mod EndLaws
 pub mod SlotLaws
+pub mod InfoLaws

@@ -1,10 +1,12 @@
 //! Frames of surveyed files in the slots of a plan, with all main data laid anew, as they are cut, split, joined and packed.
 #![tactic(auto)]
 
+mod info;
 mod info_laws;
 mod laws;
 mod relay;
 
+pub use info::{Kept, info_of};
 pub use info_laws::slots_are_planned;
 pub use laws::{asked_plans, blocks_are_kept, entries_hold, files_hold, plans_fit};
 pub use relay::{PassFault, Relay};
