@@ -8,3 +8,4 @@ pub mod FitLaws
 pub mod EndLaws
 pub mod SlotLaws
 pub mod InfoLaws
+pub mod KeptLaws

@@ -1,13 +1,22 @@
 //! The fields of the Info frame in front of the frames of a plan.
-ghost use Rattle.std.specs.Prelude.{◌≡◌, ◌≤◌, List, length, map, replicate, None};
+ghost use Rattle.std.specs.Prelude.{◌≡◌, ◌+◌, ◌≤◌, List, ℕ, length, take, drop, map, replicate, None, Some, Ok, IfOk, IfErr, OnOk, IsErrOf};
+ghost use Rattle.outside.specs.Files.{Holds, IsThere};
+ghost use Rattle.outside.specs.Counts.{OnlyReads};
+ghost use Rattle.info_header.specs.Info.{info_in};
 ghost use Rattle.frame_writer.specs.Frames.{Frame};
+ghost use Rattle.sync_survey.specs.Faults.{tells, longest_file};
+ghost use Rattle.sync_survey.specs.Survey.{IsLaidOut};
 ghost use Rattle.slot_plan.specs.declared.needs.Placed.{Placed as PlacedFields};
 ghost use Rattle.laid_files.specs.LaidFiles.{HasInfoSizes};
-ghost use Rattle.laying.specs.Written.{slot_in, info_for};
+ghost use Rattle.laying.specs.Written.{slot_in, info_for, head_info};
+ghost use Rattle.laying.specs.Passing.{HasSurvey, HasPassCause};
 
+use crate::relay::PassFault;
 use frame_header::Class;
 use info_header::{Info, info_over};
+use outside::{Folder, read_full};
 use slot_plan::Placed;
+use sync_survey::{Head, Survey};
 
 /// What an Info frame takes over from the head of an input.
 #[derive(Clone, Copy, Debug, PartialEq, Eq)]
@@ -25,6 +34,20 @@ impl Kept {
             quality: None,
             extension: [0; 36],
         }
+    }
+
+    /// What the bytes of a head's frame say, with its text at this place.
+    fn read(frame: &[u8], text_at: u32) -> Kept
+        ensures quality { result.quality ≡ (info_in (drop text_at frame.now)).quality }
+        ensures extension { result.extension ≡ (info_in (drop text_at frame.now)).extension }
+    {
+        let at = (text_at as usize).min(frame.len());
+        let Info {
+            quality,
+            extension,
+            ..
+        } = Info::read(&frame[at..]);
+        Kept { quality, extension }
     }
 }
 
@@ -58,4 +81,90 @@ pub fn info_of(class: Class, placed: &[Placed], kept: &Kept) -> Info
     };
     are_sized(&info);
     info
+}
+
+/// Reads bytes of an input, which are within its length.
+fn read_bytes<D: Folder>(
+    folder: &mut D,
+    name: &str,
+    survey: &Survey,
+    at: u64,
+    bytes: &mut [u8],
+) -> Result<(), PassFault>
+    requires there { IsThere (D.files folder.old) name.now }
+    requires exact { (file : List ℕ) → Holds (D.files folder.old) name.now file → HasSurvey file (tells survey.now) }
+    requires few { (tells survey.now).length ≤ longest_file }
+    requires within { at + length bytes.old ≤ (tells survey.now).length }
+    ensures bytes { OnOk result ((file : List ℕ) → Holds (D.files folder.old) name.now file → bytes.new ≡ take (length bytes.old) (drop at file)) }
+    ensures done { OnOk result (D.counts folder.new ≡ D.counts folder.old) }
+    ensures cause { IfErr result (HasPassCause (tells survey.now).length (D.files folder.old) (D.counts folder.old) (D.counts folder.new)) }
+    ensures reads { IsErrOf result PassFault.Write → ⊥ }
+    ensures files { D.files folder.new ≡ D.files folder.old }
+    ensures counts { OnlyReads (D.counts folder.old) (D.counts folder.new) }
+{
+    match read_full(folder, name, at, bytes) {
+        Ok(got) if got < bytes.len() => Err(PassFault::Shrunk(survey.length(), at + got as u64)),
+        Ok(_) => Ok(()),
+        Err(_) => Err(PassFault::Read),
+    }
+}
+
+/// What the head of an input says.
+fn kept_of<D: Folder>(
+    folder: &mut D,
+    name: &str,
+    survey: &Survey,
+    head: &Head,
+) -> Result<Kept, PassFault>
+    requires there { IsThere (D.files folder.old) name.now }
+    requires laid { IsLaidOut (tells survey.now) }
+    requires exact { (file : List ℕ) → Holds (D.files folder.old) name.now file → HasSurvey file (tells survey.now) }
+    requires head { (tells survey.now).head ≡ Some head.now }
+    ensures kept { IfOk result (λ kept. (file : List ℕ) → Holds (D.files folder.old) name.now file → (kept.quality ≡ (head_info file (tells survey.now).head).quality) × (kept.extension ≡ (head_info file (tells survey.now).head).extension)) }
+    ensures done { OnOk result (D.counts folder.new ≡ D.counts folder.old) }
+    ensures cause { IfErr result (HasPassCause (tells survey.now).length (D.files folder.old) (D.counts folder.old) (D.counts folder.new)) }
+    ensures reads { IsErrOf result PassFault.Write → ⊥ }
+    ensures files { D.files folder.new ≡ D.files folder.old }
+    ensures counts { OnlyReads (D.counts folder.old) (D.counts folder.new) }
+{
+    let length = head.header.length();
+    if head.offset.saturating_add(u64::from(length)) > survey.length() {
+        // No file that is told has a head that passes its end.
+        return Ok(Kept::none());
+    }
+    let mut room = [0; 1441];
+    let frame = &mut room[..length as usize];
+    read_bytes(folder, name, survey, head.offset, frame)?;
+    Ok(Kept::read(frame, head.text_at))
+}
+
+/// The quality and the extension that the head of an input has, and `Kept::none` where there is no head. It reads the
+/// head's frame, at most 1,441 bytes, and takes no memory. The files stay.
+///
+/// # Errors
+/// None where there is no head.
+/// - `Read` where a read failed;
+/// - `Shrunk`, the length that the input was found with and the one that it had when it was read, where a read gave no
+///   byte before that length. It comes only where the folder doesn't tell its files.
+pub fn kept_fields<D: Folder>(
+    folder: &mut D,
+    name: &str,
+    survey: &Survey,
+) -> Result<Kept, PassFault>
+    requires there { IsThere (D.files folder.old) name.now }
+    requires laid { IsLaidOut (tells survey.now) }
+    requires exact { (file : List ℕ) → Holds (D.files folder.old) name.now file → HasSurvey file (tells survey.now) }
+    ensures kept { IfOk result (λ kept. (file : List ℕ) → Holds (D.files folder.old) name.now file → (kept.quality ≡ (head_info file (tells survey.now).head).quality) × (kept.extension ≡ (head_info file (tells survey.now).head).extension)) }
+    // Whether the files are told or not.
+    ensures none { (tells survey.now).head ≡ None → result ≡ Ok (record { quality = None; extension = replicate 36 0 }) }
+    ensures done { OnOk result (D.counts folder.new ≡ D.counts folder.old) }
+    ensures cause { IfErr result (HasPassCause (tells survey.now).length (D.files folder.old) (D.counts folder.old) (D.counts folder.new)) }
+    ensures reads { IsErrOf result PassFault.Write → ⊥ }
+    ensures files { D.files folder.new ≡ D.files folder.old }
+    ensures counts { OnlyReads (D.counts folder.old) (D.counts folder.new) }
+{
+    match survey.head() {
+        Some(head) => kept_of(folder, name, survey, &head),
+        None => Ok(Kept::none()),
+    }
 }

@@ -6,7 +6,7 @@ mod info_laws;
 mod laws;
 mod relay;
 
-pub use info::{Kept, info_of};
+pub use info::{Kept, info_of, kept_fields};
 pub use info_laws::slots_are_planned;
 pub use laws::{asked_plans, blocks_are_kept, entries_hold, files_hold, plans_fit};
 pub use relay::{PassFault, Relay};

@@ -1,0 +1,29 @@
+-- What the head of a file says.
+use Rattle.std.proofs.Common.{◌≡◌, ℕ, List, [], take, drop, Option, Some, None, refl, sym, ◌∙◌, ap}
+use Rattle.std.specs.Prelude.{replicate}
+use Rattle.frame_header.specs.Tables.{class_of, length_of}
+use Rattle.info_header.specs.Info.{info_in, field_in, field_place}
+use Rattle.sync_survey.specs.declared.places.Head.{Head}
+use Rattle.laying.specs.Written.{head_info}
+
+-- no field is there where there is no head
+none-quality : (info_in []).quality ≡ None
+unfolding info_in field_in
+none-quality = refl
+
+none-extension : (info_in []).extension ≡ replicate 36 0
+unfolding info_in field_place
+none-extension = refl
+
+pub quality-none : (file : List ℕ) (head : Option Head) → head ≡ None → None ≡ (head_info file head).quality
+unfolding head_info
+quality-none file head is = sym (ap (λ h. (head_info file h).quality) is ∙ none-quality)
+
+pub extension-none : (file : List ℕ) (head : Option Head) → head ≡ None → replicate 36 0 ≡ (head_info file head).extension
+unfolding head_info
+extension-none file head is = sym (ap (λ h. (head_info file h).extension) is ∙ none-extension)
+
+-- the fields of the head that is there, from the bytes of its frame
+pub info-some : (file frame : List ℕ) (all : Option Head) (head : Head) → all ≡ Some head → frame ≡ take (length_of (class_of head.header) head.header.slot) (drop head.offset file) → info_in (drop head.text_at frame) ≡ head_info file all
+unfolding head_info
+info-some file frame all head some is = ap (λ l. info_in (drop head.text_at l)) is ∙ ap (head_info file) (sym some)
