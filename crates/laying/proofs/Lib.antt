@@ -9,3 +9,4 @@ pub mod EndLaws
 pub mod SlotLaws
 pub mod InfoLaws
 pub mod KeptLaws
+pub mod CopyLaws

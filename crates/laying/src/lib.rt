@@ -1,6 +1,8 @@
 //! Frames of surveyed files in the slots of a plan, with all main data laid anew, as they are cut, split, joined and packed.
 #![tactic(auto)]
 
+mod blocks;
+mod file;
 mod info;
 mod info_laws;
 mod laws;

@@ -57,7 +57,7 @@ fn overhead(header: &Header) -> u32
 
 impl<'a> Relay<'a> {
     /// Gives these bytes of the input, which are within its length.
-    fn fill<D: Folder>(
+    pub(crate) fn fill<D: Folder>(
         &self,
         folder: &mut D,
         at: u64,
@@ -378,6 +378,7 @@ impl<'a> Relay<'a> {
         requires unsettled { IsNextSettled writer.old.held → ⊥ }
         ensures written { OnOk result (Appends self.now.input.now self.now.output.now (λ file. frame_bytes (relaid (slice_range (all_frames file (tells self.now.survey.now)) from to) placed.now)) (D.files folder.old) (D.files folder.new)) }
         ensures prefix { OnErr result (AppendsPrefix self.now.input.now self.now.output.now (λ file. frame_bytes (relaid (slice_range (all_frames file (tells self.now.survey.now)) from to) placed.now)) (D.files folder.old) (D.files folder.new)) }
+        ensures ready { OnOk result (IsReady self.now.input.now self.now.output.now (tells self.now.survey.now) (D.files folder.new) feed.new) }
         ensures done { OnOk result (D.counts folder.new ≡ D.counts folder.old) }
         ensures cause { IfErr result (HasPassCause (tells self.now.survey.now).length (D.files folder.old) (D.counts folder.old) (D.counts folder.new)) }
     {

@@ -1,6 +1,7 @@
 -- What was handed on and what waits are the bytes of the frames.
 use Rattle.std.proofs.Common.{ℕ, List, map, ◌∙◌, ap}
 use Rattle.std.specs.Prelude.{slice_range}
+use Rattle.std.proofs.lemmas.Result.{on_ok_weaker}
 use Rattle.frame_header.specs.Tables.{window_of}
 use Rattle.outside.specs.Files.{appended}
 use Rattle.outside.proofs.PassedLaws.{on_err}
@@ -10,7 +11,7 @@ use Rattle.part_needs.specs.Needs.{need_of}
 use Rattle.sync_survey.specs.Faults.{tells}
 use Rattle.laying.specs.Relaid.{all_frames, relaid}
 use Rattle.laying.specs.Fits.{last_reach}
-use Rattle.laying.proofs.PassLaws.{causes_later}
+use Rattle.laying.proofs.PassLaws.{causes_later, ready-later}
 use Rattle.laying.proofs.EndLaws.{prefix-none, lays-end, lays-end_part, part-end, ends-later, prefix-later}
 use Rattle.laying.proofs.relay.Relay.lay.Goals as goal
 
@@ -85,3 +86,11 @@ returns-clause-cause g c =
     let counts = g.D.Folder.counts in
     causes_later c.finish.result s.length old (files c.frames.new.folder) output lays.passed (counts c.args.folder.now) (counts c.frames.new.folder) (counts c.finish.new.folder)
     (lays.files ∙ ap (λ f. appended f output lays.passed) same) (c.in_ok-frames.ensures.done ∙ c.in_ok-read_before.ensures.done) c.finish.ensures.cause
+
+pub returns-clause-ready : goal.returns-clause-ready
+returns-clause-ready g c =
+    let self = c.args.self.now in
+    let s = tells self.survey.now in
+    on_ok_weaker c.finish.result
+    (λ is. ready-later self.input.now self.output.now s _ _ _ _ is c.in_ok-frames.ensures.ready)
+    c.finish.ensures.appended
