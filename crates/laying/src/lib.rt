@@ -14,6 +14,8 @@ pub use laws::{asked_plans, blocks_are_kept, entries_hold, files_hold, plans_fit
 pub use relay::{PassFault, Relay};
 
 #[cfg(test)]
+mod file_tests;
+#[cfg(test)]
 mod info_tests;
 #[cfg(test)]
 mod tests;
