@@ -68,7 +68,7 @@ fn are_sized(info: &Info)
 }
 
 /// The fields of the Info frame in front of the frames of a plan: their number, the bytes of the Info frame and of all of
-/// them, the table, and what is kept of a head. The text is `Info` where all have one bit rate.
+/// them, the table, and what is kept of a head. The text is `Info` where all have one bit rate. At most 2,900,064 frames.
 pub fn info_of(class: Class, placed: &[Placed], kept: &Kept) -> Info
     requires few { length placed.now ≤ 2900064 }
     ensures info { (frames : List Frame) → map slot_in frames ≡ map (λ (p : PlacedFields). p.slot) placed.now → result ≡ info_for class frames kept.now.quality kept.now.extension }
@@ -138,8 +138,9 @@ fn kept_of<D: Folder>(
     Ok(Kept::read(frame, head.text_at))
 }
 
-/// The quality and the extension that the head of an input has, and `Kept::none` where there is no head. It reads the
-/// head's frame, at most 1,441 bytes, and takes no memory. The files stay.
+/// The quality and the extension that the head of an input has, and `Kept::none` where there is no head, or, where the
+/// folder doesn't tell its files, one that passes the end. It reads the head's frame, at most 1,441 bytes, and takes no
+/// memory. The files stay.
 ///
 /// # Errors
 /// None where there is no head.
