@@ -1,9 +1,8 @@
 -- What a command makes of a file is well-formed, and its stream is that of the file with each gain moved.
-use Rattle.std.proofs.Common.{◌≡◌, ℕ, ◌+◌, ◌≤◌, ltb, Bool, true, false, cond, List, length, map, Option, Some, None, Result, Ok, Err, refl, sym, ◌∙◌, ap, ap₂, subst, arith}
+use Rattle.std.proofs.Common.{◌≡◌, ℕ, ◌+◌, List, length, map, Option, Some, None, Result, Ok, Err, refl, sym, ◌∙◌, ap, subst, arith}
 use Rattle.std.specs.Prelude.{IfSome}
-use Rattle.std.proofs.lemmas.Bool.{ltb-false}
 use Rattle.bit_fields.specs.Bits.{AreBytes}
-use Rattle.file_tag.specs.Places.{IsTagBytes, with_tag, retagged}
+use Rattle.file_tag.specs.Places.{IsTagBytes, retagged}
 use Rattle.file_tag.proofs.Retagged.{surveyed-retagged, stream-retagged}
 use Rattle.sync_survey.specs.declared.survey_fault.SurveyFault.{SurveyFault}
 use Rattle.sync_survey.specs.Faults.{SurveyFields, surveyed, stream_of_survey, HoldsStream, stream_by, stream_of}

@@ -1,6 +1,6 @@
 -- Steps of a command that makes one file of one, and what it leaves by them.
-use Rattle.std.proofs.Common.{◌≡◌, ℕ, ◌+◌, ◌≤◌, ◌==◌, true, false, cond, List, [], ◌∷◌, length, Option, Some, None, refl, sym, ◌∙◌, ap, ap₂, subst, bytes_eq, Result, Ok, Err, inl, inr, arith}
-use Rattle.std.specs.Prelude.{IfSome, IfErr, OnOk, is_some, map, unwrap_or}
+use Rattle.std.proofs.Common.{◌≡◌, ℕ, ◌≤◌, true, false, List, [], ◌∷◌, length, Option, Some, None, refl, sym, ◌∙◌, ap, ap₂, subst, bytes_eq, Result, Ok, Err, inl, inr, arith}
+use Rattle.std.specs.Prelude.{IfSome, IfErr, OnOk, is_some, unwrap_or}
 use Rattle.bit_fields.specs.Bits.{AreBytes}
 use Rattle.outside.specs.Files.{Contents, Files, Holds, IsThere, IsMissing}
 use Rattle.outside.specs.Counts.{Counts}

@@ -1,10 +1,10 @@
 -- Gain and undo are commands that change one file: their refusals, their steps, and their new tags.
-use Rattle.std.proofs.Common.{◌≡◌, ℕ, ◌==◌, Bool, true, false, cond, List, [], ◌∷◌, length, map, Option, Some, None, Result, Ok, Err, refl, sym, ◌∙◌, ap, subst, inl, inr}
+use Rattle.std.proofs.Common.{◌≡◌, ℕ, ◌==◌, Bool, true, false, cond, List, [], length, map, Option, Some, None, Result, Ok, Err, refl, sym, ◌∙◌, ap, subst, inl, inr}
 use Rattle.std.specs.Prelude.{IfSome, IfErr}
 use Rattle.bit_fields.specs.Bits.{AreBytes}
 use Rattle.tag_blocks.specs.declared.undo.Undo.{Undo}
 use Rattle.tag_blocks.specs.Tags.{TagFields, IsTag, tag_bytes}
-use Rattle.tag_blocks.specs.UndoItems.{undo_from, with_undo, without_undo}
+use Rattle.tag_blocks.specs.UndoItems.{undo_from}
 use Rattle.tag_blocks.proofs.TagsLaws.{block_front-tag_bytes}
 use Rattle.tag_blocks.proofs.UndoItemsLaws.{IsTag-with_undo, IsTag-without_undo}
 use Rattle.file_tag.specs.declared.fault.FileTagFault.{FileTagFault}

@@ -1,25 +1,24 @@
 -- Why the tag isn't read, as a fault of the command; and where the tag stands.
-use Rattle.std.proofs.Common.{◌≡◌, ℕ, ◌+◌, ◌≤◌, List, Option, Some, None, Result, Ok, Err, refl, sym, ◌∙◌, ap, ap₂, subst, inl, inr, arith}
-use Rattle.std.specs.Prelude.{◌⊎◌, IfOk, IfErr, MatchResult}
+use Rattle.std.proofs.Common.{◌≡◌, ℕ, ◌+◌, ◌≤◌, List, Option, Some, None, Ok, Err, refl, sym, ◌∙◌, ap, ap₂, subst, inl, inr, arith}
+use Rattle.std.specs.Prelude.{◌⊎◌}
 use Rattle.outside.specs.Files.{Files, Holds, IsThere}
 use Rattle.outside.specs.Counts.{Counts}
 use Rattle.file_tag.specs.declared.fault.FileTagFault.{FileTagFault}
 use Rattle.file_tag.specs.declared.fault.FileTagFault.TheVariants.{TooLarge, Bad, Read, Shrunk, Memory as NoRoom}
-use Rattle.file_tag.specs.Places.{tag_block, tag_at, tag_length, last_end}
+use Rattle.file_tag.specs.Places.{tag_block, tag_at, tag_length}
 use Rattle.file_tag.specs.Reading.{file_tag, IsTagCause}
 use Rattle.file_tag.proofs.FoundTag.{tag-within, last-within}
-use Rattle.tag_blocks.specs.Tags.{TagFields}
 use Rattle.sync_survey.specs.declared.places.Piece.{Piece}
 use Rattle.sync_survey.specs.Faults.{SurveyFields, longest_file}
 use Rattle.sync_survey.specs.Survey.{survey_of, IsLaidOut}
 use Rattle.edits.specs.declared.fault.EditFault.{EditFault}
 use Rattle.edits.specs.declared.fault.EditFault.TheVariants.{Memory}
 use Rattle.edits.specs.One.{most_frames}
-use Rattle.edits.specs.Change.{Change, Changing, changed_with, changing}
+use Rattle.edits.specs.Change.{Changing, changed_with, changing}
 use Rattle.edits.specs.One.{IsInputFault}
-use Rattle.edits.specs.Noted.{of_tag, tag_read}
-use Rattle.edits.specs.Left.{Seen, seen, IsOfInput, IsRefusal}
-use Rattle.edits.proofs.OneLaws.{refusal_is_input, refusal_of_input, memory_is_input}
+use Rattle.edits.specs.Noted.{of_tag}
+use Rattle.edits.specs.Left.{seen, IsOfInput, IsRefusal}
+use Rattle.edits.proofs.OneLaws.{refusal_is_input, memory_is_input}
 use Rattle.edits.proofs.TagPlaces.{tag_some, tag_none}
 
 -- the tag, or the place for one, is within the file
@@ -63,4 +62,3 @@ tag_numbers name files s before after (Bad at) h = tt
 tag_numbers name files s before after Read h = (refl, (λ e. cc), tt)
 tag_numbers name files s before after (Shrunk first second) h = (refl, (λ e. cc), h.2)
 tag_numbers name files s before after NoRoom h = tt
-
