@@ -6,11 +6,11 @@ use Rattle.edits.specs.declared.fault.EditFault.{EditFault}
 use Rattle.edits.specs.Choice.{joint_at, or_else, joint_fault}
 use Rattle.edits.proofs.RangeLaws.{next_row}
 
-joint-cons : (row : Row) (rows : List Row) → joint_fault (row ∷ rows) ≡ or_else (joint_at row) (joint_fault rows)
+pub joint-cons : (row : Row) (rows : List Row) → joint_fault (row ∷ rows) ≡ or_else (joint_at row) (joint_fault rows)
 unfolding joint_fault
 joint-cons row rows = refl
 
-joint-nil : joint_fault [] ≡ None
+pub joint-nil : joint_fault [] ≡ None
 unfolding joint_fault
 joint-nil = refl
 

@@ -33,3 +33,4 @@ pub mod TaggedAgain
 pub mod NoStep
 pub mod NotedAgain
 pub mod UndoneGains
+pub mod OppositeSteps

@@ -71,7 +71,7 @@ block_read at tag are small =
 
 -- ---- what was accepted
 
-none_first : (o later : Option EditFault) → or_else o later ≡ None → (o ≡ None) × (later ≡ None)
+pub none_first : (o later : Option EditFault) → or_else o later ≡ None → (o ≡ None) × (later ≡ None)
 none_first None later e = (refl, e)
 none_first (Some fault) later e = absurd cc
 

@@ -75,12 +75,12 @@ same_survey : (s t : SurveyFields) (r : Result SurveyFields SurveyFault) → r �
 same_survey s t r e f = cc
 
 -- what a gain made, where the survey is known
-record IsMadeBy (of : Changing) (file new : List ℕ) (s : SurveyFields) : Type 0 where
-  change : Change
-  made : of file s ≡ Ok change
-  bytes : changed change file s ≡ new
+pub record IsMadeBy (of : Changing) (file new : List ℕ) (s : SurveyFields) : Type 0 where
+  pub change : Change
+  pub made : of file s ≡ Ok change
+  pub bytes : changed change file s ≡ new
 
-made_by : (of : Changing) (file new : List ℕ) (s : SurveyFields) → survey_of file most_frames ≡ Ok s → changed_file of file ≡ Ok new → IsMadeBy of file new s
+pub made_by : (of : Changing) (file new : List ℕ) (s : SurveyFields) → survey_of file most_frames ≡ Ok s → changed_file of file ≡ Ok new → IsMadeBy of file new s
 made_by of file new s is e =
     let parts = changed-parts of file new e in
     subst (IsMadeBy of file new) (same_survey parts.survey s (survey_of file most_frames) parts.is is) (record { change = parts.change; made = parts.made; bytes = parts.bytes })

@@ -1,5 +1,5 @@
--- What undo makes of a file that gains have changed, one after the other.
-use Rattle.std.specs.Prelude.{◌≡◌, ◌⊎◌, ℕ, ◌<◌, List, [], ◌∷◌, length, true, None, Result, Ok}
+-- What undo makes of a file that gains have changed, one after the other, and what the opposite change makes of a changed file.
+use Rattle.std.specs.Prelude.{◌≡◌, ◌⊎◌, ℕ, ◌<◌, List, [], ◌∷◌, length, true, false, neg_ℤ, None, Result, Ok}
 use Rattle.bit_fields.specs.Bits.{AreBytes}
 use Rattle.tag_blocks.specs.declared.undo.UndoItem.TheVariants.{Missing}
 use Rattle.tag_blocks.specs.Tags.{TagFields}
@@ -45,3 +45,16 @@ abbrev pub UndoGivesBack : Type 0
 UndoGivesBack =
     (shift : Shift) (shifts : List Shift) (file last : List ℕ) (s : SurveyFields) (tag : TagFields) → AreBytes file → survey_of file most_frames ≡ Ok s
     → file_tag file s ≡ Ok tag → undo_from 32 tag.items ≡ Missing → gained_by_all (shift ∷ shifts) file ≡ Ok last → IsGivenBack file last s tag
+
+-- ---- the opposite change
+
+-- the same channels by as many steps the other way
+abbrev pub opposite : Shift → Shift
+opposite shift = record shift { steps = neg_ℤ shift.steps }
+
+-- What a change of gains without a note makes of a file, with or without wrap, the opposite change accepts. It makes of it the file again, byte
+-- for byte, but for the junk before its first frame. A file without junk comes back whole: `without_junk` is then the file.
+abbrev pub OppositeGivesBack : Type 0
+OppositeGivesBack =
+    (shift : Shift) (file new : List ℕ) (s : SurveyFields) → AreBytes file → survey_of file most_frames ≡ Ok s
+    → changed_file (gain_change shift false) file ≡ Ok new → changed_file (gain_change (opposite shift) false) new ≡ Ok (without_junk s file)

@@ -25,7 +25,7 @@ pub use gains::Stuck;
 pub use list_file::list;
 pub use shift::{Channels, Shift, Steps};
 pub use undo_file::undo;
-pub use undoing::undo_gives_back;
+pub use undoing::{opposite_gives_back, undo_gives_back};
 
 #[cfg(test)]
 mod tests;
