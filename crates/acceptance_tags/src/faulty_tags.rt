@@ -1,7 +1,7 @@
 //! Tags at fault, each in one place.
 
 use crate::blocks::{G_WRAPPED_UP, NONE, THREE_BACK, THREE_FRONT, TWO, UNDO_BACK, UNDO_FRONT};
-use crate::edits::{Refusal, expect_refusal};
+use crate::edited::{Refusal, expect_refusal};
 use acceptance_kit::commands::{expect, folder_of};
 use acceptance_kit::files::{ID3V2, ID3V2_REST, Stretch, bytes_of};
 use acceptance_kit::frames::Z;

@@ -6,7 +6,7 @@ mod blocks;
 #[cfg(test)]
 mod calls;
 #[cfg(test)]
-mod edits;
+mod edited;
 #[cfg(test)]
 mod faulty_tags;
 #[cfg(test)]

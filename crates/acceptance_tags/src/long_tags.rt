@@ -1,6 +1,6 @@
 //! Tags about as long as a tag may be, 1,048,576 bytes.
 
-use crate::edits::{Edit, Refusal, expect_edit, expect_refusal};
+use crate::edited::{Edit, Refusal, expect_edit, expect_refusal};
 use acceptance_kit::files::Stretch;
 use acceptance_kit::frames::{G, G_LOWER, MONO, Z};
 use std::test::Fail;

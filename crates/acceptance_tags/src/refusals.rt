@@ -1,7 +1,7 @@
 //! What is refused of a file with a tag, and in which order.
 
 use crate::blocks::{JOINT, M, TWO, UNDO_BACK, UNDO_FRONT};
-use crate::edits::{Refusal, expect_refusal};
+use crate::edited::{Refusal, expect_refusal};
 use acceptance_kit::commands::{expect, expect_file, folder_of_file};
 use acceptance_kit::files::Stretch;
 use acceptance_kit::frames::{G, Z};

@@ -5,7 +5,7 @@ use crate::blocks::{
     M_LOUDER, NONE, THREE_BACK, THREE_FRONT, TWO, TWO_AND_UNDO_BACK, TWO_AND_UNDO_FRONT, UNDO_BACK,
     UNDO_FRONT,
 };
-use crate::edits::{Edit, expect_edit};
+use crate::edited::{Edit, expect_edit};
 use acceptance_kit::commands::{expect, expect_file, folder_of_frames};
 use acceptance_kit::files::{ID3V1, ID3V1_REST, ID3V2, ID3V2_REST, Stretch};
 use acceptance_kit::frames::{

@@ -4,7 +4,7 @@ use crate::blocks::{
     G_WRAPPED_DOWN, G_WRAPPED_UP, JOINT, LOST, LOWEST, LOWEST_LOUDER, M, M_LOUDER, THREE_BACK,
     THREE_FRONT, TWO, UNDO_BACK, UNDO_FRONT,
 };
-use crate::edits::{Edit, NEW_TAG, expect_edit};
+use crate::edited::{Edit, NEW_TAG, expect_edit};
 use acceptance_kit::commands::{expect, expect_file, folder_of};
 use acceptance_kit::files::{ID3V1, ID3V1_REST, ID3V2, ID3V2_REST, Stretch, bytes_of};
 use acceptance_kit::frames::{
