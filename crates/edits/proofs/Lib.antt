@@ -34,3 +34,5 @@ pub mod NoStep
 pub mod NotedAgain
 pub mod UndoneGains
 pub mod OppositeSteps
+pub mod ChosenLaws
+pub mod LaidPass

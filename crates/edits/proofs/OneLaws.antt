@@ -13,7 +13,7 @@ use Rattle.sync_survey.specs.Survey.{survey_of, RefusesBytes as SurveyRefuses, I
 use Rattle.sync_survey.proofs.BytesFaults.{IsOfBytes, surveyed_of_bytes}
 use Rattle.sync_survey.proofs.FoldersLaws.{survey_of-short}
 use Rattle.edits.specs.declared.fault.EditFault.{EditFault}
-use Rattle.edits.specs.declared.fault.EditFault.TheVariants.{EqualNames, Input, GainRange, Mono, Joint, TagTooLarge, BadTag, NoUndo, BadUndo, UndoRange, OutputTooLong, Write, Sent, Memory}
+use Rattle.edits.specs.declared.fault.EditFault.TheVariants.{EqualNames, Input, GainRange, Mono, Joint, TagTooLarge, BadTag, NoUndo, BadUndo, UndoRange, OutputTooLong, Range, Write, Sent, Memory}
 use Rattle.edits.specs.Kinds.{of_input, HasRightNumbers}
 use Rattle.edits.specs.One.{Making, most_frames, made_by, made_file, made_where, made_result, made_of, one_command, holding, RefusesInput, IsInputFaultBy, IsInputFault, HoldsPrefix, IsPassFaultBy, IsPassFault}
 use Rattle.edits.specs.Command.{Made, clash_of, Gives, written, written_to, MakesStreams, HoldsStreams}
@@ -115,6 +115,7 @@ refusal_why NoUndo is = refl
 refusal_why (BadUndo at) is = refl
 refusal_why (UndoRange number) is = refl
 refusal_why (OutputTooLong size) is = refl
+refusal_why (Range from to frames) is = refl
 refusal_why (Write place) is = absurd is
 refusal_why Sent is = absurd is
 refusal_why Memory is = absurd is
@@ -131,6 +132,7 @@ refusal_of_input NoUndo is = tt
 refusal_of_input (BadUndo at) is = tt
 refusal_of_input (UndoRange number) is = tt
 refusal_of_input (OutputTooLong size) is = tt
+refusal_of_input (Range from to frames) is = tt
 refusal_of_input (Write place) is = absurd is
 refusal_of_input Sent is = absurd is
 refusal_of_input Memory is = absurd is
@@ -218,6 +220,7 @@ input_numbers make stream proper input output NoUndo h = tt
 input_numbers make stream proper input output (BadUndo at) h = tt
 input_numbers make stream proper input output (UndoRange number) h = tt
 input_numbers make stream proper input output (OutputTooLong size) h = tt
+input_numbers make stream proper input output (Range from to frames) h = tt
 input_numbers make stream proper input output (Write place) h = absurd h
 input_numbers make stream proper input output Sent h = absurd h
 input_numbers make stream proper input output Memory h = tt
@@ -234,6 +237,7 @@ pass_numbers make stream proper input output NoUndo h = absurd h
 pass_numbers make stream proper input output (BadUndo at) h = absurd h
 pass_numbers make stream proper input output (UndoRange number) h = absurd h
 pass_numbers make stream proper input output (OutputTooLong size) h = absurd h
+pass_numbers make stream proper input output (Range from to frames) h = absurd h
 pass_numbers make stream proper input output (Write place) h = omega (arith, h)
 pass_numbers make stream proper input output Sent h = absurd h
 pass_numbers make stream proper input output Memory h = tt

@@ -17,3 +17,4 @@ pub mod Listing
 pub mod Gain
 pub mod Undo
 pub mod Undoing
+pub mod Chosen

@@ -10,6 +10,8 @@ use Rattle.edits.specs.declared.fault.EditFault.{EditFault}
 use Rattle.edits.specs.declared.fault.EditFault.TheVariants.{Input, Write as Unwritten}
 use Rattle.edits.specs.declared.moving.CopyFault.{CopyFault}
 use Rattle.edits.specs.declared.moving.CopyFault.TheVariants.{Read, Shrunk, Write}
+use Rattle.laying.specs.declared.relay.PassFault.{PassFault}
+use Rattle.laying.specs.declared.relay.PassFault.TheVariants.{Read as NotRead, Shrunk as Ended, Write as NotWritten}
 
 -- Two files of other names are there, the input has this length, and what is held of it is of its bytes.
 pub record IsReady (input output : List ℕ) (size : ℕ) (files : Files) (fed : Fed) : Type 0 where
@@ -54,3 +56,9 @@ abbrev pub of_pass : CopyFault → EditFault
 of_pass Read = Input 0 Unread
 of_pass (Shrunk first second) = Input 0 (Shorter first second)
 of_pass Write = Unwritten 0
+
+-- the fault of a pass that lays frames anew
+abbrev pub of_relay : PassFault → CopyFault
+of_relay NotRead = Read
+of_relay (Ended first second) = Shrunk first second
+of_relay NotWritten = Write

@@ -1,5 +1,5 @@
 //! The steps of a command that changes one file.
-ghost use Rattle.std.specs.Prelude.{◌≡◌, ◌≢◌, List, ℕ, Ok, is_some, IfOk, IfErr, OnOk};
+ghost use Rattle.std.specs.Prelude.{◌≡◌, ◌≢◌, ◌≤◌, List, ℕ, length, Ok, is_some, IfOk, IfErr, OnOk};
 ghost use Rattle.bit_fields.specs.Bits.{AreBytes};
 ghost use Rattle.outside.specs.Files.{Holds, IsThere};
 ghost use Rattle.outside.specs.Counts.{NoneFell, OnlyReads};
@@ -15,7 +15,7 @@ use crate::limits::MOST_FRAMES;
 use crate::moving::write_changed;
 use outside::{Feed, Folder, WriteBuffer};
 use std::alloc::Global;
-use sync_survey::{Survey, survey};
+use sync_survey::{Survey, SurveyFault, survey};
 
 /// What is known of the input.
 pub(crate) fn survey_input<D: Folder>(
@@ -26,6 +26,7 @@ pub(crate) fn survey_input<D: Folder>(
     ensures there { OnOk result (IsThere (D.files folder.old) name.now) }
     ensures surveyed { IfOk result (λ s. (bytes : List ℕ) → Holds (D.files folder.old) name.now bytes → survey_of bytes most_frames ≡ Ok (tells s)) }
     ensures laid { IfOk result (λ s. IsLaidOut (tells s)) }
+    ensures few { IfOk result (λ s. length (tells s).frames ≤ most_frames) }
     ensures octets { OnOk result ((bytes : List ℕ) → Holds (D.files folder.old) name.now bytes → AreBytes bytes) }
     // Whatever the command changes.
     ensures refused { IfErr result (λ fault. (make : Making) → IsInputFault make name.now (seen (D.files folder.old) (D.counts folder.old)) (seen (D.files folder.new) (D.counts folder.new)) fault) }
@@ -35,7 +36,11 @@ pub(crate) fn survey_input<D: Folder>(
     ensures counts { OnlyReads (D.counts folder.old) (D.counts folder.new) }
 {
     let survey = survey(alloc, folder, name, MOST_FRAMES)?;
-    Ok(survey)
+    // No file that is told has more frames than were allowed.
+    match survey.frames().get(MOST_FRAMES as usize) {
+        Some(row) => Err(EditFault::Input(0, SurveyFault::TooManyFrames(row.offset))),
+        None => Ok(survey),
+    }
 }
 
 /// Creates the output and writes it. All memory is taken before.

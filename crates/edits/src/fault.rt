@@ -37,6 +37,8 @@ pub enum EditFault {
     UndoRange(i32),
     /// The file that is to be written would have so many bytes, more than 1,073,741,824.
     OutputTooLong(u64),
+    /// The frames from the first number on and before the second aren't in a file of so many frames, or are none.
+    Range(u64, u64, u64),
     /// This output, counted from 0, could not be written.
     Write(u32),
     /// Standard output could not be written.

@@ -12,13 +12,14 @@ ghost use Rattle.sync_survey.specs.Survey.{survey_of, AreLaid, IsLaidOut};
 ghost use Rattle.edits.specs.One.{most_frames};
 ghost use Rattle.edits.specs.Change.{changed, change_in};
 ghost use Rattle.edits.specs.Moving.{row_length, row_end, IsRowOf, AreRowsOf, moved_bytes, moved_row_bytes, bytes_between, copied, written_from, IsNewTag};
-ghost use Rattle.edits.specs.Pass.{IsReady, Writes, WritesPrefix, Appends, AppendsPrefix, HasCopyCause};
+ghost use Rattle.edits.specs.Pass.{of_relay, IsReady, Writes, WritesPrefix, Appends, AppendsPrefix, HasCopyCause};
 
 use crate::change::Change;
 use crate::gains::moved_side;
 use crate::shift::Steps;
 use file_tag::tag_place;
 use frame_header::Header;
+use laying::PassFault;
 use outside::{Feed, Folder, WriteBuffer};
 use side_info::put_gains;
 use sync_survey::{Row, Survey};
@@ -38,6 +39,19 @@ pub(crate) enum CopyFault {
     Shrunk(u64, u64),
     /// The output could not be written.
     Write,
+}
+
+/// The same of a pass that lays frames anew.
+impl From<PassFault> for CopyFault {
+    ghost from_gives = { λ fault e. e ≡ of_relay fault };
+
+    fn from(fault: PassFault) -> CopyFault {
+        match fault {
+            PassFault::Read => CopyFault::Read,
+            PassFault::Shrunk(first, second) => CopyFault::Shrunk(first, second),
+            PassFault::Write => CopyFault::Write,
+        }
+    }
 }
 
 /// The bytes of a frame that stand before its main data.

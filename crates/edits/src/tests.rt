@@ -1,5 +1,6 @@
 //! Tests of the commands.
 
+mod cutting;
 mod files;
 mod pass;
 mod slow;

@@ -1,0 +1,96 @@
+-- What the command leaves, from what its steps ensure.
+use Rattle.std.proofs.Common.{◌≡◌, true, false, bytes_eq, sym, ◌∙◌, ap, ap₂, subst, rules}
+use Rattle.std.proofs.lemmas.Result.{err_from_is_err_and}
+use Rattle.outside.specs.Files.{Holds}
+use Rattle.sync_survey.specs.Faults.{tells}
+use Rattle.edits.specs.declared.fault.EditFault.TheVariants.{Memory}
+use Rattle.edits.specs.Left.{seen}
+use Rattle.edits.specs.Chosen.{chosen_in, chosen_file, laid_with, choosing, stream_chosen, pack_choice}
+use Rattle.edits.proofs.OneLaws.{IsFree, equal_left, clashes, input_left, input_behind, input_numbers, memory_is_input, done_behind, left_behind, streams_behind}
+use Rattle.edits.proofs.ChosenLaws.{pack_proper}
+use Rattle.edits.proofs.pack_file.pack.Goals as goal
+
+pub returns-then-eq-clause-left : goal.returns-then-eq-clause-left
+returns-then-eq-clause-left g c =
+    let same : bytes_eq c.args.input.now c.args.output.now ≡ true = search rules in
+    equal_left (choosing pack_choice) (stream_chosen pack_choice) pack_proper c.args.input.now c.args.output.now _ same
+
+pub returns-then-eq-clause-numbers : goal.returns-then-eq-clause-numbers
+returns-then-eq-clause-numbers g c =
+    let same : bytes_eq c.args.input.now c.args.output.now ≡ true = search rules in
+    clashes (choosing pack_choice) (stream_chosen pack_choice) pack_proper c.args.input.now c.args.output.now same
+
+pub returns-in_err-survey-clause-left : goal.returns-in_err-survey-clause-left
+returns-in_err-survey-clause-left g c =
+    let differ : bytes_eq c.args.input.now c.args.output.now ≡ false = search rules in
+    let p = err_from_is_err_and c.from_residual.result c.from_residual.ensures.1 in
+    rw (p.1, p.2) (input_left (choosing pack_choice) (stream_chosen pack_choice) pack_proper c.args.input.now c.args.output.now differ _ _ _ (c.in_err-survey.ensures.refused (choosing pack_choice)))
+
+pub returns-in_err-survey-clause-numbers : goal.returns-in_err-survey-clause-numbers
+returns-in_err-survey-clause-numbers g c =
+    let p = err_from_is_err_and c.from_residual.result c.from_residual.ensures.1 in
+    rw (p.1, p.2)
+    (input_numbers (choosing pack_choice) (stream_chosen pack_choice) pack_proper c.args.input.now c.args.output.now _ c.in_err-survey.ensures.numbers)
+
+pub returns-in_err-chosen-clause-left : goal.returns-in_err-chosen-clause-left
+returns-in_err-chosen-clause-left g c =
+    let differ : bytes_eq c.args.input.now c.args.output.now ≡ false = search rules in
+    let p = err_from_is_err_and c.from_residual-in_err-chosen.result c.from_residual-in_err-chosen.ensures.1 in
+    rw (p.1, p.2)
+    (input_behind (choosing pack_choice) (stream_chosen pack_choice) pack_proper c.args.input.now c.args.output.now differ (seen (g.D.Folder.files c.args.folder.now) (g.D.Folder.counts c.args.folder.now))
+    (seen (g.D.Folder.files c.survey_input.new.folder) (g.D.Folder.counts c.survey_input.new.folder)) _ _ (ap₂ seen c.survey_input.ensures.files c.in_ok-survey.ensures.done) c.in_err-chosen.ensures.refused)
+
+pub returns-in_err-chosen-clause-numbers : goal.returns-in_err-chosen-clause-numbers
+returns-in_err-chosen-clause-numbers g c =
+    let p = err_from_is_err_and c.from_residual-in_err-chosen.result c.from_residual-in_err-chosen.ensures.1 in
+    rw (p.1, p.2) (input_numbers (choosing pack_choice) (stream_chosen pack_choice) pack_proper c.args.input.now c.args.output.now _ c.in_err-chosen.ensures.numbers)
+
+pub returns-in_err-planned-clause-left : goal.returns-in_err-planned-clause-left
+returns-in_err-planned-clause-left g c =
+    let differ : bytes_eq c.args.input.now c.args.output.now ≡ false = search rules in
+    let p = err_from_is_err_and c.from_residual-in_err-planned.result c.from_residual-in_err-planned.ensures.1 in
+    rw (p.1, p.2)
+    (input_left (choosing pack_choice) (stream_chosen pack_choice) pack_proper c.args.input.now c.args.output.now differ (seen (g.D.Folder.files c.args.folder.now) (g.D.Folder.counts c.args.folder.now)) (seen (g.D.Folder.files c.pack_choice.new.folder) (g.D.Folder.counts c.pack_choice.new.folder)) Memory
+    (memory_is_input (choosing pack_choice) c.args.input.now (seen (g.D.Folder.files c.args.folder.now) (g.D.Folder.counts c.args.folder.now)) (seen (g.D.Folder.files c.pack_choice.new.folder) (g.D.Folder.counts c.pack_choice.new.folder)) (tells c.in_ok-survey.survey) c.in_ok-survey.ensures.there c.in_ok-survey.ensures.surveyed
+    (ap₂ seen (c.pack_choice.ensures.files ∙ c.survey_input.ensures.files) (c.in_ok-chosen.ensures.done ∙ c.in_ok-survey.ensures.done))))
+
+pub returns-clause-done : goal.returns-clause-done
+returns-clause-done g c =
+    let differ : bytes_eq c.args.input.now c.args.output.now ≡ false = search rules in
+    let files = g.D.Folder.files in
+    let counts = g.D.Folder.counts in
+    let s = tells c.in_ok-survey.survey in
+    let same_files = c.pack_choice.ensures.files ∙ c.survey_input.ensures.files in
+    let same_counts = c.in_ok-chosen.ensures.done ∙ c.in_ok-survey.ensures.done in
+    let chosen = chosen_in c.in_ok-chosen.chosen in
+    let free : IsFree (choosing pack_choice) (λ file. chosen_file chosen file s) c.args.input.now (files c.args.folder.now) s = record {
+      there = c.in_ok-survey.ensures.there;
+      few = c.in_ok-survey.ensures.surveyed;
+      made_is = λ bytes holds. ap (laid_with bytes s) (c.in_ok-chosen.ensures.chosen bytes (subst (λ f. Holds f c.args.input.now bytes) (sym c.survey_input.ensures.files) holds));
+    } in
+    done_behind (choosing pack_choice) (stream_chosen pack_choice) pack_proper c.args.input.now c.args.output.now differ (seen (files c.args.folder.now) (counts c.args.folder.now)) (seen (files c.pack_choice.new.folder) (counts c.pack_choice.new.folder))
+    (seen (files c.write_planned.new.folder) (counts c.write_planned.new.folder)) (ap₂ seen same_files same_counts) (λ file. chosen_file chosen file s) s free c.write_planned.ensures.told c.write_planned.result
+    c.write_planned.ensures.written c.write_planned.ensures.done
+
+pub returns-clause-left : goal.returns-clause-left
+returns-clause-left g c =
+    let differ : bytes_eq c.args.input.now c.args.output.now ≡ false = search rules in
+    let files = g.D.Folder.files in
+    let counts = g.D.Folder.counts in
+    let s = tells c.in_ok-survey.survey in
+    let same_files = c.pack_choice.ensures.files ∙ c.survey_input.ensures.files in
+    let same_counts = c.in_ok-chosen.ensures.done ∙ c.in_ok-survey.ensures.done in
+    let chosen = chosen_in c.in_ok-chosen.chosen in
+    let free : IsFree (choosing pack_choice) (λ file. chosen_file chosen file s) c.args.input.now (files c.args.folder.now) s = record {
+      there = c.in_ok-survey.ensures.there;
+      few = c.in_ok-survey.ensures.surveyed;
+      made_is = λ bytes holds. ap (laid_with bytes s) (c.in_ok-chosen.ensures.chosen bytes (subst (λ f. Holds f c.args.input.now bytes) (sym c.survey_input.ensures.files) holds));
+    } in
+    left_behind (choosing pack_choice) (stream_chosen pack_choice) pack_proper c.args.input.now c.args.output.now differ (seen (files c.args.folder.now) (counts c.args.folder.now)) (seen (files c.pack_choice.new.folder) (counts c.pack_choice.new.folder))
+    (seen (files c.write_planned.new.folder) (counts c.write_planned.new.folder)) (ap₂ seen same_files same_counts) (λ file. chosen_file chosen file s) s free c.write_planned.ensures.told c.write_planned.result
+    c.write_planned.ensures.left
+
+pub returns-clause-streams : goal.returns-clause-streams
+returns-clause-streams g c =
+    let differ : bytes_eq c.args.input.now c.args.output.now ≡ false = search rules in
+    streams_behind (choosing pack_choice) (stream_chosen pack_choice) pack_proper c.args.input.now c.args.output.now differ (g.D.Folder.files c.args.folder.now) c.in_ok-survey.ensures.there c.in_ok-survey.ensures.octets c.write_planned.result
