@@ -8,7 +8,7 @@ use Rattle.std.proofs.Math.ListN as listn
 use Rattle.std.proofs.lemmas.List.{get_or-map, length-map, take-map, take_all}
 use Rattle.std.proofs.lemmas.List.Sums.{fold_more, common_prefix_len-le}
 use Rattle.mp3_cli.specs.declared.words.FormName.{FormName}
-use Rattle.mp3_cli.specs.declared.words.FormName.TheVariants.{Help, ShortHelp, Version, List as ListFile, Gain, ChannelGain, Undo}
+use Rattle.mp3_cli.specs.declared.words.FormName.TheVariants.{Help, ShortHelp, Version, List as ListFile, Gain, ChannelGain, Undo, Cut, LeastCut, Pack}
 use Rattle.mp3_cli.specs.declared.words.GainOptions.TheVariants.{Plain, Tagless, Wrapping, TaglessWrapping, WrappingTagless}
 use Rattle.mp3_cli.specs.declared.jobs.Job.{Job}
 use Rattle.mp3_cli.specs.Words.{Kind, Form, fits_kind, followed, furthest, form_of, have_kinds, reading}
@@ -82,6 +82,9 @@ short (ChannelGain Wrapping) = omega arith
 short (ChannelGain TaglessWrapping) = omega arith
 short (ChannelGain WrappingTagless) = omega arith
 short Undo = omega arith
+short Cut = omega arith
+short LeastCut = omega arith
+short Pack = omega arith
 
 -- what the code knows at the form at i: its kinds, and how far the words follow them
 pub record Turn (names : List FormName) (table : List Form) (i : ℕ) (d : FormName) (words : List (List ℕ)) (kinds : List Kind) (count : ℕ) : Type 0 where

@@ -7,7 +7,7 @@ use Rattle.outside.specs.Files.{Contents, Files, untold, Sent, sent_more}
 use Rattle.outside.specs.Counts.{Rose}
 use Rattle.outside.proofs.FilesLaws.{sent_nothing}
 use Rattle.edits.specs.declared.fault.EditFault.{EditFault}
-use Rattle.edits.specs.declared.fault.EditFault.TheVariants.{EqualNames, Input, GainRange, Mono, Joint, TagTooLarge, BadTag, NoUndo, BadUndo, UndoRange, OutputTooLong, Write, Sent as NotSent, Memory}
+use Rattle.edits.specs.declared.fault.EditFault.TheVariants.{EqualNames, Input, GainRange, Mono, Joint, TagTooLarge, BadTag, NoUndo, BadUndo, UndoRange, OutputTooLong, Range, Write, Sent as NotSent, Memory}
 use Rattle.edits.specs.Kinds.{InputKind, IsAbsent, IsUnread as NotRead, IsShorter as Shrank, IsTooMuch, IsRefused as AtFault, kind_of, by_kind}
 use Rattle.edits.specs.One.{Making, made_result, made_of, one_command}
 use Rattle.edits.specs.Command.{Made, Command, clash_of, written, Gives, MakesStreams, HoldsStreams}
@@ -53,6 +53,7 @@ module _ (command : Command) (files : Files) (old new : Heard) where
   sent_rose (BadUndo offset) is says = absurd cc
   sent_rose (UndoRange sum) is says = absurd cc
   sent_rose (OutputTooLong length) is says = absurd cc
+  sent_rose (Range from to frames) is says = absurd cc
   sent_rose (Write place) is says = absurd cc
   sent_rose NotSent is says = says.rose
   sent_rose Memory is says = absurd cc
@@ -69,6 +70,7 @@ module _ (command : Command) (files : Files) (old new : Heard) where
   sent_none (BadUndo offset) other says = says
   sent_none (UndoRange sum) other says = says
   sent_none (OutputTooLong length) other says = says
+  sent_none (Range from to frames) other says = says
   sent_none (Write place) other says = says
   sent_none NotSent other says = absurd (other refl)
   sent_none Memory other says = says
@@ -321,6 +323,7 @@ module _ (make : Making) (stream : List ℕ → List StreamFrame) (input output 
   says_fault (BadUndo offset) numbers = refl
   says_fault (UndoRange sum) numbers = refl
   says_fault (OutputTooLong length) numbers = refl
+  says_fault (Range from to frames) numbers = refl
   says_fault (Write place) numbers = refl
   says_fault NotSent numbers = absurd (numbers refl)
   says_fault Memory numbers = refl

@@ -1,12 +1,16 @@
 -- What a job names and asks for is in range.
 use Rattle.std.proofs.Common.{◌≡◌, ℕ, zero, suc, ◌<◌, ◌≤◌, ◌&&◌, ◌==◌, Bool, true, false, cond, ◌+◌, ◌-◌, List, [], ◌∷◌, length, get_or, Option, Some, None, Ok, refl, sym, ◌∙◌, subst, leb, pos, neg_ℤ, arith, rules}
-use Rattle.std.specs.Prelude.{IfSome, unwrap_or, option_map}
+use Rattle.std.specs.Prelude.{IfSome, unwrap_or, option_map, option_and_then, codes, bytes_eq}
+use Rattle.std.specs.List.{before_first, after_first, position_or_len}
 use Rattle.std.specs.Str.{all_ascii_digits}
 use Rattle.std.specs.Str.Parse.{digits_value}
 use Rattle.std.proofs.lemmas.Int.{ints}
 use Rattle.std.proofs.lemmas.Bool.{leb-true}
+use Rattle.cue_sheet.specs.declared.place.Place.TheVariants.{Frame, End}
+use Rattle.cue_sheet.specs.Digits.{number_in}
+use Rattle.cue_sheet.specs.Places.{is_dot, frame_number, time_in, seconds_in, hundredths_in, time_of, place_of, IsPlace}
 use Rattle.mp3_cli.specs.declared.jobs.Job.{Job}
-use Rattle.mp3_cli.specs.Words.{Kind, Name, Form, fits_kind, Options, Plain, Tagless, Wrapping, TaglessWrapping, WrappingTagless, forms, list_file, gain_form, channel_form, undo_form, have_kinds, job_of, step_count, steps_of, word_at, IsNamePlace, IsStepCount, IsSound}
+use Rattle.mp3_cli.specs.Words.{Kind, Name, Form, fits_kind, Options, Plain, Tagless, Wrapping, TaglessWrapping, WrappingTagless, forms, list_file, gain_form, channel_form, undo_form, cut_form, least_cut_form, pack_form, have_kinds, job_of, step_count, steps_of, word_at, IsNamePlace, IsStepCount, IsSound}
 use Rattle.mp3_cli.proofs.Places.{reading_ok}
 
 and_last : (x d : Bool) → (x && d) ≡ true → d ≡ true
@@ -83,6 +87,45 @@ list_is_sound words h =
 undo_is_sound : AreSound undo_form
 undo_is_sound words h = two_names undo_form.kinds words 2 h refl refl refl
 
+-- the word at k, counted from 0, is a name
+one_name : (kinds : List Kind) (words : List (List ℕ)) (k : ℕ) → have_kinds kinds words ≡ true → k < length kinds → get_or kinds k Name ≡ Name → IsNamePlace words (k + 1)
+one_name kinds words k h lt is =
+    let fits : fits_kind Name (get_or words k []) ≡ true = subst (λ kind. fits_kind kind (get_or words k []) ≡ true) is (each_fits kinds words k Name h lt) in
+    let at : k + 1 - 1 ≡ k = omega arith in
+    record { counted = omega arith; in_range = omega (arith, as_many kinds words h, lt); name = rw at fits }
+
+-- a place that a word says
+numbered : (o : Option ℕ) → IsPlace (unwrap_or (option_map Frame o) End)
+numbered None = tt
+numbered (Some n) = tt
+
+timed : (minutes seconds hundredths : Option ℕ) → IsPlace (unwrap_or (option_and_then (λ m. option_and_then (λ s. option_map (time_in m s) hundredths) seconds) minutes) End)
+timed None seconds hundredths = tt
+timed (Some m) None hundredths = tt
+timed (Some m) (Some s) None = tt
+timed (Some m) (Some s) (Some h) = (omega arith, omega arith)
+
+place_is_sound : (word : List ℕ) → IsPlace (unwrap_or (place_of word) End)
+unfolding place_of time_of
+place_is_sound word =
+    let rest = after_first is_dot word in
+    let time = timed (number_in 1 4 9999 (before_first is_dot word)) (seconds_in rest) (hundredths_in rest) in
+    elim (bytes_eq word (codes "EOF")) as (λ b. IsPlace (unwrap_or (cond b (Some End) (cond (position_or_len is_dot word == length word) (frame_number word) (time_of (before_first is_dot word) rest))) End)) [
+      | true ↦ tt
+      | false ↦ elim (position_or_len is_dot word == length word) as (λ b. IsPlace (unwrap_or (cond b (frame_number word) (time_of (before_first is_dot word) rest)) End)) [ true ↦ numbered (number_in 1 7 9999999 word) | false ↦ time ]
+    ]
+
+cut_is_sound : AreSound cut_form
+cut_is_sound words h =
+    (one_name cut_form.kinds words 1 h (omega arith) refl, one_name cut_form.kinds words 4 h (omega arith) refl, place_is_sound (word_at words 3), place_is_sound (word_at words 4))
+
+least_cut_is_sound : AreSound least_cut_form
+least_cut_is_sound words h =
+    (one_name least_cut_form.kinds words 2 h (omega arith) refl, one_name least_cut_form.kinds words 5 h (omega arith) refl, place_is_sound (word_at words 4), place_is_sound (word_at words 5))
+
+pack_is_sound : AreSound pack_form
+pack_is_sound words h = two_names pack_form.kinds words 1 h refl refl refl
+
 gain_is_sound : (options : Options) → AreSound (gain_form options)
 gain_is_sound Plain words h = let names = two_names (gain_form Plain).kinds words 3 h refl refl refl in (names.0, names.1, steps_in_range (word_at words 3))
 gain_is_sound Tagless words h = let names = two_names (gain_form Tagless).kinds words 5 h refl refl refl in (names.0, names.1, steps_in_range (word_at words 5))
@@ -113,7 +156,10 @@ form_is_sound (suc (suc (suc (suc (suc (suc (suc (suc (suc (suc (suc zero)))))))
 form_is_sound (suc (suc (suc (suc (suc (suc (suc (suc (suc (suc (suc (suc zero)))))))))))) form lt here = subst AreSound here (channel_is_sound TaglessWrapping)
 form_is_sound (suc (suc (suc (suc (suc (suc (suc (suc (suc (suc (suc (suc (suc zero))))))))))))) form lt here = subst AreSound here (channel_is_sound WrappingTagless)
 form_is_sound (suc (suc (suc (suc (suc (suc (suc (suc (suc (suc (suc (suc (suc (suc zero)))))))))))))) form lt here = subst AreSound here undo_is_sound
-form_is_sound (suc (suc (suc (suc (suc (suc (suc (suc (suc (suc (suc (suc (suc (suc (suc k))))))))))))))) form lt here = absurd (omega (arith, lt))
+form_is_sound (suc (suc (suc (suc (suc (suc (suc (suc (suc (suc (suc (suc (suc (suc (suc zero))))))))))))))) form lt here = subst AreSound here cut_is_sound
+form_is_sound (suc (suc (suc (suc (suc (suc (suc (suc (suc (suc (suc (suc (suc (suc (suc (suc zero)))))))))))))))) form lt here = subst AreSound here least_cut_is_sound
+form_is_sound (suc (suc (suc (suc (suc (suc (suc (suc (suc (suc (suc (suc (suc (suc (suc (suc (suc zero))))))))))))))))) form lt here = subst AreSound here pack_is_sound
+form_is_sound (suc (suc (suc (suc (suc (suc (suc (suc (suc (suc (suc (suc (suc (suc (suc (suc (suc (suc k)))))))))))))))))) form lt here = absurd (omega (arith, lt))
 
 pub is_sound : (words : List (List ℕ)) (job : Job) → Ok job ≡ job_of words → IsSound words job
 unfolding job_of

@@ -8,9 +8,10 @@ use Rattle.edits.specs.Left.{Seen, IsDone, Leaves, HasNumbers}
 use Rattle.edits.specs.Said.{Heard, Says}
 use Rattle.edits.specs.Gain.{gain_command}
 use Rattle.edits.specs.Undo.{undo_command}
+use Rattle.edits.specs.Chosen.{cut_command, pack_command}
 use Rattle.edits.specs.Listing.{list_command}
 use Rattle.mp3_cli.specs.declared.jobs.Job.{Job}
-use Rattle.mp3_cli.specs.declared.jobs.Job.TheVariants.{Help, Version, List as ListFile, Gain, Undo}
+use Rattle.mp3_cli.specs.declared.jobs.Job.TheVariants.{Help, Version, List as ListFile, Gain, Undo, Cut, Pack}
 use Rattle.mp3_cli.specs.Words.{word_at, job_of}
 use Rattle.mp3_cli.specs.Texts.{status_of, fault_line, bad_word_line, help_text, version_text, GotLine}
 
@@ -32,6 +33,8 @@ command_of words Version = said_command version_text
 command_of words (ListFile input) = list_command (word_at words input)
 command_of words (Gain shift tags input output) = gain_command shift tags (word_at words input) (word_at words output)
 command_of words (Undo input output) = undo_command (word_at words input) (word_at words output)
+command_of words (Cut from to least input output) = cut_command from to least (word_at words input) (word_at words output)
+command_of words (Pack input output) = pack_command (word_at words input) (word_at words output)
 
 -- ---- the answer of a command, whatever its folder tells
 

@@ -7,7 +7,7 @@ use Rattle.edits.specs.Left.{Why, Refused, NoMemory, why_of}
 use Rattle.sync_survey.specs.declared.survey_fault.SurveyFault.{SurveyFault}
 use Rattle.sync_survey.specs.declared.survey_fault.SurveyFault.TheVariants.{Absent, TooLong, NoFrame, LostSync, Truncated, FreeFormat, Mixed, CheckWord, BackPointer, Overlap, Overrun, TooManyFrames, Shrunk, Read, Memory}
 use Rattle.edits.specs.declared.fault.EditFault.{EditFault}
-use Rattle.edits.specs.declared.fault.EditFault.TheVariants.{EqualNames, Input, GainRange, Mono, Joint, TagTooLarge, BadTag, NoUndo, BadUndo, UndoRange, OutputTooLong, Write, Sent as NotSent, Memory as OutOfMemory}
+use Rattle.edits.specs.declared.fault.EditFault.TheVariants.{EqualNames, Input, GainRange, Mono, Joint, TagTooLarge, BadTag, NoUndo, BadUndo, UndoRange, OutputTooLong, Range, Write, Sent as NotSent, Memory as OutOfMemory}
 
 abbrev pub status_by : Why → ℕ
 status_by Refused = 1
@@ -62,6 +62,7 @@ fault_line NoUndo inputs outputs = codes "no undo item\n"
 fault_line (BadUndo offset) inputs outputs = codes "bad undo item at " ++ decimal offset ++ codes "\n"
 fault_line (UndoRange sum) inputs outputs = codes "undo sum " ++ signed_decimal sum ++ codes " is out of range\n"
 fault_line (OutputTooLong length) inputs outputs = codes "output too long, " ++ decimal length ++ codes " bytes\n"
+fault_line (Range from to frames) inputs outputs = codes "range " ++ decimal from ++ codes " to " ++ decimal to ++ codes " of " ++ decimal frames ++ codes " frames\n"
 fault_line (Write place) inputs outputs = name_in outputs place ++ codes ": write fault\n"
 fault_line NotSent inputs outputs = codes "standard output: write fault\n"
 fault_line OutOfMemory inputs outputs = codes "out of memory\n"
@@ -87,10 +88,15 @@ help_text =
     ++ (codes "                         -s s: keep no note of the change in the tag of OUT\n"
     ++ (codes "                         -w: let gains wrap around from 255 to 0 and back, which else is refused\n"
     ++ (codes "  gain -u IN OUT         write IN to OUT, with all changes taken back that its tag has a note of\n"
+    ++ (codes "  cut [--least] IN FROM TO OUT\n"
+    ++ (codes "                         write the frames of IN from FROM on and before TO to OUT, with all main data\n"
+    ++ (codes "                         FROM, TO: a frame's number from 0, a time (M.S or M.S.H) or EOF\n"
+    ++ (codes "                         --least: each frame with the least bit rate that has room for it\n"
+    ++ (codes "  pack IN OUT            write all frames of IN to OUT, each with the least bit rate that has room for it\n"
     ++ (codes "  --help, -h             say this\n"
     ++ (codes "  --version              say which version this is\n"
     ++ (codes "status: 0 done; 1 refused; 2 bad word; 3 a file is absent, or reading or writing failed;\n"
-    ++ codes "        4 out of memory\n")))))))))))
+    ++ codes "        4 out of memory\n"))))))))))))))))
 
 -- the program's name and version
 unfoldable pub version_text : List ℕ

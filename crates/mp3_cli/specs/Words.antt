@@ -4,10 +4,13 @@ use Rattle.std.specs.List.{common_prefix_len}
 use Rattle.std.specs.Cmp.Lexicographic.{pointwise}
 use Rattle.std.specs.Str.{all_ascii_digits}
 use Rattle.std.specs.Str.Parse.{digits_value}
+use Rattle.cue_sheet.specs.declared.place.Place.{Place as StreamPlace}
+use Rattle.cue_sheet.specs.declared.place.Place.TheVariants.{End}
+use Rattle.cue_sheet.specs.Places.{place_of, IsPlace}
 use Rattle.edits.specs.declared.shift.Channels.{Channels}
 use Rattle.edits.specs.declared.shift.Channels.TheVariants.{Both, Left, Right}
 use Rattle.mp3_cli.specs.declared.jobs.Job.{Job}
-use Rattle.mp3_cli.specs.declared.jobs.Job.TheVariants.{Help, Version, List as ListFile, Gain, Undo}
+use Rattle.mp3_cli.specs.declared.jobs.Job.TheVariants.{Help, Version, List as ListFile, Gain, Undo, Cut, Pack}
 
 -- ---- words
 
@@ -21,6 +24,8 @@ pub data Kind : Type 0 where
   Steps : Kind
   -- a channel: `0` is the left one, `1` the right one
   Channel : Kind
+  -- a place in a stream
+  Place : Kind
 
 -- a name isn't empty, and doesn't begin with `-`
 abbrev pub is_name : List ℕ → Bool
@@ -50,6 +55,7 @@ fits_kind (Fixed text) word = bytes_eq word text
 fits_kind Name word = is_name word
 fits_kind Steps word = is_some (steps_of word)
 fits_kind Channel word = is_some (channel_of word)
+fits_kind Place word = is_some (place_of word)
 
 -- ---- forms
 
@@ -133,13 +139,29 @@ channel_form options =
 abbrev pub undo_form : Form
 undo_form = record { kinds = Fixed (codes "gain") ∷ Fixed (codes "-u") ∷ Name ∷ Name ∷ []; reads = λ words. Undo 3 4 }
 
+-- the place in a stream that the word at a place says
+abbrev pub place_at : List (List ℕ) → ℕ → StreamPlace
+place_at words place = unwrap_or (place_of (word_at words place)) End
+
+-- `cut IN FROM TO OUT`: each frame keeps its slot
+abbrev pub cut_form : Form
+cut_form = record { kinds = Fixed (codes "cut") ∷ Name ∷ Place ∷ Place ∷ Name ∷ []; reads = λ words. Cut (place_at words 3) (place_at words 4) false 2 5 }
+
+-- `cut --least IN FROM TO OUT`: each has the least slot
+abbrev pub least_cut_form : Form
+least_cut_form = record { kinds = Fixed (codes "cut") ∷ Fixed (codes "--least") ∷ Name ∷ Place ∷ Place ∷ Name ∷ []; reads = λ words. Cut (place_at words 4) (place_at words 5) true 3 6 }
+
+-- `pack IN OUT`
+abbrev pub pack_form : Form
+pack_form = record { kinds = Fixed (codes "pack") ∷ Name ∷ Name ∷ []; reads = λ words. Pack 2 3 }
+
 -- all of them
 abbrev pub forms : List Form
 forms =
     help ∷ short_help ∷ version ∷ list_file
     ∷ gain_form Plain ∷ gain_form Tagless ∷ gain_form Wrapping ∷ gain_form TaglessWrapping ∷ gain_form WrappingTagless
     ∷ channel_form Plain ∷ channel_form Tagless ∷ channel_form Wrapping ∷ channel_form TaglessWrapping ∷ channel_form WrappingTagless
-    ∷ undo_form ∷ []
+    ∷ undo_form ∷ cut_form ∷ least_cut_form ∷ pack_form ∷ []
 
 -- ---- the reading
 
@@ -214,3 +236,5 @@ IsSound words Version = Unit {0}
 IsSound words (ListFile input) = IsNamePlace words input
 IsSound words (Gain shift tags input output) = IsNamePlace words input × IsNamePlace words output × IsStepCount shift.steps
 IsSound words (Undo input output) = IsNamePlace words input × IsNamePlace words output
+IsSound words (Cut from to least input output) = IsNamePlace words input × IsNamePlace words output × IsPlace from × IsPlace to
+IsSound words (Pack input output) = IsNamePlace words input × IsNamePlace words output

@@ -1,5 +1,6 @@
 //! What the program is asked to do.
 
+use cue_sheet::Place;
 use edits::Shift;
 
 /// What a list of words asks for. Names are places of words, counted from 1.
@@ -27,6 +28,26 @@ pub enum Job {
     },
     /// Take back all changes that the tag of the file `input` keeps a note of, and write the result to `output`.
     Undo {
+        /// The place of the word that names the file to read.
+        input: u32,
+        /// The place of the word that names the file to write.
+        output: u32,
+    },
+    /// Write the frames of the file `input` from one place on and before another to `output`.
+    Cut {
+        /// The place of the first frame.
+        from: Place,
+        /// The place of the first frame behind them.
+        to: Place,
+        /// Whether each frame has the least bit rate and padding with room for it, and doesn't keep its own.
+        least: bool,
+        /// The place of the word that names the file to read.
+        input: u32,
+        /// The place of the word that names the file to write.
+        output: u32,
+    },
+    /// Write all frames of the file `input` to `output`, each with the least bit rate and padding with room for it.
+    Pack {
         /// The place of the word that names the file to read.
         input: u32,
         /// The place of the word that names the file to write.

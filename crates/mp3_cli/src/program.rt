@@ -12,7 +12,7 @@ ghost use Rattle.mp3_cli.specs.Run.{command_of, always_of, fault_status, result_
 use crate::jobs::Job;
 use crate::texts::{say_help, say_version, send_bad_word, send_fault, status};
 use crate::words::{job, word_at};
-use edits::{EditFault, gain, list, undo};
+use edits::{EditFault, cut, gain, list, pack, undo};
 use outside::{Folder, Sink};
 use std::alloc::Global;
 
@@ -82,6 +82,24 @@ fn run_job<D: Folder, T: Sink, E: Sink>(
             let done = undo(alloc, folder, input, output);
             report(err, done, &[input], &[output])
         }
+        Job::Cut {
+            from,
+            to,
+            least,
+            input,
+            output,
+        } => {
+            let input = word_at(words, input);
+            let output = word_at(words, output);
+            let done = cut(alloc, folder, input, &from, &to, least, output);
+            report(err, done, &[input], &[output])
+        }
+        Job::Pack { input, output } => {
+            let input = word_at(words, input);
+            let output = word_at(words, output);
+            let done = pack(alloc, folder, input, output);
+            report(err, done, &[input], &[output])
+        }
     }
 }
 
@@ -129,7 +147,7 @@ pub fn run<D: Folder, T: Sink, E: Sink>(
     ensures quiet { result ≡ 0 → E.sent err.new ≡ E.sent err.old }
 
     // Standard output gets a text only where the command was done, or a write there failed. Where the text is the same whatever the
-    // files are, it gets it over every folder: that of `--help` and `--version`, and none of `gain` and `gain -u`.
+    // files are, it gets it over every folder: that of `--help` and `--version`, and none of the commands that write a file.
     ensures silent { result ≢ 0 → result ≢ 3 → T.sent out.new ≡ T.sent out.old }
     ensures text { result ≡ 0 → IfSome (always_of (map string_bytes words.now) (job_of (map string_bytes words.now))) (λ text. T.sent out.new ≡ sent_more (T.sent out.old) text) }
     ensures counts { NoneFell (D.counts folder.old) (D.counts folder.new) }

@@ -1,9 +1,12 @@
 //! Words and their readings, and lines as they are sent.
+ghost use Rattle.mp3_cli.specs.Texts.{HasLine};
 
 use super::*;
+use cue_sheet::Place;
 use edits::{Channels, EditFault, Shift};
 use outside::{MemFolder, MemSink};
-use std::alloc::{AllocError, Global};
+use std::alloc::{AllocError, AllocGlobal, Global};
+use std::process::Abort;
 use std::test::Fail;
 use sync_survey::SurveyFault;
 
@@ -220,6 +223,11 @@ const USAGE: &[u8] = b"usage: mp3edit COMMAND
                          -s s: keep no note of the change in the tag of OUT
                          -w: let gains wrap around from 255 to 0 and back, which else is refused
   gain -u IN OUT         write IN to OUT, with all changes taken back that its tag has a note of
+  cut [--least] IN FROM TO OUT
+                         write the frames of IN from FROM on and before TO to OUT, with all main data
+                         FROM, TO: a frame's number from 0, a time (M.S or M.S.H) or EOF
+                         --least: each frame with the least bit rate that has room for it
+  pack IN OUT            write all frames of IN to OUT, each with the least bit rate that has room for it
   --help, -h             say this
   --version              say which version this is
 status: 0 done; 1 refused; 2 bad word; 3 a file is absent, or reading or writing failed;
@@ -271,6 +279,44 @@ fn texts_that_are_said(rt: HostRuntime) -> Result<(), Fail> {
     Ok(())
 }
 
+// Where they are, and what they are read as.
+#[test]
+fn words_of_cuts(rt: HostRuntime) -> Result<(), Fail> {
+    let alloc = rt.alloc();
+    assert_eq!(rt;
+        read(alloc, &["cut", "a", "1", "EOF", "b"])?,
+        Ok(Job::Cut {
+            from: Place::Frame(1),
+            to: Place::End,
+            least: false,
+            input: 2,
+            output: 5
+        })
+    );
+    assert_eq!(rt;
+        read(alloc, &["cut", "--least", "a", "0.0", "1.02.5", "b"])?,
+        Ok(Job::Cut {
+            from: Place::Time(0, 100),
+            to: Place::Time(6205, 100),
+            least: true,
+            input: 3,
+            output: 6
+        })
+    );
+    assert_eq!(rt;
+        read(alloc, &["pack", "a", "b"])?,
+        Ok(Job::Pack {
+            input: 2,
+            output: 3
+        })
+    );
+    assert_eq!(rt; read(alloc, &["cut", "a", "0"])?, Err(4));
+    assert_eq!(rt; read(alloc, &["cut", "a", "0", "1.60", "b"])?, Err(4));
+    assert_eq!(rt; read(alloc, &["cut", "--least", "a", "0", "b"])?, Err(5));
+    assert_eq!(rt; read(alloc, &["pack", "a"])?, Err(3));
+    Ok(())
+}
+
 #[test]
 fn bad_words(rt: HostRuntime) -> Result<(), Fail> {
     let alloc = rt.alloc();
@@ -305,62 +351,8 @@ struct Line {
     line: &'static [u8],
 }
 
-static LINES: [Line; 28] = [
-    Line {
-        fault: EditFault::EqualNames(0),
-        status: 1,
-        line: b"a.mp3: input is an output\n",
-    },
-    Line {
-        fault: EditFault::Mono,
-        status: 1,
-        line: b"one channel only\n",
-    },
-    Line {
-        fault: EditFault::Joint(30417),
-        status: 1,
-        line: b"joint stereo at 30417\n",
-    },
-    Line {
-        fault: EditFault::TagTooLarge(1_048_577),
-        status: 1,
-        line: b"tag too large, 1048577\n",
-    },
-    Line {
-        fault: EditFault::BadTag(441),
-        status: 1,
-        line: b"bad tag at 441\n",
-    },
-    Line {
-        fault: EditFault::NoUndo,
-        status: 1,
-        line: b"no undo item\n",
-    },
-    Line {
-        fault: EditFault::BadUndo(449),
-        status: 1,
-        line: b"bad undo item at 449\n",
-    },
-    Line {
-        fault: EditFault::UndoRange(-1020),
-        status: 1,
-        line: b"undo sum -1020 is out of range\n",
-    },
-    Line {
-        fault: EditFault::UndoRange(1254),
-        status: 1,
-        line: b"undo sum 1254 is out of range\n",
-    },
-    Line {
-        fault: EditFault::OutputTooLong(1_073_741_920),
-        status: 1,
-        line: b"output too long, 1073741920 bytes\n",
-    },
-    Line {
-        fault: EditFault::Sent,
-        status: 3,
-        line: b"standard output: write fault\n",
-    },
+/// Faults of an input.
+static INPUT_LINES: [Line; 14] = [
     Line {
         fault: EditFault::Input(0, SurveyFault::Absent),
         status: 3,
@@ -431,10 +423,74 @@ static LINES: [Line; 28] = [
         status: 3,
         line: b"a.mp3: read fault\n",
     },
+];
+
+/// All others.
+static LINES: [Line; 15] = [
+    Line {
+        fault: EditFault::EqualNames(0),
+        status: 1,
+        line: b"a.mp3: input is an output\n",
+    },
+    Line {
+        fault: EditFault::Mono,
+        status: 1,
+        line: b"one channel only\n",
+    },
+    Line {
+        fault: EditFault::Joint(30417),
+        status: 1,
+        line: b"joint stereo at 30417\n",
+    },
+    Line {
+        fault: EditFault::TagTooLarge(1_048_577),
+        status: 1,
+        line: b"tag too large, 1048577\n",
+    },
+    Line {
+        fault: EditFault::BadTag(441),
+        status: 1,
+        line: b"bad tag at 441\n",
+    },
+    Line {
+        fault: EditFault::NoUndo,
+        status: 1,
+        line: b"no undo item\n",
+    },
+    Line {
+        fault: EditFault::BadUndo(449),
+        status: 1,
+        line: b"bad undo item at 449\n",
+    },
+    Line {
+        fault: EditFault::UndoRange(-1020),
+        status: 1,
+        line: b"undo sum -1020 is out of range\n",
+    },
+    Line {
+        fault: EditFault::UndoRange(1254),
+        status: 1,
+        line: b"undo sum 1254 is out of range\n",
+    },
+    Line {
+        fault: EditFault::OutputTooLong(1_073_741_920),
+        status: 1,
+        line: b"output too long, 1073741920 bytes\n",
+    },
+    Line {
+        fault: EditFault::Sent,
+        status: 3,
+        line: b"standard output: write fault\n",
+    },
     Line {
         fault: EditFault::GainRange(417, 1, 0, 255),
         status: 1,
         line: b"gain 255 out of range at 417, granule 1, channel 0\n",
+    },
+    Line {
+        fault: EditFault::Range(2, 2, 2),
+        status: 1,
+        line: b"range 2 to 2 of 2 frames\n",
     },
     Line {
         fault: EditFault::Write(0),
@@ -448,14 +504,30 @@ static LINES: [Line; 28] = [
     },
 ];
 
+/// The status of the fault, and its line.
+fn expect_line<R: Abort + AllocGlobal>(rt: &R, case: &Line) -> Result<(), AllocError>
+    requires { HasLine case.now.fault }
+{
+    assert_eq!(rt; status(&case.fault), case.status);
+    let mut err = MemSink::new(rt.alloc());
+    err.reserve(100)?;
+    send_fault(&mut err, &case.fault, &["a.mp3"], &["b.mp3"]);
+    assert_eq!(rt; err.sent(), case.line);
+    Ok(())
+}
+
+#[test]
+fn lines_of_inputs(rt: HostRuntime) -> Result<(), Fail> {
+    for case in &INPUT_LINES {
+        expect_line(&rt, case)?;
+    }
+    Ok(())
+}
+
 #[test]
 fn lines(rt: HostRuntime) -> Result<(), Fail> {
     for case in &LINES {
-        assert_eq!(rt; status(&case.fault), case.status);
-        let mut err = MemSink::new(rt.alloc());
-        err.reserve(100)?;
-        send_fault(&mut err, &case.fault, &["a.mp3"], &["b.mp3"]);
-        assert_eq!(rt; err.sent(), case.line);
+        expect_line(&rt, case)?;
     }
     Ok(())
 }

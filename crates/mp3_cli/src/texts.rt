@@ -36,7 +36,8 @@ pub fn status(fault: &EditFault) -> u8
         | EditFault::NoUndo
         | EditFault::BadUndo(_)
         | EditFault::UndoRange(_)
-        | EditFault::OutputTooLong(_) => 1,
+        | EditFault::OutputTooLong(_)
+        | EditFault::Range(..) => 1,
         EditFault::Input(_, fault) => input_status(fault),
         EditFault::Write(_) | EditFault::Sent => 3,
         EditFault::Memory => 4,
@@ -63,7 +64,7 @@ fn send_pieces<E: Sink>(err: &mut E, pieces: &[&str])
 }
 
 /// What the program does, form by form, and the statuses.
-static HELP: [&str; 13] = [
+static HELP: [&str; 18] = [
     "usage: mp3edit COMMAND\n",
     "  list IN                say what stands in the MP3 file IN: tags, junk, head and frames\n",
     "  gain [-s s] [-w] -g N IN OUT\n",
@@ -73,6 +74,11 @@ static HELP: [&str; 13] = [
     "                         -s s: keep no note of the change in the tag of OUT\n",
     "                         -w: let gains wrap around from 255 to 0 and back, which else is refused\n",
     "  gain -u IN OUT         write IN to OUT, with all changes taken back that its tag has a note of\n",
+    "  cut [--least] IN FROM TO OUT\n",
+    "                         write the frames of IN from FROM on and before TO to OUT, with all main data\n",
+    "                         FROM, TO: a frame's number from 0, a time (M.S or M.S.H) or EOF\n",
+    "                         --least: each frame with the least bit rate that has room for it\n",
+    "  pack IN OUT            write all frames of IN to OUT, each with the least bit rate that has room for it\n",
     "  --help, -h             say this\n",
     "  --version              say which version this is\n",
     "status: 0 done; 1 refused; 2 bad word; 3 a file is absent, or reading or writing failed;\n",
@@ -127,6 +133,23 @@ fn send_gain_range<E: Sink>(err: &mut E, offset: u64, granule: u8, channel: u8, 
             ", channel ",
             Buffer::new().format(channel),
             "\n",
+        ],
+    );
+}
+
+fn send_range<E: Sink>(err: &mut E, from: u64, to: u64, frames: u64)
+    ensures { GotLine (E.sent err.old) (E.sent err.new) (E.faults err.old) (E.faults err.new) (fault_line (EditFault.Range from to frames) [] []) }
+{
+    send_pieces(
+        err,
+        &[
+            "range ",
+            Buffer::new().format(from),
+            " to ",
+            Buffer::new().format(to),
+            " of ",
+            Buffer::new().format(frames),
+            " frames\n",
         ],
     );
 }
@@ -311,6 +334,7 @@ fn name_in<'a>(names: &[&'a str], place: u32) -> &'a str
 /// | BadUndo(O) | `bad undo item at O` |
 /// | UndoRange(S) | `undo sum S is out of range` |
 /// | OutputTooLong(N) | `output too long, N bytes` |
+/// | Range(F, T, N) | `range F to T of N frames` |
 /// | Write | `NAME: write fault` |
 /// | Sent | `standard output: write fault` |
 /// | Memory | `out of memory` |
@@ -336,6 +360,7 @@ pub fn send_fault<E: Sink>(err: &mut E, fault: &EditFault, inputs: &[&str], outp
         EditFault::OutputTooLong(length) => {
             send_number(err, "", "output too long, ", length, " bytes\n");
         }
+        EditFault::Range(from, to, frames) => send_range(err, from, to, frames),
         EditFault::Write(place) => {
             send_pieces(err, &[name_in(outputs, place), ": write fault\n"]);
         }

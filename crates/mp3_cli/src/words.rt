@@ -1,11 +1,13 @@
 //! The program's words.
 ghost use Rattle.std.specs.Prelude.{◌≡◌, ◌≤◌, ◌<◌, ◌^◌, ◌+◌, ◌++◌, ◌∷◌, codes, false, unwrap_or, List, length, map, string_bytes, option_map, pos, IfOk, IfErr};
 ghost use Rattle.std.specs.List.{common_prefix_len};
+ghost use Rattle.cue_sheet.specs.Places.{place_of};
 ghost use Rattle.mp3_cli.specs.Words.{Fixed, word_at as word_at_lem, is_name, step_count, steps_of, channel_of, option_kinds, keep_tags, do_wrap, fits_kind, job_of, IsReading, IsBadWord, IsSound};
 ghost use Rattle.mp3_cli.specs.Table.{word_kind, options_named, form_named};
 
 use crate::jobs::Job;
 use arrayvec::ArrayVec;
+use cue_sheet::Place;
 use edits::{Channels, Shift};
 
 /// What a word of a form is.
@@ -19,6 +21,8 @@ enum WordKind {
     Steps,
     /// A channel.
     Channel,
+    /// A place in a stream.
+    Place,
 }
 
 impl Default for WordKind {
@@ -53,9 +57,12 @@ enum FormName {
     Gain(GainOptions),
     ChannelGain(GainOptions),
     Undo,
+    Cut,
+    LeastCut,
+    Pack,
 }
 
-const FORMS: [FormName; 15] = [
+const FORMS: [FormName; 18] = [
     FormName::Help,
     FormName::ShortHelp,
     FormName::Version,
@@ -71,6 +78,9 @@ const FORMS: [FormName; 15] = [
     FormName::ChannelGain(GainOptions::TaglessWrapping),
     FormName::ChannelGain(GainOptions::WrappingTagless),
     FormName::Undo,
+    FormName::Cut,
+    FormName::LeastCut,
+    FormName::Pack,
 ];
 
 static TAGLESS: [WordKind; 2] = [WordKind::Fixed("-s"), WordKind::Fixed("s")];
@@ -161,6 +171,13 @@ fn read_channel(word: &str) -> Option<Channels>
     }
 }
 
+// The place that a word says; the end for every other word.
+fn read_place(word: &str) -> Place
+    ensures { result ≡ unwrap_or (place_of word.now) Place.End }
+{
+    Place::read(word).unwrap_or(Place::End)
+}
+
 fn fits(word: &str, kind: &WordKind) -> bool
     ensures { result ≡ fits_kind (word_kind kind.now) word.now }
 {
@@ -169,6 +186,7 @@ fn fits(word: &str, kind: &WordKind) -> bool
         WordKind::Name => is_name(word),
         WordKind::Steps => read_steps(word).is_some(),
         WordKind::Channel => read_channel(word).is_some(),
+        WordKind::Place => Place::read(word).is_some(),
     }
 }
 
@@ -268,6 +286,24 @@ impl FormName {
                 WordKind::Name,
                 WordKind::Name,
             ]),
+            FormName::Cut => some_kinds(&[
+                WordKind::Fixed("cut"),
+                WordKind::Name,
+                WordKind::Place,
+                WordKind::Place,
+                WordKind::Name,
+            ]),
+            FormName::LeastCut => some_kinds(&[
+                WordKind::Fixed("cut"),
+                WordKind::Fixed("--least"),
+                WordKind::Name,
+                WordKind::Place,
+                WordKind::Place,
+                WordKind::Name,
+            ]),
+            FormName::Pack => {
+                some_kinds(&[WordKind::Fixed("pack"), WordKind::Name, WordKind::Name])
+            }
         }
     }
 
@@ -298,6 +334,24 @@ impl FormName {
                 input: 3,
                 output: 4,
             },
+            FormName::Cut => Job::Cut {
+                from: read_place(word_at(words, 3)),
+                to: read_place(word_at(words, 4)),
+                least: false,
+                input: 2,
+                output: 5,
+            },
+            FormName::LeastCut => Job::Cut {
+                from: read_place(word_at(words, 4)),
+                to: read_place(word_at(words, 5)),
+                least: true,
+                input: 3,
+                output: 6,
+            },
+            FormName::Pack => Job::Pack {
+                input: 2,
+                output: 3,
+            },
         }
     }
 }
@@ -323,8 +377,9 @@ fn gain_of(channels: Channels, steps: &str, options: GainOptions, input: u32) ->
 /// What the words ask for. Where they have no form, it is refused with the place, counted from 1, of the
 /// first word that no form takes, or the number of words plus 1 where a word is missing.
 /// The forms are `list IN`; `gain [-s s] [-w] -g N IN OUT` and `gain [-s s] [-w] -l C N IN OUT`, with the two options in
-/// either order; `gain -u IN OUT`; and `--help`, `-h` and `--version`, each alone. C is `0` or `1`. N is an optional `+` or `-` and one to three digits,
-/// from -255 to 255, and a name isn't empty and doesn't begin with `-`.
+/// either order; `gain -u IN OUT`; `cut [--least] IN FROM TO OUT`; `pack IN OUT`; and `--help`, `-h` and `--version`, each
+/// alone. C is `0` or `1`. N is an optional `+` or `-` and one to three digits, from -255 to 255. FROM and TO are places as
+/// `Place::read` has them. A name isn't empty and doesn't begin with `-`.
 pub fn job(words: &[String]) -> Result<Job, u32>
     ensures exact { result ≡ job_of (map string_bytes words.now) }
 

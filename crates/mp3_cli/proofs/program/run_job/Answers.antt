@@ -7,6 +7,7 @@ use Rattle.edits.specs.Change.{changing}
 use Rattle.edits.specs.Streams.{moved_stream_frame, stream_in}
 use Rattle.edits.specs.Gain.{gain_change}
 use Rattle.edits.specs.Undo.{undo_change, steps_back}
+use Rattle.edits.specs.Chosen.{choosing, stream_chosen, cut_choice, pack_choice}
 use Rattle.mp3_cli.specs.Texts.{help_text, version_text}
 use Rattle.mp3_cli.proofs.RunLaws.{said_answers, one_answers}
 use Rattle.mp3_cli.proofs.program.run_job.Goals as goal
@@ -44,3 +45,18 @@ returns-in-Undo-clause-answers g c =
     (one_answers (changing undo_change) (λ file. map (moved_stream_frame (steps_back file)) (stream_in file)) c.word_at-input-in-Undo.result.now c.word_at-output-in-Undo.result.now c.undo-done.result
     (seen (g.D.Folder.files c.args.folder.now) (g.D.Folder.counts c.args.folder.now)) (seen (g.D.Folder.files c.undo-done.new.folder) (g.D.Folder.counts c.undo-done.new.folder))
     _ _ _ _ c.undo-done.ensures.done c.undo-done.ensures.left c.undo-done.ensures.numbers c.undo-done.ensures.names c.report-in-Undo.ensures.status c.report-in-Undo.ensures.line)
+
+pub returns-in-Cut-clause-answers : goal.returns-in-Cut-clause-answers
+returns-in-Cut-clause-answers g c =
+    let choose = cut_choice c.in-Cut.from c.in-Cut.to c.in-Cut.least in
+    rw (c.in-Cut.is, ← c.word_at-input-in-Cut.ensures, ← c.word_at-output-in-Cut.ensures)
+    (one_answers (choosing choose) (stream_chosen choose) c.word_at-input-in-Cut.result.now c.word_at-output-in-Cut.result.now c.cut-done.result
+    (seen (g.D.Folder.files c.args.folder.now) (g.D.Folder.counts c.args.folder.now)) (seen (g.D.Folder.files c.cut-done.new.folder) (g.D.Folder.counts c.cut-done.new.folder))
+    _ _ _ _ c.cut-done.ensures.done c.cut-done.ensures.left c.cut-done.ensures.numbers c.cut-done.ensures.names c.report-in-Cut.ensures.status c.report-in-Cut.ensures.line)
+
+pub returns-in-Pack-clause-answers : goal.returns-in-Pack-clause-answers
+returns-in-Pack-clause-answers g c =
+    rw (c.in-Pack.is, ← c.word_at-input-in-Pack.ensures, ← c.word_at-output-in-Pack.ensures)
+    (one_answers (choosing pack_choice) (stream_chosen pack_choice) c.word_at-input-in-Pack.result.now c.word_at-output-in-Pack.result.now c.pack-done.result
+    (seen (g.D.Folder.files c.args.folder.now) (g.D.Folder.counts c.args.folder.now)) (seen (g.D.Folder.files c.pack-done.new.folder) (g.D.Folder.counts c.pack-done.new.folder))
+    _ _ _ _ c.pack-done.ensures.done c.pack-done.ensures.left c.pack-done.ensures.numbers c.pack-done.ensures.names c.report-in-Pack.ensures.status c.report-in-Pack.ensures.line)

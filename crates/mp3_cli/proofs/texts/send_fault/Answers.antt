@@ -50,6 +50,10 @@ pub returns-in-OutputTooLong : goal.returns-in-OutputTooLong
 unfolding fault_line
 returns-in-OutputTooLong g c = line_is _ _ _ _ _ _ (rw c.in-OutputTooLong.is refl) c.send_number-in-OutputTooLong.ensures
 
+pub returns-in-Range : goal.returns-in-Range
+unfolding fault_line
+returns-in-Range g c = line_is _ _ _ _ _ _ (rw c.in-Range.is refl) c.send_range.ensures
+
 pub returns-in-Write : goal.returns-in-Write
 unfolding fault_line
 returns-in-Write g c = line_is _ _ _ _ _ _ (rw (c.in-Write.is, c.name_in-in-Write.ensures) refl) c.send_pieces-in-Write.ensures
