@@ -1,6 +1,7 @@
 //! Gains that wrap, and changes of one channel alone. The side information is worked out by hand.
 
-use acceptance_kit::commands::{expect, expect_frames, folder_of_frames};
+use crate::expected::{expect, expect_frames};
+use acceptance_kit::commands::folder_of_frames;
 use acceptance_kit::frames::{Frame, G, MONO, Z};
 use std::test::Fail;
 

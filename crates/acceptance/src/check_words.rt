@@ -1,6 +1,7 @@
 //! Frames with check words: what is refused of them, and in which order.
 
-use acceptance_kit::commands::{expect, expect_frames, folder_of, folder_of_frames};
+use crate::expected::{expect, expect_frames};
+use acceptance_kit::commands::{folder_of, folder_of_frames};
 use acceptance_kit::frames::{Frame, LOUD, PROTECTED_G, Z};
 use std::test::Fail;
 

@@ -1,9 +1,8 @@
 //! Calls of the outside that fail.
 
 use crate::check_words::WRONG_M;
-use acceptance_kit::commands::{
-    expect, expect_file, folder_of, folder_of_file, folder_of_frames, run_over, sink,
-};
+use crate::expected::{expect, expect_file};
+use acceptance_kit::commands::{folder_of, folder_of_file, folder_of_frames, run_over, sink};
 use acceptance_kit::files::{APE, ID3V1, ID3V1_REST, ID3V2, ID3V2_REST, Stretch, bytes_of};
 use acceptance_kit::frames::{G, G_LOWER, HEAD, PROTECTED_G, PROTECTED_G_LOWER, Z, file_of};
 use outside::Call;

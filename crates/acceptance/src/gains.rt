@@ -1,6 +1,7 @@
 //! What a change of gains makes of frames, byte for byte.
 
-use acceptance_kit::commands::{expect, expect_frames, folder_of_frames};
+use crate::expected::{expect, expect_frames};
+use acceptance_kit::commands::folder_of_frames;
 use acceptance_kit::frames::{
     FULL, FULL_LOUDER, Frame, G, G_AT_32_KHZ, G_AT_32_KHZ_LOWER, G_AT_48_KHZ, G_AT_48_KHZ_LOWER,
     G_LOWER, LEFT_ALONE, LEFT_ALONE_LOUDER, LONG, LONG_LOWER, LOUD, LOW, LOWER, LOWER_QUIETER,

@@ -1,12 +1,11 @@
 //! What is refused, with its line, before an output is created.
 
+use crate::expected::{expect, expect_file, expect_frames};
 use crate::reservoir::{
     FIRST, OVERFULL_BEHIND, OVERLAPPING, OVERLAPPING_AND_OVERFULL, SECOND, SILENT_BACK_POINTER,
     SILENT_TOO_FAR, TOO_FAR,
 };
-use acceptance_kit::commands::{
-    expect, expect_file, expect_frames, folder_of_file, folder_of_frames,
-};
+use acceptance_kit::commands::{folder_of_file, folder_of_frames};
 use acceptance_kit::files::{ID3V1, ID3V2, Stretch};
 use acceptance_kit::frames::{
     FORBIDDEN_RATE, FREE, Frame, G, G_AT_48_KHZ, HEAD, LAYER_2, MONO, MPEG_2, OVERFULL,

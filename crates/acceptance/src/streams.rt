@@ -1,9 +1,10 @@
 //! What a change of gains makes of whole files: with bit reservoir, blocks, zero bytes, junk and heads.
 
+use crate::expected::{expect, expect_file};
 use crate::reservoir::{
     FARTHER, FARTHER_LOUDER, FIRST, FIRST_LOUDER, NEARER, NEARER_LOUDER, SECOND, SECOND_LOUDER,
 };
-use acceptance_kit::commands::{expect, expect_file, folder_of_file};
+use acceptance_kit::commands::folder_of_file;
 use acceptance_kit::files::{APE, ID3V1, ID3V1_REST, ID3V2, ID3V2_REST, Stretch};
 use acceptance_kit::frames::{
     EARLY_HEAD, G, G_LOWER, HEAD, LOWER, LOWER_QUIETER, MONO, MONO_HEAD, MONO_HEAD_LOWER,

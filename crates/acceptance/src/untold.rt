@@ -1,6 +1,6 @@
 //! Inputs that a folder finds with another length than it reads, and inputs that are too long.
 
-use acceptance_kit::commands::expect;
+use crate::expected::expect;
 use outside::{Failed, FindFault, Folder};
 use std::test::Fail;
 

@@ -1,6 +1,7 @@
 //! One command over one file, and its output byte for byte.
 
-use acceptance_kit::commands::{expect, expect_file, folder_of};
+use crate::expected::{expect, expect_file};
+use acceptance_kit::commands::folder_of;
 use acceptance_kit::files::{Stretch, bytes_of};
 use std::alloc::AllocError;
 use std::process::Abort;

@@ -2,7 +2,8 @@
 
 use crate::blocks::{G_WRAPPED_UP, NONE, THREE_BACK, THREE_FRONT, TWO, UNDO_BACK, UNDO_FRONT};
 use crate::edited::{Refusal, expect_refusal};
-use acceptance_kit::commands::{expect, folder_of};
+use crate::expected::expect;
+use acceptance_kit::commands::folder_of;
 use acceptance_kit::files::{ID3V2, ID3V2_REST, Stretch, bytes_of};
 use acceptance_kit::frames::Z;
 use std::test::Fail;

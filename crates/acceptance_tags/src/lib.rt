@@ -8,6 +8,8 @@ mod calls;
 #[cfg(test)]
 mod edited;
 #[cfg(test)]
+mod expected;
+#[cfg(test)]
 mod faulty_tags;
 #[cfg(test)]
 mod long_tags;

@@ -1,7 +1,7 @@
 //! A file that becomes shorter behind the survey: while its tag is read, or in the second pass.
 
 use crate::blocks::{UNDO_BACK, UNDO_FRONT};
-use acceptance_kit::commands::expect;
+use crate::expected::expect;
 use acceptance_kit::files::{Stretch, bytes_of};
 use acceptance_kit::frames::G_LOWER;
 use outside::{Failed, FindFault, Folder};

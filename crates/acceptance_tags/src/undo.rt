@@ -5,7 +5,8 @@ use crate::blocks::{
     THREE_FRONT, TWO, UNDO_BACK, UNDO_FRONT,
 };
 use crate::edited::{Edit, NEW_TAG, expect_edit};
-use acceptance_kit::commands::{expect, expect_file, folder_of};
+use crate::expected::{expect, expect_file};
+use acceptance_kit::commands::folder_of;
 use acceptance_kit::files::{ID3V1, ID3V1_REST, ID3V2, ID3V2_REST, Stretch, bytes_of};
 use acceptance_kit::frames::{
     Frame, G, G_LOWER, HEAD, LONG, LONG_LOWER, LOWER, LOWER_QUIETER, MONO, MONO_LOWER, PADDED,
