@@ -20,7 +20,7 @@ mod lost;
 #[cfg(test)]
 mod refusals;
 #[cfg(test)]
-mod reservoir;
+mod reservoirs;
 #[cfg(test)]
 mod song;
 #[cfg(test)]

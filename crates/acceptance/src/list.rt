@@ -1,7 +1,7 @@
 //! What stands in a file, line by line. The lines are worked out by hand from the frames' bytes.
 
 use crate::expected::{expect, expect_text};
-use crate::reservoir::{FIRST, NEARER, SECOND};
+use crate::reservoirs::{FIRST, NEARER, SECOND};
 use acceptance_kit::commands::{folder_of_file, list_to, sink};
 use acceptance_kit::files::{APE, ID3V1, ID3V1_REST, ID3V2, ID3V2_REST, Stretch};
 use acceptance_kit::frames::{EARLY_HEAD, HEAD, LOWER, MONO, PADDED, PROTECTED_Z, Z};

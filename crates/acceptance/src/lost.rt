@@ -3,7 +3,7 @@
 
 use crate::check_words::BACK_POINTER as PROTECTED_BACK_POINTER;
 use crate::expected::{expect, expect_file};
-use crate::reservoir::{FIRST, FIRST_LOUDER, SECOND, SECOND_LOUDER, SILENT_BACK_POINTER, TOO_FAR};
+use crate::reservoirs::{FIRST, FIRST_LOUDER, SECOND, SECOND_LOUDER, SILENT_BACK_POINTER, TOO_FAR};
 use acceptance_kit::commands::{folder_of_file, folder_of_frames};
 use acceptance_kit::files::{APE, Stretch};
 use acceptance_kit::frames::{BACK_POINTER, Frame, HEAD, Z};

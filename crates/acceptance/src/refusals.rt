@@ -1,7 +1,7 @@
 //! What is refused, with its line, before an output is created.
 
 use crate::expected::{expect, expect_file, expect_frames};
-use crate::reservoir::{
+use crate::reservoirs::{
     FIRST, OVERFULL_BEHIND, OVERLAPPING, OVERLAPPING_AND_OVERFULL, SECOND, SILENT_BACK_POINTER,
     SILENT_TOO_FAR, TOO_FAR,
 };

@@ -1,7 +1,7 @@
 //! What a change of gains makes of whole files: with bit reservoir, blocks, zero bytes, junk and heads.
 
 use crate::expected::{expect, expect_file};
-use crate::reservoir::{
+use crate::reservoirs::{
     FARTHER, FARTHER_LOUDER, FIRST, FIRST_LOUDER, NEARER, NEARER_LOUDER, SECOND, SECOND_LOUDER,
 };
 use acceptance_kit::commands::folder_of_file;
