@@ -186,7 +186,7 @@ static DAMAGES: [Damage; 29] = [
 fn a_tag_with_one_wrong_byte(rt: HostRuntime) -> Result<(), Fail> {
     for damage in &DAMAGES {
         let mut input = bytes_of(rt.alloc(), &NOTED)?;
-        if let Some(byte) = input.get_mut(417 + damage.place) {
+        if let Some(byte) = input.get_mut(417_usize.saturating_add(damage.place)) {
             *byte = damage.value;
         }
         let mut folder = folder_of(rt.alloc(), "a", &input, input.len())?;

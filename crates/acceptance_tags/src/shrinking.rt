@@ -45,11 +45,13 @@ impl Folder for Shrinking {
         Ok(count)
     }
 
+    #[tactic(auto, unfolding(outside::specs::Files::emptied))]
     fn create(&mut self, _name: &str) -> Result<(), Failed> {
         self.created = self.created.saturating_add(1);
         Ok(())
     }
 
+    #[tactic(auto, unfolding(outside::specs::Files::appended))]
     fn write(&mut self, _name: &str, bytes: &[u8]) -> Result<usize, Failed> {
         Ok(bytes.len())
     }
