@@ -20,6 +20,8 @@
   frames.py spoilt IN PLACE OUT    writes OUT: IN with a wrong check word in its 'first' or 'last' frame
   frames.py differ A B N           says where A and B differ; status 1 where B is not A with the gains of silent granules and of lost
                                    frames alone moved by N, and with the check words that are right for them
+  frames.py sounds WHOLE LISTING FROM TO WAV   the frames of WAV, listed so, are a lead-in or none and the frames of WHOLE from FROM on and
+                                   before TO: within 1 they sound as there, from frame 0 on or behind a granule and 480 samples
   frames.py decoded A B FACTOR     compares two WAV files of 16 bits: B is A times FACTOR, within rounding, and A is not silent
 
 Layout of frames: ISO/IEC 11172-3 and 13818-3, 2.4.1 and 2.4.2; of blocks: ID3v2, ID3v1 and APEv2. The tag is the
@@ -648,6 +650,19 @@ def decoded(one, other, factor):
         sys.exit(1)
 
 
+def sounds(whole, listing, first, end, piece):
+    frames, version, _, channels, _ = summary_of(listing)
+    first, chosen, each = int(first), int(end) - int(first), channels * (1152 if version == "MPEG-1" else 576)
+    lead_ins = frames - chosen
+    edge = 0 if first == 0 else channels * (576 + 480)
+    # A decoder's filter bank begins at another of its 16 places, so a sample in some thousands is rounded the other way.
+    a, b = samples(whole)[first * each + edge:][:chosen * each - edge], samples(piece)[lead_ins * each + edge:]
+    worst = max((abs(x - y) for x, y in zip(a, b)), default=0)
+    print(f"{frames} frames, {lead_ins} lead-ins, {len(a)} and {len(b)} samples, farthest {worst}")
+    if lead_ins not in (0, 1) or len(a) != len(b) or worst > 1:
+        sys.exit(1)
+
+
 COMMANDS = {
     "survey": (survey, 1),
     "list": (list_lines, 1),
@@ -667,6 +682,7 @@ COMMANDS = {
     "spoilt": (spoilt, 3),
     "differ": (differ, 3),
     "decoded": (decoded, 3),
+    "sounds": (sounds, 5),
 }
 
 if __name__ == "__main__":
