@@ -13,11 +13,11 @@ use Rattle.sync_survey.specs.Survey.{survey_of, RefusesBytes as SurveyRefuses, I
 use Rattle.sync_survey.proofs.BytesFaults.{IsOfBytes, surveyed_of_bytes}
 use Rattle.sync_survey.proofs.FoldersLaws.{survey_of-short}
 use Rattle.edits.specs.declared.fault.EditFault.{EditFault}
-use Rattle.edits.specs.declared.fault.EditFault.TheVariants.{EqualNames, Input, GainRange, Mono, Joint, TagTooLarge, BadTag, NoUndo, BadUndo, UndoRange, OutputTooLong, Range, Write, Sent, Memory}
-use Rattle.edits.specs.Kinds.{of_input, HasRightNumbers}
-use Rattle.edits.specs.One.{Making, most_frames, made_by, made_file, made_where, made_result, made_of, one_command, holding, RefusesInput, IsInputFaultBy, IsInputFault, HoldsPrefix, IsPassFaultBy, IsPassFault}
+use Rattle.edits.specs.declared.fault.EditFault.TheVariants.{EqualNames, Input, GainRange, Mono, Joint, TagTooLarge, BadTag, NoUndo, BadUndo, UndoRange, OutputTooLong, Range, Differ, SheetTooLarge, Sheet, Write, Sent, Memory}
+use Rattle.edits.specs.Kinds.{of_survey, HasRightNumbers}
+use Rattle.edits.specs.One.{Making, most_frames, made_by, made_file, made_where, made_result, made_of, one_command, holding, RefusesFile, RefusesInput, IsFileFaultBy, IsFileFault, IsInputFaultBy, IsInputFault, HoldsPrefix, IsPassFaultBy, IsPassFault}
 use Rattle.edits.specs.Command.{Made, clash_of, Gives, written, written_to, MakesStreams, HoldsStreams}
-use Rattle.edits.specs.Left.{Why, Refused, Missing, Unread, Shorter, Unwritten, Unsent, NoMemory, why_of, Seen, seen, IsDone, IsWrittenTo, TakesMemory, is_before_memory, LeavesBy, Leaves, HasNumbers, IsOfInput, IsOfPass, IsRefusal}
+use Rattle.edits.specs.Left.{Why, Refused, Missing, Unread, Shorter, Unwritten, Unsent, NoMemory, why_of, Seen, seen, IsDone, IsWrittenTo, TakesMemory, is_before_memory, LeavesBy, Leaves, HasNumbers, IsOfSurvey, IsOfInput, IsOfPass, IsRefusal}
 use Rattle.edits.proofs.SurveyedFiles.{survey_of-parts, survey_of-sound}
 
 -- what has to hold of a command that makes one file of one
@@ -62,44 +62,79 @@ pub made-survey : (make : Making) (bytes : List ℕ) (s : SurveyFields) → surv
 unfolding made_file
 made-survey make bytes s is = ap (made_by make bytes) is
 
-module _ (make : Making) (name : List ℕ) (files new : Files) (before after : Counts) (same : new ≡ files) where
-  refused : (fault : SurveyFault) → SurveyRefuses name files most_frames before after fault → RefusesInput make name (seen files before) (seen new after) (Input 0 fault)
-  refused fault h = record { there = h.there; bytes = λ bytes holds. made-fault make bytes fault (h.bytes bytes holds); stays = ap₂ seen same h.counts }
+module _ (place allowed : ℕ) (name : List ℕ) (files new : Files) (before after : Counts) (same : new ≡ files) where
+  refused : (fault : SurveyFault) → SurveyRefuses name files allowed before after fault → (f : SurveyFault) × (Input place fault ≡ Input place f) × RefusesFile allowed name (seen files before) (seen new after) f
+  refused fault h = (fault, refl, record { there = h.there; bytes = h.bytes; stays = ap₂ seen same h.counts })
 
-  -- a fault of the survey is one of the input
-  pub survey_is_input : (fault : SurveyFault) → IsSurveyFault name files most_frames before after fault → IsInputFault make name (seen files before) (seen new after) (of_input fault)
-  survey_is_input Absent h = record { is = refl; missing = h.0; rose = h.1; files = same }
-  survey_is_input (TooLong size) h = refused (TooLong size) h
-  survey_is_input (NoFrame at) h = refused (NoFrame at) h
-  survey_is_input (LostSync at) h = refused (LostSync at) h
-  survey_is_input (Truncated at) h = refused (Truncated at) h
-  survey_is_input (FreeFormat at) h = refused (FreeFormat at) h
-  survey_is_input (Mixed at) h = refused (Mixed at) h
-  survey_is_input (CheckWord at said right) h = refused (CheckWord at said right) h
-  survey_is_input (BackPointer at begin present) h = refused (BackPointer at begin present) h
-  survey_is_input (Overlap at) h = refused (Overlap at) h
-  survey_is_input (Overrun at bits room) h = refused (Overrun at bits room) h
-  survey_is_input (TooManyFrames at) h = refused (TooManyFrames at) h
-  survey_is_input (Shrunk first second) h = record { rose = h.ended; counts = h.counts; untold_before = h.nothing_told; untold_after = same ∙ h.nothing_told }
-  survey_is_input Read h = record { rose = h; files = same }
-  survey_is_input NoRoom h = record { there = h.there; few = h.few; stays = ap₂ seen same h.counts }
+  -- a fault of the survey is one of this input
+  pub survey_is_fault : (fault : SurveyFault) → IsSurveyFault name files allowed before after fault → IsFileFault place allowed name (seen files before) (seen new after) (of_survey place fault)
+  survey_is_fault Absent h = (refl, h.0, h.1, same)
+  survey_is_fault (TooLong size) h = refused (TooLong size) h
+  survey_is_fault (NoFrame at) h = refused (NoFrame at) h
+  survey_is_fault (LostSync at) h = refused (LostSync at) h
+  survey_is_fault (Truncated at) h = refused (Truncated at) h
+  survey_is_fault (FreeFormat at) h = refused (FreeFormat at) h
+  survey_is_fault (Mixed at) h = refused (Mixed at) h
+  survey_is_fault (CheckWord at said right) h = refused (CheckWord at said right) h
+  survey_is_fault (BackPointer at begin present) h = refused (BackPointer at begin present) h
+  survey_is_fault (Overlap at) h = refused (Overlap at) h
+  survey_is_fault (Overrun at bits room) h = refused (Overrun at bits room) h
+  survey_is_fault (TooManyFrames at) h = refused (TooManyFrames at) h
+  survey_is_fault (Shrunk first second) h = record { rose = h.ended; counts = h.counts; untold_before = h.nothing_told; untold_after = same ∙ h.nothing_told }
+  survey_is_fault Read h = record { rose = h; files = same }
+  survey_is_fault NoRoom h = record { there = h.there; few = h.few; stays = ap₂ seen same h.counts }
 
-pub survey_numbers : (fault : SurveyFault) → HasRightNumbers fault → IsOfInput (of_input fault)
-survey_numbers Absent right = (refl, (λ e. cc), right)
-survey_numbers (TooLong size) right = (refl, (λ e. cc), right)
-survey_numbers (NoFrame at) right = (refl, (λ e. cc), right)
-survey_numbers (LostSync at) right = (refl, (λ e. cc), right)
-survey_numbers (Truncated at) right = (refl, (λ e. cc), right)
-survey_numbers (FreeFormat at) right = (refl, (λ e. cc), right)
-survey_numbers (Mixed at) right = (refl, (λ e. cc), right)
-survey_numbers (CheckWord at said word) right = (refl, (λ e. cc), right)
-survey_numbers (BackPointer at begin present) right = (refl, (λ e. cc), right)
-survey_numbers (Overlap at) right = (refl, (λ e. cc), right)
-survey_numbers (Overrun at bits room) right = (refl, (λ e. cc), right)
-survey_numbers (TooManyFrames at) right = (refl, (λ e. cc), right)
-survey_numbers (Shrunk first second) right = (refl, (λ e. cc), right)
-survey_numbers Read right = (refl, (λ e. cc), right)
-survey_numbers NoRoom right = tt
+pub survey_numbers : (place : ℕ) (fault : SurveyFault) → HasRightNumbers fault → IsOfSurvey place (of_survey place fault)
+survey_numbers place Absent right = (refl, (λ e. cc), right)
+survey_numbers place (TooLong size) right = (refl, (λ e. cc), right)
+survey_numbers place (NoFrame at) right = (refl, (λ e. cc), right)
+survey_numbers place (LostSync at) right = (refl, (λ e. cc), right)
+survey_numbers place (Truncated at) right = (refl, (λ e. cc), right)
+survey_numbers place (FreeFormat at) right = (refl, (λ e. cc), right)
+survey_numbers place (Mixed at) right = (refl, (λ e. cc), right)
+survey_numbers place (CheckWord at said word) right = (refl, (λ e. cc), right)
+survey_numbers place (BackPointer at begin present) right = (refl, (λ e. cc), right)
+survey_numbers place (Overlap at) right = (refl, (λ e. cc), right)
+survey_numbers place (Overrun at bits room) right = (refl, (λ e. cc), right)
+survey_numbers place (TooManyFrames at) right = (refl, (λ e. cc), right)
+survey_numbers place (Shrunk first second) right = (refl, (λ e. cc), right)
+survey_numbers place Read right = (refl, (λ e. cc), right)
+survey_numbers place NoRoom right = tt
+
+-- and so one of the only input, whatever the command makes of it
+module _ (make : Making) (name : List ℕ) (old new : Seen) (fault : EditFault) where
+  fault_is_input_by : (why : Why) → IsFileFaultBy 0 most_frames name old new fault why → IsInputFaultBy make name old new fault why
+  fault_is_input_by Refused h =
+      subst (RefusesInput make name old new) (sym h.1) (record { there = h.2.there; bytes = λ bytes holds. made-fault make bytes h.0 (h.2.bytes bytes holds); stays = h.2.stays })
+  fault_is_input_by Missing h = record { is = h.0; missing = h.1; rose = h.2; files = h.3 }
+  fault_is_input_by Unread h = h
+  fault_is_input_by Shorter h = h
+  fault_is_input_by (Unwritten k) h = absurd h
+  fault_is_input_by Unsent h = absurd h
+  fault_is_input_by NoMemory h = h
+
+  pub fault_is_input : IsFileFault 0 most_frames name old new fault → IsInputFault make name old new fault
+  fault_is_input h = fault_is_input_by (why_of fault) h
+
+pub of_survey_input : (fault : EditFault) → IsOfSurvey 0 fault → IsOfInput fault
+of_survey_input (EqualNames place) is = absurd is
+of_survey_input (Input place fault) is = is
+of_survey_input (GainRange offset granule channel gain) is = absurd is
+of_survey_input Mono is = absurd is
+of_survey_input (Joint offset) is = absurd is
+of_survey_input (TagTooLarge size) is = absurd is
+of_survey_input (BadTag at) is = absurd is
+of_survey_input NoUndo is = absurd is
+of_survey_input (BadUndo at) is = absurd is
+of_survey_input (UndoRange number) is = absurd is
+of_survey_input (OutputTooLong size) is = absurd is
+of_survey_input (Range from to frames) is = absurd is
+of_survey_input (Differ place) is = absurd is
+of_survey_input (SheetTooLarge size) is = absurd is
+of_survey_input (Sheet fault) is = absurd is
+of_survey_input (Write place) is = absurd is
+of_survey_input Sent is = absurd is
+of_survey_input Memory is = tt
 
 -- ---- a refused choice
 
@@ -116,6 +151,9 @@ refusal_why (BadUndo at) is = refl
 refusal_why (UndoRange number) is = refl
 refusal_why (OutputTooLong size) is = refl
 refusal_why (Range from to frames) is = refl
+refusal_why (Differ place) is = absurd is
+refusal_why (SheetTooLarge size) is = absurd is
+refusal_why (Sheet fault) is = absurd is
 refusal_why (Write place) is = absurd is
 refusal_why Sent is = absurd is
 refusal_why Memory is = absurd is
@@ -133,6 +171,9 @@ refusal_of_input (BadUndo at) is = tt
 refusal_of_input (UndoRange number) is = tt
 refusal_of_input (OutputTooLong size) is = tt
 refusal_of_input (Range from to frames) is = tt
+refusal_of_input (Differ place) is = absurd is
+refusal_of_input (SheetTooLarge size) is = absurd is
+refusal_of_input (Sheet fault) is = absurd is
 refusal_of_input (Write place) is = absurd is
 refusal_of_input Sent is = absurd is
 refusal_of_input Memory is = absurd is
@@ -221,6 +262,9 @@ input_numbers make stream proper input output (BadUndo at) h = tt
 input_numbers make stream proper input output (UndoRange number) h = tt
 input_numbers make stream proper input output (OutputTooLong size) h = tt
 input_numbers make stream proper input output (Range from to frames) h = tt
+input_numbers make stream proper input output (Differ place) h = absurd h
+input_numbers make stream proper input output (SheetTooLarge size) h = absurd h
+input_numbers make stream proper input output (Sheet fault) h = absurd h
 input_numbers make stream proper input output (Write place) h = absurd h
 input_numbers make stream proper input output Sent h = absurd h
 input_numbers make stream proper input output Memory h = tt
@@ -238,6 +282,9 @@ pass_numbers make stream proper input output (BadUndo at) h = absurd h
 pass_numbers make stream proper input output (UndoRange number) h = absurd h
 pass_numbers make stream proper input output (OutputTooLong size) h = absurd h
 pass_numbers make stream proper input output (Range from to frames) h = absurd h
+pass_numbers make stream proper input output (Differ place) h = absurd h
+pass_numbers make stream proper input output (SheetTooLarge size) h = absurd h
+pass_numbers make stream proper input output (Sheet fault) h = absurd h
 pass_numbers make stream proper input output (Write place) h = omega (arith, h)
 pass_numbers make stream proper input output Sent h = absurd h
 pass_numbers make stream proper input output Memory h = tt

@@ -3,9 +3,10 @@ use Rattle.std.specs.Prelude.{◌≡◌, ◌≢◌, ◌⊎◌, ℕ, ◌<◌, ◌
 use Rattle.outside.specs.Files.{Files, untold}
 use Rattle.outside.specs.Counts.{Counts, Rose, NothingFailed}
 use Rattle.sync_survey.specs.declared.survey_fault.SurveyFault.TheVariants.{Absent, TooLong, Memory as NoRoom}
+use Rattle.cue_sheet.specs.declared.cue_fault.CueFault.TheVariants.{Memory as NoSheetRoom}
 use Rattle.edits.specs.Kinds.{kind_of, by_kind, HasRightNumbers}
 use Rattle.edits.specs.declared.fault.EditFault.{EditFault}
-use Rattle.edits.specs.declared.fault.EditFault.TheVariants.{EqualNames, Input, Write, Sent, Memory}
+use Rattle.edits.specs.declared.fault.EditFault.TheVariants.{EqualNames, Input, Write, Differ, SheetTooLarge, Sheet, Sent, Memory}
 use Rattle.edits.specs.Command.{Made, Command, clash_of, written, written_to, Gives}
 
 -- what can be seen of a folder at a moment: the files, where they are told, and the counts
@@ -116,18 +117,34 @@ Leaves command old new fault = LeavesBy command old new fault (why_of fault)
 
 -- ---- what the numbers of a fault say over every folder, told or not
 
+-- a cue sheet may have so many bytes
+abbrev pub longest_sheet : ℕ
+longest_sheet = 65536
+
 abbrev pub HasNumbers : Command → EditFault → Type 0
 HasNumbers command (EqualNames place) = clash_of command ≡ Some place
 HasNumbers command (Input place fault) = (place < length command.inputs) × (fault ≢ NoRoom) × HasRightNumbers fault
 HasNumbers command (Write place) = place < length command.outputs
+HasNumbers command (Differ place) = (0 < place) × (place < length command.inputs)
+HasNumbers command (SheetTooLarge size) = longest_sheet < size
+HasNumbers command (Sheet fault) = fault ≢ NoSheetRoom
 HasNumbers command Sent = command.always ≢ Some []
 HasNumbers command _ = Unit {0}
 
--- the fault is one of the only input, or none of an input or of names
+-- the fault is one of this input, or want of memory
+abbrev pub IsOfSurvey : ℕ → EditFault → Type 0
+IsOfSurvey at (Input place fault) = (place ≡ at) × (fault ≢ NoRoom) × HasRightNumbers fault
+IsOfSurvey at Memory = Unit {0}
+IsOfSurvey at _ = ⊥
+
+-- the fault is one of the only input, or none of an input, of names, or of a sheet
 abbrev pub IsOfInput : EditFault → Type 0
 IsOfInput (EqualNames place) = ⊥
 IsOfInput (Input place fault) = (place ≡ 0) × (fault ≢ NoRoom) × HasRightNumbers fault
 IsOfInput (Write place) = ⊥
+IsOfInput (Differ place) = ⊥
+IsOfInput (SheetTooLarge size) = ⊥
+IsOfInput (Sheet fault) = ⊥
 IsOfInput Sent = ⊥
 IsOfInput _ = Unit {0}
 
@@ -144,6 +161,9 @@ abbrev pub IsRefusal : EditFault → Type 0
 IsRefusal (EqualNames place) = ⊥
 IsRefusal (Input place fault) = ⊥
 IsRefusal (Write place) = ⊥
+IsRefusal (Differ place) = ⊥
+IsRefusal (SheetTooLarge size) = ⊥
+IsRefusal (Sheet fault) = ⊥
 IsRefusal Sent = ⊥
 IsRefusal Memory = ⊥
 IsRefusal _ = Unit {0}

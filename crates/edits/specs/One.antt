@@ -60,6 +60,12 @@ one_command make stream input output = record {
 unfoldable pub holding : Files → List ℕ → List ℕ → Files
 holding files name bytes = option_map (λ f. with_file f name bytes) files
 
+-- the file is there, and the survey of it is refused, where so many frames are allowed
+pub record RefusesFile (allowed : ℕ) (name : List ℕ) (old new : Seen) (fault : SurveyFault) : Type 0 where
+  pub there : IsThere old.files name
+  pub bytes : (bytes : List ℕ) → Holds old.files name bytes → survey_of bytes allowed ≡ Err fault
+  pub stays : new ≡ old
+
 -- the input is there, and its bytes are refused
 pub record RefusesInput (make : Making) (name : List ℕ) (old new : Seen) (fault : EditFault) : Type 0 where
   pub there : IsThere old.files name
@@ -87,6 +93,19 @@ pub record NeedsMemory (name : List ℕ) (old new : Seen) : Type 0 where
   pub there : IsThere old.files name
   pub few : (bytes : List ℕ) → Holds old.files name bytes → length bytes ≤ longest_file
   pub stays : new ≡ old
+
+abbrev pub IsFileFaultBy : ℕ → ℕ → List ℕ → Seen → Seen → EditFault → Why → Type 0
+IsFileFaultBy place allowed name old new fault Refused = (f : SurveyFault) × (fault ≡ Input place f) × RefusesFile allowed name old new f
+IsFileFaultBy place allowed name old new fault Missing = (fault ≡ Input place Absent) × IsMissing old.files name × Rose old.counts.misses new.counts.misses × (new.files ≡ old.files)
+IsFileFaultBy place allowed name old new fault Unread = ReadsNothing old new
+IsFileFaultBy place allowed name old new fault Shorter = LosesInput old new
+IsFileFaultBy place allowed name old new fault (Unwritten k) = ⊥
+IsFileFaultBy place allowed name old new fault Unsent = ⊥
+IsFileFaultBy place allowed name old new fault NoMemory = NeedsMemory name old new
+
+-- what a fault of the survey of an input says of it: the input is counted from 0, and so many frames are allowed
+abbrev pub IsFileFault : ℕ → ℕ → List ℕ → Seen → Seen → EditFault → Type 0
+IsFileFault place allowed name old new fault = IsFileFaultBy place allowed name old new fault (why_of fault)
 
 abbrev pub IsInputFaultBy : Making → List ℕ → Seen → Seen → EditFault → Why → Type 0
 IsInputFaultBy make name old new fault Refused = RefusesInput make name old new fault

@@ -6,8 +6,9 @@ ghost use Rattle.outside.specs.Counts.{NoneFell, OnlyReads};
 ghost use Rattle.sync_survey.specs.Faults.{tells};
 ghost use Rattle.sync_survey.specs.Survey.{survey_of, IsLaidOut};
 ghost use Rattle.edits.specs.Change.{changed, change_in};
-ghost use Rattle.edits.specs.One.{Making, most_frames, holding, IsInputFault, IsPassFault};
-ghost use Rattle.edits.specs.Left.{seen, IsOfInput, IsOfPass};
+ghost use Rattle.edits.specs.One.{Making, most_frames, holding, IsFileFault, IsInputFault, IsPassFault};
+ghost use Rattle.edits.specs.Kinds.{of_survey as of_survey_lem};
+ghost use Rattle.edits.specs.Left.{seen, IsOfSurvey, IsOfInput, IsOfPass};
 
 use crate::change::Change;
 use crate::fault::EditFault;
@@ -16,6 +17,49 @@ use crate::moving::write_changed;
 use outside::{Feed, Folder, WriteBuffer};
 use std::alloc::Global;
 use sync_survey::{Survey, SurveyFault, survey};
+
+/// The fault of the survey of an input, counted from 0; want of memory stands alone.
+fn of_survey(place: u32, fault: SurveyFault) -> EditFault
+    ensures { result ≡ of_survey_lem place fault }
+{
+    match fault {
+        SurveyFault::Memory => EditFault::Memory,
+        _ => EditFault::Input(place, fault),
+    }
+}
+
+/// What is known of an input of a command, counted from 0, of which so many frames are allowed.
+///
+/// # Errors
+/// `Input` with that number and the fault of the survey, `TooManyFrames` where it has more frames; `Memory`. The files stay.
+pub fn survey_at<D: Folder>(
+    alloc: Global,
+    folder: &mut D,
+    name: &str,
+    place: u32,
+    allowed: u32,
+) -> Result<Survey, EditFault>
+    ensures there { OnOk result (IsThere (D.files folder.old) name.now) }
+    ensures surveyed { IfOk result (λ s. (bytes : List ℕ) → Holds (D.files folder.old) name.now bytes → survey_of bytes allowed ≡ Ok (tells s)) }
+    ensures laid { IfOk result (λ s. IsLaidOut (tells s)) }
+    ensures few { IfOk result (λ s. length (tells s).frames ≤ allowed) }
+    ensures octets { OnOk result ((bytes : List ℕ) → Holds (D.files folder.old) name.now bytes → AreBytes bytes) }
+    ensures refused { IfErr result (IsFileFault place allowed name.now (seen (D.files folder.old) (D.counts folder.old)) (seen (D.files folder.new) (D.counts folder.new))) }
+    ensures numbers { IfErr result (IsOfSurvey place) }
+    ensures done { OnOk result (D.counts folder.new ≡ D.counts folder.old) }
+    ensures files { D.files folder.new ≡ D.files folder.old }
+    ensures counts { OnlyReads (D.counts folder.old) (D.counts folder.new) }
+{
+    let survey = match survey(alloc, folder, name, allowed) {
+        Ok(survey) => survey,
+        Err(fault) => return Err(of_survey(place, fault)),
+    };
+    // No file that is told has more frames than were allowed.
+    match survey.frames().get(allowed as usize) {
+        Some(row) => Err(EditFault::Input(place, SurveyFault::TooManyFrames(row.offset))),
+        None => Ok(survey),
+    }
+}
 
 /// What is known of the input.
 pub(crate) fn survey_input<D: Folder>(
@@ -35,12 +79,7 @@ pub(crate) fn survey_input<D: Folder>(
     ensures files { D.files folder.new ≡ D.files folder.old }
     ensures counts { OnlyReads (D.counts folder.old) (D.counts folder.new) }
 {
-    let survey = survey(alloc, folder, name, MOST_FRAMES)?;
-    // No file that is told has more frames than were allowed.
-    match survey.frames().get(MOST_FRAMES as usize) {
-        Some(row) => Err(EditFault::Input(0, SurveyFault::TooManyFrames(row.offset))),
-        None => Ok(survey),
-    }
+    survey_at(alloc, folder, name, 0, MOST_FRAMES)
 }
 
 /// Creates the output and writes it. All memory is taken before.

@@ -13,7 +13,7 @@ use sync_survey::Survey;
 /// The frames from one on and before another, counted from 0; whether each may have any slot, or keeps its own; and what
 /// the Info frame in front of them tells of quality and extension.
 #[derive(Drop)]
-pub(crate) struct Chosen {
+pub struct Chosen {
     pub from: usize,
     pub to: usize,
     pub least: bool,
@@ -21,7 +21,7 @@ pub(crate) struct Chosen {
 }
 
 /// The frames from one on and before another of so many: `Range` where there is none between them, or not all are there.
-pub(crate) fn choose(
+pub fn choose(
     from: u64,
     to: u64,
     frames: usize,

@@ -7,7 +7,6 @@ ghost use Rattle.outside.specs.Feed.{IsFedFrom};
 ghost use Rattle.part_needs.specs.Needs.{need_of};
 ghost use Rattle.slot_plan.specs.Plans.{entries};
 ghost use Rattle.laying.specs.Fits.{FitsFrom};
-ghost use Rattle.reservoir.specs.Window.{IsWindowOver};
 ghost use Rattle.frame_writer.specs.Frames.{IsNextSettled};
 ghost use Rattle.frame_writer.specs.Writing.{IsWriterOf};
 ghost use Rattle.sync_survey.specs.Faults.{tells};
@@ -28,8 +27,13 @@ use reservoir::Window;
 use std::alloc::Global;
 use sync_survey::Survey;
 
-/// Appends the file of the chosen frames to the output. It takes no memory.
-fn write_chosen<D: Folder>(
+/// Appends the file of the chosen frames to the output. The writer is new, and the window may hold whatever it does. It takes
+/// no memory.
+///
+/// # Errors
+/// `Read` and `Shrunk` where a read failed, or gave no byte before the length that the input was found with; `Write` where a
+/// write failed. Then a prefix of the file was appended.
+pub fn write_chosen<D: Folder>(
     folder: &mut D,
     input: &str,
     output: &str,
@@ -52,7 +56,6 @@ fn write_chosen<D: Folder>(
     requires fits { FitsFrom (window_of (tells survey.now).class.version) 0 (map need_of (slice_range (tells survey.now).frames chosen.now.from chosen.now.to)) (entries planned.now.plan) }
     requires info { (file : List ℕ) → survey_of file most_frames ≡ Ok (tells survey.now) → IsChosenInfo (chosen_in chosen.now) file (tells survey.now) planned.now.info.items }
     requires fed { IsFedFrom feed.old (D.files folder.old) input.now }
-    requires none { IsWindowOver window.old [] }
     requires written { IsWriterOf [] writer.old [] }
     requires free { writer.old.held.waiting.free ≡ 0 }
     requires class { writer.old.held.class ≡ (tells survey.now).class }
@@ -62,6 +65,9 @@ fn write_chosen<D: Folder>(
     ensures prefix { OnErr result (AppendsPrefix input.now output.now (λ file. chosen_file (chosen_in chosen.now) file (tells survey.now)) (D.files folder.old) (D.files folder.new)) }
     ensures done { OnOk result (D.counts folder.new ≡ D.counts folder.old) }
     ensures cause { IfErr result (HasCopyCause (tells survey.now).length (D.files folder.old) (D.counts folder.old) (D.counts folder.new)) }
+    // What another file of chosen frames may be written with.
+    ensures fed { OnOk result (IsFedFrom feed.new (D.files folder.new) input.now) }
+    ensures unsent { OnOk result (waiting.new ≡ []) }
 {
     let relay = Relay {
         input,

@@ -7,6 +7,7 @@ ghost use Rattle.edits.specs.Noted.{of_tag};
 ghost use Rattle.edits.specs.Pass.{of_pass};
 
 use crate::moving::CopyFault;
+use cue_sheet::CueFault;
 use file_tag::FileTagFault;
 use std::alloc::{AllocError, AllocFailed};
 use sync_survey::SurveyFault;
@@ -39,6 +40,12 @@ pub enum EditFault {
     OutputTooLong(u64),
     /// The frames from the first number on and before the second aren't in a file of so many frames, or are none.
     Range(u64, u64, u64),
+    /// The frames of this input, counted from 0, are of another class than those of the first.
+    Differ(u32),
+    /// The cue sheet has so many bytes, more than 65,536.
+    SheetTooLarge(u64),
+    /// The cue sheet is at fault. Never `Memory`.
+    Sheet(CueFault),
     /// This output, counted from 0, could not be written.
     Write(u32),
     /// Standard output could not be written.

@@ -24,12 +24,18 @@ mod things;
 mod undo_file;
 mod undoing;
 
+pub use change_file::survey_at;
+pub use chosen::{Chosen, choose};
+pub use chosen_file::write_chosen;
 pub use cut_file::cut;
 pub use fault::EditFault;
 pub use gain_file::gain;
 pub use gains::Stuck;
+pub use limits::MOST_FRAMES;
 pub use list_file::list;
+pub use moving::CopyFault;
 pub use pack_file::pack;
+pub use planned::{Planned, plan_file};
 pub use shift::{Channels, Shift, Steps};
 pub use undo_file::undo;
 pub use undoing::{opposite_gives_back, undo_gives_back};

@@ -1,7 +1,7 @@
 //! How much a file may be.
 
 /// An input may have so many frames besides its head.
-pub(crate) const MOST_FRAMES: u32 = 2_900_000;
+pub const MOST_FRAMES: u32 = 2_900_000;
 
 /// A file has at most so many bytes.
 pub(crate) const LONGEST_FILE: u64 = 1_073_741_824;

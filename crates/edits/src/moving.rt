@@ -32,7 +32,7 @@ const MOST_OVERHEAD: usize = 38;
 
 /// Why a pass ended early.
 #[derive(Clone, Copy, Debug, PartialEq, Eq)]
-pub(crate) enum CopyFault {
+pub enum CopyFault {
     /// The input could not be read.
     Read,
     /// The input was of the first length when it was found, and ended at the second when it was read.

@@ -22,7 +22,7 @@ use sync_survey::{Row, Survey};
 
 /// The slots of chosen frames and of their lead-in, and the bytes of the Info frame in front of them.
 #[derive(Drop)]
-pub(crate) struct Planned {
+pub struct Planned {
     pub plan: Plan,
     pub info: ArrayVec<u8, 1441>,
 }
@@ -56,7 +56,7 @@ fn plan_chosen(alloc: Global, survey: &Survey, chosen: &Chosen) -> Result<Plan, 
 }
 
 /// The plan of chosen frames, and their Info frame.
-pub(crate) fn plan_file(
+pub fn plan_file(
     alloc: Global,
     survey: &Survey,
     chosen: &Chosen,

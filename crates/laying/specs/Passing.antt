@@ -8,7 +8,8 @@ use Rattle.reservoir.specs.Window.{IsWindowOver}
 use Rattle.frame_writer.specs.Laid.{BeginsWithin}
 use Rattle.frame_writer.specs.Frames.{Frame, Held, pieces, AreWritten}
 use Rattle.frame_writer.specs.Writing.{Writing, IsWriterOf}
-use Rattle.sync_survey.specs.MainData.{place, main_bytes}
+use Rattle.sync_survey.specs.declared.rows.Row.{Row}
+use Rattle.sync_survey.specs.MainData.{own_area, area_bytes, place, main_bytes}
 use Rattle.sync_survey.specs.Faults.{SurveyFields}
 use Rattle.sync_survey.specs.Survey.{survey_of, IsLaidOut}
 use Rattle.laying.specs.declared.relay.PassFault.{PassFault}
@@ -38,6 +39,13 @@ pub record IsOver (window input : List ℕ) (files : Files) (s : SurveyFields) (
   pub held : IsWindowOver window main
   pub long : length main ≡ place s.head s.frames i
   pub is : (file : List ℕ) → Holds files input file → main ≡ main_bytes file s.head (take i s.frames)
+
+-- The area of a frame was read into a window: where the input is told, its bytes.
+pub record HasArea (before after input : List ℕ) (files : Files) (row : Row) : Type 0 where
+  pub area : List ℕ
+  pub long : length area ≡ own_area row.header
+  pub is : (file : List ℕ) → Holds files input file → area ≡ area_bytes file row.offset row.header
+  pub held : (main : List ℕ) → IsWindowOver before main → IsWindowOver after (main ++ area)
 
 -- Frames were given to the writer: where the input is told, they are made of its bytes so. More was appended to the output.
 pub record Lays (input output : List ℕ) (made : List ℕ → List Frame) (old new : Writing) (before after : Files) : Type 0 where

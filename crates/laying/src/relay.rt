@@ -1,5 +1,5 @@
 //! The frames of a surveyed input, read once from front to back and given to the writer of an output.
-ghost use Rattle.std.specs.Prelude.{◌≡◌, ◌≢◌, false, if◌then◌else◌, ◌+◌, ◌-◌, ◌^◌, ◌<◌, ◌≤◌, ◌++◌, min, List, ℕ, [], ◌∷◌, length, take, drop, map, slice_range, slice_get, Some, Ok, IfOk, IfErr, OnOk, OnErr};
+ghost use Rattle.std.specs.Prelude.{◌≡◌, ◌≢◌, ◌⊎◌, false, if◌then◌else◌, ◌+◌, ◌-◌, ◌^◌, ◌<◌, ◌≤◌, ◌++◌, min, List, ℕ, [], ◌∷◌, length, take, drop, map, slice_range, slice_get, Some, Ok, IfOk, IfErr, OnOk, OnErr};
 ghost use Rattle.bit_fields.specs.Bits.{AreBytes};
 ghost use Rattle.frame_header.specs.Tables.{class_of, area_of, overhead_of, window_of};
 ghost use Rattle.outside.specs.Files.{appended, Holds, IsThere};
@@ -15,7 +15,7 @@ ghost use Rattle.reservoir.specs.Window.{IsWindowOver};
 ghost use Rattle.part_needs.specs.Needs.{need_of};
 ghost use Rattle.laying.specs.Relaid.{payload_of, frame_of, all_frames, moved_to, lead_in_before, placed_as, relaid};
 ghost use Rattle.laying.specs.Fits.{bytes_at, area_at, reach_behind, FitsFrom, last_reach};
-ghost use Rattle.laying.specs.Passing.{Reaches, Appends, AppendsPrefix, IsReady, IsOver, Lays, LaysPart, HasPassCause};
+ghost use Rattle.laying.specs.Passing.{Reaches, Appends, AppendsPrefix, IsReady, HasArea, IsOver, Lays, LaysPart, HasPassCause};
 
 use arrayvec::ArrayVec;
 use frame_header::Header;
@@ -146,8 +146,7 @@ impl<'a> Relay<'a> {
     ) -> Result<(), PassFault>
         requires ready { IsReady self.now.input.now self.now.output.now (tells self.now.survey.now) (D.files folder.old) feed.old }
         requires found { slice_get (tells self.now.survey.now).frames i ≡ Some row.now }
-        requires over { IsOver window.old self.now.input.now (D.files folder.old) (tells self.now.survey.now) i }
-        ensures over { OnOk result (IsOver window.new self.now.input.now (D.files folder.new) (tells self.now.survey.now) (i + 1)) }
+        ensures area { OnOk result (HasArea window.old window.new self.now.input.now (D.files folder.new) row.now) }
         ensures done { OnOk result (D.counts folder.new ≡ D.counts folder.old) }
         ensures cause { IfErr result (HasPassCause (tells self.now.survey.now).length (D.files folder.old) (D.counts folder.old) (D.counts folder.new)) }
         ensures files { D.files folder.new ≡ D.files folder.old }
@@ -192,7 +191,25 @@ impl<'a> Relay<'a> {
         Ok(())
     }
 
-    /// Reads the areas of the head and of all frames before frame `i` into a window over nothing.
+    /// The first of the frames before frame `i` whose areas are all that a window holds: with those behind it it has at
+    /// least 2,048 bytes, or it is the first of all.
+    fn first_held(&self, i: usize) -> usize
+        requires within { i ≤ length (tells self.now.survey.now).frames }
+        ensures before { result ≤ i }
+        ensures held { (result ≡ 0) ⊎ (place (tells self.now.survey.now).head (tells self.now.survey.now).frames result + 2048 ≤ place (tells self.now.survey.now).head (tells self.now.survey.now).frames i) }
+    {
+        let rows = self.survey.frames();
+        let mut first = i;
+        let mut bytes = 0;
+        while first > 0 && bytes < 2048 {
+            first -= 1;
+            bytes += rows[first].header.area();
+        }
+        first
+    }
+
+    /// Reads into the window, whatever it held, the last 2,048 bytes of the areas of the head and of all frames before
+    /// frame `i`, or all where there are fewer.
     pub fn read_before<D: Folder>(
         &self,
         folder: &mut D,
@@ -202,16 +219,19 @@ impl<'a> Relay<'a> {
     ) -> Result<(), PassFault>
         requires ready { IsReady self.now.input.now self.now.output.now (tells self.now.survey.now) (D.files folder.old) feed.old }
         requires within { i ≤ length (tells self.now.survey.now).frames }
-        requires none { IsWindowOver window.old [] }
         ensures over { OnOk result (IsOver window.new self.now.input.now (D.files folder.new) (tells self.now.survey.now) i) }
         ensures done { OnOk result (D.counts folder.new ≡ D.counts folder.old) }
         ensures cause { IfErr result (HasPassCause (tells self.now.survey.now).length (D.files folder.old) (D.counts folder.old) (D.counts folder.new)) }
         ensures files { D.files folder.new ≡ D.files folder.old }
         ensures ready { IsReady self.now.input.now self.now.output.now (tells self.now.survey.now) (D.files folder.new) feed.new }
     {
-        self.read_head(folder, feed, window)?;
+        window.clear();
+        let first = self.first_held(i);
+        if first == 0 {
+            self.read_head(folder, feed, window)?;
+        }
         let rows = self.survey.frames();
-        let mut at = 0;
+        let mut at = first;
         while at < i {
             self.read_area(folder, at, &rows[at], feed, window)?;
             at += 1;
@@ -336,8 +356,11 @@ impl<'a> Relay<'a> {
         Ok(())
     }
 
-    /// Hands on all that waits in the writer.
-    fn finish<D: Folder>(&self, folder: &mut D, writer: &mut Writer) -> Result<(), PassFault>
+    /// Hands on all that waits in the writer. It takes no memory.
+    ///
+    /// # Errors
+    /// `Write` where a write failed. Then a prefix of what waits was appended.
+    pub fn finish<D: Folder>(&self, folder: &mut D, writer: &mut Writer) -> Result<(), PassFault>
         requires { IsThere (D.files folder.old) self.now.output.now }
         ensures appended { OnOk result (D.files folder.new ≡ appended (D.files folder.old) self.now.output.now (waiting_bytes writer.old)) }
         ensures prefix { OnErr result (AppendedPrefix self.now.output.now (waiting_bytes writer.old) (D.files folder.old) (D.files folder.new)) }
@@ -351,7 +374,8 @@ impl<'a> Relay<'a> {
     }
 
     /// Appends to the output the frames of the input from one on and before another, in the slots and with the lead-ins
-    /// of their plan, with all main data laid anew. The window and the writer are new. It takes no memory.
+    /// of their plan, with all main data laid anew. The writer is new, and the window may hold whatever it does. It takes no
+    /// memory.
     ///
     /// # Errors
     /// `Read` where a read failed; `Shrunk`, the length that the input was found with and the one that it had when it was
@@ -370,7 +394,6 @@ impl<'a> Relay<'a> {
         requires ready { IsReady self.now.input.now self.now.output.now (tells self.now.survey.now) (D.files folder.old) feed.old }
         requires ordered { from ≤ to }
         requires within { to ≤ length (tells self.now.survey.now).frames }
-        requires none { IsWindowOver window.old [] }
         requires written { IsWriterOf [] writer.old [] }
         requires free { writer.old.held.waiting.free ≡ 0 }
         requires class { writer.old.held.class ≡ (tells self.now.survey.now).class }

@@ -44,6 +44,14 @@ impl Window {
         })
     }
 
+    /// Drops all bytes: it is over no main data again.
+    pub fn clear(&mut self)
+        ensures none { self.new ≡ [] }
+        ensures main { IsWindowOver self.new [] }
+    {
+        self.queue.clear();
+    }
+
     /// How many bytes it holds, at most 2,048.
     pub fn held(&self) -> usize
         ensures count { result ≡ length self.now }

@@ -4,7 +4,7 @@ use Rattle.std.proofs.lemmas.Result.{on_ok_weaker, on_err_weaker}
 use Rattle.outside.proofs.PassedLaws.{on_err}
 use Rattle.sync_survey.specs.Faults.{tells}
 use Rattle.laying.specs.Copying.{chosen_bytes}
-use Rattle.laying.proofs.PassLaws.{causes_later}
+use Rattle.laying.proofs.PassLaws.{causes_later, ready-later}
 use Rattle.laying.proofs.CopyLaws.{behind-none, behind-none_part, copies-end, copies-end_part}
 use Rattle.laying.proofs.relay.Relay.write_back.Goals as goal
 
@@ -37,3 +37,11 @@ returns-clause-cause g c =
     let s = tells self.survey.now in
     let passed = c.in_ok-copy_blocks.ensures.written.passed in
     causes_later c.flush.result s.length _ _ self.output.now passed.passed _ _ _ passed.files c.in_ok-copy_blocks.ensures.done c.flush.ensures.cause
+
+pub returns-clause-ready : goal.returns-clause-ready
+returns-clause-ready g c =
+    let self = c.args.self.now in
+    let s = tells self.survey.now in
+    on_ok_weaker c.flush.result
+    (λ is. ready-later self.input.now self.output.now s _ _ _ _ is c.in_ok-copy_blocks.ensures.ready)
+    c.flush.ensures.appended
