@@ -56,11 +56,7 @@ fn plan_chosen(alloc: Global, survey: &Survey, chosen: &Chosen) -> Result<Plan, 
 }
 
 /// The plan of chosen frames, and their Info frame.
-pub fn plan_file(
-    alloc: Global,
-    survey: &Survey,
-    chosen: &Chosen,
-) -> Result<Planned, AllocError>
+pub fn plan_file(alloc: Global, survey: &Survey, chosen: &Chosen) -> Result<Planned, AllocError>
     requires laid { IsLaidOut (tells survey.now) }
     requires few { length (tells survey.now).frames ≤ 2900000 }
     requires some { chosen.now.from < chosen.now.to }

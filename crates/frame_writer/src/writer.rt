@@ -25,6 +25,8 @@ const LONGEST: usize = 1441;
 pub struct Writer {
     frames: Frames,
     buffer: WriteBuffer,
+    // The frame that goes from the one to the other. It stands here so that its bytes aren't set to 0 for each frame.
+    frame: [u8; LONGEST],
 }
 
 impl Model for Writer {
@@ -49,6 +51,7 @@ impl Writer {
         Ok(Writer {
             frames: Frames::new(alloc, class)?,
             buffer: WriteBuffer::new(alloc)?,
+            frame: [0; LONGEST],
         })
     }
 
@@ -158,8 +161,7 @@ impl Writer {
         ensures done { OnOk result (D.counts folder.new ≡ D.counts folder.old) }
         ensures counts { OnlyWrites (D.counts folder.old) (D.counts folder.new) }
     {
-        let mut frame = [0; LONGEST];
-        let length = self.frames.take_frame(&mut frame);
-        self.buffer.push(folder, name, &frame[..length])
+        let length = self.frames.take_frame(&mut self.frame);
+        self.buffer.push(folder, name, &self.frame[..length])
     }
 }

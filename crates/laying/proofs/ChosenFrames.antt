@@ -144,6 +144,23 @@ main-reaches file head rows i r front are is =
       area-among rows i r is,
     )
 
+rows-first : (file : List ℕ) (i : ℕ) (rows : List Row) → AreRows file rows → AreRows file (take i rows)
+rows-first file zero [] are = tt
+rows-first file zero (r ∷ rows) are = tt
+rows-first file (suc i) [] are = tt
+rows-first file (suc i) (r ∷ rows) are = (are.0, rows-first file i rows are.1)
+
+-- so many main data stand before frame i
+pub main-place : (file : List ℕ) (head : Option Head) (rows : List Row) (i : ℕ) → IsWholeHead file head → AreRows file rows → length (main_bytes file head (take i rows)) ≡ place head rows i
+unfolding place main_bytes
+main-place file head rows i front are =
+    omega (
+      arith,
+      length-append (head_bytes file head) (flat_map (λ (q : Row). area_bytes file q.offset q.header) (take i rows)),
+      head-length file head front,
+      areas-length file (take i rows) (rows-first file i rows are),
+    )
+
 -- ---- bits in bytes
 
 zeros-bits : (n : ℕ) → AreBits (zeros n)

@@ -1,9 +1,13 @@
 -- The main data of frames as they are read, area by area.
-use Rattle.std.proofs.Common.{◌≡◌, ℕ, zero, suc, min, ◌+◌, ◌-◌, ◌*◌, ◌/◌, ◌≤◌, cond, Bool, true, false, List, [], ◌∷◌, ◌++◌, length, take, drop, Option, Some, Ok, refl, sym, ◌∙◌, ap, ap₂, subst, arith, length-drop, append-nil, append_assoc}
-use Rattle.std.specs.Prelude.{flat_map, slice_get, sum_by, nat_lt, replicate, Result, Err}
+use Rattle.std.proofs.Common.{◌≡◌, ◌≢◌, eqb, ℕ, zero, suc, min, ◌+◌, ◌-◌, ◌*◌, ◌/◌, ◌≤◌, cond, Bool, true, false, List, [], ◌∷◌, ◌++◌, length, take, drop, Option, Some, None, Ok, inl, inr, refl, sym, ◌∙◌, ap, ap₂, subst, arith, length-drop, length-append, append-nil, append_assoc}
+use Rattle.std.specs.Prelude.{◌⊎◌, ◌==◌, flat_map, slice_get, sum_by, nat_lt, replicate, Result, Err}
 use Rattle.std.proofs.lemmas.Bool.{ltb-false}
-use Rattle.std.proofs.lemmas.List.{length-take-le, take-append-drop, take-append-le, drop-append-le}
+use Rattle.std.proofs.lemmas.Bool.Decides.{eqb_tells}
+use Rattle.std.proofs.lemmas.List.{length-replicate, length-take-le, take-append-drop, take-append-le, drop-append-le}
+use Rattle.std.proofs.Math.Seq.{drop-append-add}
 use Rattle.std.proofs.lemmas.List.Sums.{sum_by-cons}
+use Rattle.outside.specs.Files.{Files, Holds, IsThere}
+use Rattle.outside.proofs.FilesLaws.{there_holds}
 use Rattle.bit_fields.specs.Bits.{bits, bytes, AreBits, AreBytes}
 use Rattle.bit_fields.proofs.BitsLaws.{length-bits, bits-append, bits-injective, AreBits-take, AreBits-drop, AreBits-bits}
 use Rattle.frame_header.specs.declared.version.Version.{Version}
@@ -24,8 +28,8 @@ use Rattle.sync_survey.specs.Faults.{SurveyFields, surveyed, longest_file}
 use Rattle.sync_survey.specs.Survey.{survey_of, AreLaid, IsWellPlaced}
 use Rattle.sync_survey.proofs.SurveyParts.{surveyed-parts, data-none_well}
 use Rattle.laying.specs.Relaid.{packed, payload_of}
-use Rattle.laying.specs.Passing.{HasSurvey}
-use Rattle.laying.proofs.ChosenFrames.{IsWholeHead, surveyed-whole, packed-bits, packed-bytes, filling}
+use Rattle.laying.specs.Passing.{HasSurvey, HasArea, IsOver, skipped_before, IsOverLast}
+use Rattle.laying.proofs.ChosenFrames.{IsWholeHead, surveyed-whole, main-place, packed-bits, packed-bytes, filling}
 
 -- ---- the survey of a file
 
@@ -180,6 +184,111 @@ window-holds held main is = omega (arith, ap length is ∙ length-drop (length m
 pub bytes-are : (s : Side) → payload_bytes s ≡ (payload_bits s + 7) / 8
 unfolding payload_bytes
 bytes-are s = refl
+
+-- ---- areas that were read into a window
+
+abbrev some : List ℕ → Option (List ℕ)
+some l = Some l
+
+-- one more
+pub over-next : (before after input : List ℕ) (files : Files) (s : SurveyFields) (i : ℕ) (r : Row) → slice_get s.frames i ≡ Some r → IsOver before input files s i → HasArea before after input files r → IsOver after input files s (i + 1)
+over-next before after input files s i r found over has = record {
+  main = over.main ++ has.area;
+  held = has.held over.main over.held;
+  long = length-append over.main has.area ∙ ap₂ (λ m n. m + n) over.long has.long ∙ sym (place-next s.head s.frames i r found);
+  is = λ file holds. ap₂ (λ (l m : List ℕ). l ++ m) (over.is file holds) (has.is file holds) ∙ sym (main-next file s.head s.frames i r found);
+}
+
+-- one more behind those from a first one on
+pub last-next : (before after input : List ℕ) (files : Files) (s : SurveyFields) (first i : ℕ) (r : Row) → slice_get s.frames i ≡ Some r → IsOverLast before input files s first i → HasArea before after input files r
+    → IsOverLast after input files s first (i + 1)
+last-next before after input files s first i r found over has = record {
+  main = over.main ++ has.area;
+  held = has.held over.main over.held;
+  long = omega (arith, length-append over.main has.area, over.long, has.long, place-next s.head s.frames i r found);
+  is = λ file holds.
+      let own = over.is file holds in
+      (own.0, own.1, main-next file s.head s.frames i r found ∙ ap₂ (λ (l m : List ℕ). l ++ m) own.2 (sym (has.is file holds)) ∙ append_assoc own.0 over.main has.area);
+}
+
+-- the area of the head alone
+pub last-head : (window input : List ℕ) (files : Files) (s : SurveyFields) (first : ℕ) → first ≡ 0 → IsOver window input files s 0 → IsOverLast window input files s first first
+last-head window input files s first none over =
+    subst (λ n. IsOverLast window input files s n n) (sym none)
+    (record { main = over.main; held = over.held; long = omega (arith, over.long); is = λ file holds. ([], refl, sym (over.is file holds)) })
+
+-- nothing yet
+pub last-none : (window input : List ℕ) (files : Files) (s : SurveyFields) (first : ℕ) → (first ≡ 0 → ⊥) → IsWindowOver window [] → ((file : List ℕ) → Holds files input file → HasSurvey file s) → IsOverLast window input files s first first
+last-none window input files s first some held has =
+    let skipped : skipped_before s first ≡ place s.head s.frames first = ap (λ b. cond b 0 (place s.head s.frames first)) (other first some) in
+    record {
+      main = [];
+      held = held;
+      long = omega (arith, skipped);
+      is = λ file holds.
+          let h = has file holds in
+          let whole = surveyed-whole file h.0 s (survey-surveyed file h.0 s h.1) in
+          let front = main_bytes file s.head (take first s.frames) in
+          (front, main-place file s.head s.frames first whole.head whole.rows ∙ sym skipped, sym (append-nil front));
+    }
+  where
+    told : (n : ℕ) → (n ≡ 0 → ⊥) → ((eqb n 0 ≡ true) × (n ≡ 0)) ⊎ ((eqb n 0 ≡ false) × (n ≢ 0)) → (n == 0) ≡ false
+    told n some (inl same) = absurd (some same.1)
+    told n some (inr differ) = differ.0
+
+    other : (n : ℕ) → (n ≡ 0 → ⊥) → (n == 0) ≡ false
+    other n some = told n some (eqb_tells n 0)
+
+-- the last 2,048 bytes of all are those of the last ones
+last-kept : (held front main : List ℕ) → 2048 ≤ length main → IsWindowOver held main → IsWindowOver held (front ++ main)
+last-kept held front main many is =
+    let from : length (front ++ main) - 2048 ≡ length front + (length main - 2048) = omega (arith, length-append front main, many) in
+    is ∙ sym (ap (λ n. drop n (front ++ main)) from ∙ drop-append-add front main (length main - 2048))
+
+skipped-most : (s : SurveyFields) (first : ℕ) → skipped_before s first ≤ place s.head s.frames first
+skipped-most s first = by (first == 0)
+  where
+    by : (b : Bool) → cond b 0 (place s.head s.frames first) ≤ place s.head s.frames first
+    by true = omega arith
+    by false = omega arith
+
+-- with the last 2,048 bytes, or all, a window is over all
+pub last-whole : (window input : List ℕ) (files : Files) (s : SurveyFields) (first i : ℕ) → IsThere files input → (first ≡ 0) ⊎ (place s.head s.frames first + 2048 ≤ place s.head s.frames i) → IsOverLast window input files s first i → IsOver window input files s i
+last-whole window input files s first i there (inl none) over =
+    let skipped : skipped_before s first ≡ 0 = ap (λ n. skipped_before s n) none in
+    record {
+      main = over.main;
+      held = over.held;
+      long = omega (arith, over.long, skipped);
+      is = λ file holds.
+          let own = over.is file holds in
+          let empty : own.0 ≡ [] = none_of own.0 (own.1 ∙ skipped) in
+          sym (own.2 ∙ ap (λ (l : List ℕ). l ++ over.main) empty);
+    }
+  where
+    none_of : (l : List ℕ) → length l ≡ 0 → l ≡ []
+    none_of [] e = refl
+    none_of (x ∷ xs) e = absurd (omega (arith, e))
+last-whole window input None s first i there (inr far) over =
+    let skipped : List ℕ = replicate (skipped_before s first) 0 in
+    record {
+      main = skipped ++ over.main;
+      held = last-kept window skipped over.main (omega (arith, over.long, far, skipped-most s first)) over.held;
+      long = length-append skipped over.main ∙ ap (λ n. n + length over.main) (length-replicate (skipped_before s first) 0) ∙ over.long;
+      is = λ file holds. absurd holds;
+    }
+last-whole window input (Some f) s first i there (inr far) over =
+    let held = there_holds f input there in
+    let own = over.is held.0 held.1 in
+    record {
+      main = own.0 ++ over.main;
+      held = last-kept window own.0 over.main (omega (arith, over.long, far, skipped-most s first)) over.held;
+      long = length-append own.0 over.main ∙ ap (λ n. n + length over.main) own.1 ∙ over.long;
+      is = λ file holds. sym own.2 ∙ ap (λ (b : List ℕ). main_bytes b s.head (take i s.frames)) (only-one held.0 file (sym held.1 ∙ holds));
+    }
+  where
+    only-one : (a b : List ℕ) → some a ≡ some b → a ≡ b
+    only-one a b e = cc
 
 -- ---- before the first frame
 

@@ -1,5 +1,5 @@
 -- What a pass over the frames of a surveyed input gives to the writer of its output, and why it ends early.
-use Rattle.std.specs.Prelude.{◌≡◌, ◌≢◌, ℕ, ◌<◌, List, ◌++◌, length, take, Ok}
+use Rattle.std.specs.Prelude.{◌≡◌, ◌≢◌, ℕ, ◌+◌, ◌<◌, ◌==◌, if◌then◌else◌, List, ◌++◌, length, take, Ok}
 use Rattle.outside.specs.Files.{Files, untold, appended, Holds, IsThere}
 use Rattle.outside.specs.Counts.{Counts, Rose, OnlyReads, OnlyWrites, NothingFailed}
 use Rattle.outside.specs.Passed.{AppendedPrefix}
@@ -39,6 +39,17 @@ pub record IsOver (window input : List ℕ) (files : Files) (s : SurveyFields) (
   pub held : IsWindowOver window main
   pub long : length main ≡ place s.head s.frames i
   pub is : (file : List ℕ) → Holds files input file → main ≡ main_bytes file s.head (take i s.frames)
+
+-- so many bytes of main data stand before the first frame whose area was read; where it is the first of all, that of the head was too
+abbrev pub skipped_before : SurveyFields → ℕ → ℕ
+skipped_before s first = if first == 0 then 0 else place s.head s.frames first
+
+-- Of the areas before frame i a window is over those from this first frame on. Where the input is told, these are they.
+pub record IsOverLast (window input : List ℕ) (files : Files) (s : SurveyFields) (first i : ℕ) : Type 0 where
+  pub main : List ℕ
+  pub held : IsWindowOver window main
+  pub long : skipped_before s first + length main ≡ place s.head s.frames i
+  pub is : (file : List ℕ) → Holds files input file → (skipped : List ℕ) × (length skipped ≡ skipped_before s first) × (main_bytes file s.head (take i s.frames) ≡ skipped ++ main)
 
 -- The area of a frame was read into a window: where the input is told, its bytes.
 pub record HasArea (before after input : List ℕ) (files : Files) (row : Row) : Type 0 where

@@ -15,7 +15,7 @@ ghost use Rattle.reservoir.specs.Window.{IsWindowOver};
 ghost use Rattle.part_needs.specs.Needs.{need_of};
 ghost use Rattle.laying.specs.Relaid.{payload_of, frame_of, all_frames, moved_to, lead_in_before, placed_as, relaid};
 ghost use Rattle.laying.specs.Fits.{bytes_at, area_at, reach_behind, FitsFrom, last_reach};
-ghost use Rattle.laying.specs.Passing.{Reaches, Appends, AppendsPrefix, IsReady, HasArea, IsOver, Lays, LaysPart, HasPassCause};
+ghost use Rattle.laying.specs.Passing.{Reaches, Appends, AppendsPrefix, IsReady, HasArea, IsOver, IsOverLast, Lays, LaysPart, HasPassCause};
 
 use arrayvec::ArrayVec;
 use frame_header::Header;
@@ -208,6 +208,29 @@ impl<'a> Relay<'a> {
         first
     }
 
+    /// Begins to read the areas of frames from this first one on: with that of the head, where it is the first of all.
+    fn begin_at<D: Folder>(
+        &self,
+        folder: &mut D,
+        first: usize,
+        feed: &mut Feed,
+        window: &mut Window,
+    ) -> Result<(), PassFault>
+        requires ready { IsReady self.now.input.now self.now.output.now (tells self.now.survey.now) (D.files folder.old) feed.old }
+        requires none { IsWindowOver window.old [] }
+        ensures over { OnOk result (IsOverLast window.new self.now.input.now (D.files folder.new) (tells self.now.survey.now) first first) }
+        ensures done { OnOk result (D.counts folder.new ≡ D.counts folder.old) }
+        ensures cause { IfErr result (HasPassCause (tells self.now.survey.now).length (D.files folder.old) (D.counts folder.old) (D.counts folder.new)) }
+        ensures files { D.files folder.new ≡ D.files folder.old }
+        ensures ready { IsReady self.now.input.now self.now.output.now (tells self.now.survey.now) (D.files folder.new) feed.new }
+    {
+        if first == 0 {
+            self.read_head(folder, feed, window)
+        } else {
+            Ok(())
+        }
+    }
+
     /// Reads into the window, whatever it held, the last 2,048 bytes of the areas of the head and of all frames before
     /// frame `i`, or all where there are fewer.
     pub fn read_before<D: Folder>(
@@ -227,9 +250,7 @@ impl<'a> Relay<'a> {
     {
         window.clear();
         let first = self.first_held(i);
-        if first == 0 {
-            self.read_head(folder, feed, window)?;
-        }
+        self.begin_at(folder, first, feed, window)?;
         let rows = self.survey.frames();
         let mut at = first;
         while at < i {

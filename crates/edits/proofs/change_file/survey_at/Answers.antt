@@ -1,5 +1,5 @@
 -- A fault of the survey is one of this input.
-use Rattle.std.proofs.Common.{length, ap, ap₂, refl, arith}
+use Rattle.std.proofs.Common.{◌≡◌, ◌∙◌, length, ap, ap₂, refl, sym, subst, arith}
 use Rattle.sync_survey.specs.Faults.{tells}
 use Rattle.edits.specs.Left.{seen}
 use Rattle.edits.proofs.SurveyedFiles.{survey_of-parts}

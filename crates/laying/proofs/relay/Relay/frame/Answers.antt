@@ -12,9 +12,10 @@ use Rattle.sync_survey.specs.MainData.{side_of}
 use Rattle.sync_survey.specs.Faults.{tells}
 use Rattle.part_needs.specs.Needs.{need_of}
 use Rattle.laying.specs.Relaid.{frame_of, moved_to}
-use Rattle.laying.specs.Passing.{Lays, LaysPart}
+use Rattle.laying.specs.Passing.{IsOver, Lays, LaysPart}
 use Rattle.laying.proofs.PlannedFrames.{begun_fits}
 use Rattle.laying.proofs.ChosenFrames.{side_fits}
+use Rattle.laying.proofs.ReadLaws.{over-next}
 use Rattle.laying.proofs.PassLaws.{ready-later, over-later, lays_one, part_one, part_none}
 use Rattle.laying.proofs.relay.Relay.frame.Goals as goal
 
@@ -47,7 +48,8 @@ returns-clause-lays g c =
     let self = c.args.self.now in
     let s = tells self.survey.now in
     let files = g.D.Folder.files in
-    let over = c.in_ok-read_area.ensures.over in
+    let over =
+    over-next c.args.window.now c.read_area.new.window self.input.now (files c.read_area.new.folder) s c.args.i c.args.row.now c.requires.found (subst (λ f. IsOver c.args.window.now self.input.now f s c.args.i) (sym c.read_area.ensures.files) c.requires.over) c.in_ok-read_area.ensures.area in
     let made = λ (file : List ℕ). moved_to c.args.place.now (frame_of file s c.args.i c.args.row.now) ∷ [] in
     let side = c.with_begin-side.ensures ∙ ap (λ (t : Side). record t { main_data_begin = c.args.place.now.begin }) c.side_of.ensures in
     let told : (file : List ℕ) → Holds (files c.read_area.new.folder) self.input.now file → (record { kept = record { header = c.with_slot-header.result; side = c.with_begin-side.result }; payload = c.as_slice.result.now }) ∷ [] ≡ made file =
@@ -65,7 +67,8 @@ returns-clause-part g c =
     let self = c.args.self.now in
     let s = tells self.survey.now in
     let files = g.D.Folder.files in
-    let over = c.in_ok-read_area.ensures.over in
+    let over =
+    over-next c.args.window.now c.read_area.new.window self.input.now (files c.read_area.new.folder) s c.args.i c.args.row.now c.requires.found (subst (λ f. IsOver c.args.window.now self.input.now f s c.args.i) (sym c.read_area.ensures.files) c.requires.over) c.in_ok-read_area.ensures.area in
     let made = λ (file : List ℕ). moved_to c.args.place.now (frame_of file s c.args.i c.args.row.now) ∷ [] in
     let side = c.with_begin-side.ensures ∙ ap (λ (t : Side). record t { main_data_begin = c.args.place.now.begin }) c.side_of.ensures in
     let header = c.with_slot-header.ensures in
@@ -83,11 +86,24 @@ returns-clause-part g c =
     (part_one self.input.now self.output.now made (behind s.class (record c.args.row.now.header { slot = c.args.place.now.slot }) c.args.place.now.begin (need_of c.args.row.now).bytes) _ c.args.writer.now c.write_frame.new.writer.held (files c.read_area.new.folder) (files c.write_frame.new.folder) told (omega (arith, reach)) part))
     c.write_frame.ensures.part
 
+pub cut_payload-requires-clause-over : goal.cut_payload-requires-clause-over
+cut_payload-requires-clause-over g c =
+    let self = c.args.self.now in
+    let s = tells self.survey.now in
+    let files = g.D.Folder.files in
+    let over =
+    over-next c.args.window.now c.read_area.new.window self.input.now (files c.read_area.new.folder) s c.args.i c.args.row.now c.requires.found (subst (λ f. IsOver c.args.window.now self.input.now f s c.args.i) (sym c.read_area.ensures.files) c.requires.over) c.in_ok-read_area.ensures.area in
+    (over.main, over.held, over.long)
+
 pub returns-clause-over : goal.returns-clause-over
 returns-clause-over g c =
     let self = c.args.self.now in
+    let s = tells self.survey.now in
+    let files = g.D.Folder.files in
+    let over =
+    over-next c.args.window.now c.read_area.new.window self.input.now (files c.read_area.new.folder) s c.args.i c.args.row.now c.requires.found (subst (λ f. IsOver c.args.window.now self.input.now f s c.args.i) (sym c.read_area.ensures.files) c.requires.over) c.in_ok-read_area.ensures.area in
     ok-map c.write_frame.result
-    (λ on. over-later c.read_area.new.window self.input.now self.output.now (tells self.survey.now) (c.args.i + 1) _ _ on.passed c.requires.ready.apart on.files c.in_ok-read_area.ensures.over)
+    (λ on. over-later c.read_area.new.window self.input.now self.output.now s (c.args.i + 1) _ _ on.passed c.requires.ready.apart on.files over)
     c.write_frame.ensures.written
 
 pub returns-clause-ready : goal.returns-clause-ready

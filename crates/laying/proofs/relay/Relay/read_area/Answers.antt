@@ -1,11 +1,11 @@
 -- The area of the frame stands within the file, behind what comes before it in the frame.
-use Rattle.std.proofs.Common.{◌≡◌, ℕ, ◌+◌, List, ◌++◌, length, take, drop, sym, ◌∙◌, ap, ap₂, subst, arith, length-append}
+use Rattle.std.proofs.Common.{◌≡◌, ℕ, ◌+◌, List, length, take, drop, sym, ◌∙◌, ap, ap₂, subst, arith}
 use Rattle.std.proofs.lemmas.List.{drop-drop}
 use Rattle.frame_header.specs.Tables.{class_of, overhead_of}
 use Rattle.outside.specs.Files.{Holds}
-use Rattle.sync_survey.specs.MainData.{own_area, area_bytes}
+use Rattle.sync_survey.specs.MainData.{own_area}
 use Rattle.sync_survey.specs.Faults.{tells}
-use Rattle.laying.proofs.ReadLaws.{laid-within, place-next, main-next}
+use Rattle.laying.proofs.ReadLaws.{laid-within}
 use Rattle.laying.proofs.relay.Relay.read_area.Goals as goal
 
 pub overflow_add-at : goal.overflow_add-at
@@ -20,25 +20,19 @@ fill-requires-clause-within g c =
     let laid = c.requires.ready.laid in
     omega (arith, laid-within s.first s.length s.frames c.args.i c.args.row.now laid.frames c.requires.found, c.from.ensures, c.overhead.ensures.overhead, c.area.ensures.whole)
 
-pub returns-clause-over : goal.returns-clause-over
-returns-clause-over g c =
-    let s = tells c.args.self.now.survey.now in
-    let i = c.args.i in
+pub returns-clause-area : goal.returns-clause-area
+returns-clause-area g c =
     let row = c.args.row.now in
-    let over = c.requires.over in
     let files = g.D.Folder.files in
     let given = c.bytes.result.now in
-    let many : length given ≡ own_area row.header = ap length c.bytes.ensures ∙ c.in_ok-fill.ensures.given ∙ c.area.ensures.area in
     record {
-      main = over.main ++ given;
-      held = c.push_area.ensures.main over.main over.held;
-      long = length-append over.main given ∙ ap₂ (λ m n. m + n) over.long many ∙ sym (place-next s.head s.frames i row c.requires.found);
+      area = given;
+      long = ap length c.bytes.ensures ∙ c.in_ok-fill.ensures.given ∙ c.area.ensures.area;
       is = λ file holds.
           let told : Holds (files c.args.folder.now) c.args.self.now.input.now file = subst (λ f. Holds f c.args.self.now.input.now file) c.fill.ensures.files holds in
-          let area : given ≡ area_bytes file row.offset row.header =
           c.bytes.ensures
           ∙ c.in_ok-fill.ensures.bytes file told
           ∙ ap₂ (λ m n. take m (drop (row.offset + n) file)) c.area.ensures.area (c.from.ensures ∙ c.overhead.ensures.overhead)
-          ∙ ap (take (own_area row.header)) (sym (drop-drop (overhead_of (class_of row.header) row.header.protected) row.offset file)) in
-          ap₂ (λ (l m : List ℕ). l ++ m) (over.is file told) area ∙ sym (main-next file s.head s.frames i row c.requires.found);
+          ∙ ap (take (own_area row.header)) (sym (drop-drop (overhead_of (class_of row.header) row.header.protected) row.offset file));
+      held = c.push_area.ensures.main;
     }

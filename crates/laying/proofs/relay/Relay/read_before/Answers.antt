@@ -1,0 +1,41 @@
+-- One area more is read, up to frame i; then the last 2,048 bytes are there, or all.
+use Rattle.std.proofs.Common.{◌≡◌, ◌+◌, List, length, Option, sym, ◌∙◌, ap, subst, arith}
+use Rattle.std.specs.Prelude.{slice_get, Some}
+use Rattle.std.proofs.lemmas.Option.{slice_get-get_or}
+use Rattle.sync_survey.specs.declared.rows.Row.{Row}
+use Rattle.sync_survey.specs.Faults.{tells}
+use Rattle.laying.specs.Passing.{IsOverLast}
+use Rattle.laying.proofs.ReadLaws.{last-next, last-whole}
+use Rattle.laying.proofs.relay.Relay.read_before.Goals as goal
+
+abbrev some : Row → Option Row
+some r = Some r
+
+pub loop-at-preserved : goal.loop-at-preserved
+loop-at-preserved g c =
+    let self = c.args.self.now in
+    let s = tells self.survey.now in
+    let files = g.D.Folder.files in
+    let at = c.loop-at.at in
+    let first = c.first_held-first.result in
+    let row = c.index-rows-at.result in
+    let found : slice_get s.frames at ≡ Some row =
+    ap (λ (l : List Row). slice_get l at) (sym c.frames-rows.ensures)
+    ∙ slice_get-get_or c.frames-rows.result.now at c.index-rows-at.result (omega (arith, c.loop-at-test.true, c.requires.within, ap length c.frames-rows.ensures))
+    ∙ ap some (sym c.index-rows-at.is) in
+    record {
+      early = omega (arith, c.loop-at-test.true);
+      over = last-next c.loop-at.window c.read_area.new.window self.input.now (files c.read_area.new.folder) s first at row found
+          (subst (λ f. IsOverLast c.loop-at.window self.input.now f s first at) (sym c.read_area.ensures.files) c.loop-at.invariant.over) c.in_ok-read_area.ensures.area;
+      ready = c.read_area.ensures.ready;
+      files = c.read_area.ensures.files ∙ c.loop-at.invariant.files;
+      counts = c.in_ok-read_area.ensures.done ∙ c.loop-at.invariant.counts;
+    }
+
+pub returns-clause-over : goal.returns-clause-over
+returns-clause-over g c =
+    let self = c.args.self.now in
+    let s = tells self.survey.now in
+    let files = g.D.Folder.files in
+    last-whole c.loop-at.window self.input.now (files c.loop-at.folder) s c.first_held-first.result c.args.i c.loop-at.invariant.ready.source c.first_held-first.ensures.held
+    (subst (IsOverLast c.loop-at.window self.input.now (files c.loop-at.folder) s c.first_held-first.result) (omega (arith, c.loop-at-test.false, c.loop-at.invariant.early)) c.loop-at.invariant.over)
