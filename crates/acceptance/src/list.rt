@@ -101,15 +101,18 @@ frame 2 at 1502: 128 kbit/s, begin 0, bits 0
 1 frames, MPEG-2, 22050 Hz, 2 channels, 0.00.02
 ",
     },
-    // 8,000 Hz, 8 kbit/s, one channel, all bytes behind the header 0: 72 bytes and 72 ms.
+    // 8,000 Hz, 8 kbit/s, one channel, all bytes behind the header 0: 72 bytes and 72 ms each.
     Case {
         what: "MPEG-2.5",
         file: &[
             Stretch::Bytes(&[0xff, 0xe3, 0x18, 0xc0]),
             Stretch::Fill(0, 68),
+            Stretch::Bytes(&[0xff, 0xe3, 0x18, 0xc0]),
+            Stretch::Fill(0, 68),
         ],
         text: "frame 0 at 0: 8 kbit/s, begin 0, bits 0
-1 frames, MPEG-2.5, 8000 Hz, 1 channels, 0.00.07
+frame 1 at 72: 8 kbit/s, begin 0, bits 0
+2 frames, MPEG-2.5, 8000 Hz, 1 channels, 0.00.14
 ",
     },
 ];

@@ -69,11 +69,6 @@ summary_more s left waits after old now new h is more =
     let all = listed_all s left waits old now h is in
     subst (λ text. SentOn text after old new) (sym all.1) (sent_more_on (summary s.class (length s.frames)) all.2 more)
 
--- what holds of every error
-pub on_error : {T E P : Type 0} (r : Result T E) → P → OnErr r P
-on_error (Ok x) p = tt
-on_error (Err e) p = p
-
 -- the end of what waits
 pub sent_behind : {T E : Type 0} (r : Result T E) {text waits : List ℕ} {old now : Sent} (new : Sent) → SentOn text waits old now → OnOk r (new ≡ sent_more now waits) → OnOk r (new ≡ sent_more old text)
 sent_behind (Ok x) new so_far all = sent_then_all so_far all

@@ -4,7 +4,8 @@ use Rattle.outside.specs.Passed.{SentOn, SentPrefix}
 use Rattle.sync_survey.specs.Faults.{tells}
 use Rattle.edits.specs.Things.{left}
 use Rattle.edits.specs.Listing.{listing}
-use Rattle.edits.proofs.ListingLaws.{listed_none, listed_more, listed_failed, summary_failed, summary_more, sent_behind, prefix_behind, on_error}
+use Rattle.outside.proofs.PassedLaws.{on_err}
+use Rattle.edits.proofs.ListingLaws.{listed_none, listed_more, listed_failed, summary_failed, summary_more, sent_behind, prefix_behind}
 use Rattle.edits.proofs.list_file.send_listing.Given.{Over}
 use Rattle.edits.proofs.list_file.send_listing.Goals as goal
 
@@ -24,13 +25,13 @@ loop-thing-preserved g c = record {
 
 pub returns-in_err-push-clause-prefix : goal.returns-in_err-push-clause-prefix
 returns-in_err-push-clause-prefix g c =
-    on_error c.from_residual.result
+    on_err c.from_residual.result
     (listed_failed (tells c.args.survey.now) (left c.loop-thing.things) c.in-Some.thing c.loop-thing.buffer _ _ _ c.loop-thing.invariant.listed c.in-Some.ensures.first
     (subst (λ line. SentPrefix (c.loop-thing.buffer ++ line) (g.T.Sink.sent c.loop-thing.out) (g.T.Sink.sent c.push.new.sink)) (c.bytes.ensures ∙ c.set_line.ensures) c.in_err-push.ensures.prefix))
 
 pub returns-in_err-push-2-clause-prefix : goal.returns-in_err-push-2-clause-prefix
 returns-in_err-push-2-clause-prefix g c =
-    on_error c.from_residual-in_err-push-2.result
+    on_err c.from_residual-in_err-push-2.result
     (summary_failed (tells c.args.survey.now) (left c.loop-thing.things) c.loop-thing.buffer _ _ _ c.loop-thing.invariant.listed c.in_default.ensures.first
     (subst (λ line. SentPrefix (c.loop-thing.buffer ++ line) (g.T.Sink.sent c.loop-thing.out) (g.T.Sink.sent c.push-2.new.sink))
     (c.bytes-2.ensures ∙ c.set_summary.ensures ∙ rw (c.class.ensures, c.frames.ensures) refl) c.in_err-push-2.ensures.prefix))
