@@ -1,5 +1,5 @@
 -- A file of chosen frames: blocks, an Info frame, the frames with all main data laid anew, and other blocks.
-use Rattle.std.specs.Prelude.{ℕ, ◌+◌, ◌*◌, ◌/◌, ◌&&◌, not, nat_lt, Bool, true, false, List, [], length, map, filter, take, drop, Option, Some, None}
+use Rattle.std.specs.Prelude.{ℕ, ◌+◌, ◌*◌, ◌/◌, ◌&&◌, not, nat_lt, Bool, true, false, List, [], length, map, filter, take, drop, replicate, Option, Some, None}
 use Rattle.std.specs.List.{range_with_len}
 use Rattle.frame_header.specs.Fields.{SlotFields, ClassFields}
 use Rattle.frame_header.specs.Tables.{class_of, length_of}
@@ -51,6 +51,10 @@ info_for c frames quality extension = record {
   quality = quality;
   extension = extension;
 }
+
+-- without a quality, and with an extension that is all 0
+abbrev pub plain_info : ClassFields → List Frame → Info
+plain_info c frames = info_for c frames None (replicate 36 0)
 
 -- the fields of the head of a file, from its text on; where there is no head no field is there
 unfoldable pub head_info : List ℕ → Option Head → Info
