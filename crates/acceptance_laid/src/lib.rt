@@ -1,0 +1,27 @@
+//! Tests of whole commands that lay main data anew, over a folder and sinks in memory.
+#![tactic(auto)]
+
+#[cfg(test)]
+mod calls;
+#[cfg(test)]
+mod check_words;
+#[cfg(test)]
+mod cuts;
+#[cfg(test)]
+mod edited;
+#[cfg(test)]
+mod expected;
+#[cfg(test)]
+mod kinds;
+#[cfg(test)]
+mod long;
+#[cfg(test)]
+mod lower_kinds;
+#[cfg(test)]
+mod packs;
+#[cfg(test)]
+mod places;
+#[cfg(test)]
+mod refusals;
+#[cfg(test)]
+mod songs;

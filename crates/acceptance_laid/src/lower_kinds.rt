@@ -1,0 +1,170 @@
+//! Cuts in classes of MPEG-2 and MPEG-2.5.
+
+use crate::edited::{Edit, expect_edit};
+use acceptance_kit::files::Stretch;
+use acceptance_kit::frames::{Frame, Z};
+use std::test::Fail;
+
+/// MPEG-2, 22,050 Hz, two channels, with an area of 187 bytes: 100 bytes of main data, and behind them 87 of the
+/// frame behind it.
+const LOWER_0: Frame = Frame {
+    header: [0xff, 0xf3, 0x80, 0x00],
+    side: &[
+        0x00, 0x06, 0x40, 0x00, 0xc8, 0x00, 0x00, 0x00, 0x00, 0x0c, 0x80, 0x01, 0x90,
+    ],
+    area: &[0x55; 187],
+    length: 208,
+    ..Z
+};
+
+/// 200 bytes of main data, which begin 87 bytes before its own area.
+const LOWER_1: Frame = Frame {
+    side: &[
+        0x57, 0x0c, 0x80, 0x00, 0xc8, 0x00, 0x00, 0x00, 0x00, 0x19, 0x00, 0x01, 0x90,
+    ],
+    area: &[0x55; 113],
+    ..LOWER_0
+};
+
+/// A lead-in: 13 bytes are needed, and 16 kbit/s has 31.
+const LOWER_LEAD_IN: Frame = Frame {
+    header: [0xff, 0xf3, 0x20, 0x00],
+    area: &[0x55; 31],
+    length: 52,
+    ..Z
+};
+
+/// LOWER_1 behind it.
+const LOWER_MOVED: Frame = Frame {
+    side: &[
+        0x1f, 0x0c, 0x80, 0x00, 0xc8, 0x00, 0x00, 0x00, 0x00, 0x19, 0x00, 0x01, 0x90,
+    ],
+    area: &[0x55; 169],
+    ..LOWER_1
+};
+
+/// MPEG-2.5, 11,025 Hz, two channels, with an area of 187 bytes: 100 bytes of main data, and behind them 87 of the
+/// frame behind it.
+const LOWEST_0: Frame = Frame {
+    header: [0xff, 0xe3, 0x40, 0x00],
+    side: &[
+        0x00, 0x06, 0x40, 0x00, 0xc8, 0x00, 0x00, 0x00, 0x00, 0x0c, 0x80, 0x01, 0x90,
+    ],
+    area: &[0x55; 187],
+    length: 208,
+    ..Z
+};
+
+/// 200 bytes of main data, which begin 87 bytes before its own area.
+const LOWEST_1: Frame = Frame {
+    side: &[
+        0x57, 0x0c, 0x80, 0x00, 0xc8, 0x00, 0x00, 0x00, 0x00, 0x19, 0x00, 0x01, 0x90,
+    ],
+    area: &[0x55; 113],
+    ..LOWEST_0
+};
+
+/// A lead-in: 13 bytes are needed, and 8 kbit/s has 31.
+const LOWEST_LEAD_IN: Frame = Frame {
+    header: [0xff, 0xe3, 0x10, 0x00],
+    area: &[0x55; 31],
+    length: 52,
+    ..Z
+};
+
+/// LOWEST_1 behind it.
+const LOWEST_MOVED: Frame = Frame {
+    side: &[
+        0x1f, 0x0c, 0x80, 0x00, 0xc8, 0x00, 0x00, 0x00, 0x00, 0x19, 0x00, 0x01, 0x90,
+    ],
+    area: &[0x55; 169],
+    ..LOWEST_1
+};
+
+/// MPEG-2.5, 12,000 Hz, one channel, with an area of 35 bytes: 20 bytes of main data, and behind them 15 of the
+/// frame behind it.
+const LOWEST_MONO_0: Frame = Frame {
+    header: [0xff, 0xe3, 0x14, 0xc0],
+    side: &[0x00, 0x05, 0x00, 0x01, 0x90],
+    area: &[0x55; 35],
+    length: 48,
+    ..Z
+};
+
+/// 40 bytes of main data, which begin 15 bytes before its own area.
+const LOWEST_MONO_1: Frame = Frame {
+    side: &[0x0f, 0x0a, 0x00, 0x01, 0x90],
+    area: &[0x55; 25],
+    ..LOWEST_MONO_0
+};
+
+/// A lead-in: 5 bytes are needed, and 8 kbit/s has 35.
+const LOWEST_MONO_LEAD_IN: Frame = Frame {
+    header: [0xff, 0xe3, 0x14, 0xc0],
+    area: &[0x55; 35],
+    length: 48,
+    ..Z
+};
+
+/// LOWEST_MONO_1 behind it.
+const LOWEST_MONO_MOVED: Frame = Frame {
+    side: &[0x23, 0x0a, 0x00, 0x01, 0x90],
+    area: &[0x55; 5],
+    ..LOWEST_MONO_1
+};
+
+static LOWER_KINDS: [Edit; 3] = [
+    Edit {
+        what: "MPEG-2, 22,050 Hz, two channels",
+        words: "cut a 1 2 o",
+        before: &[Stretch::Frames(&[LOWER_0, LOWER_1])],
+        after: &[
+            Stretch::Bytes(&[0xff, 0xf3, 0x70, 0x00]),
+            Stretch::Fill(0, 17),
+            Stretch::Bytes(b"Xing\0\0\0\x0f\0\0\0\x02\0\0\x01\xba"),
+            Stretch::Fill(105, 50),
+            Stretch::Fill(135, 50),
+            Stretch::Fill(0, 45),
+            Stretch::Frames(&[LOWER_LEAD_IN, LOWER_MOVED]),
+        ],
+        length: 442,
+    },
+    Edit {
+        what: "MPEG-2.5, 11,025 Hz, two channels",
+        words: "cut a 1 2 o",
+        before: &[Stretch::Frames(&[LOWEST_0, LOWEST_1])],
+        after: &[
+            Stretch::Bytes(&[0xff, 0xe3, 0x40, 0x00]),
+            Stretch::Fill(0, 17),
+            Stretch::Bytes(b"Xing\0\0\0\x0f\0\0\0\x02\0\0\x01\xd4"),
+            Stretch::Fill(113, 50),
+            Stretch::Fill(142, 50),
+            Stretch::Fill(0, 71),
+            Stretch::Frames(&[LOWEST_LEAD_IN, LOWEST_MOVED]),
+        ],
+        length: 468,
+    },
+    Edit {
+        what: "MPEG-2.5, 12,000 Hz, one channel",
+        words: "cut a 1 2 o",
+        before: &[Stretch::Frames(&[LOWEST_MONO_0, LOWEST_MONO_1])],
+        after: &[
+            Stretch::Bytes(&[0xff, 0xe3, 0x44, 0xc0]),
+            Stretch::Fill(0, 9),
+            Stretch::Bytes(b"Info\0\0\0\x0f\0\0\0\x02\0\0\x01\x20"),
+            Stretch::Fill(170, 50),
+            Stretch::Fill(213, 50),
+            Stretch::Fill(0, 63),
+            Stretch::Frames(&[LOWEST_MONO_LEAD_IN, LOWEST_MONO_MOVED]),
+        ],
+        length: 288,
+    },
+];
+
+#[test]
+fn classes_of_mpeg_2(rt: HostRuntime) -> Result<(), Fail> {
+    for edit in &LOWER_KINDS {
+        expect_edit(&rt, edit)?;
+    }
+    Ok(())
+}
