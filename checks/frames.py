@@ -22,6 +22,8 @@
                                    frames alone moved by N, and with the check words that are right for them
   frames.py sounds WHOLE LISTING FROM TO WAV   the frames of WAV, listed so, are a lead-in or none and the frames of WHOLE from FROM on and
                                    before TO: within 1 they sound as there, from frame 0 on or behind a granule and 480 samples
+  frames.py beside WAV LISTING FROM TO BEGIN OTHER   the frames of WAV, listed so, are a lead-in or none and those of a stream from FROM on and
+                                   before TO: within 1 they sound from sample BEGIN of the stream on as OTHER does
   frames.py decoded A B FACTOR     compares two WAV files of 16 bits: B is A times FACTOR, within rounding, and A is not silent
 
 Layout of frames: ISO/IEC 11172-3 and 13818-3, 2.4.1 and 2.4.2; of blocks: ID3v2, ID3v1 and APEv2. The tag is the
@@ -663,6 +665,18 @@ def sounds(whole, listing, first, end, piece):
         sys.exit(1)
 
 
+def beside(piece, listing, first, end, begin, other):
+    frames, version, _, channels, _ = summary_of(listing)
+    each = channels * (1152 if version == "MPEG-1" else 576)
+    lead_ins = frames - (int(end) - int(first))
+    b = samples(other)
+    a = samples(piece)[lead_ins * each + channels * int(begin) - int(first) * each:][:len(b)]
+    worst = max((abs(x - y) for x, y in zip(a, b)), default=0)
+    print(f"{lead_ins} lead-ins, {len(a)} and {len(b)} samples, farthest {worst}")
+    if lead_ins not in (0, 1) or len(a) != len(b) or worst > 1 or max(map(abs, b), default=0) < 500:
+        sys.exit(1)
+
+
 COMMANDS = {
     "survey": (survey, 1),
     "list": (list_lines, 1),
@@ -683,6 +697,7 @@ COMMANDS = {
     "differ": (differ, 3),
     "decoded": (decoded, 3),
     "sounds": (sounds, 5),
+    "beside": (beside, 6),
 }
 
 if __name__ == "__main__":

@@ -1,0 +1,168 @@
+#!/usr/bin/env python3
+"""Writes the frames of an MP3 file with all main data laid anew, apart from the program that it helps to check.
+
+  laid.py cut IN FROM TO OUT      writes OUT: the frames of IN from number FROM on and before TO, in their own slots
+  laid.py least IN FROM TO OUT    the same, each in the least slot with which all main data have room
+  laid.py pack IN OUT             so all frames of IN, with the quality and the extension of its head
+
+A slot is a bit rate and a padding bit. Of the lists of slots in which all main data have room the first in the order of the areas
+is taken; a lead-in, one empty frame, stands in front where the frames alone have no such list. Main data begin as early as they may,
+at most 511 bytes (MPEG-1) or 255 before the frame's own area (main_data_begin; ISO/IEC 11172-3 and 13818-3, 2.4.2.7). What frames.py
+calls a lost frame is an empty one here. The Info frame in front and the order of the tags are as README says.
+"""
+import sys
+from dataclasses import dataclass
+
+sys.dont_write_bytecode = True
+import frames  # noqa: E402
+
+HEAD_BYTES = 156
+SLOTS = [(index, padding) for index in range(1, 15) for padding in (0, 1)]
+
+
+def in_slot(header, slot, protected):
+    """The frame of such a header in a slot, with a check word or without."""
+    index, padding = slot
+    first = header[1] & 0xFE | (0 if protected else 1)
+    return frames.Frame(bytes([header[0], first, header[2] & 0x0D | index << 4 | padding << 1, header[3]]), 0)
+
+
+def slot_of(header):
+    return header[2] >> 4, header[2] >> 1 & 1
+
+
+@dataclass
+class Need:
+    """A frame that is to be laid: its header, its side information as a number, and its main data."""
+
+    header: bytes
+    side: int
+    data: bytes
+
+    def __post_init__(self):
+        self.protected = not self.header[1] & 1
+
+    def shapes(self, least):
+        slots = SLOTS if least else [slot_of(self.header)]
+        return [in_slot(self.header, slot, self.protected) for slot in slots]
+
+
+def main_data(data, found):
+    """The needs of all frames of a survey."""
+    areas = [found.head] if found.head else []
+    main = b"".join(data[it.side_end : it.end] for it in areas + found.frames)
+    needs, place = [], found.head.area if found.head else 0
+    for frame in found.frames:
+        if frame.lost:
+            needs.append(Need(frame.header, 0, b""))
+        else:
+            start, bits = place - frame.begin, frame.payload_bits
+            payload = bytearray(main[start : start + (bits + 7) // 8])
+            if bits % 8:
+                payload[-1] &= 0xFF00 >> bits % 8
+            needs.append(Need(frame.header, frame.side, bytes(payload)))
+        place += frame.area
+    return needs
+
+
+def reserves(needs, least):
+    """The free bytes that are needed before each frame and behind the last."""
+    found = [0]
+    for need in reversed(needs):
+        found.append(max(0, found[-1] + len(need.data) - max(it.area for it in need.shapes(least))))
+    return found[::-1]
+
+
+def first_with(shapes, area):
+    return next(it for it in shapes if it.area >= area)
+
+
+def placed(needs, least):
+    """Shape, main_data_begin, side information and main data of each frame, a lead-in first where one is needed."""
+    window = (1 << frames.Frame(needs[0].header, 0).version.begin_bits) - 1
+    wanted = reserves(needs, least)
+    found, free = [], 0
+    if wanted[0]:
+        shape = first_with([in_slot(needs[0].header, slot, False) for slot in SLOTS], wanted[0])
+        found.append((shape, 0, 0, b""))
+        free = min(window, shape.area)
+    for need, behind in zip(needs, wanted[1:]):
+        shape = first_with(need.shapes(least), len(need.data) + behind - free)
+        found.append((shape, free, need.side, need.data))
+        free = min(window, free + shape.area - len(need.data))
+    return found
+
+
+def laid(found):
+    """The bytes of frames that were placed."""
+    main, place = bytearray(sum(it[0].area for it in found)), 0
+    for shape, begin, _, data in found:
+        main[place - begin : place - begin + len(data)] = data
+        place += shape.area
+    written, place = [], 0
+    for shape, begin, side, _ in found:
+        at = 8 * shape.side_size - shape.version.begin_bits
+        side = side & (1 << at) - 1 | begin << at
+        word = shape.right_word(side).to_bytes(2, "big") if shape.protected else b""
+        written.append(shape.header + word + side.to_bytes(shape.side_size, "big") + main[place : place + shape.area])
+        place += shape.area
+    return written
+
+
+def info_frame(found, written, quality, extension):
+    shape = first_with([in_slot(found[0][0].header, slot, False) for slot in SLOTS], HEAD_BYTES)
+    starts = [shape.length]
+    for frame in written:
+        starts.append(starts[-1] + len(frame))
+    count, total = len(written), starts[-1]
+    text = b"Info" if len({it[0].rate for it in found}) == 1 else b"Xing"
+    table = bytes(min(255, 256 * starts[i * count // 100] // total) for i in range(100))
+    numbers = [it.to_bytes(4, "big") for it in (15, count, total)]
+    head = text + b"".join(numbers) + table + quality + extension
+    return shape.header + bytes(shape.side_size) + head + bytes(shape.area - len(head))
+
+
+def head_fields(data, head):
+    """The quality and the extension that a head tells, or zeros."""
+    quality, extension = bytes(4), bytes(36)
+    if head is None:
+        return quality, extension
+    ends = head.side_end, head.offset + 4 + head.side_size
+    at = next(it for it in sorted(ends) if data[it : it + 4] in (b"Xing", b"Info"))
+    fields = data[at : head.end]
+    flags, place = int.from_bytes(fields[4:8], "big") if len(fields) >= 8 else 0, 8
+    for bit, size in enumerate((4, 4, 100, 4)):
+        if flags >> bit & 1:
+            if bit == 3 and place + size <= len(fields):
+                quality = fields[place : place + size]
+            place += size
+    return quality, (fields[place : place + 36] + extension)[:36]
+
+
+def write(name, output, first, end, least, keeps_head):
+    data = frames.bytes_of(name)
+    found = frames.survey_of(data)
+    quality, extension = head_fields(data, found.head if keeps_head else None)
+    places = placed(main_data(data, found)[first:end], least)
+    written = laid(places)
+    begin = (found.head or found.frames[0]).offset
+    fronts = [it for it in found.blocks if it.kind == "ID3v2" and it.offset < begin]
+    backs = [it for it in found.blocks if it not in fronts]
+    parts = [data[it.offset : it.end] for it in fronts]
+    parts += [info_frame(places, written, quality, extension), *written]
+    parts += [data[it.offset : it.end] for it in backs]
+    frames.write(output, b"".join(parts))
+    print(f"{len(data)} bytes, {sum(map(len, parts))} written, {len(written)} frames")
+
+
+def main(words):
+    if len(words) == 5 and words[0] in ("cut", "least"):
+        write(words[1], words[4], int(words[2]), int(words[3]), words[0] == "least", False)
+    elif len(words) == 3 and words[0] == "pack":
+        write(words[1], words[2], 0, None, True, True)
+    else:
+        sys.exit(__doc__)
+
+
+if __name__ == "__main__":
+    main(sys.argv[1:])
