@@ -6,9 +6,11 @@
   laid.py pack IN OUT             so all frames of IN, with the quality and the extension of its head
 
 A slot is a bit rate and a padding bit. Of the lists of slots in which all main data have room the first in the order of the areas
-is taken; a lead-in, one empty frame, stands in front where the frames alone have no such list. Main data begin as early as they may,
-at most 511 bytes (MPEG-1) or 255 before the frame's own area (main_data_begin; ISO/IEC 11172-3 and 13818-3, 2.4.2.7). What frames.py
-calls a lost frame is an empty one here. The Info frame in front and the order of the tags are as README says.
+is taken; a lead-in, one empty frame, stands in front where the frames alone have no such list. Main data begin as early as they
+may, at most 511 bytes (MPEG-1) or 255 before the frame's own area (main_data_begin; ISO/IEC 11172-3 and 13818-3, 2.4.2.7). What
+frames.py calls a lost frame is an empty one here. The Info frame in front has the number of frames, the bytes from its first to the
+last frame's last, and of these the 256th parts that stand before each hundredth of the frames. Tags follow the frames, but for ID3v2
+in front.
 """
 import sys
 from dataclasses import dataclass

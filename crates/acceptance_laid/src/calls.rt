@@ -134,6 +134,19 @@ fn each_call_fails_in_turn(rt: HostRuntime) -> Result<(), Fail> {
 }
 
 #[test]
+fn the_second_write_of_a_cut_fails(rt: HostRuntime) -> Result<(), Fail> {
+    let input = bytes_of(rt.alloc(), &[A])?;
+    let wanted = bytes_of(rt.alloc(), COMMANDS[0].after)?;
+    let (folder, ended) = run_failing(rt.alloc(), &input, "cut u 0 2 o", Call::Write, 2)?;
+    assert_eq!(rt; ended.status, 3);
+    assert_eq!(rt; ended.err.sent(), b"o: write fault\n".as_slice());
+    let output = folder.get("o").unwrap_or(&[]);
+    assert!(rt; wanted.starts_with(output));
+    assert!(rt; folder.get("o").is_some() && output.len() < 1042);
+    Ok(())
+}
+
+#[test]
 fn want_of_memory_is_told_before_the_output_is_created(rt: HostRuntime) -> Result<(), Fail> {
     for command in &COMMANDS {
         let input = bytes_of(rt.alloc(), command.before)?;
