@@ -4,3 +4,4 @@ pub mod PartsLaws
 pub mod WordsLaws
 pub mod RisingLaws
 pub mod CuesLaws
+pub mod StartsLaws

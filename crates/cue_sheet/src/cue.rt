@@ -51,6 +51,8 @@ fn read_lines(alloc: Global, text: &[u8]) -> Result<Vec<Place>, CueFault>
         (λ starts. cue_in (entries_from text.now 0) ≡ Ok starts.items)
         (λ fault. (fault ≡ Memory) ⊎ (cue_in (entries_from text.now 0) ≡ Err fault)) }
     ensures rising { IfOk result (λ starts. AreStarts starts.items) }
+    ensures some { IfOk result (λ starts. 1 ≤ length starts.items) }
+    ensures most { IfOk result (λ starts. length starts.items ≤ 99) }
 {
     let mut starts = Vec::new(alloc);
     let mut seen = Seen::new();
@@ -98,7 +100,7 @@ impl Cue {
     ///   the track starts. Each start is greater than the one before it;
     /// - any other line isn't read.
     ///
-    /// A track without an index of number 1 has no start.
+    /// A track without an index of number 1 has no start. So there are 1 to 99 starts.
     ///
     /// # Errors
     /// The first line at fault, counted from 1: `Line` where it breaks its rule, `NotRising` where it is a start that isn't
@@ -111,6 +113,8 @@ impl Cue {
             (λ cue. cue_of bytes.now ≡ Ok cue)
             (λ fault. (fault ≡ Memory) ⊎ (cue_of bytes.now ≡ Err fault)) }
         ensures rising { IfOk result AreStarts }
+        ensures some { IfOk result (λ cue. 1 ≤ length cue) }
+        ensures most { IfOk result (λ cue. length cue ≤ 99) }
     {
         let starts = read_lines(alloc, without_mark(bytes))?;
         Ok(Cue { starts })

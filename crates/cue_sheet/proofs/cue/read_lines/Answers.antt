@@ -2,6 +2,8 @@
 use Rattle.std.proofs.Common.{sym, ◌∙◌, subst, arith, inr}
 use Rattle.std.proofs.lemmas.Bool.{eqb-true, eqb-false}
 use Rattle.cue_sheet.proofs.CuesLaws.{HaveRead, refused, goes_on, ends, are_starts, some_are, none_are}
+use Rattle.cue_sheet.specs.Cues.{entries_from}
+use Rattle.cue_sheet.proofs.StartsLaws.{starts-few}
 use Rattle.cue_sheet.proofs.cue.read_lines.Goals as goal
 
 pub returns-in-Some-clause-cue : goal.returns-in-Some-clause-cue
@@ -21,7 +23,11 @@ pub returns : goal.returns
 returns c =
     let some = eqb-false _ 0 (sym c.is_empty.ensures ∙ c.if-is_empty.false) in
     let read = c.loop-at.invariant.0 in
+    let cue = ends c.args.text.now c.loop-at.at c.loop-at.seen c.loop-at.starts.items read c.loop-at-test.false ∙ some_are c.loop-at.starts.items (omega (arith, c.loop-at.starts.ok.0, some)) in
+    let few = starts-few (entries_from c.args.text.now 0) c.loop-at.starts.items cue in
     record {
-      cue = ends c.args.text.now c.loop-at.at c.loop-at.seen c.loop-at.starts.items read c.loop-at-test.false ∙ some_are c.loop-at.starts.items (omega (arith, c.loop-at.starts.ok.0, some));
+      cue = cue;
       rising = are_starts c.args.text.now c.loop-at.at c.loop-at.seen c.loop-at.starts.items read;
+      some = few.0;
+      most = few.1;
     }
