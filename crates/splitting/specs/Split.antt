@@ -1,0 +1,142 @@
+-- One file cut at places: the frames between two neighbouring places are a piece, a file of its own.
+use Rattle.std.specs.Prelude.{◌≡◌, ℕ, ◌+◌, ◌/◌, ◌%◌, nat_lt, if◌then◌else◌, false, List, [], ◌∷◌, ◌++◌, length, map, replicate, codes, Option, Some, None, Result, Ok, Err}
+use Rattle.std.specs.List.{range_with_len}
+use Rattle.frame_header.specs.Fields.{ClassFields}
+use Rattle.outside.specs.Files.{Contents}
+use Rattle.cue_sheet.specs.declared.cue_fault.CueFault.{CueFault}
+use Rattle.cue_sheet.specs.declared.place.Place.{Place}
+use Rattle.cue_sheet.specs.declared.place.Place.TheVariants.{End}
+use Rattle.cue_sheet.specs.Places.{frame_at}
+use Rattle.cue_sheet.specs.Cues.{cue_of}
+use Rattle.sync_survey.specs.declared.survey_fault.SurveyFault.{SurveyFault}
+use Rattle.sync_survey.specs.declared.survey_fault.SurveyFault.TheVariants.{Absent}
+use Rattle.sync_survey.specs.MainData.{StreamFrame}
+use Rattle.sync_survey.specs.Faults.{SurveyFields}
+use Rattle.sync_survey.specs.Survey.{survey_of}
+use Rattle.edits.specs.declared.fault.EditFault.{EditFault}
+use Rattle.edits.specs.declared.fault.EditFault.TheVariants.{EqualNames, Input, SheetTooLarge, Sheet}
+use Rattle.edits.specs.Choice.{then_made}
+use Rattle.edits.specs.Command.{Output, Made, Command, clash_from}
+use Rattle.edits.specs.Left.{longest_sheet}
+use Rattle.edits.specs.One.{most_frames}
+use Rattle.edits.specs.Chosen.{Chosen, chosen_with, chosen_file, chosen_stream}
+
+-- ---- names
+
+-- that of a piece, counted from 1: the prefix, two decimal digits, and `.mp3`
+unfoldable pub piece_name : List ℕ → ℕ → List ℕ
+piece_name prefix k = prefix ++ (48 + k / 10) ∷ (48 + k % 10) ∷ codes ".mp3"
+
+-- all 99 that the prefix can give
+unfoldable pub piece_names : List ℕ → List (List ℕ)
+piece_names prefix = map (piece_name prefix) (range_with_len 1 99)
+
+-- ---- pieces
+
+-- the frames from one on and before another, in their own slots
+abbrev pub frames_between : ℕ → ℕ → ℕ → Result Chosen EditFault
+frames_between frames from to = chosen_with None (replicate 36 0) from to false frames
+
+abbrev pub with_first : Chosen → Result (List Chosen) EditFault → Result (List Chosen) EditFault
+with_first first (Ok more) = Ok (first ∷ more)
+with_first first (Err fault) = Err fault
+
+-- the frames from each number to the next, or the first fault of these
+abbrev pub chosen_from : ℕ → ℕ → List ℕ → Result (List Chosen) EditFault
+chosen_from frames from [] = Ok []
+chosen_from frames from (to ∷ more) = then_made (frames_between frames from to) (λ first. with_first first (chosen_from frames to more))
+
+-- the frames from each place to the next
+abbrev pub chosen_at : ClassFields → ℕ → List Place → Result (List Chosen) EditFault
+chosen_at class frames [] = Ok []
+chosen_at class frames (place ∷ places) = chosen_from frames (frame_at class frames place) (map (frame_at class frames) places)
+
+-- the files of them, of which the first has this number
+abbrev pub pieces_from : List ℕ → ℕ → List ℕ → SurveyFields → List Chosen → List Output
+pieces_from prefix k file s [] = []
+pieces_from prefix k file s (chosen ∷ more) = record { name = piece_name prefix k; bytes = chosen_file chosen file s } ∷ pieces_from prefix (k + 1) file s more
+
+-- ---- the commands
+
+-- what is made of a file with this survey, cut at these places
+abbrev pub made_of : List ℕ → List ℕ → SurveyFields → List Chosen → Result Made EditFault
+made_of prefix file s chosen = Ok (record { outputs = pieces_from prefix 1 file s chosen; text = [] })
+
+abbrev pub made_at : List ℕ → List ℕ → SurveyFields → List Place → Result Made EditFault
+made_at prefix file s places = then_made (chosen_at s.class (length s.frames) places) (made_of prefix file s)
+
+abbrev pub made_by : List ℕ → Result (List Place) EditFault → List ℕ → Result SurveyFields SurveyFault → Result Made EditFault
+made_by prefix places file (Err fault) = Err (Input 0 fault)
+made_by prefix places file (Ok s) = then_made places (made_at prefix file s)
+
+-- the input is at fault, or else there are no places, or else one is behind the next or behind the frames
+abbrev pub made_where : List ℕ → Result (List Place) EditFault → Option (List ℕ) → Result Made EditFault
+made_where prefix places None = Err (Input 0 Absent)
+made_where prefix places (Some file) = made_by prefix places file (survey_of file most_frames)
+
+abbrev pub unless_equal : Option ℕ → Result Made EditFault → Result Made EditFault
+unless_equal (Some place) answer = Err (EqualNames place)
+unless_equal None answer = answer
+
+-- an input has the name of a piece, or else that
+unfoldable pub made_result : List ℕ → List (List ℕ) → Result (List Place) EditFault → Option (List ℕ) → Result Made EditFault
+made_result prefix names places input = unless_equal (clash_from (piece_names prefix) 0 names) (made_where prefix places input)
+
+-- the streams of the pieces; where there are none, none
+abbrev pub streams_of : List ℕ → SurveyFields → Result (List Chosen) EditFault → List (List StreamFrame)
+streams_of file s (Err fault) = []
+streams_of file s (Ok chosen) = map (λ c. chosen_stream c file s) chosen
+
+abbrev pub streams_at : List ℕ → SurveyFields → Result (List Place) EditFault → List (List StreamFrame)
+streams_at file s (Err fault) = []
+streams_at file s (Ok places) = streams_of file s (chosen_at s.class (length s.frames) places)
+
+abbrev pub streams_by : Result (List Place) EditFault → List ℕ → Result SurveyFields SurveyFault → List (List StreamFrame)
+streams_by places file (Err fault) = []
+streams_by places file (Ok s) = streams_at file s places
+
+unfoldable pub streams_where : Result (List Place) EditFault → Option (List ℕ) → List (List StreamFrame)
+streams_where places None = []
+streams_where places (Some file) = streams_by places file (survey_of file most_frames)
+
+-- the places, or why there are none, by what the folder holds
+abbrev pub Placing : Type 0
+Placing = Contents → Result (List Place) EditFault
+
+-- The input is cut at places that further inputs may say. It may write a file of each of the 99 names.
+abbrev pub split_command : Placing → List (List ℕ) → List ℕ → List ℕ → Command
+split_command placing more input prefix = record {
+  inputs = input ∷ more;
+  outputs = piece_names prefix;
+  sources = input ∷ [];
+  always = Some [];
+  makes = λ files. made_result prefix (input ∷ more) (placing files) (files input);
+  streams = λ files. streams_where (placing files) (files input);
+}
+
+abbrev pub given : List Place → Placing
+given places files = Ok places
+
+-- the input is cut at these places
+abbrev pub split_at_command : List Place → List ℕ → List ℕ → Command
+split_at_command places input prefix = split_command (given places) [] input prefix
+
+-- from each start on, and up to the end
+abbrev pub with_end : Result (List Place) CueFault → Result (List Place) EditFault
+with_end (Ok starts) = Ok (starts ++ End ∷ [])
+with_end (Err fault) = Err (Sheet fault)
+
+-- the places that the bytes of a cue sheet say
+abbrev pub places_in : List ℕ → Result (List Place) EditFault
+places_in sheet = if nat_lt longest_sheet (length sheet) then Err (SheetTooLarge (length sheet)) else with_end (cue_of sheet)
+
+abbrev pub places_where : Option (List ℕ) → Result (List Place) EditFault
+places_where None = Err (Input 1 Absent)
+places_where (Some sheet) = places_in sheet
+
+abbrev pub told_by : List ℕ → Placing
+told_by sheet files = places_where (files sheet)
+
+-- the input is cut at the starts that the sheet says
+abbrev pub split_by_command : List ℕ → List ℕ → List ℕ → Command
+split_by_command input sheet prefix = split_command (told_by sheet) (sheet ∷ []) input prefix

@@ -1,0 +1,13 @@
+//! The split commands: one MP3 file becomes several, cut at places.
+#![tactic(auto)]
+
+mod names;
+mod piece;
+mod sheet;
+mod split_file;
+mod writing;
+
+pub use split_file::{split_at, split_by};
+
+#[cfg(test)]
+mod tests;

@@ -1,0 +1,90 @@
+//! Pieces that are ready to be written.
+ghost use Rattle.std.specs.Prelude.{◌≡◌, ◌⊎◌, ◌+◌, ◌≤◌, length, map, Ok, Err, IfOk, IfErr, MatchResult, string_bytes};
+ghost use Rattle.std.specs.List.{All};
+ghost use Rattle.cue_sheet.specs.Places.{IsPlace};
+ghost use Rattle.sync_survey.specs.Faults.{tells};
+ghost use Rattle.sync_survey.specs.Survey.{IsLaidOut};
+ghost use Rattle.edits.specs.Chosen.{chosen_in};
+ghost use Rattle.edits.specs.Left.{IsRefusal};
+ghost use Rattle.splitting.specs.Split.{piece_name as piece_name_lem, frames_between, chosen_at};
+ghost use Rattle.splitting.specs.Steps.{IsReady, ArePieces, chosen_of};
+
+use crate::names::piece_name;
+use cue_sheet::Place;
+use edits::{Chosen, EditFault, Planned, choose, plan_file};
+use frame_writer::Writer;
+use laying::Kept;
+use std::alloc::Global;
+use sync_survey::Survey;
+
+/// A piece that is to be written: its name, its frames and their plan, and the writer of its output, which is new.
+#[derive(Drop)]
+pub(crate) struct Piece {
+    pub name: String,
+    pub chosen: Chosen,
+    pub planned: Planned,
+    pub writer: Writer,
+}
+
+/// The piece with this number, of the frames from one on and before another: `Range` where there is none between them, or
+/// not all are there.
+fn make_piece(
+    alloc: Global,
+    survey: &Survey,
+    prefix: &str,
+    number: u8,
+    from: u64,
+    to: u64,
+) -> Result<Piece, EditFault>
+    requires laid { IsLaidOut (tells survey.now) }
+    requires few { length (tells survey.now).frames ≤ 2900000 }
+    requires number { number ≤ 99 }
+    ensures name { IfOk result (λ piece. string_bytes piece.name ≡ piece_name_lem prefix.now number) }
+    ensures ready { IfOk result (IsReady (tells survey.now)) }
+    ensures chosen { MatchResult result
+        (λ piece. frames_between (length (tells survey.now).frames) from to ≡ Ok (chosen_in piece.chosen))
+        (λ fault. (fault ≡ EditFault.Memory) ⊎ (IsRefusal fault × (frames_between (length (tells survey.now).frames) from to ≡ Err fault))) }
+{
+    let chosen = choose(from, to, survey.frames().len(), false, Kept::none())?;
+    let planned = plan_file(alloc, survey, &chosen)?;
+    Ok(Piece {
+        name: piece_name(alloc, prefix, number)?,
+        chosen,
+        planned,
+        writer: Writer::new(alloc, survey.class())?,
+    })
+}
+
+/// The pieces from each place to the next: `Range` for the first pair between which there is no frame, or of which not all
+/// frames are there.
+pub(crate) fn make_pieces(
+    alloc: Global,
+    survey: &Survey,
+    places: &[Place],
+    prefix: &str,
+) -> Result<Vec<Piece>, EditFault>
+    requires places { All IsPlace places.now }
+    requires some { 1 ≤ length places.now }
+    requires most { length places.now ≤ 100 }
+    requires laid { IsLaidOut (tells survey.now) }
+    requires few { length (tells survey.now).frames ≤ 2900000 }
+    ensures pieces { IfOk result (λ pieces. ArePieces prefix.now (tells survey.now) 1 pieces.items) }
+    ensures count { IfOk result (λ pieces. length pieces.items + 1 ≡ length places.now) }
+    ensures chosen { MatchResult result
+        (λ pieces. chosen_at (tells survey.now).class (length (tells survey.now).frames) places.now ≡ Ok (map chosen_of pieces.items))
+        (λ fault. (fault ≡ EditFault.Memory) ⊎ (IsRefusal fault × (chosen_at (tells survey.now).class (length (tells survey.now).frames) places.now ≡ Err fault))) }
+{
+    let class = survey.class();
+    let frames = survey.frames().len() as u32;
+    let mut pieces = Vec::new(alloc);
+    let mut from = places[0].frame_of(class, frames);
+    let mut number = 0;
+    for place in &places[1..] {
+        let to = place.frame_of(class, frames);
+        number += 1;
+        let piece = make_piece(alloc, survey, prefix, number, from, to)?;
+        pieces.push(piece)?;
+        from = to;
+    }
+    Ok(pieces)
+}

@@ -1,0 +1,113 @@
+//! The places that a cue sheet says.
+ghost use Rattle.std.specs.Prelude.{◌≡◌, ◌⊎◌, ◌≤◌, ◌<◌, List, ℕ, length, Ok, Err, Some, IfOk, IfErr, OnOk, MatchResult};
+ghost use Rattle.std.specs.List.{All};
+ghost use Rattle.outside.specs.Files.{Holds, IsThere};
+ghost use Rattle.outside.specs.Counts.{OnlyReads};
+ghost use Rattle.cue_sheet.specs.Places.{IsPlace};
+ghost use Rattle.edits.specs.Left.{seen, longest_sheet};
+ghost use Rattle.splitting.specs.Split.{places_in as places_in_lem, places_where};
+ghost use Rattle.splitting.specs.Steps.{IsSheetFault, IsOfSheet};
+
+use cue_sheet::{Cue, CueFault, Place};
+use edits::EditFault;
+use outside::{FindFault, Folder, read_full};
+use std::alloc::Global;
+use sync_survey::SurveyFault;
+
+/// A cue sheet may have so many bytes.
+const LONGEST_SHEET: u64 = 65_536;
+
+/// The number of the sheet among the inputs.
+const SHEET: u32 = 1;
+
+/// The length of the sheet in bytes.
+fn sheet_length<D: Folder>(folder: &mut D, sheet: &str) -> Result<u64, EditFault>
+    ensures there { OnOk result (IsThere (D.files folder.old) sheet.now) }
+    ensures length { IfOk result (λ n. (bytes : List ℕ) → Holds (D.files folder.old) sheet.now bytes → n ≡ length bytes) }
+    ensures most { IfOk result (λ n. n ≤ longest_sheet) }
+    ensures refused { IfErr result (IsSheetFault sheet.now (seen (D.files folder.old) (D.counts folder.old)) (seen (D.files folder.new) (D.counts folder.new))) }
+    ensures numbers { IfErr result IsOfSheet }
+    ensures done { OnOk result (D.counts folder.new ≡ D.counts folder.old) }
+    ensures files { D.files folder.new ≡ D.files folder.old }
+    ensures counts { OnlyReads (D.counts folder.old) (D.counts folder.new) }
+{
+    match folder.find(sheet) {
+        Ok(length) if length > LONGEST_SHEET => Err(EditFault::SheetTooLarge(length)),
+        Ok(length) => Ok(length),
+        Err(FindFault::Absent) => Err(EditFault::Input(SHEET, SurveyFault::Absent)),
+        Err(FindFault::Failed) => Err(EditFault::Input(SHEET, SurveyFault::Read)),
+    }
+}
+
+/// The bytes of the sheet.
+fn sheet_bytes<D: Folder>(
+    alloc: Global,
+    folder: &mut D,
+    sheet: &str,
+) -> Result<Vec<u8>, EditFault>
+    ensures there { OnOk result (IsThere (D.files folder.old) sheet.now) }
+    ensures most { IfOk result (λ read. length read.items ≤ longest_sheet) }
+    ensures bytes { IfOk result (λ read. (bytes : List ℕ) → Holds (D.files folder.old) sheet.now bytes → read.items ≡ bytes) }
+    ensures refused { IfErr result (IsSheetFault sheet.now (seen (D.files folder.old) (D.counts folder.old)) (seen (D.files folder.new) (D.counts folder.new))) }
+    ensures numbers { IfErr result IsOfSheet }
+    ensures done { OnOk result (D.counts folder.new ≡ D.counts folder.old) }
+    ensures files { D.files folder.new ≡ D.files folder.old }
+    ensures counts { OnlyReads (D.counts folder.old) (D.counts folder.new) }
+{
+    let length = sheet_length(folder, sheet)?;
+    let mut bytes = vec![in alloc; 0; length as usize]?;
+    match read_full(folder, sheet, 0, bytes.as_mut_slice()) {
+        Ok(got) if (got as u64) < length => Err(EditFault::Input(
+            SHEET,
+            SurveyFault::Shrunk(length, got as u64),
+        )),
+        Ok(_) => Ok(bytes),
+        Err(_) => Err(EditFault::Input(SHEET, SurveyFault::Read)),
+    }
+}
+
+/// The starts that the bytes of a sheet say, and the end behind them.
+fn places_in(alloc: Global, bytes: &[u8]) -> Result<Vec<Place>, EditFault>
+    requires { length bytes.now ≤ longest_sheet }
+    ensures places { MatchResult result
+        (λ places. places_in_lem bytes.now ≡ Ok places.items)
+        (λ fault. (fault ≡ EditFault.Memory) ⊎ (IsOfSheet fault × (places_in_lem bytes.now ≡ Err fault))) }
+    ensures sound { IfOk result (λ places. All IsPlace places.items) }
+    ensures some { IfOk result (λ places. 2 ≤ length places.items) }
+    ensures most { IfOk result (λ places. length places.items ≤ 100) }
+{
+    let cue = match Cue::read(alloc, bytes) {
+        Ok(cue) => cue,
+        Err(CueFault::Memory) => return Err(EditFault::Memory),
+        Err(fault) => return Err(EditFault::Sheet(fault)),
+    };
+    let mut places = cue.starts().to_vec(alloc)?;
+    places.push(Place::End)?;
+    Ok(places)
+}
+
+/// The places that a sheet says, the second input of a command. The files stay.
+///
+/// # Errors
+/// `Input(1, ..)` with `Absent` and `Read`, and with `Shrunk`, the length that the sheet was found with and the one that it
+/// had when it was read, only where the folder doesn't tell its files; `SheetTooLarge` with its length above 65,536 bytes;
+/// `Sheet` with the fault of its bytes; `Memory`.
+pub(crate) fn sheet_places<D: Folder>(
+    alloc: Global,
+    folder: &mut D,
+    sheet: &str,
+) -> Result<Vec<Place>, EditFault>
+    ensures there { OnOk result (IsThere (D.files folder.old) sheet.now) }
+    ensures places { IfOk result (λ places. (bytes : List ℕ) → Holds (D.files folder.old) sheet.now bytes → places_where (Some bytes) ≡ Ok places.items) }
+    ensures sound { IfOk result (λ places. All IsPlace places.items) }
+    ensures some { IfOk result (λ places. 2 ≤ length places.items) }
+    ensures most { IfOk result (λ places. length places.items ≤ 100) }
+    ensures refused { IfErr result (IsSheetFault sheet.now (seen (D.files folder.old) (D.counts folder.old)) (seen (D.files folder.new) (D.counts folder.new))) }
+    ensures numbers { IfErr result IsOfSheet }
+    ensures done { OnOk result (D.counts folder.new ≡ D.counts folder.old) }
+    ensures files { D.files folder.new ≡ D.files folder.old }
+    ensures counts { OnlyReads (D.counts folder.old) (D.counts folder.new) }
+{
+    let bytes = sheet_bytes(alloc, folder, sheet)?;
+    places_in(alloc, bytes.as_slice())
+}
