@@ -1,2 +1,8 @@
 -- The lemmas of this crate.
 pub mod NamesLaws
+pub mod OutputsLaws
+pub mod PiecesLaws
+pub mod CommandLaws
+pub mod NumbersLaws
+pub mod SheetLaws
+pub mod SplitLaws

@@ -76,10 +76,11 @@ pub(crate) fn make_pieces(
 {
     let class = survey.class();
     let frames = survey.frames().len() as u32;
-    let mut pieces = Vec::new(alloc);
+    let rest = &places[1..];
     let mut from = places[0].frame_of(class, frames);
+    let mut pieces = Vec::new(alloc);
     let mut number = 0;
-    for place in &places[1..] {
+    for place in rest {
         let to = place.frame_of(class, frames);
         number += 1;
         let piece = make_piece(alloc, survey, prefix, number, from, to)?;

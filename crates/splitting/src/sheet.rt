@@ -40,11 +40,7 @@ fn sheet_length<D: Folder>(folder: &mut D, sheet: &str) -> Result<u64, EditFault
 }
 
 /// The bytes of the sheet.
-fn sheet_bytes<D: Folder>(
-    alloc: Global,
-    folder: &mut D,
-    sheet: &str,
-) -> Result<Vec<u8>, EditFault>
+fn sheet_bytes<D: Folder>(alloc: Global, folder: &mut D, sheet: &str) -> Result<Vec<u8>, EditFault>
     ensures there { OnOk result (IsThere (D.files folder.old) sheet.now) }
     ensures most { IfOk result (λ read. length read.items ≤ longest_sheet) }
     ensures bytes { IfOk result (λ read. (bytes : List ℕ) → Holds (D.files folder.old) sheet.now bytes → read.items ≡ bytes) }

@@ -58,7 +58,12 @@ fn is_cut(
 fn pieces_are_cut_out(rt: HostRuntime) -> Result<(), Fail> {
     let alloc = rt.alloc();
     let mut folder = folder_of_four(alloc)?;
-    let places = [Place::Frame(0), Place::Frame(1), Place::Frame(3), Place::End];
+    let places = [
+        Place::Frame(0),
+        Place::Frame(1),
+        Place::Frame(3),
+        Place::End,
+    ];
     let done = split_at(alloc, &mut folder, "a", &places, "p");
     assert_eq!(&rt; done, Ok(()));
     assert!(&rt; is_cut(alloc, &mut folder, "p01.mp3", 0, Place::Frame(1))?);

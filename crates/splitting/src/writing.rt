@@ -1,5 +1,5 @@
 //! The second pass: pieces are written one behind the other.
-ghost use Rattle.std.specs.Prelude.{◌≡◌, ◌≢◌, List, ℕ, [], length, Ok, is_some, string_bytes, IfErr, OnOk};
+ghost use Rattle.std.specs.Prelude.{◌≡◌, ◌≢◌, ◌≤◌, List, ℕ, [], length, Ok, is_some, string_bytes, IfErr, OnOk};
 ghost use Rattle.outside.specs.Files.{Holds, IsThere};
 ghost use Rattle.outside.specs.Counts.{NoneFell};
 ghost use Rattle.outside.specs.Feed.{IsFedFrom};
@@ -63,13 +63,14 @@ fn write_piece<D: Folder>(
         planned,
         mut writer,
     } = piece;
-    let Ok(()) = folder.create(&name) else {
+    let output = name.as_str();
+    let Ok(()) = folder.create(output) else {
         return Err(CopyFault::Write);
     };
     write_chosen(
         folder,
         input,
-        &name,
+        output,
         survey,
         &chosen,
         &planned,

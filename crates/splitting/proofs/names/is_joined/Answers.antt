@@ -1,5 +1,5 @@
 -- By its front and its back.
-use Rattle.std.proofs.Common.{◌≡◌, true, false, bytes_eq, not, sym, ◌∙◌, rules}
+use Rattle.std.proofs.Common.{◌≡◌, true, false, bytes_eq, rules}
 use Rattle.splitting.proofs.NamesLaws.{front-is_other, back-decides}
 use Rattle.splitting.proofs.names.is_joined.Goals as goal
 

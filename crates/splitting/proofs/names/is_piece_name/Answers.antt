@@ -1,5 +1,5 @@
 -- A name more, one that is this, and none.
-use Rattle.std.proofs.Common.{◌≡◌, true, false, bytes_eq, sym, ◌∙◌, arith}
+use Rattle.std.proofs.Common.{bytes_eq, sym, ◌∙◌, arith}
 use Rattle.splitting.proofs.NamesLaws.{none_more, one_is_there, none_there}
 use Rattle.splitting.proofs.names.is_piece_name.Goals as goal
 

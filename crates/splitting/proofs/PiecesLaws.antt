@@ -1,0 +1,80 @@
+-- Pieces one more at a time, from the places and for the outputs.
+use Rattle.std.proofs.Common.{◌≡◌, ◌≢◌, ℕ, ◌+◌, ◌-◌, ◌<◌, ◌≤◌, Bool, true, false, List, [], ◌∷◌, ◌++◌, length, map, drop, get_or, Result, Ok, Err, refl, sym, ◌∙◌, ap, ap₂, subst, bytes_eq, string_bytes, arith, append-nil, append_assoc}
+use Rattle.std.specs.List.{list_any, range_with_len}
+use Rattle.std.proofs.lemmas.List.{drop_more}
+use Rattle.std.proofs.lemmas.List.Folds.{list_any_at}
+use Rattle.std.proofs.lemmas.List.FromFn.{length-map-range_with_len, get_or-map-range_with_len}
+use Rattle.outside.proofs.FilesLaws.{bytes_eq_same}
+use Rattle.frame_header.specs.Fields.{ClassFields}
+use Rattle.cue_sheet.specs.declared.place.Place.{Place}
+use Rattle.cue_sheet.specs.Places.{frame_at}
+use Rattle.sync_survey.specs.Faults.{SurveyFields}
+use Rattle.edits.specs.declared.fault.EditFault.{EditFault}
+use Rattle.edits.specs.Choice.{then_made}
+use Rattle.edits.specs.Chosen.{Chosen, chosen_in, chosen_file}
+use Rattle.splitting.specs.declared.piece.Piece.{Piece}
+use Rattle.splitting.specs.Split.{piece_name, piece_names, frames_between, with_first, chosen_from, pieces_from}
+use Rattle.splitting.specs.Steps.{IsReady, ArePieces, CanBeWritten, chosen_of, outputs_of}
+
+-- ---- the choice
+
+-- frames that were chosen, and then others
+abbrev pub chosen_before : List Chosen → Result (List Chosen) EditFault → Result (List Chosen) EditFault
+chosen_before done (Ok more) = Ok (done ++ more)
+chosen_before done (Err fault) = Err fault
+
+pub none-chosen : (r : Result (List Chosen) EditFault) → chosen_before [] r ≡ r
+none-chosen (Ok more) = refl
+none-chosen (Err fault) = refl
+
+before-first : (done : List Chosen) (first : Chosen) (r : Result (List Chosen) EditFault) → chosen_before done (with_first first r) ≡ chosen_before (done ++ first ∷ []) r
+before-first done first (Ok more) = ap Ok (sym (append_assoc done (first ∷ []) more))
+before-first done first (Err fault) = refl
+
+pub one-chosen : (frames from to : ℕ) (more : List ℕ) (done : List Chosen) (first : Chosen) → frames_between frames from to ≡ Ok first
+    → chosen_before done (chosen_from frames from (to ∷ more)) ≡ chosen_before (done ++ first ∷ []) (chosen_from frames to more)
+one-chosen frames from to more done first is =
+    ap (λ r. chosen_before done (then_made r (λ c. with_first c (chosen_from frames to more)))) is
+    ∙ before-first done first (chosen_from frames to more)
+
+pub not-chosen : (frames from to : ℕ) (more : List ℕ) (done : List Chosen) (fault : EditFault) → frames_between frames from to ≡ Err fault → chosen_before done (chosen_from frames from (to ∷ more)) ≡ Err fault
+not-chosen frames from to more done fault is = ap (λ r. chosen_before done (then_made r (λ c. with_first c (chosen_from frames to more)))) is
+
+pub all-chosen : (frames from : ℕ) (done : List Chosen) → chosen_before done (chosen_from frames from []) ≡ Ok done
+all-chosen frames from done = ap Ok (append-nil done)
+
+-- up to this place, and then behind it
+pub place-chosen : (class : ClassFields) (frames index from : ℕ) (rest : List Place) (d : Place) (done : List Chosen) (first : Chosen) (whole : Result (List Chosen) EditFault) → index < length rest
+    → frames_between frames from (frame_at class frames (get_or rest index d)) ≡ Ok first → chosen_before done (chosen_from frames from (map (frame_at class frames) (drop index rest))) ≡ whole
+    → chosen_before (done ++ first ∷ []) (chosen_from frames (frame_at class frames (get_or rest index d)) (map (frame_at class frames) (drop (index + 1) rest))) ≡ whole
+place-chosen class frames index from rest d done first whole less is before =
+    sym (one-chosen frames from (frame_at class frames (get_or rest index d)) (map (frame_at class frames) (drop (index + 1) rest)) done first is)
+    ∙ ap (λ l. chosen_before done (chosen_from frames from (map (frame_at class frames) l))) (sym (drop_more rest index d less))
+    ∙ before
+
+-- ---- the names
+
+pub pieces-push : (prefix : List ℕ) (s : SurveyFields) (k n : ℕ) (pieces : List Piece) (piece : Piece) → ArePieces prefix s k pieces → n ≡ k + length pieces → string_bytes piece.name ≡ piece_name prefix n → IsReady s piece
+    → ArePieces prefix s k (pieces ++ piece ∷ [])
+pieces-push prefix s k n [] piece are is named ready = (named ∙ ap (piece_name prefix) (let e : n ≡ k = omega (arith, is) in e), ready, tt)
+pieces-push prefix s k n (first ∷ pieces) piece are is named ready = (are.0, are.1, pieces-push prefix s (k + 1) n pieces piece are.2 (omega (arith, is)) named ready)
+
+-- the files of pieces are those of their frames
+pub outputs-are : (prefix : List ℕ) (s : SurveyFields) (k : ℕ) (pieces : List Piece) (bytes : List ℕ) → ArePieces prefix s k pieces → outputs_of s pieces bytes ≡ pieces_from prefix k bytes s (map chosen_of pieces)
+outputs-are prefix s k [] bytes are = refl
+outputs-are prefix s k (piece ∷ pieces) bytes are =
+    ap₂ (λ name outputs. record { name = name; bytes = chosen_file (chosen_in piece.chosen) bytes s } ∷ outputs) are.0 (outputs-are prefix s (k + 1) pieces bytes are.2)
+
+-- an input that has the name of no piece
+other-name : (prefix input : List ℕ) (k : ℕ) → list_any (bytes_eq input) (piece_names prefix) ≡ false → 1 ≤ k → k ≤ 99 → input ≢ piece_name prefix k
+unfolding piece_names
+other-name prefix input k none from to same =
+    let name_is = get_or-map-range_with_len (piece_name prefix) 1 99 (k - 1) k [] (omega arith) (omega arith) in
+    let found = list_any_at (bytes_eq input) (map (piece_name prefix) (range_with_len 1 99)) (k - 1) [] (omega (arith, length-map-range_with_len (piece_name prefix) 1 99)) (ap (bytes_eq input) (name_is ∙ sym same) ∙ bytes_eq_same input) in
+    let both : true ≡ false = sym found ∙ none in
+    absurd cc
+
+pub can-be-written : (prefix input : List ℕ) (s : SurveyFields) (k : ℕ) (pieces : List Piece) → list_any (bytes_eq input) (piece_names prefix) ≡ false → 1 ≤ k → k + length pieces ≤ 100 → ArePieces prefix s k pieces → CanBeWritten input s pieces
+can-be-written prefix input s k [] none from to are = tt
+can-be-written prefix input s k (piece ∷ pieces) none from to are =
+    ((λ same. other-name prefix input k none from (omega (arith, to)) (same ∙ are.0)), are.1, can-be-written prefix input s (k + 1) pieces none (omega arith) (omega (arith, to)) are.2)

@@ -1,0 +1,31 @@
+-- A piece more.
+use Rattle.std.proofs.Common.{◌≡◌, ℕ, ◌+◌, ◌-◌, ◌∷◌, [], List, length, map, drop, take, get_or, Ok, sym, ◌∙◌, ap, ap₂, subst, length-append, arith}
+use Rattle.std.proofs.lemmas.List.{map-append}
+use Rattle.cue_sheet.specs.declared.place.Place.{Place}
+use Rattle.cue_sheet.specs.declared.place.Place.TheVariants.{Frame}
+use Rattle.cue_sheet.specs.Places.{frame_at}
+use Rattle.sync_survey.specs.Faults.{tells}
+use Rattle.edits.specs.Chosen.{Chosen}
+use Rattle.splitting.specs.Split.{frames_between, chosen_from}
+use Rattle.splitting.specs.Steps.{ArePieces, chosen_of}
+use Rattle.splitting.proofs.PiecesLaws.{chosen_before, pieces-push, place-chosen}
+use Rattle.splitting.proofs.piece.make_pieces.Goals as goal
+
+pub loop-place-preserved : goal.loop-place-preserved
+loop-place-preserved c =
+    let at = c.loop-place in
+    let to = c.frame_of-to.ensures in
+    let made = c.in_ok-piece.ensures.chosen in
+    let items = c.in_ok-push.ensures.items in
+    let class = c.class-class.result in
+    let frames = length c.frames.result.now in
+    let rest : List Place = take (length c.args.places.now - 1) (drop 1 c.args.places.now) in
+    let is : frames_between frames at.from (frame_at class frames (get_or rest at.place-index (Frame 0))) ≡ Ok (chosen_of c.in_ok-piece.piece) =
+    ap (λ (n : ℕ). frames_between n at.from (frame_at class frames (get_or rest at.place-index (Frame 0)))) (ap length c.frames.ensures) ∙ ap (frames_between (length (tells c.args.survey.now).frames) at.from) (sym to) ∙ made in (
+      subst (ArePieces c.args.prefix.now (tells c.args.survey.now) 1) (sym items)
+          (pieces-push c.args.prefix.now (tells c.args.survey.now) 1 (at.number + 1) at.pieces.items c.in_ok-piece.piece at.invariant.0 (omega (arith, at.invariant.1, at.invariant.2)) c.in_ok-piece.ensures.name c.in_ok-piece.ensures.ready),
+      omega (arith, at.invariant.1, ap length items, length-append at.pieces.items (c.in_ok-piece.piece ∷ [])),
+      omega (arith, at.invariant.2),
+      ap₂ (λ (done : List Chosen) (n : ℕ). chosen_before done (chosen_from frames n (map (frame_at class frames) (drop (at.place-index + 1) rest)))) (ap (map chosen_of) items ∙ map-append chosen_of at.pieces.items (c.in_ok-piece.piece ∷ [])) to
+          ∙ place-chosen class frames at.place-index at.from rest (Frame 0) (map chosen_of at.pieces.items) (chosen_of c.in_ok-piece.piece) _ (omega (arith, c.loop-place-test.true)) is at.invariant.3,
+    )
