@@ -1,7 +1,6 @@
 -- What the command leaves, by its steps.
-use Rattle.std.proofs.Common.{◌≡◌, ℕ, ◌+◌, ◌<◌, ◌≤◌, ◌&&◌, Bool, true, false, cond, List, [], ◌∷◌, length, map, Option, Some, None, Result, Ok, Err, refl, sym, ◌∙◌, ap, ap₂, subst, inl, inr, bytes_eq, is_some, arith}
-use Rattle.std.specs.Prelude.{nat_lt, nat_le, replicate, IfSome, IfErr, OnOk}
-use Rattle.std.specs.List.{list_any}
+use Rattle.std.proofs.Common.{◌≡◌, ℕ, ◌+◌, ◌<◌, ◌≤◌, ◌&&◌, true, false, cond, List, [], ◌∷◌, length, map, Option, Some, None, Result, Ok, Err, refl, sym, ◌∙◌, ap, subst, inl, inr, is_some}
+use Rattle.std.specs.Prelude.{nat_lt, nat_le, IfSome, IfErr, OnOk}
 use Rattle.bit_fields.specs.Bits.{AreBytes}
 use Rattle.outside.specs.Files.{Contents, Files, Holds, IsThere}
 use Rattle.outside.proofs.FilesLaws.{there_holds}
@@ -13,22 +12,21 @@ use Rattle.cue_sheet.specs.Cues.{cue_of}
 use Rattle.frame_header.specs.Fields.{ClassFields}
 use Rattle.sync_survey.specs.declared.survey_fault.SurveyFault.{SurveyFault}
 use Rattle.sync_survey.specs.declared.survey_fault.SurveyFault.TheVariants.{Absent, TooLong}
-use Rattle.sync_survey.specs.MainData.{StreamFrame}
 use Rattle.sync_survey.specs.Faults.{longest_file, SurveyFields, surveyed, HoldsStream}
 use Rattle.sync_survey.specs.Survey.{survey_of}
 use Rattle.sync_survey.proofs.BytesFaults.{IsOfBytes, surveyed_of_bytes}
 use Rattle.sync_survey.proofs.FoldersLaws.{survey_of-short}
 use Rattle.edits.specs.declared.fault.EditFault.{EditFault}
-use Rattle.edits.specs.declared.fault.EditFault.TheVariants.{EqualNames, Input, Range, SheetTooLarge, Sheet}
+use Rattle.edits.specs.declared.fault.EditFault.TheVariants.{EqualNames, Input, Range, SheetTooLarge}
 use Rattle.edits.specs.Choice.{then_made, unless}
 use Rattle.edits.specs.Chosen.{Chosen, outside_fault, chosen_file, chosen_stream, stream_with, stream_chosen_by, cut_choice, laid_with}
-use Rattle.edits.specs.Command.{Made, Command, clash_from, clash_of, Gives, written, written_to, AreStreams, MakesStreams, HoldsStreams}
+use Rattle.edits.specs.Command.{Made, Command, clash_of, Gives, written, written_to, AreStreams, HoldsStreams}
 use Rattle.edits.specs.Left.{Why, Refused, Missing, Unread, Shorter, Unwritten, Unsent, NoMemory, why_of, Seen, longest_sheet, IsDone, IsWrittenTo, TakesMemory, is_before_memory, LeavesBy, Leaves}
 use Rattle.edits.specs.One.{most_frames, IsFileFaultBy, IsFileFault}
 use Rattle.edits.proofs.SurveyedFiles.{survey_of-sound}
 use Rattle.edits.proofs.ChosenLaws.{cut_proper}
-use Rattle.splitting.specs.Split.{piece_name, piece_names, frames_between, with_first, chosen_from, chosen_at, pieces_from, made_of, made_at, made_by, made_where, unless_equal, made_result, streams_of, streams_at, streams_by, streams_where, Placing, split_command, given, with_end, places_in, places_where, told_by}
-use Rattle.splitting.specs.Steps.{IsSheetFaultBy, IsSheetFault, with_outputs, with_part, IsWrittenPart, IsMadeOf, IsMadePart, IsSplitFaultBy, IsSplitFault}
+use Rattle.splitting.specs.Split.{frames_between, with_first, chosen_from, chosen_at, pieces_from, made_of, made_at, made_by, made_where, unless_equal, made_result, streams_of, streams_at, streams_by, streams_where, Placing, split_command, given, with_end, places_in, places_where, told_by}
+use Rattle.splitting.specs.Steps.{IsSheetFaultBy, IsSheetFault, with_outputs, with_part, IsWrittenPart, IsMadeOf, IsSplitFaultBy, IsSplitFault}
 
 -- ---- want of memory is no refusal that is found before any is taken
 

@@ -1,16 +1,16 @@
 -- Outputs that are written one behind the other.
-use Rattle.std.proofs.Common.{◌≡◌, ◌≢◌, ℕ, ◌<◌, List, [], ◌∷◌, ◌++◌, length, take, drop, map, Option, Some, None, Result, Ok, Err, refl, sym, ◌∙◌, ap, ap₂, subst, string_bytes, is_some, inl, inr, arith, append-nil, append_assoc, length-append}
-use Rattle.std.specs.Prelude.{◌⊎◌, ◌≤◌, IfErr, OnOk, OnErr}
+use Rattle.std.proofs.Common.{◌≡◌, ◌≢◌, ℕ, List, [], ◌∷◌, ◌++◌, length, take, Option, Some, None, Result, Ok, Err, refl, sym, ◌∙◌, ap, ap₂, subst, string_bytes, is_some, inl, inr, arith, append-nil, length-append}
+use Rattle.std.specs.Prelude.{IfErr, OnOk, OnErr}
 use Rattle.std.proofs.Math.Seq.{take-append_seam, drop-append_seam}
 use Rattle.std.proofs.lemmas.List.{map-append, length-map}
 use Rattle.outside.specs.Files.{Contents, Files, untold, with_file, emptied, Holds, IsThere}
 use Rattle.outside.specs.Counts.{Counts, Rose, NoneFell, NothingFailed}
 use Rattle.outside.specs.Feed.{Fed, IsFedFrom}
-use Rattle.outside.proofs.FilesLaws.{there_holds, with_file_other, is_some_with_file}
+use Rattle.outside.proofs.FilesLaws.{there_holds, with_file_other}
 use Rattle.sync_survey.specs.Faults.{SurveyFields}
 use Rattle.edits.specs.declared.moving.CopyFault.{CopyFault}
 use Rattle.edits.specs.declared.moving.CopyFault.TheVariants.{Read, Shrunk, Write}
-use Rattle.edits.specs.Command.{Output, begun, written, written_to}
+use Rattle.edits.specs.Command.{Output, begun, written}
 use Rattle.edits.specs.Chosen.{chosen_in, chosen_file}
 use Rattle.edits.specs.One.{holding, HoldsPrefix, IsPassFault}
 use Rattle.edits.specs.Left.{seen}

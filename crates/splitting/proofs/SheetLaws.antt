@@ -1,6 +1,5 @@
 -- What the bytes of a sheet say.
-use Rattle.std.proofs.Common.{◌≡◌, ◌≢◌, ℕ, ◌-◌, ◌<◌, ◌≤◌, true, false, cond, List, [], ◌∷◌, ◌++◌, length, Option, Some, None, Result, Ok, Err, refl, sym, ◌∙◌, ap, subst, arith}
-use Rattle.std.specs.Prelude.{nat_lt}
+use Rattle.std.proofs.Common.{◌≡◌, ℕ, ◌-◌, ◌<◌, ◌≤◌, cond, List, [], ◌∷◌, ◌++◌, length, Some, None, Ok, Err, refl, sym, ◌∙◌, ap, arith}
 use Rattle.std.proofs.lemmas.Bool.{lt-ltb, le-ltb}
 use Rattle.outside.specs.Files.{Files, untold, Holds, IsThere}
 use Rattle.outside.proofs.FilesLaws.{there_holds}
@@ -8,7 +7,6 @@ use Rattle.cue_sheet.specs.declared.cue_fault.CueFault.{CueFault}
 use Rattle.cue_sheet.specs.declared.place.Place.{Place}
 use Rattle.cue_sheet.specs.declared.place.Place.TheVariants.{End}
 use Rattle.cue_sheet.specs.Cues.{cue_of}
-use Rattle.edits.specs.declared.fault.EditFault.{EditFault}
 use Rattle.edits.specs.declared.fault.EditFault.TheVariants.{SheetTooLarge, Sheet}
 use Rattle.edits.specs.Left.{longest_sheet}
 use Rattle.splitting.specs.Split.{with_end, places_in}

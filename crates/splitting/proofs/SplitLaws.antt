@@ -1,7 +1,7 @@
 -- The pieces of a surveyed input, whole or in part.
 use Rattle.std.proofs.Common.{◌≡◌, ℕ, ◌<◌, List, length, map, Option, Result, Ok, Err, ◌∙◌, ap, subst}
 use Rattle.std.specs.Prelude.{IfErr, OnOk}
-use Rattle.outside.specs.Files.{Files, Holds}
+use Rattle.outside.specs.Files.{Holds}
 use Rattle.cue_sheet.specs.declared.place.Place.{Place}
 use Rattle.sync_survey.specs.Faults.{SurveyFields}
 use Rattle.edits.specs.declared.fault.EditFault.{EditFault}

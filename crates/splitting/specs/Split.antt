@@ -1,5 +1,5 @@
 -- One file cut at places: the frames between two neighbouring places are a piece, a file of its own.
-use Rattle.std.specs.Prelude.{◌≡◌, ℕ, ◌+◌, ◌/◌, ◌%◌, nat_lt, if◌then◌else◌, false, List, [], ◌∷◌, ◌++◌, length, map, replicate, codes, Option, Some, None, Result, Ok, Err}
+use Rattle.std.specs.Prelude.{ℕ, ◌+◌, ◌/◌, ◌%◌, nat_lt, if◌then◌else◌, false, List, [], ◌∷◌, ◌++◌, length, map, replicate, codes, Option, Some, None, Result, Ok, Err}
 use Rattle.std.specs.List.{range_with_len}
 use Rattle.frame_header.specs.Fields.{ClassFields}
 use Rattle.outside.specs.Files.{Contents}

@@ -1,5 +1,5 @@
 //! Pieces that are ready to be written.
-ghost use Rattle.std.specs.Prelude.{◌≡◌, ◌⊎◌, ◌+◌, ◌≤◌, length, map, Ok, Err, IfOk, IfErr, MatchResult, string_bytes};
+ghost use Rattle.std.specs.Prelude.{◌≡◌, ◌⊎◌, ◌+◌, ◌≤◌, length, map, Ok, Err, IfOk, MatchResult, string_bytes};
 ghost use Rattle.std.specs.List.{All};
 ghost use Rattle.cue_sheet.specs.Places.{IsPlace};
 ghost use Rattle.sync_survey.specs.Faults.{tells};

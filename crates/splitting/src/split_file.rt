@@ -1,5 +1,5 @@
 //! The split commands over a folder.
-ghost use Rattle.std.specs.Prelude.{◌≡◌, ◌≢◌, ◌↔◌, ◌≤◌, List, ℕ, [], ◌∷◌, length, Ok, Some, None, is_some, bytes_eq, false, IfErr, OnOk, IsErrOf};
+ghost use Rattle.std.specs.Prelude.{◌≡◌, ◌↔◌, ◌≤◌, List, ℕ, length, Ok, Some, is_some, bytes_eq, false, IfErr, OnOk, IsErrOf};
 ghost use Rattle.std.specs.List.{All, list_any};
 ghost use Rattle.outside.specs.Files.{Holds, IsThere};
 ghost use Rattle.outside.specs.Counts.{NoneFell};
