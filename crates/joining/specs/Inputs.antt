@@ -1,0 +1,103 @@
+-- The surveys of the inputs, as they are made one after the other.
+use Rattle.std.specs.Prelude.{◌≡◌, ◌≢◌, ℕ, ◌+◌, ◌-◌, ◌<◌, ◌≤◌, List, [], ◌∷◌, length, map, unwrap_or, IfSome, Option, Some, None, Result, Ok, Err}
+use Rattle.outside.specs.Files.{Contents, Files, Holds, IsThere}
+use Rattle.outside.specs.Counts.{Rose}
+use Rattle.frame_header.specs.Fields.{ClassFields}
+use Rattle.sync_survey.specs.declared.rows.Row.{Row}
+use Rattle.sync_survey.specs.declared.survey_fault.SurveyFault.TheVariants.{Memory as NoRoom}
+use Rattle.sync_survey.specs.Faults.{SurveyFields}
+use Rattle.sync_survey.specs.Survey.{survey_of, IsLaidOut}
+use Rattle.laying.specs.Relaid.{Part}
+use Rattle.edits.specs.declared.fault.EditFault.{EditFault}
+use Rattle.edits.specs.declared.fault.EditFault.TheVariants.{Input, Differ, Write, Memory}
+use Rattle.edits.specs.Kinds.{HasRightNumbers}
+use Rattle.edits.specs.Left.{Why, Refused, Missing, Unread, Shorter, Unwritten, Unsent, NoMemory, why_of, Seen}
+use Rattle.edits.specs.One.{ReadsNothing, LosesInput, NeedsMemory}
+use Rattle.joining.specs.Join.{whole_part, part_of}
+
+-- ---- one input
+
+-- an input is there and has a frame, and this is its survey, where so many frames are allowed
+pub record IsInput (allowed : ℕ) (files : Files) (name : List ℕ) (s : SurveyFields) : Type 0 where
+  pub there : IsThere files name
+  pub exact : (file : List ℕ) → Holds files name file → survey_of file allowed ≡ Ok s
+  pub laid : IsLaidOut s
+  pub some : 0 < length s.frames
+  pub few : length s.frames ≤ allowed
+
+-- where the files are told, an input gives this refusal
+abbrev pub GivesFault : ℕ → Option ClassFields → ℕ → List ℕ → Files → EditFault → Type 0
+GivesFault place first allowed name files fault = IfSome files (λ f. part_of place first allowed (f name) ≡ Err fault)
+
+abbrev pub IsPartFaultBy : ℕ → Option ClassFields → ℕ → List ℕ → Seen → Seen → EditFault → Why → Type 0
+IsPartFaultBy place first allowed name old new fault Refused = GivesFault place first allowed name old.files fault × (new ≡ old)
+IsPartFaultBy place first allowed name old new fault Missing = GivesFault place first allowed name old.files fault × Rose old.counts.misses new.counts.misses × (new.files ≡ old.files)
+IsPartFaultBy place first allowed name old new fault Unread = ReadsNothing old new
+IsPartFaultBy place first allowed name old new fault Shorter = LosesInput old new
+IsPartFaultBy place first allowed name old new fault (Unwritten k) = ⊥
+IsPartFaultBy place first allowed name old new fault Unsent = ⊥
+IsPartFaultBy place first allowed name old new fault NoMemory = NeedsMemory name old new
+
+-- what the fault of an input says of it
+abbrev pub IsPartFault : ℕ → Option ClassFields → ℕ → List ℕ → Seen → Seen → EditFault → Type 0
+IsPartFault place first allowed name old new fault = IsPartFaultBy place first allowed name old new fault (why_of fault)
+
+-- the fault is one of so many inputs, of the output, or want of memory; the class of the first input can't differ
+abbrev pub IsOfJoin : ℕ → EditFault → Type 0
+IsOfJoin count (Input place fault) = (place < count) × (fault ≢ NoRoom) × HasRightNumbers fault
+IsOfJoin count (Differ place) = (0 < place) × (place < count)
+IsOfJoin count (Write place) = place ≡ 0
+IsOfJoin count Memory = Unit {0}
+IsOfJoin count _ = ⊥
+
+-- ---- all inputs
+
+-- the class is that of the first, where there is one
+abbrev pub Follows : Option ClassFields → ClassFields → Type 0
+Follows None class = Unit {0}
+Follows (Some first) class = class ≡ first
+
+-- each is there with its survey, is of the class of the first, and has no more frames than those before it leave
+abbrev pub AreInputs : Option ClassFields → ℕ → Files → List (List ℕ) → List SurveyFields → Type 0
+AreInputs first allowed files [] [] = Unit {0}
+AreInputs first allowed files [] (s ∷ ss) = ⊥
+AreInputs first allowed files (name ∷ names) [] = ⊥
+AreInputs first allowed files (name ∷ names) (s ∷ ss) =
+    IsInput allowed files name s × Follows first s.class × AreInputs (Some (unwrap_or first s.class)) (allowed - length s.frames) files names ss
+
+-- the class of the first of these
+abbrev pub class_in : List SurveyFields → Option ClassFields
+class_in [] = None
+class_in (s ∷ ss) = Some s.class
+
+-- how many frames they have
+unfoldable pub frames_of : List SurveyFields → ℕ
+frames_of [] = 0
+frames_of (s ∷ ss) = length s.frames + frames_of ss
+
+-- ---- what they are as parts
+
+-- the frames of each
+abbrev pub rows_of : List SurveyFields → List (List Row)
+rows_of ss = map (λ (s : SurveyFields). s.frames) ss
+
+-- each has a frame, and the surveys are of this class
+abbrev pub AreAlike : ClassFields → List SurveyFields → Type 0
+AreAlike class [] = Unit {0}
+AreAlike class (s ∷ ss) = (0 < length s.frames) × IsLaidOut s × (s.class ≡ class) × AreAlike class ss
+
+-- there are some, of one class, with no more frames than may be planned at once
+abbrev pub CanBeJoined : List SurveyFields → Type 0
+CanBeJoined [] = ⊥
+CanBeJoined (first ∷ ss) = AreAlike first.class (first ∷ ss) × (length ss < 64) × (frames_of (first ∷ ss) ≤ 2900000)
+
+-- these files as parts, with their surveys
+unfoldable pub parts_in : Contents → List (List ℕ) → List SurveyFields → List Part
+parts_in files [] ss = []
+parts_in files (name ∷ names) [] = []
+parts_in files (name ∷ names) (s ∷ ss) = whole_part (unwrap_or (files name) []) s ∷ parts_in files names ss
+
+-- where they are told
+abbrev pub told_parts : Files → List (List ℕ) → List SurveyFields → List Part
+told_parts None names ss = []
+told_parts (Some files) names ss = parts_in files names ss

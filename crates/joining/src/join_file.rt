@@ -1,0 +1,65 @@
+//! The join command over a folder.
+ghost use Rattle.std.specs.Prelude.{◌≡◌, ◌↔◌, ◌≤◌, ℕ, [], ◌∷◌, length, map, string_bytes, Some, IfErr, OnOk, IsErrOf};
+ghost use Rattle.outside.specs.Counts.{NoneFell};
+ghost use Rattle.edits.specs.Command.{HoldsStreams, clash_of, clash_from};
+ghost use Rattle.edits.specs.Left.{seen, IsDone, Leaves, HasNumbers};
+ghost use Rattle.joining.specs.Join.{join_command};
+
+use crate::planned::plan_join;
+use crate::surveys::survey_all;
+use crate::written::write_joined;
+use edits::EditFault;
+use outside::Folder;
+use std::alloc::Global;
+
+/// The first of these names that is the output's, counted from 0.
+fn clash(output: &str, inputs: &[String]) -> Option<u32>
+    requires { length inputs.now ≤ 64 }
+    ensures { result ≡ clash_from (output.now ∷ []) 0 (map string_bytes inputs.now) }
+{
+    for place in 0..inputs.len() {
+        if inputs[place].as_str() == output {
+            return Some(place as u32);
+        }
+    }
+    None
+}
+
+/// Writes the output, which is all frames of the inputs, 1 to 64 of one class, in their order and with all main data: the
+/// ID3v2 blocks of the first input that stand in front of its first frame, an Info frame, and the frames in the slots of
+/// their plan, each with its own bit rate and padding (ISO/IEC 11172-3, 2.4.2.7). A lead-in, one empty frame, stands in
+/// front of the frames of each input whose first main data need room. No other block of any input is written.
+///
+/// Refuses, in this order: `EqualNames` with the first input, counted from 0, whose name is the output's, byte for byte;
+/// then for each input in turn `Input` with its number and the fault of its survey, of which as many frames are allowed as
+/// those before leave of 2,900,000, and `Differ` with its number where its version, frequency or channels aren't those of
+/// the first. Then nothing was created. A file may be named twice.
+///
+/// `Input` with `Read` and `Write(0)` come only where a call of that kind failed, `Input` with `Absent` only where the
+/// input isn't there, and every other answer only where none failed; after `Write(0)` the output is as it was or
+/// holds a prefix of its bytes. `Memory` may come once the first input was found with a length that it may have,
+/// before the output is created, and not from then on.
+pub fn join<D: Folder>(
+    alloc: Global,
+    folder: &mut D,
+    output: &str,
+    inputs: &[String],
+) -> Result<(), EditFault>
+    requires some { 1 ≤ length inputs.now }
+    requires few { length inputs.now ≤ 64 }
+    ensures done { OnOk result (IsDone (join_command output.now (map string_bytes inputs.now)) (seen (D.files folder.old) (D.counts folder.old)) (seen (D.files folder.new) (D.counts folder.new))) }
+    ensures left { IfErr result (Leaves (join_command output.now (map string_bytes inputs.now)) (seen (D.files folder.old) (D.counts folder.old)) (seen (D.files folder.new) (D.counts folder.new))) }
+    // Over a folder that tells nothing too.
+    ensures numbers { IfErr result (HasNumbers (join_command output.now (map string_bytes inputs.now))) }
+    ensures names { (place : ℕ) → IsErrOf result (EditFault.EqualNames place) ↔ (clash_of (join_command output.now (map string_bytes inputs.now)) ≡ Some place) }
+    // The inputs are well-formed, and the output holds the lead-ins and exactly the frames of their streams.
+    ensures streams { OnOk result (HoldsStreams (join_command output.now (map string_bytes inputs.now)) (D.files folder.old)) }
+    ensures counts { NoneFell (D.counts folder.old) (D.counts folder.new) }
+{
+    if let Some(place) = clash(output, inputs) {
+        return Err(EditFault::EqualNames(place));
+    }
+    let surveys = survey_all(alloc, folder, inputs)?;
+    let planned = plan_join(alloc, &surveys)?;
+    write_joined(alloc, folder, inputs, output, &surveys, &planned)
+}

@@ -1,0 +1,13 @@
+//! One file of all frames of several.
+#![tactic(auto)]
+
+mod join_file;
+mod laid;
+mod planned;
+mod surveys;
+mod written;
+
+pub use join_file::join;
+
+#[cfg(test)]
+mod tests;

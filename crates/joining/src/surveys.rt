@@ -1,0 +1,99 @@
+//! The surveys of all inputs.
+ghost use Rattle.std.specs.Prelude.{◌≡◌, ◌≢◌, ◌≤◌, ◌<◌, ◌+◌, true, None, List, ℕ, [], ◌∷◌, length, map, string_bytes, is_some, IfOk, IfErr, OnOk};
+ghost use Rattle.outside.specs.Counts.{OnlyReads};
+ghost use Rattle.sync_survey.specs.Faults.{tells};
+ghost use Rattle.edits.specs.Command.{clash_from};
+ghost use Rattle.edits.specs.One.{most_frames};
+ghost use Rattle.edits.specs.Left.{seen, Leaves};
+ghost use Rattle.joining.specs.Join.{may_follow as may_follow_lem, join_command};
+ghost use Rattle.joining.specs.Inputs.{IsInput, IsPartFault, IsOfJoin, Follows, AreInputs, class_in};
+
+use edits::{EditFault, MOST_FRAMES, survey_at};
+use frame_header::Class;
+use outside::Folder;
+use std::alloc::Global;
+use sync_survey::{Survey, SurveyFault};
+
+/// Frames of this class may follow: any where there is no first input, else those of its class.
+fn may_follow(first: Option<Class>, class: Class) -> bool
+    ensures value { result ≡ may_follow_lem first class }
+    ensures follows { result ≡ true → Follows first class }
+{
+    match first {
+        Some(first) => class.is_same(first),
+        None => true,
+    }
+}
+
+/// What is known of an input, counted from 0, of which so many frames are allowed, behind a first one of this class.
+///
+/// # Errors
+/// `Input` with that number and the fault of the survey; `Differ` with it where the input's frames are of another class;
+/// `Memory`. The files stay.
+fn survey_part<D: Folder>(
+    alloc: Global,
+    folder: &mut D,
+    name: &str,
+    place: u32,
+    first: Option<Class>,
+    allowed: u32,
+) -> Result<Survey, EditFault>
+    requires behind { is_some first ≡ true → 0 < place }
+    ensures input { OnOk result (IfOk result (λ s. IsInput allowed (D.files folder.old) name.now (tells s))) }
+    ensures follows { IfOk result (λ s. Follows first (tells s).class) }
+    ensures refused { IfErr result (IsPartFault place first allowed name.now (seen (D.files folder.old) (D.counts folder.old)) (seen (D.files folder.new) (D.counts folder.new))) }
+    ensures numbers { IfErr result (IsOfJoin (place + 1)) }
+    ensures done { OnOk result (D.counts folder.new ≡ D.counts folder.old) }
+    ensures files { D.files folder.new ≡ D.files folder.old }
+    ensures counts { OnlyReads (D.counts folder.old) (D.counts folder.new) }
+{
+    let survey = survey_at(alloc, folder, name, place, allowed)?;
+    if survey.frames().is_empty() {
+        // No file that is told has a survey without a frame.
+        return Err(EditFault::Input(place, SurveyFault::NoFrame(survey.length())));
+    }
+    if may_follow(first, survey.class()) {
+        Ok(survey)
+    } else {
+        Err(EditFault::Differ(place))
+    }
+}
+
+/// The class of the first of these.
+fn first_class(surveys: &[Survey]) -> Option<Class>
+    ensures { result ≡ class_in (map tells surveys.now) }
+{
+    match surveys {
+        [] => None,
+        [first, ..] => Some(first.class()),
+    }
+}
+
+/// What is known of all inputs, one after the other; together they may have 2,900,000 frames.
+///
+/// # Errors
+/// As at `survey_part`, for the first input of which it has to be said.
+pub(crate) fn survey_all<D: Folder>(
+    alloc: Global,
+    folder: &mut D,
+    inputs: &[String],
+) -> Result<Vec<Survey>, EditFault>
+    requires few { length inputs.now ≤ 64 }
+    ensures inputs { IfOk result (λ surveys. AreInputs None most_frames (D.files folder.old) (map string_bytes inputs.now) (map tells surveys.items)) }
+    ensures left { IfErr result (λ fault. (output : List ℕ) → clash_from (output ∷ []) 0 (map string_bytes inputs.now) ≡ None → Leaves (join_command output (map string_bytes inputs.now)) (seen (D.files folder.old) (D.counts folder.old)) (seen (D.files folder.new) (D.counts folder.new)) fault) }
+    ensures numbers { IfErr result (IsOfJoin (length inputs.now)) }
+    ensures done { OnOk result (D.counts folder.new ≡ D.counts folder.old) }
+    ensures files { D.files folder.new ≡ D.files folder.old }
+    ensures counts { OnlyReads (D.counts folder.old) (D.counts folder.new) }
+{
+    let mut surveys = Vec::new(alloc);
+    let mut left = MOST_FRAMES;
+    for place in 0..inputs.len() {
+        let first = first_class(&surveys);
+        let name = inputs[place].as_str();
+        let survey = survey_part(alloc, folder, name, place as u32, first, left)?;
+        left -= survey.frames().len() as u32;
+        surveys.push(survey)?;
+    }
+    Ok(surveys)
+}

@@ -1,0 +1,4 @@
+//! Tests of the command.
+
+mod files;
+mod joining;
