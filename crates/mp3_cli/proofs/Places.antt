@@ -7,7 +7,7 @@ use Rattle.std.proofs.lemmas.Bool.{cases_lt}
 use Rattle.std.proofs.lemmas.List.{get_or-map, length-map, get_or_default}
 use Rattle.std.proofs.lemmas.List.Sums.{common_prefix_len-le}
 use Rattle.mp3_cli.specs.declared.jobs.Job.{Job}
-use Rattle.mp3_cli.specs.Words.{Form, fits_kind, forms, help, followed, furthest, form_of, have_kinds, read_as, reading, job_of, Begins, IsReading, IsBadWord}
+use Rattle.mp3_cli.specs.Words.{Form, fits_kind, forms, help, followed, furthest, form_of, have_kinds, kinds_in, read_as, reading, job_of, Begins, IsReading, IsBadWord}
 
 -- what a search finds
 found : {X : Type 0} (p : X → Bool) (xs : List X) (x : X) → find p xs ≡ Some x → Contains xs x × (p x ≡ true)
@@ -90,10 +90,10 @@ nearest table words d some =
           (get_or table at.0 d, (at.0, lt, get_or_default table at.0 (get_or table at.0 d) d lt), sym (get_or-map (followed words) table at.0 d 0 lt) ∙ at.2)
     ]
 
-pub reading_ok : (table : List Form) (words : List (List ℕ)) (job : Job) → Ok job ≡ reading table words → (form : Form) × Contains table form × (have_kinds form.kinds words ≡ true) × (job ≡ form.reads words)
+pub reading_ok : (table : List Form) (words : List (List ℕ)) (job : Job) → Ok job ≡ reading table words → (form : Form) × Contains table form × (have_kinds (kinds_in words form) words ≡ true) × (job ≡ form.reads words)
 reading_ok table words job e =
-    elim (form_of table words) as (λ o. form_of table words ≡ o → Ok job ≡ read_as o words (furthest table words) → (form : Form) × Contains table form × (have_kinds form.kinds words ≡ true) × (job ≡ form.reads words)) [
-      | Some form ↦ λ is e'. let f = found (λ form. have_kinds form.kinds words) table form is in (form, f.0, f.1, cc)
+    elim (form_of table words) as (λ o. form_of table words ≡ o → Ok job ≡ read_as o words (furthest table words) → (form : Form) × Contains table form × (have_kinds (kinds_in words form) words ≡ true) × (job ≡ form.reads words)) [
+      | Some form ↦ λ is e'. let f = found (λ form. have_kinds (kinds_in words form) words) table form is in (form, f.0, f.1, cc)
       | None ↦ λ is e'. absurd cc
     ] refl e
 
@@ -104,23 +104,23 @@ reading_err table words place e =
       | None ↦ λ is e'. (is, cc)
     ] refl e
 
-none_of : (table : List Form) (words : List (List ℕ)) → form_of table words ≡ None → (form : Form) → Contains table form → have_kinds form.kinds words ≡ true → ⊥
+none_of : (table : List Form) (words : List (List ℕ)) → form_of table words ≡ None → (form : Form) → Contains table form → have_kinds (kinds_in words form) words ≡ true → ⊥
 none_of table words none form listed all =
-    let other : have_kinds (get_or table listed.0 form).kinds words ≡ false = not_found (λ form. have_kinds form.kinds words) table none listed.0 form listed.1 in
-    let other_here : have_kinds form.kinds words ≡ false = subst (λ (f : Form). have_kinds f.kinds words ≡ false) listed.2 other in
+    let other : have_kinds (kinds_in words (get_or table listed.0 form)) words ≡ false = not_found (λ form. have_kinds (kinds_in words form) words) table none listed.0 form listed.1 in
+    let other_here : have_kinds (kinds_in words form) words ≡ false = subst (λ (f : Form). have_kinds (kinds_in words f) words ≡ false) listed.2 other in
     let clash : true ≡ false = sym all ∙ other_here in
     absurd cc
 
 -- the front of the words that follow a form begins it, and is the longest that does
 begins : (words : List (List ℕ)) (form : Form) → Begins (followed words form) form words
 begins words form = record {
-  enough_words = (common_prefix_len-le fits_kind form.kinds words).1;
-  enough_kinds = (common_prefix_len-le fits_kind form.kinds words).0;
-  fit = agree_to fits_kind form.kinds words;
+  enough_words = (common_prefix_len-le fits_kind (kinds_in words form) words).1;
+  enough_kinds = (common_prefix_len-le fits_kind (kinds_in words form) words).0;
+  fit = agree_to fits_kind (kinds_in words form) words;
 }
 
 begins-le : (words : List (List ℕ)) (form : Form) (n : ℕ) → Begins n form words → n ≤ followed words form
-begins-le words form n b = agree_from fits_kind n form.kinds words b.enough_kinds b.enough_words b.fit
+begins-le words form n b = agree_from fits_kind n (kinds_in words form) words b.enough_kinds b.enough_words b.fit
 
 pub is_reading : (words : List (List ℕ)) (job : Job) → Ok job ≡ job_of words → IsReading words job
 unfolding job_of

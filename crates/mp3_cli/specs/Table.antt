@@ -1,12 +1,12 @@
 -- The kinds and forms of the code, as those of `Words`.
 use Rattle.std.specs.Prelude.{List, [], ◌∷◌}
-use Rattle.mp3_cli.specs.Words.{Kind, Fixed, Name, Steps, Channel, Place, Form, Options, Plain, Tagless, Wrapping, TaglessWrapping, WrappingTagless, help, short_help, version, list_file, gain_form, channel_form, undo_form, cut_form, least_cut_form, pack_form}
+use Rattle.mp3_cli.specs.Words.{Kind, Fixed, Name, Steps, Channel, Place, Form, Options, Plain, Tagless, Wrapping, TaglessWrapping, WrappingTagless, help, short_help, version, list_file, gain_form, channel_form, undo_form, cut_form, least_cut_form, pack_form, split_form, sheet_form, join_form}
 use Rattle.mp3_cli.specs.declared.words.WordKind.{WordKind}
 use Rattle.mp3_cli.specs.declared.words.WordKind.TheVariants as code
 use Rattle.mp3_cli.specs.declared.words.GainOptions.{GainOptions}
 use Rattle.mp3_cli.specs.declared.words.GainOptions.TheVariants as given
 use Rattle.mp3_cli.specs.declared.words.FormName.{FormName}
-use Rattle.mp3_cli.specs.declared.words.FormName.TheVariants.{Help, ShortHelp, Version, List as ListFile, Gain, ChannelGain, Undo, Cut, LeastCut, Pack}
+use Rattle.mp3_cli.specs.declared.words.FormName.TheVariants.{Help, ShortHelp, Version, List as ListFile, Gain, ChannelGain, Undo, Cut, LeastCut, Pack, SplitAt, SplitBy, Join}
 
 abbrev pub word_kind : WordKind → Kind
 word_kind (code.Fixed text) = Fixed text.now
@@ -33,6 +33,9 @@ form_named Undo = undo_form
 form_named Cut = cut_form
 form_named LeastCut = least_cut_form
 form_named Pack = pack_form
+form_named SplitAt = split_form
+form_named SplitBy = sheet_form
+form_named Join = join_form
 
 -- the names in the order of the code
 abbrev pub form_names : List FormName
@@ -40,4 +43,4 @@ form_names =
     Help ∷ ShortHelp ∷ Version ∷ ListFile
     ∷ Gain given.Plain ∷ Gain given.Tagless ∷ Gain given.Wrapping ∷ Gain given.TaglessWrapping ∷ Gain given.WrappingTagless
     ∷ ChannelGain given.Plain ∷ ChannelGain given.Tagless ∷ ChannelGain given.Wrapping ∷ ChannelGain given.TaglessWrapping ∷ ChannelGain given.WrappingTagless
-    ∷ Undo ∷ Cut ∷ LeastCut ∷ Pack ∷ []
+    ∷ Undo ∷ Cut ∷ LeastCut ∷ Pack ∷ SplitAt ∷ SplitBy ∷ Join ∷ []

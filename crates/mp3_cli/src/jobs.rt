@@ -1,10 +1,11 @@
 //! What the program is asked to do.
 
+use arrayvec::ArrayVec;
 use cue_sheet::Place;
 use edits::Shift;
 
 /// What a list of words asks for. Names are places of words, counted from 1.
-#[derive(Clone, Copy, Debug, PartialEq, Eq)]
+#[derive(Debug, PartialEq, Eq, Drop)]
 pub enum Job {
     /// Say what the program does.
     Help,
@@ -52,5 +53,32 @@ pub enum Job {
         input: u32,
         /// The place of the word that names the file to write.
         output: u32,
+    },
+    /// Write the frames of the file `input` between each two neighbouring places to a file of their own.
+    SplitAt {
+        /// The place of the word that names the file to read.
+        input: u32,
+        /// The place of the word with which the names of the files to write begin.
+        prefix: u32,
+        /// The places in the stream, 2 to 100.
+        places: ArrayVec<Place, 100>,
+    },
+    /// Write each track of the file `input` to a file of its own, as a cue sheet has them.
+    SplitBy {
+        /// The place of the word that names the file to read.
+        input: u32,
+        /// The place of the word with which the names of the files to write begin.
+        prefix: u32,
+        /// The place of the word that names the cue sheet.
+        sheet: u32,
+    },
+    /// Write the frames of all inputs, one after another, to the file `output`.
+    Join {
+        /// The place of the word that names the file to write.
+        output: u32,
+        /// The place of the word that names the first file to read; those of the others follow it.
+        first: u32,
+        /// How many files are read, 1 to 64.
+        count: u32,
     },
 }

@@ -1,8 +1,8 @@
 //! The program's words.
-ghost use Rattle.std.specs.Prelude.{◌≡◌, ◌≤◌, ◌<◌, ◌^◌, ◌+◌, ◌++◌, ◌∷◌, codes, false, unwrap_or, List, length, map, string_bytes, option_map, pos, IfOk, IfErr};
+ghost use Rattle.std.specs.Prelude.{◌≡◌, ◌≤◌, ◌<◌, ◌^◌, ◌+◌, ◌++◌, ◌∷◌, codes, false, unwrap_or, List, length, map, replicate, slice_index_or, string_bytes, option_map, pos, ◌-◌, IfOk, IfErr};
 ghost use Rattle.std.specs.List.{common_prefix_len};
 ghost use Rattle.cue_sheet.specs.Places.{place_of};
-ghost use Rattle.mp3_cli.specs.Words.{Fixed, word_at as word_at_lem, is_name, step_count, steps_of, channel_of, option_kinds, keep_tags, do_wrap, fits_kind, job_of, IsReading, IsBadWord, IsSound};
+ghost use Rattle.mp3_cli.specs.Words.{Fixed, word_at as word_at_lem, words_from as words_from_lem, is_name, step_count, steps_of, channel_of, option_kinds, keep_tags, do_wrap, fits_kind, place_said, kinds_for, job_of, IsReading, IsBadWord, IsSound};
 ghost use Rattle.mp3_cli.specs.Table.{word_kind, options_named, form_named};
 
 use crate::jobs::Job;
@@ -60,9 +60,12 @@ enum FormName {
     Cut,
     LeastCut,
     Pack,
+    SplitAt,
+    SplitBy,
+    Join,
 }
 
-const FORMS: [FormName; 18] = [
+const FORMS: [FormName; 21] = [
     FormName::Help,
     FormName::ShortHelp,
     FormName::Version,
@@ -81,6 +84,9 @@ const FORMS: [FormName; 18] = [
     FormName::Cut,
     FormName::LeastCut,
     FormName::Pack,
+    FormName::SplitAt,
+    FormName::SplitBy,
+    FormName::Join,
 ];
 
 static TAGLESS: [WordKind; 2] = [WordKind::Fixed("-s"), WordKind::Fixed("s")];
@@ -123,6 +129,28 @@ pub(crate) fn word_at(words: &[String], place: u32) -> &str
     ensures { result.now ≡ word_at_lem (map string_bytes words.now) place }
 {
     words[place as usize - 1].as_str()
+}
+
+/// So many words from a place on, counted from 1.
+pub(crate) fn words_from(words: &[String], first: u32, count: u32) -> &[String]
+    requires counted { 1 ≤ first }
+    requires last { first + count ≤ length words.now + 1 }
+    ensures words { map string_bytes result.now ≡ words_from_lem (map string_bytes words.now) first count }
+    ensures count { length result.now ≡ count }
+{
+    &words[first as usize - 1..][..count as usize]
+}
+
+/// The words as names.
+pub(crate) fn names_of(words: &[String]) -> ArrayVec<&str, 64>
+    requires { length words.now ≤ 64 }
+    ensures { map (λ name. name.now) result.items ≡ map string_bytes words.now }
+{
+    let mut names = ArrayVec::new();
+    for word in words {
+        names.push(word.as_str());
+    }
+    names
 }
 
 // A name isn't empty, and doesn't begin with `-`.
@@ -173,9 +201,21 @@ fn read_channel(word: &str) -> Option<Channels>
 
 // The place that a word says; the end for every other word.
 fn read_place(word: &str) -> Place
-    ensures { result ≡ unwrap_or (place_of word.now) Place.End }
+    ensures { result ≡ place_said word.now }
 {
     Place::read(word).unwrap_or(Place::End)
+}
+
+// The places that the words say.
+fn read_places(words: &[String]) -> ArrayVec<Place, 100>
+    requires { length words.now ≤ 100 }
+    ensures { result.items ≡ map place_said (map string_bytes words.now) }
+{
+    let mut places = ArrayVec::new();
+    for word in words {
+        places.push(read_place(word.as_str()));
+    }
+    places
 }
 
 fn fits(word: &str, kind: &WordKind) -> bool
@@ -240,7 +280,13 @@ impl GainOptions {
     }
 }
 
-fn append(kinds: &mut ArrayVec<WordKind, 9>, more: &[WordKind])
+/// The most words that a form has.
+const MOST_WORDS: usize = 103;
+
+/// The kinds of a form's words.
+type Kinds = ArrayVec<WordKind, MOST_WORDS>;
+
+fn append(kinds: &mut Kinds, more: &[WordKind])
     requires { length kinds.old.items + length more.now ≤ 9 }
     ensures items { kinds.new.items ≡ kinds.old.items ++ more.now }
     ensures count { length kinds.new.items ≡ length kinds.old.items + length more.now }
@@ -249,7 +295,7 @@ fn append(kinds: &mut ArrayVec<WordKind, 9>, more: &[WordKind])
 }
 
 // `gain`, the options, and what stands behind them.
-fn gain_kinds(options: GainOptions, behind: &[WordKind]) -> ArrayVec<WordKind, 9>
+fn gain_kinds(options: GainOptions, behind: &[WordKind]) -> Kinds
     requires { length behind.now ≤ 5 }
     ensures { map word_kind result.items ≡ Fixed (codes "gain") ∷ (option_kinds (options_named options) ++ map word_kind behind.now) }
 {
@@ -260,7 +306,7 @@ fn gain_kinds(options: GainOptions, behind: &[WordKind]) -> ArrayVec<WordKind, 9
     kinds
 }
 
-fn some_kinds(kinds: &[WordKind]) -> ArrayVec<WordKind, 9>
+fn some_kinds(kinds: &[WordKind]) -> Kinds
     requires { length kinds.now ≤ 9 }
     ensures { result.items ≡ kinds.now }
 {
@@ -269,8 +315,41 @@ fn some_kinds(kinds: &[WordKind]) -> ArrayVec<WordKind, 9>
     found
 }
 
+// Puts the last of the kinds behind them again, so many times.
+fn repeat_last(kinds: &mut Kinds, count: usize)
+    requires some { 1 ≤ length kinds.old.items }
+    requires room { length kinds.old.items + count ≤ 103 }
+    ensures { kinds.new.items ≡ kinds.old.items ++ replicate count (slice_index_or kinds.old.items (length kinds.old.items - 1) WordKind.Name) }
+{
+    let last = kinds.as_slice()[kinds.len() - 1];
+    for _ in 0..count {
+        kinds.push(last);
+    }
+}
+
 impl FormName {
-    fn kinds(self) -> ArrayVec<WordKind, 9>
+    // How often the last kind may stand again.
+    fn more(self) -> usize
+        ensures { result ≡ (form_named self).more }
+    {
+        match self {
+            FormName::SplitAt => 98,
+            FormName::Join => 63,
+            _ => 0,
+        }
+    }
+
+    // The kinds for so many words.
+    fn kinds_for(self, count: usize) -> Kinds
+        ensures { map word_kind result.items ≡ kinds_for (form_named self) count }
+    {
+        let mut kinds = self.kinds();
+        let more = self.more().min(count.saturating_sub(kinds.len()));
+        repeat_last(&mut kinds, more);
+        kinds
+    }
+
+    fn kinds(self) -> Kinds
         ensures { map word_kind result.items ≡ (form_named self).kinds }
     {
         match self {
@@ -304,12 +383,30 @@ impl FormName {
             FormName::Pack => {
                 some_kinds(&[WordKind::Fixed("pack"), WordKind::Name, WordKind::Name])
             }
+            FormName::SplitAt => some_kinds(&[
+                WordKind::Fixed("split"),
+                WordKind::Name,
+                WordKind::Name,
+                WordKind::Place,
+                WordKind::Place,
+            ]),
+            FormName::SplitBy => some_kinds(&[
+                WordKind::Fixed("split"),
+                WordKind::Name,
+                WordKind::Name,
+                WordKind::Fixed("-c"),
+                WordKind::Name,
+            ]),
+            FormName::Join => {
+                some_kinds(&[WordKind::Fixed("join"), WordKind::Name, WordKind::Name])
+            }
         }
     }
 
     // What words of the form ask for.
     fn read(self, words: &[String]) -> Job
-        requires { length words.now ≡ length (form_named self).kinds }
+        requires all { length (form_named self).kinds ≤ length words.now }
+        requires few { length words.now ≤ length (form_named self).kinds + (form_named self).more }
         ensures { result ≡ (form_named self).reads (map string_bytes words.now) }
     {
         match self {
@@ -352,6 +449,21 @@ impl FormName {
                 input: 2,
                 output: 3,
             },
+            FormName::SplitAt => Job::SplitAt {
+                input: 2,
+                prefix: 3,
+                places: read_places(&words[3..]),
+            },
+            FormName::SplitBy => Job::SplitBy {
+                input: 2,
+                prefix: 3,
+                sheet: 5,
+            },
+            FormName::Join => Job::Join {
+                output: 2,
+                first: 3,
+                count: words.len() as u32 - 2,
+            },
         }
     }
 }
@@ -377,9 +489,10 @@ fn gain_of(channels: Channels, steps: &str, options: GainOptions, input: u32) ->
 /// What the words ask for. Where they have no form, it is refused with the place, counted from 1, of the
 /// first word that no form takes, or the number of words plus 1 where a word is missing.
 /// The forms are `list IN`; `gain [-s s] [-w] -g N IN OUT` and `gain [-s s] [-w] -l C N IN OUT`, with the two options in
-/// either order; `gain -u IN OUT`; `cut [--least] IN FROM TO OUT`; `pack IN OUT`; and `--help`, `-h` and `--version`, each
-/// alone. C is `0` or `1`. N is an optional `+` or `-` and one to three digits, from -255 to 255. FROM and TO are places as
-/// `Place::read` has them. A name isn't empty and doesn't begin with `-`.
+/// either order; `gain -u IN OUT`; `cut [--least] IN FROM TO OUT`; `pack IN OUT`; `split IN PREFIX P1 P2 [P3 to P100]`;
+/// `split IN PREFIX -c CUE`; `join OUT IN1 [IN2 to IN64]`; and `--help`, `-h` and `--version`, each alone. C is `0` or `1`.
+/// N is an optional `+` or `-` and one to three digits, from -255 to 255. FROM, TO and P1 to P100 are places as `Place::read`
+/// has them. All other words in capital letters are names: a name isn't empty and doesn't begin with `-`.
 pub fn job(words: &[String]) -> Result<Job, u32>
     ensures exact { result ≡ job_of (map string_bytes words.now) }
 
@@ -392,7 +505,7 @@ pub fn job(words: &[String]) -> Result<Job, u32>
 {
     let mut furthest = 0;
     for form in FORMS {
-        let all = form.kinds();
+        let all = form.kinds_for(words.len());
         let kinds = all.as_slice();
         let count = follow(words, kinds);
         if count == words.len() && count == kinds.len() {

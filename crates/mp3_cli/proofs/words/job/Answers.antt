@@ -1,9 +1,9 @@
 -- A form that the words have ends the loop; else it goes on, and the furthest front stays known.
-use Rattle.std.proofs.Common.{◌≡◌, ◌+◌, Ok, Err, length, map, string_bytes, ap, ◌∙◌, arith}
+use Rattle.std.proofs.Common.{◌≡◌, ◌+◌, Ok, Err, length, get_or, map, string_bytes, ap, sym, ◌∙◌, arith}
 use Rattle.std.proofs.lemmas.List.{length-map}
 use Rattle.mp3_cli.specs.declared.words.FormName.TheVariants.{Help}
-use Rattle.mp3_cli.specs.Words.{forms, job_of}
-use Rattle.mp3_cli.specs.Table.{word_kind, form_names}
+use Rattle.mp3_cli.specs.Words.{kinds_for, forms, job_of}
+use Rattle.mp3_cli.specs.Table.{word_kind, form_named, form_names}
 use Rattle.mp3_cli.proofs.Reading.{Turn, accepts, goes_on, furthest_on, refuses, ord_max_is}
 use Rattle.mp3_cli.proofs.Places.{is_reading, is_bad_word}
 use Rattle.mp3_cli.proofs.Sound.{is_sound}
@@ -17,7 +17,7 @@ accepted c =
       all = c.loop-form.invariant.0;
       index = c.loop-form-test.true;
       none = c.loop-form.invariant.1;
-      its_kinds = ap (map word_kind) c.as_slice-kinds.ensures.value ∙ c.kinds-all.ensures;
+      its_kinds = ap (map word_kind) c.as_slice-kinds.ensures.value ∙ c.kinds_for-all.ensures ∙ ap (kinds_for (form_named (get_or form_names c.loop-form.form-index Help))) (sym (length-map c.args.words.now string_bytes));
       followed = c.follow-count.ensures;
     } in
     accepts form_names forms c.loop-form.form-index Help (map string_bytes c.args.words.now) (map word_kind c.as_slice-kinds.result.now) c.follow-count.result c.read.result turn
@@ -29,7 +29,7 @@ loop-form-preserved c =
       all = c.loop-form.invariant.0;
       index = c.loop-form-test.true;
       none = c.loop-form.invariant.1;
-      its_kinds = ap (map word_kind) c.as_slice-kinds.ensures.value ∙ c.kinds-all.ensures;
+      its_kinds = ap (map word_kind) c.as_slice-kinds.ensures.value ∙ c.kinds_for-all.ensures ∙ ap (kinds_for (form_named (get_or form_names c.loop-form.form-index Help))) (sym (length-map c.args.words.now string_bytes));
       followed = c.follow-count.ensures;
     } in
     let not_all : c.follow-count.result ≡ length (map string_bytes c.args.words.now) → c.follow-count.result ≡ length (map word_kind c.as_slice-kinds.result.now) → ⊥ =

@@ -5,4 +5,4 @@ use Rattle.mp3_cli.specs.Table.{form_named}
 use Rattle.mp3_cli.proofs.words.job.Given as goal
 
 abbrev pub invariant-loop-form : goal.invariant-loop-form
-invariant-loop-form l = (map form_named l.form-items ≡ forms) × (form_of (take l.form-index forms) (map string_bytes l.words) ≡ None) × (l.furthest ≡ furthest (take l.form-index forms) (map string_bytes l.words)) × (l.furthest ≤ 9)
+invariant-loop-form l = (map form_named l.form-items ≡ forms) × (form_of (take l.form-index forms) (map string_bytes l.words) ≡ None) × (l.furthest ≡ furthest (take l.form-index forms) (map string_bytes l.words)) × (l.furthest ≤ 103)
