@@ -1,13 +1,16 @@
 -- The status and the line of each fault, and what a sink got of a line.
-use Rattle.std.specs.Prelude.{◌≡◌, ◌≢◌, ◌⊎◌, ℕ, ◌/◌, ◌%◌, ◌≤◌, List, [], ◌∷◌, ◌++◌, length, take, slice_index, slice_index_or, codes, decimal}
+use Rattle.std.specs.Prelude.{◌≡◌, ◌≢◌, ◌⊎◌, ℕ, ◌/◌, ◌%◌, ◌≤◌, List, [], ◌∷◌, ◌++◌, length, take, slice_index, codes, decimal}
 use Rattle.std.specs.Fmt.{signed_decimal}
 use Rattle.outside.specs.Files.{Sent, sent_more}
 use Rattle.outside.specs.Counts.{Rose}
+use Rattle.mp3_cli.specs.Names.{name_in}
 use Rattle.edits.specs.Left.{Why, Refused, NoMemory, why_of}
 use Rattle.sync_survey.specs.declared.survey_fault.SurveyFault.{SurveyFault}
 use Rattle.sync_survey.specs.declared.survey_fault.SurveyFault.TheVariants.{Absent, TooLong, NoFrame, LostSync, Truncated, FreeFormat, Mixed, CheckWord, BackPointer, Overlap, Overrun, TooManyFrames, Shrunk, Read, Memory}
+use Rattle.cue_sheet.specs.declared.cue_fault.CueFault.{CueFault}
+use Rattle.cue_sheet.specs.declared.cue_fault.CueFault.TheVariants.{Line, NotRising, NoTracks, Memory as NoSheetMemory}
 use Rattle.edits.specs.declared.fault.EditFault.{EditFault}
-use Rattle.edits.specs.declared.fault.EditFault.TheVariants.{EqualNames, Input, GainRange, Mono, Joint, TagTooLarge, BadTag, NoUndo, BadUndo, UndoRange, OutputTooLong, Range, Write, Sent as NotSent, Memory as OutOfMemory}
+use Rattle.edits.specs.declared.fault.EditFault.TheVariants.{EqualNames, Input, GainRange, Mono, Joint, TagTooLarge, BadTag, NoUndo, BadUndo, UndoRange, OutputTooLong, Range, Differ, SheetTooLarge, Sheet, Write, Sent as NotSent, Memory as OutOfMemory}
 
 abbrev pub status_by : Why → ℕ
 status_by Refused = 1
@@ -43,11 +46,14 @@ input_text (Shrunk first second) = codes ": shrunk from " ++ decimal first ++ co
 input_text Read = codes ": read fault\n"
 input_text Memory = []
 
--- the name at a place, counted from 0
-abbrev pub name_in : List (List ℕ) → ℕ → List ℕ
-name_in names place = slice_index_or names place []
+-- the line of a fault of a cue sheet, behind its name
+abbrev pub sheet_text : CueFault → List ℕ
+sheet_text (Line number) = codes ": bad line " ++ decimal number ++ codes "\n"
+sheet_text (NotRising number) = codes ": not rising at line " ++ decimal number ++ codes "\n"
+sheet_text NoTracks = codes ": no tracks\n"
+sheet_text NoSheetMemory = []
 
--- the line of a fault, by the names of the inputs and of the outputs
+-- the line of a fault, by the names of the inputs and of the outputs; a cue sheet is input 1
 unfoldable pub fault_line : EditFault → List (List ℕ) → List (List ℕ) → List ℕ
 fault_line (EqualNames place) inputs outputs = name_in inputs place ++ codes ": input is an output\n"
 fault_line (Input place fault) inputs outputs = name_in inputs place ++ input_text fault
@@ -63,13 +69,17 @@ fault_line (BadUndo offset) inputs outputs = codes "bad undo item at " ++ decima
 fault_line (UndoRange sum) inputs outputs = codes "undo sum " ++ signed_decimal sum ++ codes " is out of range\n"
 fault_line (OutputTooLong length) inputs outputs = codes "output too long, " ++ decimal length ++ codes " bytes\n"
 fault_line (Range from to frames) inputs outputs = codes "range " ++ decimal from ++ codes " to " ++ decimal to ++ codes " of " ++ decimal frames ++ codes " frames\n"
+fault_line (Differ place) inputs outputs = name_in inputs place ++ codes ": other class than the first input\n"
+fault_line (SheetTooLarge size) inputs outputs = name_in inputs 1 ++ (codes ": sheet too large, " ++ decimal size ++ codes " bytes\n")
+fault_line (Sheet fault) inputs outputs = name_in inputs 1 ++ sheet_text fault
 fault_line (Write place) inputs outputs = name_in outputs place ++ codes ": write fault\n"
 fault_line NotSent inputs outputs = codes "standard output: write fault\n"
 fault_line OutOfMemory inputs outputs = codes "out of memory\n"
 
--- want of memory is a fault of its own, and none of an input
+-- want of memory is a fault of its own, and none of an input or a cue sheet
 abbrev pub HasLine : EditFault → Type 0
 HasLine (Input place fault) = fault ≢ Memory
+HasLine (Sheet fault) = fault ≢ NoSheetMemory
 HasLine _ = Unit {0}
 
 -- the line of a bad word, by its place counted from 1
@@ -93,10 +103,16 @@ help_text =
     ++ (codes "                         FROM, TO: a frame's number from 0, a time (M.S or M.S.H) or EOF\n"
     ++ (codes "                         --least: each frame with the least bit rate that has room for it\n"
     ++ (codes "  pack IN OUT            write all frames of IN to OUT, each with the least bit rate that has room for it\n"
+    ++ (codes "  split IN PREFIX P1 P2 [P3 to P100]\n"
+    ++ (codes "                         write the frames of IN from P1 on and before P2 to PREFIX01.mp3, those from P2 on and\n"
+    ++ (codes "                         before P3 to PREFIX02.mp3, and so on; places as FROM and TO of cut\n"
+    ++ (codes "  split IN PREFIX -c CUE the same at the starts of the tracks in the cue sheet CUE, the last to the end of IN\n"
+    ++ (codes "  join OUT IN1 [IN2 to IN64]\n"
+    ++ (codes "                         write the frames of IN1 to IN64, one file after another, to OUT\n"
     ++ (codes "  --help, -h             say this\n"
     ++ (codes "  --version              say which version this is\n"
     ++ (codes "status: 0 done; 1 refused; 2 bad word; 3 a file is absent, or reading or writing failed;\n"
-    ++ codes "        4 out of memory\n"))))))))))))))))
+    ++ codes "        4 out of memory\n"))))))))))))))))))))))
 
 -- the program's name and version
 unfoldable pub version_text : List ℕ

@@ -2,11 +2,13 @@
 #![tactic(auto)]
 
 mod jobs;
+mod output_names;
 mod program;
 mod texts;
 mod words;
 
 pub use jobs::Job;
+pub use output_names::Outputs;
 pub use program::run;
 pub use texts::{send_bad_word, send_fault, status};
 pub use words::job;

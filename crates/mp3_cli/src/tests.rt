@@ -2,7 +2,8 @@
 ghost use Rattle.mp3_cli.specs.Texts.{HasLine};
 
 use super::*;
-use cue_sheet::Place;
+use arrayvec::ArrayVec;
+use cue_sheet::{CueFault, Place};
 use edits::{Channels, EditFault, Shift};
 use outside::{MemFolder, MemSink};
 use std::alloc::{AllocError, AllocGlobal, Global};
@@ -228,6 +229,12 @@ const USAGE: &[u8] = b"usage: mp3edit COMMAND
                          FROM, TO: a frame's number from 0, a time (M.S or M.S.H) or EOF
                          --least: each frame with the least bit rate that has room for it
   pack IN OUT            write all frames of IN to OUT, each with the least bit rate that has room for it
+  split IN PREFIX P1 P2 [P3 to P100]
+                         write the frames of IN from P1 on and before P2 to PREFIX01.mp3, those from P2 on and
+                         before P3 to PREFIX02.mp3, and so on; places as FROM and TO of cut
+  split IN PREFIX -c CUE the same at the starts of the tracks in the cue sheet CUE, the last to the end of IN
+  join OUT IN1 [IN2 to IN64]
+                         write the frames of IN1 to IN64, one file after another, to OUT
   --help, -h             say this
   --version              say which version this is
 status: 0 done; 1 refused; 2 bad word; 3 a file is absent, or reading or writing failed;
@@ -258,7 +265,7 @@ fn texts_that_are_said(rt: HostRuntime) -> Result<(), Fail> {
             words.push(String::from_str(rt.alloc(), said.word)?)?;
             let mut folder = MemFolder::new(rt.alloc());
             let mut out = MemSink::new(rt.alloc());
-            out.reserve(2000)?;
+            out.reserve(3000)?;
             if failing {
                 out.fail(1)?;
             }
@@ -314,6 +321,108 @@ fn words_of_cuts(rt: HostRuntime) -> Result<(), Fail> {
     assert_eq!(rt; read(alloc, &["cut", "a", "0", "1.60", "b"])?, Err(4));
     assert_eq!(rt; read(alloc, &["cut", "--least", "a", "0", "b"])?, Err(5));
     assert_eq!(rt; read(alloc, &["pack", "a"])?, Err(3));
+    Ok(())
+}
+
+/// The words of a split of `a` with the prefix `p` at the places from 0 on, so many.
+fn split_words(alloc: Global, count: u32) -> Result<Vec<String>, AllocError> {
+    let mut words = Vec::new(alloc);
+    for word in ["split", "a", "p"] {
+        words.push(String::from_str(alloc, word)?)?;
+    }
+    for number in 0..count {
+        words.push(format!(in alloc; "{number}")?)?;
+    }
+    Ok(words)
+}
+
+/// The words of a join of so many times `a` to `o`.
+fn join_words(alloc: Global, count: u32) -> Result<Vec<String>, AllocError> {
+    let mut words = Vec::new(alloc);
+    for word in ["join", "o"] {
+        words.push(String::from_str(alloc, word)?)?;
+    }
+    for _ in 0..count {
+        words.push(String::from_str(alloc, "a")?)?;
+    }
+    Ok(words)
+}
+
+#[test]
+fn words_of_splits(rt: HostRuntime) -> Result<(), Fail> {
+    let alloc = rt.alloc();
+    let mut places = ArrayVec::new();
+    places.push(Place::Time(0, 100));
+    places.push(Place::Frame(7));
+    places.push(Place::End);
+    assert_eq!(rt;
+        read(alloc, &["split", "a", "p", "0.0", "7", "EOF"])?,
+        Ok(Job::SplitAt {
+            input: 2,
+            prefix: 3,
+            places
+        })
+    );
+    assert_eq!(rt;
+        read(alloc, &["split", "a", "p", "-c", "s"])?,
+        Ok(Job::SplitBy {
+            input: 2,
+            prefix: 3,
+            sheet: 5
+        })
+    );
+    assert_eq!(rt; read(alloc, &["split"])?, Err(2));
+    assert_eq!(rt; read(alloc, &["split", "a", "-p", "0", "1"])?, Err(3));
+    assert_eq!(rt; read(alloc, &["split", "a", "p"])?, Err(4));
+    assert_eq!(rt; read(alloc, &["split", "a", "p", "0"])?, Err(5));
+    assert_eq!(rt; read(alloc, &["split", "a", "p", "0", "x"])?, Err(5));
+    assert_eq!(rt; read(alloc, &["split", "a", "p", "0", "1", "-c"])?, Err(6));
+    assert_eq!(rt; read(alloc, &["split", "a", "p", "-c"])?, Err(5));
+    assert_eq!(rt; read(alloc, &["split", "a", "p", "-c", "-s"])?, Err(5));
+    assert_eq!(rt; read(alloc, &["split", "a", "p", "-c", "s", "t"])?, Err(6));
+    Ok(())
+}
+
+#[test]
+fn words_of_many_places(rt: HostRuntime) -> Result<(), Fail> {
+    let alloc = rt.alloc();
+    let mut places = ArrayVec::new();
+    for number in 0..100 {
+        assert!(rt; places.try_push(Place::Frame(number)).is_ok());
+    }
+    let most = split_words(alloc, 100)?;
+    assert_eq!(rt;
+        job(&most),
+        Ok(Job::SplitAt {
+            input: 2,
+            prefix: 3,
+            places
+        })
+    );
+    let one_more = split_words(alloc, 101)?;
+    assert_eq!(rt; job(&one_more), Err(104));
+    Ok(())
+}
+
+#[test]
+fn words_of_joins(rt: HostRuntime) -> Result<(), Fail> {
+    let alloc = rt.alloc();
+    for count in [1, 2, 64] {
+        let words = join_words(alloc, count)?;
+        assert_eq!(rt;
+            job(&words),
+            Ok(Job::Join {
+                output: 2,
+                first: 3,
+                count
+            })
+        );
+    }
+    let one_more = join_words(alloc, 65)?;
+    assert_eq!(rt; job(&one_more), Err(67));
+    assert_eq!(rt; read(alloc, &["join"])?, Err(2));
+    assert_eq!(rt; read(alloc, &["join", "o"])?, Err(3));
+    assert_eq!(rt; read(alloc, &["join", "o", "a", "-b"])?, Err(4));
     Ok(())
 }
 
@@ -504,6 +613,40 @@ static LINES: [Line; 15] = [
     },
 ];
 
+/// Those of commands with several files.
+static SEVERAL_LINES: [Line; 6] = [
+    Line {
+        fault: EditFault::Differ(1),
+        status: 1,
+        line: b"c.mp3: other class than the first input\n",
+    },
+    Line {
+        fault: EditFault::SheetTooLarge(65_537),
+        status: 1,
+        line: b"c.mp3: sheet too large, 65537 bytes\n",
+    },
+    Line {
+        fault: EditFault::Sheet(CueFault::Line(12)),
+        status: 1,
+        line: b"c.mp3: bad line 12\n",
+    },
+    Line {
+        fault: EditFault::Sheet(CueFault::NotRising(9)),
+        status: 1,
+        line: b"c.mp3: not rising at line 9\n",
+    },
+    Line {
+        fault: EditFault::Sheet(CueFault::NoTracks),
+        status: 1,
+        line: b"c.mp3: no tracks\n",
+    },
+    Line {
+        fault: EditFault::EqualNames(1),
+        status: 1,
+        line: b"c.mp3: input is an output\n",
+    },
+];
+
 /// The status of the fault, and its line.
 fn expect_line<R: Abort + AllocGlobal>(rt: &R, case: &Line) -> Result<(), AllocError>
     requires { HasLine case.now.fault }
@@ -511,7 +654,12 @@ fn expect_line<R: Abort + AllocGlobal>(rt: &R, case: &Line) -> Result<(), AllocE
     assert_eq!(rt; status(&case.fault), case.status);
     let mut err = MemSink::new(rt.alloc());
     err.reserve(100)?;
-    send_fault(&mut err, &case.fault, &["a.mp3"], &["b.mp3"]);
+    send_fault(
+        &mut err,
+        &case.fault,
+        &["a.mp3", "c.mp3"],
+        &Outputs::One("b.mp3"),
+    );
     assert_eq!(rt; err.sent(), case.line);
     Ok(())
 }
@@ -533,6 +681,33 @@ fn lines(rt: HostRuntime) -> Result<(), Fail> {
 }
 
 #[test]
+fn lines_of_several_files(rt: HostRuntime) -> Result<(), Fail> {
+    for case in &SEVERAL_LINES {
+        expect_line(&rt, case)?;
+    }
+    Ok(())
+}
+
+// Pieces are counted from 1, and an output that isn't one of them has no name.
+#[test]
+fn lines_of_pieces(rt: HostRuntime) -> Result<(), Fail> {
+    let lines: [(u32, &[u8]); 4] = [
+        (0, b"p01.mp3: write fault\n"),
+        (9, b"p10.mp3: write fault\n"),
+        (98, b"p99.mp3: write fault\n"),
+        (99, b": write fault\n"),
+    ];
+    for (place, line) in lines {
+        let mut err = MemSink::new(rt.alloc());
+        err.reserve(100)?;
+        let fault = EditFault::Write(place);
+        send_fault(&mut err, &fault, &["a.mp3"], &Outputs::Pieces("p"));
+        assert_eq!(rt; err.sent(), line);
+    }
+    Ok(())
+}
+
+#[test]
 fn the_line_of_a_bad_word(rt: HostRuntime) -> Result<(), Fail> {
     let mut err = MemSink::new(rt.alloc());
     err.reserve(100)?;
@@ -547,7 +722,7 @@ fn a_line_stops_where_a_write_fails(rt: HostRuntime) -> Result<(), Fail> {
     err.reserve(100)?;
     err.fail(2)?;
     let fault = EditFault::Input(0, SurveyFault::Overlap(7));
-    send_fault(&mut err, &fault, &["a.mp3"], &["b.mp3"]);
+    send_fault(&mut err, &fault, &["a.mp3"], &Outputs::One("b.mp3"));
     assert_eq!(rt; err.sent(), b"a.mp3".as_slice());
     Ok(())
 }

@@ -1,10 +1,13 @@
 //! The statuses that the program ends with, and the lines that it writes of faults.
 ghost use Rattle.std.specs.Prelude.{◌≡◌, ◌≢◌, ◌≤◌, OnOk, OnErr, IfErr, map, ◌%◌, [], ◌∷◌, ◌++◌, decimal, flat_map};
-ghost use Rattle.mp3_cli.specs.Texts.{status_of, hex_digit as hex_digit_lem, input_text, name_in as name_in_lem, fault_line, bad_word_line, help_text, version_text, HasLine, GotWhole, GotFront, GotLine};
+ghost use Rattle.mp3_cli.specs.Texts.{status_of, hex_digit as hex_digit_lem, input_text, sheet_text, fault_line, bad_word_line, help_text, version_text, HasLine, GotWhole, GotFront, GotLine};
+ghost use Rattle.mp3_cli.specs.Names.{name_in as name_in_lem, names_in};
 ghost use Rattle.mp3_cli.specs.Run.{said_command};
 ghost use Rattle.outside.specs.Files.{Files};
 ghost use Rattle.edits.specs.Said.{heard, Says, fault_of};
 
+use crate::output_names::Outputs;
+use cue_sheet::CueFault;
 use edits::EditFault;
 use itoa::Buffer;
 use outside::{Failed, Sink, send_all};
@@ -37,7 +40,10 @@ pub fn status(fault: &EditFault) -> u8
         | EditFault::BadUndo(_)
         | EditFault::UndoRange(_)
         | EditFault::OutputTooLong(_)
-        | EditFault::Range(..) => 1,
+        | EditFault::Range(..)
+        | EditFault::Differ(_)
+        | EditFault::SheetTooLarge(_)
+        | EditFault::Sheet(_) => 1,
         EditFault::Input(_, fault) => input_status(fault),
         EditFault::Write(_) | EditFault::Sent => 3,
         EditFault::Memory => 4,
@@ -64,7 +70,7 @@ fn send_pieces<E: Sink>(err: &mut E, pieces: &[&str])
 }
 
 /// What the program does, form by form, and the statuses.
-static HELP: [&str; 18] = [
+static HELP: [&str; 24] = [
     "usage: mp3edit COMMAND\n",
     "  list IN                say what stands in the MP3 file IN: tags, junk, head and frames\n",
     "  gain [-s s] [-w] -g N IN OUT\n",
@@ -79,6 +85,12 @@ static HELP: [&str; 18] = [
     "                         FROM, TO: a frame's number from 0, a time (M.S or M.S.H) or EOF\n",
     "                         --least: each frame with the least bit rate that has room for it\n",
     "  pack IN OUT            write all frames of IN to OUT, each with the least bit rate that has room for it\n",
+    "  split IN PREFIX P1 P2 [P3 to P100]\n",
+    "                         write the frames of IN from P1 on and before P2 to PREFIX01.mp3, those from P2 on and\n",
+    "                         before P3 to PREFIX02.mp3, and so on; places as FROM and TO of cut\n",
+    "  split IN PREFIX -c CUE the same at the starts of the tracks in the cue sheet CUE, the last to the end of IN\n",
+    "  join OUT IN1 [IN2 to IN64]\n",
+    "                         write the frames of IN1 to IN64, one file after another, to OUT\n",
     "  --help, -h             say this\n",
     "  --version              say which version this is\n",
     "status: 0 done; 1 refused; 2 bad word; 3 a file is absent, or reading or writing failed;\n",
@@ -295,6 +307,24 @@ fn send_input_fault<E: Sink>(err: &mut E, fault: &SurveyFault, input: &str)
     }
 }
 
+/// Sends the line of a fault of a cue sheet.
+fn send_sheet_fault<E: Sink>(err: &mut E, fault: &CueFault, sheet: &str)
+    requires { fault.now ≢ CueFault.Memory }
+    ensures { GotLine (E.sent err.old) (E.sent err.new) (E.faults err.old) (E.faults err.new) (sheet.now ++ sheet_text fault.now) }
+{
+    match *fault {
+        // Not a sheet's fault, so it never comes here.
+        CueFault::Memory => {}
+        CueFault::NoTracks => send_pieces(err, &[sheet, ": no tracks\n"]),
+        CueFault::Line(number) => {
+            send_number(err, sheet, ": bad line ", u64::from(number), "\n");
+        }
+        CueFault::NotRising(number) => {
+            send_number(err, sheet, ": not rising at line ", u64::from(number), "\n");
+        }
+    }
+}
+
 /// The name at a place, counted from 0.
 fn name_in<'a>(names: &[&'a str], place: u32) -> &'a str
     ensures { result.now ≡ name_in_lem (map (λ name. name.now) names.now) place }
@@ -302,11 +332,22 @@ fn name_in<'a>(names: &[&'a str], place: u32) -> &'a str
     names.get(place as usize).copied().unwrap_or("")
 }
 
+/// Sends the line of a failed write to the output at a place, counted from 0.
+fn send_write_fault<E: Sink>(err: &mut E, outputs: &Outputs, place: u32)
+    ensures { GotLine (E.sent err.old) (E.sent err.new) (E.faults err.old) (E.faults err.new) (fault_line (EditFault.Write place) [] (names_in outputs.now)) }
+{
+    send_pieces(err, &outputs.named(place, ": write fault\n"));
+}
+
+/// The place of the cue sheet among the inputs.
+const SHEET: u32 = 1;
+
 /// Sends the line of a fault, by the names of the inputs and of the outputs, without taking memory.
 /// It stops at the first write that fails, and such a failure is not answered.
 ///
-/// NAME is that of the input or, for Write, of the output whose place the fault has. O is an offset, N a number of bytes,
-/// and S a number of steps with `-` before it where it is negative.
+/// NAME is that of the input or, for Write, of the output whose place the fault has; for SheetTooLarge and the faults of a
+/// cue sheet, Line, NotRising and NoTracks, it is that of input 1. O is an offset, N a number of bytes or frames, L a line's
+/// number from 1, and S a number of steps with `-` before it where it is negative.
 ///
 /// | fault | line |
 /// |---|---|
@@ -335,12 +376,17 @@ fn name_in<'a>(names: &[&'a str], place: u32) -> &'a str
 /// | UndoRange(S) | `undo sum S is out of range` |
 /// | OutputTooLong(N) | `output too long, N bytes` |
 /// | Range(F, T, N) | `range F to T of N frames` |
+/// | Differ | `NAME: other class than the first input` |
+/// | SheetTooLarge(N) | `NAME: sheet too large, N bytes` |
+/// | Line(L) | `NAME: bad line L` |
+/// | NotRising(L) | `NAME: not rising at line L` |
+/// | NoTracks | `NAME: no tracks` |
 /// | Write | `NAME: write fault` |
 /// | Sent | `standard output: write fault` |
 /// | Memory | `out of memory` |
-pub fn send_fault<E: Sink>(err: &mut E, fault: &EditFault, inputs: &[&str], outputs: &[&str])
+pub fn send_fault<E: Sink>(err: &mut E, fault: &EditFault, inputs: &[&str], outputs: &Outputs)
     requires { HasLine fault.now }
-    ensures { GotLine (E.sent err.old) (E.sent err.new) (E.faults err.old) (E.faults err.new) (fault_line fault.now (map (λ name. name.now) inputs.now) (map (λ name. name.now) outputs.now)) }
+    ensures { GotLine (E.sent err.old) (E.sent err.new) (E.faults err.old) (E.faults err.new) (fault_line fault.now (map (λ name. name.now) inputs.now) (names_in outputs.now)) }
 {
     match *fault {
         EditFault::EqualNames(place) => {
@@ -361,9 +407,16 @@ pub fn send_fault<E: Sink>(err: &mut E, fault: &EditFault, inputs: &[&str], outp
             send_number(err, "", "output too long, ", length, " bytes\n");
         }
         EditFault::Range(from, to, frames) => send_range(err, from, to, frames),
-        EditFault::Write(place) => {
-            send_pieces(err, &[name_in(outputs, place), ": write fault\n"]);
+        EditFault::Differ(place) => {
+            let name = name_in(inputs, place);
+            send_pieces(err, &[name, ": other class than the first input\n"]);
         }
+        EditFault::SheetTooLarge(size) => {
+            let name = name_in(inputs, SHEET);
+            send_number(err, name, ": sheet too large, ", size, " bytes\n");
+        }
+        EditFault::Sheet(fault) => send_sheet_fault(err, &fault, name_in(inputs, SHEET)),
+        EditFault::Write(place) => send_write_fault(err, outputs, place),
         EditFault::Sent => send_pieces(err, &["standard output: write fault\n"]),
         EditFault::Memory => send_pieces(err, &["out of memory\n"]),
     }

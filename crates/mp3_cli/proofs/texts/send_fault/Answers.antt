@@ -54,9 +54,21 @@ pub returns-in-Range : goal.returns-in-Range
 unfolding fault_line
 returns-in-Range g c = line_is _ _ _ _ _ _ (rw c.in-Range.is refl) c.send_range.ensures
 
+pub returns-in-Differ : goal.returns-in-Differ
+unfolding fault_line
+returns-in-Differ g c = line_is _ _ _ _ _ _ (rw (c.in-Differ.is, c.name_in-name.ensures) refl) c.send_pieces-in-Differ.ensures
+
+pub returns-in-SheetTooLarge : goal.returns-in-SheetTooLarge
+unfolding fault_line
+returns-in-SheetTooLarge g c = line_is _ _ _ _ _ _ (rw (c.in-SheetTooLarge.is, c.name_in-name-in-SheetTooLarge.ensures) refl) c.send_number-in-SheetTooLarge.ensures
+
+pub returns-in-Sheet : goal.returns-in-Sheet
+unfolding fault_line
+returns-in-Sheet g c = line_is _ _ _ _ _ _ (rw (c.in-Sheet.is, c.name_in-in-Sheet.ensures) refl) c.send_sheet_fault.ensures
+
 pub returns-in-Write : goal.returns-in-Write
 unfolding fault_line
-returns-in-Write g c = line_is _ _ _ _ _ _ (rw (c.in-Write.is, c.name_in-in-Write.ensures) refl) c.send_pieces-in-Write.ensures
+returns-in-Write g c = line_is _ _ _ _ _ _ (rw c.in-Write.is refl) c.send_write_fault.ensures
 
 pub returns-in-Sent : goal.returns-in-Sent
 unfolding fault_line

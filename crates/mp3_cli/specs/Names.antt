@@ -1,0 +1,14 @@
+-- The names of a command's files, by their places.
+use Rattle.std.specs.Prelude.{ℕ, List, [], ◌∷◌, slice_index_or}
+use Rattle.splitting.specs.Split.{piece_names}
+use Rattle.mp3_cli.specs.declared.output_names.Outputs.{Outputs}
+use Rattle.mp3_cli.specs.declared.output_names.Outputs.TheVariants.{None, One, Pieces}
+
+-- the name at a place, counted from 0
+abbrev pub name_in : List (List ℕ) → ℕ → List ℕ
+name_in names place = slice_index_or names place []
+
+abbrev pub names_in : Outputs → List (List ℕ)
+names_in None = []
+names_in (One name) = name.now ∷ []
+names_in (Pieces prefix) = piece_names prefix.now
