@@ -1,5 +1,5 @@
 -- What `run` promises, from the answer of a command.
-use Rattle.std.proofs.Common.{◌≡◌, ◌≢◌, ◌↔◌, ◌⊎◌, ℕ, ◌≤◌, Bool, true, false, List, [], Option, Some, None, Result, Ok, Err, refl, sym, ◌∙◌, ap, subst, inl, inr, arith}
+use Rattle.std.proofs.Common.{◌≡◌, ◌≢◌, ◌↔◌, ◌⊎◌, ℕ, ◌≤◌, Bool, true, false, List, [], ◌∷◌, length, Option, Some, None, Result, Ok, Err, refl, sym, ◌∙◌, ap, subst, inl, inr, arith}
 use Rattle.std.proofs.Math.Seq.{take-nil}
 use Rattle.std.proofs.lemmas.Slice.Eq.{bytes_eq-Decides}
 use Rattle.std.specs.Prelude.{IfSome, IfErr, IsErrOf, OnOk, bytes_eq}
@@ -7,10 +7,18 @@ use Rattle.outside.specs.Files.{Contents, Files, untold, Sent, sent_more}
 use Rattle.outside.specs.Counts.{Rose}
 use Rattle.outside.proofs.FilesLaws.{sent_nothing}
 use Rattle.edits.specs.declared.fault.EditFault.{EditFault}
-use Rattle.edits.specs.declared.fault.EditFault.TheVariants.{EqualNames, Input, GainRange, Mono, Joint, TagTooLarge, BadTag, NoUndo, BadUndo, UndoRange, OutputTooLong, Range, Write, Sent as NotSent, Memory}
+use Rattle.edits.specs.declared.fault.EditFault.TheVariants.{EqualNames, Input, GainRange, Mono, Joint, TagTooLarge, BadTag, NoUndo, BadUndo, UndoRange, OutputTooLong, Range, Differ, SheetTooLarge, Sheet, Write, Sent as NotSent, Memory}
 use Rattle.edits.specs.Kinds.{InputKind, IsAbsent, IsUnread as NotRead, IsShorter as Shrank, IsTooMuch, IsRefused as AtFault, kind_of, by_kind}
-use Rattle.edits.specs.One.{Making, made_result, made_of, one_command}
-use Rattle.edits.specs.Command.{Made, Command, clash_of, written, Gives, MakesStreams, HoldsStreams}
+use Rattle.edits.specs.One.{Making, most_frames, made_result, made_of, one_command}
+use Rattle.edits.specs.Command.{Made, Command, clash_from, clash_of, written, Gives, MakesStreams, HoldsStreams}
+use Rattle.edits.specs.Choice.{then_made}
+use Rattle.edits.specs.Chosen.{Chosen}
+use Rattle.cue_sheet.specs.declared.place.Place.{Place}
+use Rattle.sync_survey.specs.declared.survey_fault.SurveyFault.{SurveyFault}
+use Rattle.sync_survey.specs.Faults.{SurveyFields}
+use Rattle.sync_survey.specs.Survey.{survey_of}
+use Rattle.splitting.specs.Split.{piece_names, chosen_at, made_of as split_made, made_at, made_by, made_where, unless_equal, made_result as made_result_split, Placing, split_command}
+use Rattle.joining.specs.Join.{parts_of, join_made, join_command}
 use Rattle.sync_survey.specs.MainData.{StreamFrame}
 use Rattle.edits.specs.Said.{Heard, IsText, SaysAll, Says, fault_of}
 use Rattle.edits.specs.Left.{Why, Refused, Missing, Unread, Shorter, Unwritten, Unsent, NoMemory, why_of, Seen, IsDone, IsRefused, LeavesBy, Leaves, HasNumbers}
@@ -54,6 +62,9 @@ module _ (command : Command) (files : Files) (old new : Heard) where
   sent_rose (UndoRange sum) is says = absurd cc
   sent_rose (OutputTooLong length) is says = absurd cc
   sent_rose (Range from to frames) is says = absurd cc
+  sent_rose (Differ place) is says = absurd cc
+  sent_rose (SheetTooLarge size) is says = absurd cc
+  sent_rose (Sheet fault) is says = absurd cc
   sent_rose (Write place) is says = absurd cc
   sent_rose NotSent is says = says.rose
   sent_rose Memory is says = absurd cc
@@ -71,6 +82,9 @@ module _ (command : Command) (files : Files) (old new : Heard) where
   sent_none (UndoRange sum) other says = says
   sent_none (OutputTooLong length) other says = says
   sent_none (Range from to frames) other says = says
+  sent_none (Differ place) other says = says
+  sent_none (SheetTooLarge size) other says = says
+  sent_none (Sheet fault) other says = says
   sent_none (Write place) other says = says
   sent_none NotSent other says = absurd (other refl)
   sent_none Memory other says = says
@@ -288,10 +302,6 @@ abbrev text_in : Result Made EditFault → List ℕ
 text_in (Ok made) = made.text
 text_in (Err fault) = []
 
-silent_made : (output : List ℕ) (r : Result (List ℕ) EditFault) (made : Made) → made_of output r ≡ Ok made → made.text ≡ []
-silent_made output (Ok bytes) made is = sym (ap text_in is)
-silent_made output (Err fault) made is = absurd cc
-
 abbrev ok_made : Made → Result Made EditFault
 ok_made made = Ok made
 
@@ -301,17 +311,21 @@ made_is a b e = cc
 some_is : {A : Type 0} (a b : A) → Some a ≡ Some b → a ≡ b
 some_is a b e = cc
 
--- what a command that makes one file of one makes has no text
-no_text : (make : Making) (stream : List ℕ → List StreamFrame) (input output : List ℕ) (files : Files) (text : List ℕ) → IsText (one_command make stream input output) files text → text ≡ []
-no_text make stream input output files text (inl always) = sym (some_is [] text always)
-no_text make stream input output files text (inr told) = sym told.4 ∙ silent_made output (made_result make input output told.0) told.1 told.3
+-- a command makes no text of any files
+pub record IsSilent (command : Command) : Type 0 where
+  pub always : command.always ≡ Some []
+  pub silent : (f : Contents) (made : Made) → command.makes f ≡ Ok made → made.text ≡ []
 
-module _ (make : Making) (stream : List ℕ → List StreamFrame) (input output : List ℕ) (files : Files) (out : Heard) where
-  says_nothing : SaysAll (one_command make stream input output) files out out
-  says_nothing = record { text = λ text is. sym (ap (sent_more out.sent) (no_text make stream input output files text is) ∙ sent_nothing out.sent); faults = refl }
+module _ (command : Command) (no_text : IsSilent command) (files : Files) (out : Heard) where
+  text_is : (text : List ℕ) → IsText command files text → text ≡ []
+  text_is text (inl always) = some_is text [] (sym always ∙ no_text.always)
+  text_is text (inr told) = sym told.4 ∙ no_text.silent told.0 told.1 told.3
+
+  says_nothing : SaysAll command files out out
+  says_nothing = record { text = λ text is. sym (ap (sent_more out.sent) (text_is text is) ∙ sent_nothing out.sent); faults = refl }
 
   -- so it is silent with every fault that it has
-  says_fault : (fault : EditFault) → HasNumbers (one_command make stream input output) fault → Says (one_command make stream input output) files out out (Some fault)
+  says_fault : (fault : EditFault) → HasNumbers command fault → Says command files out out (Some fault)
   says_fault (EqualNames place) numbers = refl
   says_fault (Input place fault) numbers = refl
   says_fault (GainRange offset granule channel gain) numbers = refl
@@ -324,14 +338,60 @@ module _ (make : Making) (stream : List ℕ → List StreamFrame) (input output 
   says_fault (UndoRange sum) numbers = refl
   says_fault (OutputTooLong length) numbers = refl
   says_fault (Range from to frames) numbers = refl
+  says_fault (Differ place) numbers = refl
+  says_fault (SheetTooLarge size) numbers = refl
+  says_fault (Sheet fault) numbers = refl
   says_fault (Write place) numbers = refl
-  says_fault NotSent numbers = absurd (numbers refl)
+  says_fault NotSent numbers = absurd (numbers no_text.always)
   says_fault Memory numbers = refl
+
+-- the answer of such a command, from what it promises
+pub silent_answers : {T : Type 0} (command : Command) → IsSilent command → (r : Result T EditFault) (old new : Seen) (out err_old err_new : Heard) (status : ℕ)
+    → OnOk r (IsDone command old new) → IfErr r (Leaves command old new) → IfErr r (HasNumbers command)
+    → ((place : ℕ) → clash_of command ≡ Some place → fault_of r ≡ Some (EqualNames place)) → status ≡ fault_status (fault_of r) → GetsLine err_old err_new (line_of command (fault_of r))
+    → Answers command old new out out err_old err_new status
+silent_answers command no_text (Ok x) old new out err_old err_new status done left numbers names status_is line = record {
+  fault = None;
+  status_is = status_is;
+  line = line;
+  says = says_nothing command no_text old.files out;
+  done = λ e. done;
+  left = tt;
+  numbers = tt;
+  names = names;
+}
+silent_answers command no_text (Err fault) old new out err_old err_new status done left numbers names status_is line = record {
+  fault = Some fault;
+  status_is = status_is;
+  line = line;
+  says = says_fault command no_text old.files out fault numbers;
+  done = λ e. absurd cc;
+  left = left;
+  numbers = numbers;
+  names = names;
+}
+
+-- the same of a command of several files
+pub several_answers : {T : Type 0} (command : Command) → IsSilent command → (r : Result T EditFault) (old new : Seen) (out err_old err_new : Heard) (status : ℕ)
+    → OnOk r (IsDone command old new) → IfErr r (Leaves command old new) → IfErr r (HasNumbers command)
+    → ((place : ℕ) → IsErrOf r (EqualNames place) ↔ (clash_of command ≡ Some place)) → status ≡ fault_status (fault_of r) → GetsLine err_old err_new (line_of command (fault_of r))
+    → Answers command old new out out err_old err_new status
+several_answers command no_text r old new out err_old err_new status done left numbers names status_is line =
+    silent_answers command no_text r old new out err_old err_new status done left numbers (λ place clash. ap fault_of ((names place).1 clash)) status_is line
+
+-- ---- a command that makes one file of one
 
 none_some : (place : ℕ) → None ≡ Some place → ⊥
 none_some place e = absurd cc
 
 module _ (make : Making) (stream : List ℕ → List StreamFrame) (input output : List ℕ) where
+  silent_made : (r : Result (List ℕ) EditFault) (made : Made) → made_of output r ≡ Ok made → made.text ≡ []
+  silent_made (Ok bytes) made is = sym (ap text_in is)
+  silent_made (Err fault) made is = absurd cc
+
+  one_silent : IsSilent (one_command make stream input output)
+  one_silent = record { always = refl; silent = λ f made is. silent_made (made_result make input output f) made is }
+
   -- the fault is that of equal names where they are
   names_told : {T : Type 0} (r : Result T EditFault) → (IsErrOf r (EqualNames 0) ↔ (input ≡ output)) → (place : ℕ) → clash_of (one_command make stream input output) ≡ Some place → fault_of r ≡ Some (EqualNames place)
   names_told r both place clash =
@@ -345,31 +405,52 @@ module _ (make : Making) (stream : List ℕ → List StreamFrame) (input output 
             absurd (none_some place (sym none ∙ clash))
       ] refl
 
-  -- the answer of such a command, from what it promises
   pub one_answers : {T : Type 0} (r : Result T EditFault) (old new : Seen) (out err_old err_new : Heard) (status : ℕ)
       → OnOk r (IsDone (one_command make stream input output) old new) → IfErr r (Leaves (one_command make stream input output) old new) → IfErr r (HasNumbers (one_command make stream input output))
       → (IsErrOf r (EqualNames 0) ↔ (input ≡ output)) → status ≡ fault_status (fault_of r) → GetsLine err_old err_new (line_of (one_command make stream input output) (fault_of r))
       → Answers (one_command make stream input output) old new out out err_old err_new status
-  one_answers (Ok x) old new out err_old err_new status done left numbers both status_is line = record {
-    fault = None;
-    status_is = status_is;
-    line = line;
-    says = says_nothing make stream input output old.files out;
-    done = λ e. done;
-    left = tt;
-    numbers = tt;
-    names = names_told (Ok x) both;
+  one_answers r old new out err_old err_new status done left numbers both status_is line =
+      silent_answers (one_command make stream input output) one_silent r old new out err_old err_new status done left numbers (names_told r both) status_is line
+
+-- ---- a command that cuts a file, and one that joins files
+
+module _ (prefix : List ℕ) where
+  cut_silent : (file : List ℕ) (s : SurveyFields) (r : Result (List Chosen) EditFault) (made : Made) → then_made r (split_made prefix file s) ≡ Ok made → made.text ≡ []
+  cut_silent file s (Ok chosen) made is = sym (ap text_in is)
+  cut_silent file s (Err fault) made is = absurd cc
+
+  placed_silent : (file : List ℕ) (s : SurveyFields) (r : Result (List Place) EditFault) (made : Made) → then_made r (made_at prefix file s) ≡ Ok made → made.text ≡ []
+  placed_silent file s (Ok places) made is = cut_silent file s (chosen_at s.class (length s.frames) places) made is
+  placed_silent file s (Err fault) made is = absurd cc
+
+  surveyed_silent : (places : Result (List Place) EditFault) (file : List ℕ) (r : Result SurveyFields SurveyFault) (made : Made) → made_by prefix places file r ≡ Ok made → made.text ≡ []
+  surveyed_silent places file (Ok s) made is = placed_silent file s places made is
+  surveyed_silent places file (Err fault) made is = absurd cc
+
+  there_silent : (places : Result (List Place) EditFault) (o : Option (List ℕ)) (made : Made) → made_where prefix places o ≡ Ok made → made.text ≡ []
+  there_silent places None made is = absurd cc
+  there_silent places (Some file) made is = surveyed_silent places file (survey_of file most_frames) made is
+
+  named_silent : (clash : Option ℕ) (places : Result (List Place) EditFault) (o : Option (List ℕ)) (made : Made) → unless_equal clash (made_where prefix places o) ≡ Ok made → made.text ≡ []
+  named_silent (Some place) places o made is = absurd cc
+  named_silent None places o made is = there_silent places o made is
+
+  pub split_silent : (placing : Placing) (more : List (List ℕ)) (input : List ℕ) → IsSilent (split_command placing more input prefix)
+  unfolding made_result_split
+  split_silent placing more input = record {
+    always = refl;
+    silent = λ f made is. named_silent (clash_from (piece_names prefix) 0 (input ∷ more)) (placing f) (f input) made is;
   }
-  one_answers (Err fault) old new out err_old err_new status done left numbers both status_is line = record {
-    fault = Some fault;
-    status_is = status_is;
-    line = line;
-    says = says_fault make stream input output old.files out fault numbers;
-    done = λ e. absurd cc;
-    left = left;
-    numbers = numbers;
-    names = names_told (Err fault) both;
-  }
+
+pub join_silent : (output : List ℕ) (inputs : List (List ℕ)) → IsSilent (join_command output inputs)
+join_silent output inputs = record {
+  always = refl;
+  silent = λ f made is.
+      elim (clash_from (output ∷ []) 0 inputs) as (λ clash. join_made output clash (parts_of f inputs) ≡ Ok made → made.text ≡ []) [
+        | Some place ↦ λ is'. absurd cc
+        | None ↦ elim (parts_of f inputs) as (λ parts. join_made output None parts ≡ Ok made → made.text ≡ []) [ Ok parts ↦ λ is'. sym (ap text_in is') | Err fault ↦ λ is'. absurd cc ]
+      ] is;
+}
 
 -- ---- a text that is said
 

@@ -10,9 +10,11 @@ use Rattle.edits.specs.Gain.{gain_command}
 use Rattle.edits.specs.Undo.{undo_command}
 use Rattle.edits.specs.Chosen.{cut_command, pack_command}
 use Rattle.edits.specs.Listing.{list_command}
+use Rattle.splitting.specs.Split.{split_at_command, split_by_command}
+use Rattle.joining.specs.Join.{join_command}
 use Rattle.mp3_cli.specs.declared.jobs.Job.{Job}
-use Rattle.mp3_cli.specs.declared.jobs.Job.TheVariants.{Help, Version, List as ListFile, Gain, Undo, Cut, Pack}
-use Rattle.mp3_cli.specs.Words.{word_at, job_of}
+use Rattle.mp3_cli.specs.declared.jobs.Job.TheVariants.{Help, Version, List as ListFile, Gain, Undo, Cut, Pack, SplitAt, SplitBy, Join}
+use Rattle.mp3_cli.specs.Words.{word_at, words_from, job_of}
 use Rattle.mp3_cli.specs.Texts.{status_of, fault_line, bad_word_line, help_text, version_text, GotLine}
 
 -- a text, whatever the files are
@@ -35,6 +37,9 @@ command_of words (Gain shift tags input output) = gain_command shift tags (word_
 command_of words (Undo input output) = undo_command (word_at words input) (word_at words output)
 command_of words (Cut from to least input output) = cut_command from to least (word_at words input) (word_at words output)
 command_of words (Pack input output) = pack_command (word_at words input) (word_at words output)
+command_of words (SplitAt input prefix places) = split_at_command places.items (word_at words input) (word_at words prefix)
+command_of words (SplitBy input prefix sheet) = split_by_command (word_at words input) (word_at words sheet) (word_at words prefix)
+command_of words (Join output first count) = join_command (word_at words output) (words_from words first count)
 
 -- ---- the answer of a command, whatever its folder tells
 

@@ -6,14 +6,18 @@ ghost use Rattle.edits.specs.Command.{HoldsStreams};
 ghost use Rattle.edits.specs.Left.{seen};
 ghost use Rattle.edits.specs.Said.{heard, fault_of};
 ghost use Rattle.mp3_cli.specs.Words.{job_of, IsSound};
+ghost use Rattle.mp3_cli.specs.Names.{names_in};
 ghost use Rattle.mp3_cli.specs.Texts.{GotLine, HasLine};
 ghost use Rattle.mp3_cli.specs.Run.{command_of, always_of, fault_status, result_line, Answers, AnswersWords, outcome, IsOutcome, IsAccepted, HoldsAllStreams};
 
 use crate::jobs::Job;
+use crate::output_names::Outputs;
 use crate::texts::{say_help, say_version, send_bad_word, send_fault, status};
-use crate::words::{job, word_at};
+use crate::words::{job, names_of, word_at, words_from};
 use edits::{EditFault, cut, gain, list, pack, undo};
+use joining::join;
 use outside::{Folder, Sink};
+use splitting::{split_at, split_by};
 use std::alloc::Global;
 
 /// Reports how a command ended, and answers its status.
@@ -21,11 +25,11 @@ fn report<E: Sink>(
     err: &mut E,
     done: Result<(), EditFault>,
     inputs: &[&str],
-    outputs: &[&str],
+    outputs: &Outputs,
 ) -> u8
     requires { IfErr done HasLine }
     ensures status { result ≡ fault_status (fault_of done) }
-    ensures line { GotLine (E.sent err.old) (E.sent err.new) (E.faults err.old) (E.faults err.new) (result_line (map (λ name. name.now) inputs.now) (map (λ name. name.now) outputs.now) (fault_of done)) }
+    ensures line { GotLine (E.sent err.old) (E.sent err.new) (E.faults err.old) (E.faults err.new) (result_line (map (λ name. name.now) inputs.now) (names_in outputs.now) (fault_of done)) }
 {
     match done {
         Ok(()) => 0,
@@ -54,16 +58,16 @@ fn run_job<D: Folder, T: Sink, E: Sink>(
     match job {
         Job::Help => {
             let done = say_help(out);
-            report(err, done, &[], &[])
+            report(err, done, &[], &Outputs::None)
         }
         Job::Version => {
             let done = say_version(out);
-            report(err, done, &[], &[])
+            report(err, done, &[], &Outputs::None)
         }
         Job::List { input } => {
             let input = word_at(words, input);
             let done = list(alloc, folder, input, out);
-            report(err, done, &[input], &[])
+            report(err, done, &[input], &Outputs::None)
         }
         Job::Gain {
             shift,
@@ -74,13 +78,13 @@ fn run_job<D: Folder, T: Sink, E: Sink>(
             let input = word_at(words, input);
             let output = word_at(words, output);
             let done = gain(alloc, folder, input, output, &shift, tags);
-            report(err, done, &[input], &[output])
+            report(err, done, &[input], &Outputs::One(output))
         }
         Job::Undo { input, output } => {
             let input = word_at(words, input);
             let output = word_at(words, output);
             let done = undo(alloc, folder, input, output);
-            report(err, done, &[input], &[output])
+            report(err, done, &[input], &Outputs::One(output))
         }
         Job::Cut {
             from,
@@ -92,13 +96,45 @@ fn run_job<D: Folder, T: Sink, E: Sink>(
             let input = word_at(words, input);
             let output = word_at(words, output);
             let done = cut(alloc, folder, input, &from, &to, least, output);
-            report(err, done, &[input], &[output])
+            report(err, done, &[input], &Outputs::One(output))
         }
         Job::Pack { input, output } => {
             let input = word_at(words, input);
             let output = word_at(words, output);
             let done = pack(alloc, folder, input, output);
-            report(err, done, &[input], &[output])
+            report(err, done, &[input], &Outputs::One(output))
+        }
+        Job::SplitAt {
+            input,
+            prefix,
+            places,
+        } => {
+            let input = word_at(words, input);
+            let prefix = word_at(words, prefix);
+            let done = split_at(alloc, folder, input, places.as_slice(), prefix);
+            report(err, done, &[input], &Outputs::Pieces(prefix))
+        }
+        Job::SplitBy {
+            input,
+            prefix,
+            sheet,
+        } => {
+            let input = word_at(words, input);
+            let prefix = word_at(words, prefix);
+            let sheet = word_at(words, sheet);
+            let done = split_by(alloc, folder, input, sheet, prefix);
+            report(err, done, &[input, sheet], &Outputs::Pieces(prefix))
+        }
+        Job::Join {
+            output,
+            first,
+            count,
+        } => {
+            let output = word_at(words, output);
+            let inputs = words_from(words, first, count);
+            let done = join(alloc, folder, output, inputs);
+            let names = names_of(inputs);
+            report(err, done, names.as_slice(), &Outputs::One(output))
         }
     }
 }

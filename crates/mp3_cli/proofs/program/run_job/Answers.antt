@@ -1,15 +1,18 @@
 -- The answers of texts that are said, and of commands without a text.
-use Rattle.std.proofs.Common.{◌≢◌, [], map, Some}
+use Rattle.std.proofs.Common.{◌≢◌, ℕ, List, [], ◌∷◌, map, string_bytes, Some, Bor, ap, subst, ◌∙◌}
 use Rattle.edits.specs.Left.{seen}
-use Rattle.edits.specs.Said.{heard}
+use Rattle.edits.specs.Said.{heard, fault_of}
 use Rattle.edits.specs.Gains.{steps_of}
 use Rattle.edits.specs.Change.{changing}
 use Rattle.edits.specs.Streams.{moved_stream_frame, stream_in}
 use Rattle.edits.specs.Gain.{gain_change}
 use Rattle.edits.specs.Undo.{undo_change, steps_back}
 use Rattle.edits.specs.Chosen.{choosing, stream_chosen, cut_choice, pack_choice}
+use Rattle.splitting.specs.Split.{split_at_command, split_by_command, given, told_by}
+use Rattle.joining.specs.Join.{join_command}
 use Rattle.mp3_cli.specs.Texts.{help_text, version_text}
-use Rattle.mp3_cli.proofs.RunLaws.{said_answers, one_answers}
+use Rattle.mp3_cli.specs.Run.{result_line, line_of, GetsLine}
+use Rattle.mp3_cli.proofs.RunLaws.{said_answers, one_answers, several_answers, split_silent, join_silent}
 use Rattle.mp3_cli.proofs.program.run_job.Goals as goal
 
 some_help : Some help_text ≢ Some []
@@ -60,3 +63,31 @@ returns-in-Pack-clause-answers g c =
     (one_answers (choosing pack_choice) (stream_chosen pack_choice) c.word_at-input-in-Pack.result.now c.word_at-output-in-Pack.result.now c.pack-done.result
     (seen (g.D.Folder.files c.args.folder.now) (g.D.Folder.counts c.args.folder.now)) (seen (g.D.Folder.files c.pack-done.new.folder) (g.D.Folder.counts c.pack-done.new.folder))
     _ _ _ _ c.pack-done.ensures.done c.pack-done.ensures.left c.pack-done.ensures.numbers c.pack-done.ensures.names c.report-in-Pack.ensures.status c.report-in-Pack.ensures.line)
+
+pub returns-in-SplitAt-clause-answers : goal.returns-in-SplitAt-clause-answers
+returns-in-SplitAt-clause-answers g c =
+    let command = split_at_command c.as_slice.result.now c.word_at-input-in-SplitAt.result.now c.word_at-prefix.result.now in
+    rw (c.in-SplitAt.is, ← c.word_at-input-in-SplitAt.ensures, ← c.word_at-prefix.ensures, ← c.as_slice.ensures.value)
+    (several_answers command (split_silent c.word_at-prefix.result.now (given c.as_slice.result.now) [] c.word_at-input-in-SplitAt.result.now) c.split_at-done.result
+    (seen (g.D.Folder.files c.args.folder.now) (g.D.Folder.counts c.args.folder.now)) (seen (g.D.Folder.files c.split_at-done.new.folder) (g.D.Folder.counts c.split_at-done.new.folder))
+    _ _ _ _ c.split_at-done.ensures.done c.split_at-done.ensures.left c.split_at-done.ensures.numbers c.split_at-done.ensures.names c.report-in-SplitAt.ensures.status c.report-in-SplitAt.ensures.line)
+
+pub returns-in-SplitBy-clause-answers : goal.returns-in-SplitBy-clause-answers
+returns-in-SplitBy-clause-answers g c =
+    let command = split_by_command c.word_at-input-in-SplitBy.result.now c.word_at-sheet.result.now c.word_at-prefix-in-SplitBy.result.now in
+    rw (c.in-SplitBy.is, ← c.word_at-input-in-SplitBy.ensures, ← c.word_at-prefix-in-SplitBy.ensures, ← c.word_at-sheet.ensures)
+    (several_answers command (split_silent c.word_at-prefix-in-SplitBy.result.now (told_by c.word_at-sheet.result.now) (c.word_at-sheet.result.now ∷ []) c.word_at-input-in-SplitBy.result.now) c.split_by-done.result
+    (seen (g.D.Folder.files c.args.folder.now) (g.D.Folder.counts c.args.folder.now)) (seen (g.D.Folder.files c.split_by-done.new.folder) (g.D.Folder.counts c.split_by-done.new.folder))
+    _ _ _ _ c.split_by-done.ensures.done c.split_by-done.ensures.left c.split_by-done.ensures.numbers c.split_by-done.ensures.names c.report-in-SplitBy.ensures.status c.report-in-SplitBy.ensures.line)
+
+pub returns-in-Join-clause-answers : goal.returns-in-Join-clause-answers
+returns-in-Join-clause-answers g c =
+    let command = join_command c.word_at-output-in-Join.result.now (map string_bytes c.words_from-inputs.result.now) in
+    let names_are = ap (map (λ (name : Bor (List ℕ)). name.now)) c.as_slice-in-Join.ensures.value ∙ c.names_of-names.ensures in
+    let line : GetsLine (heard (g.E.Sink.sent c.args.err.now) (g.E.Sink.faults c.args.err.now)) (heard (g.E.Sink.sent c.report-in-Join.new.err) (g.E.Sink.faults c.report-in-Join.new.err)) (line_of command (fault_of c.join-done.result)) =
+    subst (λ (names : List (List ℕ)). GetsLine (heard (g.E.Sink.sent c.args.err.now) (g.E.Sink.faults c.args.err.now)) (heard (g.E.Sink.sent c.report-in-Join.new.err) (g.E.Sink.faults c.report-in-Join.new.err)) (result_line names (c.word_at-output-in-Join.result.now ∷ []) (fault_of c.join-done.result)))
+    names_are c.report-in-Join.ensures.line in
+    rw (c.in-Join.is, ← c.word_at-output-in-Join.ensures, ← c.words_from-inputs.ensures.words)
+    (several_answers command (join_silent c.word_at-output-in-Join.result.now (map string_bytes c.words_from-inputs.result.now)) c.join-done.result
+    (seen (g.D.Folder.files c.args.folder.now) (g.D.Folder.counts c.args.folder.now)) (seen (g.D.Folder.files c.join-done.new.folder) (g.D.Folder.counts c.join-done.new.folder))
+    _ _ _ _ c.join-done.ensures.done c.join-done.ensures.left c.join-done.ensures.numbers c.join-done.ensures.names c.report-in-Join.ensures.status line)
