@@ -126,4 +126,3 @@ returns-clause-streams g c =
     let some : 1 ≤ length names = omega (arith, c.requires.some, length-map c.args.inputs.now string_bytes) in
     let can = inputs-join old names ss are some (omega (arith, c.requires.few, length-map c.args.inputs.now string_bytes)) in
     on-ok c.write_joined.result (streams-held output names ss none old can are)
-

@@ -59,13 +59,13 @@ lay_input-requires-clause-source g c =
     let inv = c.loop-i.invariant in
     let lengths = sources-length class output first names ss c.requires.sources in
     let next : drop i names ≡ name ∷ drop (i + 1) names =
-        map-next string_bytes c.args.inputs.now i c.index-inputs-i.result (omega (arith, c.loop-i-test.true)) c.index-inputs-i.is ∙ ap (λ n. n ∷ drop (i + 1) names) (sym c.as_str.ensures.value) in
+    map-next string_bytes c.args.inputs.now i c.index-inputs-i.result (omega (arith, c.loop-i-test.true)) c.index-inputs-i.is ∙ ap (λ n. n ∷ drop (i + 1) names) (sym c.as_str.ensures.value) in
     let next_survey : drop i ss ≡ s ∷ drop (i + 1) ss =
-        map-next tells c.args.surveys.now i c.index-surveys-i.result (omega (arith, c.loop-i-test.true, lengths, length-map c.args.inputs.now string_bytes, length-map c.args.surveys.now tells)) c.index-surveys-i.is in
+    map-next tells c.args.surveys.now i c.index-surveys-i.result (omega (arith, c.loop-i-test.true, lengths, length-map c.args.inputs.now string_bytes, length-map c.args.surveys.now tells)) c.index-surveys-i.is in
     let are : AreSources class output first (name ∷ drop (i + 1) names) (s ∷ drop (i + 1) ss) =
-        subst (λ l. AreSources class output first l (s ∷ drop (i + 1) ss)) next (subst (λ l. AreSources class output first (drop i names) l) next_survey (sources-drop class output first i names ss c.requires.sources)) in
+    subst (λ l. AreSources class output first l (s ∷ drop (i + 1) ss)) next (subst (λ l. AreSources class output first (drop i names) l) next_survey (sources-drop class output first i names ss c.requires.sources)) in
     let fits : FitsFrom (window_of class.version) (reach_of c.loop-i.writer.held) (needs_of (rows_of (s ∷ drop (i + 1) ss))) (drop at placed) =
-        subst (λ l. FitsFrom (window_of class.version) (reach_of c.loop-i.writer.held) (needs_of (rows_of l)) (drop at placed)) next_survey inv.fits in
+    subst (λ l. FitsFrom (window_of class.version) (reach_of c.loop-i.writer.held) (needs_of (rows_of l)) (drop at placed)) next_survey inv.fits in
     let sofar = (inv.lays name are.0.apart).lays in
     source-later output first now now name s (drop at placed) c.loop-i.writer c.loop-i.writer are.0 sofar.passed sofar.files
 
@@ -86,13 +86,13 @@ lay_input-requires-clause-target g c =
     let inv = c.loop-i.invariant in
     let lengths = sources-length class output first names ss c.requires.sources in
     let next : drop i names ≡ name ∷ drop (i + 1) names =
-        map-next string_bytes c.args.inputs.now i c.index-inputs-i.result (omega (arith, c.loop-i-test.true)) c.index-inputs-i.is ∙ ap (λ n. n ∷ drop (i + 1) names) (sym c.as_str.ensures.value) in
+    map-next string_bytes c.args.inputs.now i c.index-inputs-i.result (omega (arith, c.loop-i-test.true)) c.index-inputs-i.is ∙ ap (λ n. n ∷ drop (i + 1) names) (sym c.as_str.ensures.value) in
     let next_survey : drop i ss ≡ s ∷ drop (i + 1) ss =
-        map-next tells c.args.surveys.now i c.index-surveys-i.result (omega (arith, c.loop-i-test.true, lengths, length-map c.args.inputs.now string_bytes, length-map c.args.surveys.now tells)) c.index-surveys-i.is in
+    map-next tells c.args.surveys.now i c.index-surveys-i.result (omega (arith, c.loop-i-test.true, lengths, length-map c.args.inputs.now string_bytes, length-map c.args.surveys.now tells)) c.index-surveys-i.is in
     let are : AreSources class output first (name ∷ drop (i + 1) names) (s ∷ drop (i + 1) ss) =
-        subst (λ l. AreSources class output first l (s ∷ drop (i + 1) ss)) next (subst (λ l. AreSources class output first (drop i names) l) next_survey (sources-drop class output first i names ss c.requires.sources)) in
+    subst (λ l. AreSources class output first l (s ∷ drop (i + 1) ss)) next (subst (λ l. AreSources class output first (drop i names) l) next_survey (sources-drop class output first i names ss c.requires.sources)) in
     let fits : FitsFrom (window_of class.version) (reach_of c.loop-i.writer.held) (needs_of (rows_of (s ∷ drop (i + 1) ss))) (drop at placed) =
-        subst (λ l. FitsFrom (window_of class.version) (reach_of c.loop-i.writer.held) (needs_of (rows_of l)) (drop at placed)) next_survey inv.fits in
+    subst (λ l. FitsFrom (window_of class.version) (reach_of c.loop-i.writer.held) (needs_of (rows_of l)) (drop at placed)) next_survey inv.fits in
     let sofar = (inv.lays name are.0.apart).lays in
     appended_is_there first now output sofar.passed output sofar.files c.requires.target
 
@@ -113,13 +113,13 @@ lay_input-requires-clause-class g c =
     let inv = c.loop-i.invariant in
     let lengths = sources-length class output first names ss c.requires.sources in
     let next : drop i names ≡ name ∷ drop (i + 1) names =
-        map-next string_bytes c.args.inputs.now i c.index-inputs-i.result (omega (arith, c.loop-i-test.true)) c.index-inputs-i.is ∙ ap (λ n. n ∷ drop (i + 1) names) (sym c.as_str.ensures.value) in
+    map-next string_bytes c.args.inputs.now i c.index-inputs-i.result (omega (arith, c.loop-i-test.true)) c.index-inputs-i.is ∙ ap (λ n. n ∷ drop (i + 1) names) (sym c.as_str.ensures.value) in
     let next_survey : drop i ss ≡ s ∷ drop (i + 1) ss =
-        map-next tells c.args.surveys.now i c.index-surveys-i.result (omega (arith, c.loop-i-test.true, lengths, length-map c.args.inputs.now string_bytes, length-map c.args.surveys.now tells)) c.index-surveys-i.is in
+    map-next tells c.args.surveys.now i c.index-surveys-i.result (omega (arith, c.loop-i-test.true, lengths, length-map c.args.inputs.now string_bytes, length-map c.args.surveys.now tells)) c.index-surveys-i.is in
     let are : AreSources class output first (name ∷ drop (i + 1) names) (s ∷ drop (i + 1) ss) =
-        subst (λ l. AreSources class output first l (s ∷ drop (i + 1) ss)) next (subst (λ l. AreSources class output first (drop i names) l) next_survey (sources-drop class output first i names ss c.requires.sources)) in
+    subst (λ l. AreSources class output first l (s ∷ drop (i + 1) ss)) next (subst (λ l. AreSources class output first (drop i names) l) next_survey (sources-drop class output first i names ss c.requires.sources)) in
     let fits : FitsFrom (window_of class.version) (reach_of c.loop-i.writer.held) (needs_of (rows_of (s ∷ drop (i + 1) ss))) (drop at placed) =
-        subst (λ l. FitsFrom (window_of class.version) (reach_of c.loop-i.writer.held) (needs_of (rows_of l)) (drop at placed)) next_survey inv.fits in
+    subst (λ l. FitsFrom (window_of class.version) (reach_of c.loop-i.writer.held) (needs_of (rows_of l)) (drop at placed)) next_survey inv.fits in
     let sofar = (inv.lays name are.0.apart).lays in
     inv.class ∙ sym are.1
 
@@ -140,13 +140,13 @@ lay_input-requires-clause-fits g c =
     let inv = c.loop-i.invariant in
     let lengths = sources-length class output first names ss c.requires.sources in
     let next : drop i names ≡ name ∷ drop (i + 1) names =
-        map-next string_bytes c.args.inputs.now i c.index-inputs-i.result (omega (arith, c.loop-i-test.true)) c.index-inputs-i.is ∙ ap (λ n. n ∷ drop (i + 1) names) (sym c.as_str.ensures.value) in
+    map-next string_bytes c.args.inputs.now i c.index-inputs-i.result (omega (arith, c.loop-i-test.true)) c.index-inputs-i.is ∙ ap (λ n. n ∷ drop (i + 1) names) (sym c.as_str.ensures.value) in
     let next_survey : drop i ss ≡ s ∷ drop (i + 1) ss =
-        map-next tells c.args.surveys.now i c.index-surveys-i.result (omega (arith, c.loop-i-test.true, lengths, length-map c.args.inputs.now string_bytes, length-map c.args.surveys.now tells)) c.index-surveys-i.is in
+    map-next tells c.args.surveys.now i c.index-surveys-i.result (omega (arith, c.loop-i-test.true, lengths, length-map c.args.inputs.now string_bytes, length-map c.args.surveys.now tells)) c.index-surveys-i.is in
     let are : AreSources class output first (name ∷ drop (i + 1) names) (s ∷ drop (i + 1) ss) =
-        subst (λ l. AreSources class output first l (s ∷ drop (i + 1) ss)) next (subst (λ l. AreSources class output first (drop i names) l) next_survey (sources-drop class output first i names ss c.requires.sources)) in
+    subst (λ l. AreSources class output first l (s ∷ drop (i + 1) ss)) next (subst (λ l. AreSources class output first (drop i names) l) next_survey (sources-drop class output first i names ss c.requires.sources)) in
     let fits : FitsFrom (window_of class.version) (reach_of c.loop-i.writer.held) (needs_of (rows_of (s ∷ drop (i + 1) ss))) (drop at placed) =
-        subst (λ l. FitsFrom (window_of class.version) (reach_of c.loop-i.writer.held) (needs_of (rows_of l)) (drop at placed)) next_survey inv.fits in
+    subst (λ l. FitsFrom (window_of class.version) (reach_of c.loop-i.writer.held) (needs_of (rows_of l)) (drop at placed)) next_survey inv.fits in
     let sofar = (inv.lays name are.0.apart).lays in
     subst (FitsFrom (window_of s.class.version) (reach_of c.loop-i.writer.held) (map need_of s.frames)) (sym (rest-is placed at)) (fits-input class (reach_of c.loop-i.writer.held) s (drop (i + 1) ss) (drop at placed) are.1 fits).0
 
@@ -167,13 +167,13 @@ returns-in-Err-clause-prefix g c =
     let inv = c.loop-i.invariant in
     let lengths = sources-length class output first names ss c.requires.sources in
     let next : drop i names ≡ name ∷ drop (i + 1) names =
-        map-next string_bytes c.args.inputs.now i c.index-inputs-i.result (omega (arith, c.loop-i-test.true)) c.index-inputs-i.is ∙ ap (λ n. n ∷ drop (i + 1) names) (sym c.as_str.ensures.value) in
+    map-next string_bytes c.args.inputs.now i c.index-inputs-i.result (omega (arith, c.loop-i-test.true)) c.index-inputs-i.is ∙ ap (λ n. n ∷ drop (i + 1) names) (sym c.as_str.ensures.value) in
     let next_survey : drop i ss ≡ s ∷ drop (i + 1) ss =
-        map-next tells c.args.surveys.now i c.index-surveys-i.result (omega (arith, c.loop-i-test.true, lengths, length-map c.args.inputs.now string_bytes, length-map c.args.surveys.now tells)) c.index-surveys-i.is in
+    map-next tells c.args.surveys.now i c.index-surveys-i.result (omega (arith, c.loop-i-test.true, lengths, length-map c.args.inputs.now string_bytes, length-map c.args.surveys.now tells)) c.index-surveys-i.is in
     let are : AreSources class output first (name ∷ drop (i + 1) names) (s ∷ drop (i + 1) ss) =
-        subst (λ l. AreSources class output first l (s ∷ drop (i + 1) ss)) next (subst (λ l. AreSources class output first (drop i names) l) next_survey (sources-drop class output first i names ss c.requires.sources)) in
+    subst (λ l. AreSources class output first l (s ∷ drop (i + 1) ss)) next (subst (λ l. AreSources class output first (drop i names) l) next_survey (sources-drop class output first i names ss c.requires.sources)) in
     let fits : FitsFrom (window_of class.version) (reach_of c.loop-i.writer.held) (needs_of (rows_of (s ∷ drop (i + 1) ss))) (drop at placed) =
-        subst (λ l. FitsFrom (window_of class.version) (reach_of c.loop-i.writer.held) (needs_of (rows_of l)) (drop at placed)) next_survey inv.fits in
+    subst (λ l. FitsFrom (window_of class.version) (reach_of c.loop-i.writer.held) (needs_of (rows_of l)) (drop at placed)) next_survey inv.fits in
     let sofar = (inv.lays name are.0.apart).lays in
     let after = files c.lay_input.new.folder in
     let old = c.loop-i.writer in
@@ -181,8 +181,8 @@ returns-in-Err-clause-prefix g c =
     λ key apart.
     let whole = inv.lays key apart in
     let sofar_at = subst
-        (λ (l : List (List ℕ)). LaysUpTo key output (λ _. relaid (told_frames first names ss) placed) (λ _. relaid (told_frames first l (s ∷ drop (i + 1) ss)) (drop at placed)) c.args.writer.now old first now) next
-        (subst (λ l. LaysUpTo key output (λ _. relaid (told_frames first names ss) placed) (λ _. relaid (told_frames first (drop i names) l) (drop at placed)) c.args.writer.now old first now) next_survey whole) in
+    (λ (l : List (List ℕ)). LaysUpTo key output (λ _. relaid (told_frames first names ss) placed) (λ _. relaid (told_frames first l (s ∷ drop (i + 1) ss)) (drop at placed)) c.args.writer.now old first now) next
+    (subst (λ l. LaysUpTo key output (λ _. relaid (told_frames first names ss) placed) (λ _. relaid (told_frames first (drop i names) l) (drop at placed)) c.args.writer.now old first now) next_survey whole) in
     step-part class output first now after name s (drop (i + 1) names) (drop (i + 1) ss) (drop at placed) c.args.writer.now old (λ _. relaid (told_frames first names ss) placed) are key apart sofar_at fits c.requires.written part
 
 pub returns-in-Err-clause-cause : goal.returns-in-Err-clause-cause
@@ -202,13 +202,13 @@ returns-in-Err-clause-cause g c =
     let inv = c.loop-i.invariant in
     let lengths = sources-length class output first names ss c.requires.sources in
     let next : drop i names ≡ name ∷ drop (i + 1) names =
-        map-next string_bytes c.args.inputs.now i c.index-inputs-i.result (omega (arith, c.loop-i-test.true)) c.index-inputs-i.is ∙ ap (λ n. n ∷ drop (i + 1) names) (sym c.as_str.ensures.value) in
+    map-next string_bytes c.args.inputs.now i c.index-inputs-i.result (omega (arith, c.loop-i-test.true)) c.index-inputs-i.is ∙ ap (λ n. n ∷ drop (i + 1) names) (sym c.as_str.ensures.value) in
     let next_survey : drop i ss ≡ s ∷ drop (i + 1) ss =
-        map-next tells c.args.surveys.now i c.index-surveys-i.result (omega (arith, c.loop-i-test.true, lengths, length-map c.args.inputs.now string_bytes, length-map c.args.surveys.now tells)) c.index-surveys-i.is in
+    map-next tells c.args.surveys.now i c.index-surveys-i.result (omega (arith, c.loop-i-test.true, lengths, length-map c.args.inputs.now string_bytes, length-map c.args.surveys.now tells)) c.index-surveys-i.is in
     let are : AreSources class output first (name ∷ drop (i + 1) names) (s ∷ drop (i + 1) ss) =
-        subst (λ l. AreSources class output first l (s ∷ drop (i + 1) ss)) next (subst (λ l. AreSources class output first (drop i names) l) next_survey (sources-drop class output first i names ss c.requires.sources)) in
+    subst (λ l. AreSources class output first l (s ∷ drop (i + 1) ss)) next (subst (λ l. AreSources class output first (drop i names) l) next_survey (sources-drop class output first i names ss c.requires.sources)) in
     let fits : FitsFrom (window_of class.version) (reach_of c.loop-i.writer.held) (needs_of (rows_of (s ∷ drop (i + 1) ss))) (drop at placed) =
-        subst (λ l. FitsFrom (window_of class.version) (reach_of c.loop-i.writer.held) (needs_of (rows_of l)) (drop at placed)) next_survey inv.fits in
+    subst (λ l. FitsFrom (window_of class.version) (reach_of c.loop-i.writer.held) (needs_of (rows_of l)) (drop at placed)) next_survey inv.fits in
     let sofar = (inv.lays name are.0.apart).lays in
     let counts = g.D.Folder.counts in
     record {
@@ -237,13 +237,13 @@ loop-i-preserved g c =
     let inv = c.loop-i.invariant in
     let lengths = sources-length class output first names ss c.requires.sources in
     let next : drop i names ≡ name ∷ drop (i + 1) names =
-        map-next string_bytes c.args.inputs.now i c.index-inputs-i.result (omega (arith, c.loop-i-test.true)) c.index-inputs-i.is ∙ ap (λ n. n ∷ drop (i + 1) names) (sym c.as_str.ensures.value) in
+    map-next string_bytes c.args.inputs.now i c.index-inputs-i.result (omega (arith, c.loop-i-test.true)) c.index-inputs-i.is ∙ ap (λ n. n ∷ drop (i + 1) names) (sym c.as_str.ensures.value) in
     let next_survey : drop i ss ≡ s ∷ drop (i + 1) ss =
-        map-next tells c.args.surveys.now i c.index-surveys-i.result (omega (arith, c.loop-i-test.true, lengths, length-map c.args.inputs.now string_bytes, length-map c.args.surveys.now tells)) c.index-surveys-i.is in
+    map-next tells c.args.surveys.now i c.index-surveys-i.result (omega (arith, c.loop-i-test.true, lengths, length-map c.args.inputs.now string_bytes, length-map c.args.surveys.now tells)) c.index-surveys-i.is in
     let are : AreSources class output first (name ∷ drop (i + 1) names) (s ∷ drop (i + 1) ss) =
-        subst (λ l. AreSources class output first l (s ∷ drop (i + 1) ss)) next (subst (λ l. AreSources class output first (drop i names) l) next_survey (sources-drop class output first i names ss c.requires.sources)) in
+    subst (λ l. AreSources class output first l (s ∷ drop (i + 1) ss)) next (subst (λ l. AreSources class output first (drop i names) l) next_survey (sources-drop class output first i names ss c.requires.sources)) in
     let fits : FitsFrom (window_of class.version) (reach_of c.loop-i.writer.held) (needs_of (rows_of (s ∷ drop (i + 1) ss))) (drop at placed) =
-        subst (λ l. FitsFrom (window_of class.version) (reach_of c.loop-i.writer.held) (needs_of (rows_of l)) (drop at placed)) next_survey inv.fits in
+    subst (λ l. FitsFrom (window_of class.version) (reach_of c.loop-i.writer.held) (needs_of (rows_of l)) (drop at placed)) next_survey inv.fits in
     let sofar = (inv.lays name are.0.apart).lays in
     let after = files c.lay_input.new.folder in
     let old = c.loop-i.writer in
@@ -265,8 +265,8 @@ loop-i-preserved g c =
       unsettled = c.in-Ok.ensures.unsettled;
       lays = λ key apart.
           let sofar_at = subst
-              (λ (l : List (List ℕ)). LaysUpTo key output whole (λ _. relaid (told_frames first l (s ∷ drop (i + 1) ss)) left) c.args.writer.now old first now) next
-              (subst (λ l. LaysUpTo key output whole (λ _. relaid (told_frames first (drop i names) l) left) c.args.writer.now old first now) next_survey (inv.lays key apart)) in
+          (λ (l : List (List ℕ)). LaysUpTo key output whole (λ _. relaid (told_frames first l (s ∷ drop (i + 1) ss)) left) c.args.writer.now old first now) next
+          (subst (λ l. LaysUpTo key output whole (λ _. relaid (told_frames first (drop i names) l) left) c.args.writer.now old first now) next_survey (inv.lays key apart)) in
           subst (λ (l : List Placed). LaysUpTo key output whole (λ _. relaid (told_frames first (drop (i + 1) names) (drop (i + 1) ss)) l) c.args.writer.now new first after) behind
           (step-lays class output first now after name s (drop (i + 1) names) (drop (i + 1) ss) left c.args.writer.now old whole are key apart sofar_at new lays);
       counts = c.in-Ok.ensures.done ∙ inv.counts;
@@ -284,4 +284,3 @@ returns-clause-lays g c =
     λ key apart.
     lays-all key c.args.output.now _ _ c.args.writer.now c.loop-i.writer _ _ (inv.lays key apart)
     (λ file holds. ap (λ (l : List (List ℕ)). relaid (told_frames first l (drop i ss)) left) none ∙ told-none first (drop i ss) left)
-

@@ -21,12 +21,12 @@ loop-place-preserved c =
     let some : 0 < c.loop-place.left = omega (arith, c.if-left-eq0.false) in
     let left : drop k c.args.placed.now ≡ p ∷ more = item-next c.args.placed.now k p (omega (arith, c.loop-place-test.true)) c.place-item.is in
     let behind : frames_behind p.lead_in (c.loop-place.left - 1) ≡ c.if-not-place.left =
-        elim c.if-not-place.branch [
-          then-not-place w ↦ behind-frame p.lead_in c.loop-place.left c.if-not-place.left (search rules) w.left-is
-          | else-not-place w ↦ behind-lead p.lead_in c.loop-place.left c.if-not-place.left some (search rules) w.left-is
-        ] in
+    elim c.if-not-place.branch [
+      | then-not-place w ↦ behind-frame p.lead_in c.loop-place.left c.if-not-place.left (search rules) w.left-is
+      | else-not-place w ↦ behind-lead p.lead_in c.loop-place.left c.if-not-place.left some (search rules) w.left-is
+    ] in
     let next : places_for c.loop-place.left (drop k c.args.placed.now) ≡ places_for c.if-not-place.left more + 1 =
-        ap (places_for c.loop-place.left) left ∙ places-next c.loop-place.left p more some ∙ ap (λ n. places_for n more + 1) behind in
+    ap (places_for c.loop-place.left) left ∙ places-next c.loop-place.left p more some ∙ ap (λ n. places_for n more + 1) behind in
     record {
       counted = omega (arith, c.loop-place.invariant.counted);
       rest = omega (arith, next, c.loop-place.invariant.rest);
@@ -36,5 +36,5 @@ pub returns-clause-places : goal.returns-clause-places
 returns-clause-places c =
     let k = c.loop-place.place-index in
     let none : places_for c.loop-place.left (drop k c.args.placed.now) ≡ 0 =
-        ap (places_for c.loop-place.left) (drop_all k c.args.placed.now (omega (arith, c.loop-place-test.false))) ∙ places-end c.loop-place.left in
+    ap (places_for c.loop-place.left) (drop_all k c.args.placed.now (omega (arith, c.loop-place-test.false))) ∙ places-end c.loop-place.left in
     omega (arith, none, c.loop-place.invariant.rest)

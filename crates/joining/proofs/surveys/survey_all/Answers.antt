@@ -32,7 +32,7 @@ returns-in_err-survey-clause-left g c =
     let ss = map tells c.loop-place.surveys.items in
     let inv = c.loop-place.invariant in
     let next : drop place names ≡ name ∷ drop (place + 1) names =
-        map-next string_bytes c.args.inputs.now place c.index-inputs-place.result (omega (arith, c.loop-place-test.true)) c.index-inputs-place.is ∙ ap (λ n. n ∷ drop (place + 1) names) (sym c.as_str-name.ensures.value) in
+    map-next string_bytes c.args.inputs.now place c.index-inputs-place.result (omega (arith, c.loop-place-test.true)) c.index-inputs-place.is ∙ ap (λ n. n ∷ drop (place + 1) names) (sym c.as_str-name.ensures.value) in
     let whole : take place names ++ name ∷ drop (place + 1) names ≡ names = ap (λ l. take place names ++ l) (sym next) ∙ take-append-drop place names in
     let long : length (take place names) ≡ place = omega (arith, length-take place names, length-map c.args.inputs.now string_bytes, c.loop-place-test.true) in
     let class : c.first_class-first.result ≡ class_in ss = c.first_class-first.ensures ∙ ap (λ l. class_in (map tells l)) c.deref.ensures.value in
@@ -53,9 +53,9 @@ returns-in_err-push-clause-left g c =
     let inv = c.loop-place.invariant in
     let files = g.D.Folder.files c.args.folder.now in
     let next : drop place names ≡ name ∷ drop (place + 1) names =
-        map-next string_bytes c.args.inputs.now place c.index-inputs-place.result (omega (arith, c.loop-place-test.true)) c.index-inputs-place.is ∙ ap (λ n. n ∷ drop (place + 1) names) (sym c.as_str-name.ensures.value) in
+    map-next string_bytes c.args.inputs.now place c.index-inputs-place.result (omega (arith, c.loop-place-test.true)) c.index-inputs-place.is ∙ ap (λ n. n ∷ drop (place + 1) names) (sym c.as_str-name.ensures.value) in
     let whole : (take place names ++ name ∷ []) ++ drop (place + 1) names ≡ names =
-        append_assoc (take place names) (name ∷ []) (drop (place + 1) names) ∙ ap (λ l. take place names ++ l) (sym next) ∙ take-append-drop place names in
+    append_assoc (take place names) (name ∷ []) (drop (place + 1) names) ∙ ap (λ l. take place names ++ l) (sym next) ∙ take-append-drop place names in
     let class : c.first_class-first.result ≡ class_in ss = c.first_class-first.ensures ∙ ap (λ l. class_in (map tells l)) c.deref.ensures.value in
     let left : c.loop-place.left ≡ most_frames - frames_of ss = omega (arith, inv.allowed) in
     let is : IsInput (most_frames - frames_of ss) files name s = subst (λ n. IsInput n files name s) left (subst (λ f. IsInput c.loop-place.left f name s) inv.files c.in_ok-survey.ensures.input) in
@@ -79,7 +79,7 @@ loop-place-preserved g c =
     let inv = c.loop-place.invariant in
     let files = g.D.Folder.files c.args.folder.now in
     let next : drop place names ≡ name ∷ drop (place + 1) names =
-        map-next string_bytes c.args.inputs.now place c.index-inputs-place.result (omega (arith, c.loop-place-test.true)) c.index-inputs-place.is ∙ ap (λ n. n ∷ drop (place + 1) names) (sym c.as_str-name.ensures.value) in
+    map-next string_bytes c.args.inputs.now place c.index-inputs-place.result (omega (arith, c.loop-place-test.true)) c.index-inputs-place.is ∙ ap (λ n. n ∷ drop (place + 1) names) (sym c.as_str-name.ensures.value) in
     let class : c.first_class-first.result ≡ class_in ss = c.first_class-first.ensures ∙ ap (λ l. class_in (map tells l)) c.deref.ensures.value in
     let left : c.loop-place.left ≡ most_frames - frames_of ss = omega (arith, inv.allowed) in
     let is : IsInput (most_frames - frames_of ss) files name s = subst (λ n. IsInput n files name s) left (subst (λ f. IsInput c.loop-place.left f name s) inv.files c.in_ok-survey.ensures.input) in

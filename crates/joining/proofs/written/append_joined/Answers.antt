@@ -32,10 +32,10 @@ write_front-requires-clause-ready g c =
     let some = can-some ss c.requires.joined in
     let lengths = sources-length class output old names ss c.requires.sources in
     let names_are : names ≡ name ∷ drop 1 names =
-        map-next string_bytes c.args.inputs.now 0 c.index-inputs-0.result (omega (arith, some, lengths, length-map c.args.inputs.now string_bytes)) c.index-inputs-0.is ∙ ap (λ n. n ∷ drop 1 names) (sym c.as_str.ensures.value) in
+    map-next string_bytes c.args.inputs.now 0 c.index-inputs-0.result (omega (arith, some, lengths, length-map c.args.inputs.now string_bytes)) c.index-inputs-0.is ∙ ap (λ n. n ∷ drop 1 names) (sym c.as_str.ensures.value) in
     let ss_are : ss ≡ s ∷ drop 1 ss = map-next tells c.args.surveys.now 0 c.index-surveys-0.result (omega (arith, some, length-map c.args.surveys.now tells)) c.index-surveys-0.is in
     let first : AreSources class output old (name ∷ drop 1 names) (s ∷ drop 1 ss) =
-        subst (λ l. AreSources class output old l (s ∷ drop 1 ss)) names_are (subst (AreSources class output old names) ss_are c.requires.sources) in
+    subst (λ l. AreSources class output old l (s ∷ drop 1 ss)) names_are (subst (AreSources class output old names) ss_are c.requires.sources) in
     record { apart = first.0.apart; source = first.0.there; target = c.requires.target; exact = first.0.exact; laid = first.0.laid; fed_from = c.clear.ensures.fed old name }
 
 pub returns-in-Err-clause-prefix : goal.returns-in-Err-clause-prefix
@@ -51,10 +51,10 @@ returns-in-Err-clause-prefix g c =
     let some = can-some ss c.requires.joined in
     let lengths = sources-length class output old names ss c.requires.sources in
     let names_are : names ≡ name ∷ drop 1 names =
-        map-next string_bytes c.args.inputs.now 0 c.index-inputs-0.result (omega (arith, some, lengths, length-map c.args.inputs.now string_bytes)) c.index-inputs-0.is ∙ ap (λ n. n ∷ drop 1 names) (sym c.as_str.ensures.value) in
+    map-next string_bytes c.args.inputs.now 0 c.index-inputs-0.result (omega (arith, some, lengths, length-map c.args.inputs.now string_bytes)) c.index-inputs-0.is ∙ ap (λ n. n ∷ drop 1 names) (sym c.as_str.ensures.value) in
     let ss_are : ss ≡ s ∷ drop 1 ss = map-next tells c.args.surveys.now 0 c.index-surveys-0.result (omega (arith, some, length-map c.args.surveys.now tells)) c.index-surveys-0.is in
     let first : AreSources class output old (name ∷ drop 1 names) (s ∷ drop 1 ss) =
-        subst (λ l. AreSources class output old l (s ∷ drop 1 ss)) names_are (subst (AreSources class output old names) ss_are c.requires.sources) in
+    subst (λ l. AreSources class output old l (s ∷ drop 1 ss)) names_are (subst (AreSources class output old names) ss_are c.requires.sources) in
     let are : AreSources s.class output old names ss = subst (λ (k : ClassFields). AreSources k output old names ss) (sym first.1) c.requires.sources in
     let info = c.as_slice.result.now in
     let placed = entries c.args.planned.now.plan in
@@ -80,10 +80,10 @@ returns-in_err-lay_all-clause-prefix g c =
     let some = can-some ss c.requires.joined in
     let lengths = sources-length class output old names ss c.requires.sources in
     let names_are : names ≡ name ∷ drop 1 names =
-        map-next string_bytes c.args.inputs.now 0 c.index-inputs-0.result (omega (arith, some, lengths, length-map c.args.inputs.now string_bytes)) c.index-inputs-0.is ∙ ap (λ n. n ∷ drop 1 names) (sym c.as_str.ensures.value) in
+    map-next string_bytes c.args.inputs.now 0 c.index-inputs-0.result (omega (arith, some, lengths, length-map c.args.inputs.now string_bytes)) c.index-inputs-0.is ∙ ap (λ n. n ∷ drop 1 names) (sym c.as_str.ensures.value) in
     let ss_are : ss ≡ s ∷ drop 1 ss = map-next tells c.args.surveys.now 0 c.index-surveys-0.result (omega (arith, some, length-map c.args.surveys.now tells)) c.index-surveys-0.is in
     let first : AreSources class output old (name ∷ drop 1 names) (s ∷ drop 1 ss) =
-        subst (λ l. AreSources class output old l (s ∷ drop 1 ss)) names_are (subst (AreSources class output old names) ss_are c.requires.sources) in
+    subst (λ l. AreSources class output old l (s ∷ drop 1 ss)) names_are (subst (AreSources class output old names) ss_are c.requires.sources) in
     let are : AreSources s.class output old names ss = subst (λ (k : ClassFields). AreSources k output old names ss) (sym first.1) c.requires.sources in
     let info = c.as_slice.result.now in
     let mid = files c.write_front.new.folder in
@@ -116,10 +116,10 @@ finish-requires g c =
     let some = can-some ss c.requires.joined in
     let lengths = sources-length class output old names ss c.requires.sources in
     let names_are : names ≡ name ∷ drop 1 names =
-        map-next string_bytes c.args.inputs.now 0 c.index-inputs-0.result (omega (arith, some, lengths, length-map c.args.inputs.now string_bytes)) c.index-inputs-0.is ∙ ap (λ n. n ∷ drop 1 names) (sym c.as_str.ensures.value) in
+    map-next string_bytes c.args.inputs.now 0 c.index-inputs-0.result (omega (arith, some, lengths, length-map c.args.inputs.now string_bytes)) c.index-inputs-0.is ∙ ap (λ n. n ∷ drop 1 names) (sym c.as_str.ensures.value) in
     let ss_are : ss ≡ s ∷ drop 1 ss = map-next tells c.args.surveys.now 0 c.index-surveys-0.result (omega (arith, some, length-map c.args.surveys.now tells)) c.index-surveys-0.is in
     let first : AreSources class output old (name ∷ drop 1 names) (s ∷ drop 1 ss) =
-        subst (λ l. AreSources class output old l (s ∷ drop 1 ss)) names_are (subst (AreSources class output old names) ss_are c.requires.sources) in
+    subst (λ l. AreSources class output old l (s ∷ drop 1 ss)) names_are (subst (AreSources class output old names) ss_are c.requires.sources) in
     let mid = files c.write_front.new.folder in
     let front = c.in_default.ensures.written in
     let lays = c.in_ok-lay_all.ensures.lays name first.0.apart in
@@ -138,10 +138,10 @@ returns-in-Ok-clause-written g c =
     let some = can-some ss c.requires.joined in
     let lengths = sources-length class output old names ss c.requires.sources in
     let names_are : names ≡ name ∷ drop 1 names =
-        map-next string_bytes c.args.inputs.now 0 c.index-inputs-0.result (omega (arith, some, lengths, length-map c.args.inputs.now string_bytes)) c.index-inputs-0.is ∙ ap (λ n. n ∷ drop 1 names) (sym c.as_str.ensures.value) in
+    map-next string_bytes c.args.inputs.now 0 c.index-inputs-0.result (omega (arith, some, lengths, length-map c.args.inputs.now string_bytes)) c.index-inputs-0.is ∙ ap (λ n. n ∷ drop 1 names) (sym c.as_str.ensures.value) in
     let ss_are : ss ≡ s ∷ drop 1 ss = map-next tells c.args.surveys.now 0 c.index-surveys-0.result (omega (arith, some, length-map c.args.surveys.now tells)) c.index-surveys-0.is in
     let first : AreSources class output old (name ∷ drop 1 names) (s ∷ drop 1 ss) =
-        subst (λ l. AreSources class output old l (s ∷ drop 1 ss)) names_are (subst (AreSources class output old names) ss_are c.requires.sources) in
+    subst (λ l. AreSources class output old l (s ∷ drop 1 ss)) names_are (subst (AreSources class output old names) ss_are c.requires.sources) in
     let are : AreSources s.class output old names ss = subst (λ (k : ClassFields). AreSources k output old names ss) (sym first.1) c.requires.sources in
     let info = c.as_slice.result.now in
     let mid = files c.write_front.new.folder in
@@ -169,10 +169,10 @@ returns-in-Err-finish-clause-prefix g c =
     let some = can-some ss c.requires.joined in
     let lengths = sources-length class output old names ss c.requires.sources in
     let names_are : names ≡ name ∷ drop 1 names =
-        map-next string_bytes c.args.inputs.now 0 c.index-inputs-0.result (omega (arith, some, lengths, length-map c.args.inputs.now string_bytes)) c.index-inputs-0.is ∙ ap (λ n. n ∷ drop 1 names) (sym c.as_str.ensures.value) in
+    map-next string_bytes c.args.inputs.now 0 c.index-inputs-0.result (omega (arith, some, lengths, length-map c.args.inputs.now string_bytes)) c.index-inputs-0.is ∙ ap (λ n. n ∷ drop 1 names) (sym c.as_str.ensures.value) in
     let ss_are : ss ≡ s ∷ drop 1 ss = map-next tells c.args.surveys.now 0 c.index-surveys-0.result (omega (arith, some, length-map c.args.surveys.now tells)) c.index-surveys-0.is in
     let first : AreSources class output old (name ∷ drop 1 names) (s ∷ drop 1 ss) =
-        subst (λ l. AreSources class output old l (s ∷ drop 1 ss)) names_are (subst (AreSources class output old names) ss_are c.requires.sources) in
+    subst (λ l. AreSources class output old l (s ∷ drop 1 ss)) names_are (subst (AreSources class output old names) ss_are c.requires.sources) in
     let are : AreSources s.class output old names ss = subst (λ (k : ClassFields). AreSources k output old names ss) (sym first.1) c.requires.sources in
     let info = c.as_slice.result.now in
     let mid = files c.write_front.new.folder in
@@ -200,10 +200,10 @@ returns-in-Err-finish-clause-cause g c =
     let some = can-some ss c.requires.joined in
     let lengths = sources-length class output old names ss c.requires.sources in
     let names_are : names ≡ name ∷ drop 1 names =
-        map-next string_bytes c.args.inputs.now 0 c.index-inputs-0.result (omega (arith, some, lengths, length-map c.args.inputs.now string_bytes)) c.index-inputs-0.is ∙ ap (λ n. n ∷ drop 1 names) (sym c.as_str.ensures.value) in
+    map-next string_bytes c.args.inputs.now 0 c.index-inputs-0.result (omega (arith, some, lengths, length-map c.args.inputs.now string_bytes)) c.index-inputs-0.is ∙ ap (λ n. n ∷ drop 1 names) (sym c.as_str.ensures.value) in
     let ss_are : ss ≡ s ∷ drop 1 ss = map-next tells c.args.surveys.now 0 c.index-surveys-0.result (omega (arith, some, length-map c.args.surveys.now tells)) c.index-surveys-0.is in
     let first : AreSources class output old (name ∷ drop 1 names) (s ∷ drop 1 ss) =
-        subst (λ l. AreSources class output old l (s ∷ drop 1 ss)) names_are (subst (AreSources class output old names) ss_are c.requires.sources) in
+    subst (λ l. AreSources class output old l (s ∷ drop 1 ss)) names_are (subst (AreSources class output old names) ss_are c.requires.sources) in
     let counts = g.D.Folder.counts in
     let last = files c.lay_all.new.folder in
     let front = c.in_default.ensures.written in
@@ -217,4 +217,3 @@ returns-in-Err-finish-clause-cause g c =
       is = c.of_pass-in-Err-finish.ensures;
       cause = cause_later s.length old last output (front.bytes ++ lays.passed) (counts c.args.folder.now) (counts c.lay_all.new.folder) _ c.in-Err-finish.fault grown (c.in_ok-lay_all.ensures.done ∙ c.in_default.ensures.done) c.in-Err-finish.ensures.cause;
     }
-

@@ -30,7 +30,7 @@ append_joined-requires-clause-sources g c =
     let created = c.in-Ok.ensures.created in
     let s = tells c.index-surveys-0.result in
     let ss_are : ss ≡ s ∷ drop 1 ss =
-        map-next tells c.args.surveys.now 0 c.index-surveys-0.result (omega (arith, can-some ss c.requires.joined, length-map c.args.surveys.now tells)) c.index-surveys-0.is in
+    map-next tells c.args.surveys.now 0 c.index-surveys-0.result (omega (arith, can-some ss c.requires.joined, length-map c.args.surveys.now tells)) c.index-surveys-0.is in
     let can = subst CanBeJoined ss_are c.requires.joined in
     let alike : AreAlike s.class ss = subst (AreAlike s.class) (sym ss_are) can.0 in
     let are = sources-inputs s.class output 0 None most_frames old names ss c.requires.apart alike c.requires.inputs in
@@ -99,4 +99,3 @@ returns-clause-left g c =
     (λ fault prefix cause name apart.
     pass-fault output old mid new created whole (length c.args.inputs.now) name apart fault (counts c.args.folder.now) (counts c.create.new.self) (counts c.append_joined.new.folder) c.in-Ok.ensures.done
     (subst (λ (b : List ℕ). AppendsPrefix name output (λ _. b) mid new) same (prefix name apart)) cause)
-
