@@ -4,6 +4,8 @@
   laid.py cut IN FROM TO OUT      writes OUT: the frames of IN from number FROM on and before TO, in their own slots
   laid.py least IN FROM TO OUT    the same, each in the least slot with which all main data have room
   laid.py pack IN OUT             so all frames of IN, with the quality and the extension of its head
+  laid.py join OUT IN..           all frames of these, in their own slots, with the lead-ins that each has alone; no tags but ID3v2 of
+                                  the first in front
 
 A slot is a bit rate and a padding bit. Of the lists of slots in which all main data have room the first in the order of the areas
 is taken; a lead-in, one empty frame, stands in front where the frames alone have no such list. Main data begin as early as they
@@ -79,19 +81,21 @@ def first_with(shapes, area):
     return next(it for it in shapes if it.area >= area)
 
 
-def placed(needs, least):
-    """Shape, main_data_begin, side information and main data of each frame, a lead-in first where one is needed."""
-    window = (1 << frames.Frame(needs[0].header, 0).version.begin_bits) - 1
-    wanted = reserves(needs, least)
+def placed(parts, least):
+    """Shape, main_data_begin, side information and main data of each frame, a lead-in before each part that needs one. Only one part may
+    have the least slots."""
+    window = (1 << frames.Frame(parts[0][0].header, 0).version.begin_bits) - 1
     found, free = [], 0
-    if wanted[0]:
-        shape = first_with([in_slot(needs[0].header, slot, False) for slot in SLOTS], wanted[0])
-        found.append((shape, 0, 0, b""))
-        free = min(window, shape.area)
-    for need, behind in zip(needs, wanted[1:]):
-        shape = first_with(need.shapes(least), len(need.data) + behind - free)
-        found.append((shape, free, need.side, need.data))
-        free = min(window, free + shape.area - len(need.data))
+    for needs in parts:
+        wanted = reserves(needs, least)
+        if wanted[0]:
+            shape = first_with([in_slot(needs[0].header, slot, False) for slot in SLOTS], wanted[0])
+            found.append((shape, free, 0, b""))
+            free = min(window, free + shape.area)
+        for need, behind in zip(needs, wanted[1:]):
+            shape = first_with(need.shapes(least), len(need.data) + behind - free)
+            found.append((shape, free, need.side, need.data))
+            free = min(window, free + shape.area - len(need.data))
     return found
 
 
@@ -145,7 +149,7 @@ def write(name, output, first, end, least, keeps_head):
     data = frames.bytes_of(name)
     found = frames.survey_of(data)
     quality, extension = head_fields(data, found.head if keeps_head else None)
-    places = placed(main_data(data, found)[first:end], least)
+    places = placed([main_data(data, found)[first:end]], least)
     written = laid(places)
     begin = (found.head or found.frames[0]).offset
     fronts = [it for it in found.blocks if it.kind == "ID3v2" and it.offset < begin]
@@ -157,11 +161,25 @@ def write(name, output, first, end, least, keeps_head):
     print(f"{len(data)} bytes, {sum(map(len, parts))} written, {len(written)} frames")
 
 
+def join(output, names):
+    files = [frames.bytes_of(name) for name in names]
+    surveys = [frames.survey_of(data) for data in files]
+    places = placed([main_data(data, found) for data, found in zip(files, surveys)], False)
+    written = laid(places)
+    begin = (surveys[0].head or surveys[0].frames[0]).offset
+    parts = [files[0][it.offset : it.end] for it in surveys[0].blocks if it.kind == "ID3v2" and it.offset < begin]
+    parts += [info_frame(places, written, bytes(4), bytes(36)), *written]
+    frames.write(output, b"".join(parts))
+    print(f"{sum(map(len, parts))} written, {len(written)} frames")
+
+
 def main(words):
     if len(words) == 5 and words[0] in ("cut", "least"):
         write(words[1], words[4], int(words[2]), int(words[3]), words[0] == "least", False)
     elif len(words) == 3 and words[0] == "pack":
         write(words[1], words[2], 0, None, True, True)
+    elif len(words) > 2 and words[0] == "join":
+        join(words[1], words[2:])
     else:
         sys.exit(__doc__)
 

@@ -12,6 +12,8 @@ mod edited;
 #[cfg(test)]
 mod expected;
 #[cfg(test)]
+mod joins;
+#[cfg(test)]
 mod kinds;
 #[cfg(test)]
 mod long;
@@ -20,8 +22,12 @@ mod lower_kinds;
 #[cfg(test)]
 mod packs;
 #[cfg(test)]
+mod pieces;
+#[cfg(test)]
 mod places;
 #[cfg(test)]
 mod refusals;
+#[cfg(test)]
+mod sheets;
 #[cfg(test)]
 mod songs;
