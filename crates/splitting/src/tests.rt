@@ -41,15 +41,16 @@ fn folder_of_four(alloc: Global) -> Result<MemFolder, AllocError> {
     Ok(folder)
 }
 
-/// Whether a piece is what `cut` writes from one place to another.
+/// Whether a piece is what `cut` writes of the frames from one on and before another.
 fn is_cut(
     alloc: Global,
     folder: &mut MemFolder,
     piece: &str,
     from: u32,
-    to: Place,
+    to: u32,
 ) -> Result<bool, EditFault> {
     let from = Place::Frame(from);
+    let to = Place::Frame(to);
     cut(alloc, folder, "a", &from, &to, false, "cut")?;
     Ok(folder.get(piece).is_some() && folder.get(piece) == folder.get("cut"))
 }
@@ -66,9 +67,9 @@ fn pieces_are_cut_out(rt: HostRuntime) -> Result<(), Fail> {
     ];
     let done = split_at(alloc, &mut folder, "a", &places, "p");
     assert_eq!(&rt; done, Ok(()));
-    assert!(&rt; is_cut(alloc, &mut folder, "p01.mp3", 0, Place::Frame(1))?);
-    assert!(&rt; is_cut(alloc, &mut folder, "p02.mp3", 1, Place::Frame(3))?);
-    assert!(&rt; is_cut(alloc, &mut folder, "p03.mp3", 3, Place::End)?);
+    assert!(&rt; is_cut(alloc, &mut folder, "p01.mp3", 0, 1)?);
+    assert!(&rt; is_cut(alloc, &mut folder, "p02.mp3", 1, 3)?);
+    assert!(&rt; is_cut(alloc, &mut folder, "p03.mp3", 3, 4)?);
     Ok(())
 }
 
@@ -81,8 +82,8 @@ fn pieces_of_a_sheet(rt: HostRuntime) -> Result<(), Fail> {
     folder.put("sheet", sheet)?;
     let done = split_by(alloc, &mut folder, "a", "sheet", "p");
     assert_eq!(&rt; done, Ok(()));
-    assert!(&rt; is_cut(alloc, &mut folder, "p01.mp3", 0, Place::Frame(1))?);
-    assert!(&rt; is_cut(alloc, &mut folder, "p02.mp3", 1, Place::End)?);
+    assert!(&rt; is_cut(alloc, &mut folder, "p01.mp3", 0, 1)?);
+    assert!(&rt; is_cut(alloc, &mut folder, "p02.mp3", 1, 4)?);
     assert!(&rt; folder.get("p03.mp3").is_none());
     Ok(())
 }
@@ -145,6 +146,6 @@ fn second_piece_not_created(rt: HostRuntime) -> Result<(), Fail> {
     let done = split_at(alloc, &mut folder, "a", &places, "p");
     assert_eq!(&rt; done, Err(EditFault::Write(1)));
     assert!(&rt; folder.get("p02.mp3").is_none());
-    assert!(&rt; is_cut(alloc, &mut folder, "p01.mp3", 0, Place::Frame(1))?);
+    assert!(&rt; is_cut(alloc, &mut folder, "p01.mp3", 0, 1)?);
     Ok(())
 }
