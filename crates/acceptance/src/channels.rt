@@ -2,7 +2,7 @@
 
 use crate::expected::{expect, expect_frames};
 use acceptance_kit::commands::folder_of_frames;
-use acceptance_kit::frames::{Frame, G, MONO, Z};
+use test_files::frames::{Frame, G, MONO, Z};
 use std::test::Fail;
 
 /// G with the gains 101, 102, 0, 91: one step up, and 255 wraps.

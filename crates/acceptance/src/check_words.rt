@@ -2,7 +2,7 @@
 
 use crate::expected::{expect, expect_frames};
 use acceptance_kit::commands::{folder_of, folder_of_frames};
-use acceptance_kit::frames::{Frame, LOUD, PROTECTED_G, Z};
+use test_files::frames::{Frame, LOUD, PROTECTED_G, Z};
 use std::test::Fail;
 
 /// MPEG-2, 24,000 Hz, 8 kbit/s, one channel, with a check word: 8 bits of main data in an area of 9 bytes,

@@ -1,8 +1,8 @@
 //! What the tests of this crate expect of commands.
 
 use acceptance_kit::commands::{LISTING_ROOM, run_over, sink, words_of};
-use acceptance_kit::files::{Stretch, bytes_of};
-use acceptance_kit::frames::{Frame, file_of};
+use test_files::files::{Stretch, bytes_of};
+use test_files::frames::{Frame, file_of};
 use mp3_cli::run;
 use outside::{Folder, MemFolder, MemSink};
 use std::alloc::{AllocError, AllocGlobal};

@@ -3,8 +3,8 @@
 use crate::check_words::WRONG_M;
 use crate::expected::{expect, expect_file};
 use acceptance_kit::commands::{folder_of, folder_of_file, folder_of_frames, run_over, sink};
-use acceptance_kit::files::{APE, ID3V1, ID3V1_REST, ID3V2, ID3V2_REST, Stretch, bytes_of};
-use acceptance_kit::frames::{G, G_LOWER, HEAD, PROTECTED_G, PROTECTED_G_LOWER, Z, file_of};
+use test_files::files::{APE, ID3V1, ID3V1_REST, ID3V2, ID3V2_REST, Stretch, bytes_of};
+use test_files::frames::{G, G_LOWER, HEAD, PROTECTED_G, PROTECTED_G_LOWER, Z, file_of};
 use outside::Call;
 use std::test::Fail;
 

@@ -2,7 +2,7 @@
 
 use crate::expected::{expect, expect_frames};
 use acceptance_kit::commands::folder_of_frames;
-use acceptance_kit::frames::{
+use test_files::frames::{
     FULL, FULL_LOUDER, Frame, G, G_AT_32_KHZ, G_AT_32_KHZ_LOWER, G_AT_48_KHZ, G_AT_48_KHZ_LOWER,
     G_LOWER, LEFT_ALONE, LEFT_ALONE_LOUDER, LONG, LONG_LOWER, LOUD, LOW, LOWER, LOWER_QUIETER,
     MONO, MONO_LOWER, PADDED, PADDED_LOWER, PROTECTED_G, PROTECTED_G_LOWER, PROTECTED_LOWER,

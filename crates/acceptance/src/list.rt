@@ -3,8 +3,8 @@
 use crate::expected::{expect, expect_text};
 use crate::reservoirs::{FIRST, NEARER, SECOND};
 use acceptance_kit::commands::{folder_of_file, list_to, sink};
-use acceptance_kit::files::{APE, ID3V1, ID3V1_REST, ID3V2, ID3V2_REST, Stretch};
-use acceptance_kit::frames::{EARLY_HEAD, HEAD, LOWER, MONO, PADDED, PROTECTED_Z, Z};
+use test_files::files::{APE, ID3V1, ID3V1_REST, ID3V2, ID3V2_REST, Stretch};
+use test_files::frames::{EARLY_HEAD, HEAD, LOWER, MONO, PADDED, PROTECTED_Z, Z};
 use outside::Call;
 use std::test::Fail;
 

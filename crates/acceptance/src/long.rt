@@ -1,7 +1,7 @@
 //! Files longer than what is read and written at once.
 
 use acceptance_kit::commands::{Ended, folder_of, run_over, sink};
-use acceptance_kit::frames::{Frame, G, G_LOWER, Z, file_of};
+use test_files::frames::{Frame, G, G_LOWER, Z, file_of};
 use outside::{Call, MemFolder};
 use std::alloc::{AllocError, Global};
 use std::process::Abort;

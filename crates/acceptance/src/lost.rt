@@ -5,8 +5,8 @@ use crate::check_words::BACK_POINTER as PROTECTED_BACK_POINTER;
 use crate::expected::{expect, expect_file};
 use crate::reservoirs::{FIRST, FIRST_LOUDER, SECOND, SECOND_LOUDER, SILENT_BACK_POINTER, TOO_FAR};
 use acceptance_kit::commands::{folder_of_file, folder_of_frames};
-use acceptance_kit::files::{APE, Stretch};
-use acceptance_kit::frames::{BACK_POINTER, Frame, HEAD, Z};
+use test_files::files::{APE, Stretch};
+use test_files::frames::{BACK_POINTER, Frame, HEAD, Z};
 use std::test::Fail;
 
 /// PROTECTED_BACK_POINTER with main_data_begin 0.

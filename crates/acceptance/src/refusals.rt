@@ -6,8 +6,8 @@ use crate::reservoirs::{
     SILENT_TOO_FAR, TOO_FAR,
 };
 use acceptance_kit::commands::{folder_of_file, folder_of_frames};
-use acceptance_kit::files::{ID3V1, ID3V2, Stretch};
-use acceptance_kit::frames::{
+use test_files::files::{ID3V1, ID3V2, Stretch};
+use test_files::frames::{
     FORBIDDEN_RATE, FREE, Frame, G, G_AT_48_KHZ, HEAD, LAYER_2, MONO, MPEG_2, OVERFULL,
     RESERVED_FREQUENCY, RESERVED_VERSION, Z,
 };

@@ -1,7 +1,7 @@
 //! Frames whose main data begin in the areas of earlier frames (bit reservoir), each worked out from the
 //! standard's tables.
 
-use acceptance_kit::frames::{Frame, Z};
+use test_files::frames::{Frame, Z};
 
 /// Four times 600 bits, 300 bytes from its own area on; all gains are 100. The 81 bytes that are left in its
 /// area are of the next frame.

@@ -2,8 +2,8 @@
 
 use crate::expected::expect;
 use acceptance_kit::commands::{folder_of, list_to};
-use acceptance_kit::files::{ID3V1, ID3V1_REST, Stretch, bytes_of};
-use acceptance_kit::frames::{Frame, file_of};
+use test_files::files::{ID3V1, ID3V1_REST, Stretch, bytes_of};
+use test_files::frames::{Frame, file_of};
 use std::alloc::{AllocError, Global};
 use std::test::Fail;
 

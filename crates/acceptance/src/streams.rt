@@ -5,8 +5,8 @@ use crate::reservoirs::{
     FARTHER, FARTHER_LOUDER, FIRST, FIRST_LOUDER, NEARER, NEARER_LOUDER, SECOND, SECOND_LOUDER,
 };
 use acceptance_kit::commands::folder_of_file;
-use acceptance_kit::files::{APE, ID3V1, ID3V1_REST, ID3V2, ID3V2_REST, Stretch};
-use acceptance_kit::frames::{
+use test_files::files::{APE, ID3V1, ID3V1_REST, ID3V2, ID3V2_REST, Stretch};
+use test_files::frames::{
     EARLY_HEAD, G, G_LOWER, HEAD, LOWER, LOWER_QUIETER, MONO, MONO_HEAD, MONO_HEAD_LOWER,
     MONO_LOWER, PADDED, PROTECTED_G, PROTECTED_G_LOWER, PROTECTED_HEAD, RESERVED_VERSION, Z,
 };

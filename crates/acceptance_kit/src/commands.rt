@@ -1,7 +1,7 @@
 //! Commands in words, over a folder in memory.
 
-use crate::files::{Stretch, bytes_of};
-use crate::frames::{Frame, file_of};
+use test_files::files::{Stretch, bytes_of};
+use test_files::frames::{Frame, file_of};
 use mp3_cli::run;
 use outside::{Folder, MemFolder, MemSink};
 use std::alloc::{AllocError, Global};

@@ -3,8 +3,8 @@
 use crate::edited::MORE;
 use crate::songs::{A, A_0, A_1, INFO, INFO_REST, LEAST, LEAST_FROM_68, NO_SIDE, TWO_OF_1042};
 use acceptance_kit::commands::{Ended, folder_of, run_over, sink};
-use acceptance_kit::files::{APE, ID3V2, ID3V2_REST, Stretch, bytes_of};
-use acceptance_kit::frames::{Frame, HEAD, Z, file_of};
+use test_files::files::{APE, ID3V2, ID3V2_REST, Stretch, bytes_of};
+use test_files::frames::{Frame, HEAD, Z, file_of};
 use outside::{Call, MemFolder};
 use std::alloc::{AllocError, Global};
 use std::process::Abort;

@@ -1,8 +1,8 @@
 //! Check words are right in what is cut and packed.
 
 use crate::edited::{Edit, expect_edit};
-use acceptance_kit::files::Stretch;
-use acceptance_kit::frames::{Frame, Z};
+use test_files::files::Stretch;
+use test_files::frames::{Frame, Z};
 use std::test::Fail;
 
 /// With check words, 44,100 Hz, stereo, with an area of 379 bytes: 300 bytes of main data, and behind them 79 of the

@@ -4,8 +4,8 @@ use crate::edited::{Edit, expect_edit};
 use crate::songs::{
     A, A_0, A_1, A_1_FROM_68, INFO, INFO_REST, LEAD_IN, NO_SIDE, TWO_OF_729, TWO_OF_1042,
 };
-use acceptance_kit::files::Stretch;
-use acceptance_kit::frames::{Frame, Z};
+use test_files::files::Stretch;
+use test_files::frames::{Frame, Z};
 use std::test::Fail;
 
 /// A_1 at 160 kbit/s, where all its main data stand in its own area of 486 bytes.

@@ -1,7 +1,7 @@
 //! What the tests of this crate expect of commands.
 
 use acceptance_kit::commands::{run_over, sink};
-use acceptance_kit::files::{Stretch, bytes_of};
+use test_files::files::{Stretch, bytes_of};
 use outside::{Folder, MemFolder};
 use std::alloc::{AllocError, AllocGlobal};
 use std::process::Abort;

@@ -1,8 +1,8 @@
 //! Cuts in other classes of MPEG-1.
 
 use crate::edited::{Edit, expect_edit};
-use acceptance_kit::files::Stretch;
-use acceptance_kit::frames::{Frame, Z};
+use test_files::files::Stretch;
+use test_files::frames::{Frame, Z};
 use std::test::Fail;
 
 /// MPEG-1, 44,100 Hz, one channel, with an area of 396 bytes: 300 bytes of main data, and behind them 96 of the

@@ -2,8 +2,8 @@
 
 use crate::songs::{INFO, INFO_REST, NO_SIDE};
 use acceptance_kit::commands::{folder_of, run_over, sink};
-use acceptance_kit::files::bytes_of;
-use acceptance_kit::frames::{Frame, Z, file_of};
+use test_files::files::bytes_of;
+use test_files::frames::{Frame, Z, file_of};
 use outside::Call;
 use std::alloc::{AllocError, Global};
 use std::process::Abort;

@@ -1,8 +1,8 @@
 //! Cuts in classes of MPEG-2 and MPEG-2.5.
 
 use crate::edited::{Edit, expect_edit};
-use acceptance_kit::files::Stretch;
-use acceptance_kit::frames::{Frame, Z};
+use test_files::files::Stretch;
+use test_files::frames::{Frame, Z};
 use std::test::Fail;
 
 /// MPEG-2, 22,050 Hz, two channels, with an area of 187 bytes: 100 bytes of main data, and behind them 87 of the

@@ -2,8 +2,8 @@
 
 use crate::edited::{Edit, expect_edit};
 use crate::songs::{A, A_0_ALONE, INFO, INFO_REST, LEAST, LEAST_FROM_68, NO_SIDE};
-use acceptance_kit::files::Stretch;
-use acceptance_kit::frames::{Frame, Z};
+use test_files::files::Stretch;
+use test_files::frames::{Frame, Z};
 use std::test::Fail;
 
 /// A's first frame at 112 kbit/s, with an area of 329 bytes: behind its 300 bytes are 29 of the frame behind it.

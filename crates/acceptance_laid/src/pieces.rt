@@ -3,7 +3,7 @@
 use crate::expected::expect;
 use crate::long::{Laid, QUIET, file_laid, frames_of};
 use acceptance_kit::commands::{run_over, sink};
-use acceptance_kit::frames::{Z, file_of};
+use test_files::frames::{Z, file_of};
 use outside::{Call, MemFolder};
 use std::alloc::{AllocError, Global};
 use std::process::Abort;

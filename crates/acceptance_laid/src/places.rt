@@ -2,8 +2,8 @@
 
 use crate::edited::{Edit, expect_edit};
 use crate::songs::{INFO, INFO_REST, LEAST, LEAST_FROM_68, NO_SIDE};
-use acceptance_kit::files::{APE, ID3V1, ID3V1_REST, ID3V2, ID3V2_REST, Stretch};
-use acceptance_kit::frames::{HEAD, Z};
+use test_files::files::{APE, ID3V1, ID3V1_REST, ID3V2, ID3V2_REST, Stretch};
+use test_files::frames::{HEAD, Z};
 use std::test::Fail;
 
 /// An ID3v2 block of 12 bytes.

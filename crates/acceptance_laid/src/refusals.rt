@@ -3,7 +3,7 @@
 use crate::expected::{expect, expect_file};
 use crate::songs::A;
 use acceptance_kit::commands::folder_of_file;
-use acceptance_kit::files::Stretch;
+use test_files::files::Stretch;
 use std::test::Fail;
 
 /// The words, the status and the line.

@@ -3,8 +3,8 @@
 use crate::expected::expect;
 use crate::long::{Laid, frames_of};
 use crate::pieces::expect_pieces;
-use acceptance_kit::files::{Stretch, bytes_of};
-use acceptance_kit::frames::Z;
+use test_files::files::{Stretch, bytes_of};
+use test_files::frames::Z;
 use outside::MemFolder;
 use std::alloc::{AllocError, Global};
 use std::test::Fail;

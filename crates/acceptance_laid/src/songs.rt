@@ -1,7 +1,7 @@
 //! Frames and Info frames that the tests of several files use. Their bytes were worked out by hand from the standard's tables.
 
-use acceptance_kit::files::Stretch;
-use acceptance_kit::frames::{Frame, Z};
+use test_files::files::Stretch;
+use test_files::frames::{Frame, Z};
 
 /// MPEG-1, 44,100 Hz, 128 kbit/s, stereo, with an area of 381 bytes: 4 times 600 bits of main data, which are 300 bytes. All
 /// gains of these files are 100, and all bytes of main data 55 (hex). Behind its own main data are the first 81 bytes of A_1's.

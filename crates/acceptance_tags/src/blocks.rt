@@ -1,7 +1,7 @@
 //! APEv2 tags and frames that the tests of several files use, each byte worked out by hand.
 
-use acceptance_kit::files::Stretch;
-use acceptance_kit::frames::{Frame, G, Z};
+use test_files::files::Stretch;
+use test_files::frames::{Frame, G, Z};
 
 /// A tag with the undo item alone, 96 bytes, up to the item's value of 11 bytes.
 pub const UNDO_FRONT: Stretch = Stretch::Bytes(

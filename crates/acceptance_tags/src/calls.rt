@@ -2,8 +2,8 @@
 
 use crate::blocks::{THREE_BACK, THREE_FRONT, TWO, UNDO_BACK, UNDO_FRONT};
 use acceptance_kit::commands::{Ended, folder_of, run_over, sink};
-use acceptance_kit::files::{ID3V1, ID3V1_REST, ID3V2, ID3V2_REST, Stretch, bytes_of};
-use acceptance_kit::frames::{G, G_LOWER, HEAD, PROTECTED_G, PROTECTED_G_LOWER, Z, file_of};
+use test_files::files::{ID3V1, ID3V1_REST, ID3V2, ID3V2_REST, Stretch, bytes_of};
+use test_files::frames::{G, G_LOWER, HEAD, PROTECTED_G, PROTECTED_G_LOWER, Z, file_of};
 use outside::{Call, MemFolder};
 use std::alloc::{AllocError, Global};
 use std::process::Abort;

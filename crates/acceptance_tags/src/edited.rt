@@ -2,7 +2,7 @@
 
 use crate::expected::{expect, expect_file};
 use acceptance_kit::commands::folder_of;
-use acceptance_kit::files::{Stretch, bytes_of};
+use test_files::files::{Stretch, bytes_of};
 use std::alloc::AllocError;
 use std::process::Abort;
 

@@ -4,8 +4,8 @@ use crate::blocks::{G_WRAPPED_UP, NONE, THREE_BACK, THREE_FRONT, TWO, UNDO_BACK,
 use crate::edited::{Refusal, expect_refusal};
 use crate::expected::expect;
 use acceptance_kit::commands::folder_of;
-use acceptance_kit::files::{ID3V2, ID3V2_REST, Stretch, bytes_of};
-use acceptance_kit::frames::Z;
+use test_files::files::{ID3V2, ID3V2_REST, Stretch, bytes_of};
+use test_files::frames::Z;
 use std::test::Fail;
 
 /// A file of 513 bytes, whose tag stands at 417.

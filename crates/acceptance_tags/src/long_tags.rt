@@ -1,8 +1,8 @@
 //! Tags about as long as a tag may be, 1,048,576 bytes.
 
 use crate::edited::{Edit, Refusal, expect_edit, expect_refusal};
-use acceptance_kit::files::Stretch;
-use acceptance_kit::frames::{G, G_LOWER, MONO, Z};
+use test_files::files::Stretch;
+use test_files::frames::{G, G_LOWER, MONO, Z};
 use std::test::Fail;
 
 /// The header of a tag that is one byte longer than that.

@@ -4,8 +4,8 @@ use crate::blocks::{JOINT, M, TWO, UNDO_BACK, UNDO_FRONT};
 use crate::edited::{Refusal, expect_refusal};
 use crate::expected::{expect, expect_file};
 use acceptance_kit::commands::folder_of_file;
-use acceptance_kit::files::Stretch;
-use acceptance_kit::frames::{G, Z};
+use test_files::files::Stretch;
+use test_files::frames::{G, Z};
 use std::test::Fail;
 
 static REFUSALS: [Refusal; 16] = [

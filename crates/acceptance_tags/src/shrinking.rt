@@ -2,8 +2,8 @@
 
 use crate::blocks::{UNDO_BACK, UNDO_FRONT};
 use crate::expected::expect;
-use acceptance_kit::files::{Stretch, bytes_of};
-use acceptance_kit::frames::G_LOWER;
+use test_files::files::{Stretch, bytes_of};
+use test_files::frames::G_LOWER;
 use outside::{Failed, FindFault, Folder};
 use std::test::Fail;
 

@@ -8,8 +8,8 @@ use crate::blocks::{
 use crate::edited::{Edit, expect_edit};
 use crate::expected::{expect, expect_file};
 use acceptance_kit::commands::folder_of_frames;
-use acceptance_kit::files::{ID3V1, ID3V1_REST, ID3V2, ID3V2_REST, Stretch};
-use acceptance_kit::frames::{
+use test_files::files::{ID3V1, ID3V1_REST, ID3V2, ID3V2_REST, Stretch};
+use test_files::frames::{
     G, G_LOWER, HEAD, LONG, LONG_LOWER, LOWER, LOWER_QUIETER, MONO, MONO_LOWER, PROTECTED_G,
     PROTECTED_G_LOWER, Z,
 };

@@ -7,8 +7,8 @@ use crate::blocks::{
 use crate::edited::{Edit, NEW_TAG, expect_edit};
 use crate::expected::{expect, expect_file};
 use acceptance_kit::commands::folder_of;
-use acceptance_kit::files::{ID3V1, ID3V1_REST, ID3V2, ID3V2_REST, Stretch, bytes_of};
-use acceptance_kit::frames::{
+use test_files::files::{ID3V1, ID3V1_REST, ID3V2, ID3V2_REST, Stretch, bytes_of};
+use test_files::frames::{
     Frame, G, G_LOWER, HEAD, LONG, LONG_LOWER, LOWER, LOWER_QUIETER, MONO, MONO_LOWER, PADDED,
     PROTECTED_G, PROTECTED_G_LOWER, PROTECTED_LOWER, Z,
 };

@@ -14,6 +14,3 @@ mod words;
 pub use cue::Cue;
 pub use cue_fault::CueFault;
 pub use place::Place;
-
-#[cfg(test)]
-mod tests;

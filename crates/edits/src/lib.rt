@@ -39,6 +39,3 @@ pub use planned::{Planned, plan_file};
 pub use shift::{Channels, Shift, Steps};
 pub use undo_file::undo;
 pub use undoing::{opposite_gives_back, undo_gives_back};
-
-#[cfg(test)]
-mod tests;

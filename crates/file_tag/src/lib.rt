@@ -11,6 +11,3 @@ pub use fault::FileTagFault;
 pub use laws::{own_tag, retagged_survey, same_stream, tag_again, tagged_bytes};
 pub use places::{TagPlace, first_tag, tag_place};
 pub use reading::read_tag;
-
-#[cfg(test)]
-mod tests;

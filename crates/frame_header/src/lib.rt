@@ -10,6 +10,3 @@ pub use class::Class;
 pub use header::{Header, NotHeader};
 pub use slot::Slot;
 pub use version::Version;
-
-#[cfg(test)]
-mod tests;

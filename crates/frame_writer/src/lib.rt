@@ -17,6 +17,3 @@ pub use areas::Areas;
 pub use frames::{Frames, Kept, put_front};
 pub use laws::{few_frames_wait, laid_steps};
 pub use writer::Writer;
-
-#[cfg(test)]
-mod tests;

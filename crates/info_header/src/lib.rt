@@ -19,6 +19,3 @@ pub use fields::{Info, entry};
 pub use over::{InSlot, info_over};
 pub use text::head_text;
 pub use writing::{info_slot, write_info};
-
-#[cfg(test)]
-mod tests;

@@ -8,6 +8,3 @@ mod surveys;
 mod written;
 
 pub use join_file::join;
-
-#[cfg(test)]
-mod tests;

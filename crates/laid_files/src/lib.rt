@@ -6,6 +6,3 @@
 mod laws;
 
 pub use laws::{laid_stream, laid_survey, surveyed_blocks};
-
-#[cfg(test)]
-mod tests;

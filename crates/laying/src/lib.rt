@@ -12,10 +12,3 @@ pub use info::{Kept, info_of, kept_fields};
 pub use info_laws::slots_are_planned;
 pub use laws::{asked_plans, blocks_are_kept, entries_hold, files_hold, plans_fit};
 pub use relay::{PassFault, Relay};
-
-#[cfg(test)]
-mod file_tests;
-#[cfg(test)]
-mod info_tests;
-#[cfg(test)]
-mod tests;

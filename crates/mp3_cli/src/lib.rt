@@ -12,6 +12,3 @@ pub use output_names::Outputs;
 pub use program::run;
 pub use texts::{send_bad_word, send_fault, status};
 pub use words::job;
-
-#[cfg(test)]
-mod tests;

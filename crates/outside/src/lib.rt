@@ -30,6 +30,3 @@ pub use send_buffer::SendBuffer;
 pub use sink::Sink;
 pub use stream::StdSink;
 pub use write_buffer::WriteBuffer;
-
-#[cfg(test)]
-mod tests;

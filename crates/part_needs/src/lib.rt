@@ -14,6 +14,3 @@ mod parts;
 
 pub use laws::{one_part_fits, part_fits, parts_fit};
 pub use parts::Parts;
-
-#[cfg(test)]
-mod tests;

@@ -14,6 +14,3 @@ mod window;
 
 pub use laws::{areas_are_held, frames_are_held};
 pub use window::Window;
-
-#[cfg(test)]
-mod tests;

@@ -17,6 +17,3 @@ pub use frame::{put_side, side_of_frame, word_said};
 pub use gains::put_gains;
 pub use granule::Granule;
 pub use side::Side;
-
-#[cfg(test)]
-mod tests;

@@ -13,6 +13,3 @@ pub use laws::{lead_ins_come_first, plans_are_unique, the_plan_is_the_plan};
 pub use needs::{Need, Placed, Plan};
 pub use plans::plan;
 pub use policy::{Keep, Least, Policy};
-
-#[cfg(test)]
-mod tests;

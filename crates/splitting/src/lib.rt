@@ -8,6 +8,3 @@ mod split_file;
 mod writing;
 
 pub use split_file::{split_at, split_by};
-
-#[cfg(test)]
-mod tests;

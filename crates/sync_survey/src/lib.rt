@@ -26,6 +26,3 @@ pub use rows::Row;
 pub use runs::Part;
 pub use survey_fault::SurveyFault;
 pub use surveys::Survey;
-
-#[cfg(test)]
-mod tests;

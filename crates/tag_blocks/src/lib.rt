@@ -21,6 +21,3 @@ pub use laws::{
 pub use tag::Tag;
 pub use tag_fault::TagFault;
 pub use undo::{Undo, UndoItem};
-
-#[cfg(test)]
-mod tests;

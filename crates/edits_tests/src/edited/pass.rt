@@ -1,0 +1,149 @@
+//! Files longer than what is read at once, written with other gains; the bytes of both were worked out by hand.
+
+use crate::edited::files::{Stretch, file_of};
+use crate::edited::slow::{Slow, Trouble};
+use edits::{Channels, EditFault, Shift, gain};
+use outside::MemFolder;
+use std::alloc::AllocGlobal;
+use std::process::Abort;
+use std::test::Fail;
+use sync_survey::SurveyFault;
+
+/// One step louder, where 255 comes in again as 0.
+const LOUDER: Shift = Shift {
+    channels: Channels::Both,
+    steps: 1,
+    wrap: true,
+};
+
+/// MPEG-1, 44,100 Hz, 128 kbit/s, stereo, without check word: four granules of 8 bits of main data, with the
+/// gains 100, 101, 255 and 90.
+const PLAIN: &[u8] = &[
+    0xff, 0xfb, 0x90, 0x00, 0x00, 0x00, 0x00, 0x08, 0x00, 0x32, 0x00, 0x00, 0x00, 0x00, 0x01, 0x00,
+    0x06, 0x50, 0x00, 0x00, 0x00, 0x00, 0x20, 0x01, 0xfe, 0x00, 0x00, 0x00, 0x00, 0x04, 0x00, 0x16,
+    0x80, 0x00, 0x00, 0x00,
+];
+
+/// The same with the gains 101, 102, 0 and 91.
+const PLAIN_LOUDER: &[u8] = &[
+    0xff, 0xfb, 0x90, 0x00, 0x00, 0x00, 0x00, 0x08, 0x00, 0x32, 0x80, 0x00, 0x00, 0x00, 0x01, 0x00,
+    0x06, 0x60, 0x00, 0x00, 0x00, 0x00, 0x20, 0x00, 0x00, 0x00, 0x00, 0x00, 0x00, 0x04, 0x00, 0x16,
+    0xc0, 0x00, 0x00, 0x00,
+];
+
+/// The first of these frames with a check word.
+const PROTECTED: &[u8] = &[
+    0xff, 0xfa, 0x90, 0x00, 0x11, 0xa2, 0x00, 0x00, 0x00, 0x08, 0x00, 0x32, 0x00, 0x00, 0x00, 0x00,
+    0x01, 0x00, 0x06, 0x50, 0x00, 0x00, 0x00, 0x00, 0x20, 0x01, 0xfe, 0x00, 0x00, 0x00, 0x00, 0x04,
+    0x00, 0x16, 0x80, 0x00, 0x00, 0x00,
+];
+
+const PROTECTED_LOUDER: &[u8] = &[
+    0xff, 0xfa, 0x90, 0x00, 0x13, 0x9f, 0x00, 0x00, 0x00, 0x08, 0x00, 0x32, 0x80, 0x00, 0x00, 0x00,
+    0x01, 0x00, 0x06, 0x60, 0x00, 0x00, 0x00, 0x00, 0x20, 0x00, 0x00, 0x00, 0x00, 0x00, 0x00, 0x04,
+    0x00, 0x16, 0xc0, 0x00, 0x00, 0x00,
+];
+
+/// The front of a head.
+const HEAD: &[u8] =
+    b"\xff\xfb\x90\0\0\0\0\0\0\0\0\0\0\0\0\0\0\0\0\0\0\0\0\0\0\0\0\0\0\0\0\0\0\0\0\0Info";
+
+/// The front of a silent frame.
+const SILENT: &[u8] =
+    b"\xff\xfb\x90\0\0\0\0\0\0\0\0\0\0\0\0\0\0\0\0\0\0\0\0\0\0\0\0\0\0\0\0\0\0\0\0\0";
+
+/// The first 10 bytes of an ID3v2 block of 30.
+const ID3V2: &[u8] = &[b'I', b'D', b'3', 3, 0, 0, 0, 0, 0, 20];
+
+/// ID3v2, 3 zero bytes, 7 bytes of junk, a head at 40, 120 frames without check word, ID3v2, 5 zero bytes, 60
+/// frames with check words, a silent frame, and ID3v1: 76,097 bytes.
+static QUIET: [Stretch; 13] = [
+    Stretch::Bytes(ID3V2),
+    Stretch::Fill(0x41, 20),
+    Stretch::Fill(0, 3),
+    Stretch::Fill(0x55, 7),
+    Stretch::Frames(HEAD, 1),
+    Stretch::Frames(PLAIN, 120),
+    Stretch::Bytes(ID3V2),
+    Stretch::Fill(0x42, 20),
+    Stretch::Fill(0, 5),
+    Stretch::Frames(PROTECTED, 60),
+    Stretch::Frames(SILENT, 1),
+    Stretch::Bytes(b"TAG"),
+    Stretch::Fill(0x20, 125),
+];
+
+/// The same with other gains, and without the junk.
+static LOUD: [Stretch; 12] = [
+    Stretch::Bytes(ID3V2),
+    Stretch::Fill(0x41, 20),
+    Stretch::Fill(0, 3),
+    Stretch::Frames(HEAD, 1),
+    Stretch::Frames(PLAIN_LOUDER, 120),
+    Stretch::Bytes(ID3V2),
+    Stretch::Fill(0x42, 20),
+    Stretch::Fill(0, 5),
+    Stretch::Frames(PROTECTED_LOUDER, 60),
+    Stretch::Frames(SILENT, 1),
+    Stretch::Bytes(b"TAG"),
+    Stretch::Fill(0x20, 125),
+];
+
+#[test]
+fn moves_the_gains_of_a_long_file(rt: HostRuntime) -> Result<(), Fail> {
+    let mut folder = MemFolder::new(rt.alloc());
+    folder.put("quiet", &file_of(rt.alloc(), &QUIET)?)?;
+    folder.reserve("loud", 80_000)?;
+    let loud = file_of(rt.alloc(), &LOUD)?;
+    assert_eq!(rt;
+        gain(rt.alloc(), &mut folder, "quiet", "loud", &LOUDER, false),
+        Ok(())
+    );
+    assert_eq!(rt; folder.get("loud"), Some(&loud[..]));
+    Ok(())
+}
+
+/// What goes wrong once the output was created, and what the answer is.
+struct Case {
+    trouble: Trouble,
+    answer: Result<(), EditFault>,
+    // How many bytes were written.
+    written: usize,
+}
+
+static CASES: [Case; 4] = [
+    Case {
+        trouble: Trouble::Nothing,
+        answer: Ok(()),
+        written: 76_090,
+    },
+    Case {
+        trouble: Trouble::Unread(70_000),
+        answer: Err(EditFault::Input(0, SurveyFault::Read)),
+        written: 65_536,
+    },
+    Case {
+        trouble: Trouble::Shorter(70_000),
+        answer: Err(EditFault::Input(0, SurveyFault::Shrunk(76_097, 70_000))),
+        written: 65_536,
+    },
+    Case {
+        trouble: Trouble::Unwritten(70_000),
+        answer: Err(EditFault::Write(0)),
+        written: 70_436,
+    },
+];
+
+#[test]
+fn reads_and_writes_a_few_bytes_at_a_time(rt: HostRuntime) -> Result<(), Fail> {
+    let loud = file_of(rt.alloc(), &LOUD)?;
+    for case in &CASES {
+        let quiet = file_of(rt.alloc(), &QUIET)?;
+        let mut folder = Slow::new(rt.alloc(), quiet, case.trouble);
+        let answer = gain(rt.alloc(), &mut folder, "quiet", "loud", &LOUDER, false);
+        assert_eq!(rt; answer, case.answer);
+        assert_eq!(rt; folder.output.len(), case.written, "{:?}", case.trouble);
+        assert!(rt; loud.starts_with(&folder.output), "{:?}", case.trouble);
+    }
+    Ok(())
+}

@@ -1,0 +1,125 @@
+//! Info frames of whole files, worked out by hand: the lengths of frames by the standard's rule, and entries by division.
+
+use info_header::info_over;
+use arrayvec::ArrayVec;
+use frame_header::{Header, Slot};
+use std::test::Fail;
+
+/// MPEG-1, 44,100 Hz, two channels, at 32, 112 and 128 kbit/s: 104, 365 and 417 bytes. The Info frame has 208.
+const RATE_32: [u8; 4] = [0xff, 0xfb, 0x10, 0x00];
+
+const RATE_112: [u8; 4] = [0xff, 0xfb, 0x80, 0x00];
+
+const RATE_128: [u8; 4] = [0xff, 0xfb, 0x90, 0x00];
+
+/// MPEG-2, 24,000 Hz, one channel, at 80 and 8 kbit/s: 240 and 24 bytes. The Info frame has 169.
+const LOW_80: [u8; 4] = [0xff, 0xf3, 0x94, 0xc0];
+
+const LOW_8: [u8; 4] = [0xff, 0xf3, 0x14, 0xc0];
+
+/// The frames of a file, and what its Info frame says.
+struct Case {
+    frames: &'static [[u8; 4]],
+    vbr: bool,
+    bytes: u32,
+    /// Some entries, by their places.
+    entries: &'static [Entry],
+}
+
+struct Entry {
+    at: usize,
+    value: u8,
+}
+
+static CASES: [Case; 7] = [
+    Case {
+        frames: &[RATE_128, RATE_128],
+        vbr: false,
+        bytes: 1042,
+        entries: &[
+            Entry { at: 0, value: 51 },
+            Entry { at: 49, value: 51 },
+            Entry { at: 50, value: 153 },
+            Entry { at: 99, value: 153 },
+        ],
+    },
+    Case {
+        frames: &[RATE_32, RATE_128],
+        vbr: true,
+        bytes: 729,
+        entries: &[
+            Entry { at: 0, value: 73 },
+            Entry { at: 49, value: 73 },
+            Entry { at: 50, value: 109 },
+            Entry { at: 99, value: 109 },
+        ],
+    },
+    Case {
+        frames: &[RATE_32, RATE_32],
+        vbr: false,
+        bytes: 416,
+        entries: &[Entry { at: 49, value: 128 }, Entry { at: 50, value: 192 }],
+    },
+    Case {
+        frames: &[RATE_112, RATE_128],
+        vbr: true,
+        bytes: 990,
+        entries: &[Entry { at: 49, value: 53 }, Entry { at: 50, value: 148 }],
+    },
+    Case {
+        frames: &[RATE_128, RATE_128, RATE_32, RATE_128],
+        vbr: true,
+        bytes: 1563,
+        entries: &[
+            Entry { at: 24, value: 34 },
+            Entry { at: 25, value: 102 },
+            Entry { at: 50, value: 170 },
+            Entry { at: 75, value: 187 },
+        ],
+    },
+    // A third of the entries each: place 33 is the last of frame 0, and 67 the first of frame 2.
+    Case {
+        frames: &[RATE_128, RATE_128, RATE_128],
+        vbr: false,
+        bytes: 1459,
+        entries: &[
+            Entry { at: 33, value: 36 },
+            Entry { at: 34, value: 109 },
+            Entry { at: 66, value: 109 },
+            Entry { at: 67, value: 182 },
+        ],
+    },
+    Case {
+        frames: &[LOW_80, LOW_8],
+        vbr: true,
+        bytes: 433,
+        entries: &[Entry { at: 49, value: 99 }, Entry { at: 50, value: 241 }],
+    },
+];
+
+#[test]
+fn infos_of_files(rt: HostRuntime) -> Result<(), Fail> {
+    for case in &CASES {
+        let mut slots: ArrayVec<Slot, 4> = ArrayVec::new();
+        let mut class = Header::read(RATE_128)?.class();
+        for frame in case.frames {
+            let header = Header::read(*frame)?;
+            class = header.class();
+            assert!(rt; slots.try_push(header.slot).is_ok());
+        }
+        let info = info_over(class, slots.as_slice());
+        assert_eq!(rt; (info.vbr, info.bytes), (case.vbr, Some(case.bytes)));
+        assert_eq!(rt; info.frames, Some(slots.len() as u32));
+        let table = info.table.ok_or("no table")?;
+        for entry in case.entries {
+            assert_eq!(rt;
+                table.get(entry.at).copied(),
+                Some(entry.value),
+                "{} at {}",
+                case.bytes,
+                entry.at
+            );
+        }
+    }
+    Ok(())
+}

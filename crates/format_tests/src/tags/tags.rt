@@ -1,0 +1,322 @@
+//! Tags written out from the layout of APEv2, apart from this crate: exact bytes, what changes in them, and each fault
+//! with its place, which was counted by hand.
+
+use tag_blocks::{Block, Kind, Tag, TagFault, Undo, UndoItem, block_at};
+use std::alloc::Global;
+use std::process::Abort;
+use std::test::Fail;
+
+/// A tag that has the undo item alone: -1 step left and right, with `W`. Header, item of 32 bytes and footer.
+static ALONE: &[u8] = b"\
+    APETAGEX\xd0\x07\x00\x00\x40\x00\x00\x00\
+    \x01\x00\x00\x00\x00\x00\x00\xa0\x00\x00\x00\x00\x00\x00\x00\x00\
+    \x0b\x00\x00\x00\x00\x00\x00\x00MP3GAIN_UNDO\x00-001,-001,W\
+    APETAGEX\xd0\x07\x00\x00\x40\x00\x00\x00\
+    \x01\x00\x00\x00\x00\x00\x00\x80\x00\x00\x00\x00\x00\x00\x00\x00";
+
+/// A tag whose undo item has its key in another case and flags of its own, with an item before it (15 bytes) and one
+/// behind it (30 bytes), and other flags of header and footer.
+static AMID: &[u8] = b"\
+    APETAGEX\xd0\x07\x00\x00\x6d\x00\x00\x00\
+    \x03\x00\x00\x00\x01\x00\x00\xe0\x00\x00\x00\x00\x00\x00\x00\x00\
+    \x01\x00\x00\x00\x00\x00\x00\x00Title\x00a\
+    \x0b\x00\x00\x00\x02\x00\x00\x00mp3gain_Undo\x00+003,-004,N\
+    \x07\x00\x00\x00\x00\x00\x00\x00MP3GAIN_MINMAX\x00089,210\
+    APETAGEX\xd0\x07\x00\x00\x6d\x00\x00\x00\
+    \x03\x00\x00\x00\x02\x00\x00\xc0\x00\x00\x00\x00\x00\x00\x00\x00";
+
+/// The same with -997 left, 999 right and `W`.
+static AMID_CHANGED: &[u8] = b"\
+    APETAGEX\xd0\x07\x00\x00\x6d\x00\x00\x00\
+    \x03\x00\x00\x00\x01\x00\x00\xe0\x00\x00\x00\x00\x00\x00\x00\x00\
+    \x01\x00\x00\x00\x00\x00\x00\x00Title\x00a\
+    \x0b\x00\x00\x00\x02\x00\x00\x00mp3gain_Undo\x00-997,+999,W\
+    \x07\x00\x00\x00\x00\x00\x00\x00MP3GAIN_MINMAX\x00089,210\
+    APETAGEX\xd0\x07\x00\x00\x6d\x00\x00\x00\
+    \x03\x00\x00\x00\x02\x00\x00\xc0\x00\x00\x00\x00\x00\x00\x00\x00";
+
+/// The same without the undo item.
+static AMID_DROPPED: &[u8] = b"\
+    APETAGEX\xd0\x07\x00\x00\x4d\x00\x00\x00\
+    \x02\x00\x00\x00\x01\x00\x00\xe0\x00\x00\x00\x00\x00\x00\x00\x00\
+    \x01\x00\x00\x00\x00\x00\x00\x00Title\x00a\
+    \x07\x00\x00\x00\x00\x00\x00\x00MP3GAIN_MINMAX\x00089,210\
+    APETAGEX\xd0\x07\x00\x00\x4d\x00\x00\x00\
+    \x02\x00\x00\x00\x02\x00\x00\xc0\x00\x00\x00\x00\x00\x00\x00\x00";
+
+/// The same without the undo item, and then with a new one.
+static AMID_NEW: &[u8] = b"\
+    APETAGEX\xd0\x07\x00\x00\x6d\x00\x00\x00\
+    \x03\x00\x00\x00\x01\x00\x00\xe0\x00\x00\x00\x00\x00\x00\x00\x00\
+    \x01\x00\x00\x00\x00\x00\x00\x00Title\x00a\
+    \x07\x00\x00\x00\x00\x00\x00\x00MP3GAIN_MINMAX\x00089,210\
+    \x0b\x00\x00\x00\x00\x00\x00\x00MP3GAIN_UNDO\x00-001,-001,W\
+    APETAGEX\xd0\x07\x00\x00\x6d\x00\x00\x00\
+    \x03\x00\x00\x00\x02\x00\x00\xc0\x00\x00\x00\x00\x00\x00\x00\x00";
+
+/// A tag whose undo item stands behind another item, and has a value of 10 bytes.
+static BAD_UNDO: &[u8] = b"\
+    APETAGEX\xd0\x07\x00\x00\x4e\x00\x00\x00\
+    \x02\x00\x00\x00\x00\x00\x00\xa0\x00\x00\x00\x00\x00\x00\x00\x00\
+    \x01\x00\x00\x00\x00\x00\x00\x00Title\x00a\
+    \x0a\x00\x00\x00\x00\x00\x00\x00MP3GAIN_UNDO\x00+00,+000,N\
+    APETAGEX\xd0\x07\x00\x00\x4e\x00\x00\x00\
+    \x02\x00\x00\x00\x00\x00\x00\x80\x00\x00\x00\x00\x00\x00\x00\x00";
+
+/// A block that is no tag, and the place of its first fault.
+struct Faulty {
+    what: &'static str,
+    block: &'static [u8],
+    place: u64,
+}
+
+static FAULTY: [Faulty; 15] = [
+    Faulty {
+        what: "a byte of the header that has to be zero",
+        block: b"\
+            APETAGEX\xd0\x07\x00\x00\x2f\x00\x00\x00\
+            \x01\x00\x00\x00\x00\x00\x00\xa0\x00\x00\x00\x00\x00\x00\x00\x01\
+            \x01\x00\x00\x00\x00\x00\x00\x00Title\x00a\
+            APETAGEX\xd0\x07\x00\x00\x2f\x00\x00\x00\
+            \x01\x00\x00\x00\x00\x00\x00\x80\x00\x00\x00\x00\x00\x00\x00\x00",
+        place: 24,
+    },
+    Faulty {
+        what: "a key of one character",
+        block: b"\
+            APETAGEX\xd0\x07\x00\x00\x3b\x00\x00\x00\
+            \x02\x00\x00\x00\x00\x00\x00\xa0\x00\x00\x00\x00\x00\x00\x00\x00\
+            \x01\x00\x00\x00\x00\x00\x00\x00Title\x00a\
+            \x02\x00\x00\x00\x00\x00\x00\x00x\x00ab\
+            APETAGEX\xd0\x07\x00\x00\x3b\x00\x00\x00\
+            \x02\x00\x00\x00\x00\x00\x00\x80\x00\x00\x00\x00\x00\x00\x00\x00",
+        place: 47,
+    },
+    Faulty {
+        what: "a key without a zero byte behind it",
+        block: b"\
+            APETAGEX\xd0\x07\x00\x00\x3a\x00\x00\x00\
+            \x02\x00\x00\x00\x00\x00\x00\xa0\x00\x00\x00\x00\x00\x00\x00\x00\
+            \x01\x00\x00\x00\x00\x00\x00\x00Title\x00a\
+            \x01\x00\x00\x00\x00\x00\x00\x00xyz\
+            APETAGEX\xd0\x07\x00\x00\x3a\x00\x00\x00\
+            \x02\x00\x00\x00\x00\x00\x00\x80\x00\x00\x00\x00\x00\x00\x00\x00",
+        place: 47,
+    },
+    Faulty {
+        what: "a key with a character 1f",
+        block: b"\
+            APETAGEX\xd0\x07\x00\x00\x3d\x00\x00\x00\
+            \x02\x00\x00\x00\x00\x00\x00\xa0\x00\x00\x00\x00\x00\x00\x00\x00\
+            \x02\x00\x00\x00\x00\x00\x00\x00a\x1fb\x00ab\
+            \x01\x00\x00\x00\x00\x00\x00\x00Title\x00a\
+            APETAGEX\xd0\x07\x00\x00\x3d\x00\x00\x00\
+            \x02\x00\x00\x00\x00\x00\x00\x80\x00\x00\x00\x00\x00\x00\x00\x00",
+        place: 32,
+    },
+    Faulty {
+        what: "a key of 256 characters",
+        block: b"\
+            APETAGEX\xd0\x07\x00\x00)\x01\x00\x00\
+            \x01\x00\x00\x00\x00\x00\x00\xa0\x00\x00\x00\x00\x00\x00\x00\x00\
+            \x00\x00\x00\x00\x00\x00\x00\x00kkkkkkkkkkkkkkkkkkkkkkkkkkkkkkkkkkkkkkkkkkkkkkkkkkkkkkkkkkkk\
+            kkkkkkkkkkkkkkkkkkkkkkkkkkkkkkkkkkkkkkkkkkkkkkkkkkkkkkkkkkkkkkkkkkkkkkkkkkkkkkkkkkkkkkkkkkkk\
+            kkkkkkkkkkkkkkkkkkkkkkkkkkkkkkkkkkkkkkkkkkkkkkkkkkkkkkkkkkkkkkkkkkkkkkkkkkkkkkkkkkkkkkkkkkkk\
+            kkkkkkkkkkkk\x00\
+            APETAGEX\xd0\x07\x00\x00)\x01\x00\x00\
+            \x01\x00\x00\x00\x00\x00\x00\x80\x00\x00\x00\x00\x00\x00\x00\x00",
+        place: 32,
+    },
+    Faulty {
+        what: "a value that passes the footer by one byte",
+        block: b"\
+            APETAGEX\xd0\x07\x00\x00\x3e\x00\x00\x00\
+            \x02\x00\x00\x00\x00\x00\x00\xa0\x00\x00\x00\x00\x00\x00\x00\x00\
+            \x01\x00\x00\x00\x00\x00\x00\x00Title\x00a\
+            \x04\x00\x00\x00\x00\x00\x00\x00key\x00abc\
+            APETAGEX\xd0\x07\x00\x00\x3e\x00\x00\x00\
+            \x02\x00\x00\x00\x00\x00\x00\x80\x00\x00\x00\x00\x00\x00\x00\x00",
+        place: 47,
+    },
+    Faulty {
+        what: "a second undo item",
+        block: b"\
+            APETAGEX\xd0\x07\x00\x00\x6f\x00\x00\x00\
+            \x03\x00\x00\x00\x00\x00\x00\xa0\x00\x00\x00\x00\x00\x00\x00\x00\
+            \x0b\x00\x00\x00\x00\x00\x00\x00MP3GAIN_UNDO\x00-001,-001,W\
+            \x01\x00\x00\x00\x00\x00\x00\x00Title\x00a\
+            \x0b\x00\x00\x00\x02\x00\x00\x00mp3gain_Undo\x00+003,-004,N\
+            APETAGEX\xd0\x07\x00\x00\x6f\x00\x00\x00\
+            \x03\x00\x00\x00\x00\x00\x00\x80\x00\x00\x00\x00\x00\x00\x00\x00",
+        place: 79,
+    },
+    Faulty {
+        what: "fewer items than the header counts",
+        block: b"\
+            APETAGEX\xd0\x07\x00\x00\x2f\x00\x00\x00\
+            \x02\x00\x00\x00\x00\x00\x00\xa0\x00\x00\x00\x00\x00\x00\x00\x00\
+            \x01\x00\x00\x00\x00\x00\x00\x00Title\x00a\
+            APETAGEX\xd0\x07\x00\x00\x2f\x00\x00\x00\
+            \x02\x00\x00\x00\x00\x00\x00\x80\x00\x00\x00\x00\x00\x00\x00\x00",
+        place: 47,
+    },
+    Faulty {
+        what: "more items than the header counts",
+        block: b"\
+            APETAGEX\xd0\x07\x00\x00\x4d\x00\x00\x00\
+            \x01\x00\x00\x00\x00\x00\x00\xa0\x00\x00\x00\x00\x00\x00\x00\x00\
+            \x01\x00\x00\x00\x00\x00\x00\x00Title\x00a\
+            \x07\x00\x00\x00\x00\x00\x00\x00MP3GAIN_MINMAX\x00089,210\
+            APETAGEX\xd0\x07\x00\x00\x4d\x00\x00\x00\
+            \x01\x00\x00\x00\x00\x00\x00\x80\x00\x00\x00\x00\x00\x00\x00\x00",
+        place: 47,
+    },
+    Faulty {
+        what: "another text in the footer",
+        block: b"\
+            APETAGEX\xd0\x07\x00\x00\x2f\x00\x00\x00\
+            \x01\x00\x00\x00\x00\x00\x00\xa0\x00\x00\x00\x00\x00\x00\x00\x00\
+            \x01\x00\x00\x00\x00\x00\x00\x00Title\x00a\
+            APETAGEY\xd0\x07\x00\x00\x2f\x00\x00\x00\
+            \x01\x00\x00\x00\x00\x00\x00\x80\x00\x00\x00\x00\x00\x00\x00\x00",
+        place: 47,
+    },
+    Faulty {
+        what: "version 1000 in the footer",
+        block: b"\
+            APETAGEX\xd0\x07\x00\x00\x2f\x00\x00\x00\
+            \x01\x00\x00\x00\x00\x00\x00\xa0\x00\x00\x00\x00\x00\x00\x00\x00\
+            \x01\x00\x00\x00\x00\x00\x00\x00Title\x00a\
+            APETAGEX\xe8\x03\x00\x00\x2f\x00\x00\x00\
+            \x01\x00\x00\x00\x00\x00\x00\x80\x00\x00\x00\x00\x00\x00\x00\x00",
+        place: 47,
+    },
+    Faulty {
+        what: "another size in the footer",
+        block: b"\
+            APETAGEX\xd0\x07\x00\x00\x2f\x00\x00\x00\
+            \x01\x00\x00\x00\x00\x00\x00\xa0\x00\x00\x00\x00\x00\x00\x00\x00\
+            \x01\x00\x00\x00\x00\x00\x00\x00Title\x00a\
+            APETAGEX\xd0\x07\x00\x00\x0f\x00\x00\x00\
+            \x01\x00\x00\x00\x00\x00\x00\x80\x00\x00\x00\x00\x00\x00\x00\x00",
+        place: 47,
+    },
+    Faulty {
+        what: "another count in the footer",
+        block: b"\
+            APETAGEX\xd0\x07\x00\x00\x2f\x00\x00\x00\
+            \x01\x00\x00\x00\x00\x00\x00\xa0\x00\x00\x00\x00\x00\x00\x00\x00\
+            \x01\x00\x00\x00\x00\x00\x00\x00Title\x00a\
+            APETAGEX\xd0\x07\x00\x00\x2f\x00\x00\x00\
+            \x02\x00\x00\x00\x00\x00\x00\x80\x00\x00\x00\x00\x00\x00\x00\x00",
+        place: 47,
+    },
+    Faulty {
+        what: "a header's flag in the footer",
+        block: b"\
+            APETAGEX\xd0\x07\x00\x00\x2f\x00\x00\x00\
+            \x01\x00\x00\x00\x00\x00\x00\xa0\x00\x00\x00\x00\x00\x00\x00\x00\
+            \x01\x00\x00\x00\x00\x00\x00\x00Title\x00a\
+            APETAGEX\xd0\x07\x00\x00\x2f\x00\x00\x00\
+            \x01\x00\x00\x00\x00\x00\x00\xa0\x00\x00\x00\x00\x00\x00\x00\x00",
+        place: 47,
+    },
+    Faulty {
+        what: "a byte of the footer that has to be zero",
+        block: b"\
+            APETAGEX\xd0\x07\x00\x00\x2f\x00\x00\x00\
+            \x01\x00\x00\x00\x00\x00\x00\xa0\x00\x00\x00\x00\x00\x00\x00\x00\
+            \x01\x00\x00\x00\x00\x00\x00\x00Title\x00a\
+            APETAGEX\xd0\x07\x00\x00\x2f\x00\x00\x00\
+            \x01\x00\x00\x00\x00\x00\x00\x80\x01\x00\x00\x00\x00\x00\x00\x00",
+        place: 47,
+    },
+];
+
+/// The tag of a whole APEv2 block.
+fn read(rt: &impl Abort, alloc: Global, block: &[u8]) -> Result<Tag, TagFault> {
+    assert!(rt; block.len() <= 1_048_576);
+    let whole = Block {
+        kind: Kind::Ape,
+        length: block.len() as u64,
+    };
+    assert_eq!(rt; block_at(block), Some(whole));
+    Tag::read(alloc, block)
+}
+
+#[test]
+fn a_new_tag(rt: HostRuntime) -> Result<(), Fail> {
+    let mut tag = Tag::new(rt.alloc());
+    assert!(rt; tag.is_empty());
+    assert_eq!(rt; tag.length(), 64);
+    assert_eq!(rt; tag.undo(), UndoItem::Missing);
+    let undo = Undo {
+        left: -1,
+        right: -1,
+        wrap: true,
+    };
+    tag.set_undo(&undo)?;
+    assert!(rt; !tag.is_empty());
+    assert_eq!(rt; tag.length(), 96);
+    assert_eq!(rt; tag.undo(), UndoItem::Found(undo));
+    assert_eq!(rt; tag.write(rt.alloc())?.as_slice(), ALONE);
+    Ok(())
+}
+
+#[test]
+fn an_undo_item_amid_others(rt: HostRuntime) -> Result<(), Fail> {
+    let mut tag = read(&rt, rt.alloc(), AMID)?;
+    assert_eq!(rt; tag.length(), 141);
+    let before = Undo {
+        left: 3,
+        right: -4,
+        wrap: false,
+    };
+    assert_eq!(rt; tag.undo(), UndoItem::Found(before));
+    assert_eq!(rt; tag.write(rt.alloc())?.as_slice(), AMID);
+    let after = Undo {
+        left: -997,
+        right: 999,
+        wrap: true,
+    };
+    tag.set_undo(&after)?;
+    assert_eq!(rt; tag.undo(), UndoItem::Found(after));
+    assert_eq!(rt; tag.write(rt.alloc())?.as_slice(), AMID_CHANGED);
+    Ok(())
+}
+
+#[test]
+fn an_undo_item_dropped(rt: HostRuntime) -> Result<(), Fail> {
+    let mut tag = read(&rt, rt.alloc(), AMID)?;
+    tag.drop_undo();
+    assert_eq!(rt; tag.undo(), UndoItem::Missing);
+    assert_eq!(rt; tag.write(rt.alloc())?.as_slice(), AMID_DROPPED);
+    tag.set_undo(&Undo {
+        left: -1,
+        right: -1,
+        wrap: true,
+    })?;
+    assert_eq!(rt; tag.write(rt.alloc())?.as_slice(), AMID_NEW);
+    let mut alone = read(&rt, rt.alloc(), ALONE)?;
+    alone.drop_undo();
+    assert!(rt; alone.is_empty());
+    assert_eq!(rt; alone.length(), 64);
+    Ok(())
+}
+
+#[test]
+fn a_bad_undo_item(rt: HostRuntime) -> Result<(), Fail> {
+    let tag = read(&rt, rt.alloc(), BAD_UNDO)?;
+    assert_eq!(rt; tag.undo(), UndoItem::Bad(47));
+    Ok(())
+}
+
+#[test]
+fn faults(rt: HostRuntime) {
+    for case in &FAULTY {
+        match read(&rt, rt.alloc(), case.block) {
+            Ok(_) => assert!(rt; false, "{} is taken", case.what),
+            Err(fault) => assert_eq!(rt; fault, TagFault::BadTag(case.place), "{}", case.what),
+        }
+    }
+}

@@ -1,0 +1,103 @@
+//! A folder that gives and takes few bytes at a time.
+use outside::tally::Tally;
+use outside::{Failed, FindFault, Folder};
+use std::alloc::{AllocError, Global};
+
+/// How many calls of `read` and `write` there were, and which of them fails.
+#[derive(Drop)]
+pub struct Calls {
+    pub made: u64,
+    pub failing: u64,
+}
+
+impl Calls {
+    fn next_fails(&mut self) -> bool {
+        self.made = self.made.saturating_add(1);
+        self.made == self.failing
+    }
+}
+
+/// A folder of one file, which gives and takes at most so many bytes at a time. It tells nothing.
+#[derive(Drop)]
+pub struct Slow {
+    pub content: Vec<u8>,
+    pub most: usize,
+    pub calls: Calls,
+    tally: Tally,
+}
+
+impl Slow {
+    pub fn new(
+        alloc: Global,
+        length: usize,
+        most: usize,
+        failing: u64,
+    ) -> Result<Slow, AllocError> {
+        Ok(Slow {
+            content: pattern(alloc, length)?,
+            most,
+            calls: Calls { made: 0, failing },
+            tally: Tally::new(),
+        })
+    }
+}
+
+/// The byte that the file has at this place: no two places less than 251 apart have the same.
+pub fn byte_at(place: usize) -> u8 {
+    (place % 251) as u8
+}
+
+/// So many bytes.
+pub fn pattern(alloc: Global, length: usize) -> Result<Vec<u8>, AllocError> {
+    let mut bytes = Vec::with_capacity(alloc, length)?;
+    for place in 0..length {
+        bytes.push(byte_at(place))?;
+    }
+    Ok(bytes)
+}
+
+impl Folder for Slow {
+    ghost use Rattle.outside.specs.Files.{untold};
+
+    ghost files = { λ _. untold };
+
+    ghost counts = { λ folder. folder.tally };
+
+    fn find(&mut self, _name: &str) -> Result<u64, FindFault> {
+        Ok(self.content.len() as u64)
+    }
+
+    fn read(&mut self, _name: &str, at: u64, into: &mut [u8]) -> Result<usize, Failed> {
+        if self.calls.next_fails() {
+            self.tally.count_read_fault();
+            return Err(Failed);
+        }
+        let start = self.content.len().min(at as usize);
+        let got = into.len().min(self.most).min(self.content.len() - start);
+        into[..got].copy_from_slice(&self.content[start..start + got]);
+        if got == 0 && !into.is_empty() {
+            self.tally.count_end();
+        }
+        Ok(got)
+    }
+
+    #[tactic(auto, unfolding(outside::specs::Files::emptied))]
+    fn create(&mut self, _name: &str) -> Result<(), Failed> {
+        self.content.clear();
+        Ok(())
+    }
+
+    #[tactic(auto, unfolding(outside::specs::Files::appended))]
+    fn write(&mut self, _name: &str, bytes: &[u8]) -> Result<usize, Failed> {
+        if self.calls.next_fails() {
+            self.tally.count_write_fault();
+            return Err(Failed);
+        }
+        let taken = bytes.len().min(self.most.max(1));
+        if self.content.extend_from_slice(&bytes[..taken]).is_err() {
+            self.tally.count_write_fault();
+            return Err(Failed);
+        }
+        Ok(taken)
+    }
+}

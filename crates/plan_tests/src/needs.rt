@@ -1,0 +1,142 @@
+//! Files worked out by hand: a frame of 417 bytes has an area of 381 (MPEG-1, 44,100 Hz, 128 kbit/s, stereo).
+ghost use Rattle.std.specs.Prelude.{◌<◌, ◌≤◌, length};
+ghost use Rattle.sync_survey.specs.Faults.{tells};
+ghost use Rattle.sync_survey.specs.Survey.{IsLaidOut};
+
+use part_needs::{Parts, one_part_fits};
+use outside::{Folder, MemFolder};
+use slot_plan::{Keep, Plan};
+use std::alloc::{AllocError, AllocGlobal, Global};
+use std::process::Abort;
+use std::test::Fail;
+use sync_survey::{Survey, survey};
+
+/// The index of 128 kbit/s, and that of 32.
+const OWN: u8 = 9;
+
+const LEAST: u8 = 1;
+
+/// Adds a frame whose fields are 0, but for main_data_begin, the first 9 bits of the side information, and the bits of
+/// the first channel's main data, its bits from the 21st to the 32nd.
+fn push_frame(file: &mut Vec<u8>, begin: u32, bits: u32) -> Result<(), AllocError> {
+    file.extend_from_slice(&[0xff, 0xfb, 0x90, 0x00])?;
+    file.extend_from_slice(&(begin << 23 | bits).to_be_bytes())?;
+    file.extend_from_slice(&[0; 409])
+}
+
+/// A frame whose main data stood before the file, one of 301 bytes, and one of 400 that begin right behind them.
+fn file_of(alloc: Global) -> Result<Vec<u8>, AllocError> {
+    let mut file = Vec::new(alloc);
+    push_frame(&mut file, 10, 800)?;
+    push_frame(&mut file, 0, 2401)?;
+    push_frame(&mut file, 80, 3200)?;
+    Ok(file)
+}
+
+/// The survey of the file.
+fn surveyed<R: Abort + AllocGlobal, D: Folder>(rt: &R, folder: &mut D) -> Survey
+    ensures { IsLaidOut (tells result) }
+{
+    match survey(rt.alloc(), folder, "a", 100) {
+        Ok(survey) => survey,
+        Err(_) => panic!(rt; "no survey"),
+    }
+}
+
+/// The plan of the frames from one on and before another, each in its own slot.
+fn plan_between<R: Abort + AllocGlobal>(
+    rt: &R,
+    survey: &Survey,
+    from: usize,
+    to: usize,
+) -> Result<Plan, AllocError>
+    requires laid { IsLaidOut (tells survey.now) }
+    requires some { from < to }
+    requires within { to ≤ length (tells survey.now).frames }
+{
+    let frames = survey.frames();
+    assert!(rt; frames.len() <= 2_900_000);
+    let mut parts = Parts::new(rt.alloc());
+    parts.push(&frames[from..to])?;
+    one_part_fits();
+    parts.plan(rt.alloc(), &Keep)
+}
+
+/// A frame of a plan: whether it is a lead-in, the index of its bit rate, and main_data_begin.
+#[derive(Clone, Copy, Debug, PartialEq, Eq)]
+struct Planned(bool, u8, u16);
+
+struct Case {
+    from: usize,
+    to: usize,
+    placed: &'static [Planned],
+}
+
+static CASES: [Case; 3] = [
+    // The lost frame is empty, so the next one's main data begin in its area, and so on.
+    Case {
+        from: 0,
+        to: 3,
+        placed: &[
+            Planned(false, OWN, 0),
+            Planned(false, OWN, 381),
+            Planned(false, OWN, 461),
+        ],
+    },
+    Case {
+        from: 1,
+        to: 3,
+        placed: &[Planned(false, OWN, 0), Planned(false, OWN, 80)],
+    },
+    // 19 bytes are missing: a lead-in of area 68.
+    Case {
+        from: 2,
+        to: 3,
+        placed: &[Planned(true, LEAST, 0), Planned(false, OWN, 68)],
+    },
+];
+
+#[test]
+fn parts_of_a_file(rt: HostRuntime) -> Result<(), Fail> {
+    let mut folder = MemFolder::new(rt.alloc());
+    folder.put("a", &file_of(rt.alloc())?)?;
+    let survey = surveyed(&rt, &mut folder);
+    for case in &CASES {
+        assert!(rt; case.from < case.to && case.to <= survey.frames().len());
+        let plan = plan_between(&rt, &survey, case.from, case.to)?;
+        let placed = plan.placed();
+        assert_eq!(rt; placed.len(), case.placed.len(), "from {}", case.from);
+        for (frame, wanted) in placed.iter().zip(case.placed) {
+            let slot = frame.slot;
+            assert_eq!(rt;
+                Planned(frame.lead_in, slot.rate_index, frame.begin),
+                *wanted,
+                "from {}",
+                case.from
+            );
+            assert!(rt; !slot.padding);
+        }
+    }
+    Ok(())
+}
+
+/// Two parts, of which the second has one frame.
+#[test]
+fn two_parts(rt: HostRuntime) -> Result<(), Fail> {
+    let mut folder = MemFolder::new(rt.alloc());
+    folder.put("a", &file_of(rt.alloc())?)?;
+    let survey = surveyed(&rt, &mut folder);
+    let frames = survey.frames();
+    assert!(rt; frames.len() == 3);
+    let mut parts = Parts::new(rt.alloc());
+    parts.push(&frames[..2])?;
+    assert!(rt; parts.needs().len() < 10);
+    parts.push(&frames[2..])?;
+    assert_eq!(rt; parts.places(), [0, 2].as_slice());
+    assert_eq!(rt; parts.needs().len(), 3);
+    for (need, bytes) in parts.needs().iter().zip([0, 301, 400]) {
+        assert_eq!(rt; need.bytes, bytes);
+        assert_eq!(rt; need.header.slot.rate_index, OWN);
+    }
+    Ok(())
+}

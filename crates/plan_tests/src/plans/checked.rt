@@ -1,0 +1,98 @@
+//! `plan`, called once it is seen that it may be.
+ghost use Rattle.std.specs.Prelude.{◌≡◌, ◌<◌, ◌≤◌, AllPairs, All, IsTrue, length, slice_index, map};
+ghost use Rattle.slot_plan.specs.Layouts.{IsFeasible};
+ghost use Rattle.slot_plan.specs.Parts.{own_frame, parts_of, AreOfOneClass, ArePartsFeasible};
+
+use crate::plans::end_of;
+use slot_plan::slots::free_behind;
+use slot_plan::{Need, Plan, Policy, plan};
+use std::alloc::{AllocError, AllocGlobal};
+use std::process::Abort;
+
+/// Whether each number is less than the next.
+fn ascend(numbers: &[u32]) -> bool
+    ensures { IsTrue result → AllPairs (λ m n. m < n) numbers.now }
+{
+    for at in 1..numbers.len() {
+        if numbers[at - 1] >= numbers[at] {
+            return false;
+        }
+    }
+    true
+}
+
+/// Whether each place is one of so many.
+fn are_within(places: &[u32], count: usize) -> bool
+    ensures { IsTrue result → All (λ place. place < count) places.now }
+{
+    for place in places {
+        if *place as usize >= count {
+            return false;
+        }
+    }
+    true
+}
+
+fn are_of_one_class(needs: &[Need]) -> bool
+    requires { 0 < length needs.now }
+    ensures { IsTrue result → AreOfOneClass needs.now }
+{
+    let class = needs[0].header.class();
+    for need in needs {
+        if !need.header.class().is_same(class) {
+            return false;
+        }
+    }
+    true
+}
+
+/// Whether the frames can be laid in their own slots behind a whole window.
+pub fn fit(window: u32, part: &[Need]) -> bool
+    requires { window ≤ 511 }
+    ensures { IsTrue result → IsFeasible window window (map own_frame part.now) }
+{
+    let mut free = window;
+    for need in part {
+        let area = need.header.area();
+        if need.bytes > free + area {
+            return false;
+        }
+        free = free_behind(window, free, need.bytes, area);
+    }
+    true
+}
+
+/// Whether the frames of each part can.
+fn all_fit(window: u32, needs: &[Need], parts: &[u32]) -> bool
+    requires window { window ≤ 511 }
+    requires ascending { AllPairs (λ m n. m < n) parts.now }
+    requires within { All (λ place. place < length needs.now) parts.now }
+    ensures { IsTrue result → ArePartsFeasible window (parts_of needs.now parts.now) }
+{
+    for (at, from) in parts.iter().enumerate() {
+        if !fit(window, &needs[*from as usize..end_of(needs, parts, at)]) {
+            return false;
+        }
+    }
+    true
+}
+
+/// The plan of these parts.
+pub fn plan_of<R: Abort + AllocGlobal, P: Policy>(
+    rt: &R,
+    needs: &[Need],
+    parts: &[u32],
+    policy: &P,
+) -> Result<Plan, AllocError> {
+    assert!(rt; !needs.is_empty());
+    assert!(rt; needs.len() <= 2_900_000);
+    assert!(rt; !parts.is_empty());
+    assert!(rt; parts.len() <= 64);
+    assert!(rt; parts[0] == 0);
+    assert!(rt; ascend(parts));
+    assert!(rt; are_within(parts, needs.len()));
+    assert!(rt; are_of_one_class(needs));
+    let window = needs[0].header.class().window();
+    assert!(rt; all_fit(window, needs, parts));
+    plan(rt.alloc(), needs, parts, policy)
+}

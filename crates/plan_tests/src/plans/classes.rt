@@ -1,0 +1,138 @@
+//! The greatest payload that a frame can have, in each class and slot.
+
+use super::checked::plan_of;
+use super::rows::Row::{Frame, LeadIn, Padded};
+use super::rows::expect_rows;
+use slot_plan::{Keep, Least, Need};
+use frame_header::{Header, Slot};
+use std::alloc::AllocGlobal;
+use std::process::Abort;
+use std::test::Fail;
+
+/// The lowest slot of a class without check words, and the bit rate in kbit/s from which on, without padding,
+/// the area is a whole window: 511 bytes, and 255 in MPEG-2 and MPEG-2.5.
+struct Row {
+    header: [u8; 4],
+    lead_in: u32,
+}
+
+static CLASSES: [Row; 18] = [
+    Row {
+        header: [0xff, 0xfb, 0x10, 0x00],
+        lead_in: 192,
+    },
+    Row {
+        header: [0xff, 0xfb, 0x10, 0xc0],
+        lead_in: 192,
+    },
+    Row {
+        header: [0xff, 0xfb, 0x14, 0x00],
+        lead_in: 192,
+    },
+    Row {
+        header: [0xff, 0xfb, 0x14, 0xc0],
+        lead_in: 192,
+    },
+    Row {
+        header: [0xff, 0xfb, 0x18, 0x00],
+        lead_in: 128,
+    },
+    Row {
+        header: [0xff, 0xfb, 0x18, 0xc0],
+        lead_in: 128,
+    },
+    Row {
+        header: [0xff, 0xf3, 0x10, 0x00],
+        lead_in: 96,
+    },
+    Row {
+        header: [0xff, 0xf3, 0x10, 0xc0],
+        lead_in: 96,
+    },
+    Row {
+        header: [0xff, 0xf3, 0x14, 0x00],
+        lead_in: 96,
+    },
+    Row {
+        header: [0xff, 0xf3, 0x14, 0xc0],
+        lead_in: 96,
+    },
+    Row {
+        header: [0xff, 0xf3, 0x18, 0x00],
+        lead_in: 64,
+    },
+    Row {
+        header: [0xff, 0xf3, 0x18, 0xc0],
+        lead_in: 64,
+    },
+    Row {
+        header: [0xff, 0xe3, 0x10, 0x00],
+        lead_in: 48,
+    },
+    Row {
+        header: [0xff, 0xe3, 0x10, 0xc0],
+        lead_in: 48,
+    },
+    Row {
+        header: [0xff, 0xe3, 0x14, 0x00],
+        lead_in: 48,
+    },
+    Row {
+        header: [0xff, 0xe3, 0x14, 0xc0],
+        lead_in: 48,
+    },
+    Row {
+        header: [0xff, 0xe3, 0x18, 0x00],
+        lead_in: 32,
+    },
+    Row {
+        header: [0xff, 0xe3, 0x18, 0xc0],
+        lead_in: 32,
+    },
+];
+
+/// The greatest payload of a frame in this slot takes a whole window behind its lead-in.
+fn expect_greatest<R: Abort + AllocGlobal>(
+    rt: &R,
+    header: Header,
+    lead_in: u32,
+) -> Result<(), Fail> {
+    let class = header.class();
+    let window = class.window();
+    let bytes = window + header.area();
+    let slot = header.slot;
+    let needs = [Need { header, bytes }];
+    let rate = class.rate(slot);
+    let begin = window as u16;
+    let frame = if slot.padding {
+        Padded(rate, begin)
+    } else {
+        Frame(rate, begin)
+    };
+    let rows = [LeadIn(lead_in, 0), frame];
+    let kept = plan_of(rt, &needs, &[0], &Keep)?;
+    expect_rows(rt, class, &kept, &rows, "kept");
+    // No slot is larger than the largest.
+    if slot.rate_index == 14 && slot.padding {
+        let least = plan_of(rt, &needs, &[0], &Least)?;
+        expect_rows(rt, class, &least, &rows, "least");
+    }
+    Ok(())
+}
+
+#[test]
+fn greatest_payloads(rt: HostRuntime) -> Result<(), Fail> {
+    for row in &CLASSES {
+        let header = Header::read(row.header)?;
+        for rate_index in 1..15 {
+            for padding in [false, true] {
+                let slot = Slot {
+                    rate_index,
+                    padding,
+                };
+                expect_greatest(&rt, header.with_slot(slot), row.lead_in)?;
+            }
+        }
+    }
+    Ok(())
+}

@@ -1,0 +1,109 @@
+//! Files whose first frames point before the stream, and which of their frames are lost. Worked out by hand: a
+//! frame of 417 bytes adds 381 bytes to the main data, one of `SHORT` 11.
+
+use crate::surveys::files::{
+    HEAD_FRONT, HEAD_REST, SHORT, SHORT_LOUD, SHORT_OF_FOUR, Stretch, Z, file_of,
+};
+use sync_survey::{Survey, survey};
+use outside::MemFolder;
+use std::alloc::AllocGlobal;
+use std::process::Abort;
+use std::test::Fail;
+
+/// As `SHORT` with main_data_begin 12.
+const SHORT_SILENT_BACK: Stretch = Stretch::Bytes(&[
+    0xff, 0xf3, 0x14, 0xc0, 0x0c, 0, 0, 0, 0, 0, 0, 0, 0, 0, 0, 0, 0, 0, 0, 0, 0, 0, 0, 0,
+]);
+
+/// A file without fault, and whether each of its frames is lost.
+struct Case {
+    name: &'static str,
+    file: &'static [Stretch],
+    lost: &'static [bool],
+}
+
+static CASES: [Case; 11] = [
+    Case {
+        name: "a frame that begins the file",
+        file: &[Stretch::Frame(81, 3200)],
+        lost: &[true],
+    },
+    Case {
+        name: "a silent one",
+        file: &[Stretch::Frame(10, 0)],
+        lost: &[true],
+    },
+    Case {
+        name: "more bits than there is room for",
+        file: &[Stretch::Frame(1, 4000)],
+        lost: &[true],
+    },
+    Case {
+        name: "up to the first area behind a silent frame",
+        file: &[Z, Stretch::Frame(381, 8)],
+        lost: &[false, false],
+    },
+    Case {
+        name: "one byte further",
+        file: &[Z, Stretch::Frame(382, 8)],
+        lost: &[false, true],
+    },
+    Case {
+        name: "up to the area of a head",
+        file: &[HEAD_FRONT, HEAD_REST, Stretch::Frame(381, 8)],
+        lost: &[false],
+    },
+    Case {
+        name: "one byte further than a head",
+        file: &[HEAD_FRONT, HEAD_REST, Stretch::Frame(382, 8)],
+        lost: &[true],
+    },
+    Case {
+        name: "behind several silent frames",
+        file: &[SHORT, SHORT, SHORT_OF_FOUR],
+        lost: &[false, false, true],
+    },
+    Case {
+        name: "a silent frame that points too far is lost, and the stretch goes on",
+        file: &[SHORT, SHORT_SILENT_BACK, SHORT_OF_FOUR, SHORT_LOUD, SHORT],
+        lost: &[false, true, true, false, false],
+    },
+    Case {
+        name: "a lost frame before one that isn't silent and points into its area",
+        file: &[Stretch::Frame(10, 800), Stretch::Frame(381, 8)],
+        lost: &[true, false],
+    },
+    Case {
+        name: "frames behind a lost one that point no further than the stream",
+        file: &[Stretch::Frame(500, 8), Z, Stretch::Frame(381, 8)],
+        lost: &[true, false, false],
+    },
+];
+
+/// Asserts that these frames are lost.
+fn expect_marks<R: Abort>(rt: &R, survey: &Survey, case: &Case) {
+    assert_eq!(rt; survey.frames().len(), case.lost.len(), "{}", case.name);
+    for (row, lost) in survey.frames().iter().zip(case.lost) {
+        assert_eq!(rt; row.lost, *lost, "{}", case.name);
+    }
+}
+
+/// Surveys the file.
+fn expect<R: Abort + AllocGlobal>(rt: &R, case: &Case) -> Result<(), Fail> {
+    let file = file_of(rt.alloc(), case.file)?;
+    let mut folder = MemFolder::new(rt.alloc());
+    folder.put("a", &file)?;
+    let Ok(survey) = survey(rt.alloc(), &mut folder, "a", 100) else {
+        panic!(rt; "no survey");
+    };
+    expect_marks(rt, &survey, case);
+    Ok(())
+}
+
+#[test]
+fn lost_frames(rt: HostRuntime) -> Result<(), Fail> {
+    for case in &CASES {
+        expect(&rt, case)?;
+    }
+    Ok(())
+}

@@ -1,0 +1,394 @@
+//! Files whose walk was worked out by hand, from the lengths of the standard's tables and the layouts of the blocks.
+
+use crate::surveys::files::{APE, HEADER, ID3V2, OTHER_CLASS, SILENCE, Stretch, file_of};
+use crate::surveys::plain::first_fault;
+use sync_survey::{Piece, Survey, SurveyFault, survey};
+use outside::MemFolder;
+use std::alloc::AllocGlobal;
+use std::process::Abort;
+use std::test::Fail;
+use tag_blocks::{Block, Kind};
+
+/// What has to be found in a file.
+#[derive(Drop)]
+pub struct Shape {
+    pub front_end: u64,
+    pub first: u64,
+    pub text_at: Option<u32>,
+    /// The offsets of the numbered frames.
+    pub frames: &'static [u64],
+    pub blocks: &'static [Piece],
+}
+
+/// A file, and the answer.
+pub struct Case {
+    pub name: &'static str,
+    pub file: &'static [Stretch],
+    pub answer: Result<Shape, SurveyFault>,
+}
+
+/// Two silent frames.
+const TWO_FRAMES: &[Stretch] = &[HEADER, SILENCE, HEADER, SILENCE];
+
+pub static CASES: [Case; 20] = [
+    Case {
+        name: "an empty file",
+        file: &[],
+        answer: Err(SurveyFault::NoFrame(0)),
+    },
+    Case {
+        name: "zero bytes alone",
+        file: &[Stretch::Fill(0, 3)],
+        answer: Err(SurveyFault::NoFrame(3)),
+    },
+    Case {
+        name: "two frames",
+        file: &[HEADER, SILENCE, HEADER, SILENCE],
+        answer: Ok(Shape {
+            front_end: 0,
+            first: 0,
+            text_at: None,
+            frames: &[0, 417],
+            blocks: &[],
+        }),
+    },
+    Case {
+        name: "a false frame in junk, which ends at 559 on a zero byte",
+        file: &[
+            Stretch::Bytes(ID3V2),
+            Stretch::Fill(0x11, 30),
+            Stretch::Fill(0, 2),
+            Stretch::Fill(0x55, 100),
+            HEADER,
+            Stretch::Fill(0x55, 196),
+            HEADER,
+            SILENCE,
+            HEADER,
+            SILENCE,
+            Stretch::Bytes(APE),
+            Stretch::Bytes(b"TAG"),
+            Stretch::Fill(0x20, 125),
+        ],
+        answer: Ok(Shape {
+            front_end: 42,
+            first: 342,
+            text_at: None,
+            frames: &[342, 759],
+            blocks: &[
+                Piece {
+                    offset: 0,
+                    block: Block {
+                        kind: Kind::Id3v2,
+                        length: 40,
+                    },
+                },
+                Piece {
+                    offset: 1176,
+                    block: Block {
+                        kind: Kind::Ape,
+                        length: 79,
+                    },
+                },
+                Piece {
+                    offset: 1255,
+                    block: Block {
+                        kind: Kind::Id3v1,
+                        length: 128,
+                    },
+                },
+            ],
+        }),
+    },
+    Case {
+        name: "zero bytes between frames, and a block of 40 bytes",
+        file: &[
+            HEADER,
+            SILENCE,
+            Stretch::Fill(0, 3),
+            HEADER,
+            SILENCE,
+            Stretch::Bytes(ID3V2),
+            Stretch::Fill(0x11, 30),
+            HEADER,
+            SILENCE,
+        ],
+        answer: Ok(Shape {
+            front_end: 0,
+            first: 0,
+            text_at: None,
+            frames: &[0, 420, 877],
+            blocks: &[Piece {
+                offset: 837,
+                block: Block {
+                    kind: Kind::Id3v2,
+                    length: 40,
+                },
+            }],
+        }),
+    },
+    Case {
+        name: "frames of one channel, MPEG-2",
+        file: &[
+            Stretch::Bytes(&[0xff, 0xf3, 0x14, 0xc0]),
+            Stretch::Fill(0, 20),
+            Stretch::Bytes(&[0xff, 0xf3, 0x14, 0xc0]),
+            Stretch::Fill(0, 20),
+        ],
+        answer: Ok(Shape {
+            front_end: 0,
+            first: 0,
+            text_at: None,
+            frames: &[0, 24],
+            blocks: &[],
+        }),
+    },
+    Case {
+        name: "a byte 41 behind a zero byte",
+        file: &[
+            HEADER,
+            SILENCE,
+            HEADER,
+            SILENCE,
+            Stretch::Bytes(&[0x00, 0x41]),
+        ],
+        answer: Err(SurveyFault::LostSync(835)),
+    },
+    Case {
+        name: "free format in the first frame",
+        file: &[
+            Stretch::Bytes(&[0xff, 0xfb, 0x00, 0x00]),
+            SILENCE,
+            HEADER,
+            SILENCE,
+        ],
+        answer: Err(SurveyFault::FreeFormat(0)),
+    },
+    Case {
+        name: "a head alone",
+        file: &[
+            HEADER,
+            Stretch::Fill(0, 32),
+            Stretch::Bytes(b"Info"),
+            Stretch::Fill(0, 377),
+        ],
+        answer: Err(SurveyFault::NoFrame(417)),
+    },
+    Case {
+        name: "a head and a frame",
+        file: &[
+            HEADER,
+            Stretch::Fill(0, 32),
+            Stretch::Bytes(b"Info"),
+            Stretch::Fill(0, 377),
+            HEADER,
+            SILENCE,
+        ],
+        answer: Ok(Shape {
+            front_end: 0,
+            first: 0,
+            text_at: Some(36),
+            frames: &[417],
+            blocks: &[],
+        }),
+    },
+    Case {
+        name: "a protected head with its text behind the check word",
+        file: &[
+            Stretch::Bytes(&[0xff, 0xfa, 0x90, 0x00]),
+            Stretch::Fill(0, 34),
+            Stretch::Bytes(b"Xing"),
+            Stretch::Fill(0, 375),
+            HEADER,
+            SILENCE,
+        ],
+        answer: Ok(Shape {
+            front_end: 0,
+            first: 0,
+            text_at: Some(38),
+            frames: &[417],
+            blocks: &[],
+        }),
+    },
+    Case {
+        name: "the text in the second frame",
+        file: &[
+            HEADER,
+            SILENCE,
+            HEADER,
+            Stretch::Fill(0, 32),
+            Stretch::Bytes(b"Info"),
+            Stretch::Fill(0, 377),
+        ],
+        answer: Ok(Shape {
+            front_end: 0,
+            first: 0,
+            text_at: None,
+            frames: &[0, 417],
+            blocks: &[],
+        }),
+    },
+    Case {
+        name: "a block at the front that passes the end",
+        file: &[
+            Stretch::Fill(0, 2),
+            Stretch::Bytes(ID3V2),
+            Stretch::Fill(0x11, 29),
+        ],
+        answer: Err(SurveyFault::Truncated(2)),
+    },
+    Case {
+        name: "a block behind a frame that passes the end",
+        file: &[
+            HEADER,
+            SILENCE,
+            Stretch::Bytes(b"TAG"),
+            Stretch::Fill(0x20, 124),
+        ],
+        answer: Err(SurveyFault::Truncated(417)),
+    },
+    Case {
+        name: "a frame at the front needs no anchor",
+        file: &[HEADER, SILENCE, Stretch::Fill(0x55, 4)],
+        answer: Err(SurveyFault::LostSync(417)),
+    },
+    Case {
+        name: "a frame in junk that ends on another class, which the file's end anchors",
+        file: &[
+            Stretch::Fill(0x55, 10),
+            HEADER,
+            SILENCE,
+            Stretch::Bytes(OTHER_CLASS),
+            Stretch::Fill(0, 380),
+        ],
+        answer: Ok(Shape {
+            front_end: 0,
+            first: 427,
+            text_at: None,
+            frames: &[427],
+            blocks: &[],
+        }),
+    },
+    Case {
+        name: "an anchor that is the beginning of a block",
+        file: &[
+            Stretch::Fill(0x55, 10),
+            HEADER,
+            SILENCE,
+            Stretch::Bytes(b"TAG"),
+        ],
+        answer: Err(SurveyFault::Truncated(427)),
+    },
+    Case {
+        name: "an anchor that is the beginning of a frame",
+        file: &[Stretch::Fill(0x55, 10), HEADER, SILENCE, HEADER],
+        answer: Err(SurveyFault::Truncated(427)),
+    },
+    Case {
+        name: "a frame at the last offset behind junk",
+        file: &[Stretch::Fill(0x55, 65_536), HEADER, SILENCE],
+        answer: Ok(Shape {
+            front_end: 0,
+            first: 65536,
+            text_at: None,
+            frames: &[65536],
+            blocks: &[],
+        }),
+    },
+    Case {
+        name: "a frame one byte later",
+        file: &[Stretch::Fill(0x55, 65_537), HEADER, SILENCE],
+        answer: Err(SurveyFault::NoFrame(0)),
+    },
+];
+
+/// Asserts that the survey tells this.
+fn expect_shape<R: Abort>(rt: &R, name: &str, survey: &Survey, shape: &Shape) {
+    assert_eq!(rt;
+        survey.junk(),
+        (shape.front_end, shape.first.saturating_sub(shape.front_end)),
+        "{name}"
+    );
+    assert_eq!(rt; survey.first(), shape.first, "{name}");
+    assert_eq!(rt;
+        survey.head().map(|head| head.text_at),
+        shape.text_at,
+        "{name}"
+    );
+    assert_eq!(rt; survey.frames().len(), shape.frames.len(), "{name}");
+    for (frame, offset) in survey.frames().iter().zip(shape.frames) {
+        assert_eq!(rt; frame.offset, *offset, "{name}");
+    }
+    assert_eq!(rt; survey.blocks(), shape.blocks, "{name}");
+}
+
+/// Asserts that the survey of a file gives this.
+pub fn expect<R: Abort + AllocGlobal>(
+    rt: &R,
+    name: &str,
+    file: &[u8],
+    answer: &Result<Shape, SurveyFault>,
+) -> Result<(), Fail> {
+    let mut folder = MemFolder::new(rt.alloc());
+    folder.put("a", file)?;
+    match (survey(rt.alloc(), &mut folder, "a", 1000), answer) {
+        (Ok(survey), Ok(shape)) => expect_shape(rt, name, &survey, shape),
+        (Ok(_), Err(fault)) => assert!(rt; false, "{name}: no {fault:?}"),
+        (Err(found), Ok(_)) => assert!(rt; false, "{name}: {found:?}"),
+        (Err(found), Err(fault)) => assert_eq!(rt; found, *fault, "{name}"),
+    }
+    Ok(())
+}
+
+#[test]
+fn files(rt: HostRuntime) -> Result<(), Fail> {
+    for case in &CASES {
+        let file = file_of(rt.alloc(), case.file)?;
+        expect(&rt, case.name, &file, &case.answer)?;
+    }
+    Ok(())
+}
+
+/// The first fault of the survey, where there is one.
+fn fault_of<R: Abort + AllocGlobal>(rt: &R, file: &[u8]) -> Result<Option<SurveyFault>, Fail> {
+    let mut folder = MemFolder::new(rt.alloc());
+    folder.put("a", file)?;
+    Ok(survey(rt.alloc(), &mut folder, "a", 1000).err())
+}
+
+/// What the first so many bytes of two frames give.
+fn cut_answer(length: usize) -> Option<SurveyFault> {
+    match length {
+        0..=3 => Some(SurveyFault::NoFrame(0)),
+        4..=416 => Some(SurveyFault::Truncated(0)),
+        418..=420 => Some(SurveyFault::LostSync(417)),
+        421..=833 => Some(SurveyFault::Truncated(417)),
+        _ => None,
+    }
+}
+
+#[test]
+fn files_cut_short(rt: HostRuntime) -> Result<(), Fail> {
+    let mut file = file_of(rt.alloc(), TWO_FRAMES)?;
+    for length in (0..835).rev() {
+        file.truncate(length);
+        let found = fault_of(&rt, &file)?;
+        assert_eq!(rt; found, cut_answer(length), "{length} bytes");
+    }
+    Ok(())
+}
+
+#[test]
+fn changed_headers(rt: HostRuntime) -> Result<(), Fail> {
+    for at in 417..421 {
+        for value in 0..=255 {
+            let mut file = file_of(rt.alloc(), TWO_FRAMES)?;
+            if let Some(byte) = file.get_mut(at) {
+                *byte = value;
+            }
+            let found = fault_of(&rt, &file)?;
+            let plain = first_fault(rt.alloc(), &file, 1000)?;
+            assert_eq!(rt; found, plain, "byte {at} as {value}");
+        }
+    }
+    Ok(())
+}

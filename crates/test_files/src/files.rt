@@ -1,0 +1,83 @@
+//! Whole files as stretches.
+
+use crate::frames::{Frame, file_of};
+use std::alloc::{AllocError, Global};
+
+/// A stretch of a file.
+#[derive(Drop)]
+pub enum Stretch {
+    /// These frames end to end.
+    Frames(&'static [Frame]),
+    /// These bytes.
+    Bytes(&'static [u8]),
+    /// One byte, so many times.
+    Fill(u8, usize),
+    /// A frame of 417 bytes, the last 381 of them for main data: MPEG-1, 44,100 Hz, 128 kbit/s, stereo, without check word.
+    /// Its main_data_begin, and the bits of its first granule's first channel; every other field is 0.
+    Frame(u16, u16),
+    /// So many frames of 417 bytes that begin with these, and end with 0x5a.
+    Copies(&'static [u8], usize),
+}
+
+/// The first 10 bytes of an ID3v2 block of 40: the flag of a footer, and size 20.
+pub const ID3V2: Stretch = Stretch::Bytes(&[b'I', b'D', b'3', 4, 0, 0x10, 0, 0, 0, 20]);
+
+/// The other 30 bytes of that block.
+pub const ID3V2_REST: Stretch = Stretch::Fill(0x11, 30);
+
+/// An APEv2 block of 79 bytes with the item `Title`, `x`.
+pub const APE: Stretch = Stretch::Bytes(
+    b"APETAGEX\xd0\x07\0\0\x2f\0\0\0\x01\0\0\0\0\0\0\xa0\0\0\0\0\0\0\0\0\x01\0\0\0\0\0\0\0Title\0xAPETAGEX\xd0\x07\0\0\x2f\0\0\0\x01\0\0\0\0\0\0\x80\0\0\0\0\0\0\0\0",
+);
+
+/// The first 3 bytes of an ID3v1 block of 128.
+pub const ID3V1: Stretch = Stretch::Bytes(b"TAG");
+
+/// The other 125 bytes of that block.
+pub const ID3V1_REST: Stretch = Stretch::Fill(0x20, 125);
+
+fn push_fill(file: &mut Vec<u8>, byte: u8, count: usize) -> Result<(), AllocError> {
+    for _ in 0..count {
+        file.push(byte)?;
+    }
+    Ok(())
+}
+
+/// main_data_begin is the first 9 bits of the side information, and the bits of the first channel's main
+/// data are those from the 21st to the 32nd.
+fn push_frame(file: &mut Vec<u8>, begin: u16, bits: u16) -> Result<(), AllocError> {
+    let side_front = u32::from(begin) << 23 | u32::from(bits);
+    file.extend_from_slice(&[0xff, 0xfb, 0x90, 0x00])?;
+    file.extend_from_slice(&side_front.to_be_bytes())?;
+    push_fill(file, 0, 409)
+}
+
+fn push_copies(file: &mut Vec<u8>, front: &[u8], count: usize) -> Result<(), AllocError> {
+    let rest = 417_usize.saturating_sub(front.len());
+    for _ in 0..count {
+        file.extend_from_slice(front)?;
+        push_fill(file, 0x5a, rest)?;
+    }
+    Ok(())
+}
+
+impl Stretch {
+    fn append_to(&self, alloc: Global, file: &mut Vec<u8>) -> Result<(), AllocError> {
+        match self {
+            Stretch::Frames(frames) => file.extend_from_slice(&file_of(alloc, frames)?),
+            Stretch::Bytes(bytes) => file.extend_from_slice(bytes),
+            Stretch::Fill(byte, count) => push_fill(file, *byte, *count),
+            Stretch::Frame(begin, bits) => push_frame(file, *begin, *bits),
+            Stretch::Copies(front, count) => push_copies(file, front, *count),
+        }
+    }
+}
+
+/// The stretches end to end.
+pub fn bytes_of(alloc: Global, stretches: &[Stretch]) -> Result<Vec<u8>, AllocError> {
+    let mut file = Vec::new(alloc);
+    for stretch in stretches {
+        stretch.append_to(alloc, &mut file)?;
+    }
+    Ok(file)
+}
