@@ -1,22 +1,67 @@
 //! Numbers among the bits of a few bytes.
 
 use bit_fields::{Bits, number_at, put, put_byte};
+use std::process::Abort;
 
-// The first eight side bytes of an MPEG-1 frame of two channels, ISO/IEC 11172-3, 2.4.1.7.
-const SIDE: [u8; 8] = [0x00, 0x00, 0x00, 0x08, 0x00, 0x32, 0x00, 0x00];
+/// The first eight side bytes of an MPEG-1 frame of two channels, ISO/IEC 11172-3, 2.4.1.7.
+static SIDE: [u8; 8] = [0x00, 0x00, 0x00, 0x08, 0x00, 0x32, 0x00, 0x00];
+
+/// A field that is taken: its width, its value, and the place behind it.
+struct Taken {
+    what: &'static str,
+    width: u32,
+    value: Option<u32>,
+    place: usize,
+}
+
+static TAKEN: [Taken; 6] = [
+    Taken {
+        what: "begin, private bits and scfsi",
+        width: 20,
+        value: Some(0),
+        place: 20,
+    },
+    Taken {
+        what: "part2_3_length",
+        width: 12,
+        value: Some(8),
+        place: 32,
+    },
+    Taken {
+        what: "big_values",
+        width: 9,
+        value: Some(0),
+        place: 41,
+    },
+    Taken {
+        what: "global_gain",
+        width: 8,
+        value: Some(100),
+        place: 49,
+    },
+    Taken {
+        what: "more than there are",
+        width: 16,
+        value: None,
+        place: 49,
+    },
+    Taken {
+        what: "no bits",
+        width: 0,
+        value: Some(0),
+        place: 49,
+    },
+];
 
 #[test]
 fn takes_the_first_fields_of_a_side_information(rt: HostRuntime) {
     let mut bits = Bits::new(&SIDE);
-    assert_eq!(rt; bits.take(20), Some(0), "begin, private bits and scfsi");
-    assert_eq!(rt; bits.take(12), Some(8), "part2_3_length");
-    assert_eq!(rt; bits.take(9), Some(0), "big_values");
-    assert_eq!(rt; bits.take(8), Some(100), "global_gain");
-    assert_eq!(rt; bits.place(), 49);
+    for field in &TAKEN {
+        assert!(rt; field.width <= 32);
+        assert_eq!(rt; bits.take(field.width), field.value, "{}", field.what);
+        assert_eq!(rt; bits.place(), field.place, "{}", field.what);
+    }
     assert_eq!(rt; bits.left(), 15);
-    assert_eq!(rt; bits.take(16), None);
-    assert_eq!(rt; bits.place(), 49);
-    assert_eq!(rt; bits.take(0), Some(0));
 }
 
 #[test]
@@ -31,19 +76,30 @@ fn reads_a_gain_among_few_bytes(rt: HostRuntime) {
     );
 }
 
+fn expect_put(rt: &impl Abort, bytes: &mut [u8], at: usize, byte: u8, wanted: &[u8]) {
+    assert!(rt; at < 1000 && bytes.len() < 1000 && at + 16 <= 8 * bytes.len());
+    put_byte(bytes, at, byte);
+    assert_eq!(rt; &*bytes, wanted);
+}
+
 #[test]
 fn puts_a_gain(rt: HostRuntime) {
     let mut bytes = SIDE;
     put(&mut bytes, 41, 8, 101);
     assert_eq!(rt; bytes, [0x00, 0x00, 0x00, 0x08, 0x00, 0x32, 0x80, 0x00]);
-    put_byte(&mut bytes, 41, 100);
-    assert_eq!(rt; bytes, SIDE);
-    // Among few bytes, and near the end of more than eight.
+    expect_put(&rt, &mut bytes, 41, 100, &SIDE);
+}
+
+#[test]
+fn puts_among_few_bytes(rt: HostRuntime) {
     let mut few = [0xff; 3];
     put(&mut few, 5, 17, 0);
     assert_eq!(rt; few, [0xf8, 0x00, 0x03]);
-    put_byte(&mut few, 8, 0xab);
-    assert_eq!(rt; few, [0xf8, 0xab, 0x03]);
+    expect_put(&rt, &mut few, 8, 0xab, &[0xf8, 0xab, 0x03]);
+}
+
+#[test]
+fn puts_near_the_end_of_more_than_eight_bytes(rt: HostRuntime) {
     let mut more = [0xff; 10];
     put(&mut more, 47, 32, 0x8000_0001);
     assert_eq!(rt;

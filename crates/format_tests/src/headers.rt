@@ -10,43 +10,128 @@ const MPEG_2: Version = Version::Two;
 
 const MPEG_2_5: Version = Version::TwoFive;
 
+/// Four bytes, and the version, the channels, the frequency, the length and the area that they say.
+struct Says {
+    bytes: [u8; 4],
+    version: Version,
+    channels: u8,
+    frequency: u32,
+    length: u32,
+    area: u32,
+}
+
+static HEADERS: [Says; 10] = [
+    Says {
+        bytes: [0xff, 0xfb, 0x90, 0x00],
+        version: MPEG_1,
+        channels: 2,
+        frequency: 44_100,
+        length: 417,
+        area: 381,
+    },
+    Says {
+        bytes: [0xff, 0xfa, 0x90, 0x40],
+        version: MPEG_1,
+        channels: 2,
+        frequency: 44_100,
+        length: 417,
+        area: 379,
+    },
+    Says {
+        bytes: [0xff, 0xfb, 0xe2, 0x00],
+        version: MPEG_1,
+        channels: 2,
+        frequency: 44_100,
+        length: 1045,
+        area: 1009,
+    },
+    Says {
+        bytes: [0xff, 0xfb, 0xea, 0x80],
+        version: MPEG_1,
+        channels: 2,
+        frequency: 32_000,
+        length: 1441,
+        area: 1405,
+    },
+    Says {
+        bytes: [0xff, 0xfb, 0x14, 0xc0],
+        version: MPEG_1,
+        channels: 1,
+        frequency: 48_000,
+        length: 96,
+        area: 75,
+    },
+    Says {
+        bytes: [0xff, 0xf3, 0x14, 0xc0],
+        version: MPEG_2,
+        channels: 1,
+        frequency: 24_000,
+        length: 24,
+        area: 11,
+    },
+    Says {
+        bytes: [0xff, 0xf2, 0x14, 0xc0],
+        version: MPEG_2,
+        channels: 1,
+        frequency: 24_000,
+        length: 24,
+        area: 9,
+    },
+    Says {
+        bytes: [0xff, 0xe3, 0x18, 0xc0],
+        version: MPEG_2_5,
+        channels: 1,
+        frequency: 8_000,
+        length: 72,
+        area: 59,
+    },
+    Says {
+        bytes: [0xff, 0xe3, 0x16, 0x00],
+        version: MPEG_2_5,
+        channels: 2,
+        frequency: 12_000,
+        length: 49,
+        area: 28,
+    },
+    Says {
+        bytes: [0xff, 0xe2, 0x90, 0x40],
+        version: MPEG_2_5,
+        channels: 2,
+        frequency: 11_025,
+        length: 522,
+        area: 499,
+    },
+];
+
+fn expect_class(rt: &impl Abort, class: Class, row: &Says) {
+    assert_eq!(rt; class.version, row.version, "{:?}", row.bytes);
+    assert_eq!(rt; class.channels, row.channels, "{:?}", row.bytes);
+    assert_eq!(rt; class.frequency(), row.frequency, "{:?}", row.bytes);
+}
+
 #[test]
 fn headers(rt: HostRuntime) -> Result<(), Fail> {
-    // Four bytes, and the version, the channels, the frequency, the length and the area that they say.
-    let cases: [([u8; 4], (Version, u8, u32), u32, u32); 10] = [
-        ([0xff, 0xfb, 0x90, 0x00], (MPEG_1, 2, 44_100), 417, 381),
-        ([0xff, 0xfa, 0x90, 0x40], (MPEG_1, 2, 44_100), 417, 379),
-        ([0xff, 0xfb, 0xe2, 0x00], (MPEG_1, 2, 44_100), 1045, 1009),
-        ([0xff, 0xfb, 0xea, 0x80], (MPEG_1, 2, 32_000), 1441, 1405),
-        ([0xff, 0xfb, 0x14, 0xc0], (MPEG_1, 1, 48_000), 96, 75),
-        ([0xff, 0xf3, 0x14, 0xc0], (MPEG_2, 1, 24_000), 24, 11),
-        ([0xff, 0xf2, 0x14, 0xc0], (MPEG_2, 1, 24_000), 24, 9),
-        ([0xff, 0xe3, 0x18, 0xc0], (MPEG_2_5, 1, 8_000), 72, 59),
-        ([0xff, 0xe3, 0x16, 0x00], (MPEG_2_5, 2, 12_000), 49, 28),
-        ([0xff, 0xe2, 0x90, 0x40], (MPEG_2_5, 2, 11_025), 522, 499),
-    ];
-    for (bytes, (version, channels, frequency), length, area) in cases {
-        let header = Header::read(bytes)?;
-        let class = header.class();
-        assert_eq!(rt; class.version, version, "{bytes:?}");
-        assert_eq!(rt; class.channels, channels, "{bytes:?}");
-        assert_eq!(rt; class.frequency(), frequency, "{bytes:?}");
-        assert_eq!(rt; header.length(), length, "{bytes:?}");
-        assert_eq!(rt; header.area(), area, "{bytes:?}");
+    for row in &HEADERS {
+        let header = Header::read(row.bytes)?;
+        expect_class(&rt, header.class(), row);
+        assert_eq!(rt; header.length(), row.length, "{:?}", row.bytes);
+        assert_eq!(rt; header.area(), row.area, "{:?}", row.bytes);
     }
     Ok(())
 }
 
+/// Headers without a check word and with one, with padding and without.
+static WRITTEN: [[u8; 4]; 4] = [
+    [0xff, 0xfb, 0x90, 0x00],
+    [0xff, 0xf3, 0x14, 0xc0],
+    [0xff, 0xfb, 0xe2, 0x64],
+    [0xff, 0xe2, 0x9a, 0xc4],
+];
+
 #[test]
 fn written_headers(rt: HostRuntime) -> Result<(), Fail> {
-    let cases = [
-        [0xff, 0xfb, 0x90, 0x00],
-        [0xff, 0xf3, 0x14, 0xc0],
-        [0xff, 0xfb, 0xe2, 0x64],
-        [0xff, 0xe2, 0x9a, 0xc4],
-    ];
-    for bytes in cases {
-        assert_eq!(rt; Header::read(bytes)?.bytes(), bytes);
+    for bytes in &WRITTEN {
+        assert_eq!(rt; Header::read(*bytes)?.bytes(), *bytes);
     }
     // Joint stereo at 320 kbit/s and 44,100 Hz, padded, an original.
     let mut header = Header::read([0xff, 0xfb, 0x90, 0x00])?;
@@ -61,26 +146,65 @@ fn written_headers(rt: HostRuntime) -> Result<(), Fail> {
     Ok(())
 }
 
+/// Bytes that are no header, and why.
+struct Refused {
+    bytes: [u8; 4],
+    why: NotHeader,
+}
+
+static REFUSED: [Refused; 11] = [
+    Refused {
+        bytes: [0xff, 0xfb, 0x00, 0x00],
+        why: NotHeader::Free,
+    },
+    Refused {
+        bytes: [0xff, 0xf2, 0x08, 0xc0],
+        why: NotHeader::Free,
+    },
+    Refused {
+        bytes: [0xff, 0xe3, 0x08, 0xc0],
+        why: NotHeader::Free,
+    },
+    // The twelfth bit is 0 and ID is 1.
+    Refused {
+        bytes: [0xff, 0xeb, 0x90, 0x00],
+        why: NotHeader::No,
+    },
+    Refused {
+        bytes: [0xff, 0xe5, 0x90, 0x00],
+        why: NotHeader::No,
+    },
+    Refused {
+        bytes: [0xff, 0xd3, 0x90, 0x00],
+        why: NotHeader::No,
+    },
+    Refused {
+        bytes: [0x7f, 0xfb, 0x90, 0x00],
+        why: NotHeader::No,
+    },
+    Refused {
+        bytes: [0xff, 0xfd, 0x90, 0x00],
+        why: NotHeader::No,
+    },
+    Refused {
+        bytes: [0xff, 0xfb, 0xf0, 0x00],
+        why: NotHeader::No,
+    },
+    Refused {
+        bytes: [0xff, 0xfb, 0x9c, 0x00],
+        why: NotHeader::No,
+    },
+    Refused {
+        bytes: [0x49, 0x44, 0x33, 0x03],
+        why: NotHeader::No,
+    },
+];
+
 #[test]
-fn bytes_that_are_no_header(rt: HostRuntime) -> Result<(), Fail> {
-    let cases: [([u8; 4], NotHeader); 11] = [
-        ([0xff, 0xfb, 0x00, 0x00], NotHeader::Free),
-        ([0xff, 0xf2, 0x08, 0xc0], NotHeader::Free),
-        ([0xff, 0xe3, 0x08, 0xc0], NotHeader::Free),
-        // The twelfth bit is 0 and ID is 1.
-        ([0xff, 0xeb, 0x90, 0x00], NotHeader::No),
-        ([0xff, 0xe5, 0x90, 0x00], NotHeader::No),
-        ([0xff, 0xd3, 0x90, 0x00], NotHeader::No),
-        ([0x7f, 0xfb, 0x90, 0x00], NotHeader::No),
-        ([0xff, 0xfd, 0x90, 0x00], NotHeader::No),
-        ([0xff, 0xfb, 0xf0, 0x00], NotHeader::No),
-        ([0xff, 0xfb, 0x9c, 0x00], NotHeader::No),
-        ([0x49, 0x44, 0x33, 0x03], NotHeader::No),
-    ];
-    for (bytes, wanted) in cases {
-        assert_eq!(rt; Header::read(bytes), Err(wanted), "{bytes:?}");
+fn bytes_that_are_no_header(rt: HostRuntime) {
+    for row in &REFUSED {
+        assert_eq!(rt; Header::read(row.bytes), Err(row.why), "{:?}", row.bytes);
     }
-    Ok(())
 }
 
 /// A version and a frequency index, the frequency in Hz, and the lengths in bytes without padding for the bit
@@ -196,48 +320,72 @@ fn lengths(rt: HostRuntime) {
     }
 }
 
-#[test]
-fn rates(rt: HostRuntime) -> Result<(), Fail> {
-    // In kbit/s, for the bit rate indexes 1 to 14; the samples of a frame, and the window.
-    let lower = [8, 16, 24, 32, 40, 48, 56, 64, 80, 96, 112, 128, 144, 160];
-    let cases: [(Version, [u16; 14], u32, u32); 3] = [
-        (
-            MPEG_1,
-            [
-                32, 40, 48, 56, 64, 80, 96, 112, 128, 160, 192, 224, 256, 320,
-            ],
-            1152,
-            511,
-        ),
-        (MPEG_2, lower, 576, 255),
-        (MPEG_2_5, lower, 576, 255),
-    ];
-    for (version, rates, samples, window) in cases {
-        let class = Class {
-            version,
-            frequency_index: 0,
-            channels: 2,
+/// The bit rates of a version in kbit/s, for the bit rate indexes 1 to 14; the samples of a frame, and the window.
+struct VersionRates {
+    version: Version,
+    rates: [u16; 14],
+    samples: u32,
+    window: u32,
+}
+
+const LOWER_RATES: [u16; 14] = [8, 16, 24, 32, 40, 48, 56, 64, 80, 96, 112, 128, 144, 160];
+
+static RATES: [VersionRates; 3] = [
+    VersionRates {
+        version: MPEG_1,
+        rates: [
+            32, 40, 48, 56, 64, 80, 96, 112, 128, 160, 192, 224, 256, 320,
+        ],
+        samples: 1152,
+        window: 511,
+    },
+    VersionRates {
+        version: MPEG_2,
+        rates: LOWER_RATES,
+        samples: 576,
+        window: 255,
+    },
+    VersionRates {
+        version: MPEG_2_5,
+        rates: LOWER_RATES,
+        samples: 576,
+        window: 255,
+    },
+];
+
+/// Each bit rate index of the class has its rate.
+fn expect_rates(rt: &impl Abort, class: Class, rates: &[u16; 14]) {
+    for rate_index in 1..15 {
+        let slot = Slot {
+            rate_index,
+            padding: false,
         };
-        assert_eq!(rt; class.samples(), samples);
-        assert_eq!(rt; class.window(), window);
-        for rate_index in 1..15 {
-            let slot = Slot {
-                rate_index,
-                padding: false,
-            };
-            let wanted = u32::from(rates[rate_index as usize - 1]);
-            assert_eq!(rt; class.rate(slot), wanted, "{version:?}, {slot:?}");
-        }
+        let wanted = u32::from(rates[rate_index as usize - 1]);
+        assert_eq!(rt; class.rate(slot), wanted, "{class:?}, {slot:?}");
     }
-    Ok(())
 }
 
 #[test]
+fn rates(rt: HostRuntime) {
+    for row in &RATES {
+        let class = Class {
+            version: row.version,
+            frequency_index: 0,
+            channels: 2,
+        };
+        assert_eq!(rt; class.samples(), row.samples);
+        assert_eq!(rt; class.window(), row.window);
+        expect_rates(&rt, class, &row.rates);
+    }
+}
+
+// A protected joint stereo frame of 128 kbit/s and 44,100 Hz: area 379.
+const PROTECTED: [u8; 4] = [0xff, 0xfa, 0x90, 0x64];
+
+#[test]
 fn slots(rt: HostRuntime) -> Result<(), Fail> {
-    // A protected joint stereo frame of 128 kbit/s and 44,100 Hz: area 379.
-    let header = Header::read([0xff, 0xfa, 0x90, 0x64])?;
-    let class = header.class();
-    let slots = class.slots();
+    let header = Header::read(PROTECTED)?;
+    let slots = header.class().slots();
     assert_eq!(rt; slots.len(), 28);
     let first = header.unprotected(slots[0]);
     assert_eq!(rt; first.bytes(), [0xff, 0xfb, 0x10, 0x64]);
@@ -245,17 +393,28 @@ fn slots(rt: HostRuntime) -> Result<(), Fail> {
     let last = header.with_slot(slots[27]);
     assert_eq!(rt; last.bytes(), [0xff, 0xfa, 0xe2, 0x64]);
     assert_eq!(rt; last.area(), 1007);
-    assert_eq!(rt;
-        slots[17],
-        Slot {
-            rate_index: 9,
-            padding: true
-        }
-    );
+    Ok(())
+}
+
+#[test]
+fn slots_in_their_order(rt: HostRuntime) -> Result<(), Fail> {
+    let slots = Header::read(PROTECTED)?.class().slots();
+    let wanted = Slot {
+        rate_index: 9,
+        padding: true,
+    };
+    assert_eq!(rt; slots[17], wanted);
     assert_eq!(rt; slots[0], Slot::default());
-    // One channel less is another class.
-    let mono = Header::read([0xff, 0xfa, 0x90, 0xc4])?;
+    Ok(())
+}
+
+#[test]
+fn one_channel_less_is_another_class(rt: HostRuntime) -> Result<(), Fail> {
+    let header = Header::read(PROTECTED)?;
+    let class = header.class();
+    let first = header.unprotected(Slot::default());
     assert!(rt; class.is_same(first.class()));
+    let mono = Header::read([0xff, 0xfa, 0x90, 0xc4])?;
     assert!(rt; !class.is_same(mono.class()));
     Ok(())
 }

@@ -1,5 +1,4 @@
-//! Tests of the crates that read and write the parts of a file: bits, headers, side information, tags, Xing/Info
-//! headers, positions and cue sheets, and the window over main data.
+//! Tests of numbers among bits, headers and side information.
 #![tactic(auto)]
 
 #[cfg(test)]
@@ -7,12 +6,4 @@ mod bits;
 #[cfg(test)]
 mod headers;
 #[cfg(test)]
-mod heads;
-#[cfg(test)]
-mod places;
-#[cfg(test)]
 mod sides;
-#[cfg(test)]
-mod tags;
-#[cfg(test)]
-mod windows;

@@ -1,6 +1,6 @@
 //! Side information by the tables of the standard, ISO/IEC 11172-3 and 13818-3, 2.4.1.7, and check words.
-use side_info::{Granule, Side, check_word, check_word_of_bytes, put_gains, word_of_bytes};
 use frame_header::{Class, Header, Version};
+use side_info::{Granule, Side, check_word, check_word_of_bytes, put_gains, word_of_bytes};
 use std::process::Abort;
 use std::test::Fail;
 
@@ -99,6 +99,16 @@ const SMALL: Granule = Granule {
     ..NONE
 };
 
+// Written it is these bytes.
+fn expect_written(rt: &impl Abort, class: Class, side: &Side, bytes: &[u8]) {
+    assert!(rt; side.fits(class));
+    assert_eq!(rt; bytes.len(), class.side_size() as usize);
+    let mut room = [0; 32];
+    let part = &mut room[..bytes.len()];
+    side.write(class, part);
+    assert_eq!(rt; &*part, bytes, "{class:?}");
+}
+
 // What is read is as wanted, and written it is these bytes.
 fn expect_shape<R: Abort + AllocGlobal>(
     rt: &R,
@@ -116,10 +126,7 @@ fn expect_shape<R: Abort + AllocGlobal>(
     assert_eq!(rt; bytes.len(), class.side_size() as usize);
     let read = Side::read(class, bytes);
     assert_eq!(rt; &read, wanted, "{class:?}");
-    let mut room = [0; 32];
-    let part = &mut room[..bytes.len()];
-    read.write(class, part);
-    assert_eq!(rt; &*part, bytes, "{class:?}");
+    expect_written(rt, class, &read, bytes);
 }
 
 #[test]
@@ -199,17 +206,34 @@ const MPEG_2_MONO: Class = Class {
 // A protected MPEG-2 header of one channel at 24,000 Hz.
 const MONO_HEADER: [u8; 4] = [0xff, 0xf2, 0x14, 0xc0];
 
+/// Side bytes behind that header, and their check word.
+struct Checked {
+    bytes: [u8; 9],
+    word: u16,
+}
+
+static WORDS: [Checked; 3] = [
+    Checked {
+        bytes: [0; 9],
+        word: 0xeed2,
+    },
+    Checked {
+        bytes: MONO_BEFORE,
+        word: 0xe952,
+    },
+    Checked {
+        bytes: MONO_AFTER,
+        word: 0x68b1,
+    },
+];
+
 #[test]
 #[tactic(auto, unfolding(frame_header::specs::Tables::side_size_of))]
 fn check_words(rt: HostRuntime) -> Result<(), Fail> {
     assert_eq!(rt; word_of_bytes(b"123456789"), 0xaee7);
     let header = Header::read(MONO_HEADER)?;
-    let cases: [([u8; 9], u16); 3] = [
-        ([0; 9], 0xeed2),
-        (MONO_BEFORE, 0xe952),
-        (MONO_AFTER, 0x68b1),
-    ];
-    for (bytes, word) in cases {
+    for row in &WORDS {
+        let (bytes, word) = (row.bytes, row.word);
         let side = Side::read(MPEG_2_MONO, &bytes);
         assert!(rt; side.fits(header.class()));
         assert_eq!(rt; check_word(&header, &side), word, "{bytes:?}");

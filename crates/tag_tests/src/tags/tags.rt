@@ -1,10 +1,10 @@
 //! Tags written out from the layout of APEv2, apart from this crate: exact bytes, what changes in them, and each fault
 //! with its place, which was counted by hand.
 
-use tag_blocks::{Block, Kind, Tag, TagFault, Undo, UndoItem, block_at};
 use std::alloc::Global;
 use std::process::Abort;
 use std::test::Fail;
+use tag_blocks::{Block, Kind, Tag, TagFault, Undo, UndoItem, block_at};
 
 /// A tag that has the undo item alone: -1 step left and right, with `W`. Header, item of 32 bytes and footer.
 static ALONE: &[u8] = b"\
@@ -244,44 +244,50 @@ fn read(rt: &impl Abort, alloc: Global, block: &[u8]) -> Result<Tag, TagFault> {
     Tag::read(alloc, block)
 }
 
+/// The undo item of the tag, its length, and its bytes.
+fn expect_tag(rt: &impl Abort, alloc: Global, tag: &Tag, undo: UndoItem, bytes: &[u8]) {
+    assert_eq!(rt; tag.length(), bytes.len() as u64);
+    assert_eq!(rt; tag.undo(), undo);
+    match tag.write(alloc) {
+        Ok(written) => assert_eq!(rt; written.as_slice(), bytes),
+        Err(_) => assert!(rt; false, "no memory"),
+    }
+}
+
+const ONE_LOWER: Undo = Undo {
+    left: -1,
+    right: -1,
+    wrap: true,
+};
+
 #[test]
 fn a_new_tag(rt: HostRuntime) -> Result<(), Fail> {
     let mut tag = Tag::new(rt.alloc());
     assert!(rt; tag.is_empty());
     assert_eq!(rt; tag.length(), 64);
     assert_eq!(rt; tag.undo(), UndoItem::Missing);
-    let undo = Undo {
-        left: -1,
-        right: -1,
-        wrap: true,
-    };
-    tag.set_undo(&undo)?;
+    tag.set_undo(&ONE_LOWER)?;
     assert!(rt; !tag.is_empty());
-    assert_eq!(rt; tag.length(), 96);
-    assert_eq!(rt; tag.undo(), UndoItem::Found(undo));
-    assert_eq!(rt; tag.write(rt.alloc())?.as_slice(), ALONE);
+    expect_tag(&rt, rt.alloc(), &tag, UndoItem::Found(ONE_LOWER), ALONE);
     Ok(())
 }
 
 #[test]
 fn an_undo_item_amid_others(rt: HostRuntime) -> Result<(), Fail> {
     let mut tag = read(&rt, rt.alloc(), AMID)?;
-    assert_eq!(rt; tag.length(), 141);
     let before = Undo {
         left: 3,
         right: -4,
         wrap: false,
     };
-    assert_eq!(rt; tag.undo(), UndoItem::Found(before));
-    assert_eq!(rt; tag.write(rt.alloc())?.as_slice(), AMID);
+    expect_tag(&rt, rt.alloc(), &tag, UndoItem::Found(before), AMID);
     let after = Undo {
         left: -997,
         right: 999,
         wrap: true,
     };
     tag.set_undo(&after)?;
-    assert_eq!(rt; tag.undo(), UndoItem::Found(after));
-    assert_eq!(rt; tag.write(rt.alloc())?.as_slice(), AMID_CHANGED);
+    expect_tag(&rt, rt.alloc(), &tag, UndoItem::Found(after), AMID_CHANGED);
     Ok(())
 }
 
@@ -289,18 +295,18 @@ fn an_undo_item_amid_others(rt: HostRuntime) -> Result<(), Fail> {
 fn an_undo_item_dropped(rt: HostRuntime) -> Result<(), Fail> {
     let mut tag = read(&rt, rt.alloc(), AMID)?;
     tag.drop_undo();
-    assert_eq!(rt; tag.undo(), UndoItem::Missing);
-    assert_eq!(rt; tag.write(rt.alloc())?.as_slice(), AMID_DROPPED);
-    tag.set_undo(&Undo {
-        left: -1,
-        right: -1,
-        wrap: true,
-    })?;
-    assert_eq!(rt; tag.write(rt.alloc())?.as_slice(), AMID_NEW);
-    let mut alone = read(&rt, rt.alloc(), ALONE)?;
-    alone.drop_undo();
-    assert!(rt; alone.is_empty());
-    assert_eq!(rt; alone.length(), 64);
+    expect_tag(&rt, rt.alloc(), &tag, UndoItem::Missing, AMID_DROPPED);
+    tag.set_undo(&ONE_LOWER)?;
+    expect_tag(&rt, rt.alloc(), &tag, UndoItem::Found(ONE_LOWER), AMID_NEW);
+    Ok(())
+}
+
+#[test]
+fn the_only_item_dropped(rt: HostRuntime) -> Result<(), Fail> {
+    let mut tag = read(&rt, rt.alloc(), ALONE)?;
+    tag.drop_undo();
+    assert!(rt; tag.is_empty());
+    assert_eq!(rt; tag.length(), 64);
     Ok(())
 }
 

@@ -1,8 +1,9 @@
 //! Info frames of whole files, worked out by hand: the lengths of frames by the standard's rule, and entries by division.
 
-use info_header::info_over;
 use arrayvec::ArrayVec;
-use frame_header::{Header, Slot};
+use frame_header::{Class, Header, NotHeader, Slot};
+use info_header::info_over;
+use std::process::Abort;
 use std::test::Fail;
 
 /// MPEG-1, 44,100 Hz, two channels, at 32, 112 and 128 kbit/s: 104, 365 and 417 bytes. The Info frame has 208.
@@ -97,29 +98,42 @@ static CASES: [Case; 7] = [
     },
 ];
 
+/// The class of the last of these frames, and their slots.
+fn slots_of(frames: &[[u8; 4]]) -> Result<(Class, ArrayVec<Slot, 4>), NotHeader> {
+    let mut slots = ArrayVec::new();
+    let mut class = Header::read(RATE_128)?.class();
+    for frame in frames {
+        let header = Header::read(*frame)?;
+        class = header.class();
+        let _ = slots.try_push(header.slot);
+    }
+    Ok((class, slots))
+}
+
+/// The table has these entries.
+fn expect_entries(rt: &impl Abort, table: Option<[u8; 100]>, case: &Case) {
+    let table = table.unwrap_or([0; 100]);
+    for entry in case.entries {
+        assert_eq!(rt;
+            table.get(entry.at).copied(),
+            Some(entry.value),
+            "{} at {}",
+            case.bytes,
+            entry.at
+        );
+    }
+}
+
 #[test]
 fn infos_of_files(rt: HostRuntime) -> Result<(), Fail> {
     for case in &CASES {
-        let mut slots: ArrayVec<Slot, 4> = ArrayVec::new();
-        let mut class = Header::read(RATE_128)?.class();
-        for frame in case.frames {
-            let header = Header::read(*frame)?;
-            class = header.class();
-            assert!(rt; slots.try_push(header.slot).is_ok());
-        }
+        let (class, slots) = slots_of(case.frames)?;
+        assert_eq!(rt; slots.len(), case.frames.len());
         let info = info_over(class, slots.as_slice());
-        assert_eq!(rt; (info.vbr, info.bytes), (case.vbr, Some(case.bytes)));
-        assert_eq!(rt; info.frames, Some(slots.len() as u32));
-        let table = info.table.ok_or("no table")?;
-        for entry in case.entries {
-            assert_eq!(rt;
-                table.get(entry.at).copied(),
-                Some(entry.value),
-                "{} at {}",
-                case.bytes,
-                entry.at
-            );
-        }
+        assert_eq!(rt; info.vbr, case.vbr);
+        assert_eq!(rt; info.bytes, Some(case.bytes));
+        assert_eq!(rt; info.frames, Some(case.frames.len() as u32));
+        expect_entries(&rt, info.table, case);
     }
     Ok(())
 }

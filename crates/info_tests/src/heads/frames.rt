@@ -1,9 +1,10 @@
 //! Info frames. Lengths and areas are those of the standard's rates and frequencies, worked out by hand.
 
-use info_header::{Info, head_text, info_slot, write_info};
 use arrayvec::ArrayVec;
 use frame_header::{Header, NotHeader};
+use info_header::{Info, head_text, info_slot, write_info};
 use std::test::Fail;
+use test_files::files::{Stretch, bytes_of};
 
 /// A header of a class, and the bit rate index, the padding and the length of its Info frame.
 struct Case {
@@ -144,6 +145,20 @@ fn slots_of_each_class(rt: HostRuntime) -> Result<(), NotHeader> {
     Ok(())
 }
 
+/// The Info frame of two frames of 417 bytes, 208 bytes long: 2 frames, 1042 bytes, the table, no quality, and the
+/// extension.
+static BEFORE_TWO: [Stretch; 9] = [
+    Stretch::Bytes(&[0xff, 0xfb, 0x50, 0x00]),
+    Stretch::Fill(0, 32),
+    Stretch::Bytes(b"Info\0\0\0\x0f"),
+    Stretch::Bytes(&[0, 0, 0, 2, 0, 0, 0x04, 0x12]),
+    Stretch::Fill(51, 50),
+    Stretch::Fill(153, 50),
+    Stretch::Fill(0, 4),
+    Stretch::Fill(9, 36),
+    Stretch::Fill(0, 16),
+];
+
 #[test]
 fn a_frame_before_two_frames_of_128_kbit(rt: HostRuntime) -> Result<(), Fail> {
     // The first of them has a check word; the Info frame has none.
@@ -162,18 +177,7 @@ fn a_frame_before_two_frames_of_128_kbit(rt: HostRuntime) -> Result<(), Fail> {
     frame.push(0x55);
     write_info(&first, &info, &mut frame);
     let bytes = frame.as_slice();
-    assert_eq!(rt; bytes.len(), 208);
-    assert_eq!(rt; bytes.get(..4), Some([0xff, 0xfb, 0x50, 0x00].as_slice()));
-    assert_eq!(rt; bytes.get(4..36), Some([0; 32].as_slice()));
-    assert_eq!(rt; bytes.get(36..44), Some(b"Info\0\0\0\x0f".as_slice()));
-    assert_eq!(rt;
-        bytes.get(44..52),
-        Some([0, 0, 0, 2, 0, 0, 0x04, 0x12].as_slice())
-    );
-    assert_eq!(rt; bytes.get(52..152), Some(table.as_slice()));
-    assert_eq!(rt; bytes.get(152..156), Some([0; 4].as_slice()));
-    assert_eq!(rt; bytes.get(156..192), Some([9; 36].as_slice()));
-    assert_eq!(rt; bytes.get(192..), Some([0; 16].as_slice()));
+    assert_eq!(rt; bytes, bytes_of(rt.alloc(), &BEFORE_TWO)?.as_slice());
     assert_eq!(rt;
         head_text(&first.unprotected(info_slot(first.class())), bytes),
         Some(36)

@@ -1,7 +1,7 @@
 //! Main data worked out by hand. Byte n of all areas is n modulo 251, so that bytes at two places less than 251 apart differ.
 
-use reservoir::*;
 use arrayvec::ArrayVec;
+use reservoir::*;
 use std::alloc::AllocGlobal;
 use std::process::Abort;
 use std::test::Fail;
@@ -155,15 +155,40 @@ fn payloads(rt: HostRuntime) -> Result<(), Fail> {
     Ok(())
 }
 
+static AREA: [u8; 1441] = [0x55; 1441];
+
+/// The length of an area that is pushed, and how many bytes are held then.
+struct Pushed {
+    length: usize,
+    held: usize,
+}
+
+static PUSHED: [Pushed; 4] = [
+    Pushed {
+        length: 1420,
+        held: 1420,
+    },
+    Pushed {
+        length: 628,
+        held: 2048,
+    },
+    Pushed {
+        length: 1,
+        held: 2048,
+    },
+    Pushed {
+        length: 1441,
+        held: 2048,
+    },
+];
+
 #[test]
 fn a_window_forgets(rt: HostRuntime) -> Result<(), Fail> {
-    let held = [(1420, 1420), (628, 2048), (1, 2048), (1441, 2048)];
     let mut window = Window::new(rt.alloc())?;
     assert_eq!(rt; window.held(), 0);
-    for (length, wanted) in held {
-        let area = [0x55; 1441];
-        window.push_area(area.get(..length).ok_or("no room")?);
-        assert_eq!(rt; window.held(), wanted);
+    for pushed in &PUSHED {
+        window.push_area(AREA.get(..pushed.length).ok_or("no room")?);
+        assert_eq!(rt; window.held(), pushed.held);
     }
     Ok(())
 }

@@ -6,8 +6,8 @@ ghost use Rattle.std.specs.Prelude.{◌≡◌};
 mod tags;
 mod undo;
 
-use tag_blocks::*;
 use byteorder::{ByteOrder, LittleEndian};
+use tag_blocks::*;
 
 /// Bytes at the front of a block.
 struct Begins {
