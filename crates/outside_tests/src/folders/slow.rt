@@ -1,5 +1,5 @@
 //! A folder that gives and takes few bytes at a time.
-use outside::tally::Tally;
+use super::noticed::Noticed;
 use outside::{Failed, FindFault, Folder};
 use std::alloc::{AllocError, Global};
 
@@ -23,7 +23,7 @@ pub struct Slow {
     pub content: Vec<u8>,
     pub most: usize,
     pub calls: Calls,
-    tally: Tally,
+    noticed: Noticed,
 }
 
 impl Slow {
@@ -37,7 +37,7 @@ impl Slow {
             content: pattern(alloc, length)?,
             most,
             calls: Calls { made: 0, failing },
-            tally: Tally::new(),
+            noticed: Noticed::new(),
         })
     }
 }
@@ -61,7 +61,7 @@ impl Folder for Slow {
 
     ghost files = { λ _. untold };
 
-    ghost counts = { λ folder. folder.tally };
+    ghost counts = { λ folder. folder.noticed };
 
     fn find(&mut self, _name: &str) -> Result<u64, FindFault> {
         Ok(self.content.len() as u64)
@@ -69,14 +69,14 @@ impl Folder for Slow {
 
     fn read(&mut self, _name: &str, at: u64, into: &mut [u8]) -> Result<usize, Failed> {
         if self.calls.next_fails() {
-            self.tally.count_read_fault();
+            self.noticed.count_read_fault();
             return Err(Failed);
         }
         let start = self.content.len().min(at as usize);
         let got = into.len().min(self.most).min(self.content.len() - start);
         into[..got].copy_from_slice(&self.content[start..start + got]);
         if got == 0 && !into.is_empty() {
-            self.tally.count_end();
+            self.noticed.count_end();
         }
         Ok(got)
     }
@@ -90,12 +90,12 @@ impl Folder for Slow {
     #[tactic(auto, unfolding(outside::specs::Files::appended))]
     fn write(&mut self, _name: &str, bytes: &[u8]) -> Result<usize, Failed> {
         if self.calls.next_fails() {
-            self.tally.count_write_fault();
+            self.noticed.count_write_fault();
             return Err(Failed);
         }
         let taken = bytes.len().min(self.most.max(1));
         if self.content.extend_from_slice(&bytes[..taken]).is_err() {
-            self.tally.count_write_fault();
+            self.noticed.count_write_fault();
             return Err(Failed);
         }
         Ok(taken)
