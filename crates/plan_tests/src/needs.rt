@@ -3,35 +3,26 @@ ghost use Rattle.std.specs.Prelude.{◌<◌, ◌≤◌, length};
 ghost use Rattle.sync_survey.specs.Faults.{tells};
 ghost use Rattle.sync_survey.specs.Survey.{IsLaidOut};
 
-use part_needs::{Parts, one_part_fits};
 use outside::{Folder, MemFolder};
+use part_needs::{Parts, one_part_fits};
 use slot_plan::{Keep, Plan};
-use std::alloc::{AllocError, AllocGlobal, Global};
+use std::alloc::{AllocError, AllocGlobal};
 use std::process::Abort;
 use std::test::Fail;
 use sync_survey::{Survey, survey};
+use test_files::files::{Stretch, bytes_of};
 
 /// The index of 128 kbit/s, and that of 32.
 const OWN: u8 = 9;
 
 const LEAST: u8 = 1;
 
-/// Adds a frame whose fields are 0, but for main_data_begin, the first 9 bits of the side information, and the bits of
-/// the first channel's main data, its bits from the 21st to the 32nd.
-fn push_frame(file: &mut Vec<u8>, begin: u32, bits: u32) -> Result<(), AllocError> {
-    file.extend_from_slice(&[0xff, 0xfb, 0x90, 0x00])?;
-    file.extend_from_slice(&(begin << 23 | bits).to_be_bytes())?;
-    file.extend_from_slice(&[0; 409])
-}
-
 /// A frame whose main data stood before the file, one of 301 bytes, and one of 400 that begin right behind them.
-fn file_of(alloc: Global) -> Result<Vec<u8>, AllocError> {
-    let mut file = Vec::new(alloc);
-    push_frame(&mut file, 10, 800)?;
-    push_frame(&mut file, 0, 2401)?;
-    push_frame(&mut file, 80, 3200)?;
-    Ok(file)
-}
+static FILE: [Stretch; 3] = [
+    Stretch::Frame(10, 800),
+    Stretch::Frame(0, 2401),
+    Stretch::Frame(80, 3200),
+];
 
 /// The survey of the file.
 fn surveyed<R: Abort + AllocGlobal, D: Folder>(rt: &R, folder: &mut D) -> Survey
@@ -99,7 +90,7 @@ static CASES: [Case; 3] = [
 #[test]
 fn parts_of_a_file(rt: HostRuntime) -> Result<(), Fail> {
     let mut folder = MemFolder::new(rt.alloc());
-    folder.put("a", &file_of(rt.alloc())?)?;
+    folder.put("a", &bytes_of(rt.alloc(), &FILE)?)?;
     let survey = surveyed(&rt, &mut folder);
     for case in &CASES {
         assert!(rt; case.from < case.to && case.to <= survey.frames().len());
@@ -124,7 +115,7 @@ fn parts_of_a_file(rt: HostRuntime) -> Result<(), Fail> {
 #[test]
 fn two_parts(rt: HostRuntime) -> Result<(), Fail> {
     let mut folder = MemFolder::new(rt.alloc());
-    folder.put("a", &file_of(rt.alloc())?)?;
+    folder.put("a", &bytes_of(rt.alloc(), &FILE)?)?;
     let survey = surveyed(&rt, &mut folder);
     let frames = survey.frames();
     assert!(rt; frames.len() == 3);

@@ -1,7 +1,7 @@
 //! What the tests ask for.
 
-use slot_plan::Need;
 use frame_header::Header;
+use slot_plan::Need;
 use std::alloc::Global;
 use std::test::Fail;
 

@@ -3,8 +3,8 @@
 use super::checked::plan_of;
 use super::rows::Row::{Frame, LeadIn, Padded};
 use super::rows::expect_rows;
-use slot_plan::{Keep, Least, Need};
 use frame_header::{Header, Slot};
+use slot_plan::{Keep, Least, Need};
 use std::alloc::AllocGlobal;
 use std::process::Abort;
 use std::test::Fail;

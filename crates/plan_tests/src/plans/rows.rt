@@ -1,7 +1,7 @@
 //! The frames of a plan, as tests write them.
 
-use slot_plan::{Placed, Plan};
 use frame_header::Class;
+use slot_plan::{Placed, Plan};
 use std::process::Abort;
 
 /// A frame of a plan: its bit rate in kbit/s, and its main_data_begin in bytes.

@@ -4,9 +4,9 @@ ghost use Rattle.std.specs.Prelude.{◌≤◌};
 
 use super::asked::{Asked, HIGH, LOW, needs_of};
 use super::checked::{fit, plan_of};
-use slot_plan::{Keep, Least, Need, Placed, Policy};
 use arrayvec::ArrayVec;
 use frame_header::{Class, Slot};
+use slot_plan::{Keep, Least, Need, Placed, Policy};
 use std::alloc::AllocGlobal;
 use std::process::Abort;
 use std::test::Fail;
