@@ -403,6 +403,7 @@ fn slots_in_their_order(rt: HostRuntime) -> Result<(), Fail> {
         rate_index: 9,
         padding: true,
     };
+    assert_eq!(rt; slots.len(), 28);
     assert_eq!(rt; slots[17], wanted);
     assert_eq!(rt; slots[0], Slot::default());
     Ok(())
