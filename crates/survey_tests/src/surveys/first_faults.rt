@@ -1,15 +1,16 @@
 //! The first faults of small files: worked out by hand, by the plain reading, and by the survey.
 
-use crate::surveys::files::{
-    HEAD_FRONT, HEAD_REST, OTHER_CLASS, SHORT, SHORT_LOUD, SHORT_OF_FOUR, Stretch, Z, file_of,
-};
 use crate::surveys::plain::first_fault;
+use crate::surveys::stretches::{
+    HEAD_FRONT, HEAD_REST, OTHER_CLASS, SHORT, SHORT_LOUD, SHORT_OF_FOUR, Z,
+};
 use crate::surveys::walks;
-use sync_survey::{SurveyFault, survey};
 use outside::MemFolder;
 use std::alloc::{AllocError, AllocGlobal};
 use std::process::Abort;
 use std::test::Fail;
+use sync_survey::{SurveyFault, survey};
+use test_files::files::{Stretch, bytes_of};
 
 /// A file, how many frames it may have, and its first fault.
 struct Case {
@@ -336,7 +337,7 @@ static CASES: [Case; 49] = [
     },
     Case {
         name: "a second class in the middle",
-        file: &[Z, Stretch::Bytes(OTHER_CLASS), Stretch::Fill(0, 380), Z],
+        file: &[Z, OTHER_CLASS, Stretch::Fill(0, 380), Z],
         allowed: MANY,
         answer: Some(SurveyFault::Mixed(417)),
     },
@@ -345,9 +346,9 @@ static CASES: [Case; 49] = [
         file: &[
             HEAD_FRONT,
             HEAD_REST,
-            Stretch::Bytes(OTHER_CLASS),
+            OTHER_CLASS,
             Stretch::Fill(0, 380),
-            Stretch::Bytes(OTHER_CLASS),
+            OTHER_CLASS,
             Stretch::Fill(0, 380),
         ],
         allowed: MANY,
@@ -385,7 +386,7 @@ static CASES: [Case; 49] = [
     },
     Case {
         name: "Truncated before Mixed",
-        file: &[Z, Stretch::Bytes(OTHER_CLASS), Stretch::Fill(0, 379)],
+        file: &[Z, OTHER_CLASS, Stretch::Fill(0, 379)],
         allowed: MANY,
         answer: Some(SurveyFault::Truncated(417)),
     },
@@ -436,7 +437,7 @@ static CASES: [Case; 49] = [
         file: &[
             Z,
             Stretch::Frame(0, 3049),
-            Stretch::Bytes(OTHER_CLASS),
+            OTHER_CLASS,
             Stretch::Fill(0, 380),
         ],
         allowed: MANY,
@@ -444,7 +445,7 @@ static CASES: [Case; 49] = [
     },
     Case {
         name: "too many frames before a later fault",
-        file: &[Z, Z, Stretch::Bytes(OTHER_CLASS), Stretch::Fill(0, 380)],
+        file: &[Z, Z, OTHER_CLASS, Stretch::Fill(0, 380)],
         allowed: 1,
         answer: Some(SurveyFault::TooManyFrames(417)),
     },
@@ -470,7 +471,7 @@ fn expect<R: Abort + AllocGlobal>(
 #[test]
 fn first_faults(rt: HostRuntime) -> Result<(), Fail> {
     for case in &CASES {
-        let file = file_of(rt.alloc(), case.file)?;
+        let file = bytes_of(rt.alloc(), case.file)?;
         expect(&rt, &file, case.allowed, case.name, case.answer)?;
     }
     Ok(())
@@ -479,7 +480,7 @@ fn first_faults(rt: HostRuntime) -> Result<(), Fail> {
 #[test]
 fn faults_of_walks(rt: HostRuntime) -> Result<(), Fail> {
     for case in &walks::CASES {
-        let file = file_of(rt.alloc(), case.file)?;
+        let file = bytes_of(rt.alloc(), case.file)?;
         let answer = match &case.answer {
             Ok(_) => None,
             Err(fault) => Some(*fault),
@@ -545,7 +546,7 @@ static CUTS: [Cut; 11] = [
 #[test]
 fn files_cut_short(rt: HostRuntime) -> Result<(), Fail> {
     for cut in &CUTS {
-        let mut file = file_of(rt.alloc(), TWO_FRAMES)?;
+        let mut file = bytes_of(rt.alloc(), TWO_FRAMES)?;
         file.truncate(cut.length);
         let what = format!(in rt.alloc(); "{} bytes", cut.length)?;
         expect(&rt, &file, 2, &what, cut.answer)?;
@@ -671,7 +672,7 @@ static CHANGES: [Change; 21] = [
 #[test]
 fn changed_headers(rt: HostRuntime) -> Result<(), Fail> {
     for change in &CHANGES {
-        let mut file = file_of(rt.alloc(), TWO_FRAMES)?;
+        let mut file = bytes_of(rt.alloc(), TWO_FRAMES)?;
         if let Some(byte) = file.get_mut(change.at) {
             *byte = change.value;
         }

@@ -1,29 +1,30 @@
 //! The survey of a file of a folder: what it tells of a whole file, and what a folder may do to it.
 ghost use Rattle.outside.specs.Files.{untold};
 
-use crate::surveys::files::{APE, HEAD_FRONT, HEAD_REST, ID3V2, Stretch, Z, file_of};
-use sync_survey::{Head, Piece, Row, Survey, SurveyFault, survey};
+use crate::surveys::stretches::{HEAD_FRONT, HEAD_REST, Z};
 use frame_header::{Class, Header, Slot, Version};
 use outside::{Call, Failed, FindFault, Folder, MemFolder};
 use std::alloc::AllocGlobal;
 use std::process::Abort;
 use std::test::Fail;
+use sync_survey::{Head, Piece, Row, Survey, SurveyFault, survey};
 use tag_blocks::{Block, Kind};
+use test_files::files::{APE, ID3V1, ID3V1_REST, ID3V2, ID3V2_REST, Stretch, bytes_of};
 
 /// ID3v2, 2 zero bytes, 300 bytes of junk, a head at 342, two frames at 759 and 1,176, and at 1,593 and
 /// 1,672 APEv2 and ID3v1: 1,800 bytes.
 static SONG: [Stretch; 11] = [
-    Stretch::Bytes(ID3V2),
-    Stretch::Fill(0x11, 30),
+    ID3V2,
+    ID3V2_REST,
     Stretch::Fill(0, 2),
     Stretch::Fill(0x55, 300),
     HEAD_FRONT,
     HEAD_REST,
     Z,
     Stretch::Frame(200, 2400),
-    Stretch::Bytes(APE),
-    Stretch::Bytes(b"TAG"),
-    Stretch::Fill(0x20, 125),
+    APE,
+    ID3V1,
+    ID3V1_REST,
 ];
 
 static BLOCKS: [Piece; 3] = [
@@ -106,7 +107,7 @@ fn expect_frames<R: Abort>(rt: &R, survey: &Survey) {
 
 #[test]
 fn a_song(rt: HostRuntime) -> Result<(), Fail> {
-    let file = file_of(rt.alloc(), &SONG)?;
+    let file = bytes_of(rt.alloc(), &SONG)?;
     let mut folder = MemFolder::new(rt.alloc());
     folder.put("song", &file)?;
     let Ok(survey) = survey(rt.alloc(), &mut folder, "song", 2) else {
@@ -156,7 +157,7 @@ fn fail_in_turn<R: Abort + AllocGlobal>(rt: &R, file: &[u8], kind: Call) -> Resu
 /// 200,160 bytes: more than three times what a read gives.
 #[test]
 fn calls_that_fail(rt: HostRuntime) -> Result<(), Fail> {
-    let frame = file_of(rt.alloc(), &[Z])?;
+    let frame = bytes_of(rt.alloc(), &[Z])?;
     let mut file = Vec::new(rt.alloc());
     for _ in 0..480 {
         file.extend_from_slice(&frame)?;

@@ -1,10 +1,11 @@
 //! Files that are longer than the buffer of 65,536 bytes.
 
-use crate::surveys::files::{Stretch, Z, file_of};
+use crate::surveys::stretches::Z;
 use crate::surveys::walks::{Shape, expect};
-use sync_survey::{Piece, SurveyFault};
 use std::test::Fail;
+use sync_survey::{Piece, SurveyFault};
 use tag_blocks::{Block, Kind};
+use test_files::files::{Stretch, bytes_of};
 
 /// ID3v2 with 100,000 bytes behind its header: 6 * 16,384 + 13 * 128 + 32.
 const LONG_ID3V2: &[u8] = &[b'I', b'D', b'3', 4, 0, 0, 0, 6, 13, 32];
@@ -27,7 +28,7 @@ static LONG_BLOCKS: [Piece; 2] = [
 
 #[test]
 fn a_block_longer_than_the_buffer(rt: HostRuntime) -> Result<(), Fail> {
-    let file = file_of(
+    let file = bytes_of(
         rt.alloc(),
         &[
             Stretch::Bytes(LONG_ID3V2),
@@ -50,7 +51,7 @@ fn a_block_longer_than_the_buffer(rt: HostRuntime) -> Result<(), Fail> {
 
 #[test]
 fn zero_bytes_over_several_buffers(rt: HostRuntime) -> Result<(), Fail> {
-    let file = file_of(
+    let file = bytes_of(
         rt.alloc(),
         &[Stretch::Fill(0, 200_000), Z, Stretch::Fill(0, 150_000), Z],
     )?;
@@ -68,7 +69,7 @@ fn zero_bytes_over_several_buffers(rt: HostRuntime) -> Result<(), Fail> {
 #[test]
 fn a_frame_across_the_end_of_the_buffer(rt: HostRuntime) -> Result<(), Fail> {
     for offset in 65_490..65_540 {
-        let file = file_of(
+        let file = bytes_of(
             rt.alloc(),
             &[
                 Stretch::Fill(0, offset - 417),

@@ -1,14 +1,13 @@
 //! Files whose first frames point before the stream, and which of their frames are lost. Worked out by hand: a
 //! frame of 417 bytes adds 381 bytes to the main data, one of `SHORT` 11.
 
-use crate::surveys::files::{
-    HEAD_FRONT, HEAD_REST, SHORT, SHORT_LOUD, SHORT_OF_FOUR, Stretch, Z, file_of,
-};
-use sync_survey::{Survey, survey};
+use crate::surveys::stretches::{HEAD_FRONT, HEAD_REST, SHORT, SHORT_LOUD, SHORT_OF_FOUR, Z};
 use outside::MemFolder;
 use std::alloc::AllocGlobal;
 use std::process::Abort;
 use std::test::Fail;
+use sync_survey::{Survey, survey};
+use test_files::files::{Stretch, bytes_of};
 
 /// As `SHORT` with main_data_begin 12.
 const SHORT_SILENT_BACK: Stretch = Stretch::Bytes(&[
@@ -90,7 +89,7 @@ fn expect_marks<R: Abort>(rt: &R, survey: &Survey, case: &Case) {
 
 /// Surveys the file.
 fn expect<R: Abort + AllocGlobal>(rt: &R, case: &Case) -> Result<(), Fail> {
-    let file = file_of(rt.alloc(), case.file)?;
+    let file = bytes_of(rt.alloc(), case.file)?;
     let mut folder = MemFolder::new(rt.alloc());
     folder.put("a", &file)?;
     let Ok(survey) = survey(rt.alloc(), &mut folder, "a", 100) else {

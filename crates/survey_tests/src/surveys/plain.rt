@@ -3,8 +3,8 @@
 //! its main data in the areas of all frames joined, and the least of all faults. It shares no code with the
 //! survey.
 
-use sync_survey::SurveyFault;
 use std::alloc::{AllocError, Global};
+use sync_survey::SurveyFault;
 
 /// Bit rates in kbit/s of index 1 to 14.
 static RATES_OF_MPEG_1: [u16; 14] = [

@@ -1,13 +1,14 @@
 //! Files whose walk was worked out by hand, from the lengths of the standard's tables and the layouts of the blocks.
 
-use crate::surveys::files::{APE, HEADER, ID3V2, OTHER_CLASS, SILENCE, Stretch, file_of};
 use crate::surveys::plain::first_fault;
-use sync_survey::{Piece, Survey, SurveyFault, survey};
+use crate::surveys::stretches::{HEAD_FRONT, HEAD_REST, HEADER, OTHER_CLASS, SILENCE, Z};
 use outside::MemFolder;
 use std::alloc::AllocGlobal;
 use std::process::Abort;
 use std::test::Fail;
+use sync_survey::{Piece, Survey, SurveyFault, survey};
 use tag_blocks::{Block, Kind};
+use test_files::files::{APE, ID3V1, ID3V1_REST, ID3V2, ID3V2_REST, Stretch, bytes_of};
 
 /// What has to be found in a file.
 #[derive(Drop)]
@@ -28,7 +29,7 @@ pub struct Case {
 }
 
 /// Two silent frames.
-const TWO_FRAMES: &[Stretch] = &[HEADER, SILENCE, HEADER, SILENCE];
+const TWO_FRAMES: &[Stretch] = &[Z, Z];
 
 pub static CASES: [Case; 20] = [
     Case {
@@ -43,7 +44,7 @@ pub static CASES: [Case; 20] = [
     },
     Case {
         name: "two frames",
-        file: &[HEADER, SILENCE, HEADER, SILENCE],
+        file: &[Z, Z],
         answer: Ok(Shape {
             front_end: 0,
             first: 0,
@@ -55,19 +56,17 @@ pub static CASES: [Case; 20] = [
     Case {
         name: "a false frame in junk, which ends at 559 on a zero byte",
         file: &[
-            Stretch::Bytes(ID3V2),
-            Stretch::Fill(0x11, 30),
+            ID3V2,
+            ID3V2_REST,
             Stretch::Fill(0, 2),
             Stretch::Fill(0x55, 100),
             HEADER,
             Stretch::Fill(0x55, 196),
-            HEADER,
-            SILENCE,
-            HEADER,
-            SILENCE,
-            Stretch::Bytes(APE),
-            Stretch::Bytes(b"TAG"),
-            Stretch::Fill(0x20, 125),
+            Z,
+            Z,
+            APE,
+            ID3V1,
+            ID3V1_REST,
         ],
         answer: Ok(Shape {
             front_end: 42,
@@ -101,17 +100,7 @@ pub static CASES: [Case; 20] = [
     },
     Case {
         name: "zero bytes between frames, and a block of 40 bytes",
-        file: &[
-            HEADER,
-            SILENCE,
-            Stretch::Fill(0, 3),
-            HEADER,
-            SILENCE,
-            Stretch::Bytes(ID3V2),
-            Stretch::Fill(0x11, 30),
-            HEADER,
-            SILENCE,
-        ],
+        file: &[Z, Stretch::Fill(0, 3), Z, ID3V2, ID3V2_REST, Z],
         answer: Ok(Shape {
             front_end: 0,
             first: 0,
@@ -144,45 +133,22 @@ pub static CASES: [Case; 20] = [
     },
     Case {
         name: "a byte 41 behind a zero byte",
-        file: &[
-            HEADER,
-            SILENCE,
-            HEADER,
-            SILENCE,
-            Stretch::Bytes(&[0x00, 0x41]),
-        ],
+        file: &[Z, Z, Stretch::Bytes(&[0x00, 0x41])],
         answer: Err(SurveyFault::LostSync(835)),
     },
     Case {
         name: "free format in the first frame",
-        file: &[
-            Stretch::Bytes(&[0xff, 0xfb, 0x00, 0x00]),
-            SILENCE,
-            HEADER,
-            SILENCE,
-        ],
+        file: &[Stretch::Bytes(&[0xff, 0xfb, 0x00, 0x00]), SILENCE, Z],
         answer: Err(SurveyFault::FreeFormat(0)),
     },
     Case {
         name: "a head alone",
-        file: &[
-            HEADER,
-            Stretch::Fill(0, 32),
-            Stretch::Bytes(b"Info"),
-            Stretch::Fill(0, 377),
-        ],
+        file: &[HEAD_FRONT, HEAD_REST],
         answer: Err(SurveyFault::NoFrame(417)),
     },
     Case {
         name: "a head and a frame",
-        file: &[
-            HEADER,
-            Stretch::Fill(0, 32),
-            Stretch::Bytes(b"Info"),
-            Stretch::Fill(0, 377),
-            HEADER,
-            SILENCE,
-        ],
+        file: &[HEAD_FRONT, HEAD_REST, Z],
         answer: Ok(Shape {
             front_end: 0,
             first: 0,
@@ -198,8 +164,7 @@ pub static CASES: [Case; 20] = [
             Stretch::Fill(0, 34),
             Stretch::Bytes(b"Xing"),
             Stretch::Fill(0, 375),
-            HEADER,
-            SILENCE,
+            Z,
         ],
         answer: Ok(Shape {
             front_end: 0,
@@ -211,14 +176,7 @@ pub static CASES: [Case; 20] = [
     },
     Case {
         name: "the text in the second frame",
-        file: &[
-            HEADER,
-            SILENCE,
-            HEADER,
-            Stretch::Fill(0, 32),
-            Stretch::Bytes(b"Info"),
-            Stretch::Fill(0, 377),
-        ],
+        file: &[Z, HEAD_FRONT, HEAD_REST],
         answer: Ok(Shape {
             front_end: 0,
             first: 0,
@@ -229,35 +187,25 @@ pub static CASES: [Case; 20] = [
     },
     Case {
         name: "a block at the front that passes the end",
-        file: &[
-            Stretch::Fill(0, 2),
-            Stretch::Bytes(ID3V2),
-            Stretch::Fill(0x11, 29),
-        ],
+        file: &[Stretch::Fill(0, 2), ID3V2, Stretch::Fill(0x11, 29)],
         answer: Err(SurveyFault::Truncated(2)),
     },
     Case {
         name: "a block behind a frame that passes the end",
-        file: &[
-            HEADER,
-            SILENCE,
-            Stretch::Bytes(b"TAG"),
-            Stretch::Fill(0x20, 124),
-        ],
+        file: &[Z, ID3V1, Stretch::Fill(0x20, 124)],
         answer: Err(SurveyFault::Truncated(417)),
     },
     Case {
         name: "a frame at the front needs no anchor",
-        file: &[HEADER, SILENCE, Stretch::Fill(0x55, 4)],
+        file: &[Z, Stretch::Fill(0x55, 4)],
         answer: Err(SurveyFault::LostSync(417)),
     },
     Case {
         name: "a frame in junk that ends on another class, which the file's end anchors",
         file: &[
             Stretch::Fill(0x55, 10),
-            HEADER,
-            SILENCE,
-            Stretch::Bytes(OTHER_CLASS),
+            Z,
+            OTHER_CLASS,
             Stretch::Fill(0, 380),
         ],
         answer: Ok(Shape {
@@ -270,22 +218,17 @@ pub static CASES: [Case; 20] = [
     },
     Case {
         name: "an anchor that is the beginning of a block",
-        file: &[
-            Stretch::Fill(0x55, 10),
-            HEADER,
-            SILENCE,
-            Stretch::Bytes(b"TAG"),
-        ],
+        file: &[Stretch::Fill(0x55, 10), Z, ID3V1],
         answer: Err(SurveyFault::Truncated(427)),
     },
     Case {
         name: "an anchor that is the beginning of a frame",
-        file: &[Stretch::Fill(0x55, 10), HEADER, SILENCE, HEADER],
+        file: &[Stretch::Fill(0x55, 10), Z, HEADER],
         answer: Err(SurveyFault::Truncated(427)),
     },
     Case {
         name: "a frame at the last offset behind junk",
-        file: &[Stretch::Fill(0x55, 65_536), HEADER, SILENCE],
+        file: &[Stretch::Fill(0x55, 65_536), Z],
         answer: Ok(Shape {
             front_end: 0,
             first: 65536,
@@ -296,7 +239,7 @@ pub static CASES: [Case; 20] = [
     },
     Case {
         name: "a frame one byte later",
-        file: &[Stretch::Fill(0x55, 65_537), HEADER, SILENCE],
+        file: &[Stretch::Fill(0x55, 65_537), Z],
         answer: Err(SurveyFault::NoFrame(0)),
     },
 ];
@@ -342,7 +285,7 @@ pub fn expect<R: Abort + AllocGlobal>(
 #[test]
 fn files(rt: HostRuntime) -> Result<(), Fail> {
     for case in &CASES {
-        let file = file_of(rt.alloc(), case.file)?;
+        let file = bytes_of(rt.alloc(), case.file)?;
         expect(&rt, case.name, &file, &case.answer)?;
     }
     Ok(())
@@ -368,7 +311,7 @@ fn cut_answer(length: usize) -> Option<SurveyFault> {
 
 #[test]
 fn files_cut_short(rt: HostRuntime) -> Result<(), Fail> {
-    let mut file = file_of(rt.alloc(), TWO_FRAMES)?;
+    let mut file = bytes_of(rt.alloc(), TWO_FRAMES)?;
     for length in (0..835).rev() {
         file.truncate(length);
         let found = fault_of(&rt, &file)?;
@@ -381,7 +324,7 @@ fn files_cut_short(rt: HostRuntime) -> Result<(), Fail> {
 fn changed_headers(rt: HostRuntime) -> Result<(), Fail> {
     for at in 417..421 {
         for value in 0..=255 {
-            let mut file = file_of(rt.alloc(), TWO_FRAMES)?;
+            let mut file = bytes_of(rt.alloc(), TWO_FRAMES)?;
             if let Some(byte) = file.get_mut(at) {
                 *byte = value;
             }
