@@ -6,65 +6,62 @@ ghost use Rattle.sync_survey.specs.declared.rows.Row.{Row as RowFields};
 ghost use Rattle.part_needs.specs.Needs.{need_of};
 ghost use Rattle.laying.specs.Fits.{FitsFrom};
 
-use laying::{PassFault, Relay};
 use frame_writer::Writer;
+use laying::{PassFault, Relay};
 use outside::{Feed, Folder, MemFolder, WriteBuffer};
 use reservoir::Window;
 use slot_plan::Placed;
-use std::alloc::{AllocError, AllocGlobal, Global};
+use std::alloc::{AllocError, AllocGlobal};
 use std::process::Abort;
 use std::test::Fail;
 use sync_survey::{Row, survey};
+use test_files::files::{ID3V1, Stretch, bytes_of};
 
-/// Adds an ID3v2 block of 7,010 bytes: the size in its header is 54 * 128 + 88 (ID3v2.3.0, 3.1).
-fn push_long_block(file: &mut Vec<u8>) -> Result<(), AllocError> {
-    file.extend_from_slice(b"ID3\x03\x00\x00\x00\x00\x36\x58")?;
-    file.extend_from_slice(&[0x44; 3000])?;
-    file.extend_from_slice(&[0x55; 4000])
-}
+/// The front of an ID3v2 block of 7,010 bytes: the size in its header is 54 * 128 + 88 (ID3v2.3.0, 3.1).
+const LONG_BLOCK: Stretch = Stretch::Bytes(b"ID3\x03\x00\x00\x00\x00\x36\x58");
 
-/// Adds an ID3v2 block of 14 bytes.
-fn push_short_block(file: &mut Vec<u8>) -> Result<(), AllocError> {
-    file.extend_from_slice(b"ID3\x03\x00\x00\x00\x00\x00\x04abcd")
-}
+/// An ID3v2 block of 14 bytes.
+const SHORT_BLOCK: Stretch = Stretch::Bytes(b"ID3\x03\x00\x00\x00\x00\x00\x04abcd");
 
-/// Adds an ID3v1 block of 128 bytes.
-fn push_last_block(file: &mut Vec<u8>) -> Result<(), AllocError> {
-    file.extend_from_slice(b"TAG")?;
-    file.extend_from_slice(&[0x66; 125])
-}
+/// The rest of an ID3v1 block.
+const LAST_REST: Stretch = Stretch::Fill(0x66, 125);
 
-/// Adds a frame with 300 bytes of main data, and then these. The bits of the first channel's main data are the bits of the
-/// side information from the 21st to the 32nd.
-fn push_frame(file: &mut Vec<u8>, rest: u8) -> Result<(), AllocError> {
-    file.extend_from_slice(&[0xff, 0xfb, 0x90, 0x00])?;
-    file.extend_from_slice(&2400u32.to_be_bytes())?;
-    file.extend_from_slice(&[0; 28])?;
-    file.extend_from_slice(&[0x11; 300])?;
-    file.extend_from_slice(&[rest; 81])
-}
+/// The front of a frame with 300 bytes of main data. Their bits are the bits of the side information from the 21st to the
+/// 32nd.
+const FRAME: Stretch = Stretch::Bytes(&[0xff, 0xfb, 0x90, 0x00, 0x00, 0x00, 0x09, 0x60]);
 
 /// A block in front of two frames, and two behind them.
-fn input(alloc: Global) -> Result<Vec<u8>, AllocError> {
-    let mut file = Vec::new(alloc);
-    push_long_block(&mut file)?;
-    push_frame(&mut file, 0x22)?;
-    push_frame(&mut file, 0x22)?;
-    push_short_block(&mut file)?;
-    push_last_block(&mut file)?;
-    Ok(file)
-}
+static INPUT: [Stretch; 14] = [
+    LONG_BLOCK,
+    Stretch::Fill(0x44, 3000),
+    Stretch::Fill(0x55, 4000),
+    FRAME,
+    Stretch::Fill(0, 28),
+    Stretch::Fill(0x11, 300),
+    Stretch::Fill(0x22, 81),
+    FRAME,
+    Stretch::Fill(0, 28),
+    Stretch::Fill(0x11, 300),
+    Stretch::Fill(0x22, 81),
+    SHORT_BLOCK,
+    ID3V1,
+    LAST_REST,
+];
 
 /// The same blocks, around four bytes in place of an Info frame and the first frame, in which 0 stands behind its main data.
-fn output(alloc: Global) -> Result<Vec<u8>, AllocError> {
-    let mut file = Vec::new(alloc);
-    push_long_block(&mut file)?;
-    file.extend_from_slice(b"info")?;
-    push_frame(&mut file, 0)?;
-    push_short_block(&mut file)?;
-    push_last_block(&mut file)?;
-    Ok(file)
-}
+static OUTPUT: [Stretch; 11] = [
+    LONG_BLOCK,
+    Stretch::Fill(0x44, 3000),
+    Stretch::Fill(0x55, 4000),
+    Stretch::Bytes(b"info"),
+    FRAME,
+    Stretch::Fill(0, 28),
+    Stretch::Fill(0x11, 300),
+    Stretch::Fill(0, 81),
+    SHORT_BLOCK,
+    ID3V1,
+    LAST_REST,
+];
 
 /// A frame in its own slot, with its main data in its own area.
 #[tactic(auto, unfolding(laying::specs::Fits::FitsFrom))]
@@ -121,11 +118,11 @@ fn write_first<R: Abort + AllocGlobal, D: Folder>(
 #[test]
 fn first_frame_between_blocks(rt: HostRuntime) -> Result<(), Fail> {
     let mut folder = MemFolder::new(rt.alloc());
-    folder.put("a", &input(rt.alloc())?)?;
+    folder.put("a", &bytes_of(rt.alloc(), &INPUT)?)?;
     folder.put("b", &[])?;
     folder.reserve("b", 7573)?;
     assert_eq!(&rt; write_first(&rt, &mut folder)?, Ok(()));
     let written = folder.get("b").ok_or("no output")?;
-    assert_eq!(&rt; written, output(rt.alloc())?.as_slice());
+    assert_eq!(&rt; written, bytes_of(rt.alloc(), &OUTPUT)?.as_slice());
     Ok(())
 }

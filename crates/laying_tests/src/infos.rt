@@ -1,13 +1,14 @@
 //! Info frames of plans, and what is kept of a head: lengths by the standard's rule, entries by division, and places of
 //! fields counted by hand from the layout of heads.
 
-use laying::{Kept, PassFault, info_of, kept_fields};
 use frame_header::{Header, Slot};
+use laying::{Kept, PassFault, info_of, kept_fields};
 use outside::{Call, Folder, MemFolder};
 use slot_plan::Placed;
-use std::alloc::{AllocError, AllocGlobal, Global};
+use std::alloc::{AllocError, Global};
 use std::test::Fail;
 use sync_survey::survey;
+use test_files::files::{Stretch, bytes_of};
 
 /// MPEG-1, 128 kbit/s at 44,100 Hz in two channels: 417 bytes, of which 4 and 32 stand before the area.
 const PLAIN: [u8; 4] = [0xff, 0xfb, 0x90, 0x00];
@@ -78,23 +79,34 @@ fn one_bit_rate(rt: HostRuntime) -> Result<(), Fail> {
     Ok(())
 }
 
-/// A first frame: what stands in its area at 36, zeros behind it up to a place, the quality and the extension.
+/// A first frame, and a silent one behind it.
 struct Case {
     name: &'static str,
-    front: &'static [u8],
-    zeros_to: usize,
-    quality: &'static [u8],
-    extension: &'static [u8],
+    file: &'static [Stretch],
     wanted: Kept,
 }
+
+const HEADER: Stretch = Stretch::Bytes(&PLAIN);
+
+const QUALITY: Stretch = Stretch::Bytes(b"\0\0\0\x39");
+
+const EXTENSION_BYTES: Stretch = Stretch::Bytes(&EXTENSION);
+
+const SILENT: Stretch = Stretch::Frame(0, 0);
 
 static CASES: [Case; 4] = [
     Case {
         name: "all fields",
-        front: b"Info\0\0\0\x0f",
-        zeros_to: 152,
-        quality: b"\0\0\0\x39",
-        extension: &EXTENSION,
+        file: &[
+            HEADER,
+            Stretch::Fill(0, 32),
+            Stretch::Bytes(b"Info\0\0\0\x0f"),
+            Stretch::Fill(0, 108),
+            QUALITY,
+            EXTENSION_BYTES,
+            Stretch::Fill(0, 225),
+            SILENT,
+        ],
         wanted: Kept {
             quality: Some(57),
             extension: EXTENSION,
@@ -102,10 +114,15 @@ static CASES: [Case; 4] = [
     },
     Case {
         name: "a quality alone",
-        front: b"Xing\0\0\0\x08",
-        zeros_to: 44,
-        quality: b"\0\0\0\x39",
-        extension: &EXTENSION,
+        file: &[
+            HEADER,
+            Stretch::Fill(0, 32),
+            Stretch::Bytes(b"Xing\0\0\0\x08"),
+            QUALITY,
+            EXTENSION_BYTES,
+            Stretch::Fill(0, 333),
+            SILENT,
+        ],
         wanted: Kept {
             quality: Some(57),
             extension: EXTENSION,
@@ -113,10 +130,15 @@ static CASES: [Case; 4] = [
     },
     Case {
         name: "no quality",
-        front: b"Info\0\0\0\x07",
-        zeros_to: 152,
-        quality: b"",
-        extension: &EXTENSION,
+        file: &[
+            HEADER,
+            Stretch::Fill(0, 32),
+            Stretch::Bytes(b"Info\0\0\0\x07"),
+            Stretch::Fill(0, 108),
+            EXTENSION_BYTES,
+            Stretch::Fill(0, 229),
+            SILENT,
+        ],
         wanted: Kept {
             quality: None,
             extension: EXTENSION,
@@ -124,31 +146,22 @@ static CASES: [Case; 4] = [
     },
     Case {
         name: "no head",
-        front: b"Inf0\0\0\0\x0f",
-        zeros_to: 152,
-        quality: b"\0\0\0\x39",
-        extension: &EXTENSION,
+        file: &[
+            HEADER,
+            Stretch::Fill(0, 32),
+            Stretch::Bytes(b"Inf0\0\0\0\x0f"),
+            Stretch::Fill(0, 108),
+            QUALITY,
+            EXTENSION_BYTES,
+            Stretch::Fill(0, 225),
+            SILENT,
+        ],
         wanted: Kept {
             quality: None,
             extension: [0; 36],
         },
     },
 ];
-
-/// The first frame, and a silent one.
-fn file_of(alloc: Global, case: &Case) -> Result<Vec<u8>, AllocError> {
-    let mut file = Vec::new(alloc);
-    file.extend_from_slice(&PLAIN)?;
-    file.extend_from_slice(&[0; 32])?;
-    file.extend_from_slice(case.front)?;
-    file.resize(case.zeros_to, 0)?;
-    file.extend_from_slice(case.quality)?;
-    file.extend_from_slice(case.extension)?;
-    file.resize(417, 0)?;
-    file.extend_from_slice(&PLAIN)?;
-    file.resize(834, 0)?;
-    Ok(file)
-}
 
 /// Of the file `a`; none where its survey can't be read.
 fn kept_of<D: Folder>(alloc: Global, folder: &mut D) -> Option<Result<Kept, PassFault>> {
@@ -159,7 +172,7 @@ fn kept_of<D: Folder>(alloc: Global, folder: &mut D) -> Option<Result<Kept, Pass
 #[test]
 fn heads(rt: HostRuntime) -> Result<(), Fail> {
     for case in &CASES {
-        let file = file_of(rt.alloc(), case)?;
+        let file = bytes_of(rt.alloc(), case.file)?;
         let mut folder = MemFolder::new(rt.alloc());
         folder.put("a", &file)?;
         let kept = kept_of(rt.alloc(), &mut folder);
@@ -168,16 +181,25 @@ fn heads(rt: HostRuntime) -> Result<(), Fail> {
     Ok(())
 }
 
+/// What is kept where this read fails.
+fn kept_where_it_fails(
+    alloc: Global,
+    file: &[u8],
+    number: u64,
+) -> Result<Option<Result<Kept, PassFault>>, AllocError> {
+    let mut folder = MemFolder::new(alloc);
+    folder.put("a", file)?;
+    folder.fail(Call::Read, number)?;
+    Ok(kept_of(alloc, &mut folder))
+}
+
 /// Lets each read fail in turn: those of the survey, and then the one of the head.
 #[test]
 fn reads_that_fail(rt: HostRuntime) -> Result<(), Fail> {
-    let file = file_of(rt.alloc(), &CASES[0])?;
+    let file = bytes_of(rt.alloc(), CASES[0].file)?;
     let mut is_refused = false;
     for number in 1..10 {
-        let mut folder = MemFolder::new(rt.alloc());
-        folder.put("a", &file)?;
-        folder.fail(Call::Read, number)?;
-        match kept_of(rt.alloc(), &mut folder) {
+        match kept_where_it_fails(rt.alloc(), &file, number)? {
             Some(Err(fault)) => {
                 assert_eq!(rt; fault, PassFault::Read);
                 is_refused = true;

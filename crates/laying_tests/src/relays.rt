@@ -1,51 +1,40 @@
 //! A part worked out by hand: frames of MPEG-1, 44,100 Hz and 128 kbit/s in two channels have 417 bytes and an area of 381
 //! (ISO/IEC 11172-3, 2.4.3.1), a lead-in at 32 kbit/s 104 and an area of 68.
-use laying::{PassFault, Relay, asked_plans, plans_fit};
 use frame_writer::Writer;
+use laying::{PassFault, Relay, asked_plans, plans_fit};
 use outside::{Feed, Folder, MemFolder};
 use part_needs::{Parts, one_part_fits};
 use reservoir::Window;
 use slot_plan::Keep;
-use std::alloc::{AllocError, AllocGlobal, Global};
+use std::alloc::{AllocError, AllocGlobal};
 use std::process::Abort;
 use std::test::Fail;
 use sync_survey::survey;
+use test_files::files::{Stretch, bytes_of};
 
-/// Adds a header and side information whose fields are 0, but for main_data_begin, the first 9 bits, and the bits of the
-/// first channel's main data, its bits from the 21st to the 32nd.
-fn push_front(
-    file: &mut Vec<u8>,
-    header: [u8; 4],
-    begin: u32,
-    bits: u32,
-) -> Result<(), AllocError> {
-    file.extend_from_slice(&header)?;
-    file.extend_from_slice(&(begin << 23 | bits).to_be_bytes())?;
-    file.extend_from_slice(&[0; 28])
-}
-
-/// Main data of 300 bytes, and of 400 that begin right behind them, 81 bytes before the second area.
-fn input(alloc: Global) -> Result<Vec<u8>, AllocError> {
-    let mut file = Vec::new(alloc);
-    push_front(&mut file, [0xff, 0xfb, 0x90, 0x00], 0, 2400)?;
-    file.extend_from_slice(&[0x11; 300])?;
-    file.extend_from_slice(&[0x22; 81])?;
-    push_front(&mut file, [0xff, 0xfb, 0x90, 0x00], 81, 3200)?;
-    file.extend_from_slice(&[0x22; 319])?;
-    file.extend_from_slice(&[0x33; 62])?;
-    Ok(file)
-}
+/// Main data of 300 bytes, and of 400 that begin right behind them, 81 bytes before the second area. Of the side information
+/// main_data_begin is the first 9 bits, and the bits of the first channel's main data are those from the 21st to the 32nd.
+static INPUT: [Stretch; 8] = [
+    Stretch::Bytes(&[0xff, 0xfb, 0x90, 0x00, 0x00, 0x00, 0x09, 0x60]),
+    Stretch::Fill(0, 28),
+    Stretch::Fill(0x11, 300),
+    Stretch::Fill(0x22, 81),
+    Stretch::Bytes(&[0xff, 0xfb, 0x90, 0x00, 0x28, 0x80, 0x0c, 0x80]),
+    Stretch::Fill(0, 28),
+    Stretch::Fill(0x22, 319),
+    Stretch::Fill(0x33, 62),
+];
 
 /// The second frame alone: 68 of its bytes stand in the lead-in's area, and the other 332 in its own.
-fn output(alloc: Global) -> Result<Vec<u8>, AllocError> {
-    let mut file = Vec::new(alloc);
-    push_front(&mut file, [0xff, 0xfb, 0x10, 0x00], 0, 0)?;
-    file.extend_from_slice(&[0x22; 68])?;
-    push_front(&mut file, [0xff, 0xfb, 0x90, 0x00], 68, 3200)?;
-    file.extend_from_slice(&[0x22; 332])?;
-    file.extend_from_slice(&[0; 49])?;
-    Ok(file)
-}
+static OUTPUT: [Stretch; 7] = [
+    Stretch::Bytes(&[0xff, 0xfb, 0x10, 0x00]),
+    Stretch::Fill(0, 32),
+    Stretch::Fill(0x22, 68),
+    Stretch::Bytes(&[0xff, 0xfb, 0x90, 0x00, 0x22, 0x00, 0x0c, 0x80]),
+    Stretch::Fill(0, 28),
+    Stretch::Fill(0x22, 332),
+    Stretch::Fill(0, 49),
+];
 
 /// Lays the second of two frames, in its own slot.
 #[tactic(auto, using(outside::proofs::FilesLaws::emptied_there))]
@@ -89,11 +78,11 @@ fn lay_second<R: Abort + AllocGlobal, D: Folder>(
 #[test]
 fn second_frame_alone(rt: HostRuntime) -> Result<(), Fail> {
     let mut folder = MemFolder::new(rt.alloc());
-    folder.put("a", &input(rt.alloc())?)?;
+    folder.put("a", &bytes_of(rt.alloc(), &INPUT)?)?;
     folder.put("b", &[])?;
     folder.reserve("b", 521)?;
     assert_eq!(&rt; lay_second(&rt, &mut folder)?, Ok(()));
     let written = folder.get("b").ok_or("no output")?;
-    assert_eq!(&rt; written, output(rt.alloc())?.as_slice());
+    assert_eq!(&rt; written, bytes_of(rt.alloc(), &OUTPUT)?.as_slice());
     Ok(())
 }

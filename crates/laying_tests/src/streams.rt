@@ -1,12 +1,12 @@
 //! A file that the crates below put together, and what a survey finds in it. Its places were worked out by hand from the
 //! standard's rule of the frame length (ISO/IEC 11172-3, 2.4.3.1).
 
+use crate::appended::{append, finish, side_of};
 use arrayvec::ArrayVec;
 use frame_header::Header;
 use frame_writer::Writer;
 use info_header::{info_over, write_info};
-use outside::{Failed, Folder, MemFolder};
-use side_info::Side;
+use outside::{Folder, MemFolder};
 use std::alloc::{AllocGlobal, Global};
 use std::process::Abort;
 use std::test::Fail;
@@ -40,35 +40,6 @@ static BLOCKS: [Piece; 2] = [
     },
 ];
 
-/// Writes a frame whose side fields are 0, but for main_data_begin and the bits of its first granule and channel, whose
-/// main data these are.
-#[tactic(auto, using(outside::proofs::FilesLaws::emptied_there))]
-fn write<D: Folder>(
-    rt: &impl Abort,
-    writer: &mut Writer,
-    header: &Header,
-    begin: u16,
-    payload: &[u8],
-    folder: &mut D,
-) -> Result<(), Failed> {
-    assert!(rt; payload.len() < 512);
-    let mut side = Side::empty().with_begin(begin);
-    side.granules[0][0].part2_3_length = 8 * payload.len() as u16;
-    assert!(rt; writer.class().is_same(header.class()) && side.fits(header.class()));
-    assert!(rt; writer.is_ready() && u32::from(begin) <= writer.reach());
-    assert!(rt; payload.len() <= usize::from(begin) + header.area() as usize);
-    // Nothing is appended before the end, so the file may be made anew.
-    folder.create("frames")?;
-    writer.frame(header, &side, payload, folder, "frames")
-}
-
-/// Writes the end of the frames.
-#[tactic(auto, using(outside::proofs::FilesLaws::emptied_there))]
-fn finish<D: Folder>(writer: &mut Writer, folder: &mut D) -> Result<(), Failed> {
-    folder.create("frames")?;
-    writer.finish(folder, "frames")
-}
-
 /// Three frames: the second is silent, and the main data of the third begin in the first one's area.
 fn write_frames<D: Folder>(
     rt: &impl Abort,
@@ -77,9 +48,29 @@ fn write_frames<D: Folder>(
     folder: &mut D,
 ) -> Result<(), Fail> {
     let mut writer = Writer::new(alloc, header.class())?;
-    assert!(rt; write(rt, &mut writer, header, 0, &[0x11; 300], folder).is_ok());
-    assert!(rt; write(rt, &mut writer, header, 81, &[], folder).is_ok());
-    assert!(rt; write(rt, &mut writer, header, 462, &[0x22; 499], folder).is_ok());
+    assert!(rt;
+        append(
+            rt,
+            &mut writer,
+            header,
+            &side_of(0, 2400),
+            &[0x11; 300],
+            folder
+        )
+        .is_ok()
+    );
+    assert!(rt; append(rt, &mut writer, header, &side_of(81, 0), &[], folder).is_ok());
+    assert!(rt;
+        append(
+            rt,
+            &mut writer,
+            header,
+            &side_of(462, 3992),
+            &[0x22; 499],
+            folder
+        )
+        .is_ok()
+    );
     assert!(rt; finish(&mut writer, folder).is_ok());
     Ok(())
 }
@@ -127,10 +118,10 @@ fn expect_survey(rt: &impl Abort, survey: &Survey) {
 fn a_file_of_three_frames(rt: HostRuntime) -> Result<(), Fail> {
     let header = Header::read(PLAIN)?;
     let mut folder = MemFolder::new(rt.alloc());
-    folder.put("frames", &[])?;
-    folder.reserve("frames", 1251)?;
+    folder.put("o", &[])?;
+    folder.reserve("o", 1251)?;
     write_frames(&rt, rt.alloc(), &header, &mut folder)?;
-    let frames = folder.get("frames").ok_or("no frames")?;
+    let frames = folder.get("o").ok_or("no frames")?;
     let file = file_around(rt.alloc(), &header, frames)?;
     // The third frame's main data begin 300 bytes into the first one's area, at 256, and pass the 36 bytes before the two
     // areas behind it.

@@ -1,7 +1,8 @@
 //! Frames worked out by hand. Rates and lengths are those of ISO/IEC 11172-3 and 13818-3, 2.4.2.3 and 2.4.3.1.
 
-use frame_writer::*;
+use crate::appended::{append, finish, side_of};
 use frame_header::Header;
+use frame_writer::*;
 use outside::{Call, Failed, Folder, MemFolder};
 use side_info::Side;
 use std::alloc::AllocGlobal;
@@ -140,41 +141,35 @@ fn folder_of<R: AllocGlobal>(rt: &R) -> Result<MemFolder, Fail> {
     Ok(folder)
 }
 
-/// Writes a frame whose side fields are 0, but for main_data_begin.
-#[tactic(auto, using(outside::proofs::FilesLaws::emptied_there))]
-fn write<D: Folder>(
-    rt: &impl Abort,
-    writer: &mut Writer,
-    header: &Header,
-    begin: u16,
-    payload: &[u8],
-    folder: &mut D,
-) -> Result<(), Failed> {
-    let side = Side::empty().with_begin(begin);
-    assert!(rt; writer.class().is_same(header.class()) && side.fits(header.class()));
-    assert!(rt; writer.is_ready() && u32::from(begin) <= writer.reach());
-    assert!(rt; payload.len() <= usize::from(begin) + header.area() as usize);
-    // Nothing is appended before the end, so the file may be made anew.
-    folder.create("o")?;
-    writer.frame(header, &side, payload, folder, "o")
-}
-
-/// Writes the end of the file.
-#[tactic(auto, using(outside::proofs::FilesLaws::emptied_there))]
-fn finish<D: Folder>(writer: &mut Writer, folder: &mut D) -> Result<(), Failed> {
-    folder.create("o")?;
-    writer.finish(folder, "o")
-}
-
 /// The two frames above, written to a file in one write.
 #[test]
 fn two_frames_in_a_file(rt: HostRuntime) -> Result<(), Fail> {
     let header = header_of(PLAIN)?;
     let mut folder = folder_of(&rt)?;
     let mut writer = Writer::new(rt.alloc(), header.class())?;
-    assert!(rt; write(&rt, &mut writer, &header, 0, &[0x11; 300], &mut folder).is_ok());
+    assert!(rt;
+        append(
+            &rt,
+            &mut writer,
+            &header,
+            &side_of(0, 0),
+            &[0x11; 300],
+            &mut folder
+        )
+        .is_ok()
+    );
     assert_eq!(rt; writer.reach(), 81);
-    assert!(rt; write(&rt, &mut writer, &header, 81, &[0x22; 400], &mut folder).is_ok());
+    assert!(rt;
+        append(
+            &rt,
+            &mut writer,
+            &header,
+            &side_of(81, 0),
+            &[0x22; 400],
+            &mut folder
+        )
+        .is_ok()
+    );
     assert!(rt; finish(&mut writer, &mut folder).is_ok());
     let bytes = folder.get("o").ok_or("no file")?;
     assert_eq!(rt; bytes.len(), 834);
@@ -190,23 +185,6 @@ const USED: usize = 1400;
 /// The other bytes of its area, in which the main data of the next begin.
 const LEFT: u16 = 20;
 
-/// Writes a frame as `write` does, behind what the file holds.
-fn append<D: Folder>(
-    rt: &impl Abort,
-    writer: &mut Writer,
-    header: &Header,
-    begin: u16,
-    payload: &[u8],
-    folder: &mut D,
-) -> Result<(), Failed> {
-    let side = Side::empty().with_begin(begin);
-    assert!(rt; writer.class().is_same(header.class()) && side.fits(header.class()));
-    assert!(rt; writer.is_ready() && u32::from(begin) <= writer.reach());
-    assert!(rt; payload.len() <= usize::from(begin) + header.area() as usize);
-    folder.find("o")?;
-    writer.frame(header, &side, payload, folder, "o")
-}
-
 /// Writes so many frames of the longest kind, and the end. The main data of frame n, counted from 0, are bytes n + 1.
 fn write_many<D: Folder>(
     rt: &impl Abort,
@@ -219,10 +197,16 @@ fn write_many<D: Folder>(
         let begin = if number == 0 { 0 } else { LEFT };
         let payload = [number + 1; USED + LEFT as usize];
         let size = USED + usize::from(begin);
-        append(rt, writer, header, begin, &payload[..size], folder)?;
+        append(
+            rt,
+            writer,
+            header,
+            &side_of(begin, 0),
+            &payload[..size],
+            folder,
+        )?;
     }
-    folder.find("o")?;
-    writer.finish(folder, "o")
+    finish(writer, folder)
 }
 
 /// The byte at this place of a file of so many such frames. Before the area stand the header's 4 bytes, and the side
