@@ -1,7 +1,9 @@
-//! Tests of what is found in files: frames, blocks of tags, faults, and the tag.
+//! Tests of the survey of a folder's file, of the tag that is read there, and of what a folder may do to both.
 #![tactic(auto)]
 
 #[cfg(test)]
-mod surveys;
+mod folders;
 #[cfg(test)]
 mod tags;
+#[cfg(test)]
+mod untold;

@@ -1,20 +1,23 @@
 //! Small files, and their tags: offsets and bytes are worked out by hand from the layouts of frames and blocks.
-ghost use Rattle.std.specs.Prelude.{◌≡◌, ◌-◌, length, drop, min};
-ghost use Rattle.outside.specs.Files.{untold};
 
+use crate::untold::Untold;
 use file_tag::*;
-use outside::{Call, Failed, FindFault, Folder, MemFolder};
+use outside::{Call, Folder, MemFolder};
 use std::alloc::{AllocError, AllocGlobal, Global};
 use std::process::Abort;
 use std::test::Fail;
 use sync_survey::{SurveyFault, survey};
 use tag_blocks::Tag;
+use test_files::files::{APE, Stretch, bytes_of};
 
 /// A silent frame of 24 bytes: MPEG-2, 24,000 Hz, 8 kbit/s, one channel.
-const FRAME: &[u8] = b"\xff\xf3\x14\xc0\0\0\0\0\0\0\0\0\0\0\0\0\0\0\0\0\0\0\0\0";
+const FRAME: Stretch = Stretch::Bytes(b"\xff\xf3\x14\xc0\0\0\0\0\0\0\0\0\0\0\0\0\0\0\0\0\0\0\0\0");
+
+/// A zero byte.
+const ZERO: Stretch = Stretch::Bytes(b"\0");
 
 /// ID3v2 without a byte behind its header: 10 bytes.
-const ID3V2: &[u8] = b"ID3\x04\0\0\0\0\0\0";
+const ID3V2: Stretch = Stretch::Bytes(b"ID3\x04\0\0\0\0\0\0");
 
 /// APEv2 with the item `Title`, `x`: 32 bytes, 15 bytes and 32 bytes.
 const TITLE: &[u8] =
@@ -24,20 +27,24 @@ const TITLE: &[u8] =
 const EMPTY: &[u8] =
     b"APETAGEX\xd0\x07\0\0\x20\0\0\0\0\0\0\0\0\0\0\xa0\0\0\0\0\0\0\0\0APETAGEX\xd0\x07\0\0\x20\0\0\0\0\0\0\0\0\0\0\x80\0\0\0\0\0\0\0\0";
 
+/// The same as a stretch.
+const EMPTY_BLOCK: Stretch = Stretch::Bytes(EMPTY);
+
 /// `TITLE`, with two items by its header.
-const TWO_ITEMS: &[u8] =
-    b"APETAGEX\xd0\x07\0\0\x2f\0\0\0\x02\0\0\0\0\0\0\xa0\0\0\0\0\0\0\0\0\x01\0\0\0\0\0\0\0Title\0xAPETAGEX\xd0\x07\0\0\x2f\0\0\0\x01\0\0\0\0\0\0\x80\0\0\0\0\0\0\0\0";
+const TWO_ITEMS: Stretch = Stretch::Bytes(
+    b"APETAGEX\xd0\x07\0\0\x2f\0\0\0\x02\0\0\0\0\0\0\xa0\0\0\0\0\0\0\0\0\x01\0\0\0\0\0\0\0Title\0xAPETAGEX\xd0\x07\0\0\x2f\0\0\0\x01\0\0\0\0\0\0\x80\0\0\0\0\0\0\0\0",
+);
 
 /// `EMPTY`, with a byte 1 at 24, the first of the header's last 8.
-const NOT_RESERVED: &[u8] =
-    b"APETAGEX\xd0\x07\0\0\x20\0\0\0\0\0\0\0\0\0\0\xa0\x01\0\0\0\0\0\0\0APETAGEX\xd0\x07\0\0\x20\0\0\0\0\0\0\0\0\0\0\x80\0\0\0\0\0\0\0\0";
+const NOT_RESERVED: Stretch = Stretch::Bytes(
+    b"APETAGEX\xd0\x07\0\0\x20\0\0\0\0\0\0\0\0\0\0\xa0\x01\0\0\0\0\0\0\0APETAGEX\xd0\x07\0\0\x20\0\0\0\0\0\0\0\0\0\0\x80\0\0\0\0\0\0\0\0",
+);
 
-fn file_of(alloc: Global, parts: &[&[u8]]) -> Result<Vec<u8>, AllocError> {
-    let mut file = Vec::new(alloc);
-    for part in parts {
-        file.extend_from_slice(part)?;
-    }
-    Ok(file)
+/// The tag of a file: where it stands, and its bytes.
+#[derive(Drop)]
+struct Found {
+    place: TagPlace,
+    bytes: Vec<u8>,
 }
 
 /// Why a file has no tag that is read.
@@ -47,21 +54,38 @@ enum NoTag {
     Tag(FileTagFault),
 }
 
-/// Where the tag of the file `a` stands, and the tag.
-fn tag_of<D: Folder>(alloc: Global, folder: &mut D) -> Result<(TagPlace, Tag), NoTag> {
-    match survey(alloc, folder, "a", 100) {
-        Ok(survey) => match read_tag(alloc, folder, "a", &survey) {
-            Ok(tag) => Ok((tag_place(&survey), tag)),
+fn written(alloc: Global, place: TagPlace, tag: &Tag) -> Result<Found, FileTagFault> {
+    let bytes = tag.write(alloc)?;
+    Ok(Found { place, bytes })
+}
+
+/// The tag of the file `a`.
+fn tag_of<D: Folder>(alloc: Global, folder: &mut D) -> Result<Found, NoTag> {
+    let survey = match survey(alloc, folder, "a", 100) {
+        Ok(survey) => survey,
+        Err(fault) => return Err(NoTag::Survey(fault)),
+    };
+    match read_tag(alloc, folder, "a", &survey) {
+        Ok(tag) => match written(alloc, tag_place(&survey), &tag) {
+            Ok(found) => Ok(found),
             Err(fault) => Err(NoTag::Tag(fault)),
         },
-        Err(fault) => Err(NoTag::Survey(fault)),
+        Err(fault) => Err(NoTag::Tag(fault)),
+    }
+}
+
+/// Why no tag of the file `a` is read, where none is.
+fn no_tag_of<D: Folder>(alloc: Global, folder: &mut D) -> Option<NoTag> {
+    match tag_of(alloc, folder) {
+        Ok(_) => None,
+        Err(reason) => Some(reason),
     }
 }
 
 /// A file whose tag is read: where it stands, and its bytes.
 struct Case {
     name: &'static str,
-    parts: &'static [&'static [u8]],
+    parts: &'static [Stretch],
     offset: u64,
     length: u64,
     tag: &'static [u8],
@@ -70,35 +94,35 @@ struct Case {
 static CASES: [Case; 8] = [
     Case {
         name: "in front",
-        parts: &[TITLE, FRAME, FRAME],
+        parts: &[APE, FRAME, FRAME],
         offset: 0,
         length: 79,
         tag: TITLE,
     },
     Case {
         name: "behind another block and a zero byte",
-        parts: &[ID3V2, b"\0", TITLE, FRAME],
+        parts: &[ID3V2, ZERO, APE, FRAME],
         offset: 11,
         length: 79,
         tag: TITLE,
     },
     Case {
         name: "between frames",
-        parts: &[FRAME, TITLE, FRAME],
+        parts: &[FRAME, APE, FRAME],
         offset: 24,
         length: 79,
         tag: TITLE,
     },
     Case {
         name: "at the end",
-        parts: &[FRAME, FRAME, TITLE],
+        parts: &[FRAME, FRAME, APE],
         offset: 48,
         length: 79,
         tag: TITLE,
     },
     Case {
         name: "the first of two",
-        parts: &[FRAME, EMPTY, ID3V2, TITLE],
+        parts: &[FRAME, EMPTY_BLOCK, ID3V2, APE],
         offset: 24,
         length: 64,
         tag: EMPTY,
@@ -112,7 +136,7 @@ static CASES: [Case; 8] = [
     },
     Case {
         name: "none, a zero byte and another block at the end",
-        parts: &[FRAME, FRAME, b"\0", ID3V2],
+        parts: &[FRAME, FRAME, ZERO, ID3V2],
         offset: 48,
         length: 0,
         tag: EMPTY,
@@ -126,180 +150,161 @@ static CASES: [Case; 8] = [
     },
 ];
 
+fn expect_tag<R: Abort + AllocGlobal>(rt: &R, case: &Case) -> Result<(), AllocError> {
+    let file = bytes_of(rt.alloc(), case.parts)?;
+    let mut folder = MemFolder::new(rt.alloc());
+    folder.put("a", &file)?;
+    match tag_of(rt.alloc(), &mut folder) {
+        Ok(found) => {
+            assert_eq!(rt; found.place.offset, case.offset, "{}", case.name);
+            assert_eq!(rt; found.place.length, case.length, "{}", case.name);
+            assert_eq!(rt; found.bytes.as_slice(), case.tag, "{}", case.name);
+        }
+        Err(reason) => panic!(rt; "{}: {reason:?}", case.name),
+    }
+    Ok(())
+}
+
 #[test]
 fn tags(rt: HostRuntime) -> Result<(), Fail> {
     for case in &CASES {
-        let file = file_of(rt.alloc(), case.parts)?;
-        let mut folder = MemFolder::new(rt.alloc());
-        folder.put("a", &file)?;
-        let Ok((place, tag)) = tag_of(rt.alloc(), &mut folder) else {
-            panic!(&rt; "{}: no tag", case.name);
-        };
-        assert_eq!(rt; place.offset, case.offset, "{}", case.name);
-        assert_eq!(rt; place.length, case.length, "{}", case.name);
-        let written = tag.write(rt.alloc())?;
-        assert_eq!(rt; written.as_slice(), case.tag, "{}", case.name);
+        expect_tag(&rt, case)?;
     }
     Ok(())
+}
+
+/// The offset of the first tag of the file `a`, where there is one.
+fn first_offset<D: Folder>(alloc: Global, folder: &mut D) -> Option<u64> {
+    match survey(alloc, folder, "a", 1) {
+        Ok(survey) => Some(first_tag(&survey)?.offset),
+        Err(_) => None,
+    }
 }
 
 #[test]
 fn first_tags(rt: HostRuntime) -> Result<(), Fail> {
-    let file = file_of(rt.alloc(), &[ID3V2, FRAME, TITLE])?;
+    let file = bytes_of(rt.alloc(), &[ID3V2, FRAME, APE])?;
     let mut folder = MemFolder::new(rt.alloc());
     folder.put("a", &file)?;
-    let Ok(survey) = survey(rt.alloc(), &mut folder, "a", 1) else {
-        panic!(&rt; "no survey");
-    };
-    assert_eq!(rt; first_tag(&survey).map(|piece| piece.offset), Some(34));
+    assert_eq!(rt; first_offset(rt.alloc(), &mut folder), Some(34));
     Ok(())
 }
 
-/// Asserts that no tag is read of the file `a`, by this fault.
-fn expect<R: Abort + AllocGlobal, D: Folder>(rt: &R, folder: &mut D, fault: FileTagFault) {
-    let found = tag_of(rt.alloc(), folder).err();
-    assert_eq!(rt; found, Some(NoTag::Tag(fault)));
+/// A file whose tag isn't read, and why.
+struct Refused {
+    name: &'static str,
+    parts: &'static [Stretch],
+    fault: FileTagFault,
 }
+
+/// APEv2 without items by its header, of the longest size that may be, and of one byte more: 1,048,544 and 1,048,545 bytes
+/// behind the header's 32.
+const LONGEST_HEADER: Stretch = Stretch::Bytes(
+    b"APETAGEX\xd0\x07\0\0\xe0\xff\x0f\0\0\0\0\0\0\0\0\xa0\0\0\0\0\0\0\0\0",
+);
+
+const TOO_LONG_HEADER: Stretch = Stretch::Bytes(
+    b"APETAGEX\xd0\x07\0\0\xe1\xff\x0f\0\0\0\0\0\0\0\0\xa0\0\0\0\0\0\0\0\0",
+);
+
+static REFUSED: [Refused; 4] = [
+    Refused {
+        name: "a reserved byte that isn't 0",
+        parts: &[FRAME, NOT_RESERVED, FRAME],
+        fault: FileTagFault::Bad(48),
+    },
+    Refused {
+        name: "an item more by the header",
+        parts: &[FRAME, TWO_ITEMS],
+        fault: FileTagFault::Bad(71),
+    },
+    Refused {
+        name: "the longest block",
+        parts: &[FRAME, LONGEST_HEADER, Stretch::Fill(0, 1_048_544)],
+        fault: FileTagFault::Bad(56),
+    },
+    Refused {
+        name: "one byte more",
+        parts: &[FRAME, TOO_LONG_HEADER, Stretch::Fill(0, 1_048_545)],
+        fault: FileTagFault::TooLarge(1_048_577),
+    },
+];
 
 #[test]
 fn tags_at_fault(rt: HostRuntime) -> Result<(), Fail> {
-    let file = file_of(rt.alloc(), &[FRAME, NOT_RESERVED, FRAME])?;
-    let mut folder = MemFolder::new(rt.alloc());
-    folder.put("a", &file)?;
-    expect(&rt, &mut folder, FileTagFault::Bad(48));
-    let file = file_of(rt.alloc(), &[FRAME, TWO_ITEMS])?;
-    folder.put("a", &file)?;
-    expect(&rt, &mut folder, FileTagFault::Bad(71));
-    Ok(())
-}
-
-/// A frame, and APEv2 of this size, without items by its header, and so many bytes behind that header.
-fn long_tag(alloc: Global, size: u32) -> Result<Vec<u8>, AllocError> {
-    let mut file = file_of(alloc, &[FRAME, b"APETAGEX\xd0\x07\0\0"])?;
-    file.extend_from_slice(&size.to_le_bytes())?;
-    file.extend_from_slice(b"\0\0\0\0\0\0\0\xa0\0\0\0\0\0\0\0\0")?;
-    for _ in 0..size {
-        file.push(0)?;
+    for refused in &REFUSED {
+        let file = bytes_of(rt.alloc(), refused.parts)?;
+        let mut folder = MemFolder::new(rt.alloc());
+        folder.put("a", &file)?;
+        let reason = no_tag_of(rt.alloc(), &mut folder);
+        assert_eq!(rt; reason, Some(NoTag::Tag(refused.fault)), "{}", refused.name);
     }
-    Ok(file)
+    Ok(())
 }
 
-/// 32 bytes of a header and 1,048,544 are as many as may be.
-#[test]
-fn long_tags(rt: HostRuntime) -> Result<(), Fail> {
-    let mut folder = MemFolder::new(rt.alloc());
-    let file = long_tag(rt.alloc(), 1_048_544)?;
-    folder.put("a", &file)?;
-    expect(&rt, &mut folder, FileTagFault::Bad(56));
-    let file = long_tag(rt.alloc(), 1_048_545)?;
-    folder.put("a", &file)?;
-    expect(&rt, &mut folder, FileTagFault::TooLarge(1_048_577));
-    Ok(())
+/// Why no tag is read where this read fails.
+fn reason_where_it_fails(
+    alloc: Global,
+    file: &[u8],
+    number: u64,
+) -> Result<Option<NoTag>, AllocError> {
+    let mut folder = MemFolder::new(alloc);
+    folder.put("a", file)?;
+    folder.fail(Call::Read, number)?;
+    Ok(no_tag_of(alloc, &mut folder))
 }
 
 /// Lets each read fail in turn: those of the survey, and then the one of the tag.
 #[test]
 fn reads_that_fail(rt: HostRuntime) -> Result<(), Fail> {
-    let file = file_of(rt.alloc(), &[FRAME, TITLE])?;
+    let file = bytes_of(rt.alloc(), &[FRAME, APE])?;
     let mut is_refused = false;
     for number in 1..10 {
-        let mut folder = MemFolder::new(rt.alloc());
-        folder.put("a", &file)?;
-        folder.fail(Call::Read, number)?;
-        match tag_of(rt.alloc(), &mut folder) {
-            Err(NoTag::Tag(fault)) => {
+        match reason_where_it_fails(rt.alloc(), &file, number)? {
+            Some(NoTag::Tag(fault)) => {
                 assert_eq!(rt; fault, FileTagFault::Read);
                 is_refused = true;
             }
-            Err(NoTag::Survey(fault)) => assert_eq!(rt; fault, SurveyFault::Read),
-            Ok(_) => assert!(rt; is_refused),
+            Some(NoTag::Survey(fault)) => assert_eq!(rt; fault, SurveyFault::Read),
+            None => assert!(rt; is_refused),
         }
     }
     Ok(())
 }
 
-/// A folder that tells nothing. Its one file has these bytes at the first read, and others later.
-#[derive(Drop)]
-struct Untold<'a> {
-    first: &'a [u8],
-    later: &'a [u8],
-    reads: u64,
-    ends: u64,
-    write_faults: u64,
-}
-
-/// Copies the bytes from a place on, as many as there are and fit, and says how many.
-fn copy_from(content: &[u8], at: u64, into: &mut [u8]) -> usize
-    ensures count { result ≡ min (length into.old) (length content.now - at) }
-    ensures rest { drop result into.new ≡ drop result into.old }
-{
-    if at >= content.len() as u64 {
-        return 0;
-    }
-    let rest = &content[at as usize..];
-    let count = rest.len().min(into.len());
-    into[..count].copy_from_slice(&rest[..count]);
-    count
-}
-
-impl<'a> Folder for Untold<'a> {
-    ghost files = { λ _. untold };
-
-    ghost counts = { λ folder. record { misses = 0; ends = folder.ends; read_faults = 0; write_faults = folder.write_faults } };
-
-    fn find(&mut self, _name: &str) -> Result<u64, FindFault> {
-        Ok(self.first.len() as u64)
-    }
-
-    fn read(&mut self, _name: &str, at: u64, into: &mut [u8]) -> Result<usize, Failed> {
-        let content = if self.reads == 0 {
-            self.first
-        } else {
-            self.later
-        };
-        self.reads = self.reads.saturating_add(1);
-        let count = copy_from(content, at, into);
-        if count == 0 && !into.is_empty() {
-            self.ends = self.ends.saturating_add(1);
-        }
-        Ok(count)
-    }
-
-    fn create(&mut self, _name: &str) -> Result<(), Failed> {
-        self.write_faults = self.write_faults.saturating_add(1);
-        Err(Failed)
-    }
-
-    fn write(&mut self, _name: &str, _bytes: &[u8]) -> Result<usize, Failed> {
-        self.write_faults = self.write_faults.saturating_add(1);
-        Err(Failed)
-    }
-}
-
-/// What is read of the file once it is another one.
-fn expect_later<R: Abort + AllocGlobal>(
-    rt: &R,
-    later: &[&[u8]],
+/// What the file is once its tag is read, and why that fails.
+struct Changed {
+    later: &'static [Stretch],
     fault: FileTagFault,
-) -> Result<(), Fail> {
-    let first = file_of(rt.alloc(), &[FRAME, TITLE])?;
-    let later = file_of(rt.alloc(), later)?;
-    let mut folder = Untold {
-        first: &first,
-        later: &later,
-        reads: 0,
-        ends: 0,
-        write_faults: 0,
-    };
-    expect(rt, &mut folder, fault);
-    Ok(())
 }
+
+static CHANGED: [Changed; 4] = [
+    Changed {
+        later: &[FRAME, Stretch::Bytes(b"APE")],
+        fault: FileTagFault::Shrunk(103, 27),
+    },
+    Changed {
+        later: &[],
+        fault: FileTagFault::Shrunk(103, 24),
+    },
+    Changed {
+        later: &[FRAME, FRAME, APE],
+        fault: FileTagFault::Bad(24),
+    },
+    Changed {
+        later: &[FRAME, EMPTY_BLOCK, FRAME],
+        fault: FileTagFault::Bad(24),
+    },
+];
 
 #[test]
 fn a_file_that_changes(rt: HostRuntime) -> Result<(), Fail> {
-    expect_later(&rt, &[FRAME, b"APE"], FileTagFault::Shrunk(103, 27))?;
-    expect_later(&rt, &[], FileTagFault::Shrunk(103, 24))?;
-    expect_later(&rt, &[FRAME, FRAME, TITLE], FileTagFault::Bad(24))?;
-    expect_later(&rt, &[FRAME, EMPTY, FRAME], FileTagFault::Bad(24))?;
+    let first = bytes_of(rt.alloc(), &[FRAME, APE])?;
+    for changed in &CHANGED {
+        let later = bytes_of(rt.alloc(), changed.later)?;
+        let mut folder = Untold::new(first.len() as u64, &first, &later);
+        let reason = no_tag_of(rt.alloc(), &mut folder);
+        assert_eq!(rt; reason, Some(NoTag::Tag(changed.fault)));
+    }
     Ok(())
 }

@@ -1,26 +1,24 @@
 //! The survey of a file of a folder: what it tells of a whole file, and what a folder may do to it.
-ghost use Rattle.outside.specs.Files.{untold};
 
-use crate::surveys::stretches::{HEAD_FRONT, HEAD_REST, Z};
+use crate::untold::Untold;
 use frame_header::{Class, Header, Slot, Version};
-use outside::{Call, Failed, FindFault, Folder, MemFolder};
-use std::alloc::AllocGlobal;
+use outside::{Call, Folder, MemFolder};
+use std::alloc::{AllocError, AllocGlobal, Global};
 use std::process::Abort;
 use std::test::Fail;
 use sync_survey::{Head, Piece, Row, Survey, SurveyFault, survey};
 use tag_blocks::{Block, Kind};
 use test_files::files::{APE, ID3V1, ID3V1_REST, ID3V2, ID3V2_REST, Stretch, bytes_of};
+use test_files::frames::{HEAD, Z};
 
 /// ID3v2, 2 zero bytes, 300 bytes of junk, a head at 342, two frames at 759 and 1,176, and at 1,593 and
 /// 1,672 APEv2 and ID3v1: 1,800 bytes.
-static SONG: [Stretch; 11] = [
+static SONG: [Stretch; 9] = [
     ID3V2,
     ID3V2_REST,
     Stretch::Fill(0, 2),
     Stretch::Fill(0x55, 300),
-    HEAD_FRONT,
-    HEAD_REST,
-    Z,
+    Stretch::Frames(&[HEAD, Z]),
     Stretch::Frame(200, 2400),
     APE,
     ID3V1,
@@ -76,7 +74,9 @@ const CLASS: Class = Class {
 
 /// Asserts what stands where in the song.
 fn expect_places<R: Abort>(rt: &R, survey: &Survey) {
-    assert_eq!(rt; survey.junk(), (42, 300));
+    let (front_end, junk) = survey.junk();
+    assert_eq!(rt; front_end, 42);
+    assert_eq!(rt; junk, 300);
     assert_eq!(rt; survey.first(), 342);
     assert_eq!(rt; survey.class(), CLASS);
     assert_eq!(rt; survey.length(), 1800);
@@ -118,35 +118,51 @@ fn a_song(rt: HostRuntime) -> Result<(), Fail> {
     Ok(())
 }
 
-/// Asserts that the survey of the name is refused so.
-fn expect_fault<R: Abort + AllocGlobal, D: Folder>(
-    rt: &R,
-    folder: &mut D,
-    name: &str,
-    fault: SurveyFault,
-) {
-    let found = survey(rt.alloc(), folder, name, 2).err();
-    assert_eq!(rt; found, Some(fault), "{name}");
+/// The fault that a survey of a file of two frames at most finds, where there is one.
+fn fault_of<D: Folder>(alloc: Global, folder: &mut D, name: &str) -> Option<SurveyFault> {
+    match survey(alloc, folder, name, 2) {
+        Ok(_) => None,
+        Err(fault) => Some(fault),
+    }
 }
 
 #[test]
 fn no_file_of_that_name(rt: HostRuntime) -> Result<(), Fail> {
     let mut folder = MemFolder::new(rt.alloc());
     folder.put("song", b"")?;
-    expect_fault(&rt, &mut folder, "son", SurveyFault::Absent);
-    expect_fault(&rt, &mut folder, "song", SurveyFault::NoFrame(0));
+    let absent = fault_of(rt.alloc(), &mut folder, "son");
+    assert_eq!(rt; absent, Some(SurveyFault::Absent));
+    let empty = fault_of(rt.alloc(), &mut folder, "song");
+    assert_eq!(rt; empty, Some(SurveyFault::NoFrame(0)));
     Ok(())
 }
 
+/// What a survey finds where this call fails, which changes no file.
+fn fault_where_it_fails<R: Abort + AllocGlobal>(
+    rt: &R,
+    file: &[u8],
+    kind: Call,
+    number: u64,
+) -> Result<Option<SurveyFault>, AllocError> {
+    let mut folder = MemFolder::new(rt.alloc());
+    folder.put("song", file)?;
+    folder.fail(kind, number)?;
+    let fault = match survey(rt.alloc(), &mut folder, "song", 1000) {
+        Ok(_) => None,
+        Err(fault) => Some(fault),
+    };
+    assert!(rt; folder.get("song") == Some(file));
+    Ok(fault)
+}
+
 /// Lets the calls of a kind fail in turn, until a survey makes fewer; gives how many it makes.
-fn fail_in_turn<R: Abort + AllocGlobal>(rt: &R, file: &[u8], kind: Call) -> Result<u64, Fail> {
+fn fail_in_turn<R: Abort + AllocGlobal>(
+    rt: &R,
+    file: &[u8],
+    kind: Call,
+) -> Result<u64, AllocError> {
     for number in 1..10 {
-        let mut folder = MemFolder::new(rt.alloc());
-        folder.put("song", file)?;
-        folder.fail(kind, number)?;
-        let fault = survey(rt.alloc(), &mut folder, "song", 1000).err();
-        assert!(rt; folder.get("song") == Some(file));
-        match fault {
+        match fault_where_it_fails(rt, file, kind, number)? {
             Some(fault) => assert_eq!(rt; fault, SurveyFault::Read),
             None => return Ok(number - 1),
         }
@@ -157,7 +173,7 @@ fn fail_in_turn<R: Abort + AllocGlobal>(rt: &R, file: &[u8], kind: Call) -> Resu
 /// 200,160 bytes: more than three times what a read gives.
 #[test]
 fn calls_that_fail(rt: HostRuntime) -> Result<(), Fail> {
-    let frame = bytes_of(rt.alloc(), &[Z])?;
+    let frame = bytes_of(rt.alloc(), &[Stretch::Frame(0, 0)])?;
     let mut file = Vec::new(rt.alloc());
     for _ in 0..480 {
         file.extend_from_slice(&frame)?;
@@ -167,73 +183,51 @@ fn calls_that_fail(rt: HostRuntime) -> Result<(), Fail> {
     Ok(())
 }
 
-/// A folder that tells nothing. Its one file, of zero bytes, is found with one length and ends at another.
-#[derive(Drop)]
-struct Untold {
+/// A file of zero bytes that is found with one length and ends at another, and the fault.
+struct Ending {
     found: u64,
-    length: u64,
-    reads: u64,
-    ends: u64,
-    write_faults: u64,
+    length: usize,
+    fault: SurveyFault,
 }
 
-impl Untold {
-    fn new(found: u64, length: u64) -> Untold {
-        Untold {
-            found,
-            length,
-            reads: 0,
-            ends: 0,
-            write_faults: 0,
-        }
-    }
-}
-
-impl Folder for Untold {
-    ghost files = { λ _. untold };
-
-    ghost counts = { λ folder. record { misses = 0; ends = folder.ends; read_faults = 0; write_faults = folder.write_faults } };
-
-    fn find(&mut self, _name: &str) -> Result<u64, FindFault> {
-        Ok(self.found)
-    }
-
-    fn read(&mut self, _name: &str, at: u64, into: &mut [u8]) -> Result<usize, Failed> {
-        self.reads = self.reads.saturating_add(1);
-        let left = self.length.saturating_sub(at);
-        let count = into.len().min(left as usize);
-        if count == 0 && !into.is_empty() {
-            self.ends = self.ends.saturating_add(1);
-        }
-        Ok(count)
-    }
-
-    fn create(&mut self, _name: &str) -> Result<(), Failed> {
-        self.write_faults = self.write_faults.saturating_add(1);
-        Err(Failed)
-    }
-
-    fn write(&mut self, _name: &str, _bytes: &[u8]) -> Result<usize, Failed> {
-        self.write_faults = self.write_faults.saturating_add(1);
-        Err(Failed)
-    }
-}
+static ENDINGS: [Ending; 4] = [
+    Ending {
+        found: 839,
+        length: 834,
+        fault: SurveyFault::Shrunk(839, 834),
+    },
+    Ending {
+        found: 1,
+        length: 0,
+        fault: SurveyFault::Shrunk(1, 0),
+    },
+    Ending {
+        found: 200_000,
+        length: 150_000,
+        fault: SurveyFault::Shrunk(200_000, 150_000),
+    },
+    Ending {
+        found: 4,
+        length: 5,
+        fault: SurveyFault::NoFrame(4),
+    },
+];
 
 #[test]
-fn a_file_that_ends_early(rt: HostRuntime) {
-    let mut folder = Untold::new(839, 834);
-    expect_fault(&rt, &mut folder, "a", SurveyFault::Shrunk(839, 834));
-    let mut empty = Untold::new(1, 0);
-    expect_fault(&rt, &mut empty, "a", SurveyFault::Shrunk(1, 0));
-    let mut long = Untold::new(200_000, 150_000);
-    expect_fault(&rt, &mut long, "a", SurveyFault::Shrunk(200_000, 150_000));
-    let mut grown = Untold::new(4, 5);
-    expect_fault(&rt, &mut grown, "a", SurveyFault::NoFrame(4));
+fn a_file_that_ends_early(rt: HostRuntime) -> Result<(), Fail> {
+    for ending in &ENDINGS {
+        let file = bytes_of(rt.alloc(), &[Stretch::Fill(0, ending.length)])?;
+        let mut folder = Untold::new(ending.found, &file, &file);
+        let fault = fault_of(rt.alloc(), &mut folder, "a");
+        assert_eq!(rt; fault, Some(ending.fault));
+    }
+    Ok(())
 }
 
 #[test]
 fn a_file_that_is_too_long(rt: HostRuntime) {
-    let mut folder = Untold::new(1_073_741_825, 0);
-    expect_fault(&rt, &mut folder, "a", SurveyFault::TooLong(1_073_741_825));
-    assert_eq!(rt; folder.reads, 0);
+    let mut folder = Untold::new(1_073_741_825, b"", b"");
+    let fault = fault_of(rt.alloc(), &mut folder, "a");
+    assert_eq!(rt; fault, Some(SurveyFault::TooLong(1_073_741_825)));
+    assert_eq!(rt; folder.reads(), 0);
 }

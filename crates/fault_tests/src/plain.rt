@@ -67,7 +67,7 @@ fn number(bytes: &[u8], from: usize, count: usize) -> u32 {
 }
 
 fn bytes_from(file: &[u8], at: usize) -> &[u8] {
-    file.get(at..).unwrap_or(&[])
+    &file[at.min(file.len())..]
 }
 
 /// The twelfth bit is 0 in MPEG-2.5 alone, where ID is 0 too.
@@ -292,12 +292,16 @@ fn stream_from(alloc: Global, file: &[u8], first: usize) -> Result<Stream, Alloc
     Ok(stream)
 }
 
+fn begins_with_text(bytes: &[u8]) -> bool {
+    bytes.starts_with(b"Xing") || bytes.starts_with(b"Info")
+}
+
 /// Whether the frame has a text behind its side information, or where that would end without check word.
 fn is_head(file: &[u8], frame: &Frame) -> bool {
     let bytes = bytes_from(file, frame.at);
     let early = bytes_from(bytes, side_size(&frame.class).saturating_add(4));
     let late = bytes_from(bytes, frame.area_at);
-    [early, late].iter().any(|text| text.starts_with(b"Xing") || text.starts_with(b"Info"))
+    begins_with_text(early) || begins_with_text(late)
 }
 
 /// The lengths in bits of the main data of each granule and channel, summed.

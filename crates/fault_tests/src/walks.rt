@@ -1,25 +1,12 @@
 //! Files whose walk was worked out by hand, from the lengths of the standard's tables and the layouts of the blocks.
 
-use crate::surveys::plain::first_fault;
-use crate::surveys::stretches::{HEAD_FRONT, HEAD_REST, HEADER, OTHER_CLASS, SILENCE, Z};
-use outside::MemFolder;
-use std::alloc::AllocGlobal;
-use std::process::Abort;
+use crate::plain::first_fault;
+use crate::shapes::{Shape, expect, survey_fault};
+use crate::stretches::{HEAD, HEADER, OTHER_CLASS, SILENCE, Z};
 use std::test::Fail;
-use sync_survey::{Piece, Survey, SurveyFault, survey};
+use sync_survey::{Piece, SurveyFault};
 use tag_blocks::{Block, Kind};
 use test_files::files::{APE, ID3V1, ID3V1_REST, ID3V2, ID3V2_REST, Stretch, bytes_of};
-
-/// What has to be found in a file.
-#[derive(Drop)]
-pub struct Shape {
-    pub front_end: u64,
-    pub first: u64,
-    pub text_at: Option<u32>,
-    /// The offsets of the numbered frames.
-    pub frames: &'static [u64],
-    pub blocks: &'static [Piece],
-}
 
 /// A file, and the answer.
 pub struct Case {
@@ -143,12 +130,12 @@ pub static CASES: [Case; 20] = [
     },
     Case {
         name: "a head alone",
-        file: &[HEAD_FRONT, HEAD_REST],
+        file: &[HEAD],
         answer: Err(SurveyFault::NoFrame(417)),
     },
     Case {
         name: "a head and a frame",
-        file: &[HEAD_FRONT, HEAD_REST, Z],
+        file: &[HEAD, Z],
         answer: Ok(Shape {
             front_end: 0,
             first: 0,
@@ -176,7 +163,7 @@ pub static CASES: [Case; 20] = [
     },
     Case {
         name: "the text in the second frame",
-        file: &[Z, HEAD_FRONT, HEAD_REST],
+        file: &[Z, HEAD],
         answer: Ok(Shape {
             front_end: 0,
             first: 0,
@@ -244,44 +231,6 @@ pub static CASES: [Case; 20] = [
     },
 ];
 
-/// Asserts that the survey tells this.
-fn expect_shape<R: Abort>(rt: &R, name: &str, survey: &Survey, shape: &Shape) {
-    assert_eq!(rt;
-        survey.junk(),
-        (shape.front_end, shape.first.saturating_sub(shape.front_end)),
-        "{name}"
-    );
-    assert_eq!(rt; survey.first(), shape.first, "{name}");
-    assert_eq!(rt;
-        survey.head().map(|head| head.text_at),
-        shape.text_at,
-        "{name}"
-    );
-    assert_eq!(rt; survey.frames().len(), shape.frames.len(), "{name}");
-    for (frame, offset) in survey.frames().iter().zip(shape.frames) {
-        assert_eq!(rt; frame.offset, *offset, "{name}");
-    }
-    assert_eq!(rt; survey.blocks(), shape.blocks, "{name}");
-}
-
-/// Asserts that the survey of a file gives this.
-pub fn expect<R: Abort + AllocGlobal>(
-    rt: &R,
-    name: &str,
-    file: &[u8],
-    answer: &Result<Shape, SurveyFault>,
-) -> Result<(), Fail> {
-    let mut folder = MemFolder::new(rt.alloc());
-    folder.put("a", file)?;
-    match (survey(rt.alloc(), &mut folder, "a", 1000), answer) {
-        (Ok(survey), Ok(shape)) => expect_shape(rt, name, &survey, shape),
-        (Ok(_), Err(fault)) => assert!(rt; false, "{name}: no {fault:?}"),
-        (Err(found), Ok(_)) => assert!(rt; false, "{name}: {found:?}"),
-        (Err(found), Err(fault)) => assert_eq!(rt; found, *fault, "{name}"),
-    }
-    Ok(())
-}
-
 #[test]
 fn files(rt: HostRuntime) -> Result<(), Fail> {
     for case in &CASES {
@@ -289,13 +238,6 @@ fn files(rt: HostRuntime) -> Result<(), Fail> {
         expect(&rt, case.name, &file, &case.answer)?;
     }
     Ok(())
-}
-
-/// The first fault of the survey, where there is one.
-fn fault_of<R: Abort + AllocGlobal>(rt: &R, file: &[u8]) -> Result<Option<SurveyFault>, Fail> {
-    let mut folder = MemFolder::new(rt.alloc());
-    folder.put("a", file)?;
-    Ok(survey(rt.alloc(), &mut folder, "a", 1000).err())
 }
 
 /// What the first so many bytes of two frames give.
@@ -314,7 +256,7 @@ fn files_cut_short(rt: HostRuntime) -> Result<(), Fail> {
     let mut file = bytes_of(rt.alloc(), TWO_FRAMES)?;
     for length in (0..835).rev() {
         file.truncate(length);
-        let found = fault_of(&rt, &file)?;
+        let found = survey_fault(rt.alloc(), &file, 1000)?;
         assert_eq!(rt; found, cut_answer(length), "{length} bytes");
     }
     Ok(())
@@ -328,7 +270,7 @@ fn changed_headers(rt: HostRuntime) -> Result<(), Fail> {
             if let Some(byte) = file.get_mut(at) {
                 *byte = value;
             }
-            let found = fault_of(&rt, &file)?;
+            let found = survey_fault(rt.alloc(), &file, 1000)?;
             let plain = first_fault(rt.alloc(), &file, 1000)?;
             assert_eq!(rt; found, plain, "byte {at} as {value}");
         }

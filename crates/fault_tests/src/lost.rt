@@ -1,7 +1,7 @@
 //! Files whose first frames point before the stream, and which of their frames are lost. Worked out by hand: a
 //! frame of 417 bytes adds 381 bytes to the main data, one of `SHORT` 11.
 
-use crate::surveys::stretches::{HEAD_FRONT, HEAD_REST, SHORT, SHORT_LOUD, SHORT_OF_FOUR, Z};
+use crate::stretches::{HEAD, SHORT, SHORT_LOUD, SHORT_OF_FOUR, Z};
 use outside::MemFolder;
 use std::alloc::AllocGlobal;
 use std::process::Abort;
@@ -49,12 +49,12 @@ static CASES: [Case; 11] = [
     },
     Case {
         name: "up to the area of a head",
-        file: &[HEAD_FRONT, HEAD_REST, Stretch::Frame(381, 8)],
+        file: &[HEAD, Stretch::Frame(381, 8)],
         lost: &[false],
     },
     Case {
         name: "one byte further than a head",
-        file: &[HEAD_FRONT, HEAD_REST, Stretch::Frame(382, 8)],
+        file: &[HEAD, Stretch::Frame(382, 8)],
         lost: &[true],
     },
     Case {
@@ -81,9 +81,10 @@ static CASES: [Case; 11] = [
 
 /// Asserts that these frames are lost.
 fn expect_marks<R: Abort>(rt: &R, survey: &Survey, case: &Case) {
-    assert_eq!(rt; survey.frames().len(), case.lost.len(), "{}", case.name);
-    for (row, lost) in survey.frames().iter().zip(case.lost) {
-        assert_eq!(rt; row.lost, *lost, "{}", case.name);
+    let rows = survey.frames();
+    assert_eq!(rt; rows.len(), case.lost.len(), "{}", case.name);
+    for at in 0..case.lost.len() {
+        assert_eq!(rt; rows[at].lost, case.lost[at], "{}", case.name);
     }
 }
 
@@ -93,7 +94,7 @@ fn expect<R: Abort + AllocGlobal>(rt: &R, case: &Case) -> Result<(), Fail> {
     let mut folder = MemFolder::new(rt.alloc());
     folder.put("a", &file)?;
     let Ok(survey) = survey(rt.alloc(), &mut folder, "a", 100) else {
-        panic!(rt; "no survey");
+        panic!(rt; "{}: no survey", case.name);
     };
     expect_marks(rt, &survey, case);
     Ok(())

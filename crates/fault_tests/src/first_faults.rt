@@ -1,15 +1,13 @@
 //! The first faults of small files: worked out by hand, by the plain reading, and by the survey.
 
-use crate::surveys::plain::first_fault;
-use crate::surveys::stretches::{
-    HEAD_FRONT, HEAD_REST, OTHER_CLASS, SHORT, SHORT_LOUD, SHORT_OF_FOUR, Z,
-};
-use crate::surveys::walks;
-use outside::MemFolder;
+use crate::plain::first_fault;
+use crate::shapes::survey_fault;
+use crate::stretches::{HEAD, OTHER_CLASS, SHORT, SHORT_LOUD, SHORT_OF_FOUR, Z};
+use crate::walks;
 use std::alloc::{AllocError, AllocGlobal};
 use std::process::Abort;
 use std::test::Fail;
-use sync_survey::{SurveyFault, survey};
+use sync_survey::SurveyFault;
 use test_files::files::{Stretch, bytes_of};
 
 /// A file, how many frames it may have, and its first fault.
@@ -138,7 +136,8 @@ const PROTECTED_HEAD_FRONT: Stretch = Stretch::Bytes(
 
 const PROTECTED_HEAD_REST: Stretch = Stretch::Fill(0, 375);
 
-static CASES: [Case; 49] = [
+/// Where main data may begin, and heads.
+static BEGINS: [Case; 11] = [
     Case {
         name: "main data one behind the other",
         file: TWO_FRAMES,
@@ -171,7 +170,7 @@ static CASES: [Case; 49] = [
     },
     Case {
         name: "the area of a head is main data",
-        file: &[HEAD_FRONT, HEAD_REST, Stretch::Frame(381, 8)],
+        file: &[HEAD, Stretch::Frame(381, 8)],
         allowed: MANY,
         answer: None,
     },
@@ -199,16 +198,20 @@ static CASES: [Case; 49] = [
     },
     Case {
         name: "a head alone",
-        file: &[HEAD_FRONT, HEAD_REST],
+        file: &[HEAD],
         allowed: 0,
         answer: Some(SurveyFault::NoFrame(417)),
     },
     Case {
         name: "a head alone, with zero bytes behind it",
-        file: &[HEAD_FRONT, HEAD_REST, Stretch::Fill(0, 3)],
+        file: &[HEAD, Stretch::Fill(0, 3)],
         allowed: 0,
         answer: Some(SurveyFault::NoFrame(420)),
     },
+];
+
+/// Where main data may begin and end.
+static ENDS: [Case; 19] = [
     Case {
         name: "main data that begin one byte before those before end",
         file: &[FRONT_0, Stretch::Fill(0x55, 381), Stretch::Frame(82, 3200)],
@@ -323,6 +326,10 @@ static CASES: [Case; 49] = [
         allowed: MANY,
         answer: Some(SurveyFault::Mixed(24)),
     },
+];
+
+/// Check words, classes, and how many frames there may be.
+static FRAMES: [Case; 9] = [
     Case {
         name: "a wrong check word",
         file: &[PROTECTED, WRONG],
@@ -344,8 +351,7 @@ static CASES: [Case; 49] = [
     Case {
         name: "a class other than the head's",
         file: &[
-            HEAD_FRONT,
-            HEAD_REST,
+            HEAD,
             OTHER_CLASS,
             Stretch::Fill(0, 380),
             OTHER_CLASS,
@@ -374,16 +380,20 @@ static CASES: [Case; 49] = [
     },
     Case {
         name: "a head is no frame",
-        file: &[HEAD_FRONT, HEAD_REST, Z],
+        file: &[HEAD, Z],
         allowed: 1,
         answer: None,
     },
     Case {
         name: "a frame behind a head",
-        file: &[HEAD_FRONT, HEAD_REST, Z],
+        file: &[HEAD, Z],
         allowed: 0,
         answer: Some(SurveyFault::TooManyFrames(417)),
     },
+];
+
+/// Files of several faults.
+static ORDERS: [Case; 10] = [
     Case {
         name: "Truncated before Mixed",
         file: &[Z, OTHER_CLASS, Stretch::Fill(0, 379)],
@@ -461,19 +471,40 @@ fn expect<R: Abort + AllocGlobal>(
 ) -> Result<(), AllocError> {
     let plain = first_fault(rt.alloc(), file, allowed)?;
     assert_eq!(rt; plain, answer, "plainly: {what}");
-    let mut folder = MemFolder::new(rt.alloc());
-    folder.put("a", file)?;
-    let found = survey(rt.alloc(), &mut folder, "a", allowed).err();
+    let found = survey_fault(rt.alloc(), file, allowed)?;
     assert_eq!(rt; found, answer, "survey: {what}");
     Ok(())
 }
 
-#[test]
-fn first_faults(rt: HostRuntime) -> Result<(), Fail> {
-    for case in &CASES {
+fn expect_all<R: Abort + AllocGlobal>(rt: &R, cases: &[Case]) -> Result<(), AllocError> {
+    for case in cases {
         let file = bytes_of(rt.alloc(), case.file)?;
-        expect(&rt, &file, case.allowed, case.name, case.answer)?;
+        expect(rt, &file, case.allowed, case.name, case.answer)?;
     }
+    Ok(())
+}
+
+#[test]
+fn where_main_data_begin(rt: HostRuntime) -> Result<(), Fail> {
+    expect_all(&rt, &BEGINS)?;
+    Ok(())
+}
+
+#[test]
+fn where_main_data_end(rt: HostRuntime) -> Result<(), Fail> {
+    expect_all(&rt, &ENDS)?;
+    Ok(())
+}
+
+#[test]
+fn kinds_and_numbers_of_frames(rt: HostRuntime) -> Result<(), Fail> {
+    expect_all(&rt, &FRAMES)?;
+    Ok(())
+}
+
+#[test]
+fn the_first_of_several_faults(rt: HostRuntime) -> Result<(), Fail> {
+    expect_all(&rt, &ORDERS)?;
     Ok(())
 }
 

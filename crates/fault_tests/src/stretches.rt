@@ -1,6 +1,7 @@
 //! Stretches of files that several tests are made of.
 
 use test_files::files::Stretch;
+use test_files::frames;
 
 /// The header of a frame of 417 bytes: MPEG-1, 44,100 Hz, 128 kbit/s, stereo, without check word.
 pub const HEADER: Stretch = Stretch::Bytes(&[0xff, 0xfb, 0x90, 0x00]);
@@ -11,13 +12,8 @@ pub const SILENCE: Stretch = Stretch::Fill(0, 413);
 /// A silent frame.
 pub const Z: Stretch = Stretch::Frame(0, 0);
 
-/// The side information of a head, and its text.
-pub const HEAD_FRONT: Stretch = Stretch::Bytes(
-    b"\xff\xfb\x90\0\0\0\0\0\0\0\0\0\0\0\0\0\0\0\0\0\0\0\0\0\0\0\0\0\0\0\0\0\0\0\0\0Info",
-);
-
-/// What stands behind them in a head of 417 bytes.
-pub const HEAD_REST: Stretch = Stretch::Fill(0, 377);
+/// A head: a silent frame with its text.
+pub const HEAD: Stretch = Stretch::Frames(&[frames::HEAD]);
 
 /// MPEG-2, 24,000 Hz, 8 kbit/s, one channel: 24 bytes, with an area of 11. Silent.
 pub const SHORT: Stretch = Stretch::Bytes(&[

@@ -1,7 +1,7 @@
 //! Files that are longer than the buffer of 65,536 bytes.
 
-use crate::surveys::stretches::Z;
-use crate::surveys::walks::{Shape, expect};
+use crate::shapes::{Shape, expect};
+use crate::stretches::Z;
 use std::test::Fail;
 use sync_survey::{Piece, SurveyFault};
 use tag_blocks::{Block, Kind};
@@ -46,7 +46,8 @@ fn a_block_longer_than_the_buffer(rt: HostRuntime) -> Result<(), Fail> {
         frames: &[100_010, 200_437],
         blocks: &LONG_BLOCKS,
     });
-    expect(&rt, "long blocks", &file, &answer)
+    expect(&rt, "long blocks", &file, &answer)?;
+    Ok(())
 }
 
 #[test]
@@ -62,7 +63,8 @@ fn zero_bytes_over_several_buffers(rt: HostRuntime) -> Result<(), Fail> {
         frames: &[200_000, 350_417],
         blocks: &[],
     });
-    expect(&rt, "zero bytes", &file, &answer)
+    expect(&rt, "zero bytes", &file, &answer)?;
+    Ok(())
 }
 
 /// A frame with one bit too many, whose header or side information stands across the end of the buffer.

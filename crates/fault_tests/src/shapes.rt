@@ -1,0 +1,77 @@
+//! What a survey finds in a file.
+
+use outside::MemFolder;
+use std::alloc::{AllocError, AllocGlobal, Global};
+use std::process::Abort;
+use sync_survey::{Piece, Survey, SurveyFault, survey};
+
+/// What has to be found in a file.
+#[derive(Drop)]
+pub struct Shape {
+    pub front_end: u64,
+    pub first: u64,
+    pub text_at: Option<u32>,
+    /// The offsets of the numbered frames.
+    pub frames: &'static [u64],
+    pub blocks: &'static [Piece],
+}
+
+/// The place of the text of the survey's head.
+fn text_place(survey: &Survey) -> Option<u32> {
+    match survey.head() {
+        Some(head) => Some(head.text_at),
+        None => None,
+    }
+}
+
+/// Asserts that these are the offsets of the numbered frames.
+fn expect_frames<R: Abort>(rt: &R, name: &str, survey: &Survey, offsets: &[u64]) {
+    let rows = survey.frames();
+    assert_eq!(rt; rows.len(), offsets.len(), "{name}");
+    for at in 0..offsets.len() {
+        assert_eq!(rt; rows[at].offset, offsets[at], "{name}");
+    }
+}
+
+/// Asserts that the survey tells this.
+fn expect_shape<R: Abort>(rt: &R, name: &str, survey: &Survey, shape: &Shape) {
+    let (front_end, junk) = survey.junk();
+    assert_eq!(rt; front_end, shape.front_end, "{name}");
+    assert_eq!(rt; junk, shape.first.saturating_sub(shape.front_end), "{name}");
+    assert_eq!(rt; survey.first(), shape.first, "{name}");
+    assert_eq!(rt; text_place(survey), shape.text_at, "{name}");
+    expect_frames(rt, name, survey, shape.frames);
+    assert_eq!(rt; survey.blocks(), shape.blocks, "{name}");
+}
+
+/// Asserts that the survey of a file gives this.
+pub fn expect<R: Abort + AllocGlobal>(
+    rt: &R,
+    name: &str,
+    file: &[u8],
+    answer: &Result<Shape, SurveyFault>,
+) -> Result<(), AllocError> {
+    let mut folder = MemFolder::new(rt.alloc());
+    folder.put("a", file)?;
+    match (survey(rt.alloc(), &mut folder, "a", 1000), answer) {
+        (Ok(survey), Ok(shape)) => expect_shape(rt, name, &survey, shape),
+        (Ok(_), Err(fault)) => panic!(rt; "{name}: no {fault:?}"),
+        (Err(found), Ok(_)) => panic!(rt; "{name}: {found:?}"),
+        (Err(found), Err(fault)) => assert_eq!(rt; found, *fault, "{name}"),
+    }
+    Ok(())
+}
+
+/// The fault that the survey of a file of so many frames at most finds, where there is one.
+pub fn survey_fault(
+    alloc: Global,
+    file: &[u8],
+    allowed: u32,
+) -> Result<Option<SurveyFault>, AllocError> {
+    let mut folder = MemFolder::new(alloc);
+    folder.put("a", file)?;
+    match survey(alloc, &mut folder, "a", allowed) {
+        Ok(_) => Ok(None),
+        Err(fault) => Ok(Some(fault)),
+    }
+}

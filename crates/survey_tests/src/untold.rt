@@ -1,0 +1,82 @@
+//! A folder that tells nothing.
+ghost use Rattle.std.specs.Prelude.{◌≡◌, ◌-◌, length, drop, min};
+ghost use Rattle.outside.specs.Files.{untold};
+
+use outside::{Failed, FindFault, Folder};
+
+/// A folder that tells nothing. Its one file is found with a length of its own, has these bytes at the first read, and
+/// others later.
+#[derive(Drop)]
+pub struct Untold<'a> {
+    pub found: u64,
+    pub first: &'a [u8],
+    pub later: &'a [u8],
+    reads: u64,
+    ends: u64,
+    write_faults: u64,
+}
+
+impl<'a> Untold<'a> {
+    pub fn new(found: u64, first: &'a [u8], later: &'a [u8]) -> Untold<'a> {
+        Untold {
+            found,
+            first,
+            later,
+            reads: 0,
+            ends: 0,
+            write_faults: 0,
+        }
+    }
+
+    pub fn reads(&self) -> u64 {
+        self.reads
+    }
+}
+
+/// Copies the bytes from a place on, as many as there are and fit, and says how many.
+fn copy_from(content: &[u8], at: u64, into: &mut [u8]) -> usize
+    ensures count { result ≡ min (length into.old) (length content.now - at) }
+    ensures rest { drop result into.new ≡ drop result into.old }
+{
+    if at >= content.len() as u64 {
+        return 0;
+    }
+    let rest = &content[at as usize..];
+    let count = rest.len().min(into.len());
+    into[..count].copy_from_slice(&rest[..count]);
+    count
+}
+
+impl<'a> Folder for Untold<'a> {
+    ghost files = { λ _. untold };
+
+    ghost counts = { λ folder. record { misses = 0; ends = folder.ends; read_faults = 0; write_faults = folder.write_faults } };
+
+    fn find(&mut self, _name: &str) -> Result<u64, FindFault> {
+        Ok(self.found)
+    }
+
+    fn read(&mut self, _name: &str, at: u64, into: &mut [u8]) -> Result<usize, Failed> {
+        let content = if self.reads == 0 {
+            self.first
+        } else {
+            self.later
+        };
+        self.reads = self.reads.saturating_add(1);
+        let count = copy_from(content, at, into);
+        if count == 0 && !into.is_empty() {
+            self.ends = self.ends.saturating_add(1);
+        }
+        Ok(count)
+    }
+
+    fn create(&mut self, _name: &str) -> Result<(), Failed> {
+        self.write_faults = self.write_faults.saturating_add(1);
+        Err(Failed)
+    }
+
+    fn write(&mut self, _name: &str, _bytes: &[u8]) -> Result<usize, Failed> {
+        self.write_faults = self.write_faults.saturating_add(1);
+        Err(Failed)
+    }
+}
