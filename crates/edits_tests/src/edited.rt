@@ -1,6 +1,5 @@
-//! Tests of the commands.
+//! Tests of gains, cuts and packing.
 
 mod cutting;
-mod files;
 mod pass;
 mod slow;

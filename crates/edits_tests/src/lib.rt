@@ -1,4 +1,4 @@
-//! Tests of the commands as calls.
+//! Tests of the edits, of splitting and of joining as calls.
 #![tactic(auto)]
 
 #[cfg(test)]
@@ -7,3 +7,5 @@ mod edited;
 mod joined;
 #[cfg(test)]
 mod split;
+#[cfg(test)]
+mod two;

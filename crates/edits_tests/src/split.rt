@@ -1,44 +1,78 @@
 //! Files that are split; each piece is what `cut` writes of the same frames.
 
-use splitting::{split_at, split_by};
+ghost use Rattle.std.specs.Prelude.{◌≤◌, length};
+ghost use Rattle.std.specs.List.{All};
+ghost use Rattle.cue_sheet.specs.Places.{IsPlace};
+
 use cue_sheet::{CueFault, Place};
 use edits::{EditFault, cut};
 use outside::{Call, MemFolder};
+use splitting::{split_at, split_by};
 use std::alloc::{AllocError, Global};
 use std::test::Fail;
 use sync_survey::SurveyFault;
+use test_files::files::{Stretch, bytes_of};
 
-fn push_fill(file: &mut Vec<u8>, byte: u8, count: usize) -> Result<(), AllocError> {
-    for _ in 0..count {
-        file.push(byte)?;
-    }
-    Ok(())
-}
+/// Twice two frames of MPEG-1, 44,100 Hz, 128 kbit/s, stereo, of 417 bytes with an area of 381. The first has 300 bytes of
+/// main data in its area; those of the second, 400, begin 81 bytes before its own.
+static FOUR: [Stretch; 14] = [
+    Stretch::Bytes(&[0xff, 0xfb, 0x90, 0x00, 0x00, 0x00, 0x09, 0x60]),
+    Stretch::Fill(0, 28),
+    Stretch::Fill(0x11, 300),
+    Stretch::Fill(0x22, 81),
+    Stretch::Bytes(&[0xff, 0xfb, 0x90, 0x00, 0x28, 0x80, 0x0c, 0x80]),
+    Stretch::Fill(0, 28),
+    Stretch::Fill(0x22, 381),
+    Stretch::Bytes(&[0xff, 0xfb, 0x90, 0x00, 0x00, 0x00, 0x09, 0x60]),
+    Stretch::Fill(0, 28),
+    Stretch::Fill(0x33, 300),
+    Stretch::Fill(0x44, 81),
+    Stretch::Bytes(&[0xff, 0xfb, 0x90, 0x00, 0x28, 0x80, 0x0c, 0x80]),
+    Stretch::Fill(0, 28),
+    Stretch::Fill(0x44, 381),
+];
 
-/// Two frames of MPEG-1, 44,100 Hz, 128 kbit/s, stereo, of 417 bytes with an area of 381. The first has 300 bytes of main
-/// data in its area; those of the second, 400, begin 81 bytes before its own.
-fn push_two(file: &mut Vec<u8>, first: u8, second: u8) -> Result<(), AllocError> {
-    file.extend_from_slice(&[0xff, 0xfb, 0x90, 0x00, 0x00, 0x00, 0x09, 0x60])?;
-    push_fill(file, 0, 28)?;
-    push_fill(file, first, 300)?;
-    push_fill(file, second, 81)?;
-    file.extend_from_slice(&[0xff, 0xfb, 0x90, 0x00, 0x28, 0x80, 0x0c, 0x80])?;
-    push_fill(file, 0, 28)?;
-    push_fill(file, second, 381)
-}
+/// A sheet of two tracks. The start of the second, at 2/75 second, is in the frame with number 1.
+const TRACKS: &[u8] = b"TRACK 01 AUDIO\nINDEX 01 00:00:00\nTRACK 02 AUDIO\nINDEX 01 00:00:02\n";
 
 /// A folder with a file of four frames, and room for three pieces.
 fn folder_of_four(alloc: Global) -> Result<MemFolder, AllocError> {
-    let mut file = Vec::new(alloc);
-    push_two(&mut file, 0x11, 0x22)?;
-    push_two(&mut file, 0x33, 0x44)?;
     let mut folder = MemFolder::new(alloc);
-    folder.put("a", &file)?;
+    folder.put("a", &bytes_of(alloc, &FOUR)?)?;
     folder.reserve("p01.mp3", 4000)?;
     folder.reserve("p02.mp3", 4000)?;
     folder.reserve("p03.mp3", 4000)?;
     folder.reserve("cut", 4000)?;
     Ok(folder)
+}
+
+/// The same with a sheet.
+fn folder_with_sheet(alloc: Global, sheet: &[u8]) -> Result<MemFolder, AllocError> {
+    let mut folder = folder_of_four(alloc)?;
+    folder.put("sheet", sheet)?;
+    Ok(folder)
+}
+
+fn split(
+    alloc: Global,
+    folder: &mut MemFolder,
+    input: &str,
+    places: &[Place],
+) -> Result<(), EditFault>
+    requires places { All IsPlace places.now }
+    requires some { 2 ≤ length places.now }
+    requires most { length places.now ≤ 100 }
+{
+    split_at(alloc, folder, input, places, "p")
+}
+
+fn split_tracks(
+    alloc: Global,
+    folder: &mut MemFolder,
+    input: &str,
+    sheet: &str,
+) -> Result<(), EditFault> {
+    split_by(alloc, folder, input, sheet, "p")
 }
 
 /// Whether a piece is what `cut` writes of the frames from one on and before another.
@@ -65,7 +99,7 @@ fn pieces_are_cut_out(rt: HostRuntime) -> Result<(), Fail> {
         Place::Frame(3),
         Place::End,
     ];
-    let done = split_at(alloc, &mut folder, "a", &places, "p");
+    let done = split(alloc, &mut folder, "a", &places);
     assert_eq!(&rt; done, Ok(()));
     assert!(&rt; is_cut(alloc, &mut folder, "p01.mp3", 0, 1)?);
     assert!(&rt; is_cut(alloc, &mut folder, "p02.mp3", 1, 3)?);
@@ -73,14 +107,11 @@ fn pieces_are_cut_out(rt: HostRuntime) -> Result<(), Fail> {
     Ok(())
 }
 
-/// A start at 2/75 second is in the frame with number 1.
 #[test]
 fn pieces_of_a_sheet(rt: HostRuntime) -> Result<(), Fail> {
     let alloc = rt.alloc();
-    let mut folder = folder_of_four(alloc)?;
-    let sheet = b"TRACK 01 AUDIO\nINDEX 01 00:00:00\nTRACK 02 AUDIO\nINDEX 01 00:00:02\n";
-    folder.put("sheet", sheet)?;
-    let done = split_by(alloc, &mut folder, "a", "sheet", "p");
+    let mut folder = folder_with_sheet(alloc, TRACKS)?;
+    let done = split_tracks(alloc, &mut folder, "a", "sheet");
     assert_eq!(&rt; done, Ok(()));
     assert!(&rt; is_cut(alloc, &mut folder, "p01.mp3", 0, 1)?);
     assert!(&rt; is_cut(alloc, &mut folder, "p02.mp3", 1, 4)?);
@@ -93,10 +124,10 @@ fn places_out_of_order(rt: HostRuntime) -> Result<(), Fail> {
     let alloc = rt.alloc();
     let mut folder = folder_of_four(alloc)?;
     let places = [Place::Frame(0), Place::Frame(2), Place::Frame(2)];
-    let equal = split_at(alloc, &mut folder, "a", &places, "p");
+    let equal = split(alloc, &mut folder, "a", &places);
     assert_eq!(&rt; equal, Err(EditFault::Range(2, 2, 4)));
     let places = [Place::Frame(0), Place::Frame(5), Place::Frame(2)];
-    let behind = split_at(alloc, &mut folder, "a", &places, "p");
+    let behind = split(alloc, &mut folder, "a", &places);
     assert_eq!(&rt; behind, Err(EditFault::Range(0, 5, 4)));
     assert!(&rt; folder.get("p01.mp3").is_none());
     Ok(())
@@ -107,33 +138,53 @@ fn names_of_pieces(rt: HostRuntime) -> Result<(), Fail> {
     let alloc = rt.alloc();
     let mut folder = MemFolder::new(alloc);
     let places = [Place::Frame(0), Place::End];
-    let input = split_at(alloc, &mut folder, "p99.mp3", &places, "p");
+    let input = split(alloc, &mut folder, "p99.mp3", &places);
     assert_eq!(&rt; input, Err(EditFault::EqualNames(0)));
-    let sheet = split_by(alloc, &mut folder, "p00.mp3", "p99.mp3", "p");
+    let sheet = split_tracks(alloc, &mut folder, "p00.mp3", "p99.mp3");
     assert_eq!(&rt; sheet, Err(EditFault::EqualNames(1)));
-    let absent = split_by(alloc, &mut folder, "p00.mp3", "p100.mp3", "p");
+    let absent = split_tracks(alloc, &mut folder, "p00.mp3", "p100.mp3");
     assert_eq!(&rt; absent, Err(EditFault::Input(0, SurveyFault::Absent)));
     Ok(())
 }
 
+/// A sheet in stretches, and why it is refused.
+struct Sheet {
+    stretches: &'static [Stretch],
+    fault: EditFault,
+}
+
+static SHEETS: [Sheet; 3] = [
+    Sheet {
+        stretches: &[Stretch::Fill(b' ', 65_536)],
+        fault: EditFault::Sheet(CueFault::NoTracks),
+    },
+    Sheet {
+        stretches: &[Stretch::Fill(b' ', 65_537)],
+        fault: EditFault::SheetTooLarge(65_537),
+    },
+    Sheet {
+        stretches: &[Stretch::Bytes(b"\nTRACK 1")],
+        fault: EditFault::Sheet(CueFault::Line(2)),
+    },
+];
+
 #[test]
 fn sheets_at_fault(rt: HostRuntime) -> Result<(), Fail> {
     let alloc = rt.alloc();
+    for case in &SHEETS {
+        let mut folder = folder_with_sheet(alloc, &bytes_of(alloc, case.stretches)?)?;
+        let done = split_tracks(alloc, &mut folder, "a", "sheet");
+        assert_eq!(&rt; done, Err(case.fault));
+    }
+    Ok(())
+}
+
+#[test]
+fn no_sheet(rt: HostRuntime) -> Result<(), Fail> {
+    let alloc = rt.alloc();
     let mut folder = folder_of_four(alloc)?;
-    let absent = split_by(alloc, &mut folder, "a", "sheet", "p");
+    let absent = split_tracks(alloc, &mut folder, "a", "sheet");
     assert_eq!(&rt; absent, Err(EditFault::Input(1, SurveyFault::Absent)));
-    let mut sheet = Vec::new(alloc);
-    push_fill(&mut sheet, b' ', 65_536)?;
-    folder.put("sheet", &sheet)?;
-    let longest = split_by(alloc, &mut folder, "a", "sheet", "p");
-    assert_eq!(&rt; longest, Err(EditFault::Sheet(CueFault::NoTracks)));
-    sheet.push(b' ')?;
-    folder.put("sheet", &sheet)?;
-    let larger = split_by(alloc, &mut folder, "a", "sheet", "p");
-    assert_eq!(&rt; larger, Err(EditFault::SheetTooLarge(65_537)));
-    folder.put("sheet", b"\nTRACK 1")?;
-    let broken = split_by(alloc, &mut folder, "a", "sheet", "p");
-    assert_eq!(&rt; broken, Err(EditFault::Sheet(CueFault::Line(2))));
     Ok(())
 }
 
@@ -143,7 +194,7 @@ fn second_piece_not_created(rt: HostRuntime) -> Result<(), Fail> {
     let mut folder = folder_of_four(alloc)?;
     folder.fail(Call::Create, 2)?;
     let places = [Place::Frame(0), Place::Frame(1), Place::End];
-    let done = split_at(alloc, &mut folder, "a", &places, "p");
+    let done = split(alloc, &mut folder, "a", &places);
     assert_eq!(&rt; done, Err(EditFault::Write(1)));
     assert!(&rt; folder.get("p02.mp3").is_none());
     assert!(&rt; is_cut(alloc, &mut folder, "p01.mp3", 0, 1)?);

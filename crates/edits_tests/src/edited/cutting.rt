@@ -1,25 +1,25 @@
 //! Files that are cut and packed; the bytes were worked out by hand.
 
-use crate::edited::files::{Stretch, file_of};
-use edits::{EditFault, cut, pack};
+use crate::two::TWO;
 use cue_sheet::Place;
+use edits::{EditFault, cut, pack};
 use outside::MemFolder;
+use std::alloc::{AllocError, Global};
 use std::test::Fail;
+use test_files::files::{Stretch, bytes_of};
 
-/// Two frames of MPEG-1, 44,100 Hz, 128 kbit/s, stereo, of 417 bytes with an area of 381. The first has 300 bytes of main
-/// data in its area; those of the second, 400, begin 81 bytes before its own.
-const TWO: [Stretch; 7] = [
-    Stretch::Bytes(&[0xff, 0xfb, 0x90, 0x00, 0x00, 0x00, 0x09, 0x60]),
-    Stretch::Fill(0, 28),
-    Stretch::Fill(0x11, 300),
-    Stretch::Fill(0x22, 81),
-    Stretch::Bytes(&[0xff, 0xfb, 0x90, 0x00, 0x28, 0x80, 0x0c, 0x80]),
-    Stretch::Fill(0, 28),
-    Stretch::Fill(0x22, 319 + 62),
-];
-
-/// A lead-in of 32 kbit/s, with an area of 68, and the second frame, which begins 68 bytes before its own area.
-const SECOND: [Stretch; 7] = [
+/// An Info frame of 64 kbit/s with its table of 100 entries, no quality, and an extension that is all 0: `Xing`, since the
+/// bit rates differ. Then a lead-in of 32 kbit/s, with an area of 68, and the second frame, whose main data begin 68 bytes
+/// before its own area.
+static SECOND: [Stretch; 13] = [
+    Stretch::Bytes(&[0xff, 0xfb, 0x50, 0x00]),
+    Stretch::Fill(0, 32),
+    Stretch::Bytes(&[
+        b'X', b'i', b'n', b'g', 0, 0, 0, 15, 0, 0, 0, 2, 0, 0, 0x02, 0xd9,
+    ]),
+    Stretch::Fill(73, 50),
+    Stretch::Fill(109, 50),
+    Stretch::Fill(0, 56),
     Stretch::Bytes(&[0xff, 0xfb, 0x10, 0x00]),
     Stretch::Fill(0, 32),
     Stretch::Fill(0x22, 68),
@@ -29,54 +29,39 @@ const SECOND: [Stretch; 7] = [
     Stretch::Fill(0, 49),
 ];
 
-/// An Info frame of 64 kbit/s, up to its table, of a file of so many bytes: `Xing` where the bit rates differ.
-const FRONT: [Stretch; 3] = [
-    Stretch::Bytes(&[0xff, 0xfb, 0x50, 0x00]),
-    Stretch::Fill(0, 32),
-    Stretch::Bytes(&[
-        b'X', b'i', b'n', b'g', 0, 0, 0, 15, 0, 0, 0, 2, 0, 0, 0x02, 0xd9,
-    ]),
-];
+/// A folder with the file of two frames as `a`, and room for `b`.
+fn folder_of_two(alloc: Global) -> Result<MemFolder, AllocError> {
+    let mut folder = MemFolder::new(alloc);
+    folder.put("a", &bytes_of(alloc, &TWO)?)?;
+    folder.reserve("b", 2000)?;
+    Ok(folder)
+}
 
-/// The table's 100 entries, no quality, and an extension that is all 0, up to the Info frame's 208 bytes.
-const BACK: [Stretch; 3] = [
-    Stretch::Fill(73, 50),
-    Stretch::Fill(109, 50),
-    Stretch::Fill(0, 56),
-];
+/// Cuts from the frame with this number on, or from the end, to `b`.
+fn cut_from(alloc: Global, folder: &mut MemFolder, number: Option<u32>) -> Result<(), EditFault> {
+    let from = match number {
+        Some(number) => Place::Frame(number),
+        None => Place::End,
+    };
+    cut(alloc, folder, "a", &from, &Place::End, false, "b")
+}
 
+fn pack_two(alloc: Global, folder: &mut MemFolder) -> Result<(), EditFault> {
+    pack(alloc, folder, "a", "b")
+}
+
+/// A range without a frame is refused, and leaves what was written before.
 #[test]
 fn second_frame_cut_out(rt: HostRuntime) -> Result<(), Fail> {
     let alloc = rt.alloc();
-    let mut folder = MemFolder::new(alloc);
-    folder.put("a", &file_of(alloc, &TWO)?)?;
-    folder.reserve("b", 2000)?;
-    let done = cut(
-        alloc,
-        &mut folder,
-        "a",
-        &Place::Frame(1),
-        &Place::End,
-        false,
-        "b",
-    );
-    assert_eq!(&rt; done, Ok(()));
-    let mut wanted = file_of(alloc, &FRONT)?;
-    wanted.extend_from_slice(&file_of(alloc, &BACK)?)?;
-    wanted.extend_from_slice(&file_of(alloc, &SECOND)?)?;
+    let wanted = bytes_of(alloc, &SECOND)?;
     assert_eq!(&rt; wanted.len(), 729);
-    assert_eq!(&rt; folder.get("b").ok_or("no output")?, wanted.as_slice());
-    let none = cut(
-        alloc,
-        &mut folder,
-        "a",
-        &Place::End,
-        &Place::End,
-        false,
-        "b",
-    );
+    let mut folder = folder_of_two(alloc)?;
+    assert_eq!(&rt; cut_from(alloc, &mut folder, Some(1)), Ok(()));
+    assert_eq!(&rt; folder.get("b"), Some(&wanted[..]));
+    let none = cut_from(alloc, &mut folder, None);
     assert_eq!(&rt; none, Err(EditFault::Range(2, 2, 2)));
-    assert_eq!(&rt; folder.get("b").ok_or("no output")?, wanted.as_slice());
+    assert_eq!(&rt; folder.get("b"), Some(&wanted[..]));
     Ok(())
 }
 
@@ -85,10 +70,8 @@ fn second_frame_cut_out(rt: HostRuntime) -> Result<(), Fail> {
 #[test]
 fn both_frames_packed(rt: HostRuntime) -> Result<(), Fail> {
     let alloc = rt.alloc();
-    let mut folder = MemFolder::new(alloc);
-    folder.put("a", &file_of(alloc, &TWO)?)?;
-    folder.reserve("b", 2000)?;
-    assert_eq!(&rt; pack(alloc, &mut folder, "a", "b"), Ok(()));
+    let mut folder = folder_of_two(alloc)?;
+    assert_eq!(&rt; pack_two(alloc, &mut folder), Ok(()));
     let packed = folder.get("b").ok_or("no output")?;
     assert!(&rt; packed.len() == 990);
     assert_eq!(&rt;

@@ -1,13 +1,12 @@
 //! Files longer than what is read at once, written with other gains; the bytes of both were worked out by hand.
 
-use crate::edited::files::{Stretch, file_of};
 use crate::edited::slow::{Slow, Trouble};
 use edits::{Channels, EditFault, Shift, gain};
 use outside::MemFolder;
-use std::alloc::AllocGlobal;
-use std::process::Abort;
+use std::alloc::{AllocError, Global};
 use std::test::Fail;
 use sync_survey::SurveyFault;
+use test_files::files::{Stretch, bytes_of};
 
 /// One step louder, where 255 comes in again as 0.
 const LOUDER: Shift = Shift {
@@ -62,13 +61,13 @@ static QUIET: [Stretch; 13] = [
     Stretch::Fill(0x41, 20),
     Stretch::Fill(0, 3),
     Stretch::Fill(0x55, 7),
-    Stretch::Frames(HEAD, 1),
-    Stretch::Frames(PLAIN, 120),
+    Stretch::Copies(HEAD, 1),
+    Stretch::Copies(PLAIN, 120),
     Stretch::Bytes(ID3V2),
     Stretch::Fill(0x42, 20),
     Stretch::Fill(0, 5),
-    Stretch::Frames(PROTECTED, 60),
-    Stretch::Frames(SILENT, 1),
+    Stretch::Copies(PROTECTED, 60),
+    Stretch::Copies(SILENT, 1),
     Stretch::Bytes(b"TAG"),
     Stretch::Fill(0x20, 125),
 ];
@@ -78,27 +77,31 @@ static LOUD: [Stretch; 12] = [
     Stretch::Bytes(ID3V2),
     Stretch::Fill(0x41, 20),
     Stretch::Fill(0, 3),
-    Stretch::Frames(HEAD, 1),
-    Stretch::Frames(PLAIN_LOUDER, 120),
+    Stretch::Copies(HEAD, 1),
+    Stretch::Copies(PLAIN_LOUDER, 120),
     Stretch::Bytes(ID3V2),
     Stretch::Fill(0x42, 20),
     Stretch::Fill(0, 5),
-    Stretch::Frames(PROTECTED_LOUDER, 60),
-    Stretch::Frames(SILENT, 1),
+    Stretch::Copies(PROTECTED_LOUDER, 60),
+    Stretch::Copies(SILENT, 1),
     Stretch::Bytes(b"TAG"),
     Stretch::Fill(0x20, 125),
 ];
 
+/// What `gain` answers, and the folder that it leaves.
+fn gain_quiet(alloc: Global) -> Result<(Result<(), EditFault>, MemFolder), AllocError> {
+    let mut folder = MemFolder::new(alloc);
+    folder.put("quiet", &bytes_of(alloc, &QUIET)?)?;
+    folder.reserve("loud", 80_000)?;
+    let answer = gain(alloc, &mut folder, "quiet", "loud", &LOUDER, false);
+    Ok((answer, folder))
+}
+
 #[test]
 fn moves_the_gains_of_a_long_file(rt: HostRuntime) -> Result<(), Fail> {
-    let mut folder = MemFolder::new(rt.alloc());
-    folder.put("quiet", &file_of(rt.alloc(), &QUIET)?)?;
-    folder.reserve("loud", 80_000)?;
-    let loud = file_of(rt.alloc(), &LOUD)?;
-    assert_eq!(rt;
-        gain(rt.alloc(), &mut folder, "quiet", "loud", &LOUDER, false),
-        Ok(())
-    );
+    let (answer, folder) = gain_quiet(rt.alloc())?;
+    assert_eq!(rt; answer, Ok(()));
+    let loud = bytes_of(rt.alloc(), &LOUD)?;
     assert_eq!(rt; folder.get("loud"), Some(&loud[..]));
     Ok(())
 }
@@ -136,9 +139,9 @@ static CASES: [Case; 4] = [
 
 #[test]
 fn reads_and_writes_a_few_bytes_at_a_time(rt: HostRuntime) -> Result<(), Fail> {
-    let loud = file_of(rt.alloc(), &LOUD)?;
+    let loud = bytes_of(rt.alloc(), &LOUD)?;
     for case in &CASES {
-        let quiet = file_of(rt.alloc(), &QUIET)?;
+        let quiet = bytes_of(rt.alloc(), &QUIET)?;
         let mut folder = Slow::new(rt.alloc(), quiet, case.trouble);
         let answer = gain(rt.alloc(), &mut folder, "quiet", "loud", &LOUDER, false);
         assert_eq!(rt; answer, case.answer);
