@@ -1,0 +1,310 @@
+//! Lines of faults as they are sent.
+ghost use Rattle.mp3_cli.specs.Texts.{HasLine};
+
+use cue_sheet::CueFault;
+use edits::EditFault;
+use mp3_cli::{Outputs, send_bad_word, send_fault, status};
+use outside::MemSink;
+use std::alloc::{AllocError, AllocGlobal, Global};
+use std::process::Abort;
+use std::test::Fail;
+use sync_survey::SurveyFault;
+
+/// A fault, with its status and its line.
+struct Line {
+    fault: EditFault,
+    status: u8,
+    line: &'static [u8],
+}
+
+/// Faults of an input.
+static INPUT_LINES: [Line; 14] = [
+    Line {
+        fault: EditFault::Input(0, SurveyFault::Absent),
+        status: 3,
+        line: b"a.mp3: absent\n",
+    },
+    Line {
+        fault: EditFault::Input(0, SurveyFault::TooLong(1_073_741_825)),
+        status: 1,
+        line: b"a.mp3: too long, 1073741825 bytes\n",
+    },
+    Line {
+        fault: EditFault::Input(0, SurveyFault::NoFrame(0)),
+        status: 1,
+        line: b"a.mp3: no frame at 0\n",
+    },
+    Line {
+        fault: EditFault::Input(0, SurveyFault::LostSync(30417)),
+        status: 1,
+        line: b"a.mp3: lost synchronisation at 30417\n",
+    },
+    Line {
+        fault: EditFault::Input(0, SurveyFault::Truncated(417)),
+        status: 1,
+        line: b"a.mp3: truncated at 417\n",
+    },
+    Line {
+        fault: EditFault::Input(0, SurveyFault::FreeFormat(9)),
+        status: 1,
+        line: b"a.mp3: free format at 9\n",
+    },
+    Line {
+        fault: EditFault::Input(0, SurveyFault::Mixed(834)),
+        status: 1,
+        line: b"a.mp3: mixed class at 834\n",
+    },
+    Line {
+        fault: EditFault::Input(0, SurveyFault::CheckWord(417, 0x0a0f, 0xe952)),
+        status: 1,
+        line: b"a.mp3: check word at 417 is 0a0f, right is e952\n",
+    },
+    Line {
+        fault: EditFault::Input(0, SurveyFault::BackPointer(0, 10, 0)),
+        status: 1,
+        line: b"a.mp3: back pointer at 0 is 10, present 0\n",
+    },
+    Line {
+        fault: EditFault::Input(0, SurveyFault::Overlap(417)),
+        status: 1,
+        line: b"a.mp3: overlap at 417\n",
+    },
+    Line {
+        fault: EditFault::Input(0, SurveyFault::Overrun(0, 3049, 3048)),
+        status: 1,
+        line: b"a.mp3: overrun at 0, bits 3049, room 3048\n",
+    },
+    Line {
+        fault: EditFault::Input(0, SurveyFault::TooManyFrames(7)),
+        status: 1,
+        line: b"a.mp3: too many frames at 7\n",
+    },
+    Line {
+        fault: EditFault::Input(0, SurveyFault::Shrunk(834, 417)),
+        status: 3,
+        line: b"a.mp3: shrunk from 834 to 417\n",
+    },
+    Line {
+        fault: EditFault::Input(0, SurveyFault::Read),
+        status: 3,
+        line: b"a.mp3: read fault\n",
+    },
+];
+
+/// All others.
+static LINES: [Line; 15] = [
+    Line {
+        fault: EditFault::EqualNames(0),
+        status: 1,
+        line: b"a.mp3: input is an output\n",
+    },
+    Line {
+        fault: EditFault::Mono,
+        status: 1,
+        line: b"one channel only\n",
+    },
+    Line {
+        fault: EditFault::Joint(30417),
+        status: 1,
+        line: b"joint stereo at 30417\n",
+    },
+    Line {
+        fault: EditFault::TagTooLarge(1_048_577),
+        status: 1,
+        line: b"tag too large, 1048577\n",
+    },
+    Line {
+        fault: EditFault::BadTag(441),
+        status: 1,
+        line: b"bad tag at 441\n",
+    },
+    Line {
+        fault: EditFault::NoUndo,
+        status: 1,
+        line: b"no undo item\n",
+    },
+    Line {
+        fault: EditFault::BadUndo(449),
+        status: 1,
+        line: b"bad undo item at 449\n",
+    },
+    Line {
+        fault: EditFault::UndoRange(-1020),
+        status: 1,
+        line: b"undo sum -1020 is out of range\n",
+    },
+    Line {
+        fault: EditFault::UndoRange(1254),
+        status: 1,
+        line: b"undo sum 1254 is out of range\n",
+    },
+    Line {
+        fault: EditFault::OutputTooLong(1_073_741_920),
+        status: 1,
+        line: b"output too long, 1073741920 bytes\n",
+    },
+    Line {
+        fault: EditFault::Sent,
+        status: 3,
+        line: b"standard output: write fault\n",
+    },
+    Line {
+        fault: EditFault::GainRange(417, 1, 0, 255),
+        status: 1,
+        line: b"gain 255 out of range at 417, granule 1, channel 0\n",
+    },
+    Line {
+        fault: EditFault::Range(2, 2, 2),
+        status: 1,
+        line: b"range 2 to 2 of 2 frames\n",
+    },
+    Line {
+        fault: EditFault::Write(0),
+        status: 3,
+        line: b"b.mp3: write fault\n",
+    },
+    Line {
+        fault: EditFault::Memory,
+        status: 4,
+        line: b"out of memory\n",
+    },
+];
+
+/// Those of commands with several files.
+static SEVERAL_LINES: [Line; 6] = [
+    Line {
+        fault: EditFault::Differ(1),
+        status: 1,
+        line: b"c.mp3: other class than the first input\n",
+    },
+    Line {
+        fault: EditFault::SheetTooLarge(65_537),
+        status: 1,
+        line: b"c.mp3: sheet too large, 65537 bytes\n",
+    },
+    Line {
+        fault: EditFault::Sheet(CueFault::Line(12)),
+        status: 1,
+        line: b"c.mp3: bad line 12\n",
+    },
+    Line {
+        fault: EditFault::Sheet(CueFault::NotRising(9)),
+        status: 1,
+        line: b"c.mp3: not rising at line 9\n",
+    },
+    Line {
+        fault: EditFault::Sheet(CueFault::NoTracks),
+        status: 1,
+        line: b"c.mp3: no tracks\n",
+    },
+    Line {
+        fault: EditFault::EqualNames(1),
+        status: 1,
+        line: b"c.mp3: input is an output\n",
+    },
+];
+
+/// A sink of 100 bytes.
+fn new_sink(alloc: Global) -> Result<MemSink, AllocError> {
+    let mut sink = MemSink::new(alloc);
+    sink.reserve(100)?;
+    Ok(sink)
+}
+
+/// The line of the fault, as it is sent.
+fn line_of(alloc: Global, fault: &EditFault) -> Result<MemSink, AllocError>
+    requires { HasLine fault.now }
+{
+    let mut err = new_sink(alloc)?;
+    let inputs = ["a.mp3", "c.mp3"];
+    send_fault(&mut err, fault, &inputs, &Outputs::One("b.mp3"));
+    Ok(err)
+}
+
+/// The status of the fault, and its line.
+fn expect_line<R: Abort + AllocGlobal>(rt: &R, case: &Line) -> Result<(), AllocError>
+    requires { HasLine case.now.fault }
+{
+    assert_eq!(rt; status(&case.fault), case.status);
+    assert_eq!(rt; line_of(rt.alloc(), &case.fault)?.sent(), case.line);
+    Ok(())
+}
+
+#[test]
+fn lines_of_inputs(rt: HostRuntime) -> Result<(), Fail> {
+    for case in &INPUT_LINES {
+        expect_line(&rt, case)?;
+    }
+    Ok(())
+}
+
+#[test]
+fn lines(rt: HostRuntime) -> Result<(), Fail> {
+    for case in &LINES {
+        expect_line(&rt, case)?;
+    }
+    Ok(())
+}
+
+#[test]
+fn lines_of_several_files(rt: HostRuntime) -> Result<(), Fail> {
+    for case in &SEVERAL_LINES {
+        expect_line(&rt, case)?;
+    }
+    Ok(())
+}
+
+/// A piece that could not be written, counted from 0, and its line.
+struct PieceLine {
+    piece: u32,
+    line: &'static [u8],
+}
+
+/// Names of pieces are counted from 1, and an output that isn't one of them has no name.
+static PIECES: [PieceLine; 4] = [
+    PieceLine {
+        piece: 0,
+        line: b"p01.mp3: write fault\n",
+    },
+    PieceLine {
+        piece: 9,
+        line: b"p10.mp3: write fault\n",
+    },
+    PieceLine {
+        piece: 98,
+        line: b"p99.mp3: write fault\n",
+    },
+    PieceLine {
+        piece: 99,
+        line: b": write fault\n",
+    },
+];
+
+#[test]
+fn lines_of_pieces(rt: HostRuntime) -> Result<(), Fail> {
+    for case in &PIECES {
+        let mut err = new_sink(rt.alloc())?;
+        let fault = EditFault::Write(case.piece);
+        send_fault(&mut err, &fault, &["a.mp3"], &Outputs::Pieces("p"));
+        assert_eq!(rt; err.sent(), case.line);
+    }
+    Ok(())
+}
+
+#[test]
+fn the_line_of_a_bad_word(rt: HostRuntime) -> Result<(), Fail> {
+    let mut err = new_sink(rt.alloc())?;
+    send_bad_word(&mut err, 5);
+    assert_eq!(rt; err.sent(), b"bad word 5\n".as_slice());
+    Ok(())
+}
+
+#[test]
+fn a_line_stops_where_a_write_fails(rt: HostRuntime) -> Result<(), Fail> {
+    let mut err = new_sink(rt.alloc())?;
+    err.fail(2)?;
+    let fault = EditFault::Input(0, SurveyFault::Overlap(7));
+    send_fault(&mut err, &fault, &["a.mp3"], &Outputs::One("b.mp3"));
+    assert_eq!(rt; err.sent(), b"a.mp3".as_slice());
+    Ok(())
+}

@@ -1,0 +1,122 @@
+//! Texts that the program says of itself.
+
+use crate::reading::owned;
+use mp3_cli::run;
+use outside::{MemFolder, MemSink};
+use std::alloc::{AllocError, Global};
+use std::test::Fail;
+
+const USAGE: &[u8] = b"usage: mp3edit COMMAND
+  list IN                say what stands in the MP3 file IN: tags, junk, head and frames
+  gain [-s s] [-w] -g N IN OUT
+                         write IN to OUT, louder by N steps of 1.5 dB (quieter below 0)
+  gain [-s s] [-w] -l C N IN OUT
+                         the same of the left (C is 0) or right (C is 1) channel alone
+                         -s s: keep no note of the change in the tag of OUT
+                         -w: let gains wrap around from 255 to 0 and back, which else is refused
+  gain -u IN OUT         write IN to OUT, with all changes taken back that its tag has a note of
+  cut [--least] IN FROM TO OUT
+                         write the frames of IN from FROM on and before TO to OUT, with all main data
+                         FROM, TO: a frame's number from 0, a time (M.S or M.S.H) or EOF
+                         --least: each frame with the least bit rate that has room for it
+  pack IN OUT            write all frames of IN to OUT, each with the least bit rate that has room for it
+  split IN PREFIX P1 P2 [P3 to P100]
+                         write the frames of IN from P1 on and before P2 to PREFIX01.mp3, those from P2 on and
+                         before P3 to PREFIX02.mp3, and so on; places as FROM and TO of cut
+  split IN PREFIX -c CUE the same at the starts of the tracks in the cue sheet CUE, the last to the end of IN
+  join OUT IN1 [IN2 to IN64]
+                         write the frames of IN1 to IN64, one file after another, to OUT
+  --help, -h             say this
+  --version              say which version this is
+status: 0 done; 1 refused; 2 bad word; 3 a file is absent, or reading or writing failed;
+        4 out of memory
+";
+
+/// A word alone, whether the first write to standard output fails, and what is sent.
+struct Said {
+    word: &'static str,
+    is_failing: bool,
+    status: u8,
+    text: &'static [u8],
+    line: &'static [u8],
+}
+
+const FAULT: &[u8] = b"standard output: write fault\n";
+
+static SAID: [Said; 6] = [
+    Said {
+        word: "--help",
+        is_failing: false,
+        status: 0,
+        text: USAGE,
+        line: b"",
+    },
+    Said {
+        word: "--help",
+        is_failing: true,
+        status: 3,
+        text: b"",
+        line: FAULT,
+    },
+    Said {
+        word: "-h",
+        is_failing: false,
+        status: 0,
+        text: USAGE,
+        line: b"",
+    },
+    Said {
+        word: "-h",
+        is_failing: true,
+        status: 3,
+        text: b"",
+        line: FAULT,
+    },
+    Said {
+        word: "--version",
+        is_failing: false,
+        status: 0,
+        text: b"mp3edit 0.1.0\n",
+        line: b"",
+    },
+    Said {
+        word: "--version",
+        is_failing: true,
+        status: 3,
+        text: b"",
+        line: FAULT,
+    },
+];
+
+/// The status of a run of one word, and what it sent to both sinks.
+#[derive(Drop)]
+struct Ran {
+    status: u8,
+    out: MemSink,
+    err: MemSink,
+}
+
+fn run_word(alloc: Global, word: &str, is_failing: bool) -> Result<Ran, AllocError> {
+    let words = owned(alloc, &[word])?;
+    let mut folder = MemFolder::new(alloc);
+    let mut out = MemSink::new(alloc);
+    let mut err = MemSink::new(alloc);
+    out.reserve(3000)?;
+    err.reserve(100)?;
+    if is_failing {
+        out.fail(1)?;
+    }
+    let status = run(alloc, &words, &mut folder, &mut out, &mut err);
+    Ok(Ran { status, out, err })
+}
+
+#[test]
+fn texts(rt: HostRuntime) -> Result<(), Fail> {
+    for said in &SAID {
+        let ran = run_word(rt.alloc(), said.word, said.is_failing)?;
+        assert_eq!(rt; ran.status, said.status, "{}", said.word);
+        assert_eq!(rt; ran.out.sent(), said.text, "{}", said.word);
+        assert_eq!(rt; ran.err.sent(), said.line, "{}", said.word);
+    }
+    Ok(())
+}

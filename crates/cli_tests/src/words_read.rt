@@ -1,0 +1,278 @@
+//! Words that have a form, and what they ask for.
+
+use crate::reading::{read, read_join, read_split};
+use arrayvec::ArrayVec;
+use cue_sheet::Place;
+use edits::{Channels, Shift};
+use mp3_cli::Job;
+use std::alloc::{AllocError, AllocGlobal};
+use std::process::Abort;
+use std::test::Fail;
+
+/// The words ask for this.
+fn expect<R: Abort + AllocGlobal>(rt: &R, words: &[&str], wanted: Job) -> Result<(), AllocError> {
+    assert_eq!(rt; read(rt.alloc(), words)?, Ok(wanted), "{words:?}");
+    Ok(())
+}
+
+/// A word, and the number of steps that it says.
+struct StepWord {
+    word: &'static str,
+    steps: i16,
+}
+
+static STEPS: [StepWord; 6] = [
+    StepWord {
+        word: "3",
+        steps: 3,
+    },
+    StepWord {
+        word: "+007",
+        steps: 7,
+    },
+    StepWord {
+        word: "-0",
+        steps: 0,
+    },
+    StepWord {
+        word: "255",
+        steps: 255,
+    },
+    StepWord {
+        word: "-255",
+        steps: -255,
+    },
+    StepWord {
+        word: "-12",
+        steps: -12,
+    },
+];
+
+#[test]
+fn words_of_steps(rt: HostRuntime) -> Result<(), Fail> {
+    for case in &STEPS {
+        let shift = Shift {
+            channels: Channels::Both,
+            steps: case.steps,
+            wrap: false,
+        };
+        let wanted = Job::Gain {
+            shift,
+            tags: false,
+            input: 6,
+            output: 7,
+        };
+        let words = ["gain", "-s", "s", "-g", case.word, "a", "./-b"];
+        expect(&rt, &words, wanted)?;
+    }
+    Ok(())
+}
+
+/// The words of a gain, the channels that change, whether gains wrap and a note is kept in the tag, and the place of
+/// the input's name.
+struct GainWords {
+    words: &'static [&'static str],
+    channels: Channels,
+    wrap: bool,
+    tags: bool,
+    input: u32,
+}
+
+static GAINS: [GainWords; 10] = [
+    GainWords {
+        words: &["gain", "-g", "-7", "a", "b"],
+        channels: Channels::Both,
+        wrap: false,
+        tags: true,
+        input: 4,
+    },
+    GainWords {
+        words: &["gain", "-s", "s", "-g", "-7", "a", "b"],
+        channels: Channels::Both,
+        wrap: false,
+        tags: false,
+        input: 6,
+    },
+    GainWords {
+        words: &["gain", "-w", "-g", "-7", "a", "b"],
+        channels: Channels::Both,
+        wrap: true,
+        tags: true,
+        input: 5,
+    },
+    GainWords {
+        words: &["gain", "-s", "s", "-w", "-g", "-7", "a", "b"],
+        channels: Channels::Both,
+        wrap: true,
+        tags: false,
+        input: 7,
+    },
+    GainWords {
+        words: &["gain", "-w", "-s", "s", "-g", "-7", "a", "b"],
+        channels: Channels::Both,
+        wrap: true,
+        tags: false,
+        input: 7,
+    },
+    GainWords {
+        words: &["gain", "-l", "0", "-7", "a", "b"],
+        channels: Channels::Left,
+        wrap: false,
+        tags: true,
+        input: 5,
+    },
+    GainWords {
+        words: &["gain", "-s", "s", "-l", "0", "-7", "a", "b"],
+        channels: Channels::Left,
+        wrap: false,
+        tags: false,
+        input: 7,
+    },
+    GainWords {
+        words: &["gain", "-w", "-l", "0", "-7", "a", "b"],
+        channels: Channels::Left,
+        wrap: true,
+        tags: true,
+        input: 6,
+    },
+    GainWords {
+        words: &["gain", "-s", "s", "-w", "-l", "1", "-7", "a", "b"],
+        channels: Channels::Right,
+        wrap: true,
+        tags: false,
+        input: 8,
+    },
+    GainWords {
+        words: &["gain", "-w", "-s", "s", "-l", "1", "-7", "a", "b"],
+        channels: Channels::Right,
+        wrap: true,
+        tags: false,
+        input: 8,
+    },
+];
+
+#[test]
+fn gains(rt: HostRuntime) -> Result<(), Fail> {
+    for gain in &GAINS {
+        let shift = Shift {
+            channels: gain.channels,
+            steps: -7,
+            wrap: gain.wrap,
+        };
+        let wanted = Job::Gain {
+            shift,
+            tags: gain.tags,
+            input: gain.input,
+            output: gain.input + 1,
+        };
+        expect(&rt, gain.words, wanted)?;
+    }
+    Ok(())
+}
+
+#[test]
+fn an_undo(rt: HostRuntime) -> Result<(), Fail> {
+    let undo = Job::Undo {
+        input: 3,
+        output: 4,
+    };
+    expect(&rt, &["gain", "-u", "a", "b"], undo)?;
+    Ok(())
+}
+
+#[test]
+fn files_to_list_and_pack(rt: HostRuntime) -> Result<(), Fail> {
+    expect(&rt, &["list", "a"], Job::List { input: 2 })?;
+    let pack = Job::Pack {
+        input: 2,
+        output: 3,
+    };
+    expect(&rt, &["pack", "a", "b"], pack)?;
+    Ok(())
+}
+
+#[test]
+fn words_alone(rt: HostRuntime) -> Result<(), Fail> {
+    expect(&rt, &["--help"], Job::Help)?;
+    expect(&rt, &["-h"], Job::Help)?;
+    expect(&rt, &["--version"], Job::Version)?;
+    Ok(())
+}
+
+#[test]
+fn cuts(rt: HostRuntime) -> Result<(), Fail> {
+    let kept = Job::Cut {
+        from: Place::Frame(1),
+        to: Place::End,
+        least: false,
+        input: 2,
+        output: 5,
+    };
+    expect(&rt, &["cut", "a", "1", "EOF", "b"], kept)?;
+    let least = Job::Cut {
+        from: Place::Time(0, 100),
+        to: Place::Time(6205, 100),
+        least: true,
+        input: 3,
+        output: 6,
+    };
+    expect(&rt, &["cut", "--least", "a", "0.0", "1.02.5", "b"], least)?;
+    Ok(())
+}
+
+#[test]
+fn a_split_by_a_sheet(rt: HostRuntime) -> Result<(), Fail> {
+    let split = Job::SplitBy {
+        input: 2,
+        prefix: 3,
+        sheet: 5,
+    };
+    expect(&rt, &["split", "a", "p", "-c", "s"], split)?;
+    Ok(())
+}
+
+#[test]
+fn places_of_a_split(rt: HostRuntime) -> Result<(), Fail> {
+    let mut places = ArrayVec::new();
+    places.push(Place::Time(0, 100));
+    places.push(Place::Frame(7));
+    places.push(Place::End);
+    let wanted = Job::SplitAt {
+        input: 2,
+        prefix: 3,
+        places,
+    };
+    expect(&rt, &["split", "a", "p", "0.0", "7", "EOF"], wanted)?;
+    Ok(())
+}
+
+#[test]
+fn the_most_places(rt: HostRuntime) -> Result<(), Fail> {
+    let mut places = ArrayVec::new();
+    for number in 0..100 {
+        assert!(rt; places.try_push(Place::Frame(number)).is_ok());
+    }
+    let wanted = Job::SplitAt {
+        input: 2,
+        prefix: 3,
+        places,
+    };
+    assert_eq!(rt; read_split(rt.alloc(), 100)?, Ok(wanted));
+    Ok(())
+}
+
+/// How many files are joined: the fewest, two, and the most.
+static COUNTS: [u32; 3] = [1, 2, 64];
+
+#[test]
+fn joins(rt: HostRuntime) -> Result<(), Fail> {
+    for count in &COUNTS {
+        let wanted = Job::Join {
+            output: 2,
+            first: 3,
+            count: *count,
+        };
+        assert_eq!(rt; read_join(rt.alloc(), *count)?, Ok(wanted));
+    }
+    Ok(())
+}
