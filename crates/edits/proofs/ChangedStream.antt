@@ -9,14 +9,15 @@ use Rattle.sync_survey.specs.Faults.{SurveyFields, surveyed, stream_of_survey, H
 use Rattle.sync_survey.specs.Survey.{survey_of}
 use Rattle.sync_survey.proofs.SurveyParts.{surveyed-allowed}
 use Rattle.edits.specs.declared.fault.EditFault.{EditFault}
-use Rattle.edits.specs.declared.shift.Steps.{Steps}
-use Rattle.edits.specs.Edited.{edited}
+use Rattle.moved_gains.specs.declared.shift.Steps.{Steps}
+use Rattle.moved_gains.specs.Edited.{edited}
 use Rattle.edits.specs.One.{most_frames, made_by, made_file}
-use Rattle.edits.specs.Change.{Change, Changing, retag, changed, changed_with, changing, changed_file}
-use Rattle.edits.specs.Streams.{moved_stream_frame, moved_survey, IsStreamMoved}
-use Rattle.edits.proofs.MovedSurvey.{surveyed-edited}
-use Rattle.edits.proofs.MovedStream.{stream-edited}
-use Rattle.edits.proofs.SurveyedFiles.{survey_of-parts}
+use Rattle.moved_gains.specs.Change.{Change, retag, changed}
+use Rattle.edits.specs.Change.{Changing, changed_with, changing, changed_file}
+use Rattle.moved_gains.specs.Streams.{moved_stream_frame, moved_survey, IsStreamMoved}
+use Rattle.moved_gains.proofs.MovedSurvey.{surveyed-edited}
+use Rattle.moved_gains.proofs.MovedStream.{stream-edited}
+use Rattle.moved_gains.proofs.SurveyedFiles.{survey_of-parts}
 
 -- ---- what is made of a file
 

@@ -48,7 +48,7 @@ use Rattle.edits.specs.declared.fault.EditFault.{EditFault}
 use Rattle.edits.specs.declared.fault.EditFault.TheVariants.{Range}
 use Rattle.edits.specs.Chosen.{Chosen, outside_fault, choices_by, part_of, chosen_rows, plan_of, laid_frames, chosen_info, laid_from, chosen_file, chosen_stream, Choosing, laid_with, choosing, stream_with, stream_chosen_by, stream_chosen, chosen_with, cut_choice, pack_choice}
 use Rattle.edits.specs.One.{most_frames}
-use Rattle.edits.proofs.SurveyedFiles.{survey_of-parts}
+use Rattle.moved_gains.proofs.SurveyedFiles.{survey_of-parts}
 use Rattle.edits.proofs.OneLaws.{IsProper}
 use Rattle.edits.proofs.Proper.{unless_ok}
 use Rattle.edits.proofs.Refusals.{IsLate, err_late, unless_late}

@@ -4,7 +4,7 @@ use Rattle.std.proofs.lemmas.List.{drop_all}
 use Rattle.sync_survey.specs.declared.rows.Row.{Row}
 use Rattle.edits.specs.declared.fault.EditFault.{EditFault}
 use Rattle.edits.specs.Choice.{joint_at, or_else, joint_fault}
-use Rattle.edits.proofs.RangeLaws.{next_row}
+use Rattle.moved_gains.proofs.Rows.{next_row}
 
 pub joint-cons : (row : Row) (rows : List Row) → joint_fault (row ∷ rows) ≡ or_else (joint_at row) (joint_fault rows)
 unfolding joint_fault

@@ -15,7 +15,8 @@ use Rattle.laying.specs.Written.{front_blocks, back_blocks}
 use Rattle.laying.specs.Passing.{Appends as Adds, AppendsPrefix as AddsPrefix, HasPassCause}
 use Rattle.sync_survey.specs.declared.rows.Row.{Row}
 use Rattle.sync_survey.specs.Faults.{SurveyFields}
-use Rattle.edits.specs.Pass.{Appends, AppendsPrefix, HasCopyCause, of_relay, of_pass}
+use Rattle.moved_gains.specs.Pass.{Appends, AppendsPrefix, HasCopyCause}
+use Rattle.edits.specs.PassFaults.{of_relay, of_pass}
 use Rattle.edits.specs.Chosen.{Chosen, plan_of, laid_from, chosen_file, IsChosenInfo}
 use Rattle.edits.specs.One.{Making, IsInputFault}
 use Rattle.edits.specs.Left.{seen}

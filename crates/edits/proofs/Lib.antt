@@ -1,21 +1,7 @@
 -- The lemmas of this crate.
-pub mod MovedGains
 pub mod RangeLaws
 pub mod JointLaws
-pub mod MovingLaws
-pub mod WrittenLaws
-pub mod PassLaws
 pub mod OutputLaws
-pub mod GainsLaws
-pub mod MovedFrame
-pub mod EditedItems
-pub mod EditedRuns
-pub mod LostOffsets
-pub mod MovedSurvey
-pub mod MovedStream
-pub mod SurveyedFiles
-pub mod TagPlaces
-pub mod WrittenTag
 pub mod FileTags
 pub mod ChangedStream
 pub mod UndoPlaces
@@ -26,10 +12,7 @@ pub mod Proper
 pub mod ThingsLaws
 pub mod ListingLaws
 pub mod ListLaws
-pub mod FramesThere
-pub mod MovedAgain
 pub mod RangeAgain
-pub mod TaggedAgain
 pub mod NoStep
 pub mod NotedAgain
 pub mod UndoneGains

@@ -20,7 +20,7 @@ use Rattle.edits.specs.Left.{seen, IsDone, IsRefused, TakesMemory, Leaves}
 use Rattle.edits.specs.Said.{IsText}
 use Rattle.edits.specs.Listing.{listed_by, listed_where, listing, list_command}
 use Rattle.edits.proofs.OneLaws.{of_bytes_behind, ok_made}
-use Rattle.edits.proofs.SurveyedFiles.{survey_of-parts}
+use Rattle.moved_gains.proofs.SurveyedFiles.{survey_of-parts}
 
 made_is : (a b : Made) → ok_made a ≡ ok_made b → a ≡ b
 made_is a b e = cc

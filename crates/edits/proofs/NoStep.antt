@@ -14,21 +14,21 @@ use Rattle.sync_survey.specs.MainData.{StreamFrame, main_bytes, side_of, stream_
 use Rattle.sync_survey.specs.Faults.{SurveyFields, surveyed, stream_of_survey}
 use Rattle.file_tag.specs.Places.{with_tag}
 use Rattle.file_tag.specs.Laws.{own_bytes}
-use Rattle.edits.specs.declared.shift.Steps.{Steps}
-use Rattle.edits.specs.Gains.{moved_side}
-use Rattle.edits.specs.Edited.{edited}
-use Rattle.edits.specs.Streams.{moved_survey, without_junk, moved_stream_frame}
-use Rattle.edits.specs.Moving.{row_length, row_end, moved_row_bytes, bytes_between}
-use Rattle.edits.proofs.MovedGains.{GainsFit, IsNoStep, side_none}
-use Rattle.edits.proofs.MovedFrame.{frame_none}
-use Rattle.edits.proofs.MovingLaws.{written-edited}
-use Rattle.edits.proofs.WrittenLaws.{EndBy, end_rises, moved_to}
-use Rattle.edits.proofs.TagPlaces.{IsAmong, IsInFront, stands_somewhere}
-use Rattle.edits.proofs.MovedStream.{counts_shaped}
-use Rattle.edits.proofs.FramesThere.{frame_of, IsFrameOf, AreFramesOf, row_shaped, frames_there}
-use Rattle.edits.proofs.MovedAgain.{moved_whole_to}
+use Rattle.moved_gains.specs.declared.shift.Steps.{Steps}
+use Rattle.moved_gains.specs.Gains.{moved_side}
+use Rattle.moved_gains.specs.Edited.{edited}
+use Rattle.moved_gains.specs.Streams.{moved_survey, without_junk, moved_stream_frame}
+use Rattle.moved_gains.specs.Moving.{row_length, row_end, moved_row_bytes, bytes_between}
+use Rattle.moved_gains.proofs.MovedGains.{GainsFit, IsNoStep, side_none}
+use Rattle.moved_gains.proofs.MovedFrame.{frame_none}
+use Rattle.moved_gains.proofs.MovingLaws.{written-edited}
+use Rattle.moved_gains.proofs.WrittenLaws.{EndBy, end_rises, moved_to}
+use Rattle.moved_gains.proofs.TagPlaces.{IsAmong, IsInFront, stands_somewhere}
+use Rattle.moved_gains.proofs.MovedStream.{counts_shaped}
+use Rattle.moved_gains.proofs.FramesThere.{frame_of, IsFrameOf, AreFramesOf, row_shaped, frames_there}
+use Rattle.moved_gains.proofs.MovedAgain.{moved_whole_to}
 use Rattle.edits.proofs.RangeAgain.{row_fits}
-use Rattle.edits.proofs.TaggedAgain.{parted_front, parted_among}
+use Rattle.moved_gains.proofs.TaggedAgain.{parted_front, parted_among}
 
 -- ---- the bytes
 

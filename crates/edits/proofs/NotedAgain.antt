@@ -20,12 +20,12 @@ use Rattle.file_tag.specs.Reading.{longest_tag, in_file, tag_of_block, file_tag}
 use Rattle.sync_survey.specs.Faults.{SurveyFields, longest_file}
 use Rattle.edits.specs.declared.fault.EditFault.{EditFault}
 use Rattle.edits.specs.declared.fault.EditFault.TheVariants.{UndoRange}
-use Rattle.edits.specs.declared.shift.Shift.{Shift}
-use Rattle.edits.specs.Edited.{range_fault}
-use Rattle.edits.specs.Gains.{steps_of}
+use Rattle.moved_gains.specs.declared.shift.Shift.{Shift}
+use Rattle.edits.specs.Range.{range_fault}
+use Rattle.moved_gains.specs.Gains.{steps_of}
 use Rattle.edits.specs.Choice.{or_else, then_made, channel_fault}
 use Rattle.edits.specs.Noted.{tag_read, noted_undo, next_undo, number_fault, undo_fault, tag_with, tag_without, output_length, size_fault, output_fault}
-use Rattle.edits.specs.Change.{Change}
+use Rattle.moved_gains.specs.Change.{Change}
 use Rattle.edits.specs.Gain.{noted_change, tagged_change, gain_change}
 use Rattle.edits.proofs.Proper.{unless_ok}
 

@@ -18,7 +18,7 @@ use Rattle.edits.specs.Kinds.{of_survey, HasRightNumbers}
 use Rattle.edits.specs.One.{Making, most_frames, made_by, made_file, made_where, made_result, made_of, one_command, holding, RefusesFile, RefusesInput, IsFileFaultBy, IsFileFault, IsInputFaultBy, IsInputFault, HoldsPrefix, IsPassFaultBy, IsPassFault}
 use Rattle.edits.specs.Command.{Made, clash_of, Gives, written, written_to, MakesStreams, HoldsStreams}
 use Rattle.edits.specs.Left.{Why, Refused, Missing, Unread, Shorter, Unwritten, Unsent, NoMemory, why_of, Seen, seen, IsDone, IsWrittenTo, TakesMemory, is_before_memory, LeavesBy, Leaves, HasNumbers, IsOfSurvey, IsOfInput, IsOfPass, IsRefusal}
-use Rattle.edits.proofs.SurveyedFiles.{survey_of-parts, survey_of-sound}
+use Rattle.moved_gains.proofs.SurveyedFiles.{survey_of-parts, survey_of-sound}
 
 -- what has to hold of a command that makes one file of one
 pub record IsProper (make : Making) (stream : List ℕ → List StreamFrame) : Type 0 where

@@ -9,28 +9,30 @@ use Rattle.sync_survey.specs.Survey.{survey_of}
 use Rattle.sync_survey.proofs.FoldersLaws.{survey_of-short}
 use Rattle.edits.specs.declared.fault.EditFault.{EditFault}
 use Rattle.edits.specs.declared.fault.EditFault.TheVariants.{Mono, Joint}
-use Rattle.edits.specs.declared.shift.Channels.{Channels}
-use Rattle.edits.specs.declared.shift.Channels.TheVariants.{Both, Left, Right}
-use Rattle.edits.specs.declared.shift.Shift.{Shift}
-use Rattle.edits.specs.declared.shift.Steps.{Steps}
-use Rattle.edits.specs.Gains.{left_steps_of, right_steps_of, steps_of}
+use Rattle.moved_gains.specs.declared.shift.Channels.{Channels}
+use Rattle.moved_gains.specs.declared.shift.Channels.TheVariants.{Both, Left, Right}
+use Rattle.moved_gains.specs.declared.shift.Shift.{Shift}
+use Rattle.moved_gains.specs.declared.shift.Steps.{Steps}
+use Rattle.moved_gains.specs.Gains.{left_steps_of, right_steps_of, steps_of}
 use Rattle.edits.specs.Choice.{or_else, unless, are_both, is_joint, joint_at, joint_fault, apart_fault, channel_fault}
-use Rattle.edits.specs.Edited.{edited, range_fault}
-use Rattle.edits.specs.Streams.{moved_row, junk_length, moved_survey, without_junk}
+use Rattle.moved_gains.specs.Edited.{edited}
+use Rattle.edits.specs.Range.{range_fault}
+use Rattle.moved_gains.specs.Streams.{moved_row, junk_length, moved_survey, without_junk}
 use Rattle.edits.specs.One.{most_frames}
-use Rattle.edits.specs.Change.{Change, changed, changed_file}
+use Rattle.moved_gains.specs.Change.{Change, changed}
+use Rattle.edits.specs.Change.{changed_file}
 use Rattle.edits.specs.Gain.{gain_change}
 use Rattle.edits.specs.Undoing.{opposite, OppositeGivesBack}
 use Rattle.edits.proofs.JointLaws.{joint-cons, joint-nil}
-use Rattle.edits.proofs.MovingLaws.{moved_from, written-edited}
-use Rattle.edits.proofs.WrittenLaws.{EndBy, moved_to}
-use Rattle.edits.proofs.TagPlaces.{StandsSomewhere, stands_somewhere}
-use Rattle.edits.proofs.MovedSurvey.{surveyed-edited}
-use Rattle.edits.proofs.SurveyedFiles.{survey_of-parts}
+use Rattle.moved_gains.proofs.MovingLaws.{moved_from, written-edited}
+use Rattle.moved_gains.proofs.WrittenLaws.{EndBy, moved_to}
+use Rattle.moved_gains.proofs.TagPlaces.{StandsSomewhere, stands_somewhere}
+use Rattle.moved_gains.proofs.MovedSurvey.{surveyed-edited}
+use Rattle.moved_gains.proofs.SurveyedFiles.{survey_of-parts}
 use Rattle.edits.proofs.ChangedStream.{changed-ok}
 use Rattle.edits.proofs.Proper.{unless_ok}
-use Rattle.edits.proofs.FramesThere.{AreFramesOf, frames_there}
-use Rattle.edits.proofs.MovedAgain.{AreTogether, stood, AreMovedBy, moved_again, moved_whole_to}
+use Rattle.moved_gains.proofs.FramesThere.{AreFramesOf, frames_there}
+use Rattle.moved_gains.proofs.MovedAgain.{AreTogether, stood, AreMovedBy, moved_again, moved_whole_to}
 use Rattle.edits.proofs.RangeAgain.{range_back}
 use Rattle.edits.proofs.NoStep.{edited_still}
 use Rattle.edits.proofs.NotedAgain.{none_first}

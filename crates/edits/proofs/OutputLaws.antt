@@ -3,11 +3,12 @@ use Rattle.std.proofs.Common.{◌≡◌, ◌≢◌, ℕ, List, [], ◌++◌, len
 use Rattle.outside.specs.Files.{Files, untold, emptied, appended, with_file, Holds}
 use Rattle.outside.specs.Counts.{Counts, Rose, NoneFell, NothingFailed}
 use Rattle.outside.proofs.FilesLaws.{with_file_here, with_file_other, with_file_twice, emptied_told, appended_told}
-use Rattle.edits.specs.declared.moving.CopyFault.{CopyFault}
-use Rattle.edits.specs.declared.moving.CopyFault.TheVariants.{Read, Shrunk, Write}
+use Rattle.moved_gains.specs.declared.moving.CopyFault.{CopyFault}
+use Rattle.moved_gains.specs.declared.moving.CopyFault.TheVariants.{Read, Shrunk, Write}
 use Rattle.edits.specs.One.{holding, IsBegun, IsPassFault}
 use Rattle.edits.specs.Left.{seen, IsOfPass}
-use Rattle.edits.specs.Pass.{Appends, AppendsPrefix, HasCopyCause, of_pass}
+use Rattle.moved_gains.specs.Pass.{Appends, AppendsPrefix, HasCopyCause}
+use Rattle.edits.specs.PassFaults.{of_pass}
 
 -- emptied and then appended to, the output holds these bytes
 appended-emptied : (files : Files) (name bytes : List ℕ) → appended (emptied files name) name bytes ≡ holding files name bytes

@@ -13,19 +13,20 @@ use Rattle.file_tag.specs.Reading.{file_tag}
 use Rattle.sync_survey.specs.Faults.{SurveyFields}
 use Rattle.sync_survey.specs.Survey.{survey_of}
 use Rattle.edits.specs.declared.fault.EditFault.{EditFault}
-use Rattle.edits.specs.declared.shift.Shift.{Shift}
-use Rattle.edits.specs.declared.shift.Steps.{Steps}
-use Rattle.edits.specs.Edited.{range_fault}
-use Rattle.edits.specs.Gains.{steps_of}
+use Rattle.moved_gains.specs.declared.shift.Shift.{Shift}
+use Rattle.moved_gains.specs.declared.shift.Steps.{Steps}
+use Rattle.edits.specs.Range.{range_fault}
+use Rattle.moved_gains.specs.Gains.{steps_of}
 use Rattle.edits.specs.Choice.{or_else, unless, then_made, channel_fault}
 use Rattle.edits.specs.Noted.{tag_read, noted_undo, found_undo, undo_steps, next_undo, undo_fault, tag_with, tag_without, bytes_unless_empty, size_fault, output_fault}
 use Rattle.edits.specs.One.{most_frames}
-use Rattle.edits.specs.Change.{Change, Changing, changed_with, changing}
-use Rattle.edits.specs.Streams.{moved_stream_frame, stream_in}
+use Rattle.moved_gains.specs.Change.{Change}
+use Rattle.edits.specs.Change.{Changing, changed_with, changing}
+use Rattle.moved_gains.specs.Streams.{moved_stream_frame, stream_in}
 use Rattle.sync_survey.specs.Faults.{HoldsStream}
 use Rattle.edits.specs.Gain.{plain_change, noted_change, tagged_change, gain_change}
 use Rattle.edits.specs.Undo.{undone_change, undo_change, steps_when, steps_by, steps_back}
-use Rattle.edits.proofs.SurveyedFiles.{survey_of-parts}
+use Rattle.moved_gains.proofs.SurveyedFiles.{survey_of-parts}
 use Rattle.edits.proofs.ChangedStream.{change_cases, changed-stream, moved_holds}
 use Rattle.edits.proofs.FileTags.{file_tag-is}
 use Rattle.edits.proofs.OneLaws.{IsProper}

@@ -10,15 +10,16 @@ use Rattle.side_info.proofs.SideLaws.{IsShaped, side_with, each_shaped}
 use Rattle.sync_survey.specs.declared.rows.Row.{Row}
 use Rattle.frame_header.specs.Tables.{class_of}
 use Rattle.edits.specs.declared.fault.EditFault.{EditFault}
-use Rattle.edits.specs.declared.gains.Stuck.{Stuck}
-use Rattle.edits.specs.declared.shift.Steps.{Steps}
-use Rattle.edits.specs.Gains.{is_silent_granule, is_outside, moved_gain, moved, moved_side, moved_unless, stuck_at, stuck_in}
-use Rattle.edits.specs.Edited.{stuck_fault, stuck_of, range_fault}
-use Rattle.edits.proofs.MovedGains.{rem, within, gain_as_is, moved-loud, is_stuck, GainsFit, IsNoStep, none_of, none_then, AreFree, free-parts, wrapped-free, side_then}
-use Rattle.edits.proofs.MovedFrame.{whole_class, gains_fit}
+use Rattle.moved_gains.specs.declared.gains.Stuck.{Stuck}
+use Rattle.moved_gains.specs.declared.shift.Steps.{Steps}
+use Rattle.moved_gains.specs.Gains.{is_silent_granule, is_outside, moved_gain, moved, moved_side, moved_unless, stuck_at, stuck_in}
+use Rattle.moved_gains.specs.Edited.{stuck_of}
+use Rattle.edits.specs.Range.{stuck_fault, range_fault}
+use Rattle.moved_gains.proofs.MovedGains.{rem, within, gain_as_is, moved-loud, is_stuck, GainsFit, IsNoStep, none_of, none_then, AreFree, free-parts, wrapped-free, side_then}
+use Rattle.moved_gains.proofs.MovedFrame.{whole_class, gains_fit}
 use Rattle.edits.proofs.RangeLaws.{range-cons, range-nil}
-use Rattle.edits.proofs.FramesThere.{frame_of, IsFrameOf, AreFramesOf, row_shaped}
-use Rattle.edits.proofs.MovedAgain.{AreTogether, stood}
+use Rattle.moved_gains.proofs.FramesThere.{frame_of, IsFrameOf, AreFramesOf, row_shaped}
+use Rattle.moved_gains.proofs.MovedAgain.{AreTogether, stood}
 
 -- ---- two changes together
 

@@ -1,18 +1,13 @@
 -- The first gain that would leave its range, one frame at a time.
 use Rattle.std.proofs.Common.{◌≡◌, ℕ, suc, ◌+◌, ◌<◌, ◌≤◌, List, [], ◌∷◌, length, get_or, drop, Option, Some, None, refl, sym, ◌∙◌, ap, arith}
-use Rattle.std.proofs.Math.Seq.{drop-cons}
 use Rattle.std.proofs.lemmas.List.{drop_all}
 use Rattle.sync_survey.specs.declared.rows.Row.{Row}
+use Rattle.moved_gains.proofs.Rows.{next_row}
 use Rattle.edits.specs.declared.fault.EditFault.{EditFault}
-use Rattle.edits.specs.declared.gains.Stuck.{Stuck}
-use Rattle.edits.specs.declared.shift.Steps.{Steps}
-use Rattle.edits.specs.Edited.{stuck_fault, stuck_of, range_fault}
-
--- the item at i, and those behind it
-pub next_row : (rows : List Row) (i : ℕ) (d : Row) → i < length rows → drop i rows ≡ get_or rows i d ∷ drop (i + 1) rows
-next_row rows i d lt =
-    let one : suc i ≡ i + 1 = omega arith in
-    drop-cons rows i d lt ∙ ap (λ n. get_or rows i d ∷ drop n rows) one
+use Rattle.moved_gains.specs.declared.gains.Stuck.{Stuck}
+use Rattle.moved_gains.specs.declared.shift.Steps.{Steps}
+use Rattle.moved_gains.specs.Edited.{stuck_of}
+use Rattle.edits.specs.Range.{stuck_fault, range_fault}
 
 pub range-cons : (steps : Steps) (row : Row) (rows : List Row) → range_fault steps (row ∷ rows) ≡ stuck_fault row.offset (stuck_of steps row) (range_fault steps rows)
 unfolding range_fault

@@ -11,10 +11,11 @@ use Rattle.sync_survey.specs.declared.rows.Row.{Row}
 use Rattle.sync_survey.specs.Faults.{SurveyFields}
 use Rattle.edits.specs.declared.fault.EditFault.{EditFault}
 use Rattle.edits.specs.declared.fault.EditFault.TheVariants.{Mono, Joint, UndoRange}
-use Rattle.edits.specs.declared.gains.Stuck.{Stuck}
-use Rattle.edits.specs.declared.shift.Shift.{Shift}
-use Rattle.edits.specs.declared.shift.Steps.{Steps}
-use Rattle.edits.specs.Edited.{stuck_fault, stuck_of, range_fault}
+use Rattle.moved_gains.specs.declared.gains.Stuck.{Stuck}
+use Rattle.moved_gains.specs.declared.shift.Shift.{Shift}
+use Rattle.moved_gains.specs.declared.shift.Steps.{Steps}
+use Rattle.moved_gains.specs.Edited.{stuck_of}
+use Rattle.edits.specs.Range.{stuck_fault, range_fault}
 use Rattle.edits.specs.Choice.{or_else, unless, then_made, is_joint, joint_fault, are_both, apart_fault, channel_fault}
 use Rattle.edits.specs.Noted.{tag_read, noted_undo, found_undo, number_fault, undo_fault, size_fault, output_fault}
 use Rattle.edits.specs.Left.{is_before_memory}

@@ -1,14 +1,11 @@
--- Why the tag isn't read, as a fault of the command; and where the tag stands.
+-- Why the tag isn't read, as a fault of the command.
 use Rattle.std.proofs.Common.{◌≡◌, ℕ, ◌+◌, ◌≤◌, List, Option, Some, None, Ok, Err, refl, sym, ◌∙◌, ap, ap₂, subst, inl, inr, arith}
 use Rattle.std.specs.Prelude.{◌⊎◌}
 use Rattle.outside.specs.Files.{Files, Holds, IsThere}
 use Rattle.outside.specs.Counts.{Counts}
 use Rattle.file_tag.specs.declared.fault.FileTagFault.{FileTagFault}
 use Rattle.file_tag.specs.declared.fault.FileTagFault.TheVariants.{TooLarge, Bad, Read, Shrunk, Memory as NoRoom}
-use Rattle.file_tag.specs.Places.{tag_block, tag_at, tag_length}
 use Rattle.file_tag.specs.Reading.{file_tag, IsTagCause}
-use Rattle.file_tag.proofs.FoundTag.{tag-within, last-within}
-use Rattle.sync_survey.specs.declared.places.Piece.{Piece}
 use Rattle.sync_survey.specs.Faults.{SurveyFields, longest_file}
 use Rattle.sync_survey.specs.Survey.{survey_of, IsLaidOut}
 use Rattle.edits.specs.declared.fault.EditFault.{EditFault}
@@ -19,22 +16,6 @@ use Rattle.edits.specs.One.{IsInputFault}
 use Rattle.edits.specs.Noted.{of_tag}
 use Rattle.edits.specs.Left.{seen, IsOfInput, IsRefusal}
 use Rattle.edits.proofs.OneLaws.{refusal_is_input, memory_is_input}
-use Rattle.edits.proofs.TagPlaces.{tag_some, tag_none}
-
--- the tag, or the place for one, is within the file
-pub tag_at-most : (s : SurveyFields) → IsLaidOut s → tag_at s ≤ longest_file
-tag_at-most s laid = at (tag_block s) refl
-  where
-    at : (o : Option Piece) → tag_block s ≡ o → tag_at s ≤ longest_file
-    at None none = omega (arith, (tag_none s none).0, last-within s laid)
-    at (Some b) some = omega (arith, (tag_some s b some).0, tag-within s b laid some, laid.few)
-
-pub tag_end-most : (s : SurveyFields) → IsLaidOut s → tag_at s + tag_length s ≤ longest_file
-tag_end-most s laid = at (tag_block s) refl
-  where
-    at : (o : Option Piece) → tag_block s ≡ o → tag_at s + tag_length s ≤ longest_file
-    at None none = omega (arith, (tag_none s none).0, (tag_none s none).1, last-within s laid)
-    at (Some b) some = omega (arith, (tag_some s b some).0, (tag_some s b some).1, tag-within s b laid some, laid.few)
 
 module _ (of : Changing) (name : List ℕ) (files new : Files) (before after : Counts) (same : new ≡ files) (s : SurveyFields) (there : IsThere files name)
     (is : (bytes : List ℕ) → Holds files name bytes → survey_of bytes most_frames ≡ Ok s) where

@@ -22,29 +22,31 @@ use Rattle.sync_survey.specs.Survey.{survey_of}
 use Rattle.sync_survey.proofs.FoldersLaws.{survey_of-short}
 use Rattle.sync_survey.proofs.SurveyParts.{surveyed-stream}
 use Rattle.edits.specs.declared.fault.EditFault.{EditFault}
-use Rattle.edits.specs.declared.shift.Shift.{Shift}
-use Rattle.edits.specs.declared.shift.Steps.{Steps}
+use Rattle.moved_gains.specs.declared.shift.Shift.{Shift}
+use Rattle.moved_gains.specs.declared.shift.Steps.{Steps}
 use Rattle.edits.specs.Choice.{unless, then_made}
-use Rattle.edits.specs.Edited.{edited, range_fault}
-use Rattle.edits.specs.Gains.{steps_of}
+use Rattle.moved_gains.specs.Edited.{edited}
+use Rattle.edits.specs.Range.{range_fault}
+use Rattle.moved_gains.specs.Gains.{steps_of}
 use Rattle.edits.specs.Noted.{tag_read, no_undo, noted_undo, found_undo, undo_steps, next_undo, tag_with, tag_without, bytes_unless_empty}
-use Rattle.edits.specs.Streams.{junk_length, moved_survey, without_junk}
+use Rattle.moved_gains.specs.Streams.{junk_length, moved_survey, without_junk}
 use Rattle.edits.specs.One.{most_frames}
-use Rattle.edits.specs.Change.{Change, Changing, changed, changed_file}
+use Rattle.moved_gains.specs.Change.{Change, changed}
+use Rattle.edits.specs.Change.{Changing, changed_file}
 use Rattle.edits.specs.Gain.{gain_change}
 use Rattle.edits.specs.Undo.{undone_change, undo_change}
 use Rattle.edits.specs.Undoing.{gained_by_all, tidied, HasNoEmptyTag, IsGivenBack, UndoGivesBack}
-use Rattle.edits.proofs.MovedGains.{sum_of, IsNoStep}
-use Rattle.edits.proofs.TagPlaces.{tag_none}
-use Rattle.edits.proofs.WrittenTag.{length_moved}
-use Rattle.edits.proofs.SurveyedFiles.{survey_of-parts}
+use Rattle.moved_gains.proofs.MovedGains.{sum_of, IsNoStep}
+use Rattle.moved_gains.proofs.TagPlaces.{tag_none}
+use Rattle.moved_gains.proofs.WrittenTag.{length_moved}
+use Rattle.moved_gains.proofs.SurveyedFiles.{survey_of-parts}
 use Rattle.edits.proofs.ChangedStream.{changed-parts, changed-ok, changed_survey, surveyed-changed, stream-changed}
 use Rattle.edits.proofs.Proper.{then_ok}
 use Rattle.edits.proofs.FileTags.{file_tag-is, file_tag-none, same_tag}
-use Rattle.edits.proofs.FramesThere.{AreFramesOf, frames_there}
-use Rattle.edits.proofs.MovedAgain.{AreTogether, stood}
+use Rattle.moved_gains.proofs.FramesThere.{AreFramesOf, frames_there}
+use Rattle.moved_gains.proofs.MovedAgain.{AreTogether, stood}
 use Rattle.edits.proofs.RangeAgain.{range_both, range_back}
-use Rattle.edits.proofs.TaggedAgain.{new, new_survey, to, new_is, has_block, new_frames, new_long, clean_survey, changed_again}
+use Rattle.moved_gains.proofs.TaggedAgain.{new, new_survey, to, new_is, has_block, new_frames, new_long, clean_survey, changed_again}
 use Rattle.edits.proofs.NoStep.{edited_still, own_again, stream_still}
 use Rattle.edits.proofs.NotedAgain.{sum_again, sum_first, tag_without_none, tag_without_with, found_with, block_read, gain_noted}
 

@@ -4,9 +4,9 @@ use Rattle.sync_survey.specs.declared.rows.Row.{Row}
 use Rattle.sync_survey.specs.Faults.{SurveyFields}
 use Rattle.edits.specs.declared.fault.EditFault.{EditFault}
 use Rattle.edits.specs.declared.fault.EditFault.TheVariants.{Mono, Joint}
-use Rattle.edits.specs.declared.shift.Channels.{Channels}
-use Rattle.edits.specs.declared.shift.Channels.TheVariants.{Both}
-use Rattle.edits.specs.declared.shift.Shift.{Shift}
+use Rattle.moved_gains.specs.declared.shift.Channels.{Channels}
+use Rattle.moved_gains.specs.declared.shift.Channels.TheVariants.{Both}
+use Rattle.moved_gains.specs.declared.shift.Shift.{Shift}
 
 abbrev pub or_else : Option EditFault → Option EditFault → Option EditFault
 or_else (Some fault) later = Some fault

@@ -5,7 +5,7 @@ use Rattle.outside.specs.Files.{Contents, Files, with_file}
 use Rattle.sync_survey.specs.MainData.{StreamFrame}
 use Rattle.edits.specs.declared.fault.EditFault.{EditFault}
 use Rattle.sync_survey.specs.Faults.{IsWellFormed}
-use Rattle.edits.specs.Streams.{HoldsStream}
+use Rattle.moved_gains.specs.Streams.{HoldsStream}
 
 -- a file that a command writes
 pub record Output : Type 0 where

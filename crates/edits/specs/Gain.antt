@@ -7,12 +7,13 @@ use Rattle.file_tag.specs.Places.{tag_at}
 use Rattle.file_tag.specs.Reading.{file_tag}
 use Rattle.sync_survey.specs.Faults.{SurveyFields}
 use Rattle.edits.specs.declared.fault.EditFault.{EditFault}
-use Rattle.edits.specs.declared.shift.Shift.{Shift}
-use Rattle.edits.specs.Gains.{steps_of}
-use Rattle.edits.specs.Edited.{range_fault}
+use Rattle.moved_gains.specs.declared.shift.Shift.{Shift}
+use Rattle.moved_gains.specs.Gains.{steps_of}
+use Rattle.edits.specs.Range.{range_fault}
 use Rattle.edits.specs.Choice.{or_else, unless, then_made, channel_fault}
 use Rattle.edits.specs.Noted.{tag_read, noted_undo, next_undo, undo_fault, tag_with, size_fault, output_fault}
-use Rattle.edits.specs.Change.{Change, Changing, change_command}
+use Rattle.moved_gains.specs.Change.{Change}
+use Rattle.edits.specs.Change.{Changing, change_command}
 use Rattle.edits.specs.Command.{Command}
 
 -- Tags are neither read nor written: one channel can't change alone, or else a gain would leave the range.

@@ -1,16 +1,13 @@
 -- What the contracts of this crate cite.
 pub mod Kinds
-pub mod Gains
 pub mod Choice
-pub mod Edited
-pub mod Pass
-pub mod Streams
+pub mod Range
+pub mod PassFaults
 pub mod Command
 pub mod Left
 pub mod One
 pub mod Noted
 pub mod Change
-pub mod Moving
 pub mod Said
 pub mod Things
 pub mod Listing

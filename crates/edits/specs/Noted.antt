@@ -13,11 +13,11 @@ use Rattle.sync_survey.specs.declared.survey_fault.SurveyFault.TheVariants.{Read
 use Rattle.sync_survey.specs.Faults.{SurveyFields, longest_file}
 use Rattle.edits.specs.declared.fault.EditFault.{EditFault}
 use Rattle.edits.specs.declared.fault.EditFault.TheVariants.{Input, TagTooLarge, BadTag, NoUndo, BadUndo, UndoRange, OutputTooLong, Memory}
-use Rattle.edits.specs.declared.shift.Shift.{Shift}
-use Rattle.edits.specs.declared.shift.Steps.{Steps}
-use Rattle.edits.specs.Gains.{steps_of}
+use Rattle.moved_gains.specs.declared.shift.Shift.{Shift}
+use Rattle.moved_gains.specs.declared.shift.Steps.{Steps}
+use Rattle.moved_gains.specs.Gains.{steps_of}
 use Rattle.edits.specs.Choice.{or_else}
-use Rattle.edits.specs.Streams.{junk_length}
+use Rattle.moved_gains.specs.Streams.{junk_length}
 
 -- ---- the tag of the file
 

@@ -1,4 +1,5 @@
 -- A command that makes one file of one.
+pub use Rattle.moved_gains.specs.Limits.{most_frames}
 use Rattle.std.specs.Prelude.{◌≡◌, ◌⊎◌, ℕ, ◌≤◌, take, List, [], ◌∷◌, length, unwrap_or, Option, Some, None, Result, Ok, Err, option_map, bytes_eq, if◌then◌else◌}
 use Rattle.outside.specs.Files.{Contents, Files, untold, with_file, Holds, IsThere, IsMissing}
 use Rattle.outside.specs.Counts.{Rose, NothingFailed}
@@ -15,10 +16,6 @@ use Rattle.edits.specs.Left.{Why, Refused, Missing, Unread, Shorter, Unwritten, 
 -- what it makes of a file with this survey, or why it refuses it
 abbrev pub Making : Type 0
 Making = List ℕ → SurveyFields → Result (List ℕ) EditFault
-
--- an input may have so many frames
-abbrev pub most_frames : ℕ
-most_frames = 2900000
 
 abbrev pub made_by : Making → List ℕ → Result SurveyFields SurveyFault → Result (List ℕ) EditFault
 made_by make file (Err fault) = Err (Input 0 fault)

@@ -9,12 +9,13 @@ use Rattle.sync_survey.specs.declared.survey_fault.SurveyFault.{SurveyFault}
 use Rattle.sync_survey.specs.Faults.{SurveyFields}
 use Rattle.sync_survey.specs.Survey.{survey_of}
 use Rattle.edits.specs.declared.fault.EditFault.{EditFault}
-use Rattle.edits.specs.declared.shift.Steps.{Steps}
-use Rattle.edits.specs.Edited.{range_fault}
+use Rattle.moved_gains.specs.declared.shift.Steps.{Steps}
+use Rattle.edits.specs.Range.{range_fault}
 use Rattle.edits.specs.Choice.{unless, then_made}
 use Rattle.edits.specs.Noted.{tag_read, no_undo, found_undo, undo_steps, tag_without, bytes_unless_empty}
 use Rattle.edits.specs.One.{most_frames}
-use Rattle.edits.specs.Change.{Change, Changing, change_command}
+use Rattle.moved_gains.specs.Change.{Change}
+use Rattle.edits.specs.Change.{Changing, change_command}
 use Rattle.edits.specs.Command.{Command}
 
 -- by the steps of this undo: a gain would leave the range, or else the item goes, and with it a tag that has no other

@@ -9,10 +9,10 @@ use Rattle.file_tag.specs.Reading.{file_tag}
 use Rattle.sync_survey.specs.Faults.{SurveyFields, stream_of, HoldsStream}
 use Rattle.sync_survey.specs.Survey.{survey_of}
 use Rattle.edits.specs.declared.fault.EditFault.{EditFault}
-use Rattle.edits.specs.declared.shift.Shift.{Shift}
+use Rattle.moved_gains.specs.declared.shift.Shift.{Shift}
 use Rattle.edits.specs.Choice.{then_made}
 use Rattle.edits.specs.Noted.{no_undo, undo_steps, bytes_unless_empty}
-use Rattle.edits.specs.Streams.{moved_survey, without_junk}
+use Rattle.moved_gains.specs.Streams.{moved_survey, without_junk}
 use Rattle.edits.specs.One.{most_frames}
 use Rattle.edits.specs.Change.{changed_file}
 use Rattle.edits.specs.Gain.{gain_change}

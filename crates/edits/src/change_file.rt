@@ -5,15 +5,14 @@ ghost use Rattle.outside.specs.Files.{Holds, IsThere};
 ghost use Rattle.outside.specs.Counts.{NoneFell, OnlyReads};
 ghost use Rattle.sync_survey.specs.Faults.{tells};
 ghost use Rattle.sync_survey.specs.Survey.{survey_of, IsLaidOut};
-ghost use Rattle.edits.specs.Change.{changed, change_in};
+ghost use Rattle.moved_gains.specs.Change.{changed, change_in};
 ghost use Rattle.edits.specs.One.{Making, most_frames, holding, IsFileFault, IsInputFault, IsPassFault};
 ghost use Rattle.edits.specs.Kinds.{of_survey as of_survey_lem};
 ghost use Rattle.edits.specs.Left.{seen, IsOfSurvey, IsOfInput, IsOfPass};
 
-use crate::change::Change;
 use crate::fault::EditFault;
 use crate::limits::MOST_FRAMES;
-use crate::moving::write_changed;
+use moved_gains::{Change, write_changed};
 use outside::{Feed, Folder, WriteBuffer};
 use std::alloc::Global;
 use sync_survey::{Survey, SurveyFault, survey};

@@ -5,7 +5,7 @@ ghost use Rattle.edits.specs.Choice.{are_both, joint_at as joint_at_lem, joint_f
 ghost use Rattle.edits.specs.Left.{IsRefusal};
 
 use crate::fault::EditFault;
-use crate::shift::{Channels, Shift};
+use moved_gains::{Channels, Shift};
 use sync_survey::{Row, Survey};
 
 /// The mode of joint stereo (ISO/IEC 11172-3, 2.4.2.3).

@@ -11,21 +11,33 @@ ghost use Rattle.frame_writer.specs.Frames.{IsNextSettled};
 ghost use Rattle.frame_writer.specs.Writing.{IsWriterOf};
 ghost use Rattle.sync_survey.specs.Faults.{tells};
 ghost use Rattle.sync_survey.specs.Survey.{survey_of, IsLaidOut};
-ghost use Rattle.edits.specs.Pass.{Appends, AppendsPrefix, HasCopyCause};
+ghost use Rattle.edits.specs.PassFaults.{of_relay};
+ghost use Rattle.moved_gains.specs.Pass.{Appends, AppendsPrefix, HasCopyCause};
 ghost use Rattle.edits.specs.One.{most_frames, holding, IsPassFault};
 ghost use Rattle.edits.specs.Left.{seen, IsOfPass};
 ghost use Rattle.edits.specs.Chosen.{chosen_in, chosen_file, plan_of, IsChosenInfo};
 
 use crate::chosen::Chosen;
 use crate::fault::EditFault;
-use crate::moving::CopyFault;
 use crate::planned::Planned;
 use frame_writer::Writer;
-use laying::Relay;
+use laying::{PassFault, Relay};
+use moved_gains::CopyFault;
 use outside::{Feed, Folder, WriteBuffer};
 use reservoir::Window;
 use std::alloc::Global;
 use sync_survey::Survey;
+
+/// The fault of a pass that lays frames anew.
+pub(crate) fn copy_fault(fault: PassFault) -> CopyFault
+    ensures { result ≡ of_relay fault }
+{
+    match fault {
+        PassFault::Read => CopyFault::Read,
+        PassFault::Shrunk(first, second) => CopyFault::Shrunk(first, second),
+        PassFault::Write => CopyFault::Write,
+    }
+}
 
 /// Appends the file of the chosen frames to the output. The writer is new, and the window may hold whatever it does. It takes
 /// no memory.
@@ -88,7 +100,7 @@ pub fn write_chosen<D: Folder>(
         waiting,
     ) {
         Ok(()) => Ok(()),
-        Err(fault) => Err(fault.into()),
+        Err(fault) => Err(copy_fault(fault)),
     }
 }
 

@@ -1,11 +1,11 @@
 //! The first gain that would leave its range.
 ghost use Rattle.std.specs.Prelude.{◌≡◌, IfSome};
-ghost use Rattle.edits.specs.Edited.{stuck_fault, stuck_of as stuck_of_lem, range_fault as range_fault_lem};
+ghost use Rattle.moved_gains.specs.Edited.{stuck_of as stuck_of_lem};
+ghost use Rattle.edits.specs.Range.{stuck_fault, range_fault as range_fault_lem};
 ghost use Rattle.edits.specs.Left.{IsRefusal};
 
 use crate::fault::EditFault;
-use crate::gains::{Stuck, stuck_in};
-use crate::shift::Steps;
+use moved_gains::{Steps, Stuck, stuck_in};
 use sync_survey::Row;
 
 /// The gain as a fault of the file, where its frame stands.

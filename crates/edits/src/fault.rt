@@ -4,11 +4,11 @@ ghost use Rattle.std.specs.Prelude.{◌≡◌};
 ghost use Rattle.edits.specs.declared.fault.EditFault.TheVariants.{Memory};
 ghost use Rattle.edits.specs.Kinds.{of_input};
 ghost use Rattle.edits.specs.Noted.{of_tag};
-ghost use Rattle.edits.specs.Pass.{of_pass};
+ghost use Rattle.edits.specs.PassFaults.{of_pass};
 
-use crate::moving::CopyFault;
 use cue_sheet::CueFault;
 use file_tag::FileTagFault;
+use moved_gains::CopyFault;
 use std::alloc::{AllocError, AllocFailed};
 use sync_survey::SurveyFault;
 

@@ -1,7 +1,6 @@
 //! The commands: from the files of a folder they make new ones, or are refused.
 #![tactic(auto)]
 
-mod change;
 mod change_file;
 mod choice;
 mod chosen;
@@ -10,16 +9,13 @@ mod cut_file;
 mod edit;
 mod fault;
 mod gain_file;
-mod gains;
 mod limits;
 mod line;
 mod lines;
 mod list_file;
-mod moving;
 mod noted;
 mod pack_file;
 mod planned;
-mod shift;
 mod things;
 mod undo_file;
 mod undoing;
@@ -30,12 +26,10 @@ pub use chosen_file::write_chosen;
 pub use cut_file::cut;
 pub use fault::EditFault;
 pub use gain_file::gain;
-pub use gains::Stuck;
 pub use limits::MOST_FRAMES;
 pub use list_file::list;
-pub use moving::CopyFault;
+pub use moved_gains::{Channels, CopyFault, Shift, Steps, Stuck};
 pub use pack_file::pack;
 pub use planned::{Planned, plan_file};
-pub use shift::{Channels, Shift, Steps};
 pub use undo_file::undo;
 pub use undoing::{opposite_gives_back, undo_gives_back};

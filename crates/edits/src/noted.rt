@@ -7,7 +7,7 @@ ghost use Rattle.edits.specs.Left.{IsRefusal};
 ghost use Rattle.edits.specs.Noted.{noted_undo as noted_undo_lem, found_undo as found_undo_lem, undo_steps as undo_steps_lem, next_undo as next_undo_lem, number_fault, undo_fault};
 
 use crate::fault::EditFault;
-use crate::shift::{Shift, Steps};
+use moved_gains::{Shift, Steps};
 use tag_blocks::{Tag, Undo, UndoItem};
 
 /// The undo item holds numbers of at most three digits.

@@ -11,9 +11,8 @@ ghost use Rattle.edits.specs.Left.{seen, IsDone, Leaves, HasNumbers, IsOfInput};
 
 use crate::change_file::survey_input;
 use crate::chosen::{Chosen, choose};
-use crate::chosen_file::write_planned;
+use crate::chosen_file::{copy_fault, write_planned};
 use crate::fault::EditFault;
-use crate::moving::CopyFault;
 use crate::planned::plan_file;
 use laying::kept_fields;
 use outside::Folder;
@@ -37,7 +36,7 @@ fn pack_choice<D: Folder>(folder: &mut D, name: &str, survey: &Survey) -> Result
 {
     let kept = match kept_fields(folder, name, survey) {
         Ok(kept) => kept,
-        Err(fault) => return Err(CopyFault::from(fault).into()),
+        Err(fault) => return Err(copy_fault(fault).into()),
     };
     let frames = survey.frames().len();
     choose(0, frames as u64, frames, true, kept)

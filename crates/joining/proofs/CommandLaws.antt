@@ -11,7 +11,7 @@ use Rattle.edits.specs.declared.fault.EditFault.TheVariants.{EqualNames, Input, 
 use Rattle.edits.specs.Command.{Made, Command, clash_from, clash_of, Gives, written, written_to, AreSound, MakesStreams, HoldsStreams}
 use Rattle.edits.specs.One.{most_frames, holding, HoldsPrefix, IsPassFaultBy, IsPassFault}
 use Rattle.edits.specs.Left.{Why, Refused, Missing, Unread, Shorter, Unwritten, Unsent, NoMemory, why_of, Seen, IsDone, IsWrittenTo, TakesMemory, LeavesBy, Leaves, HasNumbers}
-use Rattle.edits.proofs.SurveyedFiles.{survey_of-sound}
+use Rattle.moved_gains.proofs.SurveyedFiles.{survey_of-sound}
 use Rattle.edits.proofs.OneLaws.{ok_made}
 use Rattle.joining.specs.Join.{parts_of, joined_file, joined_stream, join_made, join_stream, join_command}
 use Rattle.joining.specs.Inputs.{IsOfJoin, AreInputs, CanBeJoined, parts_in, told_parts}

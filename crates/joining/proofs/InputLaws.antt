@@ -18,8 +18,8 @@ use Rattle.edits.specs.Choice.{then_made}
 use Rattle.edits.specs.Command.{Made, Command, clash_from, clash_of, Gives}
 use Rattle.edits.specs.One.{most_frames, NeedsMemory}
 use Rattle.edits.specs.Left.{Why, Refused, Missing, Unread, Shorter, Unwritten, Unsent, NoMemory, why_of, Seen, TakesMemory, is_before_memory, LeavesBy, Leaves}
-use Rattle.edits.proofs.SurveyedFiles.{survey_of-parts}
-use Rattle.edits.proofs.TagPlaces.{stands_somewhere}
+use Rattle.moved_gains.proofs.SurveyedFiles.{survey_of-parts}
+use Rattle.moved_gains.proofs.TagPlaces.{stands_somewhere}
 use Rattle.edits.proofs.OneLaws.{of_bytes_behind}
 use Rattle.edits.proofs.Refusals.{IsLate, then_late}
 use Rattle.joining.specs.Join.{whole_part, may_follow, part_by, part_of, parts_from, parts_of, joined_file, join_made, join_command}

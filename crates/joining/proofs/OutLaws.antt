@@ -21,7 +21,8 @@ use Rattle.sync_survey.specs.Faults.{SurveyFields}
 use Rattle.edits.specs.declared.fault.EditFault.{EditFault}
 use Rattle.edits.specs.One.{holding, IsPassFault}
 use Rattle.edits.specs.Left.{seen}
-use Rattle.edits.specs.Pass.{Appends, AppendsPrefix, of_relay}
+use Rattle.moved_gains.specs.Pass.{Appends, AppendsPrefix}
+use Rattle.edits.specs.PassFaults.{of_relay}
 use Rattle.edits.proofs.LaidPass.{appends-as, appends-as_prefix, relay-cause}
 use Rattle.edits.proofs.OutputLaws.{emptied_held, output_whole, output_prefix, told_whole, told_prefix, cause_counts}
 use Rattle.joining.specs.Join.{whole_part, plan_of, joined_frames, joined_file}

@@ -9,7 +9,7 @@ ghost use Rattle.sync_survey.specs.Faults.{tells};
 ghost use Rattle.edits.specs.One.{most_frames, holding, IsPassFault};
 ghost use Rattle.edits.specs.Command.{clash_from};
 ghost use Rattle.edits.specs.Left.{seen};
-ghost use Rattle.edits.specs.Pass.{Appends, AppendsPrefix};
+ghost use Rattle.moved_gains.specs.Pass.{Appends, AppendsPrefix};
 ghost use Rattle.joining.specs.Join.{joined_file};
 ghost use Rattle.joining.specs.Inputs.{IsOfJoin, AreInputs, CanBeJoined, told_parts};
 ghost use Rattle.joining.specs.Laying.{the_plan_of, FitsAll, IsJoinedInfo, AreSources, HasJoinCause};

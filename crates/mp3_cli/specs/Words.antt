@@ -7,8 +7,8 @@ use Rattle.std.specs.Str.Parse.{digits_value}
 use Rattle.cue_sheet.specs.declared.place.Place.{Place as StreamPlace}
 use Rattle.cue_sheet.specs.declared.place.Place.TheVariants.{End}
 use Rattle.cue_sheet.specs.Places.{place_of, IsPlace}
-use Rattle.edits.specs.declared.shift.Channels.{Channels}
-use Rattle.edits.specs.declared.shift.Channels.TheVariants.{Both, Left, Right}
+use Rattle.moved_gains.specs.declared.shift.Channels.{Channels}
+use Rattle.moved_gains.specs.declared.shift.Channels.TheVariants.{Both, Left, Right}
 use Rattle.mp3_cli.specs.declared.jobs.Job.{Job}
 use Rattle.mp3_cli.specs.declared.jobs.Job.TheVariants.{Help, Version, List as ListFile, Gain, Undo, Cut, Pack, SplitAt, SplitBy, Join}
 

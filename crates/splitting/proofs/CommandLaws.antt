@@ -23,7 +23,7 @@ use Rattle.edits.specs.Chosen.{Chosen, outside_fault, chosen_file, chosen_stream
 use Rattle.edits.specs.Command.{Made, Command, clash_of, Gives, written, written_to, AreStreams, HoldsStreams}
 use Rattle.edits.specs.Left.{Why, Refused, Missing, Unread, Shorter, Unwritten, Unsent, NoMemory, why_of, Seen, longest_sheet, IsDone, IsWrittenTo, TakesMemory, is_before_memory, LeavesBy, Leaves}
 use Rattle.edits.specs.One.{most_frames, IsFileFaultBy, IsFileFault}
-use Rattle.edits.proofs.SurveyedFiles.{survey_of-sound}
+use Rattle.moved_gains.proofs.SurveyedFiles.{survey_of-sound}
 use Rattle.edits.proofs.ChosenLaws.{cut_proper}
 use Rattle.splitting.specs.Split.{frames_between, with_first, chosen_from, chosen_at, pieces_from, made_of, made_at, made_by, made_where, unless_equal, made_result, streams_of, streams_at, streams_by, streams_where, Placing, split_command, given, with_end, places_in, places_where, told_by}
 use Rattle.splitting.specs.Steps.{IsSheetFaultBy, IsSheetFault, with_outputs, with_part, IsWrittenPart, IsMadeOf, IsSplitFaultBy, IsSplitFault}

@@ -8,13 +8,14 @@ use Rattle.outside.specs.Counts.{Counts, Rose, NoneFell, NothingFailed}
 use Rattle.outside.specs.Feed.{Fed, IsFedFrom}
 use Rattle.outside.proofs.FilesLaws.{there_holds, with_file_other}
 use Rattle.sync_survey.specs.Faults.{SurveyFields}
-use Rattle.edits.specs.declared.moving.CopyFault.{CopyFault}
-use Rattle.edits.specs.declared.moving.CopyFault.TheVariants.{Read, Shrunk, Write}
+use Rattle.moved_gains.specs.declared.moving.CopyFault.{CopyFault}
+use Rattle.moved_gains.specs.declared.moving.CopyFault.TheVariants.{Read, Shrunk, Write}
 use Rattle.edits.specs.Command.{Output, begun, written}
 use Rattle.edits.specs.Chosen.{chosen_in, chosen_file}
 use Rattle.edits.specs.One.{holding, HoldsPrefix, IsPassFault}
 use Rattle.edits.specs.Left.{seen}
-use Rattle.edits.specs.Pass.{Appends, AppendsPrefix, HasCopyCause, of_pass}
+use Rattle.moved_gains.specs.Pass.{Appends, AppendsPrefix, HasCopyCause}
+use Rattle.edits.specs.PassFaults.{of_pass}
 use Rattle.edits.proofs.OutputLaws.{emptied_held, output_whole, told_whole, told_prefix, pass_fault, cause_counts}
 use Rattle.splitting.specs.declared.piece.Piece.{Piece}
 use Rattle.splitting.specs.Steps.{output_of, outputs_of, with_outputs, with_part, IsWrittenPart, IsPiecesFault, of_piece, IsOfCopy}

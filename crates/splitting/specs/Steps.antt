@@ -15,8 +15,8 @@ use Rattle.edits.specs.declared.fault.EditFault.{EditFault}
 use Rattle.edits.specs.declared.fault.EditFault.TheVariants.{EqualNames, Input, Write as Unwritable, Differ, SheetTooLarge, Sheet, Sent, Memory}
 use Rattle.cue_sheet.specs.declared.place.Place.{Place}
 use Rattle.cue_sheet.specs.declared.cue_fault.CueFault.TheVariants.{Memory as NoSheetRoom}
-use Rattle.edits.specs.declared.moving.CopyFault.{CopyFault}
-use Rattle.edits.specs.declared.moving.CopyFault.TheVariants.{Read as CopyRead, Shrunk as CopyShrunk, Write as CopyWrite}
+use Rattle.moved_gains.specs.declared.moving.CopyFault.{CopyFault}
+use Rattle.moved_gains.specs.declared.moving.CopyFault.TheVariants.{Read as CopyRead, Shrunk as CopyShrunk, Write as CopyWrite}
 use Rattle.edits.specs.Kinds.{HasRightNumbers}
 use Rattle.edits.specs.Command.{Output, written, written_to}
 use Rattle.edits.specs.Left.{Why, Refused, Missing, Unread, Shorter, Unwritten, Unsent, NoMemory, why_of, Seen, longest_sheet}

@@ -7,7 +7,7 @@ ghost use Rattle.sync_survey.specs.Faults.{tells};
 ghost use Rattle.sync_survey.specs.Survey.{survey_of, IsLaidOut};
 ghost use Rattle.edits.specs.Chosen.{chosen_in, chosen_file};
 ghost use Rattle.edits.specs.One.{most_frames, holding, IsPassFault};
-ghost use Rattle.edits.specs.Pass.{of_pass};
+ghost use Rattle.edits.specs.PassFaults.{of_pass};
 ghost use Rattle.edits.specs.Left.{seen};
 ghost use Rattle.splitting.specs.Steps.{IsReady, CanBeWritten, outputs_of, with_outputs, IsPiecesFault, of_piece as of_piece_lem, IsOfPieces, IsOfCopy};
 

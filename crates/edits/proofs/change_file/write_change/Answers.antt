@@ -5,7 +5,7 @@ use Rattle.outside.proofs.FilesLaws.{emptied_there, emptied_keeps}
 use Rattle.outside.specs.Counts.{NoneFell}
 use Rattle.sync_survey.specs.Faults.{tells}
 use Rattle.edits.specs.Left.{seen}
-use Rattle.edits.specs.Change.{changed, change_in}
+use Rattle.moved_gains.specs.Change.{changed, change_in}
 use Rattle.edits.specs.One.{IsPassFault}
 use Rattle.edits.proofs.OutputLaws.{emptied_held, output_whole, told_whole, told_prefix, pass_fault, cause_counts}
 use Rattle.edits.proofs.change_file.write_change.Goals as goal

@@ -1,6 +1,6 @@
 -- The first stuck gain is found.
 use Rattle.std.proofs.Common.{None, sym, ◌∙◌, ap, arith}
-use Rattle.edits.specs.Edited.{stuck_fault}
+use Rattle.edits.specs.Range.{stuck_fault}
 use Rattle.edits.proofs.RangeLaws.{range_more, range_here, range_all}
 use Rattle.edits.proofs.edit.range_fault.Goals as goal
 

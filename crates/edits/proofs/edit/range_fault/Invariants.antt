@@ -1,6 +1,6 @@
 -- No gain of the frames before leaves its range.
 use Rattle.std.proofs.Common.{◌≡◌, drop}
-use Rattle.edits.specs.Edited.{range_fault}
+use Rattle.edits.specs.Range.{range_fault}
 use Rattle.edits.proofs.edit.range_fault.Given as goal
 
 abbrev pub invariant-loop-row : goal.invariant-loop-row

@@ -4,8 +4,9 @@ use Rattle.std.proofs.lemmas.Result.{err_from_is_err_and}
 use Rattle.outside.specs.Files.{Holds}
 use Rattle.sync_survey.specs.Faults.{tells}
 use Rattle.edits.specs.Left.{seen}
-use Rattle.edits.specs.Change.{changed, change_in, changed_with, changing}
-use Rattle.edits.specs.Streams.{moved_stream_frame, stream_in}
+use Rattle.moved_gains.specs.Change.{changed, change_in}
+use Rattle.edits.specs.Change.{changed_with, changing}
+use Rattle.moved_gains.specs.Streams.{moved_stream_frame, stream_in}
 use Rattle.edits.specs.Undo.{undo_change, steps_back}
 use Rattle.edits.proofs.OneLaws.{IsFree, equal_left, clashes, input_left, input_behind, input_numbers, done_behind, left_behind, streams_behind}
 use Rattle.edits.proofs.Proper.{undo_proper}

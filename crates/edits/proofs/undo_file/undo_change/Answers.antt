@@ -12,12 +12,13 @@ use Rattle.file_tag.specs.Reading.{file_tag}
 use Rattle.sync_survey.specs.Faults.{SurveyFields, tells, longest_file}
 use Rattle.edits.specs.declared.fault.EditFault.{EditFault}
 use Rattle.edits.specs.declared.fault.EditFault.TheVariants.{Memory}
-use Rattle.edits.specs.declared.change.Change.{Change as CodeChange}
-use Rattle.edits.specs.Change.{Change, change_in}
+use Rattle.moved_gains.specs.declared.change.Change.{Change as CodeChange}
+use Rattle.moved_gains.specs.Change.{Change, change_in}
 use Rattle.edits.specs.Undo.{undone_change, undo_change}
 use Rattle.edits.specs.Noted.{of_tag, found_undo}
 use Rattle.edits.specs.Left.{IsRefusal}
-use Rattle.edits.proofs.TagFaults.{tag_at-most, tag_is_input, choice_is_input}
+use Rattle.edits.proofs.TagFaults.{tag_is_input, choice_is_input}
+use Rattle.moved_gains.proofs.TagEnds.{tag_at-most}
 use Rattle.edits.proofs.undo_file.undo_change.Goals as goal
 
 -- ---- what the definition says

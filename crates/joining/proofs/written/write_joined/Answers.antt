@@ -8,7 +8,7 @@ use Rattle.frame_writer.proofs.WritingLaws.{ok-map}
 use Rattle.sync_survey.specs.Faults.{SurveyFields, tells}
 use Rattle.edits.specs.One.{most_frames, IsPassFault}
 use Rattle.edits.specs.Left.{seen}
-use Rattle.edits.specs.Pass.{Appends, AppendsPrefix}
+use Rattle.moved_gains.specs.Pass.{Appends, AppendsPrefix}
 use Rattle.edits.proofs.OutputLaws.{told_whole, told_prefix}
 use Rattle.joining.specs.Join.{joined_file}
 use Rattle.joining.specs.Inputs.{CanBeJoined, AreAlike, told_parts}

@@ -2,9 +2,9 @@
 use Rattle.std.proofs.Common.{◌≢◌, ℕ, List, [], ◌∷◌, map, string_bytes, Some, Bor, ap, subst, ◌∙◌}
 use Rattle.edits.specs.Left.{seen}
 use Rattle.edits.specs.Said.{heard, fault_of}
-use Rattle.edits.specs.Gains.{steps_of}
+use Rattle.moved_gains.specs.Gains.{steps_of}
 use Rattle.edits.specs.Change.{changing}
-use Rattle.edits.specs.Streams.{moved_stream_frame, stream_in}
+use Rattle.moved_gains.specs.Streams.{moved_stream_frame, stream_in}
 use Rattle.edits.specs.Gain.{gain_change}
 use Rattle.edits.specs.Undo.{undo_change, steps_back}
 use Rattle.edits.specs.Chosen.{choosing, stream_chosen, cut_choice, pack_choice}

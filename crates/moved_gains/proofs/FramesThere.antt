@@ -1,0 +1,67 @@
+-- The frames that a survey tells are whole in the file, with their side information, and with right check words.
+use Rattle.std.proofs.Common.{◌≡◌, ℕ, Bool, true, false, cond, List, [], ◌∷◌, length, take, drop, Ok, sym, ◌∙◌, ap, subst, pos}
+use Rattle.bit_fields.specs.Bits.{AreBytes}
+use Rattle.side_info.specs.Frame.{side_in, frame_with}
+use Rattle.side_info.specs.declared.side.Side.{Side}
+use Rattle.side_info.proofs.SideLaws.{IsShaped}
+use Rattle.side_info.proofs.FrameLaws.{IsRight, shaped-side_in}
+use Rattle.sync_survey.specs.declared.places.PlacedFrame.{PlacedFrame}
+use Rattle.sync_survey.specs.declared.places.Start.{Start}
+use Rattle.sync_survey.specs.declared.rows.Row.{Row}
+use Rattle.sync_survey.specs.Walk.{head_of}
+use Rattle.sync_survey.specs.Faults.{SurveyFields, surveyed}
+use Rattle.sync_survey.proofs.SurveyParts.{frames_from, told_from, IsRead, surveyed-parts}
+use Rattle.moved_gains.specs.declared.shift.Steps.{Steps}
+use Rattle.moved_gains.specs.Gains.{moved_side}
+use Rattle.moved_gains.specs.Moving.{row_length, moved_row_bytes}
+use Rattle.moved_gains.proofs.MovedFrame.{IsWhole, moved_whole}
+use Rattle.moved_gains.proofs.EditedItems.{AreMovedAt}
+use Rattle.moved_gains.proofs.LostOffsets.{rows_by, marked-by, walk_rising}
+use Rattle.moved_gains.proofs.EditedRuns.{gap_of, lost_from, new_file, frames-moved}
+use Rattle.moved_gains.proofs.MovedSurvey.{own-side, own-right, WordsAreRight, words}
+
+-- the bytes of a frame of the file
+abbrev pub frame_of : List ℕ → Row → List ℕ
+frame_of file row = take (row_length row) (drop row.offset file)
+
+pub record IsFrameOf (file : List ℕ) (row : Row) : Type 0 where
+  pub whole : IsWhole row.header (frame_of file row)
+  pub side : row.side ≡ side_in row.header (frame_of file row)
+  pub right : IsRight row.header (frame_of file row)
+
+abbrev pub AreFramesOf : List ℕ → List Row → Type 0
+AreFramesOf file [] = Unit {0}
+AreFramesOf file (row ∷ rows) = IsFrameOf file row × AreFramesOf file rows
+
+pub row_shaped : (file : List ℕ) (row : Row) → IsFrameOf file row → IsShaped row.side
+row_shaped file row here = subst IsShaped (sym here.side) (shaped-side_in row.header (frame_of file row))
+
+-- a frame with moved gains has its length
+pub row_sized : (steps : Steps) (file : List ℕ) (row : Row) → IsFrameOf file row → length (moved_row_bytes steps file row) ≡ row_length row
+row_sized steps file row here = by_lost row.lost
+  where
+    by_lost : (lost : Bool) → length (cond lost (frame_of file row) (frame_with row.header (moved_side steps row.side) (frame_of file row))) ≡ row_length row
+    by_lost true = here.whole.size
+    by_lost false =
+        ap (λ (s : Side). length (frame_with row.header (moved_side steps s) (frame_of file row))) here.side
+        ∙ (moved_whole steps row.header (frame_of file row) here.whole).whole.size
+
+each_there : (steps : Steps) (lost : ℕ → Bool) (file new : List ℕ) (gap : ℕ) (ps : List PlacedFrame) → AreMovedAt steps lost file new gap ps → WordsAreRight file ps → AreFramesOf file (rows_by lost file ps)
+each_there steps lost file new gap [] at right = tt
+each_there steps lost file new gap (p ∷ ps) at right = (
+  record { whole = at.0.whole; side = sym (own-side file p at.0.whole); right = own-right file p at.0.whole right.0 },
+  each_there steps lost file new gap ps at.1 right.1,
+)
+
+pub frames_there : (file : List ℕ) (allowed : ℕ) (s : SurveyFields) → AreBytes file → surveyed file allowed ≡ Ok s → AreFramesOf file s.frames
+frames_there file allowed s all e =
+    let parts = surveyed-parts file allowed s e in
+    subst (λ (t : SurveyFields). AreFramesOf file t.frames) parts.2 (from parts.0 parts.1)
+  where
+    from : (start : Start) → IsRead file allowed start → AreFramesOf file (told_from file start).frames
+    from start read =
+        let steps : Steps = record { left = pos 0; right = pos 0; wrap = false } in
+        let told : (told_from file start).frames ≡ rows_by (lost_from file start) file (frames_from file start) =
+        marked-by file (head_of file start.first) start.first.offset (frames_from file start) (walk_rising file start (head_of file start.first)) in
+        subst (AreFramesOf file) (sym told)
+        (each_there steps (lost_from file start) file (new_file steps file allowed start all read) (gap_of start) (frames_from file start) (frames-moved steps file allowed start all read) (words steps file allowed start all read))

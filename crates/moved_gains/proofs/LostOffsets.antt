@@ -1,0 +1,152 @@
+-- A frame is lost where a lost frame stands at its offset, since no two frames stand at one offset.
+use Rattle.std.proofs.Common.{◌≡◌, ℕ, zero, suc, ◌+◌, ◌-◌, ◌<◌, ◌≤◌, ◌==◌, ◌&&◌, ◌||◌, Bool, true, false, List, [], ◌∷◌, ◌++◌, map, Option, Some, None, refl, sym, ◌∙◌, ap, ap₂, subst, arith, zero-add}
+use Rattle.std.specs.Prelude.{option_to_list, slice_get}
+use Rattle.std.specs.List.{enumerate_from}
+use Rattle.std.proofs.lemmas.Bool.{eq-eqb, ne_eqb, eqb-true, eqb-false}
+use Rattle.sync_survey.specs.declared.items.Item.{Item}
+use Rattle.sync_survey.specs.declared.items.Item.TheVariants.{Frame, Free, Block, Zero, End, Nothing}
+use Rattle.sync_survey.specs.declared.places.PlacedFrame.{PlacedFrame}
+use Rattle.sync_survey.specs.declared.places.Head.{Head}
+use Rattle.sync_survey.specs.declared.places.Start.{Start}
+use Rattle.sync_survey.specs.declared.rows.Row.{Row}
+use Rattle.sync_survey.specs.declared.runs.Part.{Part}
+use Rattle.sync_survey.specs.declared.runs.Part.TheVariants.{Stream}
+use Rattle.sync_survey.specs.Items.{size_of}
+use Rattle.sync_survey.specs.Runs.{Placed, AreEndToEnd, frame_as, frames_of}
+use Rattle.sync_survey.specs.Walk.{stream_run, numbered}
+use Rattle.sync_survey.specs.MainData.{row_of, rows_of, is_lost, marked_row, marked}
+use Rattle.sync_survey.proofs.RunsLaws.{cons_list, item_of-is, run-ends}
+use Rattle.moved_gains.specs.declared.shift.Steps.{Steps}
+use Rattle.moved_gains.specs.Edited.{is_lost_at}
+use Rattle.moved_gains.specs.Streams.{moved_row}
+
+-- ---- frames at rising offsets
+
+-- the offsets of these frames rise, from one on
+abbrev pub AreRising : ℕ → List Row → Type 0
+AreRising at [] = Unit {0}
+AreRising at (r ∷ rows) = (at ≤ r.offset) × AreRising (suc r.offset) rows
+
+pub rising_less : (low high : ℕ) (rows : List Row) → low ≤ high → AreRising high rows → AreRising low rows
+rising_less low high [] le rise = tt
+rising_less low high (r ∷ rows) le rise = (omega (arith, le, rise.0), rise.1)
+
+pub rising_get : (from : ℕ) (rows : List Row) (i : ℕ) (r : Row) → AreRising from rows → slice_get rows i ≡ Some r → from ≤ r.offset
+rising_get from [] i r rise is = absurd cc
+rising_get from (q ∷ rows) zero r rise is = let same : q ≡ r = cc in subst (λ (x : Row). from ≤ x.offset) same rise.0
+rising_get from (q ∷ rows) (suc i) r rise is = omega (arith, rise.0, rising_get (suc q.offset) rows i r rise.1 is)
+
+-- ---- the lost frame at an offset
+
+not_there : (lost other same : Bool) → same ≡ false → ((lost && same) || other) ≡ other
+not_there true other same is = ap (λ b. b || other) is
+not_there false other same is = refl
+
+there_alone : (lost other same : Bool) → same ≡ true → other ≡ false → ((lost && same) || other) ≡ lost
+there_alone true other same is none = ap (λ b. b || other) is
+there_alone false other same is none = none
+
+none_lost : (rows : List Row) (at : ℕ) → AreRising (suc at) rows → is_lost_at rows at ≡ false
+none_lost [] at rise = refl
+none_lost (r ∷ rows) at rise =
+    not_there r.lost (is_lost_at rows at) (r.offset == at) (ne_eqb r.offset at (λ e. omega (arith, e, rise.0)))
+    ∙ none_lost rows at (rising_less (suc at) (suc r.offset) rows (omega (arith, rise.0)) rise.1)
+
+lost_get : (from : ℕ) (rows : List Row) (i : ℕ) (r : Row) → AreRising from rows → slice_get rows i ≡ Some r → is_lost_at rows r.offset ≡ r.lost
+lost_get from [] i r rise is = absurd cc
+lost_get from (q ∷ rows) zero r rise is =
+    let same : q ≡ r = cc in
+    subst (λ (x : Row). is_lost_at (q ∷ rows) x.offset ≡ x.lost) same
+    (there_alone q.lost (is_lost_at rows q.offset) (q.offset == q.offset) (eq-eqb q.offset q.offset refl) (none_lost rows q.offset rise.1))
+lost_get from (q ∷ rows) (suc i) r rise is =
+    let behind = rising_get (suc q.offset) rows i r rise.1 is in
+    not_there q.lost (is_lost_at rows r.offset) (q.offset == r.offset) (ne_eqb q.offset r.offset (λ e. omega (arith, e, behind)))
+    ∙ lost_get (suc q.offset) rows i r rise.1 is
+
+-- ---- marked frames
+
+each_rising : (head : Option Head) (all : List Row) (n from : ℕ) (rows : List Row) → AreRising from rows → AreRising from (map (λ (p : ℕ × Row). marked_row head all p.0 p.1) (enumerate_from n rows))
+each_rising head all n from [] rise = tt
+each_rising head all n from (r ∷ rows) rise = (rise.0, each_rising head all (n + 1) (suc r.offset) rows rise.1)
+
+pub marked_rising : (head : Option Head) (from : ℕ) (rows : List Row) → AreRising from rows → AreRising from (marked head rows)
+unfolding marked
+marked_rising head from rows rise = each_rising head rows 0 from rows rise
+
+each_get : (head : Option Head) (all : List Row) (n : ℕ) (rows : List Row) (i : ℕ) (r : Row) → slice_get rows i ≡ Some r
+    → slice_get (map (λ (p : ℕ × Row). marked_row head all p.0 p.1) (enumerate_from n rows)) i ≡ Some (marked_row head all (n + i) r)
+each_get head all n [] i r is = absurd cc
+each_get head all n (q ∷ rows) zero r is =
+    let same : q ≡ r = cc in
+    ap₂ (λ m (x : Row). Some (marked_row head all m x)) (omega arith) same
+each_get head all n (q ∷ rows) (suc i) r is = each_get head all (n + 1) rows i r is ∙ ap (λ m. Some (marked_row head all m r)) (omega arith)
+
+marked_get : (head : Option Head) (rows : List Row) (i : ℕ) (r : Row) → slice_get rows i ≡ Some r → slice_get (marked head rows) i ≡ Some (marked_row head rows i r)
+unfolding marked
+marked_get head rows i r is = each_get head rows 0 rows i r is ∙ ap (λ m. Some (marked_row head rows m r)) (zero-add i)
+
+-- frame i is lost exactly where a lost frame of them stands at its offset
+pub lost-at : (head : Option Head) (from : ℕ) (rows : List Row) → AreRising from rows → (i : ℕ) (r : Row) → slice_get rows i ≡ Some r → is_lost_at (marked head rows) r.offset ≡ is_lost head rows i r
+lost-at head from rows rise i r is = lost_get from (marked head rows) i (marked_row head rows i r) (marked_rising head from rows rise) (marked_get head rows i r is)
+
+-- the same frames, marked by their offsets
+abbrev pub rows_by : (ℕ → Bool) → List ℕ → List PlacedFrame → List Row
+rows_by lost file ps = map (λ (p : PlacedFrame). record (row_of file p) { lost = lost p.offset }) ps
+
+by_each : (lost : ℕ → Bool) (file : List ℕ) (head : Option Head) (all : List Row) (n : ℕ) (ps : List PlacedFrame)
+    → ((i : ℕ) (r : Row) → slice_get (rows_of file ps) i ≡ Some r → lost r.offset ≡ is_lost head all (n + i) r)
+    → map (λ (p : ℕ × Row). marked_row head all p.0 p.1) (enumerate_from n (rows_of file ps)) ≡ rows_by lost file ps
+by_each lost file head all n [] each = refl
+by_each lost file head all n (p ∷ ps) each =
+    let none : n + 0 ≡ n = omega arith in
+    let here : lost p.offset ≡ is_lost head all n (row_of file p) = each 0 (row_of file p) refl ∙ ap (λ m. is_lost head all m (row_of file p)) none in
+    ap₂ (λ (b : Bool) (l : List Row). record (row_of file p) { lost = b } ∷ l) (sym here)
+    (by_each lost file head all (n + 1) ps (λ i r is. each (suc i) r is ∙ ap (λ m. is_lost head all m r) (omega arith)))
+
+pub marked-by : (file : List ℕ) (head : Option Head) (from : ℕ) (ps : List PlacedFrame) → AreRising from (rows_of file ps)
+    → marked head (rows_of file ps) ≡ rows_by (is_lost_at (marked head (rows_of file ps))) file ps
+unfolding marked
+marked-by file head from ps rise =
+    by_each (is_lost_at (marked head (rows_of file ps))) file head (rows_of file ps) 0 ps
+    (λ i r is. lost-at head from (rows_of file ps) rise i r is ∙ ap (λ m. is_lost head (rows_of file ps) m r) (sym (zero-add i)))
+
+-- ---- the frames of a walk
+
+rising_more : (file : List ℕ) (at : ℕ) (item : Item) (frames : List PlacedFrame) → 0 < size_of item → AreRising (at + size_of item) (rows_of file frames) → AreRising at (rows_of file (option_to_list (frame_as at item) ++ frames))
+rising_more file at (Frame h) frames some rise = (omega arith, rising_less (suc at) (at + size_of (Frame h)) (rows_of file frames) (omega (arith, some)) rise)
+rising_more file at Free frames some rise = rising_less at (at + 0) (rows_of file frames) (omega arith) rise
+rising_more file at (Block b) frames some rise = rising_less at (at + b.length) (rows_of file frames) (omega arith) rise
+rising_more file at Zero frames some rise = rising_less at (at + 1) (rows_of file frames) (omega arith) rise
+rising_more file at End frames some rise = rising_less at (at + 0) (rows_of file frames) (omega arith) rise
+rising_more file at Nothing frames some rise = rising_less at (at + 0) (rows_of file frames) (omega arith) rise
+
+pub items_rising : (file : List ℕ) (part : Part) (from : ℕ) (ps : List Placed) (to : ℕ) → AreEndToEnd part file from ps to → AreRising from (rows_of file (frames_of ps))
+items_rising file part from [] to ends = tt
+items_rising file part from (p ∷ ps) to ends =
+    subst (λ n. AreRising n (rows_of file (frames_of (p ∷ ps)))) ends.0
+    (subst (λ l. AreRising p.offset (rows_of file l)) (sym (cons_list (frame_as p.offset p.item) (frames_of ps)))
+    (rising_more file p.offset p.item (frames_of ps) (item_of-is part file p.offset p.item ends.1).some (items_rising file part (p.offset + size_of p.item) ps to ends.2)))
+
+pub numbered_rising : (file : List ℕ) (from : ℕ) (o : Option Head) (ps : List PlacedFrame) → AreRising from (rows_of file ps) → AreRising from (rows_of file (numbered o ps))
+numbered_rising file from None ps rise = rise
+numbered_rising file from (Some head) [] rise = rise
+numbered_rising file from (Some head) (p ∷ ps) rise = rising_less from (suc p.offset) (rows_of file ps) (omega (arith, rise.0)) rise.1
+
+pub walk_rising : (file : List ℕ) (start : Start) (o : Option Head) → AreRising start.first.offset (rows_of file (numbered o (frames_of (stream_run file start).items)))
+walk_rising file start o =
+    let stream = stream_run file start in
+    numbered_rising file start.first.offset o (frames_of stream.items) (items_rising file Stream start.first.offset stream.items stream.stop (run-ends Stream file start.first.offset))
+
+-- ---- nearer to the front
+
+near_cases : (m n k : ℕ) → k ≤ m → k ≤ n → (b : Bool) → (m == n) ≡ b → (m - k == n - k) ≡ b
+near_cases m n k low_m low_n true is = eq-eqb (m - k) (n - k) (ap (λ x. x - k) (eqb-true m n is))
+near_cases m n k low_m low_n false is = ne_eqb (m - k) (n - k) (λ e. eqb-false m n is (omega (arith, e, low_m, low_n)))
+
+-- the lost frames stand at the same offsets, so many bytes nearer to the front
+pub lost-nearer : (steps : Steps) (gap from at : ℕ) (rows : List Row) → AreRising from rows → gap ≤ from → gap ≤ at → is_lost_at (map (moved_row steps gap) rows) (at - gap) ≡ is_lost_at rows at
+lost-nearer steps gap from at [] rise low here = refl
+lost-nearer steps gap from at (r ∷ rows) rise low here =
+    let above : gap ≤ r.offset = omega (arith, low, rise.0) in
+    ap₂ (λ (a b : Bool). (r.lost && a) || b) (near_cases r.offset at gap above here (r.offset == at) refl)
+    (lost-nearer steps gap (suc r.offset) at rows rise.1 (omega (arith, above)) here)

@@ -1,0 +1,391 @@
+-- The survey of the edited file is that of the file, with moved gains and without the junk.
+use Rattle.std.proofs.Common.{◌≡◌, ℕ, zero, suc, ◌+◌, ◌-◌, ◌<◌, ◌≤◌, ◌==◌, ltb, Bool, true, false, cond, ◌&&◌, ◌||◌, not, List, [], ◌∷◌, ◌++◌, length, take, drop, map, Option, Some, None, option_map, Ok, refl, sym, ◌∙◌, ap, ap₂, subst, arith, zero-add}
+use Rattle.std.specs.Prelude.{sum_by, slice_get, IfSome}
+use Rattle.std.specs.List.{enumerate_from}
+use Rattle.std.proofs.lemmas.Option.{slice_get-map}
+use Rattle.std.proofs.lemmas.Bool.{eq-eqb, eqb-true, lt-ltb, le-ltb}
+use Rattle.std.proofs.lemmas.List.{take_at, take-map, map-append, map-id, drop_all}
+use Rattle.std.proofs.lemmas.List.Sums.{sum_by-cons}
+use Rattle.bit_fields.specs.Bits.{AreBytes}
+use Rattle.frame_header.specs.Fields.{ClassFields}
+use Rattle.frame_header.specs.Tables.{class_of, length_of}
+use Rattle.side_info.specs.declared.side.Side.{Side}
+use Rattle.side_info.specs.CheckWord.{check_word_of}
+use Rattle.side_info.specs.Frame.{side_in, word_said}
+use Rattle.side_info.proofs.SideLaws.{IsShaped}
+use Rattle.side_info.proofs.FrameLaws.{IsRight, shaped-side_in, side_in-take, word_said-take}
+use Rattle.sync_survey.specs.declared.items.Item.TheVariants.{End}
+use Rattle.sync_survey.specs.declared.places.PlacedFrame.{PlacedFrame}
+use Rattle.sync_survey.specs.declared.places.Piece.{Piece}
+use Rattle.sync_survey.specs.declared.places.Head.{Head}
+use Rattle.sync_survey.specs.declared.places.Start.{Start}
+use Rattle.sync_survey.specs.declared.survey_fault.SurveyFault.{SurveyFault}
+use Rattle.sync_survey.specs.declared.rows.Row.{Row}
+use Rattle.sync_survey.specs.declared.runs.Part.TheVariants.{Front, Stream}
+use Rattle.sync_survey.specs.Items.{item_at}
+use Rattle.sync_survey.specs.Runs.{Run, run, blocks_of}
+use Rattle.sync_survey.specs.Walk.{stream_run, frame_bytes, head_of, all_blocks, fault_at, end_fault}
+use Rattle.sync_survey.specs.MainData.{row_of, rows_of, own_area, head_area, is_silent, start_of_data, end_of_data, lacks_data, place, end_behind, end_before, is_lost, marked_row, marked}
+use Rattle.sync_survey.specs.Faults.{has_wrong_word, all_faults, class_from, SurveyFields, surveyed}
+use Rattle.sync_survey.proofs.OneItem.{stands-only_at}
+use Rattle.sync_survey.proofs.RunsLaws.{run-ends}
+use Rattle.sync_survey.proofs.ItemLists.{nearer_frame, nearer_piece, blocks-between}
+use Rattle.sync_survey.proofs.SurveyParts.{frames_from, told_from, IsRead, surveyed-told, surveyed-parts, IsSound, IsSoundAt, AreSound, all_faults-none_sound, sound-no_all_faults}
+use Rattle.moved_gains.specs.declared.shift.Steps.{Steps}
+use Rattle.moved_gains.specs.Gains.{moved_unless}
+use Rattle.moved_gains.specs.Edited.{moved_unless_lost, edited}
+use Rattle.moved_gains.specs.Streams.{moved_row, moved_head, moved_block, moved_survey}
+use Rattle.moved_gains.proofs.MovedGains.{payload_bits-unless, payload-unless, begin-unless}
+use Rattle.moved_gains.proofs.MovedFrame.{IsWhole, whole_room, IsMovedUnless, moved_unless-whole}
+use Rattle.moved_gains.proofs.EditedItems.{IsMovedAt, AreMovedAt}
+use Rattle.moved_gains.proofs.LostOffsets.{lost-at, walk_rising}
+use Rattle.moved_gains.proofs.EditedRuns.{gap_of, lost_from, moved_start, new_file, front_low, stream_is, stop_is, front_stop, new-length, new-stream, new-start, new-head, new-frames, new-blocks, frames-moved}
+
+-- ---- the check words of a file without fault
+
+right_by : (b : Bool) (said right : ℕ) → (b && not (said == right)) ≡ false → b ≡ true → said ≡ right
+right_by true said right e is = eqb-true said right (not_cases (said == right) e)
+  where
+    not_cases : (x : Bool) → not x ≡ false → x ≡ true
+    not_cases true h = refl
+    not_cases false h = absurd cc
+right_by false said right e is = absurd cc
+
+-- the side information and the check word of a whole frame stand in its own bytes
+pub own-side : (file : List ℕ) (p : PlacedFrame) → IsWhole p.header (frame_bytes file p) → side_in p.header (frame_bytes file p) ≡ side_in p.header (drop p.offset file)
+own-side file p whole =
+    let room = whole_room p.header (frame_bytes file p) whole in
+    side_in-take p.header (length_of (class_of p.header) p.header.slot) (drop p.offset file) (omega (arith, room.0, whole.size))
+
+pub own-right : (file : List ℕ) (p : PlacedFrame) → IsWhole p.header (frame_bytes file p) → has_wrong_word (word_said (drop p.offset file)) (row_of file p) ≡ false → IsRight p.header (frame_bytes file p)
+own-right file p whole word protected =
+    let h = p.header in
+    let bytes = drop p.offset file in
+    let room = whole_room h (frame_bytes file p) whole in
+    word_said-take (length_of (class_of h) h.slot) bytes (omega (arith, room.1, whole.size))
+    ∙ right_by h.protected (word_said bytes) (check_word_of h (side_in h bytes)) word protected
+    ∙ ap (check_word_of h) (sym (own-side file p whole))
+
+-- the check word of each of these frames is right
+abbrev pub WordsAreRight : List ℕ → List PlacedFrame → Type 0
+WordsAreRight file [] = Unit {0}
+WordsAreRight file (p ∷ ps) = (has_wrong_word (word_said (drop p.offset file)) (row_of file p) ≡ false) × WordsAreRight file ps
+
+pub words_right : (file : List ℕ) (ps : List PlacedFrame) → ((i : ℕ) (r : Row) → slice_get (rows_of file ps) i ≡ Some r → has_wrong_word (word_said (drop r.offset file)) r ≡ false) → WordsAreRight file ps
+words_right file [] each = tt
+words_right file (p ∷ ps) each = (each 0 (row_of file p) refl, words_right file ps (λ i r is. each (suc i) r is))
+
+-- ---- a frame that stands in another file, with moved gains where it isn't lost
+
+-- such a frame, not marked
+abbrev pub moved_plain : Steps → (ℕ → Bool) → ℕ → Row → Row
+moved_plain steps lost gap r = record r { offset = r.offset - gap; side = moved_unless (lost r.offset) steps r.side }
+
+module _ (steps : Steps) (lost : ℕ → Bool) (file new : List ℕ) (gap : ℕ) (p : PlacedFrame) (at : IsMovedAt steps lost file new gap p) where
+  abbrev frame : List ℕ
+  frame = frame_bytes file p
+
+  abbrev new_frame : List ℕ
+  new_frame = moved_unless_lost (lost p.offset) steps p.header frame
+
+  abbrev size : ℕ
+  size = length_of (class_of p.header) p.header.slot
+
+  pub to : IsMovedUnless (lost p.offset) steps p.header frame new_frame
+  to = moved_unless-whole (lost p.offset) steps p.header frame at.whole
+
+  pub frame_there : take size (drop (p.offset - gap) new) ≡ new_frame
+  frame_there = ap (take size) at.stands ∙ take_at new_frame at.rest size to.whole.size
+
+  side_there : side_in p.header (drop (p.offset - gap) new) ≡ moved_unless (lost p.offset) steps (side_in p.header (drop p.offset file))
+  side_there =
+      let room = (whole_room p.header frame at.whole) in
+      sym (side_in-take p.header size (drop (p.offset - gap) new) (omega (arith, room.0, at.whole.size)))
+      ∙ ap (side_in p.header) frame_there
+      ∙ to.side
+      ∙ ap (moved_unless (lost p.offset) steps) (own-side file p at.whole)
+
+  pub row-moved : row_of new (nearer_frame gap p) ≡ moved_plain steps lost gap (row_of file p)
+  row-moved = ap (λ s. record { offset = p.offset - gap; header = p.header; side = s; lost = false }) side_there
+
+  module _ (word : has_wrong_word (word_said (drop p.offset file)) (row_of file p) ≡ false) where
+    right_there : IsRight p.header (drop (p.offset - gap) new)
+    right_there protected =
+        let room = (whole_room p.header frame at.whole) in
+        sym (word_said-take size (drop (p.offset - gap) new) (omega (arith, room.1, at.whole.size)))
+        ∙ ap word_said frame_there
+        ∙ to.right (λ stays. own-right file p at.whole word) protected
+        ∙ ap (check_word_of p.header) (sym (ap (side_in p.header) frame_there) ∙ side_in-take p.header size (drop (p.offset - gap) new) (omega (arith, room.0, at.whole.size)))
+
+    right_cases : (s : Side) → side_in p.header (drop (p.offset - gap) new) ≡ s → (b : Bool) → p.header.protected ≡ b → (b && not (word_said (drop (p.offset - gap) new) == check_word_of p.header s)) ≡ false
+    right_cases s is true protected = ap not (eq-eqb _ _ (right_there protected ∙ ap (check_word_of p.header) is))
+    right_cases s is false protected = refl
+
+    pub right_word : has_wrong_word (word_said (drop (p.offset - gap) new)) (moved_plain steps lost gap (row_of file p)) ≡ false
+    right_word = right_cases (moved_unless (lost p.offset) steps (side_in p.header (drop p.offset file))) side_there p.header.protected refl
+
+pub rows-moved : (steps : Steps) (lost : ℕ → Bool) (file new : List ℕ) (gap : ℕ) (ps : List PlacedFrame) → AreMovedAt steps lost file new gap ps → rows_of new (map (nearer_frame gap) ps) ≡ map (moved_plain steps lost gap) (rows_of file ps)
+rows-moved steps lost file new gap [] at = refl
+rows-moved steps lost file new gap (p ∷ ps) at = ap₂ (λ (r : Row) (rs : List Row). r ∷ rs) (row-moved steps lost file new gap p at.0) (rows-moved steps lost file new gap ps at.1)
+
+-- ---- frames without fault
+
+-- the shapes of all side information are those that are read
+abbrev pub AreShaped : List Row → Type 0
+AreShaped [] = Unit {0}
+AreShaped (r ∷ rows) = IsShaped r.side × AreShaped rows
+
+pub rows_shaped : (file : List ℕ) (ps : List PlacedFrame) → AreShaped (rows_of file ps)
+rows_shaped file [] = tt
+rows_shaped file (p ∷ ps) = (shaped-side_in p.header (drop p.offset file), rows_shaped file ps)
+
+-- frames that keep their headers keep their places
+areas-kept : (f : Row → Row) → ((r : Row) → (f r).header ≡ r.header) → (rows : List Row) → sum_by (λ (r : Row). own_area r.header) (map f rows) ≡ sum_by (λ (r : Row). own_area r.header) rows
+areas-kept f same [] = refl
+areas-kept f same (r ∷ rows) =
+    sum_by-cons (λ (q : Row). own_area q.header) (f r) (map f rows)
+    ∙ ap₂ (λ m n. m + n) (ap own_area (same r)) (areas-kept f same rows)
+    ∙ sym (sum_by-cons (λ (q : Row). own_area q.header) r rows)
+
+head_area-moved : (gap : ℕ) (o : Option Head) → head_area (option_map (moved_head gap) o) ≡ head_area o
+head_area-moved gap None = refl
+head_area-moved gap (Some head) = refl
+
+pub place-kept : (f : Row → Row) → ((r : Row) → (f r).header ≡ r.header) → (gap : ℕ) (o : Option Head) (rows : List Row) (i : ℕ) → place (option_map (moved_head gap) o) (map f rows) i ≡ place o rows i
+unfolding place
+place-kept f same gap o rows i =
+    ap₂ (λ m n. m + n) (head_area-moved gap o) (ap (sum_by (λ (r : Row). own_area r.header)) (take-map f i rows) ∙ areas-kept f same (take i rows))
+
+pub start-moved : (steps : Steps) (gap : ℕ) (o : Option Head) (rows : List Row) (i : ℕ) (r : Row)
+    → start_of_data (place (option_map (moved_head gap) o) (map (moved_row steps gap) rows) i) (moved_row steps gap r) ≡ start_of_data (place o rows i) r
+start-moved steps gap o rows i r = ap₂ (λ m n. m - n) (place-kept (moved_row steps gap) (λ q. refl) gap o rows i) (begin-unless r.lost steps r.side)
+
+module _ (steps : Steps) (lost : ℕ → Bool) (gap : ℕ) where
+  abbrev moved_by : Row → Row
+  moved_by r = moved_plain steps lost gap r
+
+  place-moved : (o : Option Head) (rows : List Row) (i : ℕ) → place (option_map (moved_head gap) o) (map moved_by rows) i ≡ place o rows i
+  place-moved o rows i = place-kept moved_by (λ q. refl) gap o rows i
+
+  lacks-moved : (place_now new_place ended new_ended : ℕ) (r : Row) → new_place ≡ place_now → new_ended ≡ ended → lacks_data new_place new_ended (moved_by r) ≡ lacks_data place_now ended r
+  lacks-moved place_now new_place ended new_ended r same_place same_ended =
+      ap₂ (λ (a b : Bool). a && b) (ap (λ n. n == 0) same_ended) (ap₂ ltb same_place (begin-unless (lost r.offset) steps r.side))
+
+  data_end-moved : (place_now new_place : ℕ) (r : Row) → new_place ≡ place_now → IsShaped r.side → end_of_data new_place (moved_by r) ≡ end_of_data place_now r
+  data_end-moved place_now new_place r same_place shaped =
+      ap₂ (λ m n. m + n) (ap₂ (λ m n. m - n) same_place (begin-unless (lost r.offset) steps r.side)) (payload-unless (lost r.offset) steps r.side shaped)
+
+  behind-moved : (place_now new_place ended new_ended : ℕ) (r : Option Row) → new_place ≡ place_now → new_ended ≡ ended → IfSome r (λ q. IsShaped q.side)
+      → end_behind new_place new_ended (option_map moved_by r) ≡ end_behind place_now ended r
+  behind-moved place_now new_place ended new_ended None same_place same_ended shaped = same_ended
+  behind-moved place_now new_place ended new_ended (Some r) same_place same_ended shaped =
+      let silent : is_silent (moved_by r) ≡ is_silent r = ap (λ n. n == 0) (payload_bits-unless (lost r.offset) steps r.side shaped) in
+      let lacks = lacks-moved place_now new_place ended new_ended r same_place same_ended in
+      let loud = data_end-moved place_now new_place r same_place shaped in
+      λ i. cond (silent i || lacks i) (same_ended i) (loud i)
+
+shaped_get : (rows : List Row) (i : ℕ) → AreShaped rows → IfSome (slice_get rows i) (λ q. IsShaped q.side)
+shaped_get [] i shaped = tt
+shaped_get (r ∷ rows) zero shaped = shaped.0
+shaped_get (r ∷ rows) (suc i) shaped = shaped_get rows i shaped.1
+
+module _ (steps : Steps) (lost : ℕ → Bool) (gap : ℕ) (o : Option Head) (rows : List Row) (shaped : AreShaped rows) where
+  abbrev near_head : Option Head
+  near_head = option_map (moved_head gap) o
+
+  abbrev near_rows : List Row
+  near_rows = map (moved_plain steps lost gap) rows
+
+  pub end-moved : (i : ℕ) → end_before near_head near_rows i ≡ end_before o rows i
+  unfolding end_before
+  end-moved zero = refl
+  end-moved (suc i) =
+      ap (end_behind _ _) (slice_get-map (moved_plain steps lost gap) rows i)
+      ∙ behind-moved steps lost gap _ _ _ _ (slice_get rows i) (place-moved steps lost gap o rows i) (end-moved i) (shaped_get rows i shaped)
+
+  -- the same frames are lost
+  pub lost-moved : (i : ℕ) (r : Row) → is_lost near_head near_rows i (moved_plain steps lost gap r) ≡ is_lost o rows i r
+  lost-moved i r = lacks-moved steps lost gap _ _ _ _ r (place-moved steps lost gap o rows i) (end-moved i)
+
+  marks_moved : (n : ℕ) (more : List Row) → ((i : ℕ) (r : Row) → slice_get more i ≡ Some r → lost r.offset ≡ is_lost o rows (n + i) r)
+      → map (λ (p : ℕ × Row). marked_row near_head near_rows p.0 p.1) (enumerate_from n (map (moved_plain steps lost gap) more))
+      ≡ map (moved_row steps gap) (map (λ (p : ℕ × Row). marked_row o rows p.0 p.1) (enumerate_from n more))
+  marks_moved n [] agree = refl
+  marks_moved n (r ∷ more) agree =
+      let none : n + 0 ≡ n = omega arith in
+      let here : lost r.offset ≡ is_lost o rows n r = agree 0 r refl ∙ ap (λ m. is_lost o rows m r) none in
+      let mark = lost-moved n r in
+      let own : marked_row near_head near_rows n (moved_plain steps lost gap r) ≡ moved_row steps gap (marked_row o rows n r) =
+      λ i. record { offset = r.offset - gap; header = r.header; side = moved_unless (here i) steps r.side; lost = mark i } in
+      ap₂ (λ (q : Row) (qs : List Row). q ∷ qs) own (marks_moved (n + 1) more (λ i q is. agree (suc i) q is ∙ ap (λ m. is_lost o rows m q) (omega arith)))
+
+  -- they are marked so, and those that aren't lost have moved gains
+  pub marked-moved : ((i : ℕ) (r : Row) → slice_get rows i ≡ Some r → lost r.offset ≡ is_lost o rows i r) → marked near_head near_rows ≡ map (moved_row steps gap) (marked o rows)
+  unfolding marked
+  marked-moved agree = marks_moved 0 rows (λ i r is. agree i r is ∙ ap (λ m. is_lost o rows m r) (sym (zero-add i)))
+
+-- the check words are right
+abbrev AreRight : List ℕ → List Row → Type 0
+AreRight file [] = Unit {0}
+AreRight file (r ∷ rows) = (has_wrong_word (word_said (drop r.offset file)) r ≡ false) × AreRight file rows
+
+right_get : (file : List ℕ) (rows : List Row) (i : ℕ) (r : Row) → AreRight file rows → slice_get rows i ≡ Some r → has_wrong_word (word_said (drop r.offset file)) r ≡ false
+right_get file [] i r right is = absurd cc
+right_get file (q ∷ rows) zero r right is = let same : q ≡ r = cc in subst (λ x. has_wrong_word (word_said (drop x.offset file)) x ≡ false) same right.0
+right_get file (q ∷ rows) (suc i) r right is = right_get file rows i r right.1 is
+
+rows_right : (steps : Steps) (lost : ℕ → Bool) (file new : List ℕ) (gap : ℕ) (ps : List PlacedFrame) → AreMovedAt steps lost file new gap ps → WordsAreRight file ps → AreRight new (map (moved_plain steps lost gap) (rows_of file ps))
+rows_right steps lost file new gap [] at words = tt
+rows_right steps lost file new gap (p ∷ ps) at words = (right_word steps lost file new gap p at.0 words.0, rows_right steps lost file new gap ps at.1 words.1)
+
+sound-moved : (steps : Steps) (lost : ℕ → Bool) (said new_said : ℕ) (gap : ℕ) (class : ClassFields) (allowed place_now ended count new_place new_ended : ℕ) (r : Row) → new_place ≡ place_now → new_ended ≡ ended → IsShaped r.side
+    → has_wrong_word new_said (moved_plain steps lost gap r) ≡ false → IsSound said class allowed place_now ended count r → IsSound new_said class allowed new_place new_ended count (moved_plain steps lost gap r)
+sound-moved steps lost said new_said gap class allowed place_now ended count new_place new_ended r same_place same_ended shaped word sound =
+    let begin = begin-unless (lost r.offset) steps r.side in
+    record {
+      same = sound.same;
+      word = word;
+      main = λ has.
+          let well = sound.main (sym (lacks-moved steps lost gap place_now new_place ended new_ended r same_place same_ended) ∙ has) in
+          record {
+            begins = ap₂ ltb same_place begin ∙ well.begins;
+            apart = ap₂ ltb (ap₂ (λ m n. m - n) same_place begin) same_ended ∙ well.apart;
+            within = ap₂ ltb (ap (λ n. n + own_area r.header) same_place) (data_end-moved steps lost gap place_now new_place r same_place shaped) ∙ well.within;
+          };
+      few = sound.few;
+    }
+
+-- what stands at i among moved rows is the row there, moved
+moved_get : (steps : Steps) (lost : ℕ → Bool) (gap : ℕ) (rows : List Row) (i : ℕ) (r : Row) → slice_get (map (moved_plain steps lost gap) rows) i ≡ Some r → (q : Row) × (slice_get rows i ≡ Some q) × (moved_plain steps lost gap q ≡ r)
+moved_get steps lost gap [] i r is = absurd cc
+moved_get steps lost gap (q ∷ rows) zero r is = (q, refl, cc)
+moved_get steps lost gap (q ∷ rows) (suc i) r is = moved_get steps lost gap rows i r is
+
+some_shaped : (rows : List Row) (i : ℕ) (q : Row) → AreShaped rows → slice_get rows i ≡ Some q → IsShaped q.side
+some_shaped rows i q shaped is = subst (λ (o : Option Row). IfSome o (λ x. IsShaped x.side)) is (shaped_get rows i shaped)
+
+all_sound : (steps : Steps) (lost : ℕ → Bool) (file new : List ℕ) (gap : ℕ) (o : Option Head) (class : ClassFields) (allowed : ℕ) (rows : List Row) → AreShaped rows → AreRight new (map (moved_plain steps lost gap) rows)
+    → AreSound file o class allowed rows → AreSound new (option_map (moved_head gap) o) class allowed (map (moved_plain steps lost gap) rows)
+all_sound steps lost file new gap o class allowed rows shaped right sound = λ i r is.
+    let found = moved_get steps lost gap rows i r is in
+    let q = found.0 in
+    let word = right_get new (map (moved_plain steps lost gap) rows) i r right is in
+    subst (IsSoundAt new (option_map (moved_head gap) o) class allowed (map (moved_plain steps lost gap) rows) i) found.2
+    (sound-moved steps lost (word_said (drop q.offset file)) (word_said (drop (q.offset - gap) new)) gap class allowed (place o rows i) (end_before o rows i) i _ _ q (place-moved steps lost gap o rows i)
+    (end-moved steps lost gap o rows shaped i) (some_shaped rows i q shaped found.1) (subst (λ x. has_wrong_word (word_said (drop x.offset new)) x ≡ false) (sym found.2) word) (sound i q found.1))
+
+-- ---- blocks
+
+abbrev same_block : Piece → Piece
+same_block b = b
+
+before_first : (first gap : ℕ) (b : Piece) → b.offset < first → moved_block first gap b ≡ same_block b
+before_first first gap b below = let is : ltb b.offset first ≡ true = lt-ltb b.offset first below in ap (λ (x : Bool). cond x b (nearer_piece gap b)) is
+
+behind_first : (first gap : ℕ) (b : Piece) → first ≤ b.offset → moved_block first gap b ≡ nearer_piece gap b
+behind_first first gap b above = let is : ltb b.offset first ≡ false = le-ltb b.offset first above in ap (λ (x : Bool). cond x b (nearer_piece gap b)) is
+
+-- ---- the end
+
+end_cases : (file new : List ℕ) (gap : ℕ) (frames : List PlacedFrame) (o : Option SurveyFault) → end_fault file frames o ≡ None → end_fault new (map (nearer_frame gap) frames) None ≡ None
+end_cases file new gap [] (Some fault) e = absurd cc
+end_cases file new gap [] None e = absurd cc
+end_cases file new gap (p ∷ ps) o e = refl
+
+module _ (steps : Steps) (file : List ℕ) (allowed : ℕ) (start : Start) (all : AreBytes file) (read : IsRead file allowed start) where
+  abbrev new : List ℕ
+  new = new_file steps file allowed start all read
+
+  abbrev gap : ℕ
+  gap = gap_of start
+
+  abbrev rows : List Row
+  rows = rows_of file (frames_from file start)
+
+  abbrev lost : ℕ → Bool
+  lost = lost_from file start
+
+  abbrev head : Option Head
+  head = head_of file start.first
+
+  moved_frames : AreMovedAt steps lost file new gap (frames_from file start)
+  moved_frames = frames-moved steps file allowed start all read
+
+  pub new-rows : rows_of new (frames_from new (moved_start start)) ≡ map (moved_plain steps lost gap) rows
+  new-rows = ap (rows_of new) (new-frames steps file allowed start all read) ∙ rows-moved steps lost file new gap (frames_from file start) moved_frames
+
+  sound : AreSound file head (class_from start) allowed rows
+  sound = all_faults-none_sound file head (class_from start) allowed rows read.frames
+
+  pub words : WordsAreRight file (frames_from file start)
+  words = words_right file (frames_from file start) (λ i r is. (sound i r is).word)
+
+  no_faults : all_faults new (head_of new (moved_start start).first) (class_from (moved_start start)) allowed (rows_of new (frames_from new (moved_start start))) ≡ []
+  no_faults =
+      ap₂ (λ (o : Option Head) (rs : List Row). all_faults new o (class_from start) allowed rs) (new-head steps file allowed start all read) new-rows
+      ∙ sound-no_all_faults new (option_map (moved_head gap) head) (class_from start) allowed (map (moved_plain steps lost gap) rows)
+      (all_sound steps lost file new gap head (class_from start) allowed rows (rows_shaped file (frames_from file start)) (rows_right steps lost file new gap (frames_from file start) moved_frames words) sound)
+
+  -- the frames with the marks of the lost ones
+  pub new-marked : (told_from new (moved_start start)).frames ≡ map (moved_row steps gap) (told_from file start).frames
+  new-marked =
+      ap₂ marked (new-head steps file allowed start all read) new-rows
+      ∙ marked-moved steps lost gap head rows (rows_shaped file (frames_from file start)) (lost-at head start.first.offset rows (walk_rising file start head))
+
+  ended : (stop : ℕ) → length new ≤ stop → fault_at stop (item_at new stop) ≡ None
+  ended stop past =
+      let nothing : drop stop new ≡ [] = drop_all stop new past in
+      ap (fault_at stop) (sym (stands-only_at new stop End nothing))
+
+  whole_end : end_fault new (frames_from new (moved_start start)) (fault_at (stream_run new (moved_start start)).stop (item_at new (stream_run new (moved_start start)).stop)) ≡ None
+  whole_end =
+      let stop : (stream_run new (moved_start start)).stop ≡ (stream_run file start).stop - gap =
+      ap (λ (r : Run). r.stop) (new-stream steps file allowed start all read) ∙ sym (ap (λ (r : Run). r.stop - gap) (stream_is steps file allowed start all read)) in
+      let full : length new ≤ (stream_run new (moved_start start)).stop =
+      omega (arith, stop, new-length steps file allowed start all read, ap (λ (r : Run). r.stop) (stream_is steps file allowed start all read), stop_is steps file allowed start all read) in
+      ap₂ (end_fault new) (new-frames steps file allowed start all read) (ended (stream_run new (moved_start start)).stop full)
+      ∙ end_cases file new gap (frames_from file start) _ read.end
+
+  -- nothing is at fault in the edited file
+  pub new-read : IsRead new allowed (moved_start start)
+  new-read = record { start_is = new-start steps file allowed start all read; frames = no_faults; end = whole_end }
+
+  blocks_same : all_blocks new (moved_start start) ≡ map (moved_block start.first.offset gap) (all_blocks file start)
+  blocks_same =
+      let front = run Front file 0 in
+      let stream = stream_run file start in
+      let first = start.first.offset in
+      let low = front_low steps file allowed start all read in
+      let front_blocks : map (moved_block first gap) (blocks_of front.items) ≡ blocks_of front.items =
+      blocks-between Front (moved_block first gap) same_block file 0 first 0 front.items front.stop (λ b above below. before_first first gap b below) (run-ends Front file 0) (omega arith)
+      (omega (arith, low, front_stop steps file allowed start all read))
+      ∙ map-id (blocks_of front.items) in
+      let stream_blocks : map (moved_block first gap) (blocks_of stream.items) ≡ map (nearer_piece gap) (blocks_of stream.items) =
+      blocks-between Stream (moved_block first gap) (nearer_piece gap) file first stream.stop first stream.items stream.stop (λ b above below. behind_first first gap b above) (run-ends Stream file first)
+      (omega arith) (omega arith) in
+      new-blocks steps file allowed start all read
+      ∙ sym (map-append (moved_block first gap) (blocks_of front.items) (blocks_of stream.items) ∙ ap₂ (λ (a b : List Piece). a ++ b) front_blocks stream_blocks)
+
+  pub new-told : told_from new (moved_start start) ≡ moved_survey steps (told_from file start)
+  unfolding moved_survey
+  new-told =
+      let head = new-head steps file allowed start all read in
+      let long = new-length steps file allowed start all read in
+      λ i. record {
+        frames = new-marked i;
+        blocks = blocks_same i;
+        head = head i;
+        junk = start.front_end;
+        first = start.front_end;
+        class = class_from start;
+        length = long i;
+      }
+
+  surveyed-from : surveyed new allowed ≡ Ok (moved_survey steps (told_from file start))
+  surveyed-from = surveyed-told new allowed (moved_start start) new-read ∙ ap Ok new-told
+
+-- The survey of the edited file: that of the file with moved gains, and without the junk.
+pub surveyed-edited : (steps : Steps) (file : List ℕ) (allowed : ℕ) (s : SurveyFields) → AreBytes file → surveyed file allowed ≡ Ok s → surveyed (edited steps file s) allowed ≡ Ok (moved_survey steps s)
+surveyed-edited steps file allowed s all e =
+    let parts = surveyed-parts file allowed s e in
+    subst (λ t. surveyed (edited steps file t) allowed ≡ Ok (moved_survey steps t)) parts.2 (surveyed-from steps file allowed parts.0 all parts.1)

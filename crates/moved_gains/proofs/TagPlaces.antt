@@ -1,0 +1,385 @@
+-- Where the tag of a file stands among its frames: in front of all of them, or behind some and in front of the others.
+use Rattle.std.proofs.Common.{◌≡◌, ℕ, suc, ◌+◌, ◌-◌, ◌<◌, ◌≤◌, true, false, List, [], ◌∷◌, ◌++◌, length, take, drop, map, Bool, cond, Option, Some, None, Ok, refl, sym, ◌∙◌, ap, ap₂, subst, arith, inl, inr, length-drop, append-nil}
+use Rattle.std.specs.Prelude.{◌⊎◌}
+use Rattle.std.specs.List.{find, cons_option, enumerate_from}
+use Rattle.std.specs.Option.{option_or}
+use Rattle.std.proofs.lemmas.List.{length-take-le, length-map, map-append}
+use Rattle.std.proofs.lemmas.List.Folds.{find-append}
+use Rattle.frame_header.specs.Fields.{HeaderFields}
+use Rattle.frame_header.specs.Tables.{class_of, length_of}
+use Rattle.frame_header.proofs.HeaderLaws.{IsClass-class_of}
+use Rattle.side_info.specs.Frame.{side_in, frame_with}
+use Rattle.side_info.proofs.FrameLaws.{shaped-side_in, length-frame_with}
+use Rattle.sync_survey.specs.declared.items.Item.{Item}
+use Rattle.sync_survey.specs.declared.items.Item.TheVariants.{Frame, Free, Block, Zero, End, Nothing}
+use Rattle.sync_survey.specs.declared.places.PlacedFrame.{PlacedFrame}
+use Rattle.sync_survey.specs.declared.places.Piece.{Piece}
+use Rattle.sync_survey.specs.declared.places.Head.{Head}
+use Rattle.sync_survey.specs.declared.places.Start.{Start}
+use Rattle.sync_survey.specs.declared.rows.Row.{Row}
+use Rattle.sync_survey.specs.declared.runs.Part.{Part}
+use Rattle.sync_survey.specs.declared.runs.Part.TheVariants.{Front, Stream}
+use Rattle.sync_survey.specs.Items.{item_at, size_of}
+use Rattle.sync_survey.specs.Runs.{Placed, Run, run, AreEndToEnd, frame_as, block_as, frames_of, blocks_of}
+use Rattle.sync_survey.specs.declared.survey_fault.SurveyFault.{SurveyFault}
+use Rattle.sync_survey.specs.Start.{front_end_of, IsLeastStart}
+use Rattle.sync_survey.specs.Walk.{stream_run, head_of, numbered, fault_at, end_fault}
+use Rattle.sync_survey.specs.MainData.{row_of, rows_of, marked_row, marked}
+use Rattle.sync_survey.specs.Faults.{SurveyFields, surveyed}
+use Rattle.sync_survey.proofs.ItemsLaws.{stands-at, header_front-in_range}
+use Rattle.sync_survey.proofs.RunsLaws.{IsItemOf, item_of-is, run-next, run-ends}
+use Rattle.sync_survey.proofs.StartLaws.{start-first, start-front}
+use Rattle.sync_survey.proofs.SurveyLaws.{overhead-within}
+use Rattle.sync_survey.proofs.WalkLaws.{first_item}
+use Rattle.sync_survey.proofs.ItemLists.{ends-rise, ends-within}
+use Rattle.sync_survey.proofs.SurveyParts.{frames_from, told_from, IsRead, surveyed-parts}
+use Rattle.file_tag.specs.Places.{is_tag, tag_block, tag_at, tag_length, last_end}
+use Rattle.file_tag.proofs.FoundTag.{found_case}
+use Rattle.moved_gains.specs.declared.shift.Steps.{Steps}
+use Rattle.moved_gains.specs.Gains.{moved_side}
+use Rattle.moved_gains.specs.Edited.{is_lost_at}
+use Rattle.moved_gains.specs.Moving.{row_end}
+use Rattle.moved_gains.proofs.MovedGains.{IsShaped-moved}
+use Rattle.moved_gains.proofs.LostOffsets.{rows_by, marked-by, walk_rising}
+use Rattle.moved_gains.proofs.WrittenLaws.{EndBy, AreSized, end_rises}
+
+-- ---- frames in order
+
+pub end_earlier : (from later : ℕ) (rows : List Row) (to : ℕ) → from ≤ later → EndBy later rows to → EndBy from rows to
+end_earlier from later [] to low ends = omega (arith, low, ends)
+end_earlier from later (row ∷ rows) to low ends = (omega (arith, low, ends.0), ends.1, ends.2)
+
+pub end_later : (from : ℕ) (rows : List Row) (to later : ℕ) → to ≤ later → EndBy from rows to → EndBy from rows later
+end_later from [] to later up ends = omega (arith, ends, up)
+end_later from (row ∷ rows) to later up ends = (ends.0, ends.1, end_later (row_end row) rows to later up ends.2)
+
+module _ (lost : ℕ → Bool) (file : List ℕ) where
+  abbrev pub by : List PlacedFrame → List Row
+  by frames = rows_by lost file frames
+
+  end_more : (part : Part) (at : ℕ) (item : Item) (frames : List PlacedFrame) (to : ℕ) → 0 < size_of item → EndBy (at + size_of item) (by frames) to → EndBy at (by (cons_option (frame_as at item) frames)) to
+  end_more part at (Frame h) frames to some ends = (omega arith, omega (arith, some), ends)
+  end_more part at Free frames to some ends = end_earlier at (at + 0) (by frames) to (omega arith) ends
+  end_more part at (Block b) frames to some ends = end_earlier at (at + b.length) (by frames) to (omega arith) ends
+  end_more part at Zero frames to some ends = end_earlier at (at + 1) (by frames) to (omega arith) ends
+  end_more part at End frames to some ends = end_earlier at (at + 0) (by frames) to (omega arith) ends
+  end_more part at Nothing frames to some ends = end_earlier at (at + 0) (by frames) to (omega arith) ends
+
+  -- the frames of items that stand end to end
+  pub items_end : (part : Part) (from : ℕ) (ps : List Placed) (to : ℕ) → AreEndToEnd part file from ps to → EndBy from (by (frames_of ps)) to
+  items_end part from [] to ends = omega (arith, ends)
+  items_end part from (p ∷ ps) to ends =
+      subst (λ n. EndBy n (by (frames_of (p ∷ ps))) to) ends.0
+      (end_more part p.offset p.item (frames_of ps) to (item_of-is part file p.offset p.item ends.1).some (items_end part (p.offset + size_of p.item) ps to ends.2))
+
+  -- ---- a moved frame keeps its length
+
+  module _ (steps : Steps) where
+    one_sized : (part : Part) (at : ℕ) (h : HeaderFields) → IsItemOf part file at (Frame h) → (b : Bool)
+        → length (cond b (take (length_of (class_of h) h.slot) (drop at file)) (frame_with h (moved_side steps (side_in h (drop at file))) (take (length_of (class_of h) h.slot) (drop at file)))) ≡ length_of (class_of h) h.slot
+    one_sized part at h here b =
+        let size = length_of (class_of h) h.slot in
+        let frame = take size (drop at file) in
+        let fields = header_front-in_range (drop at file) h (stands-at file at (Frame h) here.is) in
+        let long : length frame ≡ size = length-take-le size (drop at file) (omega (arith, here.within, length-drop at file)) in
+        let s = side_in h (drop at file) in
+        let kept : length (frame_with h (moved_side steps s) frame) ≡ length frame =
+        length-frame_with h (moved_side steps s) frame (IsClass-class_of h fields) (IsShaped-moved steps s (shaped-side_in h (drop at file))) (omega (arith, overhead-within h fields, long)) in
+        by_lost b frame (frame_with h (moved_side steps s) frame) size long (kept ∙ long)
+      where
+        by_lost : (b : Bool) (l m : List ℕ) (n : ℕ) → length l ≡ n → length m ≡ n → length (cond b l m) ≡ n
+        by_lost true l m n a c = a
+        by_lost false l m n a c = c
+
+    sized_more : (part : Part) (at : ℕ) (item : Item) (frames : List PlacedFrame) → IsItemOf part file at item → AreSized steps file (by frames) → AreSized steps file (by (cons_option (frame_as at item) frames))
+    sized_more part at (Frame h) frames here sized = (one_sized part at h here (lost at), sized)
+    sized_more part at Free frames here sized = sized
+    sized_more part at (Block b) frames here sized = sized
+    sized_more part at Zero frames here sized = sized
+    sized_more part at End frames here sized = sized
+    sized_more part at Nothing frames here sized = sized
+
+    pub items_sized : (part : Part) (from : ℕ) (ps : List Placed) (to : ℕ) → AreEndToEnd part file from ps to → AreSized steps file (by (frames_of ps))
+    items_sized part from [] to ends = tt
+    items_sized part from (p ∷ ps) to ends = sized_more part p.offset p.item (frames_of ps) (item_of-is part file p.offset p.item ends.1) (items_sized part (p.offset + size_of p.item) ps to ends.2)
+
+  -- ---- the frames in front of a block, and those behind it
+
+  pub record IsCut (from : ℕ) (frames : List PlacedFrame) (b : Piece) (to : ℕ) : Type 0 where
+    pub before : List PlacedFrame
+    pub behind : List PlacedFrame
+    pub all : frames ≡ before ++ behind
+    pub front : EndBy from (by before) b.offset
+    pub rest : EndBy (b.offset + b.block.length) (by behind) to
+    pub some : 0 < b.block.length
+
+  cut_later : (from at : ℕ) (frames : List PlacedFrame) (b : Piece) (to : ℕ) → from ≤ at → IsCut at frames b to → IsCut from frames b to
+  cut_later from at frames b to low cut = record {
+    before = cut.before;
+    behind = cut.behind;
+    all = cut.all;
+    front = end_earlier from at (by cut.before) b.offset low cut.front;
+    rest = cut.rest;
+    some = cut.some;
+  }
+
+  cut_more : (part : Part) (at : ℕ) (item : Item) (ps : List Placed) (b : Piece) (to : ℕ) → IsItemOf part file at item → EndBy (at + size_of item) (by (frames_of ps)) to
+      → (find is_tag (blocks_of ps) ≡ Some b → IsCut (at + size_of item) (frames_of ps) b to)
+      → find is_tag (cons_option (block_as at item) (blocks_of ps)) ≡ Some b → IsCut at (cons_option (frame_as at item) (frames_of ps)) b to
+  cut_more part at (Frame h) ps b to here rest later e =
+      let cut = later e in
+      record {
+        before = record { offset = at; header = h } ∷ cut.before;
+        behind = cut.behind;
+        all = ap (λ (l : List PlacedFrame). record { offset = at; header = h } ∷ l) cut.all;
+        front = (omega arith, omega (arith, here.some), cut.front);
+        rest = cut.rest;
+        some = cut.some;
+      }
+  cut_more part at Free ps b to here rest later e = cut_later at (at + 0) (frames_of ps) b to (omega arith) (later e)
+  cut_more part at (Block x) ps b to here rest later e =
+      found_case (record { offset = at; block = x }) b (blocks_of ps) (IsCut at (frames_of ps) b to) e
+      (λ is same. subst (λ y. IsCut at (frames_of ps) y to) same
+      (record { before = []; behind = frames_of ps; all = refl; front = omega arith; rest = rest; some = here.some }))
+      (λ none found. cut_later at (at + x.length) (frames_of ps) b to (omega arith) (later found))
+  cut_more part at Zero ps b to here rest later e = cut_later at (at + 1) (frames_of ps) b to (omega arith) (later e)
+  cut_more part at End ps b to here rest later e = cut_later at (at + 0) (frames_of ps) b to (omega arith) (later e)
+  cut_more part at Nothing ps b to here rest later e = cut_later at (at + 0) (frames_of ps) b to (omega arith) (later e)
+
+  pub items_cut : (part : Part) (from : ℕ) (ps : List Placed) (b : Piece) (to : ℕ) → AreEndToEnd part file from ps to → find is_tag (blocks_of ps) ≡ Some b → IsCut from (frames_of ps) b to
+  items_cut part from [] b to ends e = absurd cc
+  items_cut part from (p ∷ ps) b to ends e =
+      let here = item_of-is part file p.offset p.item ends.1 in
+      let next = p.offset + size_of p.item in
+      subst (λ n. IsCut n (frames_of (p ∷ ps)) b to) ends.0
+      (cut_more part p.offset p.item ps b to here (items_end part next ps to ends.2) (λ found. items_cut part next ps b to ends.2 found) e)
+
+  -- ---- a block in front of all frames
+
+  front_more : (part : Part) (at : ℕ) (item : Item) (ps : List Placed) (b : Piece) (to : ℕ) → IsItemOf part file at item → at + size_of item ≤ to → (find is_tag (blocks_of ps) ≡ Some b → (0 < b.block.length) × (b.offset + b.block.length ≤ to))
+      → find is_tag (cons_option (block_as at item) (blocks_of ps)) ≡ Some b → (0 < b.block.length) × (b.offset + b.block.length ≤ to)
+  front_more part at (Frame h) ps b to here up later e = later e
+  front_more part at Free ps b to here up later e = later e
+  front_more part at (Block x) ps b to here up later e =
+      found_case (record { offset = at; block = x }) b (blocks_of ps) ((0 < b.block.length) × (b.offset + b.block.length ≤ to)) e
+      (λ is same. subst (λ (y : Piece). (0 < y.block.length) × (y.offset + y.block.length ≤ to)) same (here.some, up))
+      (λ none found. later found)
+  front_more part at Zero ps b to here up later e = later e
+  front_more part at End ps b to here up later e = later e
+  front_more part at Nothing ps b to here up later e = later e
+
+  pub items_within : (part : Part) (from : ℕ) (ps : List Placed) (b : Piece) (to : ℕ) → AreEndToEnd part file from ps to → find is_tag (blocks_of ps) ≡ Some b → (0 < b.block.length) × (b.offset + b.block.length ≤ to)
+  items_within part from [] b to ends e = absurd cc
+  items_within part from (p ∷ ps) b to ends e =
+      let next = p.offset + size_of p.item in
+      front_more part p.offset p.item ps b to (item_of-is part file p.offset p.item ends.1) (ends-rise part file next ps to ends.2) (λ found. items_within part next ps b to ends.2 found) e
+
+-- ---- the end of the last frame
+
+pub last_more : (r q : Row) (rows : List Row) → last_end (r ∷ q ∷ rows) ≡ last_end (q ∷ rows)
+last_more r q rows = let m : length (r ∷ q ∷ rows) - 1 ≡ suc (length (q ∷ rows) - 1) = omega arith in rw m refl
+
+-- all frames stand in front of it
+pub last_ends : (from : ℕ) (row : Row) (rows : List Row) (to : ℕ) → EndBy from (row ∷ rows) to → EndBy from (row ∷ rows) (last_end (row ∷ rows)) × (last_end (row ∷ rows) ≤ to)
+last_ends from row [] to ends = ((ends.0, ends.1, omega arith), ends.2)
+last_ends from row (q ∷ rows) to ends =
+    let rest = last_ends (row_end row) q rows to ends.2 in
+    ((ends.0, ends.1, subst (EndBy (row_end row) (q ∷ rows)) (sym (last_more row q rows)) rest.0), omega (arith, last_more row q rows, rest.1))
+
+-- ---- where the tag stands
+
+-- the tag stands behind some frames, and in front of the others; or there is none, and all frames stand in front of its place
+pub record IsAmong (s : SurveyFields) : Type 0 where
+  pub before : List Row
+  pub behind : List Row
+  pub all : s.frames ≡ before ++ behind
+  pub low : s.first < tag_at s
+  pub past : s.junk < tag_at s + tag_length s
+  pub front : EndBy s.first before (tag_at s)
+  pub rest : EndBy (tag_at s + tag_length s) behind s.length
+  pub up : tag_at s + tag_length s ≤ s.length
+
+-- it stands in front of the junk
+pub record IsInFront (s : SurveyFields) : Type 0 where
+  pub some : 0 < tag_length s
+  pub before : tag_at s + tag_length s ≤ s.junk
+
+pub record StandsSomewhere (steps : Steps) (file : List ℕ) (s : SurveyFields) : Type 0 where
+  pub size : length file ≡ s.length
+  pub junk : s.junk ≤ s.first
+  pub first : s.first ≤ s.length
+  pub sized : AreSized steps file s.frames
+  pub ends : EndBy s.first s.frames s.length
+  pub some : 0 < length s.frames
+  pub place : IsInFront s ⊎ IsAmong s
+
+each_long : (head : Option Head) (all : List Row) (n : ℕ) (rows : List Row) → length (map (λ (p : ℕ × Row). marked_row head all p.0 p.1) (enumerate_from n rows)) ≡ length rows
+each_long head all n [] = refl
+each_long head all n (r ∷ rows) = ap (λ m. suc m) (each_long head all (n + 1) rows)
+
+marked_long : (head : Option Head) (rows : List Row) → length (marked head rows) ≡ length rows
+unfolding marked
+marked_long head rows = each_long head rows 0 rows
+
+pub tag_some : (s : SurveyFields) (b : Piece) → tag_block s ≡ Some b → (tag_at s ≡ b.offset) × (tag_length s ≡ b.block.length)
+tag_some s b is = (rw is refl, rw is refl)
+
+pub tag_none : (s : SurveyFields) → tag_block s ≡ None → (tag_at s ≡ last_end s.frames) × (tag_length s ≡ 0)
+tag_none s is = (rw is refl, rw is refl)
+
+low_cases : (file : List ℕ) (start : Start) → IsLeastStart file start → start.front_end ≤ start.first.offset
+low_cases file start (inl same) = omega (arith, same)
+low_cases file start (inr least) = omega (arith, least.0)
+
+front_end-is : (file : List ℕ) → front_end_of file ≡ (run Front file 0).stop
+unfolding front_end_of
+front_end-is file = refl
+
+module _ (steps : Steps) (file : List ℕ) (allowed : ℕ) (start : Start) (read : IsRead file allowed start) where
+  abbrev s : SurveyFields
+  s = told_from file start
+
+  abbrev first : ℕ
+  first = start.first.offset
+
+  abbrev h : HeaderFields
+  h = start.first.header
+
+  abbrev size : ℕ
+  size = size_of (Frame h)
+
+  abbrev head : Option Head
+  head = head_of file start.first
+
+  abbrev later : Run
+  later = run Stream file (first + size)
+
+  abbrev front : Run
+  front = run Front file 0
+
+  abbrev lost : ℕ → Bool
+  lost = is_lost_at s.frames
+
+  first_whole : IsItemOf Stream file first (Frame h)
+  first_whole = (start-first file start read.start_is).frame
+
+  front_low : start.front_end ≤ first
+  front_low = low_cases file start (start-first file start read.start_is).least
+
+  front_stop : front.stop ≡ start.front_end
+  front_stop = sym (start-front file start read.start_is ∙ front_end-is file)
+
+  stream_is : stream_run file start ≡ record { items = record { offset = first; item = Frame h } ∷ later.items; stop = later.stop }
+  stream_is = run-next Stream file first (Frame h) (first_item file start.first first_whole.is first_whole.within)
+
+  later_ends : AreEndToEnd Stream file (first + size) later.items later.stop
+  later_ends = run-ends Stream file (first + size)
+
+  stop_within : later.stop ≤ length file
+  stop_within = ends-within Stream file (first + size) later.items later.stop later_ends first_whole.within
+
+  -- the frames of the survey, by the items behind the first
+  rows_told : s.frames ≡ rows_by lost file (numbered head (start.first ∷ frames_of later.items))
+  rows_told =
+      marked-by file head first (frames_from file start) (walk_rising file start head)
+      ∙ ap (λ (r : Run). rows_by lost file (numbered head (frames_of r.items))) stream_is
+
+  ends_by : (o : Option Head) → EndBy first (rows_by lost file (numbered o (start.first ∷ frames_of later.items))) (length file)
+  ends_by None = (omega arith, omega (arith, first_whole.some), end_later (first + size) (rows_by lost file (frames_of later.items)) later.stop (length file) stop_within (items_end lost file Stream (first + size) later.items later.stop later_ends))
+  ends_by (Some found) =
+      end_earlier first (first + size) (rows_by lost file (frames_of later.items)) (length file) (omega arith)
+      (end_later (first + size) (rows_by lost file (frames_of later.items)) later.stop (length file) stop_within (items_end lost file Stream (first + size) later.items later.stop later_ends))
+
+  sized_by : (o : Option Head) → AreSized steps file (rows_by lost file (numbered o (start.first ∷ frames_of later.items)))
+  sized_by None = (one_sized lost file steps Stream first h first_whole (lost first), items_sized lost file steps Stream (first + size) later.items later.stop later_ends)
+  sized_by (Some found) = items_sized lost file steps Stream (first + size) later.items later.stop later_ends
+
+  cut_by : (o : Option Head) (b : Piece) → IsCut lost file (first + size) (frames_of later.items) b later.stop → IsCut lost file first (numbered o (start.first ∷ frames_of later.items)) b later.stop
+  cut_by None b cut = record {
+    before = start.first ∷ cut.before;
+    behind = cut.behind;
+    all = ap (λ (l : List PlacedFrame). start.first ∷ l) cut.all;
+    front = (omega arith, omega (arith, first_whole.some), cut.front);
+    rest = cut.rest;
+    some = cut.some;
+  }
+  cut_by (Some found) b cut = cut_later lost file first (first + size) (frames_of later.items) b later.stop (omega arith) cut
+
+  among_by : (b : Piece) → tag_block s ≡ Some b → first < b.offset → IsCut lost file first (numbered head (start.first ∷ frames_of later.items)) b later.stop → IsAmong s
+  among_by b is beyond cut =
+      let tag = tag_some s b is in
+      let high = end_rises (b.offset + b.block.length) (rows_by lost file cut.behind) later.stop cut.rest in
+      record {
+        before = rows_by lost file cut.before;
+        behind = rows_by lost file cut.behind;
+        all = rows_told ∙ ap (rows_by lost file) cut.all ∙ map-append (λ (p : PlacedFrame). record (row_of file p) { lost = lost p.offset }) cut.before cut.behind;
+        low = omega (arith, tag.0, beyond);
+        past = omega (arith, tag.0, tag.1, beyond, front_low, cut.some);
+        front = subst (EndBy first (rows_by lost file cut.before)) (sym tag.0) cut.front;
+        rest = end_later (tag_at s + tag_length s) (rows_by lost file cut.behind) later.stop (length file) stop_within
+            (subst (λ n. EndBy n (rows_by lost file cut.behind) later.stop) (ap₂ (λ m n. m + n) (sym tag.0) (sym tag.1)) cut.rest);
+        up = omega (arith, tag.0, tag.1, high, stop_within);
+      }
+
+  some_frame : (rows : List Row) (frames : List PlacedFrame) → length rows ≡ length frames → end_fault file frames (fault_at (stream_run file start).stop (item_at file (stream_run file start).stop)) ≡ None → 0 < length rows
+  some_frame rows frames same none = at frames (fault_at (stream_run file start).stop (item_at file (stream_run file start).stop)) same none
+    where
+      at : (fs : List PlacedFrame) (o : Option SurveyFault) → length rows ≡ length fs → end_fault file fs o ≡ None → 0 < length rows
+      at [] None same e = absurd cc
+      at [] (Some fault) same e = absurd cc
+      at (p ∷ ps) o same e = omega (arith, same)
+
+  rows_ends : EndBy first s.frames (length file)
+  rows_ends = subst (λ l. EndBy first l (length file)) (sym rows_told) (ends_by head)
+
+  frames_some : 0 < length s.frames
+  frames_some = some_frame s.frames (frames_from file start) (marked_long head (rows_of file (frames_from file start)) ∙ length-map (frames_from file start) (row_of file)) read.end
+
+  last_by : (rows : List Row) → rows ≡ s.frames → EndBy first rows (length file) → 0 < length rows → tag_block s ≡ None → IsAmong s
+  last_by [] same ends some is = absurd (omega (arith, some))
+  last_by (row ∷ rows) same ends some is =
+      let tag = tag_none s is in
+      let last = last_ends first row rows (length file) ends in
+      let place : tag_at s ≡ last_end (row ∷ rows) = tag.0 ∙ ap last_end (sym same) in
+      record {
+        before = row ∷ rows;
+        behind = [];
+        all = sym same ∙ sym (append-nil (row ∷ rows));
+        low = omega (arith, place, ends.0, ends.1, end_rises (row_end row) rows (last_end (row ∷ rows)) last.0.2);
+        past = omega (arith, place, tag.1, ends.0, ends.1, end_rises (row_end row) rows (last_end (row ∷ rows)) last.0.2, front_low);
+        front = subst (EndBy first (row ∷ rows)) (sym place) last.0;
+        rest = omega (arith, place, tag.1, last.1);
+        up = omega (arith, place, tag.1, last.1);
+      }
+
+  blocks_later : blocks_of (stream_run file start).items ≡ blocks_of later.items
+  blocks_later = ap (λ (r : Run). blocks_of r.items) stream_is
+
+  place_by : (x y : Option Piece) → find is_tag (blocks_of front.items) ≡ x → find is_tag (blocks_of later.items) ≡ y → tag_block s ≡ option_or x y → IsInFront s ⊎ IsAmong s
+  place_by (Some b) y front_is later_is is =
+      let tag = tag_some s b is in
+      let here = items_within lost file Front 0 front.items b front.stop (run-ends Front file 0) front_is in
+      inl (record { some = omega (arith, tag.1, here.0); before = omega (arith, tag.0, tag.1, here.1, front_stop) })
+  place_by None (Some b) front_is later_is is =
+      let cut = items_cut lost file Stream (first + size) later.items b later.stop later_ends later_is in
+      let beyond = end_rises (first + size) (rows_by lost file cut.before) b.offset cut.front in
+      inr (among_by b is (omega (arith, beyond, first_whole.some)) (cut_by head b cut))
+  place_by None None front_is later_is is =
+      inr (last_by s.frames refl rows_ends frames_some is)
+
+  pub stands : StandsSomewhere steps file s
+  stands = record {
+    size = refl;
+    junk = front_low;
+    first = omega (arith, first_whole.within);
+    sized = subst (AreSized steps file) (sym rows_told) (sized_by head);
+    ends = rows_ends;
+    some = frames_some;
+    place = place_by _ _ refl refl
+        (find-append is_tag (blocks_of front.items) (blocks_of (stream_run file start).items) ∙ ap (λ (l : List Piece). option_or (find is_tag (blocks_of front.items)) (find is_tag l)) blocks_later);
+  }
+
+pub stands_somewhere : (steps : Steps) (file : List ℕ) (allowed : ℕ) (s : SurveyFields) → surveyed file allowed ≡ Ok s → StandsSomewhere steps file s
+stands_somewhere steps file allowed s e =
+    let parts = surveyed-parts file allowed s e in
+    subst (StandsSomewhere steps file) parts.2 (stands steps file allowed parts.0 parts.1)

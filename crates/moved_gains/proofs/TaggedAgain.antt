@@ -1,0 +1,391 @@
+-- A file with moved gains and another tag, changed again: it is the file with all steps together and with the last tag.
+use Rattle.std.proofs.Common.{◌≡◌, ℕ, ◌+◌, ◌-◌, ◌<◌, ◌≤◌, ltb, Bool, true, false, cond, List, [], ◌∷◌, ◌++◌, length, take, drop, map, Some, Ok, refl, sym, ◌∙◌, ap, ap₂, subst, arith, inl, inr, append_assoc, append-nil, length-append, length-drop}
+use Rattle.std.specs.Prelude.{◌⊎◌}
+use Rattle.std.proofs.lemmas.Bool.{lt-ltb, le-ltb}
+use Rattle.std.proofs.lemmas.List.{drop-drop, take_at, drop_at, length-take-le, map-append}
+use Rattle.std.proofs.Math.Seq.{take-add}
+use Rattle.bit_fields.specs.Bits.{AreBytes}
+use Rattle.tag_blocks.specs.declared.block.Kind.TheVariants.{Ape}
+use Rattle.tag_blocks.specs.Blocks.{block_front}
+use Rattle.tag_blocks.proofs.BlocksLaws.{block_front-least}
+use Rattle.sync_survey.specs.declared.rows.Row.{Row}
+use Rattle.sync_survey.specs.Faults.{SurveyFields, surveyed}
+use Rattle.file_tag.specs.Places.{tag_at, tag_length, with_tag, moved_at, moved_row as tagged_row, retagged}
+use Rattle.file_tag.specs.Laws.{own_bytes, HasNewTag}
+use Rattle.file_tag.proofs.Retagged.{surveyed-retagged}
+use Rattle.file_tag.proofs.NewTag.{tagged-again}
+use Rattle.moved_gains.specs.declared.shift.Steps.{Steps}
+use Rattle.moved_gains.specs.Edited.{edited}
+use Rattle.moved_gains.specs.Streams.{moved_row, junk_length, moved_survey}
+use Rattle.moved_gains.specs.Moving.{bytes_between}
+use Rattle.moved_gains.proofs.MovingLaws.{moved_from, IsBehind, moved_from-later, written-edited}
+use Rattle.moved_gains.proofs.WrittenLaws.{EndBy, moved_to, AreSized, moved_to-long, moved_split}
+use Rattle.moved_gains.proofs.TagPlaces.{IsAmong, IsInFront, StandsSomewhere, stands_somewhere}
+use Rattle.moved_gains.proofs.WrittenTag.{length_moved, at_front, at_behind, is_behind, is_earlier, sized_front}
+use Rattle.moved_gains.proofs.MovedSurvey.{surveyed-edited}
+use Rattle.moved_gains.proofs.FramesThere.{AreFramesOf, frames_there}
+use Rattle.moved_gains.proofs.MovedAgain.{AreTogether, stood, AreMovedBy, ends_again, moved_again, moved_whole_to}
+
+-- ---- the edited file is what stands before its tag, the tag, and what stands behind it
+
+pub record IsParted (steps : Steps) (file : List ℕ) (s : SurveyFields) (before behind : List ℕ) : Type 0 where
+  pub place : tag_at (moved_survey steps s) ≡ length before
+  pub own : edited steps file s ≡ before ++ (own_bytes file s ++ behind)
+  pub tagged : (bytes : List ℕ) → with_tag bytes (moved_survey steps s) (edited steps file s) ≡ before ++ (bytes ++ behind)
+
+tagged_by : (bytes before own behind moved : List ℕ) (m : SurveyFields) → tag_at m ≡ length before → tag_length m ≡ length own → moved ≡ before ++ (own ++ behind) → with_tag bytes m moved ≡ before ++ (bytes ++ behind)
+unfolding with_tag
+tagged_by bytes before own behind moved m at size is =
+    let front : take (tag_at m) moved ≡ before = ap (take (tag_at m)) is ∙ take_at before (own ++ behind) (tag_at m) (sym at) in
+    let rest : drop (tag_at m + tag_length m) moved ≡ behind =
+    sym (drop-drop (tag_length m) (tag_at m) moved)
+    ∙ ap (λ (l : List ℕ). drop (tag_length m) (drop (tag_at m) l)) is
+    ∙ ap (drop (tag_length m)) (drop_at before (own ++ behind) (tag_at m) (sym at))
+    ∙ drop_at own behind (tag_length m) (sym size) in
+    ap₂ (λ (a b : List ℕ). a ++ (bytes ++ b)) front rest
+
+parted_by : (steps : Steps) (file : List ℕ) (s : SurveyFields) (before behind : List ℕ) → tag_at (moved_survey steps s) ≡ length before → length (own_bytes file s) ≡ tag_length s
+    → edited steps file s ≡ before ++ (own_bytes file s ++ behind) → IsParted steps file s before behind
+parted_by steps file s before behind place size own = record {
+  place = place;
+  own = own;
+  tagged = λ bytes. tagged_by bytes before (own_bytes file s) behind (edited steps file s) (moved_survey steps s) place (length_moved steps s ∙ sym size) own;
+}
+
+module _ (steps : Steps) (file : List ℕ) (allowed : ℕ) (s : SurveyFields) (is : surveyed file allowed ≡ Ok s) where
+  known : StandsSomewhere steps file s
+  known = stands_somewhere steps file allowed s is
+
+  moved_is : edited steps file s ≡ take s.junk file ++ moved_from steps file s.first s.frames
+  moved_is = sym (written-edited steps file allowed s is)
+
+  -- where the tag stands in front of the frames
+  abbrev pub rest_front : List ℕ
+  rest_front = bytes_between file (tag_at s + tag_length s) s.junk ++ moved_to steps file s.first (length file) s.frames
+
+  pub parted_front : IsInFront s → IsParted steps file s (take (tag_at s) file) rest_front
+  parted_front front =
+      let a = tag_at s in
+      let size = tag_length s in
+      let junk = s.junk in
+      let own = own_bytes file s in
+      let between = bytes_between file (a + size) junk in
+      let all = moved_to steps file s.first (length file) s.frames in
+      let within : junk ≤ length file = omega (arith, known.size, known.junk, known.first) in
+      let sum : junk ≡ (a + size) + (junk - (a + size)) = omega (arith, front.before) in
+      let to_junk : take junk file ≡ take a file ++ (own ++ between) =
+      ap (λ n. take n file) sum
+      ∙ take-add (a + size) (junk - (a + size)) file
+      ∙ ap (λ (l : List ℕ). l ++ between) (take-add a size file)
+      ∙ append_assoc (take a file) own between in
+      let front_long : length (take a file) ≡ a = length-take-le a file (omega (arith, front.before, within)) in
+      let own_long : length own ≡ size = length-take-le size (drop a file) (omega (arith, length-drop a file, front.before, within)) in
+      parted_by steps file s (take a file) rest_front
+      (at_front steps s (omega (arith, front.some, front.before, known.junk)) front.some ∙ sym front_long)
+      own_long
+      (moved_is
+      ∙ ap₂ (λ (l m : List ℕ). l ++ m) to_junk (moved_whole_to steps file s.first s.frames)
+      ∙ append_assoc (take a file) (own ++ between) all
+      ∙ ap (λ (l : List ℕ). take a file ++ l) (append_assoc own between all))
+
+  -- where it stands behind some frames and in front of the others
+  module _ (among : IsAmong s) where
+    abbrev pub to_tag : List ℕ
+    to_tag = take s.junk file ++ moved_to steps file s.first (tag_at s) among.before
+
+    abbrev pub from_tag : List ℕ
+    from_tag = moved_to steps file (tag_at s + tag_length s) (length file) among.behind
+
+    pub to_long : length (moved_to steps file s.first (tag_at s) among.before) ≡ tag_at s - s.first
+    to_long =
+        moved_to-long steps file s.first (tag_at s) among.before (sized_front steps file among.before among.behind (subst (AreSized steps file) among.all known.sized)) among.front (omega (arith, known.size, among.up))
+
+    pub parted_among : IsParted steps file s to_tag from_tag
+    parted_among =
+        let a = tag_at s in
+        let size = tag_length s in
+        let junk = s.junk in
+        let own = own_bytes file s in
+        let before = moved_to steps file s.first a among.before in
+        let long : length (take junk file) ≡ junk = length-take-le junk file (omega (arith, known.size, known.junk, known.first)) in
+        let own_long : length own ≡ size = length-take-le size (drop a file) (omega (arith, length-drop a file, known.size, among.up)) in
+        let next : IsBehind (a + size) among.behind = is_behind (a + size) among.behind s.length among.rest in
+        parted_by steps file s to_tag from_tag
+        (at_behind steps s s.length (omega (arith, among.low)) known.ends known.some
+        ∙ omega (arith, length-append (take junk file) before, long, to_long, known.junk, among.low))
+        own_long
+        (moved_is
+        ∙ ap (λ (l : List ℕ). take junk file ++ l)
+        (ap (moved_from steps file s.first) among.all
+        ∙ moved_split steps file s.first a among.before among.behind among.front (is_earlier a (a + size) among.behind (omega arith) next)
+        ∙ ap (λ (l : List ℕ). before ++ l) (moved_from-later steps file a size among.behind next ∙ ap (λ (l : List ℕ). own ++ l) (moved_whole_to steps file (a + size) among.behind)))
+        ∙ sym (append_assoc (take junk file) before (own ++ from_tag)))
+
+-- ---- changed again
+
+frames_before : (file : List ℕ) (before behind : List Row) → AreFramesOf file (before ++ behind) → AreFramesOf file before
+frames_before file [] behind frames = tt
+frames_before file (row ∷ before) behind frames = (frames.0, frames_before file before behind frames.1)
+
+frames_behind : (file : List ℕ) (before behind : List Row) → AreFramesOf file (before ++ behind) → AreFramesOf file behind
+frames_behind file [] behind frames = frames
+frames_behind file (row ∷ before) behind frames = frames_behind file before behind frames.1
+
+module _ (one : Steps) (file : List ℕ) (allowed : ℕ) (s : SurveyFields) (are : AreBytes file) (is : surveyed file allowed ≡ Ok s) (block : List ℕ) (front : block_front block ≡ Some (record { kind = Ape; length = length block })) where
+  abbrev m : SurveyFields
+  m = moved_survey one s
+
+  abbrev moved : List ℕ
+  moved = edited one file s
+
+  abbrev size : ℕ
+  size = length block
+
+  -- the file with moved gains and this tag, and its survey
+  abbrev pub new : List ℕ
+  new = with_tag block m moved
+
+  abbrev pub new_survey : SurveyFields
+  new_survey = retagged size m
+
+  abbrev gap : ℕ
+  gap = junk_length s
+
+  abbrev a : ℕ
+  a = tag_at s
+
+  abbrev old : ℕ
+  old = tag_length s
+
+  -- where what stands at an offset of the file stands then
+  abbrev pub to : ℕ → ℕ
+  to x = moved_at size m (x - gap)
+
+  moved_of : surveyed moved allowed ≡ Ok m
+  moved_of = surveyed-edited one file allowed s are is
+
+  clean : m.junk ≡ m.first
+  unfolding moved_survey
+  clean = refl
+
+  pub new_is : surveyed new allowed ≡ Ok new_survey
+  new_is = surveyed-retagged moved block allowed m moved_of clean (inr front)
+
+  pub has_block : HasNewTag moved block m
+  has_block = tagged-again moved block allowed m moved_of clean front
+
+  some : 10 ≤ size
+  some = block_front-least block _ front
+
+  rows_twice : (rows : List Row) → map (tagged_row size m) (map (moved_row one gap) rows) ≡ map (stood to one) rows
+  rows_twice [] = refl
+  rows_twice (row ∷ rows) = ap (λ (l : List Row). stood to one row ∷ l) (rows_twice rows)
+
+  pub new_frames : new_survey.frames ≡ map (stood to one) s.frames
+  unfolding retagged moved_survey
+  new_frames = rows_twice s.frames
+
+  new_junk : new_survey.junk ≡ moved_at size m s.junk
+  unfolding retagged moved_survey
+  new_junk = refl
+
+  new_first : new_survey.first ≡ moved_at size m s.junk
+  unfolding retagged moved_survey
+  new_first = refl
+
+  -- no junk stands in it
+  pub clean_survey : junk_length new_survey ≡ 0
+  clean_survey = omega (arith, new_junk, new_first)
+
+  pub new_long : new_survey.length ≡ s.length - gap - tag_length m + size
+  unfolding retagged moved_survey
+  new_long = refl
+
+  stays : (x : ℕ) → x < tag_at m → moved_at size m x ≡ x
+  stays x low = let below : ltb x (tag_at m) ≡ true = lt-ltb x (tag_at m) low in ap (λ (b : Bool). cond b x (x - tag_length m + size)) below
+
+  follows : (x : ℕ) → tag_at m ≤ x → moved_at size m x ≡ x - tag_length m + size
+  follows x high = let above : ltb x (tag_at m) ≡ false = le-ltb x (tag_at m) high in ap (λ (b : Bool). cond b x (x - tag_length m + size)) above
+
+  old_size : tag_length m ≡ old
+  old_size = length_moved one s
+
+  here : StandsSomewhere one file s
+  here = known one file allowed s is
+
+  frames : AreFramesOf file s.frames
+  frames = frames_there file allowed s are is
+
+  new_size : tag_length new_survey ≡ size
+  new_size = has_block.size
+
+  whole : length new ≡ new_survey.length
+  whole = (known one new allowed new_survey new_is).size
+
+  -- where the tag stands behind some frames and in front of the others, so does the new one
+  module _ (at : IsAmong s) where
+    kept : tag_at m ≡ a - gap
+    kept = at_behind one s s.length (omega (arith, at.low)) here.ends here.some
+
+    place : tag_at new_survey ≡ a - gap
+    place = has_block.place ∙ kept
+
+    still : moved_at size m s.junk ≡ s.junk
+    still = stays s.junk (omega (arith, kept, at.low, here.junk))
+
+    junk_same : new_survey.junk ≡ s.junk
+    junk_same = new_junk ∙ still
+
+    first_same : new_survey.first ≡ s.junk
+    first_same = new_first ∙ still
+
+    abbrev next : ℕ
+    next = tag_at new_survey + tag_length new_survey
+
+    by_before : AreMovedBy to s.first a new_survey.first
+    by_before x low high = stays (x - gap) (omega (arith, kept, low, high, here.junk)) ∙ omega (arith, first_same, low, here.junk)
+
+    by_behind : AreMovedBy to (a + old) (length file) next
+    by_behind x low high = follows (x - gap) (omega (arith, kept, low)) ∙ omega (arith, old_size, place, new_size, low, at.low, here.junk)
+
+    to_place : a - s.first + new_survey.first ≡ tag_at new_survey
+    to_place = omega (arith, place, first_same, at.low, here.junk)
+
+    to_end : length file - (a + old) + next ≡ length new
+    to_end = omega (arith, place, new_size, here.size, whole, new_long, old_size, at.low, at.up, here.junk)
+
+    rest_file : EndBy (a + old) at.behind (length file)
+    rest_file = subst (EndBy (a + old) at.behind) (sym here.size) at.rest
+
+    abbrev new_among : IsAmong new_survey
+    new_among = record {
+      before = map (stood to one) at.before;
+      behind = map (stood to one) at.behind;
+      all = new_frames ∙ ap (map (stood to one)) at.all ∙ map-append (stood to one) at.before at.behind;
+      low = omega (arith, place, first_same, at.low, here.junk);
+      past = omega (arith, place, junk_same, at.low, here.junk);
+      front = subst (EndBy new_survey.first (map (stood to one) at.before)) to_place (ends_again one to s.first a new_survey.first at.before at.front by_before);
+      rest = subst (EndBy next (map (stood to one) at.behind)) (to_end ∙ whole) (ends_again one to (a + old) (length file) next at.behind rest_file by_behind);
+      up = omega (arith, to_end, whole);
+    }
+
+  module _ (two all : Steps) (sum : AreTogether one two all) where
+    abbrev n : SurveyFields
+    n = new_survey
+
+    there : StandsSomewhere two new n
+    there = known two new allowed n new_is
+
+    -- the tag stands in front of the frames
+    front_again : IsInFront s → (bytes : List ℕ) → with_tag bytes (moved_survey two n) (edited two new n) ≡ with_tag bytes (moved_survey all s) (edited all file s)
+    front_again at bytes =
+        let place : tag_at n ≡ a = has_block.place ∙ at_front one s (omega (arith, at.some, at.before, here.junk)) at.some in
+        let kept : tag_at m ≡ a = at_front one s (omega (arith, at.some, at.before, here.junk)) at.some in
+        let past : moved_at size m s.junk ≡ s.junk - old + size = follows s.junk (omega (arith, kept, at.before)) ∙ ap (λ k. s.junk - k + size) old_size in
+        let between = bytes_between file (a + old) s.junk in
+        let rows = moved_to one file s.first (length file) s.frames in
+        let within : s.junk ≤ length file = omega (arith, here.size, here.junk, here.first) in
+        let stands : new ≡ take a file ++ (block ++ (between ++ rows)) = (parted_front one file allowed s is at).tagged block in
+        let at_new : IsInFront n = record { some = omega (arith, new_size, some); before = omega (arith, place, new_size, new_junk, past, at.before) } in
+        let front_long : length (take a file) ≡ a = length-take-le a file (omega (arith, at.before, within)) in
+        let between_long : length between ≡ s.junk - (a + old) = length-take-le (s.junk - (a + old)) (drop (a + old) file) (omega (arith, length-drop (a + old) file, at.before, within)) in
+        let before_same : take (tag_at n) new ≡ take a file = ap (λ k. take k new) place ∙ ap (take a) stands ∙ take_at (take a file) (block ++ (between ++ rows)) a front_long in
+        let next : tag_at n + tag_length n ≡ a + size = ap₂ (λ j k. j + k) place new_size in
+        let behind : drop (tag_at n + tag_length n) new ≡ between ++ rows =
+        ap (λ k. drop k new) next
+        ∙ sym (drop-drop size a new)
+        ∙ ap (λ (l : List ℕ). drop size (drop a l)) stands
+        ∙ ap (drop size) (drop_at (take a file) (block ++ (between ++ rows)) a front_long)
+        ∙ drop_at block (between ++ rows) size refl in
+        let between_same : bytes_between new (tag_at n + tag_length n) n.junk ≡ between =
+        ap (take (n.junk - (tag_at n + tag_length n))) behind
+        ∙ take_at between rows (n.junk - (tag_at n + tag_length n)) (omega (arith, between_long, next, new_junk, past, at.before)) in
+        let far : n.first ≡ (tag_at n + tag_length n) + (s.junk - (a + old)) = omega (arith, new_first, past, next, at.before) in
+        let rows_stand : drop n.first new ≡ rows ++ [] =
+        ap (λ k. drop k new) far
+        ∙ sym (drop-drop (s.junk - (a + old)) (tag_at n + tag_length n) new)
+        ∙ ap (drop (s.junk - (a + old))) behind
+        ∙ drop_at between rows (s.junk - (a + old)) between_long
+        ∙ sym (append-nil rows) in
+        let end : length file - s.first + n.first ≡ length new = omega (arith, here.size, there.size, new_long, old_size, new_first, past, here.first, here.junk, at.before) in
+        let by : AreMovedBy to s.first (length file) n.first =
+        λ x low high. follows (x - gap) (omega (arith, kept, low, here.junk, at.before)) ∙ omega (arith, old_size, new_first, past, low, here.junk, at.before) in
+        let rows_same : moved_to two new n.first (length new) n.frames ≡ moved_to all file s.first (length file) s.frames =
+        ap₂ (λ k (l : List Row). moved_to two new n.first k l) (sym end) new_frames
+        ∙ moved_again one two all sum file new to s.first (length file) n.first s.frames [] frames (subst (EndBy s.first s.frames) (sym here.size) here.ends) (omega arith) by rows_stand in
+        (parted_front two new allowed n new_is at_new).tagged bytes
+        ∙ ap₂ (λ (j k : List ℕ). j ++ (bytes ++ k)) before_same (ap₂ (λ (j k : List ℕ). j ++ k) between_same rows_same)
+        ∙ sym ((parted_front all file allowed s is at).tagged bytes)
+
+    -- it stands behind some frames and in front of the others
+    module _ (at : IsAmong s) where
+      abbrev junk : List ℕ
+      junk = take s.junk file
+
+      abbrev before : List ℕ
+      before = moved_to one file s.first a at.before
+
+      abbrev behind : List ℕ
+      behind = moved_to one file (a + old) (length file) at.behind
+
+      abbrev after : ℕ
+      after = tag_at n + tag_length n
+
+      up : a + old ≤ length file
+      up = omega (arith, here.size, at.up)
+
+      parted : IsParted one file s (junk ++ before) behind
+      parted = parted_among one file allowed s is at
+
+      stands : new ≡ (junk ++ before) ++ (block ++ behind)
+      stands = parted.tagged block
+
+      stands_flat : new ≡ junk ++ (before ++ (block ++ behind))
+      stands_flat = stands ∙ append_assoc junk before (block ++ behind)
+
+      junk_long : length junk ≡ s.junk
+      junk_long = length-take-le s.junk file (omega (arith, here.size, here.junk, here.first))
+
+      both : AreFramesOf file (at.before ++ at.behind)
+      both = subst (AreFramesOf file) at.all frames
+
+      junk_again : take n.junk new ≡ junk
+      junk_again = ap (λ k. take k new) (junk_same at) ∙ ap (take s.junk) stands_flat ∙ take_at junk (before ++ (block ++ behind)) s.junk junk_long
+
+      before_stands : drop n.first new ≡ before ++ (block ++ behind)
+      before_stands = ap (λ k. drop k new) (first_same at) ∙ ap (drop s.junk) stands_flat ∙ drop_at junk (before ++ (block ++ behind)) s.junk junk_long
+
+      before_again : moved_to two new n.first (tag_at n) (map (stood to one) at.before) ≡ moved_to all file s.first a at.before
+      before_again =
+          ap (λ k. moved_to two new n.first k (map (stood to one) at.before)) (sym (to_place at))
+          ∙ moved_again one two all sum file new to s.first a n.first at.before (block ++ behind) (frames_before file at.before at.behind both) at.front (omega (arith, up)) (by_before at) before_stands
+
+      front_long : length (junk ++ before) ≡ tag_at n
+      front_long = sym (has_block.place ∙ parted.place)
+
+      behind_stands : drop after new ≡ behind ++ []
+      behind_stands =
+          ap (λ k. drop (tag_at n + k) new) new_size
+          ∙ sym (drop-drop size (tag_at n) new)
+          ∙ ap (λ (l : List ℕ). drop size (drop (tag_at n) l)) stands
+          ∙ ap (drop size) (drop_at (junk ++ before) (block ++ behind) (tag_at n) front_long)
+          ∙ drop_at block behind size refl
+          ∙ sym (append-nil behind)
+
+      behind_again : moved_to two new after (length new) (map (stood to one) at.behind) ≡ moved_to all file (a + old) (length file) at.behind
+      behind_again =
+          ap (λ k. moved_to two new after k (map (stood to one) at.behind)) (sym (to_end at))
+          ∙ moved_again one two all sum file new to (a + old) (length file) after at.behind [] (frames_behind file at.before at.behind both) (rest_file at) (omega arith) (by_behind at) behind_stands
+
+      among_again : (bytes : List ℕ) → with_tag bytes (moved_survey two n) (edited two new n) ≡ with_tag bytes (moved_survey all s) (edited all file s)
+      among_again bytes =
+          (parted_among two new allowed n new_is (new_among at)).tagged bytes
+          ∙ ap₂ (λ (j k : List ℕ). j ++ (bytes ++ k)) (ap₂ (λ (j k : List ℕ). j ++ k) junk_again before_again) behind_again
+          ∙ sym ((parted_among all file allowed s is at).tagged bytes)
+
+    pub changed_again : (bytes : List ℕ) → with_tag bytes (moved_survey two n) (edited two new n) ≡ with_tag bytes (moved_survey all s) (edited all file s)
+    changed_again bytes = by_place here.place
+      where
+        by_place : IsInFront s ⊎ IsAmong s → with_tag bytes (moved_survey two n) (edited two new n) ≡ with_tag bytes (moved_survey all s) (edited all file s)
+        by_place (inl at) = front_again at bytes
+        by_place (inr at) = among_again at bytes

@@ -1,0 +1,231 @@
+-- What is written from front to back is the changed file: the edited one with the new tag in the place of its tag.
+use Rattle.std.proofs.Common.{◌≡◌, ℕ, ◌+◌, ◌-◌, ◌<◌, ◌≤◌, ltb, Bool, true, false, cond, List, [], ◌∷◌, ◌++◌, length, take, drop, map, Option, Some, None, option_map, Ok, refl, sym, ◌∙◌, ap, ap₂, subst, arith, inl, inr, append_assoc, length-append, length-drop}
+use Rattle.std.specs.Prelude.{◌⊎◌}
+use Rattle.std.specs.List.{find}
+use Rattle.std.proofs.lemmas.Bool.{lt-ltb, le-ltb}
+use Rattle.std.proofs.lemmas.List.{drop-drop, take_at, drop_at, take-take, drop-take, take-append-le, drop-append-le, length-take-le}
+use Rattle.sync_survey.specs.declared.places.Piece.{Piece}
+use Rattle.sync_survey.specs.declared.rows.Row.{Row}
+use Rattle.sync_survey.specs.Faults.{SurveyFields, surveyed}
+use Rattle.file_tag.specs.Places.{is_tag, tag_block, tag_at, tag_length, last_end, with_tag}
+use Rattle.moved_gains.specs.declared.moving.NewTag.{NewTag}
+use Rattle.moved_gains.specs.declared.shift.Steps.{Steps}
+use Rattle.moved_gains.specs.Edited.{edited}
+use Rattle.moved_gains.specs.Streams.{moved_row, moved_block, junk_length, moved_survey}
+use Rattle.moved_gains.specs.Change.{Change, retag, changed}
+use Rattle.moved_gains.specs.Moving.{row_end, bytes_between, copied, written_from, IsTagOf, IsNewTag}
+use Rattle.moved_gains.proofs.MovingLaws.{moved_from, IsBehind, moved_from-later, written-edited}
+use Rattle.moved_gains.proofs.WrittenLaws.{written-none, EndBy, moved_to, AreSized, moved_to-long, moved_split, before_tag, around_tag, written-behind, written-split}
+use Rattle.moved_gains.proofs.TagPlaces.{last_more, tag_some, tag_none, IsAmong, IsInFront, StandsSomewhere, stands_somewhere}
+
+-- ---- the tag of the edited file
+
+module _ (first gap : ℕ) where
+  kind_kept : (p : Piece) → is_tag (moved_block first gap p) ≡ is_tag p
+  kind_kept p = elim (ltb p.offset first) as (λ b. is_tag (cond b p (record p { offset = p.offset - gap })) ≡ is_tag p) [ true ↦ refl | false ↦ refl ]
+
+  found_moved : (p : Piece) (b : Bool) (x y : Option Piece) → x ≡ option_map (moved_block first gap) y → cond b (Some (moved_block first gap p)) x ≡ option_map (moved_block first gap) (cond b (Some p) y)
+  found_moved p true x y same = refl
+  found_moved p false x y same = same
+
+  find_moved : (blocks : List Piece) → find is_tag (map (moved_block first gap) blocks) ≡ option_map (moved_block first gap) (find is_tag blocks)
+  find_moved [] = refl
+  find_moved (p ∷ ps) = ap (λ b. cond b (Some (moved_block first gap p)) (find is_tag (map (moved_block first gap) ps))) (kind_kept p) ∙ found_moved p (is_tag p) _ _ (find_moved ps)
+
+  size_kept : (p : Piece) → (moved_block first gap p).block.length ≡ p.block.length
+  size_kept p = elim (ltb p.offset first) as (λ b. (cond b p (record p { offset = p.offset - gap })).block.length ≡ p.block.length) [ true ↦ refl | false ↦ refl ]
+
+last_moved : (steps : Steps) (gap from : ℕ) (row : Row) (rows : List Row) (to : ℕ) → EndBy from (row ∷ rows) to → gap ≤ from → last_end (map (moved_row steps gap) (row ∷ rows)) ≡ last_end (row ∷ rows) - gap
+last_moved steps gap from row [] to ends low = omega (arith, ends.0, low)
+last_moved steps gap from row (q ∷ rows) to ends low =
+    last_more (moved_row steps gap row) (moved_row steps gap q) (map (moved_row steps gap) rows)
+    ∙ last_moved steps gap (row_end row) q rows to ends.2 (omega (arith, low, ends.0, ends.1))
+    ∙ ap (λ n. n - gap) (sym (last_more row q rows))
+
+module _ (steps : Steps) (s : SurveyFields) where
+  abbrev gap : ℕ
+  gap = junk_length s
+
+  abbrev m : SurveyFields
+  m = moved_survey steps s
+
+  block_moved : tag_block m ≡ option_map (moved_block s.first gap) (tag_block s)
+  unfolding moved_survey
+  block_moved = find_moved s.first gap s.blocks
+
+  frames_moved : m.frames ≡ map (moved_row steps gap) s.frames
+  unfolding moved_survey
+  frames_moved = refl
+
+  some_moved : (b : Piece) → tag_block s ≡ Some b → tag_block m ≡ Some (moved_block s.first gap b)
+  some_moved b is = block_moved ∙ ap (option_map (moved_block s.first gap)) is
+
+  none_moved : tag_block s ≡ None → tag_block m ≡ None
+  none_moved is = block_moved ∙ ap (option_map (moved_block s.first gap)) is
+
+  pub length_moved : tag_length m ≡ tag_length s
+  length_moved = at (tag_block s) refl
+    where
+      at : (o : Option Piece) → tag_block s ≡ o → tag_length m ≡ tag_length s
+      at None is = (tag_none m (none_moved is)).1 ∙ sym (tag_none s is).1
+      at (Some b) is = (tag_some m (moved_block s.first gap b) (some_moved b is)).1 ∙ size_kept s.first gap b ∙ sym (tag_some s b is).1
+
+  -- a tag in front of the frames stays where it is
+  pub at_front : tag_at s < s.first → 0 < tag_length s → tag_at m ≡ tag_at s
+  at_front front some = at (tag_block s) refl
+    where
+      at : (o : Option Piece) → tag_block s ≡ o → tag_at m ≡ tag_at s
+      at None is = absurd (omega (arith, some, (tag_none s is).1))
+      at (Some b) is =
+          let place = (tag_some s b is).0 in
+          let low : ltb b.offset s.first ≡ true = lt-ltb b.offset s.first (omega (arith, front, place)) in
+          (tag_some m (moved_block s.first gap b) (some_moved b is)).0
+          ∙ ap (λ c. (cond c b (record b { offset = b.offset - gap })).offset) low
+          ∙ sym place
+
+  -- one behind the first frame's offset stands nearer to the front by the junk
+  pub at_behind : (to : ℕ) → s.first ≤ tag_at s → EndBy s.first s.frames to → 0 < length s.frames → tag_at m ≡ tag_at s - gap
+  at_behind to low ends some = at (tag_block s) refl
+    where
+      last : (rows : List Row) → EndBy s.first rows to → 0 < length rows → last_end (map (moved_row steps gap) rows) ≡ last_end rows - gap
+      last [] ends some = absurd (omega (arith, some))
+      last (row ∷ rows) ends some = last_moved steps gap s.first row rows to ends (omega arith)
+
+      at : (o : Option Piece) → tag_block s ≡ o → tag_at m ≡ tag_at s - gap
+      at None is =
+          (tag_none m (none_moved is)).0 ∙ ap last_end frames_moved ∙ last s.frames ends some ∙ ap (λ n. n - gap) (sym (tag_none s is).0)
+      at (Some b) is =
+          let place = (tag_some s b is).0 in
+          let high : ltb b.offset s.first ≡ false = le-ltb b.offset s.first (omega (arith, low, place)) in
+          (tag_some m (moved_block s.first gap b) (some_moved b is)).0
+          ∙ ap (λ c. (cond c b (record b { offset = b.offset - gap })).offset) high
+          ∙ ap (λ n. n - gap) (sym place)
+
+-- ---- the bytes
+
+pub is_behind : (at : ℕ) (rows : List Row) (to : ℕ) → EndBy at rows to → IsBehind at rows
+is_behind at [] to ends = tt
+is_behind at (row ∷ rows) to ends = ends.0
+
+pub is_earlier : (at later : ℕ) (rows : List Row) → at ≤ later → IsBehind later rows → IsBehind at rows
+is_earlier at later [] low behind = tt
+is_earlier at later (row ∷ rows) low behind = omega (arith, low, behind)
+
+pub sized_front : (steps : Steps) (file : List ℕ) (before behind : List Row) → AreSized steps file (before ++ behind) → AreSized steps file before
+sized_front steps file [] behind sized = tt
+sized_front steps file (row ∷ before) behind sized = (sized.0, sized_front steps file before behind sized.1)
+
+with_tag-is : (bytes : List ℕ) (s : SurveyFields) (file : List ℕ) → with_tag bytes s file ≡ take (tag_at s) file ++ (bytes ++ drop (tag_at s + tag_length s) file)
+unfolding with_tag
+with_tag-is bytes s file = refl
+
+module _ (steps : Steps) (file : List ℕ) (allowed : ℕ) (s : SurveyFields) (is : surveyed file allowed ≡ Ok s) (tag : NewTag) (bytes : List ℕ) (new : IsTagOf s (Some bytes) (Some tag)) where
+  abbrev m2 : SurveyFields
+  m2 = moved_survey steps s
+
+  abbrev moved : List ℕ
+  moved = edited steps file s
+
+  abbrev a : ℕ
+  a = tag_at s
+
+  abbrev size : ℕ
+  size = tag_length s
+
+  known : StandsSomewhere steps file s
+  known = stands_somewhere steps file allowed s is
+
+  moved_is : moved ≡ take s.junk file ++ moved_from steps file s.first s.frames
+  moved_is = sym (written-edited steps file allowed s is)
+
+  goal_from : (place : ℕ) → tag_at m2 ≡ place → take place moved ++ (bytes ++ drop (place + size) moved) ≡ with_tag bytes m2 moved
+  goal_from place at =
+      ap₂ (λ n k. take n moved ++ (bytes ++ drop (n + k) moved)) (sym at) (sym (length_moved steps s))
+      ∙ sym (with_tag-is bytes m2 moved)
+
+  front_case : IsInFront s → copied (Some tag) file 0 s.junk ++ written_from steps (Some tag) file s.first s.frames ≡ with_tag bytes m2 moved
+  front_case front =
+      let junk = s.junk in
+      let rest = moved_from steps file s.first s.frames in
+      let within : junk ≤ length file = omega (arith, known.size, known.junk, known.first) in
+      let long : length (take junk file) ≡ junk = length-take-le junk file within in
+      let none : a - 0 ≡ a = omega arith in
+      let high : a + size ≤ junk = front.before in
+      let taken : take a moved ≡ take a file =
+      ap (take a) moved_is ∙ take-append-le a (take junk file) rest (omega (arith, long, high)) ∙ take-take a junk file (omega (arith, high)) in
+      let sum : junk ≡ (a + size) + (junk - (a + size)) = omega (arith, high) in
+      let dropped : drop (a + size) moved ≡ bytes_between file (a + size) junk ++ rest =
+      ap (drop (a + size)) moved_is
+      ∙ drop-append-le (a + size) (take junk file) rest (omega (arith, long, high))
+      ∙ ap (λ (l : List ℕ). l ++ rest) (ap (λ n. drop (a + size) (take n file)) sum ∙ drop-take (a + size) (junk - (a + size)) file) in
+      ap₂ (λ (l r : List ℕ). l ++ r)
+      (around_tag steps file tag 0 junk (omega arith) (omega (arith, new.0, new.1)) (omega (arith, new.1, high))
+      ∙ ap₂ (λ n k. bytes_between file 0 n ++ (tag.bytes.now ++ bytes_between file k junk)) new.0 new.1
+      ∙ ap₂ (λ n (l : List ℕ). take n file ++ (l ++ bytes_between file (a + size) junk)) none new.2)
+      (written-behind steps file tag s.first s.frames s.length (omega (arith, new.0, front.some, high, known.junk)) known.ends)
+      ∙ append_assoc (take a file) (bytes ++ bytes_between file (a + size) junk) rest
+      ∙ ap (λ (l : List ℕ). take a file ++ l) (append_assoc bytes (bytes_between file (a + size) junk) rest)
+      ∙ ap₂ (λ (l r : List ℕ). l ++ (bytes ++ r)) (sym taken) (sym dropped)
+      ∙ goal_from a (at_front steps s (omega (arith, front.some, high, known.junk)) front.some)
+
+  among_case : (0 < length s.frames) → IsAmong s → copied (Some tag) file 0 s.junk ++ written_from steps (Some tag) file s.first s.frames ≡ with_tag bytes m2 moved
+  among_case some among =
+      let junk = s.junk in
+      let none : junk - 0 ≡ junk = omega arith in
+      let within : junk ≤ length file = omega (arith, known.size, known.junk, known.first) in
+      let long : length (take junk file) ≡ junk = length-take-le junk file within in
+      let up : a + size ≤ length file = omega (arith, known.size, among.up) in
+      let before = moved_to steps file s.first a among.before in
+      let own = take size (drop a file) in
+      let rest = moved_from steps file (a + size) among.behind in
+      let front = take junk file ++ before in
+      let behind_rest : IsBehind (a + size) among.behind = is_behind (a + size) among.behind s.length among.rest in
+      let before_long : length before ≡ a - s.first = moved_to-long steps file s.first a among.before (sized_front steps file among.before among.behind (subst (AreSized steps file) among.all known.sized)) among.front (omega (arith, up)) in
+      let own_long : length own ≡ size = length-take-le size (drop a file) (omega (arith, length-drop a file, up)) in
+      let all : moved ≡ front ++ (own ++ rest) =
+      moved_is
+      ∙ ap (λ (l : List ℕ). take junk file ++ l)
+      (ap (moved_from steps file s.first) among.all
+      ∙ moved_split steps file s.first a among.before among.behind among.front (is_earlier a (a + size) among.behind (omega arith) behind_rest)
+      ∙ ap (λ (l : List ℕ). before ++ l) (moved_from-later steps file a size among.behind behind_rest))
+      ∙ sym (append_assoc (take junk file) before (own ++ rest)) in
+      let place : length front ≡ a - junk_length s = omega (arith, length-append (take junk file) before, long, before_long, known.junk, among.low) in
+      let taken : take (a - junk_length s) moved ≡ front = ap (take (a - junk_length s)) all ∙ take_at front (own ++ rest) (a - junk_length s) place in
+      let dropped : drop (a - junk_length s + size) moved ≡ rest =
+      sym (drop-drop size (a - junk_length s) moved)
+      ∙ ap (λ (l : List ℕ). drop size (drop (a - junk_length s) l)) all
+      ∙ ap (drop size) (drop_at front (own ++ rest) (a - junk_length s) place)
+      ∙ drop_at own rest size own_long in
+      ap₂ (λ (l r : List ℕ). l ++ r)
+      (before_tag steps file tag 0 junk (omega (arith, new.1, among.past)) ∙ ap (λ n. take n file) none)
+      (ap (written_from steps (Some tag) file s.first) among.all
+      ∙ written-split steps file tag s.first among.before among.behind s.length (subst (EndBy s.first among.before) (sym new.0) among.front) (omega (arith, new.0, new.1)) (omega (arith, new.1, up)) (subst (λ n. EndBy n among.behind s.length) (sym new.1) among.rest)
+      ∙ ap₂ (λ n k. moved_to steps file s.first n among.before ++ (tag.bytes.now ++ moved_from steps file k among.behind)) new.0 new.1
+      ∙ ap (λ (l : List ℕ). before ++ (l ++ rest)) new.2)
+      ∙ sym (append_assoc (take junk file) before (bytes ++ rest))
+      ∙ ap₂ (λ (l r : List ℕ). l ++ (bytes ++ r)) (sym taken) (sym dropped)
+      ∙ goal_from (a - junk_length s) (at_behind steps s s.length (omega (arith, among.low)) known.ends some)
+
+  tag_case : copied (Some tag) file 0 s.junk ++ written_from steps (Some tag) file s.first s.frames ≡ with_tag bytes m2 moved
+  tag_case = at known.place
+    where
+      at : IsInFront s ⊎ IsAmong s → copied (Some tag) file 0 s.junk ++ written_from steps (Some tag) file s.first s.frames ≡ with_tag bytes m2 moved
+      at (inl front) = front_case front
+      at (inr among) = among_case known.some among
+
+-- what the second pass writes
+pub written-changed : (change : Change) (tag : Option NewTag) (file : List ℕ) (allowed : ℕ) (s : SurveyFields) → IsNewTag s change tag → surveyed file allowed ≡ Ok s
+    → copied tag file 0 s.junk ++ written_from change.steps tag file s.first s.frames ≡ changed change file s
+unfolding changed
+written-changed change tag file allowed s new is = at change.tag tag new
+  where
+    none : s.junk - 0 ≡ s.junk
+    none = omega arith
+
+    at : (o : Option (List ℕ)) (t : Option NewTag) → IsTagOf s o t → copied t file 0 s.junk ++ written_from change.steps t file s.first s.frames ≡ retag o (moved_survey change.steps s) (edited change.steps file s)
+    at None None new =
+        ap₂ (λ n (l : List ℕ). take n file ++ l) none (written-none change.steps file s.first s.frames)
+        ∙ written-edited change.steps file allowed s is
+    at (Some bytes) (Some t) new = tag_case change.steps file allowed s is t bytes new
+    at None (Some t) new = absurd new
+    at (Some bytes) None new = absurd new

@@ -1,0 +1,17 @@
+-- The bytes up to `at` went on.
+use Rattle.std.proofs.Common.{◌≡◌, ◌-◌, ◌≤◌}
+use Rattle.moved_gains.specs.Moving.{bytes_between}
+use Rattle.moved_gains.specs.Pass.{IsReady}
+use Rattle.moved_gains.proofs.PassLaws.{WritesUpTo}
+use Rattle.moved_gains.proofs.moving.Pass.copy_plain.Given as goal
+
+abbrev pub invariant-loop-at : goal.invariant-loop-at
+invariant-loop-at g l = record {
+  in_range : l.at ≤ l.to;
+  up_to : WritesUpTo l.self.input.now l.self.output.now (λ file. bytes_between file l.fn.from l.fn.to) (λ file. bytes_between file l.at l.fn.to) l.fn.waiting l.waiting (g.D.Folder.files l.fn.folder) (g.D.Folder.files l.folder);
+  ready : IsReady l.self.input.now l.self.output.now l.self.length (g.D.Folder.files l.folder) l.feed;
+  counts : g.D.Folder.counts l.folder ≡ g.D.Folder.counts l.fn.folder;
+}
+
+abbrev pub decreases-loop-at : goal.decreases-loop-at
+decreases-loop-at g l = l.to - l.at

@@ -1,0 +1,26 @@
+-- What changes in a file, and the file that is written.
+use Rattle.std.specs.Prelude.{ℕ, List, Option, Some, None, option_map}
+use Rattle.file_tag.specs.Places.{with_tag}
+use Rattle.sync_survey.specs.Faults.{SurveyFields}
+use Rattle.moved_gains.specs.declared.change.Change.{Change as CodeChange}
+use Rattle.moved_gains.specs.declared.shift.Steps.{Steps}
+use Rattle.moved_gains.specs.Edited.{edited}
+use Rattle.moved_gains.specs.Streams.{moved_survey}
+
+-- by how many steps the gains move, and the bytes that stand in place of the tag, where it changes: none, where it is taken out
+pub record Change : Type 0 where
+  pub steps : Steps
+  pub tag : Option (List ℕ)
+
+-- that of the code
+abbrev pub change_in : CodeChange → Change
+change_in change = record { steps = change.steps; tag = option_map (λ tag. tag.items) change.tag }
+
+-- the file with these bytes in place of its tag
+abbrev pub retag : Option (List ℕ) → SurveyFields → List ℕ → List ℕ
+retag None s file = file
+retag (Some tag) s file = with_tag tag s file
+
+-- the file with moved gains, without junk, and with its new tag
+unfoldable pub changed : Change → List ℕ → SurveyFields → List ℕ
+changed change file s = retag change.tag (moved_survey change.steps s) (edited change.steps file s)

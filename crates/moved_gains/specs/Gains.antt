@@ -1,0 +1,70 @@
+-- Moved gains (global_gain of ISO/IEC 11172-3, 2.4.2.7, in steps of 1.5 dB). The rules for moving it are this project's: a lost frame and a
+-- silent channel of a granule are left alone, and without wrap a sum that would leave the range refuses the whole file.
+use Rattle.std.specs.Prelude.{ℕ, ◌==◌, ◌&&◌, not, nat_lt, if◌then◌else◌, Bool, true, List, [], ◌∷◌, Option, Some, None, ℤ, pos, negsuc, ◌+ℤ◌, unsigned_abs}
+use Rattle.std.specs.Int.{int_rem_euclid}
+use Rattle.std.specs.Option.{option_or}
+use Rattle.side_info.specs.declared.granule.Granule.{Granule}
+use Rattle.side_info.specs.declared.side.Side.{Side}
+use Rattle.side_info.specs.Side.{granule_in}
+use Rattle.moved_gains.specs.declared.gains.Stuck.{Stuck}
+use Rattle.moved_gains.specs.declared.shift.Shift.{Shift}
+use Rattle.moved_gains.specs.declared.shift.Steps.{Steps}
+use Rattle.moved_gains.specs.declared.shift.Channels.{Channels}
+use Rattle.moved_gains.specs.declared.shift.Channels.TheVariants.{Both, Left, Right}
+
+-- the steps of channel 0 and of channel 1
+abbrev pub left_steps_of : Channels → ℤ → ℤ
+left_steps_of Both steps = steps
+left_steps_of Left steps = steps
+left_steps_of Right steps = pos 0
+
+abbrev pub right_steps_of : Channels → ℤ → ℤ
+right_steps_of Both steps = steps
+right_steps_of Left steps = pos 0
+right_steps_of Right steps = steps
+
+abbrev pub steps_of : Shift → Steps
+steps_of shift = record { left = left_steps_of shift.channels shift.steps; right = right_steps_of shift.channels shift.steps; wrap = shift.wrap }
+
+-- silent: no main data, so that the gain is of no account
+abbrev pub is_silent_granule : Granule → Bool
+is_silent_granule g = g.part2_3_length == 0
+
+-- a gain by so many steps; without wrap no sum outside 0 to 255 comes here
+abbrev pub moved_gain : ℤ → ℕ → ℕ
+moved_gain steps gain = unsigned_abs (int_rem_euclid (pos gain +ℤ steps) (pos 256))
+
+abbrev pub moved : ℤ → Granule → Granule
+moved steps g = if is_silent_granule g then g else record g { global_gain = moved_gain steps g.global_gain }
+
+-- a granule with channel 0 moved by the steps of the left and channel 1 by those of the right
+abbrev pub moved_channels : Steps → Side → ℕ → List Granule
+moved_channels steps s granule =
+    moved steps.left (granule_in s granule 0) ∷ moved steps.right (granule_in s granule 1) ∷ []
+
+-- all other side fields stay
+unfoldable pub moved_side : Steps → Side → Side
+moved_side steps s = record s { granules = moved_channels steps s 0 ∷ moved_channels steps s 1 ∷ [] }
+
+-- so does a frame that is lost, whole
+abbrev pub moved_unless : Bool → Steps → Side → Side
+moved_unless lost steps s = if lost then s else moved_side steps s
+
+-- ---- the range
+
+abbrev pub is_outside : ℤ → Bool
+is_outside (pos n) = nat_lt 255 n
+is_outside (negsuc n) = true
+
+-- the gain of this granule and channel would leave the range
+abbrev pub stuck_at : ℤ → Side → ℕ → ℕ → Option Stuck
+stuck_at steps s granule channel = let g = granule_in s granule channel in
+    if not (is_silent_granule g) && is_outside (pos g.global_gain +ℤ steps)
+    then Some (record { granule = granule; channel = channel; gain = g.global_gain }) else None
+
+-- the first gain of a frame that would leave the range, in order of granules and channels; none with wrap
+unfoldable pub stuck_in : Steps → Side → Option Stuck
+stuck_in steps s =
+    if steps.wrap then None
+    else option_or (stuck_at steps.left s 0 0) (option_or (stuck_at steps.right s 0 1)
+    (option_or (stuck_at steps.left s 1 0) (stuck_at steps.right s 1 1)))

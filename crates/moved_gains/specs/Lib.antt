@@ -1,0 +1,8 @@
+-- What the contracts of this crate cite.
+pub mod Limits
+pub mod Gains
+pub mod Edited
+pub mod Streams
+pub mod Change
+pub mod Moving
+pub mod Pass

@@ -1,0 +1,60 @@
+-- A file that is read once from front to back and written with moved gains and with another tag.
+use Rattle.std.specs.Prelude.{◌≡◌, ℕ, ◌+◌, ◌-◌, ◌&&◌, nat_le, if◌then◌else◌, Option, Some, None, length, List, [], ◌∷◌, ◌++◌, take, drop}
+use Rattle.frame_header.specs.Tables.{class_of, length_of}
+use Rattle.side_info.specs.Frame.{side_in, frame_with}
+use Rattle.sync_survey.specs.declared.rows.Row.{Row}
+use Rattle.file_tag.specs.Places.{tag_at, tag_length}
+use Rattle.sync_survey.specs.Faults.{SurveyFields}
+use Rattle.moved_gains.specs.declared.moving.NewTag.{NewTag}
+use Rattle.moved_gains.specs.declared.shift.Steps.{Steps}
+use Rattle.moved_gains.specs.Gains.{moved_side}
+use Rattle.moved_gains.specs.Change.{Change}
+
+-- the length of a frame in bytes, and the offset where it ends
+abbrev pub row_length : Row → ℕ
+row_length row = length_of (class_of row.header) row.header.slot
+
+abbrev pub row_end : Row → ℕ
+row_end row = row.offset + row_length row
+
+-- the side information of the row is what stands in the file
+abbrev pub IsRowOf : List ℕ → Row → Type 0
+IsRowOf file row = side_in row.header (drop row.offset file) ≡ row.side
+
+abbrev pub AreRowsOf : List ℕ → List Row → Type 0
+AreRowsOf file [] = Unit {0}
+AreRowsOf file (row ∷ rows) = IsRowOf file row × AreRowsOf file rows
+
+-- the bytes of a frame, or the first of them up to its area, with its gains moved; a lost frame stays
+abbrev pub moved_bytes : Steps → Row → List ℕ → List ℕ
+moved_bytes steps row bytes = if row.lost then bytes else frame_with row.header (moved_side steps row.side) bytes
+
+-- a frame of the file with its gains moved
+abbrev pub moved_row_bytes : Steps → List ℕ → Row → List ℕ
+moved_row_bytes steps file row = moved_bytes steps row (take (row_length row) (drop row.offset file))
+
+-- the bytes from one offset of the file to another
+abbrev pub bytes_between : List ℕ → ℕ → ℕ → List ℕ
+bytes_between file from to = take (to - from) (drop from file)
+
+-- the same with the new tag, where what it replaces stands among them
+abbrev pub copied : Option NewTag → List ℕ → ℕ → ℕ → List ℕ
+copied None file from to = bytes_between file from to
+copied (Some tag) file from to =
+    if nat_le from tag.at && (nat_le tag.at tag.end && nat_le tag.end to) then bytes_between file from tag.at ++ (tag.bytes.now ++ bytes_between file tag.end to) else bytes_between file from to
+
+-- The bytes of the file from an offset on, with the gains of these frames moved, which stand behind it in their order, and with the new tag,
+-- where what it replaces stands between them.
+unfoldable pub written_from : Steps → Option NewTag → List ℕ → ℕ → List Row → List ℕ
+written_from steps tag file at [] = copied tag file at (length file)
+written_from steps tag file at (row ∷ rows) =
+    copied tag file at row.offset ++ (moved_row_bytes steps file row ++ written_from steps tag file (row_end row) rows)
+
+-- the new tag of a change stands in place of the file's
+abbrev pub IsTagOf : SurveyFields → Option (List ℕ) → Option NewTag → Type 0
+IsTagOf s None None = Unit {0}
+IsTagOf s (Some bytes) (Some tag) = (tag.at ≡ tag_at s) × (tag.end ≡ tag_at s + tag_length s) × (tag.bytes.now ≡ bytes)
+IsTagOf s _ _ = ⊥
+
+abbrev pub IsNewTag : SurveyFields → Change → Option NewTag → Type 0
+IsNewTag s change tag = IsTagOf s change.tag tag

@@ -1,0 +1,58 @@
+-- What a change of gains makes of the survey of a file, and of the stream that the file holds.
+pub use Rattle.sync_survey.specs.Faults.{HoldsStream, stream_by, stream_of as stream_in}
+use Rattle.std.specs.Prelude.{◌≡◌, ℕ, ◌-◌, nat_lt, if◌then◌else◌, List, ◌++◌, take, drop, map, option_map}
+use Rattle.sync_survey.specs.declared.places.Head.{Head}
+use Rattle.sync_survey.specs.declared.places.Piece.{Piece}
+use Rattle.sync_survey.specs.declared.rows.Row.{Row}
+use Rattle.sync_survey.specs.MainData.{StreamFrame}
+use Rattle.sync_survey.specs.Faults.{SurveyFields, IsWellFormed, stream_of_survey}
+use Rattle.moved_gains.specs.declared.shift.Steps.{Steps}
+use Rattle.moved_gains.specs.Gains.{moved_side, moved_unless}
+
+-- ---- the survey of the edited file
+
+-- the bytes of junk before the first frame, which are dropped
+abbrev pub junk_length : SurveyFields → ℕ
+junk_length s = s.first - s.junk
+
+-- a frame that isn't lost has moved gains, and each stands so many bytes nearer to the front of the file
+abbrev pub moved_row : Steps → ℕ → Row → Row
+moved_row steps gap row = record row { offset = row.offset - gap; side = moved_unless row.lost steps row.side }
+
+-- a head stands so many bytes nearer to the front, and stays
+abbrev pub moved_head : ℕ → Head → Head
+moved_head gap head = record head { offset = head.offset - gap }
+
+-- a block before the first frame stays where it is, and one behind it stands so many bytes nearer to the front
+abbrev pub moved_block : ℕ → ℕ → Piece → Piece
+moved_block first gap piece = if nat_lt piece.offset first then piece else record piece { offset = piece.offset - gap }
+
+-- What a survey tells of the edited file: the same frames with moved gains, blocks, head and class, at their offsets without the junk.
+-- The first frame begins where the junk began.
+unfoldable pub moved_survey : Steps → SurveyFields → SurveyFields
+moved_survey steps s = record {
+  frames = map (moved_row steps (junk_length s)) s.frames;
+  blocks = map (moved_block s.first (junk_length s)) s.blocks;
+  head = option_map (moved_head (junk_length s)) s.head;
+  junk = s.junk;
+  first = s.junk;
+  class = s.class;
+  length = s.length - junk_length s;
+}
+
+-- the bytes of the file but for the junk before its first frame
+abbrev pub without_junk : SurveyFields → List ℕ → List ℕ
+without_junk s file = take s.junk file ++ drop s.first file
+
+-- ---- the stream
+
+-- a frame of a stream with moved gains: its header and its main data stay; a lost one has no gains there
+abbrev pub moved_stream_frame : Steps → StreamFrame → StreamFrame
+moved_stream_frame steps frame = record frame { side = moved_side steps frame.side }
+
+-- Both files are well-formed, and the stream of the new one is that of the file with the gains of each frame moved: as many frames in
+-- the same order, with the same headers, the same main data, and the same side information but for the gains.
+pub record IsStreamMoved (steps : Steps) (file new : List ℕ) : Type 0 where
+  pub before : IsWellFormed file
+  pub after : IsWellFormed new
+  pub stream : stream_of_survey new after.0 ≡ map (moved_stream_frame steps) (stream_of_survey file before.0)

@@ -1,0 +1,86 @@
+//! Gains of one frame, moved by steps of 1.5 dB.
+ghost use Rattle.std.specs.Prelude.{◌≡◌, ◌+ℤ◌, ◌<◌, ◌&&◌, not, pos};
+ghost use Rattle.moved_gains.specs.Gains.{is_silent_granule, is_outside, moved as moved_lem, moved_side as moved_side_lem, stuck_at as stuck_at_lem, stuck_in as stuck_in_lem};
+
+use crate::shift::Steps;
+use side_info::{Granule, Side};
+
+/// A gain that would leave the range from 0 to 255: its granule, its channel, and the gain that stands.
+#[derive(Clone, Copy, Debug, PartialEq, Eq)]
+pub struct Stuck {
+    pub granule: u8,
+    pub channel: u8,
+    pub gain: u8,
+}
+
+/// The gain by so many steps, which may leave the range.
+fn sum(steps: i16, gain: u8) -> i32
+    ensures { result ≡ pos gain +ℤ steps }
+{
+    i32::from(gain) + i32::from(steps)
+}
+
+/// A silent granule stays; any other gets its gain moved, modulo 256.
+fn moved(steps: i16, granule: Granule) -> Granule
+    ensures { result ≡ moved_lem steps granule }
+{
+    let mut moved = granule;
+    if granule.part2_3_length != 0 {
+        moved.global_gain = sum(steps, granule.global_gain).rem_euclid(256) as u8;
+    }
+    moved
+}
+
+#[tactic(auto, unfolding(crate::specs::Gains::moved_side))]
+/// The gains of channel 0 and channel 1 moved by their steps; all other fields stay.
+pub(crate) fn moved_side(steps: &Steps, side: &Side) -> Side
+    ensures { result ≡ moved_side_lem steps.now side.now }
+{
+    let [[a, b], [c, d]] = side.granules;
+    let Steps { left, right, .. } = *steps;
+    Side {
+        granules: [
+            [moved(left, a), moved(right, b)],
+            [moved(left, c), moved(right, d)],
+        ],
+        ..*side
+    }
+}
+
+/// Whether the gain would leave the range from 0 to 255.
+fn is_stuck(steps: i16, granule: &Granule) -> bool
+    ensures { result ≡ (not (is_silent_granule granule.now) && is_outside (pos granule.now.global_gain +ℤ steps)) }
+{
+    granule.part2_3_length != 0 && !(0..=255).contains(&sum(steps, granule.global_gain))
+}
+
+fn stuck_at(steps: i16, side: &Side, granule: u8, channel: u8) -> Option<Stuck>
+    requires granule { granule < 2 }
+    requires channel { channel < 2 }
+    ensures { result ≡ stuck_at_lem steps side.now granule channel }
+{
+    let found = &side.granules[granule as usize][channel as usize];
+    if !is_stuck(steps, found) {
+        return None;
+    }
+    Some(Stuck {
+        granule,
+        channel,
+        gain: found.global_gain,
+    })
+}
+
+#[tactic(auto, unfolding(crate::specs::Gains::stuck_in))]
+/// The first gain that would leave the range, in order of granules and channels; none with wrap.
+pub fn stuck_in(steps: &Steps, side: &Side) -> Option<Stuck>
+    ensures { result ≡ stuck_in_lem steps.now side.now }
+{
+    if steps.wrap {
+        return None;
+    }
+    let Steps { left, right, .. } = *steps;
+    stuck_at(left, side, 0, 0)
+        .or(stuck_at(right, side, 0, 1))
+        .or(stuck_at(left, side, 1, 0))
+        .or(stuck_at(right, side, 1, 1))
+}

@@ -1,0 +1,14 @@
+//! Gains that are moved by steps of 1.5 dB: those of a frame, and those of a whole file, which is read once from front to
+//! back and written with them, and with another tag where that changes. What is written is a well-formed file with the same
+//! stream but for the gains.
+#![tactic(auto)]
+
+mod change;
+mod gains;
+mod moving;
+mod shift;
+
+pub use change::Change;
+pub use gains::{Stuck, stuck_in};
+pub use moving::{CopyFault, write_changed};
+pub use shift::{Channels, Shift, Steps};
