@@ -22,8 +22,8 @@ use Rattle.joining.specs.Join.{parts_of, join_made, join_command}
 use Rattle.sync_survey.specs.MainData.{StreamFrame}
 use Rattle.edits.specs.Said.{Heard, IsText, SaysAll, Says, fault_of}
 use Rattle.edits.specs.Left.{Why, Refused, Missing, Unread, Shorter, Unwritten, Unsent, NoMemory, why_of, Seen, IsDone, IsRefused, LeavesBy, Leaves, HasNumbers}
-use Rattle.mp3_cli.specs.declared.jobs.Job.{Job}
-use Rattle.mp3_cli.specs.Words.{job_of}
+use Rattle.job_words.specs.declared.jobs.Job.{Job}
+use Rattle.job_words.specs.Words.{job_of}
 use Rattle.mp3_cli.specs.Texts.{status_by, bad_word_line, GotWhole, GotFront, GotLine}
 use Rattle.mp3_cli.specs.Run.{said_command, command_of, always_of, fault_status, line_of, GetsLine, Answers, made_outcome, command_outcome, job_outcome, outcome, IsOutcome, IsAcceptedBy, IsAccepted}
 

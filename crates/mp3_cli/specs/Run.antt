@@ -12,9 +12,9 @@ use Rattle.edits.specs.Chosen.{cut_command, pack_command}
 use Rattle.edits.specs.Listing.{list_command}
 use Rattle.splitting.specs.Split.{split_at_command, split_by_command}
 use Rattle.joining.specs.Join.{join_command}
-use Rattle.mp3_cli.specs.declared.jobs.Job.{Job}
-use Rattle.mp3_cli.specs.declared.jobs.Job.TheVariants.{Help, Version, List as ListFile, Gain, Undo, Cut, Pack, SplitAt, SplitBy, Join}
-use Rattle.mp3_cli.specs.Words.{word_at, words_from, job_of}
+use Rattle.job_words.specs.declared.jobs.Job.{Job}
+use Rattle.job_words.specs.declared.jobs.Job.TheVariants.{Help, Version, List as ListFile, Gain, Undo, Cut, Pack, SplitAt, SplitBy, Join}
+use Rattle.job_words.specs.Words.{word_at, words_from, job_of}
 use Rattle.mp3_cli.specs.Texts.{status_of, fault_line, bad_word_line, help_text, version_text, GotLine}
 
 -- a text, whatever the files are

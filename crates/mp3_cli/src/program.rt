@@ -5,16 +5,15 @@ ghost use Rattle.outside.specs.Counts.{Rose, NoneFell};
 ghost use Rattle.edits.specs.Command.{HoldsStreams};
 ghost use Rattle.edits.specs.Left.{seen};
 ghost use Rattle.edits.specs.Said.{heard, fault_of};
-ghost use Rattle.mp3_cli.specs.Words.{job_of, IsSound};
+ghost use Rattle.job_words.specs.Words.{job_of, IsSound};
 ghost use Rattle.mp3_cli.specs.Names.{names_in};
 ghost use Rattle.mp3_cli.specs.Texts.{GotLine, HasLine};
 ghost use Rattle.mp3_cli.specs.Run.{command_of, always_of, fault_status, result_line, Answers, AnswersWords, outcome, IsOutcome, IsAccepted, HoldsAllStreams};
 
-use crate::jobs::Job;
 use crate::output_names::Outputs;
 use crate::texts::{say_help, say_version, send_bad_word, send_fault, status};
-use crate::words::{job, names_of, word_at, words_from};
 use edits::{EditFault, cut, gain, list, pack, undo};
+use job_words::{Job, job, names_of, word_at, words_from};
 use joining::join;
 use outside::{Folder, Sink};
 use splitting::{split_at, split_by};

@@ -8,7 +8,7 @@ ghost use Rattle.outside.specs.Counts.{Rose};
 ghost use Rattle.outside.specs.Files.{Contents, sent_more};
 ghost use Rattle.edits.specs.Left.{seen};
 ghost use Rattle.edits.specs.Said.{heard};
-ghost use Rattle.mp3_cli.specs.Words.{job_of};
+ghost use Rattle.job_words.specs.Words.{job_of};
 ghost use Rattle.mp3_cli.specs.Run.{always_of, AnswersWords, IsAccepted, HoldsAllStreams};
 
 use mp3_cli::run;

@@ -1,0 +1,6 @@
+-- The lemmas of this crate.
+pub mod Follow
+pub mod Places
+pub mod Reading
+pub mod Sizes
+pub mod Sound

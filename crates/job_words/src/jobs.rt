@@ -1,0 +1,84 @@
+//! What the program is asked to do.
+
+use arrayvec::ArrayVec;
+use cue_sheet::Place;
+use moved_gains::Shift;
+
+/// What a list of words asks for. Names are places of words, counted from 1.
+#[derive(Debug, PartialEq, Eq, Drop)]
+pub enum Job {
+    /// Say what the program does.
+    Help,
+    /// Say which program it is.
+    Version,
+    /// Say what stands in the file `input`.
+    List {
+        /// The place of the word that names the file to read.
+        input: u32,
+    },
+    /// Change the loudness of the file `input`, and write the result to `output`.
+    Gain {
+        /// The change.
+        shift: Shift,
+        /// Whether a note of the change is kept in the tag.
+        tags: bool,
+        /// The place of the word that names the file to read.
+        input: u32,
+        /// The place of the word that names the file to write.
+        output: u32,
+    },
+    /// Take back all changes that the tag of the file `input` keeps a note of, and write the result to `output`.
+    Undo {
+        /// The place of the word that names the file to read.
+        input: u32,
+        /// The place of the word that names the file to write.
+        output: u32,
+    },
+    /// Write the frames of the file `input` from one place on and before another to `output`.
+    Cut {
+        /// The place of the first frame.
+        from: Place,
+        /// The place of the first frame behind them.
+        to: Place,
+        /// Whether each frame has the least bit rate and padding with room for it, and doesn't keep its own.
+        least: bool,
+        /// The place of the word that names the file to read.
+        input: u32,
+        /// The place of the word that names the file to write.
+        output: u32,
+    },
+    /// Write all frames of the file `input` to `output`, each with the least bit rate and padding with room for it.
+    Pack {
+        /// The place of the word that names the file to read.
+        input: u32,
+        /// The place of the word that names the file to write.
+        output: u32,
+    },
+    /// Write the frames of the file `input` between each two neighbouring places to a file of their own.
+    SplitAt {
+        /// The place of the word that names the file to read.
+        input: u32,
+        /// The place of the word with which the names of the files to write begin.
+        prefix: u32,
+        /// The places in the stream, 2 to 100.
+        places: ArrayVec<Place, 100>,
+    },
+    /// Write each track of the file `input` to a file of its own, as a cue sheet has them.
+    SplitBy {
+        /// The place of the word that names the file to read.
+        input: u32,
+        /// The place of the word with which the names of the files to write begin.
+        prefix: u32,
+        /// The place of the word that names the cue sheet.
+        sheet: u32,
+    },
+    /// Write the frames of all inputs, one after another, to the file `output`.
+    Join {
+        /// The place of the word that names the file to write.
+        output: u32,
+        /// The place of the word that names the first file to read; those of the others follow it.
+        first: u32,
+        /// How many files are read, 1 to 64.
+        count: u32,
+    },
+}
