@@ -9,9 +9,6 @@ pub mod Refusals
 pub mod OneLaws
 pub mod TagFaults
 pub mod Proper
-pub mod ThingsLaws
-pub mod ListingLaws
-pub mod ListLaws
 pub mod RangeAgain
 pub mod NoStep
 pub mod NotedAgain

@@ -9,8 +9,6 @@ pub mod One
 pub mod Noted
 pub mod Change
 pub mod Said
-pub mod Things
-pub mod Listing
 pub mod Gain
 pub mod Undo
 pub mod Undoing

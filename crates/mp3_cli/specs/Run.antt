@@ -9,7 +9,7 @@ use Rattle.edits.specs.Said.{Heard, Says}
 use Rattle.edits.specs.Gain.{gain_command}
 use Rattle.edits.specs.Undo.{undo_command}
 use Rattle.edits.specs.Chosen.{cut_command, pack_command}
-use Rattle.edits.specs.Listing.{list_command}
+use Rattle.listing.specs.Listing.{list_command}
 use Rattle.splitting.specs.Split.{split_at_command, split_by_command}
 use Rattle.joining.specs.Join.{join_command}
 use Rattle.job_words.specs.declared.jobs.Job.{Job}

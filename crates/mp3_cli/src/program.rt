@@ -12,9 +12,10 @@ ghost use Rattle.mp3_cli.specs.Run.{command_of, always_of, fault_status, result_
 
 use crate::output_names::Outputs;
 use crate::texts::{say_help, say_version, send_bad_word, send_fault, status};
-use edits::{EditFault, cut, gain, list, pack, undo};
+use edits::{EditFault, cut, gain, pack, undo};
 use job_words::{Job, job, names_of, word_at, words_from};
 use joining::join;
+use listing::list;
 use outside::{Folder, Sink};
 use splitting::{split_at, split_by};
 use std::alloc::Global;

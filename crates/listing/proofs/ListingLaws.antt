@@ -5,9 +5,9 @@ use Rattle.outside.specs.Files.{Sent, sent_more}
 use Rattle.outside.specs.Passed.{SentOn, SentPrefix}
 use Rattle.outside.proofs.SentLaws.{sent_none, sent_more_on, sent_more_prefix, sent_then_all, sent_then_prefix, sent_prefix_of}
 use Rattle.sync_survey.specs.Faults.{SurveyFields}
-use Rattle.edits.specs.declared.things.Thing.{Thing}
-use Rattle.edits.specs.Things.{things_of, in_order, first_of}
-use Rattle.edits.specs.Listing.{line_of, lines_of, summary, listing}
+use Rattle.listing.specs.declared.things.Thing.{Thing}
+use Rattle.listing.specs.Things.{things_of, in_order, first_of}
+use Rattle.listing.specs.Listing.{line_of, lines_of, summary, listing}
 
 -- the lines so far, of which some wait, and those that are left, of all things before the summary
 pub record IsListedTo (s : SurveyFields) (left : List Thing) (waits : List ℕ) (old now : Sent) : Type 0 where

@@ -18,7 +18,7 @@ use Rattle.edits.specs.One.{most_frames}
 use Rattle.edits.specs.Command.{Made, Gives, written, MakesStreams, HoldsStreams}
 use Rattle.edits.specs.Left.{seen, IsDone, IsRefused, TakesMemory, Leaves}
 use Rattle.edits.specs.Said.{IsText}
-use Rattle.edits.specs.Listing.{listed_by, listed_where, listing, list_command}
+use Rattle.listing.specs.Listing.{listed_by, listed_where, listing, list_command}
 use Rattle.edits.proofs.OneLaws.{of_bytes_behind, ok_made}
 use Rattle.moved_gains.proofs.SurveyedFiles.{survey_of-parts}
 

@@ -1,9 +1,9 @@
 -- The lines of the things so far wait or were sent, and no write failed.
 use Rattle.std.proofs.Common.{◌≡◌, length}
 use Rattle.sync_survey.specs.Faults.{tells}
-use Rattle.edits.specs.Things.{left}
-use Rattle.edits.proofs.ListingLaws.{IsListedTo}
-use Rattle.edits.proofs.list_file.send_listing.Given as goal
+use Rattle.listing.specs.Things.{left}
+use Rattle.listing.proofs.ListingLaws.{IsListedTo}
+use Rattle.listing.proofs.list_file.send_listing.Given as goal
 
 abbrev pub invariant-loop-thing : goal.invariant-loop-thing
 invariant-loop-thing g l = record {

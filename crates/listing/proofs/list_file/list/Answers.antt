@@ -1,8 +1,8 @@
 -- What the command leaves, by the survey and what was sent of the listing.
 use Rattle.std.proofs.lemmas.Result.{err_from_is_err_and}
 use Rattle.sync_survey.specs.Faults.{tells}
-use Rattle.edits.proofs.ListLaws.{survey_left, is_done, unsent, holds_streams}
-use Rattle.edits.proofs.list_file.list.Goals as goal
+use Rattle.listing.proofs.ListLaws.{survey_left, is_done, unsent, holds_streams}
+use Rattle.listing.proofs.list_file.list.Goals as goal
 
 pub returns-in_err-survey-clause-left : goal.returns-in_err-survey-clause-left
 returns-in_err-survey-clause-left g c =

@@ -14,11 +14,11 @@ use Rattle.sync_survey.specs.Faults.{SurveyFields}
 use Rattle.sync_survey.specs.Survey.{survey_of}
 use Rattle.edits.specs.declared.fault.EditFault.{EditFault}
 use Rattle.edits.specs.declared.fault.EditFault.TheVariants.{Input}
-use Rattle.edits.specs.declared.things.Thing.{Thing}
-use Rattle.edits.specs.declared.things.Thing.TheVariants.{Block, Junk, FirstHead, Frame}
+use Rattle.listing.specs.declared.things.Thing.{Thing}
+use Rattle.listing.specs.declared.things.Thing.TheVariants.{Block, Junk, FirstHead, Frame}
 use Rattle.edits.specs.One.{most_frames}
 use Rattle.edits.specs.Command.{Made, Command}
-use Rattle.edits.specs.Things.{things_of, in_order}
+use Rattle.listing.specs.Things.{things_of, in_order}
 
 -- ---- the line of each thing
 

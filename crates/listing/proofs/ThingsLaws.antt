@@ -9,10 +9,10 @@ use Rattle.sync_survey.specs.declared.places.Piece.{Piece}
 use Rattle.sync_survey.specs.declared.rows.Row.{Row}
 use Rattle.sync_survey.specs.Faults.{SurveyFields}
 use Rattle.sync_survey.specs.Survey.{AreLaid, BlocksAreLaid, IsLaidOut}
-use Rattle.edits.specs.declared.things.Thing.{Thing}
-use Rattle.edits.specs.declared.things.Thing.TheVariants.{Block, Junk}
-use Rattle.edits.specs.declared.things.Things.{Things}
-use Rattle.edits.specs.Things.{offset_of, head_of, frames_from, stream_things, things_of, put_in, in_order, before, merged, stream_left, left, first_of}
+use Rattle.listing.specs.declared.things.Thing.{Thing}
+use Rattle.listing.specs.declared.things.Thing.TheVariants.{Block, Junk}
+use Rattle.listing.specs.declared.things.Things.{Things}
+use Rattle.listing.specs.Things.{offset_of, head_of, frames_from, stream_things, things_of, put_in, in_order, before, merged, stream_left, left, first_of}
 
 -- each stands at or behind the one before it, and the first at or behind a place
 abbrev pub Rises : ℕ → List Thing → Type 0

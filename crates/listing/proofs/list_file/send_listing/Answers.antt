@@ -2,12 +2,12 @@
 use Rattle.std.proofs.Common.{◌++◌, refl, ◌∙◌, subst}
 use Rattle.outside.specs.Passed.{SentOn, SentPrefix}
 use Rattle.sync_survey.specs.Faults.{tells}
-use Rattle.edits.specs.Things.{left}
-use Rattle.edits.specs.Listing.{listing}
+use Rattle.listing.specs.Things.{left}
+use Rattle.listing.specs.Listing.{listing}
 use Rattle.outside.proofs.PassedLaws.{on_err}
-use Rattle.edits.proofs.ListingLaws.{listed_none, listed_more, listed_failed, summary_failed, summary_more, sent_behind, prefix_behind}
-use Rattle.edits.proofs.list_file.send_listing.Given.{Over}
-use Rattle.edits.proofs.list_file.send_listing.Goals as goal
+use Rattle.listing.proofs.ListingLaws.{listed_none, listed_more, listed_failed, summary_failed, summary_more, sent_behind, prefix_behind}
+use Rattle.listing.proofs.list_file.send_listing.Given.{Over}
+use Rattle.listing.proofs.list_file.send_listing.Goals as goal
 
 pub loop-thing-init : goal.loop-thing-init
 loop-thing-init g c = record {

@@ -1,9 +1,9 @@
 -- All things of the file are left, in order.
 use Rattle.std.proofs.Common.{refl, sym, ◌∙◌}
 use Rattle.sync_survey.specs.Faults.{tells}
-use Rattle.edits.specs.Things.{left}
-use Rattle.edits.proofs.ThingsLaws.{things_in_order}
-use Rattle.edits.proofs.things.Things.of.Goals as goal
+use Rattle.listing.specs.Things.{left}
+use Rattle.listing.proofs.ThingsLaws.{things_in_order}
+use Rattle.listing.proofs.things.Things.of.Goals as goal
 
 pub returns : goal.returns
 unfolding left

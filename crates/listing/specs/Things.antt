@@ -4,9 +4,9 @@ use Rattle.std.specs.List.{enumerate_from}
 use Rattle.sync_survey.specs.declared.places.Head.{Head}
 use Rattle.sync_survey.specs.declared.rows.Row.{Row}
 use Rattle.sync_survey.specs.Faults.{SurveyFields}
-use Rattle.edits.specs.declared.things.Thing.{Thing}
-use Rattle.edits.specs.declared.things.Thing.TheVariants.{Block, Junk, FirstHead, Frame}
-use Rattle.edits.specs.declared.things.Things.{Things}
+use Rattle.listing.specs.declared.things.Thing.{Thing}
+use Rattle.listing.specs.declared.things.Thing.TheVariants.{Block, Junk, FirstHead, Frame}
+use Rattle.listing.specs.declared.things.Things.{Things}
 
 abbrev pub offset_of : Thing → ℕ
 offset_of (Block piece) = piece.offset

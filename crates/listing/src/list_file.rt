@@ -7,14 +7,13 @@ ghost use Rattle.sync_survey.specs.Faults.{tells};
 ghost use Rattle.sync_survey.specs.Survey.{IsLaidOut};
 ghost use Rattle.edits.specs.Command.{HoldsStreams};
 ghost use Rattle.edits.specs.Left.{seen, IsDone, Leaves, HasNumbers};
-ghost use Rattle.edits.specs.Listing.{listing, list_command};
+ghost use Rattle.listing.specs.Listing.{listing, list_command};
 ghost use Rattle.edits.specs.Said.{heard, Says, fault_of};
 
-use crate::fault::EditFault;
-use crate::limits::MOST_FRAMES;
 use crate::line::Line;
 use crate::lines::{set_line, set_summary};
 use crate::things::Things;
+use edits::{EditFault, MOST_FRAMES};
 use outside::{Failed, Folder, SendBuffer, Sink};
 use std::alloc::Global;
 use sync_survey::{Survey, survey};

@@ -1,7 +1,7 @@
 -- A number below 2 ^ 64 has at most 20 digits.
 use Rattle.std.proofs.Common.{ap, length, decimal, drop, ◌≤◌, arith, length-append, length-drop}
 use Rattle.std.proofs.lemmas.Fmt.{length-decimal-le}
-use Rattle.edits.proofs.line.Line.put_number.Goals as goal
+use Rattle.listing.proofs.line.Line.put_number.Goals as goal
 
 pub write_digits-self-inside-requires : goal.write_digits-self-inside-requires
 write_digits-self-inside-requires c =

@@ -1,7 +1,7 @@
 -- Nothing stands behind the end.
 use Rattle.std.proofs.Common.{arith}
 use Rattle.std.proofs.lemmas.List.{drop_all}
-use Rattle.edits.proofs.line.Line.clear.Goals as goal
+use Rattle.listing.proofs.line.Line.clear.Goals as goal
 
 pub returns : goal.returns
 returns c = drop_all 192 c.self.inside.room (omega arith)

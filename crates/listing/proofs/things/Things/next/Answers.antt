@@ -1,11 +1,11 @@
 -- The next thing is the first of the merged lists.
 use Rattle.std.proofs.Common.{◌≡◌, ◌≤◌, ℕ, Option, Some, None, false, drop, map, length, ltb, sym, ◌∙◌, ap, arith, ◌+◌}
-use Rattle.edits.specs.declared.things.Thing.TheVariants.{Block}
+use Rattle.listing.specs.declared.things.Thing.TheVariants.{Block}
 use Rattle.std.specs.Prelude.{option_map, IfSome}
-use Rattle.edits.specs.Things.{offset_of, merged, left, stream_left, first_of}
-use Rattle.edits.proofs.ThingsLaws.{before_stream, before_block, left-stream, left-block}
-use Rattle.edits.proofs.things.Things.next.Goals as goal
-use Rattle.edits.proofs.things.Things.next.Goals.{in_default-stream_offset-via-in-Some-stream_offset+else-offset-piece, in_default-stream_offset-via-in_default-stream_offset}
+use Rattle.listing.specs.Things.{offset_of, merged, left, stream_left, first_of}
+use Rattle.listing.proofs.ThingsLaws.{before_stream, before_block, left-stream, left-block}
+use Rattle.listing.proofs.things.Things.next.Goals as goal
+use Rattle.listing.proofs.things.Things.next.Goals.{in_default-stream_offset-via-in-Some-stream_offset+else-offset-piece, in_default-stream_offset-via-in_default-stream_offset}
 
 pub returns-in_default-clause-first : goal.returns-in_default-clause-first
 returns-in_default-clause-first c = c.next_of_stream.ensures.first ∙ ap first_of (sym (left-stream c.args.self.now c.in_default.ensures.lookup.0))

@@ -1,6 +1,6 @@
 //! The lines of a listing.
 ghost use Rattle.std.specs.Prelude.{◌≡◌, ◌+◌, ◌^◌, ◌<◌, ◌≤◌, ◌++◌, length, codes};
-ghost use Rattle.edits.specs.Listing.{kind_name as kind_name_lem, version_name as version_name_lem, extent as extent_lem, frame_line as frame_line_lem, line_of, time_text, two_digits as two_digits_lem, summary};
+ghost use Rattle.listing.specs.Listing.{kind_name as kind_name_lem, version_name as version_name_lem, extent as extent_lem, frame_line as frame_line_lem, line_of, time_text, two_digits as two_digits_lem, summary};
 
 use crate::line::Line;
 use crate::things::Thing;

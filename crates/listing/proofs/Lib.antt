@@ -1,0 +1,4 @@
+-- The lemmas of this crate.
+pub mod ThingsLaws
+pub mod ListingLaws
+pub mod ListLaws
