@@ -1,10 +1,10 @@
 //! Commands in words, over a folder in memory.
 
-use test_files::files::{Stretch, bytes_of};
-use test_files::frames::{Frame, file_of};
 use mp3_cli::run;
 use outside::{Folder, MemFolder, MemSink};
 use std::alloc::{AllocError, Global};
+use test_files::files::{Stretch, bytes_of};
+use test_files::frames::{Frame, file_of};
 
 /// More than any line of these tests takes.
 const TEXT_ROOM: u64 = 100;
@@ -95,6 +95,20 @@ pub fn list_to<D: Folder>(
     let mut err = sink(alloc)?;
     let mut words = words_of(alloc, "list")?;
     words.push(String::from_str(alloc, name)?)?;
+    let status = run(alloc, &words, folder, &mut out, &mut err);
+    Ok(Ended { status, out, err })
+}
+
+/// Runs the words, which blanks part, with sinks that have room enough.
+pub fn run_with_room<D: Folder>(
+    alloc: Global,
+    folder: &mut D,
+    words: &str,
+) -> Result<Ended, AllocError> {
+    let words = words_of(alloc, words)?;
+    let mut out = MemSink::new(alloc);
+    out.reserve(LISTING_ROOM)?;
+    let mut err = sink(alloc)?;
     let status = run(alloc, &words, folder, &mut out, &mut err);
     Ok(Ended { status, out, err })
 }

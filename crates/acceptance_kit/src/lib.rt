@@ -2,3 +2,5 @@
 #![tactic(auto)]
 
 pub mod commands;
+pub mod rows;
+pub mod steps;

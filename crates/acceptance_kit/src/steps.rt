@@ -1,0 +1,271 @@
+//! Commands of which one call fails: the first of its kind, the second and so on, until none does.
+
+use crate::commands::{Ended, run_with_room};
+use crate::rows::{File, difference_of_files, put_files, wants_memory};
+use outside::{Call, MemFolder};
+use std::alloc::{AllocError, Global};
+use test_files::files::bytes_of;
+
+/// More calls of one kind than any of these commands makes.
+const MOST: u64 = 60;
+
+/// A kind of call, and what a run tells where one fails.
+pub struct Kind {
+    pub call: Call,
+    pub line: &'static str,
+    /// So many are made at least.
+    pub least: u64,
+    /// So many bytes at least were written when the last one is made.
+    pub written: usize,
+}
+
+/// A command over these files, and what it writes, in this order.
+pub struct Steps {
+    pub words: &'static str,
+    pub files: &'static [File],
+    pub outputs: &'static [File],
+    pub room: u64,
+    pub kinds: &'static [Kind],
+}
+
+/// What was found in place of what has to be.
+#[derive(Debug, PartialEq, Eq, Clone, Copy)]
+pub enum Stray {
+    /// A file of the command was changed.
+    Changed,
+    /// The outputs aren't whole up to one, of which there is a prefix, with nothing behind it.
+    NoPrefix,
+    /// A command is done with less, or a call fails where all was written.
+    Written(usize),
+    Status(u8),
+    Line,
+    /// No more calls of the kind are made, or when the last was made not more bytes were written.
+    Early(usize),
+    /// More calls are made than there may be.
+    Late,
+    /// A write failed, and no output is there.
+    Uncreated,
+}
+
+/// The command, the kind of call, the number of the call that failed, and what was found.
+#[derive(Debug, PartialEq, Eq, Clone, Copy)]
+pub struct Strayed {
+    pub words: &'static str,
+    pub call: Call,
+    pub number: u64,
+    pub stray: Stray,
+}
+
+/// How far the outputs were written, where they are whole up to one, of which there is a prefix, with nothing behind it.
+#[derive(Clone, Copy)]
+enum Progress {
+    Whole(usize),
+    Part(usize),
+    Neither,
+}
+
+/// How a run ended.
+#[derive(Clone, Copy)]
+enum Run {
+    Done,
+    /// A call failed when so many bytes were written.
+    Failed(usize),
+    Strayed(Stray),
+}
+
+/// The progress with one output more.
+fn progressed(progress: Progress, found: &[u8], wanted: &[u8]) -> Progress {
+    match progress {
+        Progress::Whole(count) if found == wanted => {
+            Progress::Whole(count.saturating_add(found.len()))
+        }
+        Progress::Whole(count) if wanted.starts_with(found) => {
+            Progress::Part(count.saturating_add(found.len()))
+        }
+        Progress::Part(count) if found.is_empty() => Progress::Part(count),
+        _ => Progress::Neither,
+    }
+}
+
+fn progress_of(
+    alloc: Global,
+    folder: &MemFolder,
+    outputs: &'static [File],
+) -> Result<Progress, AllocError> {
+    let mut progress = Progress::Whole(0);
+    for output in outputs {
+        let wanted = bytes_of(alloc, output.bytes)?;
+        let found = folder.get(output.name).unwrap_or(&[]);
+        progress = progressed(progress, found, &wanted);
+    }
+    Ok(progress)
+}
+
+/// How the command ended, where the outputs were written so far.
+fn run_of(ended: &Ended, kind: &'static Kind, progress: Progress) -> Run {
+    match (ended.status, progress) {
+        (_, Progress::Neither) => Run::Strayed(Stray::NoPrefix),
+        (0, Progress::Whole(_)) => Run::Done,
+        (0, Progress::Part(count)) => Run::Strayed(Stray::Written(count)),
+        (3, Progress::Whole(count)) => Run::Strayed(Stray::Written(count)),
+        (3, Progress::Part(count)) if ended.err.sent() == kind.line.as_bytes() => {
+            Run::Failed(count)
+        }
+        (3, Progress::Part(_)) => Run::Strayed(Stray::Line),
+        (status, _) => Run::Strayed(Stray::Status(status)),
+    }
+}
+
+/// Whether one of these files is there.
+fn is_any_there(folder: &MemFolder, outputs: &'static [File]) -> bool {
+    for output in outputs {
+        if folder.get(output.name).is_some() {
+            return true;
+        }
+    }
+    false
+}
+
+/// What the command left, and how it ended.
+fn run_ended(
+    alloc: Global,
+    folder: &MemFolder,
+    steps: &'static Steps,
+    kind: &'static Kind,
+    ended: &Ended,
+) -> Result<Run, AllocError> {
+    if difference_of_files(alloc, folder, steps.files, &[])?.is_some() {
+        return Ok(Run::Strayed(Stray::Changed));
+    }
+    if wants_memory(ended) {
+        return Err(AllocError);
+    }
+    if kind.call == Call::Write && !is_any_there(folder, steps.outputs) {
+        return Ok(Run::Strayed(Stray::Uncreated));
+    }
+    let progress = progress_of(alloc, folder, steps.outputs)?;
+    Ok(run_of(ended, kind, progress))
+}
+
+fn reserve_files(
+    folder: &mut MemFolder,
+    outputs: &'static [File],
+    room: u64,
+) -> Result<(), AllocError> {
+    for output in outputs {
+        folder.reserve(output.name, room)?;
+    }
+    Ok(())
+}
+
+fn prepare_steps(
+    alloc: Global,
+    folder: &mut MemFolder,
+    steps: &'static Steps,
+) -> Result<(), AllocError> {
+    put_files(alloc, folder, steps.files)?;
+    reserve_files(folder, steps.outputs, steps.room)
+}
+
+fn run_prepared(
+    alloc: Global,
+    folder: &mut MemFolder,
+    steps: &'static Steps,
+    kind: &'static Kind,
+) -> Result<Run, AllocError> {
+    let ended = run_with_room(alloc, folder, steps.words)?;
+    run_ended(alloc, folder, steps, kind, &ended)
+}
+
+fn run_over_folder(
+    alloc: Global,
+    folder: &mut MemFolder,
+    steps: &'static Steps,
+    kind: &'static Kind,
+    number: u64,
+) -> Result<Run, AllocError> {
+    prepare_steps(alloc, folder, steps)?;
+    folder.fail(kind.call, number)?;
+    run_prepared(alloc, folder, steps, kind)
+}
+
+fn run_failing(
+    alloc: Global,
+    steps: &'static Steps,
+    kind: &'static Kind,
+    number: u64,
+) -> Result<Run, AllocError> {
+    let mut folder = MemFolder::new(alloc);
+    run_over_folder(alloc, &mut folder, steps, kind, number)
+}
+
+/// Where a run is done whose call of this number doesn't fail, and so many bytes were written when the last one failed.
+fn stray_of_done(kind: &'static Kind, number: u64, written: usize) -> Option<Stray> {
+    if number > kind.least && written >= kind.written {
+        None
+    } else {
+        Some(Stray::Early(written))
+    }
+}
+
+/// Lets the calls of this kind fail, one in each run.
+fn strayed_of_kind(
+    alloc: Global,
+    steps: &'static Steps,
+    kind: &'static Kind,
+) -> Result<Option<Strayed>, AllocError> {
+    let words = steps.words;
+    let call = kind.call;
+    let mut written = 0;
+    for number in 1..MOST {
+        let stray = match run_failing(alloc, steps, kind, number)? {
+            Run::Failed(count) => {
+                written = count;
+                continue;
+            }
+            Run::Done => stray_of_done(kind, number, written),
+            Run::Strayed(stray) => Some(stray),
+        };
+        return Ok(stray.map(|stray| Strayed {
+            words,
+            call,
+            number,
+            stray,
+        }));
+    }
+    Ok(Some(Strayed {
+        words,
+        call,
+        number: MOST,
+        stray: Stray::Late,
+    }))
+}
+
+fn strayed_of_steps(alloc: Global, steps: &'static Steps) -> Result<Option<Strayed>, AllocError> {
+    for kind in steps.kinds {
+        let strayed = strayed_of_kind(alloc, steps, kind)?;
+        if strayed.is_some() {
+            return Ok(strayed);
+        }
+    }
+    Ok(None)
+}
+
+/// Runs each command with each call of its kinds failing in turn, up to the first that ends otherwise than it has to. That is `None`
+/// where all do: status 3 with the line, the files as they were, and the outputs whole up to one, of which there is a prefix; at last
+/// all outputs whole with status 0.
+///
+/// # Errors
+/// Where there is no memory: for the folders and what is compared, or a command told it and left its files.
+pub fn first_strayed(
+    alloc: Global,
+    commands: &'static [Steps],
+) -> Result<Option<Strayed>, AllocError> {
+    for steps in commands {
+        let strayed = strayed_of_steps(alloc, steps)?;
+        if strayed.is_some() {
+            return Ok(strayed);
+        }
+    }
+    Ok(None)
+}
