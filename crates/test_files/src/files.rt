@@ -8,6 +8,8 @@ use std::alloc::{AllocError, Global};
 pub enum Stretch {
     /// These frames end to end.
     Frames(&'static [Frame]),
+    /// These frames end to end, so many times.
+    Repeated(&'static [Frame], usize),
     /// These bytes.
     Bytes(&'static [u8]),
     /// One byte, so many times.
@@ -61,10 +63,24 @@ fn push_copies(file: &mut Vec<u8>, front: &[u8], count: usize) -> Result<(), All
     Ok(())
 }
 
+fn push_repeated(
+    alloc: Global,
+    file: &mut Vec<u8>,
+    frames: &[Frame],
+    times: usize,
+) -> Result<(), AllocError> {
+    let once = file_of(alloc, frames)?;
+    for _ in 0..times {
+        file.extend_from_slice(&once)?;
+    }
+    Ok(())
+}
+
 impl Stretch {
     fn append_to(&self, alloc: Global, file: &mut Vec<u8>) -> Result<(), AllocError> {
         match self {
             Stretch::Frames(frames) => file.extend_from_slice(&file_of(alloc, frames)?),
+            Stretch::Repeated(frames, times) => push_repeated(alloc, file, frames, *times),
             Stretch::Bytes(bytes) => file.extend_from_slice(bytes),
             Stretch::Fill(byte, count) => push_fill(file, *byte, *count),
             Stretch::Frame(begin, bits) => push_frame(file, *begin, *bits),
