@@ -1,9 +1,9 @@
 //! Check words are right in what is cut and packed.
 
-use crate::edited::{Edit, expect_edit};
+use acceptance_kit::rows::{File, ROW, Row, first_difference};
+use std::test::Fail;
 use test_files::files::Stretch;
 use test_files::frames::{Frame, Z};
-use std::test::Fail;
 
 /// With check words, 44,100 Hz, stereo, with an area of 379 bytes: 300 bytes of main data, and behind them 79 of the
 /// frame behind it.
@@ -71,43 +71,53 @@ const WORD_1_LEAST: Frame = Frame {
     ..WORD_1
 };
 
-static WITH_WORDS: [Edit; 2] = [
-    Edit {
+static WITH_WORDS: [Row; 2] = [
+    Row {
         what: "cut out",
-        words: "cut a 1 2 o",
-        before: &[Stretch::Frames(&[WORD_0, WORD_1])],
-        after: &[
-            Stretch::Bytes(&[0xff, 0xfb, 0x50, 0x00]),
-            Stretch::Fill(0, 32),
-            Stretch::Bytes(b"Xing\0\0\0\x0f\0\0\0\x02\0\0\x02\xd9"),
-            Stretch::Fill(73, 50),
-            Stretch::Fill(109, 50),
-            Stretch::Fill(0, 56),
-            Stretch::Frames(&[WORD_LEAD_IN, WORD_MOVED]),
-        ],
-        length: 729,
+        files: &[File {
+            name: "a",
+            bytes: &[Stretch::Frames(&[WORD_0, WORD_1])],
+        }],
+        words: &["cut a 1 2 o"],
+        after: &[File {
+            name: "o",
+            bytes: &[
+                Stretch::Bytes(&[0xff, 0xfb, 0x50, 0x00]),
+                Stretch::Fill(0, 32),
+                Stretch::Bytes(b"Xing\0\0\0\x0f\0\0\0\x02\0\0\x02\xd9"),
+                Stretch::Fill(73, 50),
+                Stretch::Fill(109, 50),
+                Stretch::Fill(0, 56),
+                Stretch::Frames(&[WORD_LEAD_IN, WORD_MOVED]),
+            ],
+        }],
+        ..ROW
     },
-    Edit {
+    Row {
         what: "packed",
-        words: "pack a o",
-        before: &[Stretch::Frames(&[WORD_0, WORD_1])],
-        after: &[
-            Stretch::Bytes(&[0xff, 0xfb, 0x50, 0x00]),
-            Stretch::Fill(0, 32),
-            Stretch::Bytes(b"Xing\0\0\0\x0f\0\0\0\x02\0\0\x04\x47"),
-            Stretch::Fill(48, 50),
-            Stretch::Fill(133, 50),
-            Stretch::Fill(0, 56),
-            Stretch::Frames(&[WORD_0_LEAST, WORD_1_LEAST]),
-        ],
-        length: 1095,
+        files: &[File {
+            name: "a",
+            bytes: &[Stretch::Frames(&[WORD_0, WORD_1])],
+        }],
+        words: &["pack a o"],
+        after: &[File {
+            name: "o",
+            bytes: &[
+                Stretch::Bytes(&[0xff, 0xfb, 0x50, 0x00]),
+                Stretch::Fill(0, 32),
+                Stretch::Bytes(b"Xing\0\0\0\x0f\0\0\0\x02\0\0\x04\x47"),
+                Stretch::Fill(48, 50),
+                Stretch::Fill(133, 50),
+                Stretch::Fill(0, 56),
+                Stretch::Frames(&[WORD_0_LEAST, WORD_1_LEAST]),
+            ],
+        }],
+        ..ROW
     },
 ];
 
 #[test]
 fn check_words_are_renewed(rt: HostRuntime) -> Result<(), Fail> {
-    for edit in &WITH_WORDS {
-        expect_edit(&rt, edit)?;
-    }
+    assert_eq!(rt; first_difference(rt.alloc(), &WITH_WORDS)?, None);
     Ok(())
 }

@@ -1,12 +1,12 @@
 //! Frames that are cut out, with the lead-ins that they need.
 
-use crate::edited::{Edit, expect_edit};
 use crate::songs::{
     A, A_0, A_1, A_1_FROM_68, INFO, INFO_REST, LEAD_IN, NO_SIDE, TWO_OF_729, TWO_OF_1042,
 };
+use acceptance_kit::rows::{File, ROW, Row, first_difference};
+use std::test::Fail;
 use test_files::files::Stretch;
 use test_files::frames::{Frame, Z};
-use std::test::Fail;
 
 /// A_1 at 160 kbit/s, where all its main data stand in its own area of 486 bytes.
 const A_1_ALONE: Frame = Frame {
@@ -20,74 +20,96 @@ const A_1_ALONE: Frame = Frame {
     ..Z
 };
 
-static CUTS: [Edit; 4] = [
+static CUTS: [Row; 4] = [
     // It has 400 bytes of main data and an area of 381.
-    Edit {
+    Row {
         what: "a frame that needs a lead-in",
-        words: "cut a 1 2 o",
-        before: &[A],
-        after: &[
-            INFO,
-            NO_SIDE,
-            TWO_OF_729,
-            Stretch::Fill(73, 50),
-            Stretch::Fill(109, 50),
-            INFO_REST,
-            Stretch::Frames(&[LEAD_IN, A_1_FROM_68]),
-        ],
-        length: 729,
+        files: &[File {
+            name: "a",
+            bytes: &[A],
+        }],
+        words: &["cut a 1 2 o"],
+        after: &[File {
+            name: "o",
+            bytes: &[
+                INFO,
+                NO_SIDE,
+                TWO_OF_729,
+                Stretch::Fill(73, 50),
+                Stretch::Fill(109, 50),
+                INFO_REST,
+                Stretch::Frames(&[LEAD_IN, A_1_FROM_68]),
+            ],
+        }],
+        ..ROW
     },
-    Edit {
+    Row {
         what: "the same with the least bit rate",
-        words: "cut --least a 1 2 o",
-        before: &[A],
-        after: &[
-            INFO,
-            NO_SIDE,
-            Stretch::Bytes(b"Info\0\0\0\x0f\0\0\0\x01\0\0\x02\xda"),
-            Stretch::Fill(72, 100),
-            INFO_REST,
-            Stretch::Frames(&[A_1_ALONE]),
-        ],
-        length: 730,
+        files: &[File {
+            name: "a",
+            bytes: &[A],
+        }],
+        words: &["cut --least a 1 2 o"],
+        after: &[File {
+            name: "o",
+            bytes: &[
+                INFO,
+                NO_SIDE,
+                Stretch::Bytes(b"Info\0\0\0\x0f\0\0\0\x01\0\0\x02\xda"),
+                Stretch::Fill(72, 100),
+                INFO_REST,
+                Stretch::Frames(&[A_1_ALONE]),
+            ],
+        }],
+        ..ROW
     },
-    Edit {
+    Row {
         what: "all frames, which keep their bit rates",
-        words: "cut a 0 2 o",
-        before: &[A],
-        after: &[
-            INFO,
-            NO_SIDE,
-            TWO_OF_1042,
-            Stretch::Fill(51, 50),
-            Stretch::Fill(153, 50),
-            INFO_REST,
-            Stretch::Frames(&[A_0, A_1]),
-        ],
-        length: 1042,
+        files: &[File {
+            name: "a",
+            bytes: &[A],
+        }],
+        words: &["cut a 0 2 o"],
+        after: &[File {
+            name: "o",
+            bytes: &[
+                INFO,
+                NO_SIDE,
+                TWO_OF_1042,
+                Stretch::Fill(51, 50),
+                Stretch::Fill(153, 50),
+                INFO_REST,
+                Stretch::Frames(&[A_0, A_1]),
+            ],
+        }],
+        ..ROW
     },
     // A frame lasts 2.6 hundredths of a second.
-    Edit {
+    Row {
         what: "by times",
-        words: "cut a 0.0.02 0.0.04 o",
-        before: &[Stretch::Frames(&[Z, Z])],
-        after: &[
-            INFO,
-            NO_SIDE,
-            Stretch::Bytes(b"Info\0\0\0\x0f\0\0\0\x01\0\0\x02\x71"),
-            Stretch::Fill(85, 100),
-            INFO_REST,
-            Stretch::Frames(&[Z]),
-        ],
-        length: 625,
+        files: &[File {
+            name: "a",
+            bytes: &[Stretch::Frames(&[Z, Z])],
+        }],
+        words: &["cut a 0.0.02 0.0.04 o"],
+        after: &[File {
+            name: "o",
+            bytes: &[
+                INFO,
+                NO_SIDE,
+                Stretch::Bytes(b"Info\0\0\0\x0f\0\0\0\x01\0\0\x02\x71"),
+                Stretch::Fill(85, 100),
+                INFO_REST,
+                Stretch::Frames(&[Z]),
+            ],
+        }],
+        ..ROW
     },
 ];
 
 #[test]
 fn frames_cut_out(rt: HostRuntime) -> Result<(), Fail> {
-    for edit in &CUTS {
-        expect_edit(&rt, edit)?;
-    }
+    assert_eq!(rt; first_difference(rt.alloc(), &CUTS)?, None);
     Ok(())
 }
 
@@ -124,34 +146,40 @@ const SMALL_LEAD_IN: Frame = Frame {
     ..SMALL
 };
 
-static LONG_WAY: Edit = Edit {
+static LONG_WAY: [Row; 1] = [Row {
     what: "main data that begin in 18 frames before",
-    words: "cut a 29 30 o",
-    before: &[
-        Stretch::Frames(&[
-            SMALL, SMALL, SMALL, SMALL, SMALL, SMALL, SMALL, SMALL, SMALL, SMALL, SMALL,
-        ]),
-        Stretch::Frames(&[
-            SMALL_FULL, SMALL_FULL, SMALL_FULL, SMALL_FULL, SMALL_FULL, SMALL_FULL, SMALL_FULL,
-            SMALL_FULL, SMALL_FULL, SMALL_FULL, SMALL_FULL, SMALL_FULL, SMALL_FULL, SMALL_FULL,
-            SMALL_FULL, SMALL_FULL, SMALL_FULL, SMALL_FULL,
-        ]),
-        Stretch::Frames(&[SMALL_LAST]),
-    ],
-    after: &[
-        Stretch::Bytes(&[0xff, 0xf3, 0x76, 0xc0]),
-        Stretch::Fill(0, 9),
-        Stretch::Bytes(b"Xing\0\0\0\x0f\0\0\0\x02\0\0\x01\xb1"),
-        Stretch::Fill(99, 50),
-        Stretch::Fill(241, 50),
-        Stretch::Fill(0, 40),
-        Stretch::Frames(&[SMALL_LEAD_IN, SMALL_FROM_227]),
-    ],
-    length: 433,
-};
+    files: &[File {
+        name: "a",
+        bytes: &[
+            Stretch::Frames(&[
+                SMALL, SMALL, SMALL, SMALL, SMALL, SMALL, SMALL, SMALL, SMALL, SMALL, SMALL,
+            ]),
+            Stretch::Frames(&[
+                SMALL_FULL, SMALL_FULL, SMALL_FULL, SMALL_FULL, SMALL_FULL, SMALL_FULL, SMALL_FULL,
+                SMALL_FULL, SMALL_FULL, SMALL_FULL, SMALL_FULL, SMALL_FULL, SMALL_FULL, SMALL_FULL,
+                SMALL_FULL, SMALL_FULL, SMALL_FULL, SMALL_FULL,
+            ]),
+            Stretch::Frames(&[SMALL_LAST]),
+        ],
+    }],
+    words: &["cut a 29 30 o"],
+    after: &[File {
+        name: "o",
+        bytes: &[
+            Stretch::Bytes(&[0xff, 0xf3, 0x76, 0xc0]),
+            Stretch::Fill(0, 9),
+            Stretch::Bytes(b"Xing\0\0\0\x0f\0\0\0\x02\0\0\x01\xb1"),
+            Stretch::Fill(99, 50),
+            Stretch::Fill(241, 50),
+            Stretch::Fill(0, 40),
+            Stretch::Frames(&[SMALL_LEAD_IN, SMALL_FROM_227]),
+        ],
+    }],
+    ..ROW
+}];
 
 #[test]
 fn a_frame_whose_main_data_begin_far_back(rt: HostRuntime) -> Result<(), Fail> {
-    expect_edit(&rt, &LONG_WAY)?;
+    assert_eq!(rt; first_difference(rt.alloc(), &LONG_WAY)?, None);
     Ok(())
 }

@@ -1,14 +1,10 @@
 //! Files that are joined.
 
-use crate::expected::{expect, expect_file};
-use crate::long::{Laid, QUIET, file_laid, frames_of};
 use crate::songs::{A, A_0, A_1, INFO, INFO_REST, LEAD_IN, NO_SIDE};
-use acceptance_kit::commands::{run_over, sink};
-use test_files::files::{Stretch, bytes_of};
-use test_files::frames::{Frame, MPEG_2, Z, file_of};
-use outside::{Call, MemFolder};
-use std::alloc::{AllocError, Global};
+use acceptance_kit::rows::{File, ROW, Row, first_difference};
 use std::test::Fail;
+use test_files::files::Stretch;
+use test_files::frames::{Frame, MPEG_2, Z};
 
 /// A frame as A_1, but that its 400 bytes of main data begin 40 bytes before its own area.
 const B_0: Frame = Frame {
@@ -21,7 +17,7 @@ const B_0: Frame = Frame {
 };
 
 /// The file B: a head, whose area ends with the first 40 bytes of the main data of the frame behind it.
-static B: [Stretch; 6] = [
+const B: &[Stretch] = &[
     Stretch::Bytes(&[0xff, 0xfb, 0x90, 0x00]),
     NO_SIDE,
     Stretch::Bytes(b"Info"),
@@ -53,7 +49,7 @@ const B_0_FROM_130: Frame = Frame {
 };
 
 /// 1,563 bytes.
-static BOTH: [Stretch; 8] = [
+const BOTH: &[Stretch] = &[
     INFO,
     NO_SIDE,
     Stretch::Bytes(b"Xing\0\0\0\x0f\0\0\0\x04\0\0\x06\x1b"),
@@ -62,86 +58,104 @@ static BOTH: [Stretch; 8] = [
     Stretch::Fill(170, 25),
     Stretch::Fill(187, 25),
     INFO_REST,
+    Stretch::Frames(&[A_0, A_1_FULL, LEAD_IN_FROM_62, B_0_FROM_130]),
 ];
 
-static BOTH_FRAMES: [Stretch; 1] = [Stretch::Frames(&[
-    A_0,
-    A_1_FULL,
-    LEAD_IN_FROM_62,
-    B_0_FROM_130,
-])];
-
-/// A folder with the files `a`, `b` and `m`, a frame of MPEG-2, and with room for the file `o`.
-fn folder_of_both(alloc: Global) -> Result<MemFolder, AllocError> {
-    let mut folder = MemFolder::new(alloc);
-    folder.put("a", &bytes_of(alloc, &[A])?)?;
-    folder.put("b", &bytes_of(alloc, &B)?)?;
-    folder.put("m", &file_of(alloc, &[MPEG_2])?)?;
-    folder.reserve("o", 2000)?;
-    Ok(folder)
-}
+static JOINED: [Row; 1] = [Row {
+    files: &[
+        File {
+            name: "a",
+            bytes: &[A],
+        },
+        File {
+            name: "b",
+            bytes: B,
+        },
+        File {
+            name: "m",
+            bytes: &[Stretch::Frames(&[MPEG_2])],
+        },
+    ],
+    words: &["join o a b"],
+    after: &[File {
+        name: "o",
+        bytes: BOTH,
+    }],
+    ..ROW
+}];
 
 #[test]
 fn two_files_joined(rt: HostRuntime) -> Result<(), Fail> {
-    let mut folder = folder_of_both(rt.alloc())?;
-    expect(&rt, &mut folder, "join o a b", 0, "")?;
-    let mut wanted = bytes_of(rt.alloc(), &BOTH)?;
-    wanted.extend_from_slice(&bytes_of(rt.alloc(), &BOTH_FRAMES)?)?;
-    assert_eq!(&rt; wanted.len(), 1563);
-    assert_eq!(&rt; folder.get("o").unwrap_or(&[]), wanted.as_slice());
-    expect_file(&rt, &folder, "b", &B, "joined")?;
+    assert_eq!(rt; first_difference(rt.alloc(), &JOINED)?, None);
     Ok(())
 }
+
+static REFUSED: [Row; 3] = [
+    Row {
+        files: &[
+            File {
+                name: "a",
+                bytes: &[A],
+            },
+            File {
+                name: "b",
+                bytes: B,
+            },
+            File {
+                name: "m",
+                bytes: &[Stretch::Frames(&[MPEG_2])],
+            },
+        ],
+        words: &["join o a m"],
+        status: 1,
+        line: "m: other class than the first input\n",
+        ..ROW
+    },
+    Row {
+        files: &[
+            File {
+                name: "a",
+                bytes: &[A],
+            },
+            File {
+                name: "b",
+                bytes: B,
+            },
+            File {
+                name: "m",
+                bytes: &[Stretch::Frames(&[MPEG_2])],
+            },
+        ],
+        words: &["join b a b"],
+        status: 1,
+        line: "b: input is an output\n",
+        ..ROW
+    },
+    Row {
+        files: &[
+            File {
+                name: "a",
+                bytes: &[A],
+            },
+            File {
+                name: "b",
+                bytes: B,
+            },
+            File {
+                name: "m",
+                bytes: &[Stretch::Frames(&[MPEG_2])],
+            },
+        ],
+        words: &["join o a x m"],
+        status: 3,
+        line: "x: absent\n",
+        absent: &["x"],
+        ..ROW
+    },
+];
 
 #[test]
 fn refused_joins(rt: HostRuntime) -> Result<(), Fail> {
-    let mut folder = folder_of_both(rt.alloc())?;
-    expect(
-        &rt,
-        &mut folder,
-        "join o a m",
-        1,
-        "m: other class than the first input\n",
-    )?;
-    expect(&rt, &mut folder, "join b a b", 1, "b: input is an output\n")?;
-    expect(&rt, &mut folder, "join o a x m", 3, "x: absent\n")?;
-    assert!(&rt; folder.get("o").is_none());
-    expect_file(&rt, &folder, "b", &B, "refused")?;
-    Ok(())
-}
-
-/// Two files of a thousand frames each.
-static TWICE: Laid = Laid {
-    frame: QUIET,
-    count: 2000,
-    free: 377,
-    length: 834_208,
-};
-
-#[test]
-fn the_last_read_of_a_join_fails(rt: HostRuntime) -> Result<(), Fail> {
-    let alloc = rt.alloc();
-    let input = frames_of(alloc, &QUIET, 1000, 0)?;
-    let wanted = file_laid(alloc, &TWICE)?;
-    assert_eq!(&rt; wanted.len(), 834_208);
-    let mut written = 0;
-    for number in 1..50 {
-        let mut folder = MemFolder::new(alloc);
-        folder.put("h", &input)?;
-        folder.reserve("o", 840_000)?;
-        folder.fail(Call::Read, number)?;
-        let ended = run_over(alloc, &mut folder, "join o h h", sink(alloc)?)?;
-        let output = folder.get("o").unwrap_or(&[]);
-        assert!(&rt; wanted.starts_with(output), "read {number}");
-        if ended.status == 0 {
-            assert_eq!(&rt; output.len(), wanted.len());
-            break;
-        }
-        assert_eq!(&rt; ended.status, 3, "read {number}");
-        assert_eq!(&rt; ended.err.sent(), b"h: read fault\n".as_slice());
-        written = output.len();
-    }
-    assert!(&rt; written >= 700_000, "{written}");
-    assert!(&rt; written < wanted.len(), "{written}");
+    assert_eq!(rt; first_difference(rt.alloc(), &REFUSED)?, None);
     Ok(())
 }

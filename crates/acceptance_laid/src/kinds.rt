@@ -1,9 +1,9 @@
 //! Cuts in other classes of MPEG-1.
 
-use crate::edited::{Edit, expect_edit};
+use acceptance_kit::rows::{File, ROW, Row, first_difference};
+use std::test::Fail;
 use test_files::files::Stretch;
 use test_files::frames::{Frame, Z};
-use std::test::Fail;
 
 /// MPEG-1, 44,100 Hz, one channel, with an area of 396 bytes: 300 bytes of main data, and behind them 96 of the
 /// frame behind it.
@@ -164,73 +164,95 @@ const JOINT_MOVED: Frame = Frame {
     ..JOINT_1
 };
 
-static KINDS: [Edit; 4] = [
-    Edit {
+static KINDS: [Row; 4] = [
+    Row {
         what: "MPEG-1, 44,100 Hz, one channel",
-        words: "cut a 1 2 o",
-        before: &[Stretch::Frames(&[MONO_0, MONO_1])],
-        after: &[
-            Stretch::Bytes(&[0xff, 0xfb, 0x40, 0xc0]),
-            Stretch::Fill(0, 17),
-            Stretch::Bytes(b"Xing\0\0\0\x0f\0\0\0\x02\0\0\x02\xbf"),
-            Stretch::Fill(66, 50),
-            Stretch::Fill(104, 50),
-            Stretch::Fill(0, 45),
-            Stretch::Frames(&[MONO_LEAD_IN, MONO_MOVED]),
-        ],
-        length: 703,
+        files: &[File {
+            name: "a",
+            bytes: &[Stretch::Frames(&[MONO_0, MONO_1])],
+        }],
+        words: &["cut a 1 2 o"],
+        after: &[File {
+            name: "o",
+            bytes: &[
+                Stretch::Bytes(&[0xff, 0xfb, 0x40, 0xc0]),
+                Stretch::Fill(0, 17),
+                Stretch::Bytes(b"Xing\0\0\0\x0f\0\0\0\x02\0\0\x02\xbf"),
+                Stretch::Fill(66, 50),
+                Stretch::Fill(104, 50),
+                Stretch::Fill(0, 45),
+                Stretch::Frames(&[MONO_LEAD_IN, MONO_MOVED]),
+            ],
+        }],
+        ..ROW
     },
-    Edit {
+    Row {
         what: "MPEG-1, 48,000 Hz, two channels",
-        words: "cut a 1 2 o",
-        before: &[Stretch::Frames(&[AT_48_KHZ_0, AT_48_KHZ_1])],
-        after: &[
-            Stretch::Bytes(&[0xff, 0xfb, 0x54, 0x00]),
-            Stretch::Fill(0, 32),
-            Stretch::Bytes(b"Xing\0\0\0\x0f\0\0\0\x02\0\0\x02\xa0"),
-            Stretch::Fill(73, 50),
-            Stretch::Fill(109, 50),
-            Stretch::Fill(0, 40),
-            Stretch::Frames(&[AT_48_KHZ_LEAD_IN, AT_48_KHZ_MOVED]),
-        ],
-        length: 672,
+        files: &[File {
+            name: "a",
+            bytes: &[Stretch::Frames(&[AT_48_KHZ_0, AT_48_KHZ_1])],
+        }],
+        words: &["cut a 1 2 o"],
+        after: &[File {
+            name: "o",
+            bytes: &[
+                Stretch::Bytes(&[0xff, 0xfb, 0x54, 0x00]),
+                Stretch::Fill(0, 32),
+                Stretch::Bytes(b"Xing\0\0\0\x0f\0\0\0\x02\0\0\x02\xa0"),
+                Stretch::Fill(73, 50),
+                Stretch::Fill(109, 50),
+                Stretch::Fill(0, 40),
+                Stretch::Frames(&[AT_48_KHZ_LEAD_IN, AT_48_KHZ_MOVED]),
+            ],
+        }],
+        ..ROW
     },
-    Edit {
+    Row {
         what: "MPEG-1, 32,000 Hz, two channels",
-        words: "cut a 1 2 o",
-        before: &[Stretch::Frames(&[AT_32_KHZ_0, AT_32_KHZ_1])],
-        after: &[
-            Stretch::Bytes(&[0xff, 0xfb, 0x38, 0x00]),
-            Stretch::Fill(0, 32),
-            Stretch::Bytes(b"Xing\0\0\0\x0f\0\0\0\x02\0\0\x03\xa8"),
-            Stretch::Fill(59, 50),
-            Stretch::Fill(98, 50),
-            Stretch::Fill(0, 64),
-            Stretch::Frames(&[AT_32_KHZ_LEAD_IN, AT_32_KHZ_MOVED]),
-        ],
-        length: 936,
+        files: &[File {
+            name: "a",
+            bytes: &[Stretch::Frames(&[AT_32_KHZ_0, AT_32_KHZ_1])],
+        }],
+        words: &["cut a 1 2 o"],
+        after: &[File {
+            name: "o",
+            bytes: &[
+                Stretch::Bytes(&[0xff, 0xfb, 0x38, 0x00]),
+                Stretch::Fill(0, 32),
+                Stretch::Bytes(b"Xing\0\0\0\x0f\0\0\0\x02\0\0\x03\xa8"),
+                Stretch::Fill(59, 50),
+                Stretch::Fill(98, 50),
+                Stretch::Fill(0, 64),
+                Stretch::Frames(&[AT_32_KHZ_LEAD_IN, AT_32_KHZ_MOVED]),
+            ],
+        }],
+        ..ROW
     },
-    Edit {
+    Row {
         what: "MPEG-1, 44,100 Hz, joint stereo with all other bits of the header set",
-        words: "cut a 1 2 o",
-        before: &[Stretch::Frames(&[JOINT_0, JOINT_1])],
-        after: &[
-            Stretch::Bytes(&[0xff, 0xfb, 0x51, 0x6f]),
-            Stretch::Fill(0, 32),
-            Stretch::Bytes(b"Xing\0\0\0\x0f\0\0\0\x02\0\0\x02\xd9"),
-            Stretch::Fill(73, 50),
-            Stretch::Fill(109, 50),
-            Stretch::Fill(0, 56),
-            Stretch::Frames(&[JOINT_LEAD_IN, JOINT_MOVED]),
-        ],
-        length: 729,
+        files: &[File {
+            name: "a",
+            bytes: &[Stretch::Frames(&[JOINT_0, JOINT_1])],
+        }],
+        words: &["cut a 1 2 o"],
+        after: &[File {
+            name: "o",
+            bytes: &[
+                Stretch::Bytes(&[0xff, 0xfb, 0x51, 0x6f]),
+                Stretch::Fill(0, 32),
+                Stretch::Bytes(b"Xing\0\0\0\x0f\0\0\0\x02\0\0\x02\xd9"),
+                Stretch::Fill(73, 50),
+                Stretch::Fill(109, 50),
+                Stretch::Fill(0, 56),
+                Stretch::Frames(&[JOINT_LEAD_IN, JOINT_MOVED]),
+            ],
+        }],
+        ..ROW
     },
 ];
 
 #[test]
 fn classes_of_mpeg_1(rt: HostRuntime) -> Result<(), Fail> {
-    for edit in &KINDS {
-        expect_edit(&rt, edit)?;
-    }
+    assert_eq!(rt; first_difference(rt.alloc(), &KINDS)?, None);
     Ok(())
 }

@@ -8,10 +8,6 @@ mod check_words;
 #[cfg(test)]
 mod cuts;
 #[cfg(test)]
-mod edited;
-#[cfg(test)]
-mod expected;
-#[cfg(test)]
 mod joins;
 #[cfg(test)]
 mod kinds;

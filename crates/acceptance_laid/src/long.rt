@@ -1,16 +1,15 @@
-//! A long file, of which neither what is read nor what is written is held whole.
+//! Long files, of which neither what is read nor what is written is held whole.
 
 use crate::songs::{INFO, INFO_REST, NO_SIDE};
-use acceptance_kit::commands::{folder_of, run_over, sink};
-use test_files::files::bytes_of;
-use test_files::frames::{Frame, Z, file_of};
+use acceptance_kit::rows::File;
+use acceptance_kit::steps::{Kind, Steps, first_strayed};
 use outside::Call;
-use std::alloc::{AllocError, Global};
-use std::process::Abort;
 use std::test::Fail;
+use test_files::files::Stretch;
+use test_files::frames::{Frame, Z};
 
 /// 4 times 8 bits of main data, which are 0.
-pub const QUIET: Frame = Frame {
+const QUIET: Frame = Frame {
     side: &[
         0x00, 0x00, 0x00, 0x08, 0x00, 0x32, 0x00, 0x00, 0x00, 0x00, 0x01, 0x00, 0x06, 0x40, 0x00,
         0x00, 0x00, 0x00, 0x20, 0x00, 0xc8, 0x00, 0x00, 0x00, 0x00, 0x04, 0x00, 0x19,
@@ -18,120 +17,277 @@ pub const QUIET: Frame = Frame {
     ..Z
 };
 
-/// The same at 32 kbit/s.
-const QUIET_LEAST: Frame = Frame {
+/// The same where main data begin 377 bytes before the area: the frame before leaves so many free.
+const QUIET_FROM_377: Frame = Frame {
+    side: &[
+        0xbc, 0x80, 0x00, 0x08, 0x00, 0x32, 0x00, 0x00, 0x00, 0x00, 0x01, 0x00, 0x06, 0x40, 0x00,
+        0x00, 0x00, 0x00, 0x20, 0x00, 0xc8, 0x00, 0x00, 0x00, 0x00, 0x04, 0x00, 0x19,
+    ],
+    ..Z
+};
+
+/// The same where they begin as far before it as they may.
+const QUIET_FROM_511: Frame = Frame {
+    side: &[
+        0xff, 0x80, 0x00, 0x08, 0x00, 0x32, 0x00, 0x00, 0x00, 0x00, 0x01, 0x00, 0x06, 0x40, 0x00,
+        0x00, 0x00, 0x00, 0x20, 0x00, 0xc8, 0x00, 0x00, 0x00, 0x00, 0x04, 0x00, 0x19,
+    ],
+    ..Z
+};
+
+/// QUIET at 32 kbit/s.
+const LEAST: Frame = Frame {
     header: [0xff, 0xfb, 0x10, 0x00],
     length: 104,
     ..QUIET
 };
 
-/// A file of an Info frame and so many equal frames, each of which leaves so many bytes free in its area; and its length.
-pub struct Laid {
-    pub frame: Frame,
-    pub count: u32,
-    pub free: usize,
-    pub length: u32,
-}
+/// The same frames, each of which leaves 64 bytes free: main data begin from frame to frame so much farther back, at most 511 bytes.
+const LEAST_FRAMES: &[Frame] = &[
+    LEAST,
+    LEAST_FROM_64,
+    LEAST_FROM_128,
+    LEAST_FROM_192,
+    LEAST_FROM_256,
+    LEAST_FROM_320,
+    LEAST_FROM_384,
+    LEAST_FROM_448,
+];
 
-/// What `cut h 0 1000 o` makes.
-static CUT: Laid = Laid {
-    frame: QUIET,
-    count: 1000,
-    free: 377,
-    length: 417_208,
+/// LEAST where main data begin 64 bytes before the area.
+const LEAST_FROM_64: Frame = Frame {
+    side: &[
+        0x20, 0x00, 0x00, 0x08, 0x00, 0x32, 0x00, 0x00, 0x00, 0x00, 0x01, 0x00, 0x06, 0x40, 0x00,
+        0x00, 0x00, 0x00, 0x20, 0x00, 0xc8, 0x00, 0x00, 0x00, 0x00, 0x04, 0x00, 0x19,
+    ],
+    ..LEAST
 };
 
-/// What `pack h o` makes.
-static PACKED: Laid = Laid {
-    frame: QUIET_LEAST,
-    count: 1000,
-    free: 64,
-    length: 104_208,
+/// LEAST where main data begin 128 bytes before the area.
+const LEAST_FROM_128: Frame = Frame {
+    side: &[
+        0x40, 0x00, 0x00, 0x08, 0x00, 0x32, 0x00, 0x00, 0x00, 0x00, 0x01, 0x00, 0x06, 0x40, 0x00,
+        0x00, 0x00, 0x00, 0x20, 0x00, 0xc8, 0x00, 0x00, 0x00, 0x00, 0x04, 0x00, 0x19,
+    ],
+    ..LEAST
 };
 
-/// So many frames whose main data begin, from frame to frame, so many bytes farther back, at most 511. In their side information
-/// seven bits that are 0 stand behind main_data_begin.
-pub fn frames_of(
-    alloc: Global,
-    frame: &Frame,
-    count: u32,
-    free: usize,
-) -> Result<Vec<u8>, AllocError> {
-    let bytes = file_of(alloc, &[*frame])?;
-    let rest = bytes.get(6..).unwrap_or(&[]);
-    let mut file = Vec::new(alloc);
-    for i in 0..count {
-        let begin = free.saturating_mul(i as usize).min(511) as u16;
-        file.extend_from_slice(&frame.header)?;
-        file.extend_from_slice(&(begin * 128).to_be_bytes())?;
-        file.extend_from_slice(rest)?;
-    }
-    Ok(file)
-}
+/// LEAST where main data begin 192 bytes before the area.
+const LEAST_FROM_192: Frame = Frame {
+    side: &[
+        0x60, 0x00, 0x00, 0x08, 0x00, 0x32, 0x00, 0x00, 0x00, 0x00, 0x01, 0x00, 0x06, 0x40, 0x00,
+        0x00, 0x00, 0x00, 0x20, 0x00, 0xc8, 0x00, 0x00, 0x00, 0x00, 0x04, 0x00, 0x19,
+    ],
+    ..LEAST
+};
 
-/// Entry i of the table: the 256th parts of the file that stand before frame i * count / 100.
-fn entry_of(laid: &Laid, i: usize) -> u8 {
-    let frames = i.saturating_mul(laid.count as usize) / 100;
-    let before = laid.frame.length.saturating_mul(frames).saturating_add(208);
-    let parts = before.saturating_mul(256).checked_div(laid.length as usize);
-    parts.unwrap_or(0).min(255) as u8
-}
+/// LEAST where main data begin 256 bytes before the area.
+const LEAST_FROM_256: Frame = Frame {
+    side: &[
+        0x80, 0x00, 0x00, 0x08, 0x00, 0x32, 0x00, 0x00, 0x00, 0x00, 0x01, 0x00, 0x06, 0x40, 0x00,
+        0x00, 0x00, 0x00, 0x20, 0x00, 0xc8, 0x00, 0x00, 0x00, 0x00, 0x04, 0x00, 0x19,
+    ],
+    ..LEAST
+};
 
-/// The bytes of the file.
-pub fn file_laid(alloc: Global, laid: &Laid) -> Result<Vec<u8>, AllocError> {
-    let mut file = bytes_of(alloc, &[INFO, NO_SIDE])?;
-    file.extend_from_slice(b"Info\0\0\0\x0f")?;
-    for number in [laid.count, laid.length] {
-        file.extend_from_slice(&number.to_be_bytes())?;
-    }
-    for i in 0..100 {
-        file.push(entry_of(laid, i))?;
-    }
-    file.extend_from_slice(&bytes_of(alloc, &[INFO_REST])?)?;
-    file.extend_from_slice(&frames_of(alloc, &laid.frame, laid.count, laid.free)?)?;
-    Ok(file)
-}
+/// LEAST where main data begin 320 bytes before the area.
+const LEAST_FROM_320: Frame = Frame {
+    side: &[
+        0xa0, 0x00, 0x00, 0x08, 0x00, 0x32, 0x00, 0x00, 0x00, 0x00, 0x01, 0x00, 0x06, 0x40, 0x00,
+        0x00, 0x00, 0x00, 0x20, 0x00, 0xc8, 0x00, 0x00, 0x00, 0x00, 0x04, 0x00, 0x19,
+    ],
+    ..LEAST
+};
 
-/// Runs the words over a file `h` of a thousand frames where a read fails, for each read in turn until none does. Asserts that
-/// the output is a prefix of its bytes, that it has 65,536 or more where the last read failed, and that it is whole where none
-/// did.
-fn expect_streamed<R: Abort + AllocGlobal>(
-    rt: &R,
-    words: &str,
-    laid: &Laid,
-) -> Result<(), AllocError> {
-    let alloc = rt.alloc();
-    let input = frames_of(alloc, &QUIET, 1000, 0)?;
-    let wanted = file_laid(alloc, laid)?;
-    assert_eq!(rt; wanted.len(), laid.length as usize);
-    let mut written = 0;
-    for number in 1..30 {
-        let mut folder = folder_of(alloc, "h", &input, wanted.len())?;
-        folder.fail(Call::Read, number)?;
-        let ended = run_over(alloc, &mut folder, words, sink(alloc)?)?;
-        let output = folder.get("o").unwrap_or(&[]);
-        assert!(rt; wanted.starts_with(output), "{words}, read {number}");
-        if ended.status == 0 {
-            assert_eq!(rt; output.len(), wanted.len(), "{words}");
-            break;
-        }
-        assert_eq!(rt; ended.status, 3, "{words}, read {number}");
-        assert_eq!(rt; ended.err.sent(), b"h: read fault\n".as_slice());
-        written = output.len();
-    }
-    assert!(rt; written >= 65_536, "{words}: {written}");
-    assert!(rt; written < wanted.len(), "{words}: {written}");
-    Ok(())
-}
+/// LEAST where main data begin 384 bytes before the area.
+const LEAST_FROM_384: Frame = Frame {
+    side: &[
+        0xc0, 0x00, 0x00, 0x08, 0x00, 0x32, 0x00, 0x00, 0x00, 0x00, 0x01, 0x00, 0x06, 0x40, 0x00,
+        0x00, 0x00, 0x00, 0x20, 0x00, 0xc8, 0x00, 0x00, 0x00, 0x00, 0x04, 0x00, 0x19,
+    ],
+    ..LEAST
+};
+
+/// LEAST where main data begin 448 bytes before the area.
+const LEAST_FROM_448: Frame = Frame {
+    side: &[
+        0xe0, 0x00, 0x00, 0x08, 0x00, 0x32, 0x00, 0x00, 0x00, 0x00, 0x01, 0x00, 0x06, 0x40, 0x00,
+        0x00, 0x00, 0x00, 0x20, 0x00, 0xc8, 0x00, 0x00, 0x00, 0x00, 0x04, 0x00, 0x19,
+    ],
+    ..LEAST
+};
+
+/// The same where they begin as far before it as they may.
+const LEAST_FROM_511: Frame = Frame {
+    side: &[
+        0xff, 0x80, 0x00, 0x08, 0x00, 0x32, 0x00, 0x00, 0x00, 0x00, 0x01, 0x00, 0x06, 0x40, 0x00,
+        0x00, 0x00, 0x00, 0x20, 0x00, 0xc8, 0x00, 0x00, 0x00, 0x00, 0x04, 0x00, 0x19,
+    ],
+    ..LEAST
+};
+
+/// A file of a thousand frames.
+const THOUSAND: Stretch = Stretch::Repeated(&[QUIET], 1000);
+
+/// What stands behind the first two of a thousand.
+const REST_OF_1000: Stretch = Stretch::Repeated(&[QUIET_FROM_511], 998);
+
+/// What stands behind the first eight of a thousand.
+const REST_OF_LEAST: Stretch = Stretch::Repeated(&[LEAST_FROM_511], 992);
+
+/// What stands behind the first two of two thousand.
+const REST_OF_2000: Stretch = Stretch::Repeated(&[QUIET_FROM_511], 1998);
+
+/// What stands behind the first two of five hundred.
+const REST_OF_500: Stretch = Stretch::Repeated(&[QUIET_FROM_511], 498);
+
+static CUT: [Steps; 1] = [Steps {
+    words: "cut h 0 1000 o",
+    files: &[File {
+        name: "h",
+        bytes: &[THOUSAND],
+    }],
+    outputs: &[File {
+        name: "o",
+        bytes: &[
+            INFO,
+            NO_SIDE,
+            Stretch::Bytes(b"Info\0\0\0\x0f\0\0\x03\xe8\0\x06]\xb8"),
+            Stretch::Bytes(
+                b"\0\x02\x05\x07\x0a\x0c\x0f\x12\x14\x17\x19\x1c\x1e!#&)+.0358:=@BEGJLORTWY\x5c^acfiknpsuxz}\x80\x82\x85\x87\x8a\x8c\x8f\x91\x94\x97\x99\x9c\x9e\xa1\xa3\xa6\xa9\xab\xae\xb0\xb3\xb5\xb8\xba\xbd\xc0\xc2\xc5\xc7\xca\xcc\xcf\xd1\xd4\xd7\xd9\xdc\xde\xe1\xe3\xe6\xe8\xeb\xee\xf0\xf3\xf5\xf8\xfa\xfd",
+            ),
+            INFO_REST,
+            Stretch::Frames(&[QUIET, QUIET_FROM_377]),
+            REST_OF_1000,
+        ],
+    }],
+    room: 417208,
+    kinds: &[Kind {
+        call: Call::Read,
+        line: "h: read fault\n",
+        least: 1,
+        written: 65536,
+    }],
+}];
 
 #[test]
 fn the_last_read_of_a_cut_fails(rt: HostRuntime) -> Result<(), Fail> {
-    expect_streamed(&rt, "cut h 0 1000 o", &CUT)?;
+    assert_eq!(rt; first_strayed(rt.alloc(), &CUT)?, None);
     Ok(())
 }
 
+static PACKED: [Steps; 1] = [Steps {
+    words: "pack h o",
+    files: &[File {
+        name: "h",
+        bytes: &[THOUSAND],
+    }],
+    outputs: &[File {
+        name: "o",
+        bytes: &[
+            INFO,
+            NO_SIDE,
+            Stretch::Bytes(b"Info\0\0\0\x0f\0\0\x03\xe8\0\x01\x97\x10"),
+            Stretch::Bytes(
+                b"\0\x03\x05\x08\x0a\x0d\x0f\x12\x14\x17\x1a\x1c\x1f!$&)+.1368;=@BEHJMORTWY\x5c_adfiknpsvx{}\x80\x82\x85\x87\x8a\x8d\x8f\x92\x94\x97\x99\x9c\x9e\xa1\xa4\xa6\xa9\xab\xae\xb0\xb3\xb5\xb8\xbb\xbd\xc0\xc2\xc5\xc7\xca\xcc\xcf\xd2\xd4\xd7\xd9\xdc\xde\xe1\xe3\xe6\xe9\xeb\xee\xf0\xf3\xf5\xf8\xfa\xfd",
+            ),
+            INFO_REST,
+            Stretch::Frames(LEAST_FRAMES),
+            REST_OF_LEAST,
+        ],
+    }],
+    room: 104208,
+    kinds: &[Kind {
+        call: Call::Read,
+        line: "h: read fault\n",
+        least: 1,
+        written: 65536,
+    }],
+}];
+
 #[test]
 fn the_last_read_of_a_pack_fails(rt: HostRuntime) -> Result<(), Fail> {
-    expect_streamed(&rt, "pack h o", &PACKED)?;
+    assert_eq!(rt; first_strayed(rt.alloc(), &PACKED)?, None);
+    Ok(())
+}
+
+/// Two files of a thousand frames each.
+static JOINED: [Steps; 1] = [Steps {
+    words: "join o h h",
+    files: &[File {
+        name: "h",
+        bytes: &[THOUSAND],
+    }],
+    outputs: &[File {
+        name: "o",
+        bytes: &[
+            INFO,
+            NO_SIDE,
+            Stretch::Bytes(b"Info\0\0\0\x0f\0\0\x07\xd0\0\x0c\xba\xa0"),
+            Stretch::Bytes(
+                b"\0\x02\x05\x07\x0a\x0c\x0f\x11\x14\x17\x19\x1c\x1e!#&)+.0358:=@BEGJLOQTWY\x5c^acfhknpsuxz}\x80\x82\x85\x87\x8a\x8c\x8f\x91\x94\x97\x99\x9c\x9e\xa1\xa3\xa6\xa8\xab\xae\xb0\xb3\xb5\xb8\xba\xbd\xc0\xc2\xc5\xc7\xca\xcc\xcf\xd1\xd4\xd7\xd9\xdc\xde\xe1\xe3\xe6\xe8\xeb\xee\xf0\xf3\xf5\xf8\xfa\xfd",
+            ),
+            INFO_REST,
+            Stretch::Frames(&[QUIET, QUIET_FROM_377]),
+            REST_OF_2000,
+        ],
+    }],
+    room: 834208,
+    kinds: &[Kind {
+        call: Call::Read,
+        line: "h: read fault\n",
+        least: 1,
+        written: 700000,
+    }],
+}];
+
+#[test]
+fn the_last_read_of_a_join_fails(rt: HostRuntime) -> Result<(), Fail> {
+    assert_eq!(rt; first_strayed(rt.alloc(), &JOINED)?, None);
+    Ok(())
+}
+
+/// Half of a file of a thousand frames, 208,708 bytes.
+const HALF: &[Stretch] = &[
+    INFO,
+    NO_SIDE,
+    Stretch::Bytes(b"Info\0\0\0\x0f\0\0\x01\xf4\0\x03/D"),
+    Stretch::Bytes(
+        b"\0\x02\x05\x07\x0a\x0d\x0f\x12\x14\x17\x19\x1c\x1e!$&)+.0358;=@BEGJLORTWY\x5c^acfiknpsux{}\x80\x82\x85\x87\x8a\x8c\x8f\x92\x94\x97\x99\x9c\x9e\xa1\xa3\xa6\xa9\xab\xae\xb0\xb3\xb5\xb8\xba\xbd\xc0\xc2\xc5\xc7\xca\xcc\xcf\xd1\xd4\xd7\xd9\xdc\xde\xe1\xe3\xe6\xe8\xeb\xee\xf0\xf3\xf5\xf8\xfa\xfd",
+    ),
+    INFO_REST,
+    Stretch::Frames(&[QUIET, QUIET_FROM_377]),
+    REST_OF_500,
+];
+
+// The first piece is whole then, and of the second 65,536 bytes at least were written while the input was still read.
+static SPLIT: [Steps; 1] = [Steps {
+    words: "split h p 0 500 EOF",
+    files: &[File {
+        name: "h",
+        bytes: &[THOUSAND],
+    }],
+    outputs: &[
+        File {
+            name: "p01.mp3",
+            bytes: HALF,
+        },
+        File {
+            name: "p02.mp3",
+            bytes: HALF,
+        },
+    ],
+    room: 208708,
+    kinds: &[Kind {
+        call: Call::Read,
+        line: "h: read fault\n",
+        least: 1,
+        written: 274244,
+    }],
+}];
+
+#[test]
+fn the_last_read_of_a_split_fails(rt: HostRuntime) -> Result<(), Fail> {
+    assert_eq!(rt; first_strayed(rt.alloc(), &SPLIT)?, None);
     Ok(())
 }

@@ -1,9 +1,9 @@
 //! Cuts in classes of MPEG-2 and MPEG-2.5.
 
-use crate::edited::{Edit, expect_edit};
+use acceptance_kit::rows::{File, ROW, Row, first_difference};
+use std::test::Fail;
 use test_files::files::Stretch;
 use test_files::frames::{Frame, Z};
-use std::test::Fail;
 
 /// MPEG-2, 22,050 Hz, two channels, with an area of 187 bytes: 100 bytes of main data, and behind them 87 of the
 /// frame behind it.
@@ -113,58 +113,74 @@ const LOWEST_MONO_MOVED: Frame = Frame {
     ..LOWEST_MONO_1
 };
 
-static LOWER_KINDS: [Edit; 3] = [
-    Edit {
+static LOWER_KINDS: [Row; 3] = [
+    Row {
         what: "MPEG-2, 22,050 Hz, two channels",
-        words: "cut a 1 2 o",
-        before: &[Stretch::Frames(&[LOWER_0, LOWER_1])],
-        after: &[
-            Stretch::Bytes(&[0xff, 0xf3, 0x70, 0x00]),
-            Stretch::Fill(0, 17),
-            Stretch::Bytes(b"Xing\0\0\0\x0f\0\0\0\x02\0\0\x01\xba"),
-            Stretch::Fill(105, 50),
-            Stretch::Fill(135, 50),
-            Stretch::Fill(0, 45),
-            Stretch::Frames(&[LOWER_LEAD_IN, LOWER_MOVED]),
-        ],
-        length: 442,
+        files: &[File {
+            name: "a",
+            bytes: &[Stretch::Frames(&[LOWER_0, LOWER_1])],
+        }],
+        words: &["cut a 1 2 o"],
+        after: &[File {
+            name: "o",
+            bytes: &[
+                Stretch::Bytes(&[0xff, 0xf3, 0x70, 0x00]),
+                Stretch::Fill(0, 17),
+                Stretch::Bytes(b"Xing\0\0\0\x0f\0\0\0\x02\0\0\x01\xba"),
+                Stretch::Fill(105, 50),
+                Stretch::Fill(135, 50),
+                Stretch::Fill(0, 45),
+                Stretch::Frames(&[LOWER_LEAD_IN, LOWER_MOVED]),
+            ],
+        }],
+        ..ROW
     },
-    Edit {
+    Row {
         what: "MPEG-2.5, 11,025 Hz, two channels",
-        words: "cut a 1 2 o",
-        before: &[Stretch::Frames(&[LOWEST_0, LOWEST_1])],
-        after: &[
-            Stretch::Bytes(&[0xff, 0xe3, 0x40, 0x00]),
-            Stretch::Fill(0, 17),
-            Stretch::Bytes(b"Xing\0\0\0\x0f\0\0\0\x02\0\0\x01\xd4"),
-            Stretch::Fill(113, 50),
-            Stretch::Fill(142, 50),
-            Stretch::Fill(0, 71),
-            Stretch::Frames(&[LOWEST_LEAD_IN, LOWEST_MOVED]),
-        ],
-        length: 468,
+        files: &[File {
+            name: "a",
+            bytes: &[Stretch::Frames(&[LOWEST_0, LOWEST_1])],
+        }],
+        words: &["cut a 1 2 o"],
+        after: &[File {
+            name: "o",
+            bytes: &[
+                Stretch::Bytes(&[0xff, 0xe3, 0x40, 0x00]),
+                Stretch::Fill(0, 17),
+                Stretch::Bytes(b"Xing\0\0\0\x0f\0\0\0\x02\0\0\x01\xd4"),
+                Stretch::Fill(113, 50),
+                Stretch::Fill(142, 50),
+                Stretch::Fill(0, 71),
+                Stretch::Frames(&[LOWEST_LEAD_IN, LOWEST_MOVED]),
+            ],
+        }],
+        ..ROW
     },
-    Edit {
+    Row {
         what: "MPEG-2.5, 12,000 Hz, one channel",
-        words: "cut a 1 2 o",
-        before: &[Stretch::Frames(&[LOWEST_MONO_0, LOWEST_MONO_1])],
-        after: &[
-            Stretch::Bytes(&[0xff, 0xe3, 0x44, 0xc0]),
-            Stretch::Fill(0, 9),
-            Stretch::Bytes(b"Info\0\0\0\x0f\0\0\0\x02\0\0\x01\x20"),
-            Stretch::Fill(170, 50),
-            Stretch::Fill(213, 50),
-            Stretch::Fill(0, 63),
-            Stretch::Frames(&[LOWEST_MONO_LEAD_IN, LOWEST_MONO_MOVED]),
-        ],
-        length: 288,
+        files: &[File {
+            name: "a",
+            bytes: &[Stretch::Frames(&[LOWEST_MONO_0, LOWEST_MONO_1])],
+        }],
+        words: &["cut a 1 2 o"],
+        after: &[File {
+            name: "o",
+            bytes: &[
+                Stretch::Bytes(&[0xff, 0xe3, 0x44, 0xc0]),
+                Stretch::Fill(0, 9),
+                Stretch::Bytes(b"Info\0\0\0\x0f\0\0\0\x02\0\0\x01\x20"),
+                Stretch::Fill(170, 50),
+                Stretch::Fill(213, 50),
+                Stretch::Fill(0, 63),
+                Stretch::Frames(&[LOWEST_MONO_LEAD_IN, LOWEST_MONO_MOVED]),
+            ],
+        }],
+        ..ROW
     },
 ];
 
 #[test]
 fn classes_of_mpeg_2(rt: HostRuntime) -> Result<(), Fail> {
-    for edit in &LOWER_KINDS {
-        expect_edit(&rt, edit)?;
-    }
+    assert_eq!(rt; first_difference(rt.alloc(), &LOWER_KINDS)?, None);
     Ok(())
 }

@@ -1,10 +1,10 @@
 //! Files that are packed.
 
-use crate::edited::{Edit, expect_edit};
 use crate::songs::{A, A_0_ALONE, INFO, INFO_REST, LEAST, LEAST_FROM_68, NO_SIDE};
+use acceptance_kit::rows::{File, ROW, Row, first_difference};
+use std::test::Fail;
 use test_files::files::Stretch;
 use test_files::frames::{Frame, Z};
-use std::test::Fail;
 
 /// A's first frame at 112 kbit/s, with an area of 329 bytes: behind its 300 bytes are 29 of the frame behind it.
 const A_0_LESS: Frame = Frame {
@@ -54,46 +54,56 @@ const FULL_2: Frame = Frame {
     ..FULL_0
 };
 
-static PACKS: [Edit; 2] = [
-    Edit {
+static PACKS: [Row; 2] = [
+    Row {
         what: "a lower bit rate",
-        words: "pack a o",
-        before: &[A],
-        after: &[
-            INFO,
-            NO_SIDE,
-            Stretch::Bytes(b"Xing\0\0\0\x0f\0\0\0\x02\0\0\x03\xde"),
-            Stretch::Fill(53, 50),
-            Stretch::Fill(148, 50),
-            INFO_REST,
-            Stretch::Frames(&[A_0_LESS, A_1_FROM_29]),
-        ],
-        length: 990,
+        files: &[File {
+            name: "a",
+            bytes: &[A],
+        }],
+        words: &["pack a o"],
+        after: &[File {
+            name: "o",
+            bytes: &[
+                INFO,
+                NO_SIDE,
+                Stretch::Bytes(b"Xing\0\0\0\x0f\0\0\0\x02\0\0\x03\xde"),
+                Stretch::Fill(53, 50),
+                Stretch::Fill(148, 50),
+                INFO_REST,
+                Stretch::Frames(&[A_0_LESS, A_1_FROM_29]),
+            ],
+        }],
+        ..ROW
     },
     // The last frame has need of the two before it: all slots and begins stay.
-    Edit {
+    Row {
         what: "the greatest slots",
-        words: "pack a o",
-        before: &[Stretch::Frames(&[FULL_0, FULL_1, FULL_2])],
-        after: &[
-            INFO,
-            NO_SIDE,
-            Stretch::Bytes(b"Info\0\0\0\x0f\0\0\0\x03\0\0\x0d\x0f"),
-            Stretch::Fill(15, 34),
-            Stretch::Fill(95, 33),
-            Stretch::Fill(175, 33),
-            INFO_REST,
-            Stretch::Frames(&[FULL_0, FULL_1, FULL_2]),
-        ],
-        length: 3343,
+        files: &[File {
+            name: "a",
+            bytes: &[Stretch::Frames(&[FULL_0, FULL_1, FULL_2])],
+        }],
+        words: &["pack a o"],
+        after: &[File {
+            name: "o",
+            bytes: &[
+                INFO,
+                NO_SIDE,
+                Stretch::Bytes(b"Info\0\0\0\x0f\0\0\0\x03\0\0\x0d\x0f"),
+                Stretch::Fill(15, 34),
+                Stretch::Fill(95, 33),
+                Stretch::Fill(175, 33),
+                INFO_REST,
+                Stretch::Frames(&[FULL_0, FULL_1, FULL_2]),
+            ],
+        }],
+        ..ROW
     },
 ];
 
 #[test]
 fn files_packed(rt: HostRuntime) -> Result<(), Fail> {
-    for edit in &PACKS {
-        expect_edit(&rt, edit)?;
-    }
+    assert_eq!(rt; first_difference(rt.alloc(), &PACKS)?, None);
     Ok(())
 }
 
@@ -103,34 +113,40 @@ const TWO_OF_416: Stretch = Stretch::Bytes(b"Info\0\0\0\x0f\0\0\0\x02\0\0\x01\xa
 /// A head's extension, 36 bytes, behind the quality 57.
 const LAME: Stretch = Stretch::Bytes(b"\0\0\0\x39LAME3.100abcdefghijklmnopqrstuvwxyz-");
 
-static HEADED: Edit = Edit {
+static HEADED: [Row; 1] = [Row {
     what: "quality and extension of a head",
-    words: "pack a o",
-    before: &[
-        Stretch::Bytes(&[0xff, 0xfb, 0x90, 0x00]),
-        NO_SIDE,
-        Stretch::Bytes(b"Xing\0\0\0\x0f\0\0\0\x07\0\0\0\x07"),
-        Stretch::Fill(7, 100),
-        LAME,
-        Stretch::Fill(7, 225),
-        Stretch::Frames(&[Z, Z]),
-    ],
-    after: &[
-        INFO,
-        NO_SIDE,
-        TWO_OF_416,
-        Stretch::Fill(128, 50),
-        Stretch::Fill(192, 50),
-        LAME,
-        Stretch::Fill(0, 16),
-        Stretch::Frames(&[LEAST, LEAST_FROM_68]),
-    ],
-    length: 416,
-};
+    files: &[File {
+        name: "a",
+        bytes: &[
+            Stretch::Bytes(&[0xff, 0xfb, 0x90, 0x00]),
+            NO_SIDE,
+            Stretch::Bytes(b"Xing\0\0\0\x0f\0\0\0\x07\0\0\0\x07"),
+            Stretch::Fill(7, 100),
+            LAME,
+            Stretch::Fill(7, 225),
+            Stretch::Frames(&[Z, Z]),
+        ],
+    }],
+    words: &["pack a o"],
+    after: &[File {
+        name: "o",
+        bytes: &[
+            INFO,
+            NO_SIDE,
+            TWO_OF_416,
+            Stretch::Fill(128, 50),
+            Stretch::Fill(192, 50),
+            LAME,
+            Stretch::Fill(0, 16),
+            Stretch::Frames(&[LEAST, LEAST_FROM_68]),
+        ],
+    }],
+    ..ROW
+}];
 
 #[test]
 fn what_a_head_tells_is_kept(rt: HostRuntime) -> Result<(), Fail> {
-    expect_edit(&rt, &HEADED)?;
+    assert_eq!(rt; first_difference(rt.alloc(), &HEADED)?, None);
     Ok(())
 }
 
@@ -155,42 +171,52 @@ const LOST: Frame = Frame {
     ..Z
 };
 
-static BITS: [Edit; 2] = [
-    Edit {
+static BITS: [Row; 2] = [
+    Row {
         what: "bits behind the main data",
-        words: "pack a o",
-        before: &[Stretch::Frames(&[THREE_BITS])],
-        after: &[
-            INFO,
-            NO_SIDE,
-            Stretch::Bytes(b"Info\0\0\0\x0f\0\0\0\x01\0\0\x01\x38"),
-            Stretch::Fill(170, 100),
-            INFO_REST,
-            Stretch::Frames(&[THREE_BITS_ALONE]),
-        ],
-        length: 312,
+        files: &[File {
+            name: "a",
+            bytes: &[Stretch::Frames(&[THREE_BITS])],
+        }],
+        words: &["pack a o"],
+        after: &[File {
+            name: "o",
+            bytes: &[
+                INFO,
+                NO_SIDE,
+                Stretch::Bytes(b"Info\0\0\0\x0f\0\0\0\x01\0\0\x01\x38"),
+                Stretch::Fill(170, 100),
+                INFO_REST,
+                Stretch::Frames(&[THREE_BITS_ALONE]),
+            ],
+        }],
+        ..ROW
     },
-    Edit {
+    Row {
         what: "a lost frame, which is empty then",
-        words: "pack a o",
-        before: &[Stretch::Frames(&[LOST, Z])],
-        after: &[
-            INFO,
-            NO_SIDE,
-            TWO_OF_416,
-            Stretch::Fill(128, 50),
-            Stretch::Fill(192, 50),
-            INFO_REST,
-            Stretch::Frames(&[LEAST, LEAST_FROM_68]),
-        ],
-        length: 416,
+        files: &[File {
+            name: "a",
+            bytes: &[Stretch::Frames(&[LOST, Z])],
+        }],
+        words: &["pack a o"],
+        after: &[File {
+            name: "o",
+            bytes: &[
+                INFO,
+                NO_SIDE,
+                TWO_OF_416,
+                Stretch::Fill(128, 50),
+                Stretch::Fill(192, 50),
+                INFO_REST,
+                Stretch::Frames(&[LEAST, LEAST_FROM_68]),
+            ],
+        }],
+        ..ROW
     },
 ];
 
 #[test]
 fn main_data_alone_are_written(rt: HostRuntime) -> Result<(), Fail> {
-    for edit in &BITS {
-        expect_edit(&rt, edit)?;
-    }
+    assert_eq!(rt; first_difference(rt.alloc(), &BITS)?, None);
     Ok(())
 }
