@@ -1,8 +1,7 @@
 //! What the tests of this crate expect of commands.
 
 use acceptance_kit::commands::{run_over, sink};
-use test_files::files::{Stretch, bytes_of};
-use outside::{Folder, MemFolder};
+use outside::Folder;
 use std::alloc::{AllocError, AllocGlobal};
 use std::process::Abort;
 
@@ -20,22 +19,5 @@ pub fn expect<R: Abort + AllocGlobal, D: Folder>(
     assert_eq!(rt; ended.err.sent(), text.as_bytes(), "{words}, for {text}");
     assert_eq!(rt; ended.status, status, "{words}, for {text}");
     assert_eq!(rt; ended.out.sent(), b"".as_slice(), "{words}");
-    Ok(())
-}
-
-/// Asserts that the file is these stretches end to end.
-pub fn expect_file<R: Abort + AllocGlobal>(
-    rt: &R,
-    folder: &MemFolder,
-    name: &str,
-    file: &[Stretch],
-    what: &str,
-) -> Result<(), AllocError> {
-    let wanted = bytes_of(rt.alloc(), file)?;
-    assert_eq!(rt;
-        folder.get(name).unwrap_or(&[]),
-        wanted.as_slice(),
-        "{name}: {what}"
-    );
     Ok(())
 }

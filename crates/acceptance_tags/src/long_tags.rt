@@ -1,9 +1,9 @@
 //! Tags about as long as a tag may be, 1,048,576 bytes.
 
-use crate::edited::{Edit, Refusal, expect_edit, expect_refusal};
+use acceptance_kit::rows::{File, ROW, Row, first_difference};
+use std::test::Fail;
 use test_files::files::Stretch;
 use test_files::frames::{G, G_LOWER, MONO, Z};
-use std::test::Fail;
 
 /// The header of a tag that is one byte longer than that.
 const TOO_LONG: Stretch = Stretch::Bytes(
@@ -55,94 +55,156 @@ const FILLED_BACK: Stretch = Stretch::Bytes(
     b"\x0b\0\0\0\0\0\0\0MP3GAIN_UNDO\0+005,+005,NAPETAGEX\xd0\x07\0\0\xe0\xff\x0f\0\x02\0\0\0\0\0\0\x80\0\0\0\0\0\0\0\0",
 );
 
-static DONE: [Edit; 3] = [
-    Edit {
+static DONE: [Row; 3] = [
+    Row {
         what: "a tag that fills up",
-        words: "gain -g -5 a o",
-        before: &[Stretch::Frames(&[G]), ROOM, ROOM_VALUE, ROOM_BACK],
-        after: &[Stretch::Frames(&[G_LOWER]), FILLED, ROOM_VALUE, FILLED_BACK],
+        files: &[File {
+            name: "a",
+            bytes: &[Stretch::Frames(&[G]), ROOM, ROOM_VALUE, ROOM_BACK],
+        }],
+        room: 2_000_000,
+        words: &["gain -g -5 a o"],
+        after: &[File {
+            name: "o",
+            bytes: &[Stretch::Frames(&[G_LOWER]), FILLED, ROOM_VALUE, FILLED_BACK],
+        }],
+        ..ROW
     },
-    Edit {
+    Row {
         what: "and is full no more",
-        words: "gain -u a o",
-        before: &[Stretch::Frames(&[G_LOWER]), FILLED, ROOM_VALUE, FILLED_BACK],
-        after: &[Stretch::Frames(&[G]), ROOM, ROOM_VALUE, ROOM_BACK],
+        files: &[File {
+            name: "a",
+            bytes: &[Stretch::Frames(&[G_LOWER]), FILLED, ROOM_VALUE, FILLED_BACK],
+        }],
+        room: 2_000_000,
+        words: &["gain -u a o"],
+        after: &[File {
+            name: "o",
+            bytes: &[Stretch::Frames(&[G]), ROOM, ROOM_VALUE, ROOM_BACK],
+        }],
+        ..ROW
     },
-    Edit {
+    Row {
         what: "a tag that is too long, and isn't read",
-        words: "gain -s s -g -5 a o",
-        before: &[Stretch::Frames(&[G]), TOO_LONG, TOO_LONG_REST],
-        after: &[Stretch::Frames(&[G_LOWER]), TOO_LONG, TOO_LONG_REST],
+        files: &[File {
+            name: "a",
+            bytes: &[Stretch::Frames(&[G]), TOO_LONG, TOO_LONG_REST],
+        }],
+        room: 2_000_000,
+        words: &["gain -s s -g -5 a o"],
+        after: &[File {
+            name: "o",
+            bytes: &[Stretch::Frames(&[G_LOWER]), TOO_LONG, TOO_LONG_REST],
+        }],
+        ..ROW
     },
 ];
 
 #[test]
 fn long_tags(rt: HostRuntime) -> Result<(), Fail> {
-    for edit in &DONE {
-        expect_edit(&rt, edit)?;
-    }
+    assert_eq!(rt; first_difference(rt.alloc(), &DONE)?, None);
     Ok(())
 }
 
-static REFUSED: [Refusal; 7] = [
-    Refusal {
+static REFUSED: [Row; 7] = [
+    Row {
         what: "too long, before one channel only",
-        words: "gain -l 0 1 a o",
-        file: &[Stretch::Frames(&[MONO]), TOO_LONG, TOO_LONG_REST],
+        files: &[File {
+            name: "a",
+            bytes: &[Stretch::Frames(&[MONO]), TOO_LONG, TOO_LONG_REST],
+        }],
+        room: 2_000_000,
+        words: &["gain -l 0 1 a o"],
+        status: 1,
         line: "tag too large, 1048577\n",
+        ..ROW
     },
-    Refusal {
+    Row {
         what: "too long, before no undo item",
-        words: "gain -u a o",
-        file: &[TOO_LONG, TOO_LONG_REST, Stretch::Frames(&[G])],
+        files: &[File {
+            name: "a",
+            bytes: &[TOO_LONG, TOO_LONG_REST, Stretch::Frames(&[G])],
+        }],
+        room: 2_000_000,
+        words: &["gain -u a o"],
+        status: 1,
         line: "tag too large, 1048577\n",
+        ..ROW
     },
-    Refusal {
+    Row {
         what: "a fault of the frames before a tag that is too long",
-        words: "gain -u a o",
-        file: &[
-            Stretch::Frames(&[Z]),
-            TOO_LONG,
-            TOO_LONG_REST,
-            Stretch::Bytes(b"x"),
-        ],
+        files: &[File {
+            name: "a",
+            bytes: &[
+                Stretch::Frames(&[Z]),
+                TOO_LONG,
+                TOO_LONG_REST,
+                Stretch::Bytes(b"x"),
+            ],
+        }],
+        room: 2_000_000,
+        words: &["gain -u a o"],
+        status: 1,
         line: "a: lost synchronisation at 1048994\n",
+        ..ROW
     },
-    Refusal {
+    Row {
         what: "the longest tag is read",
-        words: "gain -u a o",
-        file: &[Stretch::Frames(&[Z]), LONGEST, LONGEST_VALUE, LONGEST_BACK],
+        files: &[File {
+            name: "a",
+            bytes: &[Stretch::Frames(&[Z]), LONGEST, LONGEST_VALUE, LONGEST_BACK],
+        }],
+        room: 2_000_000,
+        words: &["gain -u a o"],
+        status: 1,
         line: "no undo item\n",
+        ..ROW
     },
-    Refusal {
+    Row {
         what: "no room for an undo item",
-        words: "gain -g 0 a o",
-        file: &[Stretch::Frames(&[Z]), LONGEST, LONGEST_VALUE, LONGEST_BACK],
+        files: &[File {
+            name: "a",
+            bytes: &[Stretch::Frames(&[Z]), LONGEST, LONGEST_VALUE, LONGEST_BACK],
+        }],
+        room: 2_000_000,
+        words: &["gain -g 0 a o"],
+        status: 1,
         line: "tag too large, 1048608\n",
+        ..ROW
     },
-    Refusal {
+    Row {
         what: "room for all but a byte, before a gain out of range",
-        words: "gain -g 1 a o",
-        file: &[Stretch::Frames(&[G]), NO_ROOM, NO_ROOM_VALUE, NO_ROOM_BACK],
+        files: &[File {
+            name: "a",
+            bytes: &[Stretch::Frames(&[G]), NO_ROOM, NO_ROOM_VALUE, NO_ROOM_BACK],
+        }],
+        room: 2_000_000,
+        words: &["gain -g 1 a o"],
+        status: 1,
         line: "tag too large, 1048577\n",
+        ..ROW
     },
-    Refusal {
+    Row {
         what: "one channel only, before no room",
-        words: "gain -l 1 1 a o",
-        file: &[
-            Stretch::Frames(&[MONO]),
-            NO_ROOM,
-            NO_ROOM_VALUE,
-            NO_ROOM_BACK,
-        ],
+        files: &[File {
+            name: "a",
+            bytes: &[
+                Stretch::Frames(&[MONO]),
+                NO_ROOM,
+                NO_ROOM_VALUE,
+                NO_ROOM_BACK,
+            ],
+        }],
+        room: 2_000_000,
+        words: &["gain -l 1 1 a o"],
+        status: 1,
         line: "one channel only\n",
+        ..ROW
     },
 ];
 
 #[test]
 fn tags_that_are_too_long(rt: HostRuntime) -> Result<(), Fail> {
-    for refusal in &REFUSED {
-        expect_refusal(&rt, refusal)?;
-    }
+    assert_eq!(rt; first_difference(rt.alloc(), &REFUSED)?, None);
     Ok(())
 }

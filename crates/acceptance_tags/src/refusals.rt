@@ -1,196 +1,313 @@
 //! What is refused of a file with a tag, and in which order.
 
 use crate::blocks::{JOINT, M, TWO, UNDO_BACK, UNDO_FRONT};
-use crate::edited::{Refusal, expect_refusal};
-use crate::expected::{expect, expect_file};
-use acceptance_kit::commands::folder_of_file;
+use acceptance_kit::rows::{File, ROW, Row, first_difference};
+use std::test::Fail;
 use test_files::files::Stretch;
 use test_files::frames::{G, Z};
-use std::test::Fail;
 
-static REFUSALS: [Refusal; 16] = [
-    Refusal {
+static REFUSALS: [Row; 16] = [
+    Row {
         what: "one channel only",
-        words: "gain -l 0 1 a o",
-        file: &[Stretch::Frames(&[M])],
+        files: &[File {
+            name: "a",
+            bytes: &[Stretch::Frames(&[M])],
+        }],
+        words: &["gain -l 0 1 a o"],
+        status: 1,
         line: "one channel only\n",
+        ..ROW
     },
-    Refusal {
+    Row {
         what: "joint stereo",
-        words: "gain -l 1 2 a o",
-        file: &[Stretch::Frames(&[G, JOINT])],
+        files: &[File {
+            name: "a",
+            bytes: &[Stretch::Frames(&[G, JOINT])],
+        }],
+        words: &["gain -l 1 2 a o"],
+        status: 1,
         line: "joint stereo at 417\n",
+        ..ROW
     },
-    Refusal {
+    Row {
         what: "a gain out of range",
-        words: "gain -g 1 a o",
-        file: &[Stretch::Frames(&[G])],
+        files: &[File {
+            name: "a",
+            bytes: &[Stretch::Frames(&[G])],
+        }],
+        words: &["gain -g 1 a o"],
+        status: 1,
         line: "gain 255 out of range at 0, granule 1, channel 0\n",
+        ..ROW
     },
-    Refusal {
+    Row {
         what: "a gain that an undo moves out of range",
-        words: "gain -u a o",
-        file: &[
-            Stretch::Frames(&[Z, G]),
-            UNDO_FRONT,
-            Stretch::Bytes(b"+001,+000,N"),
-            UNDO_BACK,
-        ],
+        files: &[File {
+            name: "a",
+            bytes: &[
+                Stretch::Frames(&[Z, G]),
+                UNDO_FRONT,
+                Stretch::Bytes(b"+001,+000,N"),
+                UNDO_BACK,
+            ],
+        }],
+        words: &["gain -u a o"],
+        status: 1,
         line: "gain 255 out of range at 417, granule 1, channel 0\n",
+        ..ROW
     },
-    Refusal {
+    Row {
         what: "the same at the bottom, of the right channel",
-        words: "gain -u a o",
-        file: &[
-            Stretch::Frames(&[G]),
-            UNDO_FRONT,
-            Stretch::Bytes(b"-100,-091,N"),
-            UNDO_BACK,
-        ],
+        files: &[File {
+            name: "a",
+            bytes: &[
+                Stretch::Frames(&[G]),
+                UNDO_FRONT,
+                Stretch::Bytes(b"-100,-091,N"),
+                UNDO_BACK,
+            ],
+        }],
+        words: &["gain -u a o"],
+        status: 1,
         line: "gain 90 out of range at 0, granule 1, channel 1\n",
+        ..ROW
     },
-    Refusal {
+    Row {
         what: "a fault of the frames before one of the tag",
-        words: "gain -g 1 a o",
-        file: &[
-            Stretch::Frames(&[Z]),
-            Stretch::Bytes(b"APETAGEX\xd0\x07\0\0\x20\0\0\0\x01\0\0\0\0\0\0\xa0\0\0\0\0\0\0\0\0"),
-            Stretch::Fill(0, 32),
-            Stretch::Bytes(b"x"),
-        ],
+        files: &[File {
+            name: "a",
+            bytes: &[
+                Stretch::Frames(&[Z]),
+                Stretch::Bytes(
+                    b"APETAGEX\xd0\x07\0\0\x20\0\0\0\x01\0\0\0\0\0\0\xa0\0\0\0\0\0\0\0\0",
+                ),
+                Stretch::Fill(0, 32),
+                Stretch::Bytes(b"x"),
+            ],
+        }],
+        words: &["gain -g 1 a o"],
+        status: 1,
         line: "a: lost synchronisation at 481\n",
+        ..ROW
     },
-    Refusal {
+    Row {
         what: "a fault of the tag before one channel only",
-        words: "gain -l 0 1 a o",
-        file: &[
-            Stretch::Frames(&[M]),
-            Stretch::Bytes(b"APETAGEX\xd0\x07\0\0\x20\0\0\0\x01\0\0\0\0\0\0\xa0\0\0\0\0\0\0\0\0"),
-            Stretch::Fill(0, 32),
-        ],
+        files: &[File {
+            name: "a",
+            bytes: &[
+                Stretch::Frames(&[M]),
+                Stretch::Bytes(
+                    b"APETAGEX\xd0\x07\0\0\x20\0\0\0\x01\0\0\0\0\0\0\xa0\0\0\0\0\0\0\0\0",
+                ),
+                Stretch::Fill(0, 32),
+            ],
+        }],
+        words: &["gain -l 0 1 a o"],
+        status: 1,
         line: "bad tag at 56\n",
+        ..ROW
     },
-    Refusal {
+    Row {
         what: "a bad undo item before one channel only",
-        words: "gain -l 0 1 a o",
-        file: &[
-            Stretch::Frames(&[M]),
-            UNDO_FRONT,
-            Stretch::Bytes(b"+000,+000,X"),
-            UNDO_BACK,
-        ],
+        files: &[File {
+            name: "a",
+            bytes: &[
+                Stretch::Frames(&[M]),
+                UNDO_FRONT,
+                Stretch::Bytes(b"+000,+000,X"),
+                UNDO_BACK,
+            ],
+        }],
+        words: &["gain -l 0 1 a o"],
+        status: 1,
         line: "bad undo item at 56\n",
+        ..ROW
     },
-    Refusal {
+    Row {
         what: "a bad undo item before joint stereo",
-        words: "gain -l 0 1 a o",
-        file: &[
-            Stretch::Frames(&[JOINT]),
-            UNDO_FRONT,
-            Stretch::Bytes(b"+000,+000,X"),
-            UNDO_BACK,
-        ],
+        files: &[File {
+            name: "a",
+            bytes: &[
+                Stretch::Frames(&[JOINT]),
+                UNDO_FRONT,
+                Stretch::Bytes(b"+000,+000,X"),
+                UNDO_BACK,
+            ],
+        }],
+        words: &["gain -l 0 1 a o"],
+        status: 1,
         line: "bad undo item at 449\n",
+        ..ROW
     },
-    Refusal {
+    Row {
         what: "one channel only before a sum",
-        words: "gain -l 0 -1 a o",
-        file: &[
-            Stretch::Frames(&[M]),
-            UNDO_FRONT,
-            Stretch::Bytes(b"+999,+999,N"),
-            UNDO_BACK,
-        ],
+        files: &[File {
+            name: "a",
+            bytes: &[
+                Stretch::Frames(&[M]),
+                UNDO_FRONT,
+                Stretch::Bytes(b"+999,+999,N"),
+                UNDO_BACK,
+            ],
+        }],
+        words: &["gain -l 0 -1 a o"],
+        status: 1,
         line: "one channel only\n",
+        ..ROW
     },
-    Refusal {
+    Row {
         what: "joint stereo before a sum",
-        words: "gain -l 0 -1 a o",
-        file: &[
-            Stretch::Frames(&[JOINT]),
-            UNDO_FRONT,
-            Stretch::Bytes(b"+999,+999,N"),
-            UNDO_BACK,
-        ],
+        files: &[File {
+            name: "a",
+            bytes: &[
+                Stretch::Frames(&[JOINT]),
+                UNDO_FRONT,
+                Stretch::Bytes(b"+999,+999,N"),
+                UNDO_BACK,
+            ],
+        }],
+        words: &["gain -l 0 -1 a o"],
+        status: 1,
         line: "joint stereo at 0\n",
+        ..ROW
     },
-    Refusal {
+    Row {
         what: "a sum before a gain out of range",
-        words: "gain -g 1 a o",
-        file: &[
-            Stretch::Frames(&[G]),
-            UNDO_FRONT,
-            Stretch::Bytes(b"-999,-999,N"),
-            UNDO_BACK,
-        ],
+        files: &[File {
+            name: "a",
+            bytes: &[
+                Stretch::Frames(&[G]),
+                UNDO_FRONT,
+                Stretch::Bytes(b"-999,-999,N"),
+                UNDO_BACK,
+            ],
+        }],
+        words: &["gain -g 1 a o"],
+        status: 1,
         line: "undo sum -1000 is out of range\n",
+        ..ROW
     },
-    Refusal {
+    Row {
         what: "the left sum before the right one",
-        words: "gain -g -5 a o",
-        file: &[
-            Stretch::Frames(&[G]),
-            UNDO_FRONT,
-            Stretch::Bytes(b"+996,+999,N"),
-            UNDO_BACK,
-        ],
+        files: &[File {
+            name: "a",
+            bytes: &[
+                Stretch::Frames(&[G]),
+                UNDO_FRONT,
+                Stretch::Bytes(b"+996,+999,N"),
+                UNDO_BACK,
+            ],
+        }],
+        words: &["gain -g -5 a o"],
+        status: 1,
         line: "undo sum 1001 is out of range\n",
+        ..ROW
     },
-    Refusal {
+    Row {
         what: "the right sum alone",
-        words: "gain -l 1 -255 a o",
-        file: &[
-            Stretch::Frames(&[Z]),
-            UNDO_FRONT,
-            Stretch::Bytes(b"+999,+999,N"),
-            UNDO_BACK,
-        ],
+        files: &[File {
+            name: "a",
+            bytes: &[
+                Stretch::Frames(&[Z]),
+                UNDO_FRONT,
+                Stretch::Bytes(b"+999,+999,N"),
+                UNDO_BACK,
+            ],
+        }],
+        words: &["gain -l 1 -255 a o"],
+        status: 1,
         line: "undo sum 1254 is out of range\n",
+        ..ROW
     },
-    Refusal {
+    Row {
         what: "no undo item before a gain out of range",
-        words: "gain -u a o",
-        file: &[Stretch::Frames(&[G]), TWO],
+        files: &[File {
+            name: "a",
+            bytes: &[Stretch::Frames(&[G]), TWO],
+        }],
+        words: &["gain -u a o"],
+        status: 1,
         line: "no undo item\n",
+        ..ROW
     },
-    Refusal {
+    Row {
         what: "a bad undo item before a gain out of range",
-        words: "gain -u a o",
-        file: &[
-            Stretch::Frames(&[G]),
-            UNDO_FRONT,
-            Stretch::Bytes(b"+001,+001,X"),
-            UNDO_BACK,
-        ],
+        files: &[File {
+            name: "a",
+            bytes: &[
+                Stretch::Frames(&[G]),
+                UNDO_FRONT,
+                Stretch::Bytes(b"+001,+001,X"),
+                UNDO_BACK,
+            ],
+        }],
+        words: &["gain -u a o"],
+        status: 1,
         line: "bad undo item at 449\n",
+        ..ROW
     },
 ];
 
 #[test]
 fn refusals_in_their_order(rt: HostRuntime) -> Result<(), Fail> {
-    for refusal in &REFUSALS {
-        expect_refusal(&rt, refusal)?;
-    }
+    assert_eq!(rt; first_difference(rt.alloc(), &REFUSALS)?, None);
     Ok(())
 }
 
-static NOTED: [Stretch; 4] = [
+const NOTED: &[Stretch] = &[
     Stretch::Frames(&[G]),
     UNDO_FRONT,
     Stretch::Bytes(b"+000,+000,N"),
     UNDO_BACK,
 ];
 
+static NAMES: [Row; 4] = [
+    Row {
+        files: &[File {
+            name: "a",
+            bytes: NOTED,
+        }],
+        words: &["gain -u a a"],
+        status: 1,
+        line: "a: input is an output\n",
+        ..ROW
+    },
+    Row {
+        files: &[File {
+            name: "a",
+            bytes: NOTED,
+        }],
+        words: &["gain -g 1 a a"],
+        status: 1,
+        line: "a: input is an output\n",
+        ..ROW
+    },
+    Row {
+        files: &[File {
+            name: "a",
+            bytes: NOTED,
+        }],
+        words: &["gain -u x o"],
+        status: 3,
+        line: "x: absent\n",
+        absent: &["x"],
+        ..ROW
+    },
+    Row {
+        files: &[File {
+            name: "a",
+            bytes: NOTED,
+        }],
+        words: &["gain -g 1 x o"],
+        status: 3,
+        line: "x: absent\n",
+        absent: &["x"],
+        ..ROW
+    },
+];
+
 #[test]
 fn equal_names_and_an_absent_input(rt: HostRuntime) -> Result<(), Fail> {
-    let mut folder = folder_of_file(rt.alloc(), "a", &NOTED)?;
-    for words in ["gain -u a a", "gain -g 1 a a"] {
-        expect(&rt, &mut folder, words, 1, "a: input is an output\n")?;
-    }
-    for words in ["gain -u x o", "gain -g 1 x o"] {
-        expect(&rt, &mut folder, words, 3, "x: absent\n")?;
-    }
-    assert!(rt; folder.get("o").is_none());
-    expect_file(&rt, &folder, "a", &NOTED, "refused")?;
+    assert_eq!(rt; first_difference(rt.alloc(), &NAMES)?, None);
     Ok(())
 }

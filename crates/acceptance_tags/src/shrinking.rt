@@ -2,10 +2,10 @@
 
 use crate::blocks::{UNDO_BACK, UNDO_FRONT};
 use crate::expected::expect;
-use test_files::files::{Stretch, bytes_of};
-use test_files::frames::G_LOWER;
 use outside::{Failed, FindFault, Folder};
 use std::test::Fail;
+use test_files::files::{Stretch, bytes_of};
+use test_files::frames::G_LOWER;
 
 /// A folder whose files all have these bytes for so many reads, and then no more than the shorter length. It tells
 /// nothing of them. What is written is counted.

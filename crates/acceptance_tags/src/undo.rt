@@ -4,15 +4,13 @@ use crate::blocks::{
     G_WRAPPED_DOWN, G_WRAPPED_UP, JOINT, LOST, LOWEST, LOWEST_LOUDER, M, M_LOUDER, THREE_BACK,
     THREE_FRONT, TWO, UNDO_BACK, UNDO_FRONT,
 };
-use crate::edited::{Edit, NEW_TAG, expect_edit};
-use crate::expected::{expect, expect_file};
-use acceptance_kit::commands::folder_of;
-use test_files::files::{ID3V1, ID3V1_REST, ID3V2, ID3V2_REST, Stretch, bytes_of};
+use acceptance_kit::rows::{File, ROW, Row, first_difference};
+use std::test::Fail;
+use test_files::files::{ID3V1, ID3V1_REST, ID3V2, ID3V2_REST, Stretch};
 use test_files::frames::{
     Frame, G, G_LOWER, HEAD, LONG, LONG_LOWER, LOWER, LOWER_QUIETER, MONO, MONO_LOWER, PADDED,
     PROTECTED_G, PROTECTED_G_LOWER, PROTECTED_LOWER, Z,
 };
-use std::test::Fail;
 
 /// G with the gains 75, 126, 230, 115: modulo 256 these are 999 more of 100 and 255, and 999 less of 101 and 90.
 const G_FAR: Frame = Frame {
@@ -34,318 +32,831 @@ const G_LOUDER_LOWER: Frame = Frame {
     ..G
 };
 
-static UNDOS: [Edit; 18] = [
-    Edit {
+static UNDOS: [Row; 18] = [
+    Row {
         what: "gains that wrapped at the top",
-        words: "gain -u a o",
-        before: &[
-            Stretch::Frames(&[G_WRAPPED_UP]),
-            UNDO_FRONT,
-            Stretch::Bytes(b"-001,-001,W"),
-            UNDO_BACK,
-        ],
-        after: &[Stretch::Frames(&[G])],
+        files: &[File {
+            name: "a",
+            bytes: &[
+                Stretch::Frames(&[G_WRAPPED_UP]),
+                UNDO_FRONT,
+                Stretch::Bytes(b"-001,-001,W"),
+                UNDO_BACK,
+            ],
+        }],
+        words: &["gain -u a o"],
+        after: &[File {
+            name: "o",
+            bytes: &[Stretch::Frames(&[G])],
+        }],
+        ..ROW
     },
-    Edit {
+    Row {
         what: "gains that wrapped at the bottom",
-        words: "gain -u a o",
-        before: &[
-            Stretch::Frames(&[G_WRAPPED_DOWN]),
-            UNDO_FRONT,
-            Stretch::Bytes(b"+101,+101,W"),
-            UNDO_BACK,
-        ],
-        after: &[Stretch::Frames(&[G])],
+        files: &[File {
+            name: "a",
+            bytes: &[
+                Stretch::Frames(&[G_WRAPPED_DOWN]),
+                UNDO_FRONT,
+                Stretch::Bytes(b"+101,+101,W"),
+                UNDO_BACK,
+            ],
+        }],
+        words: &["gain -u a o"],
+        after: &[File {
+            name: "o",
+            bytes: &[Stretch::Frames(&[G])],
+        }],
+        ..ROW
     },
-    Edit {
+    Row {
         what: "gains that wrap now",
-        words: "gain -u a o",
-        before: &[
-            Stretch::Frames(&[G]),
-            UNDO_FRONT,
-            Stretch::Bytes(b"+999,-999,W"),
-            UNDO_BACK,
-        ],
-        after: &[Stretch::Frames(&[G_FAR])],
+        files: &[File {
+            name: "a",
+            bytes: &[
+                Stretch::Frames(&[G]),
+                UNDO_FRONT,
+                Stretch::Bytes(b"+999,-999,W"),
+                UNDO_BACK,
+            ],
+        }],
+        words: &["gain -u a o"],
+        after: &[File {
+            name: "o",
+            bytes: &[Stretch::Frames(&[G_FAR])],
+        }],
+        ..ROW
     },
-    Edit {
+    Row {
         what: "the channels by their own steps",
-        words: "gain -u a o",
-        before: &[
-            Stretch::Frames(&[G_LOUDER_LOWER]),
-            UNDO_FRONT,
-            Stretch::Bytes(b"-004,+005,W"),
-            UNDO_BACK,
-        ],
-        after: &[Stretch::Frames(&[G])],
+        files: &[File {
+            name: "a",
+            bytes: &[
+                Stretch::Frames(&[G_LOUDER_LOWER]),
+                UNDO_FRONT,
+                Stretch::Bytes(b"-004,+005,W"),
+                UNDO_BACK,
+            ],
+        }],
+        words: &["gain -u a o"],
+        after: &[File {
+            name: "o",
+            bytes: &[Stretch::Frames(&[G])],
+        }],
+        ..ROW
     },
-    Edit {
+    Row {
         what: "no step",
-        words: "gain -u a o",
-        before: &[
-            Stretch::Frames(&[G]),
-            UNDO_FRONT,
-            Stretch::Bytes(b"+000,-000,N"),
-            UNDO_BACK,
-        ],
-        after: &[Stretch::Frames(&[G])],
+        files: &[File {
+            name: "a",
+            bytes: &[
+                Stretch::Frames(&[G]),
+                UNDO_FRONT,
+                Stretch::Bytes(b"+000,-000,N"),
+                UNDO_BACK,
+            ],
+        }],
+        words: &["gain -u a o"],
+        after: &[File {
+            name: "o",
+            bytes: &[Stretch::Frames(&[G])],
+        }],
+        ..ROW
     },
-    Edit {
+    Row {
         what: "silent granules",
-        words: "gain -u a o",
-        before: &[
-            Stretch::Frames(&[Z]),
-            UNDO_FRONT,
-            Stretch::Bytes(b"+999,-999,N"),
-            UNDO_BACK,
-        ],
-        after: &[Stretch::Frames(&[Z])],
+        files: &[File {
+            name: "a",
+            bytes: &[
+                Stretch::Frames(&[Z]),
+                UNDO_FRONT,
+                Stretch::Bytes(b"+999,-999,N"),
+                UNDO_BACK,
+            ],
+        }],
+        words: &["gain -u a o"],
+        after: &[File {
+            name: "o",
+            bytes: &[Stretch::Frames(&[Z])],
+        }],
+        ..ROW
     },
-    Edit {
+    Row {
         what: "MPEG-1, one channel, which is the left one",
-        words: "gain -u a o",
-        before: &[
-            Stretch::Frames(&[MONO_LOWER]),
-            UNDO_FRONT,
-            Stretch::Bytes(b"+005,-999,N"),
-            UNDO_BACK,
-        ],
-        after: &[Stretch::Frames(&[MONO])],
+        files: &[File {
+            name: "a",
+            bytes: &[
+                Stretch::Frames(&[MONO_LOWER]),
+                UNDO_FRONT,
+                Stretch::Bytes(b"+005,-999,N"),
+                UNDO_BACK,
+            ],
+        }],
+        words: &["gain -u a o"],
+        after: &[File {
+            name: "o",
+            bytes: &[Stretch::Frames(&[MONO])],
+        }],
+        ..ROW
     },
-    Edit {
+    Row {
         what: "MPEG-2, two channels",
-        words: "gain -u a o",
-        before: &[
-            Stretch::Frames(&[LOWER_QUIETER]),
-            UNDO_FRONT,
-            Stretch::Bytes(b"+005,+005,N"),
-            UNDO_BACK,
-        ],
-        after: &[Stretch::Frames(&[LOWER])],
+        files: &[File {
+            name: "a",
+            bytes: &[
+                Stretch::Frames(&[LOWER_QUIETER]),
+                UNDO_FRONT,
+                Stretch::Bytes(b"+005,+005,N"),
+                UNDO_BACK,
+            ],
+        }],
+        words: &["gain -u a o"],
+        after: &[File {
+            name: "o",
+            bytes: &[Stretch::Frames(&[LOWER])],
+        }],
+        ..ROW
     },
-    Edit {
+    Row {
         what: "MPEG-2, one channel, protected",
-        words: "gain -u a o",
-        before: &[
-            Stretch::Frames(&[M_LOUDER]),
-            UNDO_FRONT,
-            Stretch::Bytes(b"-001,-001,N"),
-            UNDO_BACK,
-        ],
-        after: &[Stretch::Frames(&[M])],
+        files: &[File {
+            name: "a",
+            bytes: &[
+                Stretch::Frames(&[M_LOUDER]),
+                UNDO_FRONT,
+                Stretch::Bytes(b"-001,-001,N"),
+                UNDO_BACK,
+            ],
+        }],
+        words: &["gain -u a o"],
+        after: &[File {
+            name: "o",
+            bytes: &[Stretch::Frames(&[M])],
+        }],
+        ..ROW
     },
-    Edit {
+    Row {
         what: "MPEG-2.5",
-        words: "gain -u a o",
-        before: &[
-            Stretch::Frames(&[LOWEST_LOUDER]),
-            UNDO_FRONT,
-            Stretch::Bytes(b"-001,-001,N"),
-            UNDO_BACK,
-        ],
-        after: &[Stretch::Frames(&[LOWEST])],
+        files: &[File {
+            name: "a",
+            bytes: &[
+                Stretch::Frames(&[LOWEST_LOUDER]),
+                UNDO_FRONT,
+                Stretch::Bytes(b"-001,-001,N"),
+                UNDO_BACK,
+            ],
+        }],
+        words: &["gain -u a o"],
+        after: &[File {
+            name: "o",
+            bytes: &[Stretch::Frames(&[LOWEST])],
+        }],
+        ..ROW
     },
-    Edit {
+    Row {
         what: "MPEG-1, two channels, protected",
-        words: "gain -u a o",
-        before: &[
-            Stretch::Frames(&[PROTECTED_G_LOWER]),
-            UNDO_FRONT,
-            Stretch::Bytes(b"+005,+005,N"),
-            UNDO_BACK,
-        ],
-        after: &[Stretch::Frames(&[PROTECTED_G])],
+        files: &[File {
+            name: "a",
+            bytes: &[
+                Stretch::Frames(&[PROTECTED_G_LOWER]),
+                UNDO_FRONT,
+                Stretch::Bytes(b"+005,+005,N"),
+                UNDO_BACK,
+            ],
+        }],
+        words: &["gain -u a o"],
+        after: &[File {
+            name: "o",
+            bytes: &[Stretch::Frames(&[PROTECTED_G])],
+        }],
+        ..ROW
     },
-    Edit {
+    Row {
         what: "joint stereo",
-        words: "gain -u a o",
-        before: &[
-            Stretch::Frames(&[JOINT]),
-            UNDO_FRONT,
-            Stretch::Bytes(b"+005,-005,N"),
-            UNDO_BACK,
-        ],
-        after: &[Stretch::Frames(&[JOINT])],
+        files: &[File {
+            name: "a",
+            bytes: &[
+                Stretch::Frames(&[JOINT]),
+                UNDO_FRONT,
+                Stretch::Bytes(b"+005,-005,N"),
+                UNDO_BACK,
+            ],
+        }],
+        words: &["gain -u a o"],
+        after: &[File {
+            name: "o",
+            bytes: &[Stretch::Frames(&[JOINT])],
+        }],
+        ..ROW
     },
-    Edit {
+    Row {
         what: "the item alone goes, with a key in other letters",
-        words: "gain -u a o",
-        before: &[
-            Stretch::Frames(&[G_LOWER]),
-            THREE_FRONT,
-            Stretch::Bytes(b"+005,+005,N"),
-            THREE_BACK,
-        ],
-        after: &[Stretch::Frames(&[G]), TWO],
+        files: &[File {
+            name: "a",
+            bytes: &[
+                Stretch::Frames(&[G_LOWER]),
+                THREE_FRONT,
+                Stretch::Bytes(b"+005,+005,N"),
+                THREE_BACK,
+            ],
+        }],
+        words: &["gain -u a o"],
+        after: &[File {
+            name: "o",
+            bytes: &[Stretch::Frames(&[G]), TWO],
+        }],
+        ..ROW
     },
-    Edit {
+    Row {
         what: "a tag at the front",
-        words: "gain -u a o",
-        before: &[
-            THREE_FRONT,
-            Stretch::Bytes(b"+005,+005,N"),
-            THREE_BACK,
-            Stretch::Frames(&[G_LOWER]),
-        ],
-        after: &[TWO, Stretch::Frames(&[G])],
+        files: &[File {
+            name: "a",
+            bytes: &[
+                THREE_FRONT,
+                Stretch::Bytes(b"+005,+005,N"),
+                THREE_BACK,
+                Stretch::Frames(&[G_LOWER]),
+            ],
+        }],
+        words: &["gain -u a o"],
+        after: &[File {
+            name: "o",
+            bytes: &[TWO, Stretch::Frames(&[G])],
+        }],
+        ..ROW
     },
-    Edit {
+    Row {
         what: "a tag that would have no item goes, before a block",
-        words: "gain -u a o",
-        before: &[
-            ID3V2,
-            ID3V2_REST,
-            Stretch::Frames(&[G_LOWER]),
-            UNDO_FRONT,
-            Stretch::Bytes(b"+005,+005,N"),
-            UNDO_BACK,
-            ID3V1,
-            ID3V1_REST,
-        ],
-        after: &[ID3V2, ID3V2_REST, Stretch::Frames(&[G]), ID3V1, ID3V1_REST],
+        files: &[File {
+            name: "a",
+            bytes: &[
+                ID3V2,
+                ID3V2_REST,
+                Stretch::Frames(&[G_LOWER]),
+                UNDO_FRONT,
+                Stretch::Bytes(b"+005,+005,N"),
+                UNDO_BACK,
+                ID3V1,
+                ID3V1_REST,
+            ],
+        }],
+        words: &["gain -u a o"],
+        after: &[File {
+            name: "o",
+            bytes: &[ID3V2, ID3V2_REST, Stretch::Frames(&[G]), ID3V1, ID3V1_REST],
+        }],
+        ..ROW
     },
-    Edit {
+    Row {
         what: "two tags, of which the second stays",
-        words: "gain -u a o",
-        before: &[
-            Stretch::Frames(&[G_LOWER]),
-            UNDO_FRONT,
-            Stretch::Bytes(b"+005,+005,N"),
-            UNDO_BACK,
-            UNDO_FRONT,
-            Stretch::Bytes(b"+007,+007,N"),
-            UNDO_BACK,
-        ],
-        after: &[
-            Stretch::Frames(&[G]),
-            UNDO_FRONT,
-            Stretch::Bytes(b"+007,+007,N"),
-            UNDO_BACK,
-        ],
+        files: &[File {
+            name: "a",
+            bytes: &[
+                Stretch::Frames(&[G_LOWER]),
+                UNDO_FRONT,
+                Stretch::Bytes(b"+005,+005,N"),
+                UNDO_BACK,
+                UNDO_FRONT,
+                Stretch::Bytes(b"+007,+007,N"),
+                UNDO_BACK,
+            ],
+        }],
+        words: &["gain -u a o"],
+        after: &[File {
+            name: "o",
+            bytes: &[
+                Stretch::Frames(&[G]),
+                UNDO_FRONT,
+                Stretch::Bytes(b"+007,+007,N"),
+                UNDO_BACK,
+            ],
+        }],
+        ..ROW
     },
-    Edit {
+    Row {
         what: "a head, zero bytes, and junk, which is dropped",
-        words: "gain -u a o",
-        before: &[
-            ID3V2,
-            ID3V2_REST,
-            Stretch::Fill(0, 2),
-            Stretch::Fill(0x55, 10),
-            Stretch::Frames(&[HEAD, G_LOWER, PROTECTED_G_LOWER]),
-            Stretch::Fill(0, 3),
-            THREE_FRONT,
-            Stretch::Bytes(b"+005,+005,N"),
-            THREE_BACK,
-        ],
-        after: &[
-            ID3V2,
-            ID3V2_REST,
-            Stretch::Fill(0, 2),
-            Stretch::Frames(&[HEAD, G, PROTECTED_G]),
-            Stretch::Fill(0, 3),
-            TWO,
-        ],
+        files: &[File {
+            name: "a",
+            bytes: &[
+                ID3V2,
+                ID3V2_REST,
+                Stretch::Fill(0, 2),
+                Stretch::Fill(0x55, 10),
+                Stretch::Frames(&[HEAD, G_LOWER, PROTECTED_G_LOWER]),
+                Stretch::Fill(0, 3),
+                THREE_FRONT,
+                Stretch::Bytes(b"+005,+005,N"),
+                THREE_BACK,
+            ],
+        }],
+        words: &["gain -u a o"],
+        after: &[File {
+            name: "o",
+            bytes: &[
+                ID3V2,
+                ID3V2_REST,
+                Stretch::Fill(0, 2),
+                Stretch::Frames(&[HEAD, G, PROTECTED_G]),
+                Stretch::Fill(0, 3),
+                TWO,
+            ],
+        }],
+        ..ROW
     },
-    Edit {
+    Row {
         what: "lost frames, which stay",
-        words: "gain -u a o",
-        before: &[
-            Stretch::Frames(&[LOST, G_LOWER, LONG_LOWER]),
-            UNDO_FRONT,
-            Stretch::Bytes(b"+005,+005,N"),
-            UNDO_BACK,
-        ],
-        after: &[Stretch::Frames(&[LOST, G, LONG])],
+        files: &[File {
+            name: "a",
+            bytes: &[
+                Stretch::Frames(&[LOST, G_LOWER, LONG_LOWER]),
+                UNDO_FRONT,
+                Stretch::Bytes(b"+005,+005,N"),
+                UNDO_BACK,
+            ],
+        }],
+        words: &["gain -u a o"],
+        after: &[File {
+            name: "o",
+            bytes: &[Stretch::Frames(&[LOST, G, LONG])],
+        }],
+        ..ROW
     },
 ];
 
 #[test]
 fn what_an_undo_makes(rt: HostRuntime) -> Result<(), Fail> {
-    for edit in &UNDOS {
-        expect_edit(&rt, edit)?;
-    }
+    assert_eq!(rt; first_difference(rt.alloc(), &UNDOS)?, None);
     Ok(())
 }
 
-/// A file `a`, and three changes of it, one after another.
-struct Chain {
-    what: &'static str,
-    file: &'static [Stretch],
-    words: [&'static str; 3],
-}
-
-static CHAINS: [Chain; 9] = [
-    Chain {
+static CHAINS: [Row; 9] = [
+    Row {
         what: "both channels",
-        file: &[Stretch::Frames(&[G, Z, PROTECTED_G])],
-        words: ["gain -g -5 a b", "gain -g 3 b c", "gain -g -88 c d"],
-    },
-    Chain {
-        what: "each channel, and gains that wrap in the midst",
-        file: &[Stretch::Frames(&[G, PADDED])],
-        words: ["gain -l 0 -5 a b", "gain -w -g 255 b c", "gain -l 1 -3 c d"],
-    },
-    Chain {
-        what: "a tag with other items and an ID3v1 block",
-        file: &[Stretch::Frames(&[G, LONG]), TWO, ID3V1, ID3V1_REST],
-        words: ["gain -g -1 a b", "gain -w -g 1 b c", "gain -g -2 c d"],
-    },
-    Chain {
-        what: "a tag at the front",
-        file: &[TWO, Stretch::Frames(&[G])],
-        words: ["gain -g -1 a b", "gain -l 0 1 b c", "gain -g -2 c d"],
-    },
-    Chain {
-        what: "no tag, an ID3v1 block and zero bytes",
-        file: &[
-            ID3V2,
-            ID3V2_REST,
-            Stretch::Fill(0, 2),
-            Stretch::Frames(&[HEAD, G]),
-            Stretch::Fill(0, 3),
-            ID3V1,
-            ID3V1_REST,
+        files: &[File {
+            name: "a",
+            bytes: &[Stretch::Frames(&[G, Z, PROTECTED_G])],
+        }],
+        outputs: &["b", "c", "d", "o"],
+        words: &[
+            "gain -g -5 a b",
+            "gain -g 3 b c",
+            "gain -g -88 c d",
+            "gain -u d o",
         ],
-        words: ["gain -g -1 a b", "gain -g -1 b c", "gain -l 1 2 c d"],
+        after: &[File {
+            name: "o",
+            bytes: &[Stretch::Frames(&[G, Z, PROTECTED_G])],
+        }],
+        others: &[
+            File {
+                name: "b",
+                bytes: &[Stretch::Frames(&[G, Z, PROTECTED_G])],
+            },
+            File {
+                name: "c",
+                bytes: &[Stretch::Frames(&[G, Z, PROTECTED_G])],
+            },
+            File {
+                name: "d",
+                bytes: &[Stretch::Frames(&[G, Z, PROTECTED_G])],
+            },
+        ],
+        ..ROW
     },
-    Chain {
+    Row {
+        what: "each channel, and gains that wrap in the midst",
+        files: &[File {
+            name: "a",
+            bytes: &[Stretch::Frames(&[G, PADDED])],
+        }],
+        outputs: &["b", "c", "d", "o"],
+        words: &[
+            "gain -l 0 -5 a b",
+            "gain -w -g 255 b c",
+            "gain -l 1 -3 c d",
+            "gain -u d o",
+        ],
+        after: &[File {
+            name: "o",
+            bytes: &[Stretch::Frames(&[G, PADDED])],
+        }],
+        others: &[
+            File {
+                name: "b",
+                bytes: &[Stretch::Frames(&[G, PADDED])],
+            },
+            File {
+                name: "c",
+                bytes: &[Stretch::Frames(&[G, PADDED])],
+            },
+            File {
+                name: "d",
+                bytes: &[Stretch::Frames(&[G, PADDED])],
+            },
+        ],
+        ..ROW
+    },
+    Row {
+        what: "a tag with other items and an ID3v1 block",
+        files: &[File {
+            name: "a",
+            bytes: &[Stretch::Frames(&[G, LONG]), TWO, ID3V1, ID3V1_REST],
+        }],
+        outputs: &["b", "c", "d", "o"],
+        words: &[
+            "gain -g -1 a b",
+            "gain -w -g 1 b c",
+            "gain -g -2 c d",
+            "gain -u d o",
+        ],
+        after: &[File {
+            name: "o",
+            bytes: &[Stretch::Frames(&[G, LONG]), TWO, ID3V1, ID3V1_REST],
+        }],
+        others: &[
+            File {
+                name: "b",
+                bytes: &[Stretch::Frames(&[G, LONG]), TWO, ID3V1, ID3V1_REST],
+            },
+            File {
+                name: "c",
+                bytes: &[Stretch::Frames(&[G, LONG]), TWO, ID3V1, ID3V1_REST],
+            },
+            File {
+                name: "d",
+                bytes: &[Stretch::Frames(&[G, LONG]), TWO, ID3V1, ID3V1_REST],
+            },
+        ],
+        ..ROW
+    },
+    Row {
+        what: "a tag at the front",
+        files: &[File {
+            name: "a",
+            bytes: &[TWO, Stretch::Frames(&[G])],
+        }],
+        outputs: &["b", "c", "d", "o"],
+        words: &[
+            "gain -g -1 a b",
+            "gain -l 0 1 b c",
+            "gain -g -2 c d",
+            "gain -u d o",
+        ],
+        after: &[File {
+            name: "o",
+            bytes: &[TWO, Stretch::Frames(&[G])],
+        }],
+        others: &[
+            File {
+                name: "b",
+                bytes: &[TWO, Stretch::Frames(&[G])],
+            },
+            File {
+                name: "c",
+                bytes: &[TWO, Stretch::Frames(&[G])],
+            },
+            File {
+                name: "d",
+                bytes: &[TWO, Stretch::Frames(&[G])],
+            },
+        ],
+        ..ROW
+    },
+    Row {
+        what: "no tag, an ID3v1 block and zero bytes",
+        files: &[File {
+            name: "a",
+            bytes: &[
+                ID3V2,
+                ID3V2_REST,
+                Stretch::Fill(0, 2),
+                Stretch::Frames(&[HEAD, G]),
+                Stretch::Fill(0, 3),
+                ID3V1,
+                ID3V1_REST,
+            ],
+        }],
+        outputs: &["b", "c", "d", "o"],
+        words: &[
+            "gain -g -1 a b",
+            "gain -g -1 b c",
+            "gain -l 1 2 c d",
+            "gain -u d o",
+        ],
+        after: &[File {
+            name: "o",
+            bytes: &[
+                ID3V2,
+                ID3V2_REST,
+                Stretch::Fill(0, 2),
+                Stretch::Frames(&[HEAD, G]),
+                Stretch::Fill(0, 3),
+                ID3V1,
+                ID3V1_REST,
+            ],
+        }],
+        others: &[
+            File {
+                name: "b",
+                bytes: &[
+                    ID3V2,
+                    ID3V2_REST,
+                    Stretch::Fill(0, 2),
+                    Stretch::Frames(&[HEAD, G]),
+                    Stretch::Fill(0, 3),
+                    ID3V1,
+                    ID3V1_REST,
+                ],
+            },
+            File {
+                name: "c",
+                bytes: &[
+                    ID3V2,
+                    ID3V2_REST,
+                    Stretch::Fill(0, 2),
+                    Stretch::Frames(&[HEAD, G]),
+                    Stretch::Fill(0, 3),
+                    ID3V1,
+                    ID3V1_REST,
+                ],
+            },
+            File {
+                name: "d",
+                bytes: &[
+                    ID3V2,
+                    ID3V2_REST,
+                    Stretch::Fill(0, 2),
+                    Stretch::Frames(&[HEAD, G]),
+                    Stretch::Fill(0, 3),
+                    ID3V1,
+                    ID3V1_REST,
+                ],
+            },
+        ],
+        ..ROW
+    },
+    Row {
         what: "MPEG-2",
-        file: &[Stretch::Frames(&[LOWER, PROTECTED_LOWER])],
-        words: ["gain -g -5 a b", "gain -w -g 100 b c", "gain -l 1 3 c d"],
+        files: &[File {
+            name: "a",
+            bytes: &[Stretch::Frames(&[LOWER, PROTECTED_LOWER])],
+        }],
+        outputs: &["b", "c", "d", "o"],
+        words: &[
+            "gain -g -5 a b",
+            "gain -w -g 100 b c",
+            "gain -l 1 3 c d",
+            "gain -u d o",
+        ],
+        after: &[File {
+            name: "o",
+            bytes: &[Stretch::Frames(&[LOWER, PROTECTED_LOWER])],
+        }],
+        others: &[
+            File {
+                name: "b",
+                bytes: &[Stretch::Frames(&[LOWER, PROTECTED_LOWER])],
+            },
+            File {
+                name: "c",
+                bytes: &[Stretch::Frames(&[LOWER, PROTECTED_LOWER])],
+            },
+            File {
+                name: "d",
+                bytes: &[Stretch::Frames(&[LOWER, PROTECTED_LOWER])],
+            },
+        ],
+        ..ROW
     },
-    Chain {
+    Row {
         what: "MPEG-2, one channel",
-        file: &[Stretch::Frames(&[M, M_LOUDER])],
-        words: ["gain -g -5 a b", "gain -w -g 200 b c", "gain -g -9 c d"],
+        files: &[File {
+            name: "a",
+            bytes: &[Stretch::Frames(&[M, M_LOUDER])],
+        }],
+        outputs: &["b", "c", "d", "o"],
+        words: &[
+            "gain -g -5 a b",
+            "gain -w -g 200 b c",
+            "gain -g -9 c d",
+            "gain -u d o",
+        ],
+        after: &[File {
+            name: "o",
+            bytes: &[Stretch::Frames(&[M, M_LOUDER])],
+        }],
+        others: &[
+            File {
+                name: "b",
+                bytes: &[Stretch::Frames(&[M, M_LOUDER])],
+            },
+            File {
+                name: "c",
+                bytes: &[Stretch::Frames(&[M, M_LOUDER])],
+            },
+            File {
+                name: "d",
+                bytes: &[Stretch::Frames(&[M, M_LOUDER])],
+            },
+        ],
+        ..ROW
     },
-    Chain {
+    Row {
         what: "MPEG-2.5",
-        file: &[Stretch::Frames(&[LOWEST])],
-        words: ["gain -g 155 a b", "gain -w -g 1 b c", "gain -w -g 255 c d"],
+        files: &[File {
+            name: "a",
+            bytes: &[Stretch::Frames(&[LOWEST])],
+        }],
+        outputs: &["b", "c", "d", "o"],
+        words: &[
+            "gain -g 155 a b",
+            "gain -w -g 1 b c",
+            "gain -w -g 255 c d",
+            "gain -u d o",
+        ],
+        after: &[File {
+            name: "o",
+            bytes: &[Stretch::Frames(&[LOWEST])],
+        }],
+        others: &[
+            File {
+                name: "b",
+                bytes: &[Stretch::Frames(&[LOWEST])],
+            },
+            File {
+                name: "c",
+                bytes: &[Stretch::Frames(&[LOWEST])],
+            },
+            File {
+                name: "d",
+                bytes: &[Stretch::Frames(&[LOWEST])],
+            },
+        ],
+        ..ROW
     },
-    Chain {
+    Row {
         what: "lost frames",
-        file: &[Stretch::Frames(&[LOST, G])],
-        words: ["gain -g -5 a b", "gain -g 3 b c", "gain -g -88 c d"],
+        files: &[File {
+            name: "a",
+            bytes: &[Stretch::Frames(&[LOST, G])],
+        }],
+        outputs: &["b", "c", "d", "o"],
+        words: &[
+            "gain -g -5 a b",
+            "gain -g 3 b c",
+            "gain -g -88 c d",
+            "gain -u d o",
+        ],
+        after: &[File {
+            name: "o",
+            bytes: &[Stretch::Frames(&[LOST, G])],
+        }],
+        others: &[
+            File {
+                name: "b",
+                bytes: &[Stretch::Frames(&[LOST, G])],
+            },
+            File {
+                name: "c",
+                bytes: &[Stretch::Frames(&[LOST, G])],
+            },
+            File {
+                name: "d",
+                bytes: &[Stretch::Frames(&[LOST, G])],
+            },
+        ],
+        ..ROW
     },
 ];
 
 #[test]
 fn three_changes_are_taken_back(rt: HostRuntime) -> Result<(), Fail> {
-    for chain in &CHAINS {
-        let input = bytes_of(rt.alloc(), chain.file)?;
-        let room = input.len().saturating_add(NEW_TAG);
-        let mut folder = folder_of(rt.alloc(), "a", &input, room)?;
-        for name in ["b", "c", "d"] {
-            folder.reserve(name, room as u64)?;
-        }
-        for words in chain.words {
-            expect(&rt, &mut folder, words, 0, "")?;
-        }
-        assert!(rt; folder.get("d") != Some(input.as_slice()), "{}", chain.what);
-        expect(&rt, &mut folder, "gain -u d o", 0, "")?;
-        expect_file(&rt, &folder, "o", chain.file, chain.what)?;
-        expect(&rt, &mut folder, "gain -u a b", 1, "no undo item\n")?;
-    }
+    assert_eq!(rt; first_difference(rt.alloc(), &CHAINS)?, None);
+    Ok(())
+}
+
+/// The same files without any change.
+static UNCHANGED: [Row; 9] = [
+    Row {
+        what: "both channels",
+        files: &[File {
+            name: "a",
+            bytes: &[Stretch::Frames(&[G, Z, PROTECTED_G])],
+        }],
+        outputs: &["b"],
+        words: &["gain -u a b"],
+        status: 1,
+        line: "no undo item\n",
+        ..ROW
+    },
+    Row {
+        what: "each channel, and gains that wrap in the midst",
+        files: &[File {
+            name: "a",
+            bytes: &[Stretch::Frames(&[G, PADDED])],
+        }],
+        outputs: &["b"],
+        words: &["gain -u a b"],
+        status: 1,
+        line: "no undo item\n",
+        ..ROW
+    },
+    Row {
+        what: "a tag with other items and an ID3v1 block",
+        files: &[File {
+            name: "a",
+            bytes: &[Stretch::Frames(&[G, LONG]), TWO, ID3V1, ID3V1_REST],
+        }],
+        outputs: &["b"],
+        words: &["gain -u a b"],
+        status: 1,
+        line: "no undo item\n",
+        ..ROW
+    },
+    Row {
+        what: "a tag at the front",
+        files: &[File {
+            name: "a",
+            bytes: &[TWO, Stretch::Frames(&[G])],
+        }],
+        outputs: &["b"],
+        words: &["gain -u a b"],
+        status: 1,
+        line: "no undo item\n",
+        ..ROW
+    },
+    Row {
+        what: "no tag, an ID3v1 block and zero bytes",
+        files: &[File {
+            name: "a",
+            bytes: &[
+                ID3V2,
+                ID3V2_REST,
+                Stretch::Fill(0, 2),
+                Stretch::Frames(&[HEAD, G]),
+                Stretch::Fill(0, 3),
+                ID3V1,
+                ID3V1_REST,
+            ],
+        }],
+        outputs: &["b"],
+        words: &["gain -u a b"],
+        status: 1,
+        line: "no undo item\n",
+        ..ROW
+    },
+    Row {
+        what: "MPEG-2",
+        files: &[File {
+            name: "a",
+            bytes: &[Stretch::Frames(&[LOWER, PROTECTED_LOWER])],
+        }],
+        outputs: &["b"],
+        words: &["gain -u a b"],
+        status: 1,
+        line: "no undo item\n",
+        ..ROW
+    },
+    Row {
+        what: "MPEG-2, one channel",
+        files: &[File {
+            name: "a",
+            bytes: &[Stretch::Frames(&[M, M_LOUDER])],
+        }],
+        outputs: &["b"],
+        words: &["gain -u a b"],
+        status: 1,
+        line: "no undo item\n",
+        ..ROW
+    },
+    Row {
+        what: "MPEG-2.5",
+        files: &[File {
+            name: "a",
+            bytes: &[Stretch::Frames(&[LOWEST])],
+        }],
+        outputs: &["b"],
+        words: &["gain -u a b"],
+        status: 1,
+        line: "no undo item\n",
+        ..ROW
+    },
+    Row {
+        what: "lost frames",
+        files: &[File {
+            name: "a",
+            bytes: &[Stretch::Frames(&[LOST, G])],
+        }],
+        outputs: &["b"],
+        words: &["gain -u a b"],
+        status: 1,
+        line: "no undo item\n",
+        ..ROW
+    },
+];
+
+#[test]
+fn no_change_is_taken_back(rt: HostRuntime) -> Result<(), Fail> {
+    assert_eq!(rt; first_difference(rt.alloc(), &UNCHANGED)?, None);
     Ok(())
 }
