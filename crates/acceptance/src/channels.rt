@@ -1,9 +1,9 @@
 //! Gains that wrap, and changes of one channel alone. The side information is worked out by hand.
 
-use crate::expected::{expect, expect_frames};
-use acceptance_kit::commands::folder_of_frames;
-use test_files::frames::{Frame, G, MONO, Z};
+use acceptance_kit::rows::{File, ROW, Row, first_difference};
 use std::test::Fail;
+use test_files::files::Stretch;
+use test_files::frames::{Frame, G, MONO, Z};
 
 /// G with the gains 101, 102, 0, 91: one step up, and 255 wraps.
 const G_WRAPPED_UP: Frame = Frame {
@@ -57,105 +57,157 @@ const JOINT_HEAD: Frame = Frame {
     ..JOINT
 };
 
-/// The words, the frames of the input `g`, and those of the output `o`.
-struct Change {
-    words: &'static str,
-    before: &'static [Frame],
-    after: &'static [Frame],
-}
-
-static CHANGES: [Change; 7] = [
-    Change {
-        words: "gain -s s -w -g 1 g o",
-        before: &[G],
-        after: &[G_WRAPPED_UP],
+static CHANGES: [Row; 7] = [
+    Row {
+        files: &[File {
+            name: "g",
+            bytes: &[Stretch::Frames(&[G])],
+        }],
+        words: &["gain -s s -w -g 1 g o"],
+        after: &[File {
+            name: "o",
+            bytes: &[Stretch::Frames(&[G_WRAPPED_UP])],
+        }],
+        ..ROW
     },
-    Change {
-        words: "gain -w -s s -g -101 g o",
-        before: &[G],
-        after: &[G_WRAPPED_DOWN],
+    Row {
+        files: &[File {
+            name: "g",
+            bytes: &[Stretch::Frames(&[G])],
+        }],
+        words: &["gain -w -s s -g -101 g o"],
+        after: &[File {
+            name: "o",
+            bytes: &[Stretch::Frames(&[G_WRAPPED_DOWN])],
+        }],
+        ..ROW
     },
-    Change {
-        words: "gain -w -s s -g -1 g o",
-        before: &[G_WRAPPED_UP],
-        after: &[G],
+    Row {
+        files: &[File {
+            name: "g",
+            bytes: &[Stretch::Frames(&[G_WRAPPED_UP])],
+        }],
+        words: &["gain -w -s s -g -1 g o"],
+        after: &[File {
+            name: "o",
+            bytes: &[Stretch::Frames(&[G])],
+        }],
+        ..ROW
     },
-    Change {
-        words: "gain -s s -w -l 0 3 g o",
-        before: &[Z, G],
-        after: &[Z, G_LEFT_WRAPPED],
+    Row {
+        files: &[File {
+            name: "g",
+            bytes: &[Stretch::Frames(&[Z, G])],
+        }],
+        words: &["gain -s s -w -l 0 3 g o"],
+        after: &[File {
+            name: "o",
+            bytes: &[Stretch::Frames(&[Z, G_LEFT_WRAPPED])],
+        }],
+        ..ROW
     },
-    Change {
-        words: "gain -s s -l 1 -5 g o",
-        before: &[G],
-        after: &[G_RIGHT_LOWER],
+    Row {
+        files: &[File {
+            name: "g",
+            bytes: &[Stretch::Frames(&[G])],
+        }],
+        words: &["gain -s s -l 1 -5 g o"],
+        after: &[File {
+            name: "o",
+            bytes: &[Stretch::Frames(&[G_RIGHT_LOWER])],
+        }],
+        ..ROW
     },
-    Change {
-        words: "gain -w -s s -l 1 +5 g o",
-        before: &[G_RIGHT_LOWER],
-        after: &[G],
+    Row {
+        files: &[File {
+            name: "g",
+            bytes: &[Stretch::Frames(&[G_RIGHT_LOWER])],
+        }],
+        words: &["gain -w -s s -l 1 +5 g o"],
+        after: &[File {
+            name: "o",
+            bytes: &[Stretch::Frames(&[G])],
+        }],
+        ..ROW
     },
     // A head is no frame of the stream.
-    Change {
-        words: "gain -s s -l 1 -5 g o",
-        before: &[JOINT_HEAD, G],
-        after: &[JOINT_HEAD, G_RIGHT_LOWER],
+    Row {
+        files: &[File {
+            name: "g",
+            bytes: &[Stretch::Frames(&[JOINT_HEAD, G])],
+        }],
+        words: &["gain -s s -l 1 -5 g o"],
+        after: &[File {
+            name: "o",
+            bytes: &[Stretch::Frames(&[JOINT_HEAD, G_RIGHT_LOWER])],
+        }],
+        ..ROW
     },
 ];
 
 #[test]
 fn gains_wrap_and_one_channel_changes(rt: HostRuntime) -> Result<(), Fail> {
-    for change in &CHANGES {
-        let mut folder = folder_of_frames(rt.alloc(), "g", change.before)?;
-        expect(&rt, &mut folder, change.words, 0, "")?;
-        expect_frames(&rt, &folder, "o", change.after, change.words)?;
-    }
+    assert_eq!(rt; first_difference(rt.alloc(), &CHANGES)?, None);
     Ok(())
 }
 
-/// The words, the frames of the input `g`, and the line.
-struct Refused {
-    words: &'static str,
-    frames: &'static [Frame],
-    line: &'static str,
-}
-
-static REFUSED: [Refused; 5] = [
-    Refused {
-        words: "gain -s s -l 0 1 g o",
-        frames: &[MONO],
+static REFUSED: [Row; 5] = [
+    Row {
+        files: &[File {
+            name: "g",
+            bytes: &[Stretch::Frames(&[MONO])],
+        }],
+        words: &["gain -s s -l 0 1 g o"],
+        status: 1,
         line: "one channel only\n",
+        ..ROW
     },
-    Refused {
-        words: "gain -s s -w -l 1 1 g o",
-        frames: &[G, Z, JOINT, JOINT],
+    Row {
+        files: &[File {
+            name: "g",
+            bytes: &[Stretch::Frames(&[G, Z, JOINT, JOINT])],
+        }],
+        words: &["gain -s s -w -l 1 1 g o"],
+        status: 1,
         line: "joint stereo at 834\n",
+        ..ROW
     },
     // Before a gain that would leave its range.
-    Refused {
-        words: "gain -s s -l 0 1 g o",
-        frames: &[G, JOINT],
+    Row {
+        files: &[File {
+            name: "g",
+            bytes: &[Stretch::Frames(&[G, JOINT])],
+        }],
+        words: &["gain -s s -l 0 1 g o"],
+        status: 1,
         line: "joint stereo at 417\n",
+        ..ROW
     },
-    Refused {
-        words: "gain -s s -l 0 1 g o",
-        frames: &[G],
+    Row {
+        files: &[File {
+            name: "g",
+            bytes: &[Stretch::Frames(&[G])],
+        }],
+        words: &["gain -s s -l 0 1 g o"],
+        status: 1,
         line: "gain 255 out of range at 0, granule 1, channel 0\n",
+        ..ROW
     },
     // Behind a fault of the bytes.
-    Refused {
-        words: "gain -s s -l 0 1 g o",
-        frames: &[JOINT, MONO],
+    Row {
+        files: &[File {
+            name: "g",
+            bytes: &[Stretch::Frames(&[JOINT, MONO])],
+        }],
+        words: &["gain -s s -l 0 1 g o"],
+        status: 1,
         line: "g: mixed class at 417\n",
+        ..ROW
     },
 ];
 
 #[test]
 fn refused_channels(rt: HostRuntime) -> Result<(), Fail> {
-    for refused in &REFUSED {
-        let mut folder = folder_of_frames(rt.alloc(), "g", refused.frames)?;
-        expect(&rt, &mut folder, refused.words, 1, refused.line)?;
-        assert!(rt; folder.get("o") == None, "{}", refused.line);
-    }
+    assert_eq!(rt; first_difference(rt.alloc(), &REFUSED)?, None);
     Ok(())
 }

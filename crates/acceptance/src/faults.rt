@@ -1,17 +1,17 @@
 //! Calls of the outside that fail.
 
 use crate::check_words::WRONG_M;
-use crate::expected::{expect, expect_file};
-use acceptance_kit::commands::{folder_of, folder_of_file, folder_of_frames, run_over, sink};
-use test_files::files::{APE, ID3V1, ID3V1_REST, ID3V2, ID3V2_REST, Stretch, bytes_of};
-use test_files::frames::{G, G_LOWER, HEAD, PROTECTED_G, PROTECTED_G_LOWER, Z, file_of};
+use acceptance_kit::commands::{folder_of_frames, run_over, sink};
+use acceptance_kit::rows::{Failing, File, ROW, Row, first_difference};
 use outside::Call;
 use std::test::Fail;
+use test_files::files::{APE, ID3V1, ID3V1_REST, ID3V2, ID3V2_REST, Stretch};
+use test_files::frames::{G, G_LOWER, HEAD, PROTECTED_G, PROTECTED_G_LOWER, Z};
 
 const WORDS: &str = "gain -s s -g -5 g o";
 
 /// A file in which everything stands that a file may have.
-static FILE: [Stretch; 8] = [
+const FILE: &[Stretch] = &[
     ID3V2,
     ID3V2_REST,
     Stretch::Fill(0, 2),
@@ -23,7 +23,7 @@ static FILE: [Stretch; 8] = [
 ];
 
 /// The same with the gains 5 less, without its junk.
-static LOWER_FILE: [Stretch; 7] = [
+const LOWER_FILE: &[Stretch] = &[
     ID3V2,
     ID3V2_REST,
     Stretch::Fill(0, 2),
@@ -33,125 +33,252 @@ static LOWER_FILE: [Stretch; 7] = [
     ID3V1_REST,
 ];
 
-/// The call that fails, counted from 1, the line, and what the output then holds, where it is there.
-struct Failing {
-    call: Call,
-    number: u64,
-    line: &'static str,
-    output: Option<&'static [u8]>,
-}
-
-static FAILING: [Failing; 5] = [
-    Failing {
-        call: Call::Find,
-        number: 1,
+static FAILING: [Row; 5] = [
+    Row {
+        files: &[File {
+            name: "g",
+            bytes: FILE,
+        }],
+        fails: &[Failing {
+            call: Call::Find,
+            number: 1,
+        }],
+        words: &[WORDS],
+        status: 3,
         line: "g: read fault\n",
-        output: None,
+        ..ROW
     },
-    Failing {
-        call: Call::Read,
-        number: 1,
+    Row {
+        files: &[File {
+            name: "g",
+            bytes: FILE,
+        }],
+        fails: &[Failing {
+            call: Call::Read,
+            number: 1,
+        }],
+        words: &[WORDS],
+        status: 3,
         line: "g: read fault\n",
-        output: None,
+        ..ROW
     },
     // The input is read once more when the output is there.
-    Failing {
-        call: Call::Read,
-        number: 2,
+    Row {
+        files: &[File {
+            name: "g",
+            bytes: FILE,
+        }],
+        fails: &[Failing {
+            call: Call::Read,
+            number: 2,
+        }],
+        words: &[WORDS],
+        status: 3,
         line: "g: read fault\n",
-        output: Some(&[]),
+        after: &[File {
+            name: "o",
+            bytes: &[],
+        }],
+        ..ROW
     },
-    Failing {
-        call: Call::Create,
-        number: 1,
+    Row {
+        files: &[File {
+            name: "g",
+            bytes: FILE,
+        }],
+        fails: &[Failing {
+            call: Call::Create,
+            number: 1,
+        }],
+        words: &[WORDS],
+        status: 3,
         line: "o: write fault\n",
-        output: None,
+        ..ROW
     },
-    Failing {
-        call: Call::Write,
-        number: 1,
+    Row {
+        files: &[File {
+            name: "g",
+            bytes: FILE,
+        }],
+        fails: &[Failing {
+            call: Call::Write,
+            number: 1,
+        }],
+        words: &[WORDS],
+        status: 3,
         line: "o: write fault\n",
-        output: Some(&[]),
+        after: &[File {
+            name: "o",
+            bytes: &[],
+        }],
+        ..ROW
     },
 ];
 
 #[test]
 fn each_call_fails_once(rt: HostRuntime) -> Result<(), Fail> {
-    for case in &FAILING {
-        let mut folder = folder_of_file(rt.alloc(), "g", &FILE)?;
-        folder.fail(case.call, case.number)?;
-        expect(&rt, &mut folder, WORDS, 3, case.line)?;
-        assert!(rt; folder.get("o") == case.output, "{:?}", case.call);
-        expect_file(&rt, &folder, "g", &FILE, case.line)?;
-    }
+    assert_eq!(rt; first_difference(rt.alloc(), &FAILING)?, None);
     Ok(())
 }
 
-/// A call that isn't made.
-struct Further {
-    call: Call,
-    number: u64,
-}
-
-static FURTHER: [Further; 4] = [
-    Further {
-        call: Call::Find,
-        number: 2,
+static FURTHER: [Row; 4] = [
+    Row {
+        files: &[File {
+            name: "g",
+            bytes: FILE,
+        }],
+        fails: &[Failing {
+            call: Call::Find,
+            number: 2,
+        }],
+        words: &[WORDS],
+        after: &[File {
+            name: "o",
+            bytes: LOWER_FILE,
+        }],
+        ..ROW
     },
-    Further {
-        call: Call::Read,
-        number: 3,
+    Row {
+        files: &[File {
+            name: "g",
+            bytes: FILE,
+        }],
+        fails: &[Failing {
+            call: Call::Read,
+            number: 3,
+        }],
+        words: &[WORDS],
+        after: &[File {
+            name: "o",
+            bytes: LOWER_FILE,
+        }],
+        ..ROW
     },
-    Further {
-        call: Call::Create,
-        number: 2,
+    Row {
+        files: &[File {
+            name: "g",
+            bytes: FILE,
+        }],
+        fails: &[Failing {
+            call: Call::Create,
+            number: 2,
+        }],
+        words: &[WORDS],
+        after: &[File {
+            name: "o",
+            bytes: LOWER_FILE,
+        }],
+        ..ROW
     },
-    Further {
-        call: Call::Write,
-        number: 2,
+    Row {
+        files: &[File {
+            name: "g",
+            bytes: FILE,
+        }],
+        fails: &[Failing {
+            call: Call::Write,
+            number: 2,
+        }],
+        words: &[WORDS],
+        after: &[File {
+            name: "o",
+            bytes: LOWER_FILE,
+        }],
+        ..ROW
     },
 ];
 
-// Where a call would fail that isn't made, nothing is told.
 #[test]
 fn no_more_calls_are_made(rt: HostRuntime) -> Result<(), Fail> {
-    for further in &FURTHER {
-        let mut folder = folder_of_file(rt.alloc(), "g", &FILE)?;
-        folder.fail(further.call, further.number)?;
-        expect(&rt, &mut folder, WORDS, 0, "")?;
-        expect_file(&rt, &folder, "o", &LOWER_FILE, "one call more")?;
-    }
+    assert_eq!(rt; first_difference(rt.alloc(), &FURTHER)?, None);
     Ok(())
 }
+
+static THERE: [Row; 2] = [
+    Row {
+        files: &[
+            File {
+                name: "g",
+                bytes: &[Stretch::Frames(&[G])],
+            },
+            File {
+                name: "o",
+                bytes: &[Stretch::Bytes(b"old")],
+            },
+        ],
+        fails: &[Failing {
+            call: Call::Create,
+            number: 1,
+        }],
+        words: &[WORDS],
+        status: 3,
+        line: "o: write fault\n",
+        ..ROW
+    },
+    Row {
+        files: &[
+            File {
+                name: "g",
+                bytes: &[Stretch::Frames(&[G])],
+            },
+            File {
+                name: "o",
+                bytes: &[Stretch::Bytes(b"old")],
+            },
+        ],
+        fails: &[Failing {
+            call: Call::Write,
+            number: 1,
+        }],
+        words: &[WORDS],
+        status: 3,
+        line: "o: write fault\n",
+        after: &[File {
+            name: "o",
+            bytes: &[],
+        }],
+        ..ROW
+    },
+];
 
 #[test]
 fn an_output_that_was_there(rt: HostRuntime) -> Result<(), Fail> {
-    let mut folder = folder_of_frames(rt.alloc(), "g", &[G])?;
-    folder.put("o", b"old")?;
-    folder.fail(Call::Create, 1)?;
-    expect(&rt, &mut folder, WORDS, 3, "o: write fault\n")?;
-    assert!(rt; folder.get("o") == Some(b"old".as_slice()));
-    folder.fail(Call::Write, 1)?;
-    expect(&rt, &mut folder, WORDS, 3, "o: write fault\n")?;
-    assert!(rt; folder.get("o") == Some(b"".as_slice()));
+    assert_eq!(rt; first_difference(rt.alloc(), &THERE)?, None);
     Ok(())
 }
 
+static NO_ROOM: [Row; 2] = [
+    Row {
+        files: &[File {
+            name: "g",
+            bytes: &[Stretch::Frames(&[G])],
+        }],
+        room: 416,
+        words: &[WORDS],
+        status: 3,
+        line: "o: write fault\n",
+        after: &[File {
+            name: "o",
+            bytes: &[],
+        }],
+        ..ROW
+    },
+    Row {
+        files: &[File {
+            name: "g",
+            bytes: &[Stretch::Frames(&[G])],
+        }],
+        words: &["gain -s s -g -5 g p"],
+        status: 3,
+        line: "p: write fault\n",
+        absent: &["p"],
+        ..ROW
+    },
+];
+
 #[test]
 fn no_room_for_the_output(rt: HostRuntime) -> Result<(), Fail> {
-    let input = file_of(rt.alloc(), &[G])?;
-    let mut folder = folder_of(rt.alloc(), "g", &input, 416)?;
-    expect(&rt, &mut folder, WORDS, 3, "o: write fault\n")?;
-    assert!(rt; folder.get("o") == Some(b"".as_slice()));
-    expect(
-        &rt,
-        &mut folder,
-        "gain -s s -g -5 g p",
-        3,
-        "p: write fault\n",
-    )?;
-    assert!(rt; folder.get("p").is_none());
-    assert!(rt; folder.get("g") == Some(input.as_slice()));
+    assert_eq!(rt; first_difference(rt.alloc(), &NO_ROOM)?, None);
     Ok(())
 }
 
@@ -211,21 +338,21 @@ fn standard_error_fails(rt: HostRuntime) -> Result<(), Fail> {
     Ok(())
 }
 
+static WHOLE: [Row; 1] = [Row {
+    files: &[File {
+        name: "g",
+        bytes: FILE,
+    }],
+    words: &[WORDS],
+    after: &[File {
+        name: "o",
+        bytes: LOWER_FILE,
+    }],
+    ..ROW
+}];
+
 #[test]
 fn want_of_memory_is_told_before_the_output_is_created(rt: HostRuntime) -> Result<(), Fail> {
-    let mut folder = folder_of_file(rt.alloc(), "g", &FILE)?;
-    let input = bytes_of(rt.alloc(), &FILE)?;
-    let wanted = bytes_of(rt.alloc(), &LOWER_FILE)?;
-    let err = sink(rt.alloc())?;
-    let ended = run_over(rt.alloc(), &mut folder, WORDS, err)?;
-    assert!(rt; folder.get("g") == Some(input.as_slice()));
-    if ended.status == 4 {
-        assert_eq!(rt; ended.err.sent(), b"out of memory\n".as_slice());
-        assert!(rt; folder.get("o").is_none());
-    } else {
-        assert_eq!(rt; ended.status, 0);
-        assert_eq!(rt; ended.err.sent(), b"".as_slice());
-        assert!(rt; folder.get("o") == Some(wanted.as_slice()));
-    }
+    assert_eq!(rt; first_difference(rt.alloc(), &WHOLE)?, None);
     Ok(())
 }

@@ -1,181 +1,312 @@
 //! What a change of gains makes of frames, byte for byte.
 
-use crate::expected::{expect, expect_frames};
-use acceptance_kit::commands::folder_of_frames;
+use acceptance_kit::rows::{File, ROW, Row, first_difference};
+use std::test::Fail;
+use test_files::files::Stretch;
 use test_files::frames::{
     FULL, FULL_LOUDER, Frame, G, G_AT_32_KHZ, G_AT_32_KHZ_LOWER, G_AT_48_KHZ, G_AT_48_KHZ_LOWER,
     G_LOWER, LEFT_ALONE, LEFT_ALONE_LOUDER, LONG, LONG_LOWER, LOUD, LOW, LOWER, LOWER_QUIETER,
     MONO, MONO_LOWER, PADDED, PADDED_LOWER, PROTECTED_G, PROTECTED_G_LOWER, PROTECTED_LOWER,
     PROTECTED_LOWER_QUIETER, PROTECTED_Z, QUIET, QUIETER, Z,
 };
-use std::test::Fail;
 
-/// The words, the frame of the input `g`, and that of the output `o`.
-struct Change {
-    words: &'static str,
-    before: Frame,
-    after: Frame,
-}
-
-static CHANGES: [Change; 14] = [
-    Change {
-        words: "gain -s s -g -5 g o",
-        before: G,
-        after: G_LOWER,
+static CHANGES: [Row; 14] = [
+    Row {
+        files: &[File {
+            name: "g",
+            bytes: &[Stretch::Frames(&[G])],
+        }],
+        words: &["gain -s s -g -5 g o"],
+        after: &[File {
+            name: "o",
+            bytes: &[Stretch::Frames(&[G_LOWER])],
+        }],
+        ..ROW
     },
-    Change {
-        words: "gain -s s -g +5 g o",
-        before: G_LOWER,
-        after: G,
+    Row {
+        files: &[File {
+            name: "g",
+            bytes: &[Stretch::Frames(&[G_LOWER])],
+        }],
+        words: &["gain -s s -g +5 g o"],
+        after: &[File {
+            name: "o",
+            bytes: &[Stretch::Frames(&[G])],
+        }],
+        ..ROW
     },
-    Change {
-        words: "gain -s s -g 0 g o",
-        before: G,
-        after: G,
+    Row {
+        files: &[File {
+            name: "g",
+            bytes: &[Stretch::Frames(&[G])],
+        }],
+        words: &["gain -s s -g 0 g o"],
+        after: &[File {
+            name: "o",
+            bytes: &[Stretch::Frames(&[G])],
+        }],
+        ..ROW
     },
-    Change {
-        words: "gain -s s -g 5 g o",
-        before: Z,
-        after: Z,
+    Row {
+        files: &[File {
+            name: "g",
+            bytes: &[Stretch::Frames(&[Z])],
+        }],
+        words: &["gain -s s -g 5 g o"],
+        after: &[File {
+            name: "o",
+            bytes: &[Stretch::Frames(&[Z])],
+        }],
+        ..ROW
     },
-    Change {
-        words: "gain -s s -g 55 g o",
-        before: LEFT_ALONE,
-        after: LEFT_ALONE_LOUDER,
+    Row {
+        files: &[File {
+            name: "g",
+            bytes: &[Stretch::Frames(&[LEFT_ALONE])],
+        }],
+        words: &["gain -s s -g 55 g o"],
+        after: &[File {
+            name: "o",
+            bytes: &[Stretch::Frames(&[LEFT_ALONE_LOUDER])],
+        }],
+        ..ROW
     },
-    Change {
-        words: "gain -s s -g -5 g o",
-        before: PADDED,
-        after: PADDED_LOWER,
+    Row {
+        files: &[File {
+            name: "g",
+            bytes: &[Stretch::Frames(&[PADDED])],
+        }],
+        words: &["gain -s s -g -5 g o"],
+        after: &[File {
+            name: "o",
+            bytes: &[Stretch::Frames(&[PADDED_LOWER])],
+        }],
+        ..ROW
     },
-    Change {
-        words: "gain -s s -g -5 g o",
-        before: MONO,
-        after: MONO_LOWER,
+    Row {
+        files: &[File {
+            name: "g",
+            bytes: &[Stretch::Frames(&[MONO])],
+        }],
+        words: &["gain -s s -g -5 g o"],
+        after: &[File {
+            name: "o",
+            bytes: &[Stretch::Frames(&[MONO_LOWER])],
+        }],
+        ..ROW
     },
-    Change {
-        words: "gain -s s -g 1 g o",
-        before: FULL,
-        after: FULL_LOUDER,
+    Row {
+        files: &[File {
+            name: "g",
+            bytes: &[Stretch::Frames(&[FULL])],
+        }],
+        words: &["gain -s s -g 1 g o"],
+        after: &[File {
+            name: "o",
+            bytes: &[Stretch::Frames(&[FULL_LOUDER])],
+        }],
+        ..ROW
     },
-    Change {
-        words: "gain -s s -g -5 g o",
-        before: G_AT_48_KHZ,
-        after: G_AT_48_KHZ_LOWER,
+    Row {
+        files: &[File {
+            name: "g",
+            bytes: &[Stretch::Frames(&[G_AT_48_KHZ])],
+        }],
+        words: &["gain -s s -g -5 g o"],
+        after: &[File {
+            name: "o",
+            bytes: &[Stretch::Frames(&[G_AT_48_KHZ_LOWER])],
+        }],
+        ..ROW
     },
-    Change {
-        words: "gain -s s -g -5 g o",
-        before: G_AT_32_KHZ,
-        after: G_AT_32_KHZ_LOWER,
+    Row {
+        files: &[File {
+            name: "g",
+            bytes: &[Stretch::Frames(&[G_AT_32_KHZ])],
+        }],
+        words: &["gain -s s -g -5 g o"],
+        after: &[File {
+            name: "o",
+            bytes: &[Stretch::Frames(&[G_AT_32_KHZ_LOWER])],
+        }],
+        ..ROW
     },
-    Change {
-        words: "gain -s s -g -5 g o",
-        before: LOWER,
-        after: LOWER_QUIETER,
+    Row {
+        files: &[File {
+            name: "g",
+            bytes: &[Stretch::Frames(&[LOWER])],
+        }],
+        words: &["gain -s s -g -5 g o"],
+        after: &[File {
+            name: "o",
+            bytes: &[Stretch::Frames(&[LOWER_QUIETER])],
+        }],
+        ..ROW
     },
-    Change {
-        words: "gain -s s -g 5 g o",
-        before: PROTECTED_LOWER_QUIETER,
-        after: PROTECTED_LOWER,
+    Row {
+        files: &[File {
+            name: "g",
+            bytes: &[Stretch::Frames(&[PROTECTED_LOWER_QUIETER])],
+        }],
+        words: &["gain -s s -g 5 g o"],
+        after: &[File {
+            name: "o",
+            bytes: &[Stretch::Frames(&[PROTECTED_LOWER])],
+        }],
+        ..ROW
     },
-    Change {
-        words: "gain -s s -g -5 g o",
-        before: PROTECTED_G,
-        after: PROTECTED_G_LOWER,
+    Row {
+        files: &[File {
+            name: "g",
+            bytes: &[Stretch::Frames(&[PROTECTED_G])],
+        }],
+        words: &["gain -s s -g -5 g o"],
+        after: &[File {
+            name: "o",
+            bytes: &[Stretch::Frames(&[PROTECTED_G_LOWER])],
+        }],
+        ..ROW
     },
-    Change {
-        words: "gain -s s -g 5 g o",
-        before: PROTECTED_Z,
-        after: PROTECTED_Z,
+    Row {
+        files: &[File {
+            name: "g",
+            bytes: &[Stretch::Frames(&[PROTECTED_Z])],
+        }],
+        words: &["gain -s s -g 5 g o"],
+        after: &[File {
+            name: "o",
+            bytes: &[Stretch::Frames(&[PROTECTED_Z])],
+        }],
+        ..ROW
     },
 ];
 
 #[test]
 fn gains_move_and_all_else_stays(rt: HostRuntime) -> Result<(), Fail> {
-    for change in &CHANGES {
-        let words = change.words;
-        let mut folder = folder_of_frames(rt.alloc(), "g", &[change.before])?;
-        expect(&rt, &mut folder, words, 0, "")?;
-        expect_frames(&rt, &folder, "o", &[change.after], words)?;
-        expect_frames(&rt, &folder, "g", &[change.before], words)?;
-    }
+    assert_eq!(rt; first_difference(rt.alloc(), &CHANGES)?, None);
     Ok(())
 }
+
+static SIX_FRAMES: [Row; 1] = [Row {
+    files: &[File {
+        name: "g",
+        bytes: &[Stretch::Frames(&[LONG, QUIET, Z, PROTECTED_G, PADDED, G])],
+    }],
+    words: &["gain -s s -g -5 g o"],
+    after: &[File {
+        name: "o",
+        bytes: &[Stretch::Frames(&[
+            LONG_LOWER,
+            QUIETER,
+            Z,
+            PROTECTED_G_LOWER,
+            PADDED_LOWER,
+            G_LOWER,
+        ])],
+    }],
+    ..ROW
+}];
 
 #[test]
 fn frames_of_other_lengths_and_gains(rt: HostRuntime) -> Result<(), Fail> {
-    let mut folder = folder_of_frames(rt.alloc(), "g", &[LONG, QUIET, Z, PROTECTED_G, PADDED, G])?;
-    expect(&rt, &mut folder, "gain -s s -g -5 g o", 0, "")?;
-    let wanted = [
-        LONG_LOWER,
-        QUIETER,
-        Z,
-        PROTECTED_G_LOWER,
-        PADDED_LOWER,
-        G_LOWER,
-    ];
-    expect_frames(&rt, &folder, "o", &wanted, "six frames")?;
+    assert_eq!(rt; first_difference(rt.alloc(), &SIX_FRAMES)?, None);
     Ok(())
 }
 
-/// The words, the two frames of the input `g`, and the line.
-struct OutOfRange {
-    words: &'static str,
-    frames: &'static [Frame],
-    line: &'static str,
-}
-
-static OUT_OF_RANGE: [OutOfRange; 6] = [
-    OutOfRange {
-        words: "gain -s s -g 1 g o",
-        frames: &[G, Z],
+static OUT_OF_RANGE: [Row; 6] = [
+    Row {
+        files: &[File {
+            name: "g",
+            bytes: &[Stretch::Frames(&[G, Z])],
+        }],
+        words: &["gain -s s -g 1 g o"],
+        status: 1,
         line: "gain 255 out of range at 0, granule 1, channel 0\n",
+        ..ROW
     },
-    OutOfRange {
-        words: "gain -s s -g 2 g o",
-        frames: &[LOUD, G],
+    Row {
+        files: &[File {
+            name: "g",
+            bytes: &[Stretch::Frames(&[LOUD, G])],
+        }],
+        words: &["gain -s s -g 2 g o"],
+        status: 1,
         line: "gain 254 out of range at 0, granule 0, channel 1\n",
+        ..ROW
     },
-    OutOfRange {
-        words: "gain -s s -g 1 g o",
-        frames: &[PADDED, G],
+    Row {
+        files: &[File {
+            name: "g",
+            bytes: &[Stretch::Frames(&[PADDED, G])],
+        }],
+        words: &["gain -s s -g 1 g o"],
+        status: 1,
         line: "gain 255 out of range at 418, granule 1, channel 0\n",
+        ..ROW
     },
-    OutOfRange {
-        words: "gain -s s -g -5 g o",
-        frames: &[G, LOW],
+    Row {
+        files: &[File {
+            name: "g",
+            bytes: &[Stretch::Frames(&[G, LOW])],
+        }],
+        words: &["gain -s s -g -5 g o"],
+        status: 1,
         line: "gain 4 out of range at 417, granule 1, channel 1\n",
+        ..ROW
     },
-    OutOfRange {
-        words: "gain -s s -g -255 g o",
-        frames: &[Z, G],
+    Row {
+        files: &[File {
+            name: "g",
+            bytes: &[Stretch::Frames(&[Z, G])],
+        }],
+        words: &["gain -s s -g -255 g o"],
+        status: 1,
         line: "gain 100 out of range at 417, granule 0, channel 0\n",
+        ..ROW
     },
-    OutOfRange {
-        words: "gain -s s -g 56 g o",
-        frames: &[LOWER_QUIETER, LOWER],
+    Row {
+        files: &[File {
+            name: "g",
+            bytes: &[Stretch::Frames(&[LOWER_QUIETER, LOWER])],
+        }],
+        words: &["gain -s s -g 56 g o"],
+        status: 1,
         line: "gain 200 out of range at 209, granule 0, channel 1\n",
+        ..ROW
     },
 ];
 
 #[test]
 fn gains_out_of_range(rt: HostRuntime) -> Result<(), Fail> {
-    for case in &OUT_OF_RANGE {
-        let mut folder = folder_of_frames(rt.alloc(), "g", case.frames)?;
-        expect(&rt, &mut folder, case.words, 1, case.line)?;
-        assert!(rt; folder.get("o").is_none(), "{}", case.line);
-        expect_frames(&rt, &folder, "g", case.frames, case.line)?;
-    }
+    assert_eq!(rt; first_difference(rt.alloc(), &OUT_OF_RANGE)?, None);
     Ok(())
 }
 
+static OVER_OTHER_BYTES: [Row; 1] = [Row {
+    files: &[
+        File {
+            name: "g",
+            bytes: &[Stretch::Frames(&[G])],
+        },
+        File {
+            name: "o",
+            bytes: &[Stretch::Fill(0x55, 1000)],
+        },
+        File {
+            name: "other",
+            bytes: &[Stretch::Bytes(b"kept")],
+        },
+    ],
+    words: &["gain -s s -g -5 g o"],
+    after: &[File {
+        name: "o",
+        bytes: &[Stretch::Frames(&[G_LOWER])],
+    }],
+    ..ROW
+}];
+
 #[test]
 fn an_output_that_was_there_holds_the_new_bytes_alone(rt: HostRuntime) -> Result<(), Fail> {
-    let mut folder = folder_of_frames(rt.alloc(), "g", &[G])?;
-    folder.put("o", &[0x55; 1000])?;
-    folder.put("other", b"kept")?;
-    expect(&rt, &mut folder, "gain -s s -g -5 g o", 0, "")?;
-    expect_frames(&rt, &folder, "o", &[G_LOWER], "over other bytes")?;
-    assert!(rt; folder.get("other") == Some(b"kept".as_slice()));
+    assert_eq!(rt; first_difference(rt.alloc(), &OVER_OTHER_BYTES)?, None);
     Ok(())
 }

@@ -1,59 +1,71 @@
 //! What stands in a file, line by line. The lines are worked out by hand from the frames' bytes.
 
-use crate::expected::{expect, expect_text};
 use crate::reservoirs::{FIRST, NEARER, SECOND};
-use acceptance_kit::commands::{folder_of_file, list_to, sink};
-use test_files::files::{APE, ID3V1, ID3V1_REST, ID3V2, ID3V2_REST, Stretch};
-use test_files::frames::{EARLY_HEAD, HEAD, LOWER, MONO, PADDED, PROTECTED_Z, Z};
+use acceptance_kit::commands::{folder_of_file, list_to};
+use acceptance_kit::rows::{Failing, File, ROW, Row, first_difference};
 use outside::Call;
 use std::test::Fail;
+use test_files::files::{APE, ID3V1, ID3V1_REST, ID3V2, ID3V2_REST, Stretch};
+use test_files::frames::{EARLY_HEAD, HEAD, LOWER, MONO, PADDED, PROTECTED_Z, Z};
 
-/// A file, and the text of `list`.
-struct Case {
-    what: &'static str,
-    file: &'static [Stretch],
-    text: &'static str,
-}
-
-static CASES: [Case; 8] = [
-    Case {
+static CASES: [Row; 8] = [
+    Row {
         what: "the bit reservoir",
-        file: &[Stretch::Frames(&[FIRST, SECOND])],
+        files: &[File {
+            name: "a",
+            bytes: &[Stretch::Frames(&[FIRST, SECOND])],
+        }],
+        words: &["list a"],
         text: "frame 0 at 0: 128 kbit/s, begin 0, bits 2400
 frame 1 at 417: 128 kbit/s, begin 81, bits 3200
 2 frames, MPEG-1, 44100 Hz, 2 channels, 0.00.05
 ",
+        ..ROW
     },
-    Case {
+    Row {
         what: "a head, whose area counts",
-        file: &[Stretch::Frames(&[HEAD, NEARER])],
+        files: &[File {
+            name: "a",
+            bytes: &[Stretch::Frames(&[HEAD, NEARER])],
+        }],
+        words: &["list a"],
         text: "head at 0: 417 bytes
 frame 0 at 417: 128 kbit/s, begin 40, bits 3200
 1 frames, MPEG-1, 44100 Hz, 2 channels, 0.00.02
 ",
+        ..ROW
     },
-    Case {
+    Row {
         what: "a first frame whose main data were cut off",
-        file: &[Stretch::Frames(&[SECOND])],
+        files: &[File {
+            name: "a",
+            bytes: &[Stretch::Frames(&[SECOND])],
+        }],
+        words: &["list a"],
         text: "frame 0 at 0: 128 kbit/s, begin 81, bits 3200, lost
 1 frames, MPEG-1, 44100 Hz, 2 channels, 0.00.02
 ",
+        ..ROW
     },
     // The false frame in the junk isn't anchored: zeros stand at its end.
-    Case {
+    Row {
         what: "blocks, zeros and junk",
-        file: &[
-            ID3V2,
-            ID3V2_REST,
-            Stretch::Fill(0, 2),
-            Stretch::Fill(0x55, 100),
-            Stretch::Bytes(&[0xff, 0xfb, 0x90, 0x00]),
-            Stretch::Fill(0x55, 196),
-            Stretch::Frames(&[Z, Z]),
-            APE,
-            ID3V1,
-            ID3V1_REST,
-        ],
+        files: &[File {
+            name: "a",
+            bytes: &[
+                ID3V2,
+                ID3V2_REST,
+                Stretch::Fill(0, 2),
+                Stretch::Fill(0x55, 100),
+                Stretch::Bytes(&[0xff, 0xfb, 0x90, 0x00]),
+                Stretch::Fill(0x55, 196),
+                Stretch::Frames(&[Z, Z]),
+                APE,
+                ID3V1,
+                ID3V1_REST,
+            ],
+        }],
+        words: &["list a"],
         text: "block ID3v2 at 0: 40 bytes
 junk at 42: 300 bytes
 frame 0 at 342: 128 kbit/s, begin 0, bits 0
@@ -62,21 +74,26 @@ block APEv2 at 1176: 79 bytes
 block ID3v1 at 1255: 128 bytes
 2 frames, MPEG-1, 44100 Hz, 2 channels, 0.00.05
 ",
+        ..ROW
     },
-    Case {
+    Row {
         what: "a protected head, and blocks and zeros between frames",
-        file: &[
-            APE,
-            Stretch::Frames(&[EARLY_HEAD, Z]),
-            ID3V2,
-            ID3V2_REST,
-            Stretch::Fill(0, 3),
-            Stretch::Frames(&[PADDED]),
-            ID3V1,
-            ID3V1_REST,
-            Stretch::Frames(&[PROTECTED_Z]),
-            Stretch::Fill(0, 1),
-        ],
+        files: &[File {
+            name: "a",
+            bytes: &[
+                APE,
+                Stretch::Frames(&[EARLY_HEAD, Z]),
+                ID3V2,
+                ID3V2_REST,
+                Stretch::Fill(0, 3),
+                Stretch::Frames(&[PADDED]),
+                ID3V1,
+                ID3V1_REST,
+                Stretch::Frames(&[PROTECTED_Z]),
+                Stretch::Fill(0, 1),
+            ],
+        }],
+        words: &["list a"],
         text: "block APEv2 at 0: 79 bytes
 head at 79: 417 bytes
 frame 0 at 496: 128 kbit/s, begin 0, bits 0
@@ -86,58 +103,125 @@ block ID3v1 at 1374: 128 bytes
 frame 2 at 1502: 128 kbit/s, begin 0, bits 0
 3 frames, MPEG-1, 44100 Hz, 2 channels, 0.00.07
 ",
+        ..ROW
     },
-    Case {
+    Row {
         what: "one channel",
-        file: &[Stretch::Frames(&[MONO])],
+        files: &[File {
+            name: "a",
+            bytes: &[Stretch::Frames(&[MONO])],
+        }],
+        words: &["list a"],
         text: "frame 0 at 0: 128 kbit/s, begin 0, bits 24
 1 frames, MPEG-1, 44100 Hz, 1 channels, 0.00.02
 ",
+        ..ROW
     },
-    Case {
+    Row {
         what: "MPEG-2",
-        file: &[Stretch::Frames(&[LOWER])],
+        files: &[File {
+            name: "a",
+            bytes: &[Stretch::Frames(&[LOWER])],
+        }],
+        words: &["list a"],
         text: "frame 0 at 0: 64 kbit/s padded, begin 0, bits 24
 1 frames, MPEG-2, 22050 Hz, 2 channels, 0.00.02
 ",
+        ..ROW
     },
     // 8,000 Hz, 8 kbit/s, one channel, all bytes behind the header 0: 72 bytes and 72 ms each.
-    Case {
+    Row {
         what: "MPEG-2.5",
-        file: &[
-            Stretch::Bytes(&[0xff, 0xe3, 0x18, 0xc0]),
-            Stretch::Fill(0, 68),
-            Stretch::Bytes(&[0xff, 0xe3, 0x18, 0xc0]),
-            Stretch::Fill(0, 68),
-        ],
+        files: &[File {
+            name: "a",
+            bytes: &[
+                Stretch::Bytes(&[0xff, 0xe3, 0x18, 0xc0]),
+                Stretch::Fill(0, 68),
+                Stretch::Bytes(&[0xff, 0xe3, 0x18, 0xc0]),
+                Stretch::Fill(0, 68),
+            ],
+        }],
+        words: &["list a"],
         text: "frame 0 at 0: 8 kbit/s, begin 0, bits 0
 frame 1 at 72: 8 kbit/s, begin 0, bits 0
 2 frames, MPEG-2.5, 8000 Hz, 1 channels, 0.00.14
 ",
+        ..ROW
     },
 ];
 
 #[test]
 fn a_line_for_each_thing(rt: HostRuntime) -> Result<(), Fail> {
-    for case in &CASES {
-        let mut folder = folder_of_file(rt.alloc(), "a", case.file)?;
-        expect_text(&rt, &mut folder, "list a", case.text, case.what)?;
-    }
+    assert_eq!(rt; first_difference(rt.alloc(), &CASES)?, None);
     Ok(())
 }
+
+static REFUSED: [Row; 5] = [
+    Row {
+        files: &[File {
+            name: "a",
+            bytes: &[],
+        }],
+        words: &["list a"],
+        status: 1,
+        line: "a: no frame at 0\n",
+        ..ROW
+    },
+    Row {
+        files: &[File {
+            name: "a",
+            bytes: &[],
+        }],
+        words: &["list x"],
+        status: 3,
+        line: "x: absent\n",
+        absent: &["x"],
+        ..ROW
+    },
+    Row {
+        files: &[File {
+            name: "a",
+            bytes: &[],
+        }],
+        fails: &[Failing {
+            call: Call::Find,
+            number: 1,
+        }],
+        words: &["list a"],
+        status: 3,
+        line: "a: read fault\n",
+        ..ROW
+    },
+    Row {
+        files: &[File {
+            name: "a",
+            bytes: &[Stretch::Frames(&[Z]), ID3V2],
+        }],
+        words: &["list a"],
+        status: 1,
+        line: "a: truncated at 417\n",
+        ..ROW
+    },
+    Row {
+        files: &[File {
+            name: "a",
+            bytes: &[Stretch::Frames(&[Z]), ID3V2],
+        }],
+        fails: &[Failing {
+            call: Call::Read,
+            number: 1,
+        }],
+        words: &["list a"],
+        status: 3,
+        line: "a: read fault\n",
+        ..ROW
+    },
+];
 
 // Nothing goes to standard output.
 #[test]
 fn refused_files(rt: HostRuntime) -> Result<(), Fail> {
-    let mut folder = folder_of_file(rt.alloc(), "a", &[])?;
-    expect(&rt, &mut folder, "list a", 1, "a: no frame at 0\n")?;
-    expect(&rt, &mut folder, "list x", 3, "x: absent\n")?;
-    folder.fail(Call::Find, 3)?;
-    expect(&rt, &mut folder, "list a", 3, "a: read fault\n")?;
-    let mut cut = folder_of_file(rt.alloc(), "a", &[Stretch::Frames(&[Z]), ID3V2])?;
-    expect(&rt, &mut cut, "list a", 1, "a: truncated at 417\n")?;
-    cut.fail(Call::Read, 2)?;
-    expect(&rt, &mut cut, "list a", 3, "a: read fault\n")?;
+    assert_eq!(rt; first_difference(rt.alloc(), &REFUSED)?, None);
     Ok(())
 }
 
@@ -164,7 +248,7 @@ fn each_write_fails_once(rt: HostRuntime) -> Result<(), Fail> {
     Ok(())
 }
 
-const THOUSAND: Stretch = Stretch::Frames(&[Z; 1000]);
+const THOUSAND: Stretch = Stretch::Repeated(&[Z], 1000);
 
 /// So many frames that their lines take three writes.
 static MANY: [Stretch; 3] = [THOUSAND, THOUSAND, THOUSAND];

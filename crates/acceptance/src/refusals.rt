@@ -1,26 +1,17 @@
 //! What is refused, with its line, before an output is created.
 
-use crate::expected::{expect, expect_file, expect_frames};
 use crate::reservoirs::{
     FIRST, OVERFULL_BEHIND, OVERLAPPING, OVERLAPPING_AND_OVERFULL, SECOND, SILENT_BACK_POINTER,
     SILENT_TOO_FAR, TOO_FAR,
 };
-use acceptance_kit::commands::{folder_of_file, folder_of_frames};
+use acceptance_kit::rows::{Failing, File, ROW, Row, first_difference};
+use outside::Call;
+use std::test::Fail;
 use test_files::files::{ID3V1, ID3V2, Stretch};
 use test_files::frames::{
     FORBIDDEN_RATE, FREE, Frame, G, G_AT_48_KHZ, HEAD, LAYER_2, MONO, MPEG_2, OVERFULL,
     RESERVED_FREQUENCY, RESERVED_VERSION, Z,
 };
-use outside::{Call, MemFolder};
-use std::alloc::{AllocError, Global};
-use std::test::Fail;
-
-/// What is at fault in the input `a`, the input, and the line.
-struct Faulty {
-    what: &'static str,
-    file: &'static [Stretch],
-    line: &'static str,
-}
 
 /// SECOND without its last byte.
 const SHORT: Frame = Frame {
@@ -34,264 +25,471 @@ const SHORT_AT_48_KHZ: Frame = Frame {
     ..G_AT_48_KHZ
 };
 
-static FAULTY: [Faulty; 30] = [
-    Faulty {
+static FAULTY: [Row; 30] = [
+    Row {
         what: "an empty file",
-        file: &[],
+        files: &[File {
+            name: "a",
+            bytes: &[],
+        }],
+        words: &["gain -s s -g 0 a o"],
+        status: 1,
         line: "a: no frame at 0\n",
+        ..ROW
     },
-    Faulty {
+    Row {
         what: "fewer bytes than a header has",
-        file: &[Stretch::Bytes(b"\xff\xfb\x90")],
+        files: &[File {
+            name: "a",
+            bytes: &[Stretch::Bytes(b"\xff\xfb\x90")],
+        }],
+        words: &["gain -s s -g 0 a o"],
+        status: 1,
         line: "a: no frame at 0\n",
+        ..ROW
     },
-    Faulty {
+    Row {
         what: "zero bytes alone",
-        file: &[Stretch::Fill(0, 3)],
+        files: &[File {
+            name: "a",
+            bytes: &[Stretch::Fill(0, 3)],
+        }],
+        words: &["gain -s s -g 0 a o"],
+        status: 1,
         line: "a: no frame at 3\n",
+        ..ROW
     },
-    Faulty {
+    Row {
         what: "a head alone",
-        file: &[Stretch::Frames(&[HEAD])],
+        files: &[File {
+            name: "a",
+            bytes: &[Stretch::Frames(&[HEAD])],
+        }],
+        words: &["gain -s s -g 0 a o"],
+        status: 1,
         line: "a: no frame at 417\n",
+        ..ROW
     },
-    Faulty {
+    Row {
         what: "the reserved version",
-        file: &[Stretch::Frames(&[RESERVED_VERSION, RESERVED_VERSION])],
+        files: &[File {
+            name: "a",
+            bytes: &[Stretch::Frames(&[RESERVED_VERSION, RESERVED_VERSION])],
+        }],
+        words: &["gain -s s -g 0 a o"],
+        status: 1,
         line: "a: no frame at 0\n",
+        ..ROW
     },
-    Faulty {
+    Row {
         what: "one byte of junk more than there may be",
-        file: &[Stretch::Fill(0x55, 65_537), Stretch::Frames(&[Z])],
+        files: &[File {
+            name: "a",
+            bytes: &[Stretch::Fill(0x55, 65_537), Stretch::Frames(&[Z])],
+        }],
+        words: &["gain -s s -g 0 a o"],
+        status: 1,
         line: "a: no frame at 0\n",
+        ..ROW
     },
-    Faulty {
+    Row {
         what: "bytes that are no item",
-        file: &[
-            Stretch::Frames(&[FIRST, SECOND]),
-            Stretch::Bytes(b"\x00\x41"),
-        ],
+        files: &[File {
+            name: "a",
+            bytes: &[
+                Stretch::Frames(&[FIRST, SECOND]),
+                Stretch::Bytes(b"\x00\x41"),
+            ],
+        }],
+        words: &["gain -s s -g 0 a o"],
+        status: 1,
         line: "a: lost synchronisation at 835\n",
+        ..ROW
     },
-    Faulty {
+    Row {
         what: "the beginning of a header",
-        file: &[Stretch::Frames(&[Z, Z]), Stretch::Bytes(b"\xff\xfb\x90")],
+        files: &[File {
+            name: "a",
+            bytes: &[Stretch::Frames(&[Z, Z]), Stretch::Bytes(b"\xff\xfb\x90")],
+        }],
+        words: &["gain -s s -g 0 a o"],
+        status: 1,
         line: "a: lost synchronisation at 834\n",
+        ..ROW
     },
-    Faulty {
+    Row {
         what: "layer II, later",
-        file: &[Stretch::Frames(&[Z, LAYER_2])],
+        files: &[File {
+            name: "a",
+            bytes: &[Stretch::Frames(&[Z, LAYER_2])],
+        }],
+        words: &["gain -s s -g 0 a o"],
+        status: 1,
         line: "a: lost synchronisation at 417\n",
+        ..ROW
     },
-    Faulty {
+    Row {
         what: "the forbidden rate, later",
-        file: &[Stretch::Frames(&[Z, FORBIDDEN_RATE])],
+        files: &[File {
+            name: "a",
+            bytes: &[Stretch::Frames(&[Z, FORBIDDEN_RATE])],
+        }],
+        words: &["gain -s s -g 0 a o"],
+        status: 1,
         line: "a: lost synchronisation at 417\n",
+        ..ROW
     },
-    Faulty {
+    Row {
         what: "the reserved frequency, later",
-        file: &[Stretch::Frames(&[Z, RESERVED_FREQUENCY])],
+        files: &[File {
+            name: "a",
+            bytes: &[Stretch::Frames(&[Z, RESERVED_FREQUENCY])],
+        }],
+        words: &["gain -s s -g 0 a o"],
+        status: 1,
         line: "a: lost synchronisation at 417\n",
+        ..ROW
     },
-    Faulty {
+    Row {
         what: "a frame without its last byte",
-        file: &[Stretch::Frames(&[FIRST, SHORT])],
+        files: &[File {
+            name: "a",
+            bytes: &[Stretch::Frames(&[FIRST, SHORT])],
+        }],
+        words: &["gain -s s -g 0 a o"],
+        status: 1,
         line: "a: truncated at 417\n",
+        ..ROW
     },
-    Faulty {
+    Row {
         what: "a header alone",
-        file: &[Stretch::Bytes(b"\xff\xfb\x90\x00")],
+        files: &[File {
+            name: "a",
+            bytes: &[Stretch::Bytes(b"\xff\xfb\x90\x00")],
+        }],
+        words: &["gain -s s -g 0 a o"],
+        status: 1,
         line: "a: truncated at 0\n",
+        ..ROW
     },
-    Faulty {
+    Row {
         what: "a frame of another class without its last byte",
-        file: &[Stretch::Frames(&[Z, SHORT_AT_48_KHZ])],
+        files: &[File {
+            name: "a",
+            bytes: &[Stretch::Frames(&[Z, SHORT_AT_48_KHZ])],
+        }],
+        words: &["gain -s s -g 0 a o"],
+        status: 1,
         line: "a: truncated at 417\n",
+        ..ROW
     },
-    Faulty {
+    Row {
         what: "a block at the front without its last byte",
-        file: &[Stretch::Fill(0, 2), ID3V2, Stretch::Fill(0x11, 29)],
+        files: &[File {
+            name: "a",
+            bytes: &[Stretch::Fill(0, 2), ID3V2, Stretch::Fill(0x11, 29)],
+        }],
+        words: &["gain -s s -g 0 a o"],
+        status: 1,
         line: "a: truncated at 2\n",
+        ..ROW
     },
-    Faulty {
+    Row {
         what: "a block behind a frame without its last byte",
-        file: &[Stretch::Frames(&[Z]), ID3V1, Stretch::Fill(0x20, 124)],
+        files: &[File {
+            name: "a",
+            bytes: &[Stretch::Frames(&[Z]), ID3V1, Stretch::Fill(0x20, 124)],
+        }],
+        words: &["gain -s s -g 0 a o"],
+        status: 1,
         line: "a: truncated at 417\n",
+        ..ROW
     },
-    Faulty {
+    Row {
         what: "free format",
-        file: &[Stretch::Frames(&[FREE, SECOND])],
+        files: &[File {
+            name: "a",
+            bytes: &[Stretch::Frames(&[FREE, SECOND])],
+        }],
+        words: &["gain -s s -g 0 a o"],
+        status: 1,
         line: "a: free format at 0\n",
+        ..ROW
     },
-    Faulty {
+    Row {
         what: "free format, later",
-        file: &[Stretch::Frames(&[Z, FREE])],
+        files: &[File {
+            name: "a",
+            bytes: &[Stretch::Frames(&[Z, FREE])],
+        }],
+        words: &["gain -s s -g 0 a o"],
+        status: 1,
         line: "a: free format at 417\n",
+        ..ROW
     },
-    Faulty {
+    Row {
         what: "MPEG-1, later",
-        file: &[Stretch::Frames(&[MPEG_2, Z])],
+        files: &[File {
+            name: "a",
+            bytes: &[Stretch::Frames(&[MPEG_2, Z])],
+        }],
+        words: &["gain -s s -g 0 a o"],
+        status: 1,
         line: "a: mixed class at 208\n",
+        ..ROW
     },
-    Faulty {
+    Row {
         what: "another frequency, later",
-        file: &[Stretch::Frames(&[Z, G_AT_48_KHZ])],
+        files: &[File {
+            name: "a",
+            bytes: &[Stretch::Frames(&[Z, G_AT_48_KHZ])],
+        }],
+        words: &["gain -s s -g 0 a o"],
+        status: 1,
         line: "a: mixed class at 417\n",
+        ..ROW
     },
-    Faulty {
+    Row {
         what: "one channel, later",
-        file: &[Stretch::Frames(&[G, MONO])],
+        files: &[File {
+            name: "a",
+            bytes: &[Stretch::Frames(&[G, MONO])],
+        }],
+        words: &["gain -s s -g 0 a o"],
+        status: 1,
         line: "a: mixed class at 417\n",
+        ..ROW
     },
-    Faulty {
+    Row {
         what: "main data before the stream, behind a frame that has some",
-        file: &[Stretch::Frames(&[FIRST, TOO_FAR])],
+        files: &[File {
+            name: "a",
+            bytes: &[Stretch::Frames(&[FIRST, TOO_FAR])],
+        }],
+        words: &["gain -s s -g 0 a o"],
+        status: 1,
         line: "a: back pointer at 417 is 382, present 381\n",
+        ..ROW
     },
-    Faulty {
+    Row {
         what: "the same of a silent frame",
-        file: &[Stretch::Frames(&[FIRST, SILENT_TOO_FAR])],
+        files: &[File {
+            name: "a",
+            bytes: &[Stretch::Frames(&[FIRST, SILENT_TOO_FAR])],
+        }],
+        words: &["gain -s s -g 0 a o"],
+        status: 1,
         line: "a: back pointer at 417 is 382, present 381\n",
+        ..ROW
     },
-    Faulty {
+    Row {
         what: "main data within those of the frame before",
-        file: &[Stretch::Frames(&[FIRST, OVERLAPPING])],
+        files: &[File {
+            name: "a",
+            bytes: &[Stretch::Frames(&[FIRST, OVERLAPPING])],
+        }],
+        words: &["gain -s s -g 0 a o"],
+        status: 1,
         line: "a: overlap at 417\n",
+        ..ROW
     },
-    Faulty {
+    Row {
         what: "the same of a silent frame",
-        file: &[Stretch::Frames(&[FIRST, SILENT_BACK_POINTER])],
+        files: &[File {
+            name: "a",
+            bytes: &[Stretch::Frames(&[FIRST, SILENT_BACK_POINTER])],
+        }],
+        words: &["gain -s s -g 0 a o"],
+        status: 1,
         line: "a: overlap at 417\n",
+        ..ROW
     },
-    Faulty {
+    Row {
         what: "the same, and past the area",
-        file: &[Stretch::Frames(&[FIRST, OVERLAPPING_AND_OVERFULL])],
+        files: &[File {
+            name: "a",
+            bytes: &[Stretch::Frames(&[FIRST, OVERLAPPING_AND_OVERFULL])],
+        }],
+        words: &["gain -s s -g 0 a o"],
+        status: 1,
         line: "a: overlap at 417\n",
+        ..ROW
     },
-    Faulty {
+    Row {
         what: "main data past the area",
-        file: &[Stretch::Frames(&[OVERFULL])],
+        files: &[File {
+            name: "a",
+            bytes: &[Stretch::Frames(&[OVERFULL])],
+        }],
+        words: &["gain -s s -g 0 a o"],
+        status: 1,
         line: "a: overrun at 0, bits 3049, room 3048\n",
+        ..ROW
     },
-    Faulty {
+    Row {
         what: "the same with a back pointer",
-        file: &[Stretch::Frames(&[Z, OVERFULL_BEHIND])],
+        files: &[File {
+            name: "a",
+            bytes: &[Stretch::Frames(&[Z, OVERFULL_BEHIND])],
+        }],
+        words: &["gain -s s -g 0 a o"],
+        status: 1,
         line: "a: overrun at 417, bits 3372, room 3368\n",
+        ..ROW
     },
-    Faulty {
+    Row {
         what: "a frame at fault before bytes that are no item",
-        file: &[Stretch::Frames(&[OVERFULL]), Stretch::Bytes(b"\x41")],
+        files: &[File {
+            name: "a",
+            bytes: &[Stretch::Frames(&[OVERFULL]), Stretch::Bytes(b"\x41")],
+        }],
+        words: &["gain -s s -g 0 a o"],
+        status: 1,
         line: "a: overrun at 0, bits 3049, room 3048\n",
+        ..ROW
     },
-    Faulty {
+    Row {
         what: "bytes that are no item before a frame at fault",
-        file: &[
-            Stretch::Frames(&[Z]),
-            Stretch::Bytes(b"\x41"),
-            Stretch::Frames(&[OVERFULL]),
-        ],
+        files: &[File {
+            name: "a",
+            bytes: &[
+                Stretch::Frames(&[Z]),
+                Stretch::Bytes(b"\x41"),
+                Stretch::Frames(&[OVERFULL]),
+            ],
+        }],
+        words: &["gain -s s -g 0 a o"],
+        status: 1,
         line: "a: lost synchronisation at 417\n",
+        ..ROW
     },
 ];
 
 #[test]
 fn files_at_fault(rt: HostRuntime) -> Result<(), Fail> {
-    for case in &FAULTY {
-        let mut folder = folder_of_file(rt.alloc(), "a", case.file)?;
-        expect(&rt, &mut folder, "gain -s s -g 0 a o", 1, case.line)?;
-        assert!(rt; folder.get("o").is_none(), "{}", case.what);
-        expect_file(&rt, &folder, "a", case.file, case.what)?;
-    }
+    assert_eq!(rt; first_difference(rt.alloc(), &FAULTY)?, None);
     Ok(())
 }
 
-/// Words that are refused before any call of the folder, where there is the input `a` alone.
-struct Refused {
-    words: &'static str,
-    status: u8,
-    line: &'static str,
-}
+/// A folder where every call is to fail.
+const CLOSED: Row = Row {
+    files: &[File {
+        name: "a",
+        bytes: &[Stretch::Frames(&[G])],
+    }],
+    outputs: &["b"],
+    fails: &[
+        Failing {
+            call: Call::Find,
+            number: 1,
+        },
+        Failing {
+            call: Call::Read,
+            number: 1,
+        },
+        Failing {
+            call: Call::Create,
+            number: 1,
+        },
+        Failing {
+            call: Call::Write,
+            number: 1,
+        },
+    ],
+    ..ROW
+};
 
-static REFUSED: [Refused; 9] = [
-    Refused {
-        words: "",
+/// Words that are refused before any call of the folder, where there is the input `a` alone.
+static REFUSED: [Row; 9] = [
+    Row {
+        words: &[""],
         status: 2,
         line: "bad word 1\n",
+        ..CLOSED
     },
-    Refused {
-        words: "loud",
+    Row {
+        words: &["loud"],
         status: 2,
         line: "bad word 1\n",
+        ..CLOSED
     },
-    Refused {
-        words: "gain",
+    Row {
+        words: &["gain"],
         status: 2,
         line: "bad word 2\n",
+        ..CLOSED
     },
-    Refused {
-        words: "gain -t -g 5 a b",
+    Row {
+        words: &["gain -t -g 5 a b"],
         status: 2,
         line: "bad word 2\n",
+        ..CLOSED
     },
-    Refused {
-        words: "gain -s s -g 300 a b",
+    Row {
+        words: &["gain -s s -g 300 a b"],
         status: 2,
         line: "bad word 5\n",
+        ..CLOSED
     },
-    Refused {
-        words: "gain -s s -g 3 -a b",
+    Row {
+        words: &["gain -s s -g 3 -a b"],
         status: 2,
         line: "bad word 6\n",
+        ..CLOSED
     },
-    Refused {
-        words: "gain -s s -g 3 a",
+    Row {
+        words: &["gain -s s -g 3 a"],
         status: 2,
         line: "bad word 7\n",
+        ..CLOSED
     },
-    Refused {
-        words: "gain -s s -g 3 a b c",
+    Row {
+        words: &["gain -s s -g 3 a b c"],
         status: 2,
         line: "bad word 8\n",
+        ..CLOSED
     },
-    Refused {
-        words: "gain -s s -g 5 a a",
+    Row {
+        words: &["gain -s s -g 5 a a"],
         status: 1,
         line: "a: input is an output\n",
+        ..CLOSED
     },
 ];
 
-// A folder where every call is to fail.
-fn closed_folder(alloc: Global, name: &str) -> Result<MemFolder, AllocError> {
-    let mut folder = folder_of_frames(alloc, name, &[G])?;
-    for call in [Call::Find, Call::Read, Call::Create, Call::Write] {
-        folder.fail(call, 1)?;
-    }
-    Ok(folder)
-}
-
 #[test]
 fn bad_words_and_equal_names_come_before_any_call(rt: HostRuntime) -> Result<(), Fail> {
-    for case in &REFUSED {
-        let mut folder = closed_folder(rt.alloc(), "a")?;
-        expect(&rt, &mut folder, case.words, case.status, case.line)?;
-        expect_frames(&rt, &folder, "a", &[G], case.words)?;
-        assert!(rt; folder.get("b").is_none(), "{}", case.words);
-    }
+    assert_eq!(rt; first_difference(rt.alloc(), &REFUSED)?, None);
     Ok(())
 }
 
+static ABSENT: [Row; 2] = [
+    Row {
+        files: &[File {
+            name: "g",
+            bytes: &[Stretch::Frames(&[G])],
+        }],
+        words: &["gain -s s -g 5 a o"],
+        status: 3,
+        line: "a: absent\n",
+        absent: &["a"],
+        ..ROW
+    },
+    Row {
+        files: &[File {
+            name: "g",
+            bytes: &[Stretch::Frames(&[G])],
+        }],
+        words: &["gain -s s -g 5 a a"],
+        status: 1,
+        line: "a: input is an output\n",
+        absent: &["a"],
+        ..ROW
+    },
+];
+
 #[test]
 fn an_absent_input(rt: HostRuntime) -> Result<(), Fail> {
-    let mut folder = folder_of_frames(rt.alloc(), "g", &[G])?;
-    expect(&rt, &mut folder, "gain -s s -g 5 a o", 3, "a: absent\n")?;
-    assert!(rt; folder.get("a").is_none());
-    assert!(rt; folder.get("o").is_none());
-    expect(
-        &rt,
-        &mut folder,
-        "gain -s s -g 5 a a",
-        1,
-        "a: input is an output\n",
-    )?;
+    assert_eq!(rt; first_difference(rt.alloc(), &ABSENT)?, None);
     Ok(())
 }

@@ -2,10 +2,10 @@
 
 use crate::expected::expect;
 use acceptance_kit::commands::{folder_of, list_to};
-use test_files::files::{ID3V1, ID3V1_REST, Stretch, bytes_of};
-use test_files::frames::{Frame, file_of};
 use std::alloc::{AllocError, Global};
 use std::test::Fail;
+use test_files::files::{ID3V1, ID3V1_REST, Stretch, bytes_of};
+use test_files::frames::{Frame, file_of};
 
 /// An ID3v2 block of 30,000 bytes, and a head of 417 with its text, flags, number of frames and number of
 /// bytes.
