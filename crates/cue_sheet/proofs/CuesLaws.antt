@@ -1,13 +1,12 @@
 -- The lines of a sheet one by one.
-use Rattle.std.proofs.Common.{◌≡◌, ℕ, ◌+◌, ◌≤◌, ◌<◌, ◌||◌, ◌==◌, Bool, true, false, cond, List, [], ◌∷◌, ◌++◌, length, drop, map, Option, Some, None, Ok, Err, refl, sym, ap, ap₂, inl, inr, subst, ◌∙◌, arith, length-append, length-drop, append_assoc, append-nil}
+use Rattle.std.proofs.Common.{◌≡◌, ℕ, ◌+◌, ◌<◌, ◌||◌, Bool, true, false, cond, List, [], ◌∷◌, ◌++◌, length, map, Option, Some, None, Ok, Err, refl, sym, ap, subst, ◌∙◌, arith, length-append, append_assoc, append-nil}
 use Rattle.std.specs.Prelude.{reverse, find}
 use Rattle.std.specs.Option.{option_or}
-use Rattle.std.specs.List.{All, list_any, last_or, slice_split, position_or_len, before_first}
-use Rattle.std.proofs.lemmas.Bool.{le-leb, lt-leb, cases_lt}
-use Rattle.std.proofs.lemmas.List.{reverse-append, map-append, drop_more, drop-drop, drop_all, length-take-le}
+use Rattle.std.specs.List.{All, list_any, last_or}
+use Rattle.std.proofs.lemmas.List.{reverse-append, map-append}
 use Rattle.std.proofs.lemmas.List.Elements.{All-map, All-from_get_or, filter_map-append}
 use Rattle.std.proofs.lemmas.List.Folds.{list_any-append}
-use Rattle.std.proofs.lemmas.List.Sums.{sum_by_push, prefix_len-le-length}
+use Rattle.std.proofs.lemmas.List.Sums.{sum_by_push}
 use Rattle.cue_sheet.specs.declared.entry.Entry.{Entry}
 use Rattle.cue_sheet.specs.declared.cue_fault.CueFault.{CueFault}
 use Rattle.cue_sheet.specs.declared.cue_fault.CueFault.TheVariants.{NoTracks}
@@ -16,7 +15,7 @@ use Rattle.cue_sheet.specs.declared.seen.Seen.{Seen}
 use Rattle.cue_sheet.specs.Cues.{is_file, is_track, is_start, start_time, is_start_there, times_of, IsSeen, fault_of, first_fault, IsRising, AreStarts, place_at, places_of, some_starts, unless, cue_in, entry_in, entries_from}
 use Rattle.cue_sheet.specs.Places.{IsPlace}
 use Rattle.cue_sheet.proofs.RisingLaws.{rises}
-use Rattle.cue_sheet.proofs.PartsLaws.{other_parts, parts_are}
+use Rattle.cue_sheet.proofs.LinesLaws.{no_lines}
 
 -- ---- what is seen with a line more
 
@@ -57,37 +56,6 @@ seen_with before entry e s t same is lines file tracks started last = subst (λ 
 pub no_more : (n : ℕ) → n ≡ n + 0
 no_more n = omega arith
 
--- ---- a line more
-
-abbrev is_end : ℕ → Bool
-is_end byte = byte == 10
-
--- the lines behind the first
-others_are : (text : List ℕ) (at n : ℕ) → at ≤ length text → n ≤ length (drop at text) → map entry_in (other_parts is_end (drop n (drop at text))) ≡ entries_from text (at + n + 1)
-others_are text at n within most =
-    elim (cases_lt n (length (drop at text))) [
-      | inl less ↦
-          let on : drop n (drop at text) ≡ _ = drop_more (drop at text) n 0 less in
-          let there = le-leb (at + n + 1) (length text) (omega (arith, less, length-drop at text)) in
-          ap (λ t. map entry_in (other_parts is_end t)) on
-          ∙ ap (λ t. map entry_in (slice_split is_end t)) (drop-drop (n + 1) at text ∙ ap (λ m. drop m text) (omega arith))
-          ∙ ap (λ b. cond b (map entry_in (slice_split is_end (drop (at + n + 1) text))) []) (sym there)
-      | inr end ↦
-          let none = lt-leb (at + n + 1) (length text) (omega (arith, end, length-drop at text)) in
-          ap (λ t. map entry_in (other_parts is_end t)) (drop_all n (drop at text) end)
-          ∙ ap (λ b. cond b (map entry_in (slice_split is_end (drop (at + n + 1) text))) []) (sym none)
-    ]
-
-pub line_is : (text line : List ℕ) (at : ℕ) → at ≤ length text → line ≡ before_first is_end (drop at text) → entries_from text at ≡ entry_in line ∷ entries_from text (at + length line + 1)
-line_is text line at within is =
-    let here = le-leb at (length text) within in
-    let n = position_or_len is_end (drop at text) in
-    let most : n ≤ length (drop at text) = prefix_len-le-length _ (drop at text) in
-    let size : length line ≡ n = ap length is ∙ length-take-le n (drop at text) most in
-    ap (λ b. cond b (map entry_in (slice_split is_end (drop at text))) []) here
-    ∙ ap (map entry_in) (parts_are is_end (drop at text))
-    ∙ ap₂ (λ l more. entry_in l ∷ more) (sym is) (others_are text at n within most ∙ ap (λ m. entries_from text (at + m + 1)) (sym size))
-
 -- ---- the lines that were read
 
 -- these lines were read, and no fault was met
@@ -125,7 +93,7 @@ goes_on text at next now then places e read line found behind = record {
 }
 
 none_left : (text : List ℕ) (at : ℕ) → length text < at → entries_from text at ≡ []
-none_left text at end = ap (λ b. cond b (map entry_in (slice_split is_end (drop at text))) []) (lt-leb at (length text) end)
+none_left text at end = ap (map entry_in) (no_lines text at end)
 
 no_fault : (before : List Entry) → first_fault before [] ≡ None
 unfolding first_fault

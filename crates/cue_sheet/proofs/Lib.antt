@@ -1,6 +1,7 @@
 -- The lemmas of this crate.
 pub mod NumbersLaws
 pub mod PartsLaws
+pub mod LinesLaws
 pub mod WordsLaws
 pub mod RisingLaws
 pub mod CuesLaws

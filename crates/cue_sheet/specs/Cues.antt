@@ -1,8 +1,7 @@
 -- Cue sheets: the first fault of their lines, and the starts of their tracks.
-use Rattle.std.specs.Prelude.{◌≡◌, ℕ, ◌+◌, ◌<◌, ◌==◌, not, ◌||◌, nat_le, nat_lt, if◌then◌else◌, Bool, true, false, List, [], ◌∷◌, ◌++◌, length, drop, map, reverse, find, Option, Some, None, Result, Ok, Err}
-use Rattle.std.specs.List.{All, AllPairs, list_any, count_by, filter_map, last_or, slice_split}
+use Rattle.std.specs.Prelude.{◌≡◌, ℕ, ◌+◌, ◌<◌, not, ◌||◌, nat_le, nat_lt, if◌then◌else◌, Bool, true, false, List, [], ◌∷◌, ◌++◌, length, map, reverse, find, Option, Some, None, Result, Ok, Err}
+use Rattle.std.specs.List.{All, AllPairs, list_any, count_by, filter_map, last_or}
 use Rattle.std.specs.Option.{option_or}
-use Rattle.std.specs.Str.Lines.{strip_carriage_return}
 use Rattle.cue_sheet.specs.declared.entry.Entry.{Entry}
 use Rattle.cue_sheet.specs.declared.entry.Entry.TheVariants.{Passed, File, Track, Index, Start, Broken}
 use Rattle.cue_sheet.specs.declared.cue_fault.CueFault.{CueFault}
@@ -11,7 +10,7 @@ use Rattle.cue_sheet.specs.declared.place.Place.{Place}
 use Rattle.cue_sheet.specs.declared.place.Place.TheVariants.{Time}
 use Rattle.cue_sheet.specs.declared.seen.Seen.{Seen}
 use Rattle.cue_sheet.specs.Places.{IsPlace}
-use Rattle.cue_sheet.specs.Lines.{words_of, lines_of}
+use Rattle.cue_sheet.specs.Lines.{words_of, lines_of, lines_from}
 use Rattle.cue_sheet.specs.Entries.{entry_of}
 
 -- ---- lines
@@ -49,9 +48,9 @@ is_start Index = false
 is_start (Start time) = true
 is_start Broken = false
 
--- what a line says, but for one carriage return at its end
+-- what a line says
 abbrev pub entry_in : List ℕ → Entry
-entry_in line = entry_of (words_of (strip_carriage_return line))
+entry_in line = entry_of (words_of line)
 
 abbrev pub entries_of : List ℕ → List Entry
 entries_of bytes = map entry_in (lines_of bytes)
@@ -152,4 +151,4 @@ pub record AreStarts (places : List Place) : Type 0 where
 
 -- the lines from a place on, where a line begins there; none behind the end
 abbrev pub entries_from : List ℕ → ℕ → List Entry
-entries_from text at = if nat_le at (length text) then map entry_in (slice_split (λ b. b == 10) (drop at text)) else []
+entries_from text at = map entry_in (lines_from text at)

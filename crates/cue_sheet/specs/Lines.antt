@@ -1,6 +1,7 @@
 -- The lines of a cue sheet, and the words of a line.
-use Rattle.std.specs.Prelude.{◌≡◌, ℕ, ◌==◌, ◌||◌, not, if◌then◌else◌, Bool, List, [], ◌∷◌, length, take, drop, filter, bytes_eq}
+use Rattle.std.specs.Prelude.{◌≡◌, ℕ, ◌==◌, nat_le, map, ◌||◌, not, if◌then◌else◌, Bool, List, [], ◌∷◌, length, take, drop, filter, bytes_eq}
 use Rattle.std.specs.List.{slice_split}
+use Rattle.std.specs.Str.Lines.{strip_carriage_return}
 
 -- a byte order mark at the front is passed over
 abbrev pub without_mark : List ℕ → List ℕ
@@ -18,6 +19,14 @@ words_of line = filter (λ word. not (length word == 0)) (slice_split is_blank l
 abbrev pub HasNotTwo : List (List ℕ) → Type 0
 HasNotTwo words = length words ≡ 2 → ⊥
 
--- Lines end with 0a or at the end of the sheet. Behind the last 0a stands a line without words.
+-- Lines end with 0a or at the end of the text, each but for one carriage return at its end. Behind the last 0a stands a line without words.
+abbrev pub lines_in : List ℕ → List (List ℕ)
+lines_in text = map strip_carriage_return (slice_split (λ b. b == 10) text)
+
+-- the lines of a sheet
 abbrev pub lines_of : List ℕ → List (List ℕ)
-lines_of bytes = slice_split (λ b. b == 10) (without_mark bytes)
+lines_of bytes = lines_in (without_mark bytes)
+
+-- the lines from a place on, where a line begins there; none behind the end
+abbrev pub lines_from : List ℕ → ℕ → List (List ℕ)
+lines_from text at = if nat_le at (length text) then lines_in (drop at text) else []

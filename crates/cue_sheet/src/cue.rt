@@ -7,28 +7,28 @@ use crate::cue_fault::CueFault;
 use crate::entry::{Entry, read_entry};
 use crate::place::Place;
 use crate::seen::Seen;
-use crate::words::{front_of, without_mark, without_return};
+use crate::words::{line_at, without_mark};
 use std::alloc::Global;
 use std::marker::Model;
 
-/// A line, and where the next one begins.
+/// What a line says, and where the next one begins.
 #[derive(Clone, Copy)]
-struct LineAt {
+struct EntryAt {
     entry: Entry,
     next: usize,
 }
 
 /// The line that begins there.
-fn line_at(text: &[u8], at: usize) -> LineAt
+fn entry_at(text: &[u8], at: usize) -> EntryAt
     requires { at ≤ length text.now }
     ensures line { entries_from text.now at ≡ result.entry ∷ entries_from text.now result.next }
     ensures on { at < result.next }
     ensures within { result.next ≤ length text.now + 1 }
 {
-    let line = front_of(&text[at..], b'\n');
-    LineAt {
-        entry: read_entry(without_return(line)),
-        next: at + line.len() + 1,
+    let line = line_at(text, at);
+    EntryAt {
+        entry: read_entry(line.line),
+        next: line.next,
     }
 }
 
@@ -58,7 +58,7 @@ fn read_lines(alloc: Global, text: &[u8]) -> Result<Vec<Place>, CueFault>
     let mut seen = Seen::new();
     let mut at = 0;
     while at <= text.len() {
-        let line = line_at(text, at);
+        let line = entry_at(text, at);
         if let Some(fault) = seen.fault(line.entry) {
             return Err(fault);
         }

@@ -5,7 +5,7 @@ ghost use Rattle.cue_sheet.specs.Digits.{number_in};
 
 /// The number that these digits spell. `None` exactly where they are fewer than `least` or more than `most`, not all
 /// of them are digits, or the number is above `greatest`.
-pub(crate) fn read_number(digits: &[u8], least: usize, most: usize, greatest: u32) -> Option<u32>
+pub fn read_number(digits: &[u8], least: usize, most: usize, greatest: u32) -> Option<u32>
     requires { most ≤ 7 }
     ensures number { result ≡ number_in least most greatest digits.now }
     ensures most { IfSome result (λ number. number ≤ greatest) }

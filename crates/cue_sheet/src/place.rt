@@ -1,5 +1,5 @@
 //! Places in a stream.
-ghost use Rattle.std.specs.Prelude.{◌≡◌, ◌≤◌, IfSome};
+ghost use Rattle.std.specs.Prelude.{◌≡◌, ◌<◌, ◌≤◌, ◌^◌, IfSome};
 ghost use Rattle.cue_sheet.specs.declared.place.Place.TheVariants.{End};
 ghost use Rattle.cue_sheet.specs.Places.{place_of as place_of_lem, time_of, hundredths_of, frame_at, IsPlace};
 
@@ -60,10 +60,17 @@ impl Place {
         ensures place { result ≡ place_of_lem word.now }
         ensures sound { IfSome result IsPlace }
     {
-        if word == "EOF" {
+        Place::of_word(word.as_bytes())
+    }
+
+    /// The same of a word of a sheet, whose bytes need be no text.
+    pub fn of_word(word: &[u8]) -> Option<Place>
+        ensures place { result ≡ place_of_lem word.now }
+        ensures sound { IfSome result IsPlace }
+    {
+        if word == b"EOF".as_slice() {
             return Some(Place::End);
         }
-        let word = word.as_bytes();
         let end = place_of(word, b'.');
         if end == word.len() {
             return read_number(word, 1, 7, 9_999_999).map(Place::Frame);
@@ -76,7 +83,8 @@ impl Place {
     /// above the number of frames.
     pub fn frame_of(&self, class: Class, frames: u32) -> u64
         requires { IsPlace self.now }
-        ensures { result ≡ frame_at class frames self.now }
+        ensures frame { result ≡ frame_at class frames self.now }
+        ensures most { result < 2 ^ 48 }
     {
         match *self {
             Place::Frame(number) => u64::from(number),

@@ -1,13 +1,34 @@
 //! The lines of a sheet, and the words of a line.
-ghost use Rattle.std.specs.Prelude.{◌≡◌, ◌≤◌, ◌==◌, [], ◌∷◌, length, MatchOption};
+ghost use Rattle.std.specs.Prelude.{◌≡◌, ◌+◌, ◌<◌, ◌≤◌, ◌==◌, [], ◌∷◌, length, MatchOption};
 ghost use Rattle.std.specs.List.{prefix_len, position_or_len, before_first, after_first};
 ghost use Rattle.std.specs.Str.Lines.{strip_carriage_return};
-ghost use Rattle.cue_sheet.specs.Lines.{is_blank as is_blank_lem, words_of, HasNotTwo, without_mark as without_mark_lem};
+ghost use Rattle.cue_sheet.specs.Lines.{is_blank as is_blank_lem, words_of, lines_from, HasNotTwo, without_mark as without_mark_lem};
 
 use crate::digits::place_of;
 
+/// A line, without one carriage return at its end, and where the next one begins.
+#[derive(Clone, Copy)]
+pub struct LineAt<'a> {
+    pub line: &'a [u8],
+    pub next: usize,
+}
+
+/// The line that begins there. Lines end with a line feed or at the end of the text.
+pub fn line_at(text: &[u8], at: usize) -> LineAt<'_>
+    requires { at ≤ length text.now }
+    ensures line { lines_from text.now at ≡ result.line.now ∷ lines_from text.now result.next }
+    ensures on { at < result.next }
+    ensures within { result.next ≤ length text.now + 1 }
+{
+    let line = front_of(&text[at..], b'\n');
+    LineAt {
+        line: without_return(line),
+        next: at + line.len() + 1,
+    }
+}
+
 /// The bytes without a byte order mark at their front.
-pub(crate) fn without_mark(bytes: &[u8]) -> &[u8]
+pub fn without_mark(bytes: &[u8]) -> &[u8]
     ensures { result.now ≡ without_mark_lem bytes.now }
 {
     match bytes {
@@ -35,7 +56,7 @@ pub(crate) fn behind(text: &[u8], byte: u8) -> &[u8]
 }
 
 /// The line without one carriage return at its end.
-pub(crate) fn without_return(line: &[u8]) -> &[u8]
+fn without_return(line: &[u8]) -> &[u8]
     ensures { result.now ≡ strip_carriage_return line.now }
 {
     match line {
@@ -76,13 +97,13 @@ fn word_length(text: &[u8]) -> usize
 
 /// A word and what stands behind it.
 #[derive(Clone, Copy)]
-pub(crate) struct Word<'a> {
-    pub(crate) word: &'a [u8],
-    pub(crate) rest: &'a [u8],
+pub struct Word<'a> {
+    pub word: &'a [u8],
+    pub rest: &'a [u8],
 }
 
 /// The first word of a line. `None` exactly where there is none.
-pub(crate) fn next_word(line: &[u8]) -> Option<Word<'_>>
+pub fn next_word(line: &[u8]) -> Option<Word<'_>>
     ensures { MatchOption result
         (words_of line.now ≡ [])
         (λ word. words_of line.now ≡ word.word.now ∷ words_of word.rest.now) }
@@ -100,13 +121,13 @@ pub(crate) fn next_word(line: &[u8]) -> Option<Word<'_>>
 
 /// Two words.
 #[derive(Clone, Copy)]
-pub(crate) struct Pair<'a> {
-    pub(crate) first: &'a [u8],
-    pub(crate) second: &'a [u8],
+pub struct Pair<'a> {
+    pub first: &'a [u8],
+    pub second: &'a [u8],
 }
 
 /// The two words of a line. `None` exactly where it has fewer or more.
-pub(crate) fn read_pair(line: &[u8]) -> Option<Pair<'_>>
+pub fn read_pair(line: &[u8]) -> Option<Pair<'_>>
     ensures { MatchOption result
         (HasNotTwo (words_of line.now))
         (λ pair. words_of line.now ≡ pair.first.now ∷ pair.second.now ∷ []) }

@@ -14,7 +14,7 @@ use Rattle.splitting.proofs.piece.make_pieces.Goals as goal
 pub loop-place-preserved : goal.loop-place-preserved
 loop-place-preserved c =
     let at = c.loop-place in
-    let to = c.frame_of-to.ensures in
+    let to = c.frame_of-to.ensures.frame in
     let made = c.in_ok-piece.ensures.chosen in
     let items = c.in_ok-push.ensures.items in
     let class = c.class-class.result in
