@@ -1,0 +1,193 @@
+-- The last point up to a frame and the first one behind it, among points that are parted there.
+use Rattle.std.proofs.Common.{◌≡◌, ℕ, suc, ◌+◌, ◌-◌, ◌<◌, ◌≤◌, Bool, true, false, cond, nat_le, nat_lt, List, [], ◌∷◌, ◌++◌, length, get_or, take, drop, map, Some, None, option_map, refl, sym, ap, ap₂, subst, ◌∙◌, arith, length-drop, length-append}
+use Rattle.std.specs.Prelude.{reverse, find}
+use Rattle.std.specs.List.{All, slice_get}
+use Rattle.std.specs.Option.{option_or}
+use Rattle.std.proofs.lemmas.Bool.{leb-true, leb-false, lt-ltb, le-ltb}
+use Rattle.std.proofs.lemmas.List.{reverse-append, length-reverse, get_or-reverse, map-append, get_or-take, get_or-drop, take-append-drop, length-take-le, get_or_default, get_or-append_right}
+use Rattle.std.proofs.Math.ListN.{get_or-append}
+use Rattle.std.proofs.lemmas.Option.{none-some, get_or_from_slice_get}
+use Rattle.std.proofs.lemmas.List.Folds.{find-append}
+use Rattle.fade_plan.specs.declared.point.Point.{Point}
+use Rattle.fade_plan.specs.Curves.{last_up_to, first_behind, steps_by, steps_at}
+use Rattle.fade_plan.specs.Points.{IsKept, in_curve}
+
+-- ---- finding in mapped lists
+
+pub find_mapped : {X Y : Type 0} (p : Y → Bool) (f : X → Y) (xs : List X) → find p (map f xs) ≡ option_map f (find (λ x. p (f x)) xs)
+find_mapped p f [] = refl
+find_mapped p f (x ∷ xs) =
+    elim (p (f x)) as (λ b. cond b (Some (f x)) (find p (map f xs)) ≡ option_map f (cond b (Some x) (find (λ x. p (f x)) xs))) [
+      | true ↦ refl
+      | false ↦ find_mapped p f xs
+    ]
+
+pub reverse_mapped : {X Y : Type 0} (f : X → Y) (xs : List X) → reverse (map f xs) ≡ map f (reverse xs)
+reverse_mapped f [] = refl
+reverse_mapped f (x ∷ xs) =
+    reverse-append (f x ∷ []) (map f xs) ∙ ap (λ t. t ++ (f x ∷ [])) (reverse_mapped f xs)
+    ∙ sym (map-append f (reverse xs) (x ∷ [])) ∙ ap (map f) (sym (reverse-append (x ∷ []) xs))
+
+-- ---- finding in parted lists
+
+none_passes : {X : Type 0} (p : X → Bool) (xs : List X) → All (λ x. p x ≡ false) xs → find p xs ≡ None
+none_passes p [] fails = refl
+none_passes p (x ∷ xs) fails =
+    ap (λ b. cond b (Some x) (find p xs)) (fails 0 x (omega arith)) ∙ none_passes p xs (λ k d less. fails (suc k) d (omega (arith, less)))
+
+first_passes : {X : Type 0} (p : X → Bool) (xs : List X) (d : X) → 0 < length xs → p (get_or xs 0 d) ≡ true → find p xs ≡ Some (get_or xs 0 d)
+first_passes p [] d some is = absurd (omega (arith, some))
+first_passes p (x ∷ xs) d some is = ap (λ b. cond b (Some x) (find p xs)) is
+
+none_passes_back : {X : Type 0} (p : X → Bool) (xs : List X) → All (λ x. p x ≡ false) xs → find p (reverse xs) ≡ None
+none_passes_back {X} p xs fails =
+    none_passes p (reverse xs) (λ k d less.
+    let within : k < length xs = omega (arith, less, length-reverse xs) in
+    ap p (get_or-reverse xs k d within) ∙ fails (length xs - 1 - k) d (omega (arith, within)))
+
+last_passes : {X : Type 0} (p : X → Bool) (xs : List X) (d : X) → 0 < length xs → All (λ x. p x ≡ true) xs → find p (reverse xs) ≡ Some (get_or xs (length xs - 1) d)
+last_passes {X} p xs d some all =
+    let back : get_or (reverse xs) 0 d ≡ get_or xs (length xs - 1) d = get_or-reverse xs 0 d some ∙ ap (λ n. get_or xs n d) (omega arith) in
+    first_passes p (reverse xs) d (omega (arith, some, length-reverse xs)) (ap p back ∙ all (length xs - 1) d (omega (arith, some))) ∙ ap Some back
+
+-- ---- the points around a frame
+
+abbrev up_to : ℕ → Point → Bool
+up_to frame point = nat_le point.frame frame
+
+abbrev behind : ℕ → Point → Bool
+behind frame point = nat_lt frame point.frame
+
+not_behind : (frame : ℕ) (xs : List Point) → All (λ p. up_to frame p ≡ true) xs → All (λ p. behind frame p ≡ false) xs
+not_behind frame xs all = λ k d less. le-ltb frame _ (leb-true _ _ (all k d less))
+
+is_behind : (frame : ℕ) (xs : List Point) → All (λ p. up_to frame p ≡ false) xs → All (λ p. behind frame p ≡ true) xs
+is_behind frame xs none = λ k d less. lt-ltb frame _ (leb-false _ _ (none k d less))
+
+last_of : (frame : ℕ) (xs ys : List Point) → All (λ p. up_to frame p ≡ false) ys → last_up_to (map in_curve (xs ++ ys)) frame ≡ option_map in_curve (find (up_to frame) (reverse xs))
+last_of frame xs ys none =
+    ap (find (λ p. nat_le p.frame frame)) (reverse_mapped in_curve (xs ++ ys)) ∙ find_mapped (λ p. nat_le p.frame frame) in_curve (reverse (xs ++ ys))
+    ∙ ap (option_map in_curve)
+    (ap (find (up_to frame)) (reverse-append xs ys) ∙ find-append (up_to frame) (reverse ys) (reverse xs) ∙ ap (λ o. option_or o (find (up_to frame) (reverse xs))) (none_passes_back (up_to frame) ys none))
+
+first_of : (frame : ℕ) (xs ys : List Point) → All (λ p. up_to frame p ≡ true) xs → first_behind (map in_curve (xs ++ ys)) frame ≡ option_map in_curve (find (behind frame) ys)
+first_of frame xs ys all =
+    find_mapped (λ p. nat_lt frame p.frame) in_curve (xs ++ ys)
+    ∙ ap (option_map in_curve) (find-append (behind frame) xs ys ∙ ap (λ o. option_or o (find (behind frame) ys)) (none_passes (behind frame) xs (not_behind frame xs all)))
+
+-- the points up to a frame, and those behind it
+pub record AreParted (frame : ℕ) (points xs ys : List Point) : Type 0 where
+  pub whole : points ≡ xs ++ ys
+  pub front : All (λ p. up_to frame p ≡ true) xs
+  pub back : All (λ p. up_to frame p ≡ false) ys
+
+steps_of : (frame : ℕ) (points xs ys : List Point) → AreParted frame points xs ys → steps_at (map in_curve points) frame ≡ steps_by (option_map in_curve (find (up_to frame) (reverse xs))) (option_map in_curve (find (behind frame) ys)) frame
+unfolding steps_at
+steps_of frame points xs ys parted =
+    ap (λ ps. steps_by (last_up_to (map in_curve ps) frame) (first_behind (map in_curve ps) frame) frame) parted.whole
+    ∙ ap₂ (λ p q. steps_by p q frame) (last_of frame xs ys parted.back) (first_of frame xs ys parted.front)
+
+abbrev last_there : List Point → Point → Type 0
+last_there xs p = (0 < length xs) × ((d : Point) → p ≡ get_or xs (length xs - 1) d)
+
+abbrev first_there : List Point → Point → Type 0
+first_there ys q = (0 < length ys) × ((d : Point) → q ≡ get_or ys 0 d)
+
+last_is : (frame : ℕ) (points xs ys : List Point) (p : Point) → AreParted frame points xs ys → last_there xs p → find (up_to frame) (reverse xs) ≡ Some p
+last_is frame points xs ys p parted there = last_passes (up_to frame) xs p there.0 parted.front ∙ ap Some (sym (there.1 p))
+
+first_is : (frame : ℕ) (points xs ys : List Point) (q : Point) → AreParted frame points xs ys → first_there ys q → find (behind frame) ys ≡ Some q
+first_is frame points xs ys q parted there =
+    first_passes (behind frame) ys q there.0 (is_behind frame ys parted.back 0 q there.0) ∙ ap Some (sym (there.1 q))
+
+empty_find : (p : Point → Bool) (xs : List Point) → length xs ≡ 0 → find p xs ≡ None
+empty_find p [] none = refl
+empty_find p (x ∷ xs) none = absurd (omega (arith, none))
+
+no_last : (p : Point → Bool) (xs : List Point) → length xs ≡ 0 → find p (reverse xs) ≡ None
+no_last p xs none = empty_find p (reverse xs) (length-reverse xs ∙ none)
+
+pub steps_of_two : (frame : ℕ) (points xs ys : List Point) (p q : Point) → AreParted frame points xs ys → last_there xs p → first_there ys q → steps_at (map in_curve points) frame ≡ steps_by (Some (in_curve p)) (Some (in_curve q)) frame
+steps_of_two frame points xs ys p q parted last first =
+    steps_of frame points xs ys parted
+    ∙ ap₂ (λ a b. steps_by (option_map in_curve a) (option_map in_curve b) frame) (last_is frame points xs ys p parted last) (first_is frame points xs ys q parted first)
+
+pub steps_of_last : (frame : ℕ) (points xs ys : List Point) (p : Point) → AreParted frame points xs ys → last_there xs p → length ys ≡ 0 → steps_at (map in_curve points) frame ≡ p.steps
+steps_of_last frame points xs ys p parted last none =
+    steps_of frame points xs ys parted
+    ∙ ap₂ (λ a b. steps_by (option_map in_curve a) (option_map in_curve b) frame) (last_is frame points xs ys p parted last) (empty_find (behind frame) ys none)
+
+pub steps_of_first : (frame : ℕ) (points xs ys : List Point) (q : Point) → AreParted frame points xs ys → length xs ≡ 0 → first_there ys q → steps_at (map in_curve points) frame ≡ q.steps
+steps_of_first frame points xs ys q parted none first =
+    steps_of frame points xs ys parted
+    ∙ ap₂ (λ a b. steps_by (option_map in_curve a) (option_map in_curve b) frame) (no_last (up_to frame) xs none) (first_is frame points xs ys q parted first)
+
+pub steps_of_none : (frame : ℕ) (points xs ys : List Point) → AreParted frame points xs ys → length xs ≡ 0 → length ys ≡ 0 → steps_at (map in_curve points) frame ≡ steps_by None None frame
+steps_of_none frame points xs ys parted none other =
+    steps_of frame points xs ys parted
+    ∙ ap₂ (λ a b. steps_by (option_map in_curve a) (option_map in_curve b) frame) (no_last (up_to frame) xs none) (empty_find (behind frame) ys other)
+
+-- the two parts at the place where they part
+pub parted_at : (frame : ℕ) (points : List Point) (k : ℕ) → k ≤ length points
+    → ((j : ℕ) (d : Point) → 0 ≤ j → j < k → nat_le (get_or points j d).frame frame ≡ true)
+    → ((j : ℕ) (d : Point) → k ≤ j → j < length points → nat_le (get_or points j d).frame frame ≡ false)
+    → AreParted frame points (take k points) (drop k points)
+parted_at frame points k within front back = record {
+  whole = sym (take-append-drop k points);
+  front = λ j d less.
+      let small : j < k = omega (arith, less, length-take-le k points within) in
+      ap (up_to frame) (get_or-take k points j d small) ∙ front j d (omega arith) small;
+  back = λ j d less.
+      ap (up_to frame) (get_or-drop k points j d) ∙ back (k + j) d (omega arith) (omega (arith, less, length-drop k points, within));
+}
+
+pub parted_as : (frame : ℕ) (points : List Point) (k : ℕ) (xs ys : List Point) → k ≤ length points
+    → ((j : ℕ) (d : Point) → 0 ≤ j → j < k → nat_le (get_or points j d).frame frame ≡ true)
+    → ((j : ℕ) (d : Point) → k ≤ j → j < length points → nat_le (get_or points j d).frame frame ≡ false)
+    → xs ≡ take k points → ys ≡ drop k points → AreParted frame points xs ys
+parted_as frame points k xs ys within front back first second =
+    subst (λ t. AreParted frame points t ys) (sym first) (subst (λ t. AreParted frame points (take k points) t) (sym second) (parted_at frame points k within front back))
+
+-- ---- what `last` and `first` give
+
+pub last_some : (xs : List Point) (p : Point) → Some p ≡ slice_get xs (length xs - 1) → last_there xs p
+last_some [] p is = absurd (none-some _ (sym is))
+last_some (x ∷ xs) p is = (omega arith, λ d. sym (get_or_from_slice_get (x ∷ xs) (length (x ∷ xs) - 1) p d (sym is)))
+
+pub first_some : (ys : List Point) (q : Point) → Some q ≡ slice_get ys 0 → first_there ys q
+first_some [] q is = absurd (none-some _ (sym is))
+first_some (y ∷ ys) q is = (omega arith, λ d. sym (get_or_from_slice_get (y ∷ ys) 0 q d (sym is)))
+
+pub first_none : (ys : List Point) → None ≡ slice_get ys 0 → length ys ≡ 0
+first_none [] is = refl
+first_none (y ∷ ys) is = absurd (none-some _ is)
+
+some_at : (xs : List Point) (x : Point) → slice_get (x ∷ xs) (length xs) ≡ Some (get_or (x ∷ xs) (length xs) x)
+some_at [] x = refl
+some_at (y ∷ ys) x = some_at ys y ∙ ap Some (get_or_default (y ∷ ys) (length ys) y x (omega arith))
+
+pub last_none : (xs : List Point) → None ≡ slice_get xs (length xs - 1) → length xs ≡ 0
+last_none [] is = refl
+last_none (x ∷ xs) is = absurd (none-some _ (is ∙ ap (slice_get (x ∷ xs)) (omega arith) ∙ some_at xs x))
+
+-- the points that `steps_of_both` is called with
+pub last_kept : (frame : ℕ) (points xs ys : List Point) (p : Point) → AreParted frame points xs ys → All IsKept points → last_there xs p → IsKept p × (p.frame ≤ frame)
+last_kept frame points xs ys p parted all there =
+    let last = there.1 p in
+    let size : length points ≡ length xs + length ys = ap length parted.whole ∙ length-append xs ys in
+    let within : length xs - 1 < length xs = omega (arith, there.0) in
+    let same : get_or points (length xs - 1) p ≡ p = ap (λ t. get_or t (length xs - 1) p) parted.whole ∙ get_or-append xs ys p (length xs - 1) within ∙ sym last in (
+      subst IsKept same (all (length xs - 1) p (omega (arith, within, size))),
+      leb-true p.frame frame (ap (up_to frame) last ∙ parted.front (length xs - 1) p within),
+    )
+
+pub first_kept : (frame : ℕ) (points xs ys : List Point) (q : Point) → AreParted frame points xs ys → All IsKept points → first_there ys q → IsKept q × (frame < q.frame)
+first_kept frame points xs ys q parted all there =
+    let first = there.1 q in
+    let size : length points ≡ length xs + length ys = ap length parted.whole ∙ length-append xs ys in
+    let same : get_or points (length xs) q ≡ q =
+    ap (λ t. get_or t (length xs) q) parted.whole ∙ get_or-append_right xs ys (length xs) (length xs) q refl (omega arith)
+    ∙ ap (λ n. get_or ys n q) (omega arith) ∙ sym first in (
+      subst IsKept same (all (length xs) q (omega (arith, there.0, size))),
+      leb-false q.frame frame (ap (up_to frame) first ∙ parted.back 0 q there.0),
+    )

@@ -1,0 +1,6 @@
+-- The lemmas of this crate.
+pub mod LowLaws
+pub mod SheetLaws
+pub mod CurveLaws
+pub mod StepsLaws
+pub mod OppositeLaws

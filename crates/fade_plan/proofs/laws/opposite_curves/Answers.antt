@@ -1,0 +1,6 @@
+-- Each frame has the opposite steps.
+use Rattle.fade_plan.proofs.OppositeLaws.{opposite-curves}
+use Rattle.fade_plan.proofs.laws.opposite_curves.Goals as goal
+
+pub returns : goal.returns
+returns c = opposite-curves

@@ -1,0 +1,28 @@
+-- The points of an envelope and of its curve, as they are kept together.
+use Rattle.std.specs.Prelude.{ℕ, ◌<◌, ◌^◌, nat_lt, if◌then◌else◌, List, [], ◌∷◌, Option, Some, None}
+use Rattle.frame_header.specs.Fields.{ClassFields}
+use Rattle.cue_sheet.specs.Places.{frame_at}
+use Rattle.fade_plan.specs.declared.point.Point.{Point}
+use Rattle.fade_plan.specs.Sheets.{EnvelopePoint, IsPoint}
+use Rattle.fade_plan.specs.Curves.{CurvePoint}
+
+-- what an envelope and a curve show of a point
+abbrev pub in_envelope : Point → EnvelopePoint
+in_envelope point = record { line = point.line; place = point.place; steps = point.steps }
+
+abbrev pub in_curve : Point → CurvePoint
+in_curve point = record { frame = point.frame; steps = point.steps }
+
+-- every point that is kept, whether its frame is known or still 0
+pub record IsKept (point : Point) : Type 0 where
+  pub sound : IsPoint point.place point.steps
+  pub frame : point.frame < 2 ^ 48
+
+abbrev pub placed : ClassFields → ℕ → Point → Point
+placed class frames point = record point { frame = frame_at class frames point.place }
+
+-- the line of the first point whose frame isn't greater than that of the point before
+unfoldable pub first_low : List Point → Option ℕ
+first_low [] = None
+first_low (point ∷ []) = None
+first_low (point ∷ next ∷ more) = if nat_lt point.frame next.frame then first_low (next ∷ more) else Some next.line

@@ -1,0 +1,120 @@
+-- Sheets of a fade: what a line says, the first line at fault, and the points. Lines and words are cut as those of a cue sheet.
+use Rattle.std.specs.Prelude.{ℕ, ◌+◌, ◌≤◌, ◌==◌, nat_le, if◌then◌else◌, Bool, true, false, List, [], ◌∷◌, ◌++◌, length, map, count_by, Option, Some, None, option_map, Result, Ok, Err, ℤ, pos, neg_ℤ, unsigned_abs}
+use Rattle.cue_sheet.specs.declared.place.Place.{Place}
+use Rattle.cue_sheet.specs.Digits.{number_in}
+use Rattle.cue_sheet.specs.Lines.{words_of, lines_of, lines_from}
+use Rattle.cue_sheet.specs.Places.{place_of, IsPlace}
+use Rattle.fade_plan.specs.declared.entry.Entry.{Entry}
+use Rattle.fade_plan.specs.declared.entry.Entry.TheVariants.{Passed, At, Broken}
+use Rattle.fade_plan.specs.declared.envelope_fault.EnvelopeFault.{EnvelopeFault}
+use Rattle.fade_plan.specs.declared.envelope_fault.EnvelopeFault.TheVariants.{Line, NoPoints}
+
+-- a point of gain: the line in which it stands, counted from 1, its place, and its steps
+pub record EnvelopePoint : Type 0 where
+  pub line : ℕ
+  pub place : Place
+  pub steps : ℤ
+
+-- ---- lines
+
+-- one to three digits of a number up to 255
+abbrev pub size_in : List ℕ → Option ℤ
+size_in digits = option_map pos (number_in 1 3 255 digits)
+
+-- such digits behind `+` or `-` or alone
+abbrev pub steps_in : List ℕ → Option ℤ
+steps_in [] = None
+steps_in (first ∷ rest) =
+    if first == 43 then size_in rest
+    else if first == 45 then option_map neg_ℤ (size_in rest)
+    else size_in (first ∷ rest)
+
+-- a word that begins with `#`
+abbrev pub is_comment : List ℕ → Bool
+is_comment [] = false
+is_comment (first ∷ rest) = first == 35
+
+abbrev pub point_with : Option Place → Option ℤ → Entry
+point_with None steps = Broken
+point_with (Some place) None = Broken
+point_with (Some place) (Some steps) = At place steps
+
+-- exactly two words, a place and steps
+abbrev pub point_of : List (List ℕ) → Entry
+point_of [] = Broken
+point_of (place ∷ []) = Broken
+point_of (place ∷ steps ∷ []) = point_with (place_of place) (steps_in steps)
+point_of (place ∷ steps ∷ third ∷ more) = Broken
+
+-- what a line says by its words: a comment and a line without words are passed, every other is a point
+unfoldable pub entry_of : List (List ℕ) → Entry
+entry_of [] = Passed
+entry_of (first ∷ rest) = if is_comment first then Passed else point_of (first ∷ rest)
+
+abbrev pub entry_in : List ℕ → Entry
+entry_in line = entry_of (words_of line)
+
+abbrev pub entries_of : List ℕ → List Entry
+entries_of bytes = map entry_in (lines_of bytes)
+
+-- the lines from a place on
+abbrev pub entries_from : List ℕ → ℕ → List Entry
+entries_from text at = map entry_in (lines_from text at)
+
+-- ---- faults
+
+abbrev pub is_point : Entry → Bool
+is_point Passed = false
+is_point (At place steps) = true
+is_point Broken = false
+
+-- behind so many points a line is at fault where it is none, or one too many: a sheet has at most 1,000
+abbrev pub is_at_fault : ℕ → Entry → Bool
+is_at_fault points Passed = false
+is_at_fault points (At place steps) = nat_le 1000 points
+is_at_fault points Broken = true
+
+-- the number of the first line at fault, of lines behind others; lines are counted from 1
+unfoldable pub first_fault : List Entry → List Entry → Option ℕ
+first_fault before [] = None
+first_fault before (entry ∷ more) =
+    if is_at_fault (count_by is_point before) entry then Some (length before + 1)
+    else first_fault (before ++ (entry ∷ [])) more
+
+-- ---- the envelope
+
+-- the point of a line with this number
+abbrev pub point_at : ℕ → Entry → List EnvelopePoint
+point_at line Passed = []
+point_at line (At place steps) = record { line = line; place = place; steps = steps } ∷ []
+point_at line Broken = []
+
+-- the points of lines of which the first has this number
+unfoldable pub points_from : ℕ → List Entry → List EnvelopePoint
+points_from line [] = []
+points_from line (entry ∷ more) = point_at line entry ++ points_from (line + 1) more
+
+abbrev pub some_points : List EnvelopePoint → Result (List EnvelopePoint) EnvelopeFault
+some_points [] = Err NoPoints
+some_points (point ∷ more) = Ok (point ∷ more)
+
+abbrev pub unless : Option ℕ → Result (List EnvelopePoint) EnvelopeFault → Result (List EnvelopePoint) EnvelopeFault
+unless None answer = answer
+unless (Some line) answer = Err (Line line)
+
+abbrev pub envelope_in : List Entry → Result (List EnvelopePoint) EnvelopeFault
+envelope_in entries = unless (first_fault [] entries) (some_points (points_from 1 entries))
+
+-- the points of a sheet, or its fault
+unfoldable pub envelope_of : List ℕ → Result (List EnvelopePoint) EnvelopeFault
+envelope_of bytes = envelope_in (entries_of bytes)
+
+-- a place of a word, and steps from -255 to 255
+abbrev pub IsPoint : Place → ℤ → Type 0
+IsPoint place steps = IsPlace place × (unsigned_abs steps ≤ 255)
+
+-- what a line says is a point that can be, where it is one
+abbrev pub IsEntry : Entry → Type 0
+IsEntry Passed = Unit {0}
+IsEntry (At place steps) = IsPoint place steps
+IsEntry Broken = Unit {0}

@@ -1,0 +1,113 @@
+//! Curves: the steps of every frame.
+ghost use Rattle.std.specs.Prelude.{◌≡◌, ◌<◌, ◌≤◌, ◌*◌, ◌^◌, ◌*ℤ◌, pos, int_div, length, map, true, false, nat_le, unsigned_abs};
+ghost use Rattle.std.specs.List.{All};
+ghost use Rattle.std.specs.List.Sorted.{IsNonDecreasingBy, IsPartitionPoint};
+ghost use Rattle.fade_plan.specs.Points.{IsKept, in_curve};
+ghost use Rattle.fade_plan.specs.Curves.{steps_at as steps_at_lem, steps_between, steps_back};
+
+use crate::point::{Point, opposite};
+use std::marker::Model;
+
+/// How many points are at or before the frame.
+fn count_up_to(points: &[Point], frame: u64) -> usize
+    requires { IsNonDecreasingBy (λ point. point.frame) points.now }
+    ensures parted { IsPartitionPoint
+        (λ point. nat_le point.frame frame ≡ true) (λ point. nat_le point.frame frame ≡ false)
+        points.now result }
+    ensures within { result ≤ length points.now }
+{
+    points.partition_point(|point| point.frame <= frame)
+}
+
+/// Steps times so many frames.
+fn weighted(steps: i16, frames: u64) -> i64
+    requires small { unsigned_abs steps ≤ 255 }
+    requires few { frames < 2 ^ 48 }
+    ensures { result ≡ steps *ℤ pos frames }
+{
+    i64::from(steps) * frames as i64
+}
+
+/// Such a sum divided by so many frames, rounded toward zero.
+fn even(sum: i64, frames: u64) -> i16
+    requires some { 0 < frames }
+    requires few { frames < 2 ^ 48 }
+    requires small { unsigned_abs sum ≤ 255 * frames }
+    ensures steps { result ≡ int_div sum (pos frames) }
+    ensures most { unsigned_abs result ≤ 255 }
+{
+    (sum / frames as i64) as i16
+}
+
+/// The steps of a frame that is not before the one point, but before the other.
+fn steps_of_both(before: &Point, behind: &Point, frame: u64) -> i16
+    requires kept { IsKept before.now }
+    requires behind_kept { IsKept behind.now }
+    requires before { before.now.frame ≤ frame }
+    requires behind { frame < behind.now.frame }
+    ensures steps { result ≡ steps_between (in_curve before.now) (in_curve behind.now) frame }
+    ensures most { unsigned_abs result ≤ 255 }
+{
+    let left = weighted(before.steps, behind.frame - frame);
+    let passed = weighted(behind.steps, frame - before.frame);
+    even(left + passed, behind.frame - before.frame)
+}
+
+/// The steps of a frame.
+fn steps_at(points: &[Point], frame: u64) -> i16
+    requires kept { All IsKept points.now }
+    requires rising { IsNonDecreasingBy (λ point. point.frame) points.now }
+    ensures steps { result ≡ steps_at_lem (map in_curve points.now) frame }
+    ensures most { unsigned_abs result ≤ 255 }
+{
+    let (up_to, behind) = points.split_at(count_up_to(points, frame));
+    match (up_to.last(), behind.first()) {
+        (Some(before), Some(behind)) => steps_of_both(before, behind, frame),
+        (Some(last), None) => last.steps,
+        (None, Some(first)) => first.steps,
+        (None, None) => 0,
+    }
+}
+
+/// The steps of every frame of a stream. Contracts see it as the list of its points: frame and steps.
+#[derive(Drop)]
+pub struct Curve {
+    points: Vec<Point>,
+}
+
+impl Model for Curve {
+    ghost use Rattle.std.specs.Prelude.{List, map};
+    ghost use Rattle.std.specs.List.{All};
+    ghost use Rattle.std.specs.List.Sorted.{IsNonDecreasingBy};
+    ghost use Rattle.fade_plan.specs.Curves.{CurvePoint};
+    ghost use Rattle.fade_plan.specs.Points.{IsKept, in_curve};
+
+    ghost Value = { List CurvePoint };
+
+    ghost view = { λ curve. map in_curve curve.points.items };
+
+    ghost invariant = { λ curve.
+        All IsKept curve.points.items × IsNonDecreasingBy (λ point. point.frame) curve.points.items };
+}
+
+impl Curve {
+    /// Of points whose frames are known and rise.
+    pub(crate) fn of(points: Vec<Point>) -> Curve
+        requires kept { All IsKept points.items }
+        requires rising { IsNonDecreasingBy (λ point. point.frame) points.items }
+        ensures { result ≡ map in_curve points.items }
+    {
+        Curve { points }
+    }
+
+    /// By how many steps of 1.5 dB the gains of this frame move: before the first point by its steps, from the last
+    /// point's frame on by those of the last, and between two points evenly from the one to the other, rounded toward
+    /// zero. Back, the steps have the opposite sign. Takes no memory.
+    pub fn steps(&self, frame: u32, back: bool) -> i16
+        ensures steps { result ≡ steps_back back (steps_at_lem self.now frame) }
+        ensures most { unsigned_abs result ≤ 255 }
+    {
+        let steps = steps_at(&self.points, u64::from(frame));
+        if back { opposite(steps) } else { steps }
+    }
+}

@@ -1,0 +1,74 @@
+//! What a line of a sheet says.
+ghost use Rattle.std.specs.Prelude.{◌≡◌, ◌≤◌, IfSome, unsigned_abs};
+ghost use Rattle.cue_sheet.specs.Lines.{words_of};
+ghost use Rattle.fade_plan.specs.Sheets.{entry_of, point_of, size_in, steps_in, is_comment as is_comment_lem, IsEntry};
+
+use crate::point::opposite;
+use cue_sheet::Place;
+use cue_sheet::digits::read_number;
+use cue_sheet::words::{next_word, read_pair};
+
+/// What a line says by itself.
+#[derive(Clone, Copy)]
+pub(crate) enum Entry {
+    /// Nothing that counts.
+    Passed,
+    /// A point: its place, and its steps.
+    At(Place, i16),
+    /// A line that breaks its rule.
+    Broken,
+}
+
+/// One to three digits of a number up to 255.
+fn read_size(digits: &[u8]) -> Option<i16>
+    ensures size { result ≡ size_in digits.now }
+    ensures most { IfSome result (λ size. unsigned_abs size ≤ 255) }
+{
+    let size = read_number(digits, 1, 3, 255)?;
+    Some(size as i16)
+}
+
+/// Such digits behind `+` or `-` or alone.
+#[tactic(auto, unfolding(cue_sheet::specs::Digits::number_in))]
+fn read_steps(word: &[u8]) -> Option<i16>
+    ensures steps { result ≡ steps_in word.now }
+    ensures most { IfSome result (λ steps. unsigned_abs steps ≤ 255) }
+{
+    match word {
+        [b'+', digits @ ..] => read_size(digits),
+        [b'-', digits @ ..] => Some(opposite(read_size(digits)?)),
+        _ => read_size(word),
+    }
+}
+
+fn is_comment(word: &[u8]) -> bool
+    ensures { result ≡ is_comment_lem word.now }
+{
+    matches!(word, [b'#', ..])
+}
+
+/// A line that is a point: a place and steps.
+fn read_point(line: &[u8]) -> Entry
+    ensures point { result ≡ point_of (words_of line.now) }
+    ensures sound { IsEntry result }
+{
+    let Some(pair) = read_pair(line) else {
+        return Entry::Broken;
+    };
+    match (Place::of_word(pair.first), read_steps(pair.second)) {
+        (Some(place), Some(steps)) => Entry::At(place, steps),
+        _ => Entry::Broken,
+    }
+}
+
+/// What a line says by itself.
+#[tactic(auto, unfolding(crate::specs::Sheets::entry_of))]
+pub(crate) fn read_entry(line: &[u8]) -> Entry
+    ensures entry { result ≡ entry_of (words_of line.now) }
+    ensures sound { IsEntry result }
+{
+    match next_word(line) {
+        Some(first) if !is_comment(first.word) => read_point(line),
+        _ => Entry::Passed,
+    }
+}

@@ -1,0 +1,154 @@
+//! Envelopes: the points of a sheet.
+ghost use Rattle.std.specs.Prelude.{◌≡◌, ◌+◌, ◌<◌, ◌≤◌, ◌++◌, ◌⊎◌, ◌∷◌, length, map, IfOk, MatchResult, Ok, Err};
+ghost use Rattle.std.specs.List.{All};
+ghost use Rattle.fade_plan.specs.declared.envelope_fault.EnvelopeFault.TheVariants.{Memory};
+ghost use Rattle.fade_plan.specs.Sheets.{IsEntry, is_at_fault as is_at_fault_lem, point_at, entries_from, envelope_in, envelope_of};
+ghost use Rattle.fade_plan.specs.Points.{IsKept, in_envelope};
+ghost use Rattle.fade_plan.specs.Curves.{curve_of};
+
+use crate::curve::Curve;
+use crate::entry::{Entry, read_entry};
+use crate::envelope_fault::EnvelopeFault;
+use crate::point::{Point, first_low, place_all};
+use cue_sheet::words::{line_at, without_mark};
+use frame_header::Class;
+use std::alloc::Global;
+use std::marker::Model;
+
+/// How many points a sheet has at most.
+const MOST_POINTS: usize = 1_000;
+
+/// What a line says, and where the next one begins.
+#[derive(Clone, Copy)]
+struct EntryAt {
+    entry: Entry,
+    next: usize,
+}
+
+/// The line that begins there.
+fn entry_at(text: &[u8], at: usize) -> EntryAt
+    requires { at ≤ length text.now }
+    ensures line { entries_from text.now at ≡ result.entry ∷ entries_from text.now result.next }
+    ensures sound { IsEntry result.entry }
+    ensures on { at < result.next }
+    ensures within { result.next ≤ length text.now + 1 }
+{
+    let line = line_at(text, at);
+    EntryAt {
+        entry: read_entry(line.line),
+        next: line.next,
+    }
+}
+
+/// Whether a line is at fault behind so many points.
+fn is_at_fault(points: usize, entry: Entry) -> bool
+    ensures { result ≡ is_at_fault_lem points entry }
+{
+    match entry {
+        Entry::Passed => false,
+        Entry::At(_, _) => points >= MOST_POINTS,
+        Entry::Broken => true,
+    }
+}
+
+/// Keeps the point of a line that has one.
+fn keep(points: &mut Vec<Point>, line: u32, entry: Entry) -> Result<(), EnvelopeFault>
+    requires sound { IsEntry entry }
+    requires kept { All IsKept points.old.items }
+    ensures points { MatchResult result
+        (λ _. map in_envelope points.new.items ≡ map in_envelope points.old.items ++ point_at line entry)
+        (λ fault. fault ≡ Memory) }
+    ensures kept { IfOk result (λ _. All IsKept points.new.items) }
+{
+    if let Entry::At(place, steps) = entry {
+        points.push(Point {
+            frame: 0,
+            place,
+            line,
+            steps,
+        })?;
+    }
+    Ok(())
+}
+
+/// The points of a sheet without a byte order mark, or its fault.
+fn read_points(alloc: Global, text: &[u8]) -> Result<Vec<Point>, EnvelopeFault>
+    requires { length text.now ≤ 65536 }
+    ensures envelope { MatchResult result
+        (λ points. envelope_in (entries_from text.now 0) ≡ Ok (map in_envelope points.items))
+        (λ fault. (fault ≡ Memory) ⊎ (envelope_in (entries_from text.now 0) ≡ Err fault)) }
+    ensures kept { IfOk result (λ points. All IsKept points.items) }
+{
+    let mut points = Vec::new(alloc);
+    let mut line = 1;
+    let mut at = 0;
+    while at <= text.len() {
+        let entry = entry_at(text, at);
+        if is_at_fault(points.len(), entry.entry) {
+            return Err(EnvelopeFault::Line(line));
+        }
+        keep(&mut points, line, entry.entry)?;
+        line += 1;
+        at = entry.next;
+    }
+    if points.is_empty() {
+        return Err(EnvelopeFault::NoPoints);
+    }
+    Ok(points)
+}
+
+/// The points of gain that a sheet lists. Contracts see it as the list of these points: line, place and steps.
+#[derive(Drop)]
+pub struct Envelope {
+    points: Vec<Point>,
+}
+
+impl Model for Envelope {
+    ghost use Rattle.std.specs.Prelude.{List, map};
+    ghost use Rattle.std.specs.List.{All};
+    ghost use Rattle.fade_plan.specs.Sheets.{EnvelopePoint};
+    ghost use Rattle.fade_plan.specs.Points.{IsKept, in_envelope};
+
+    ghost Value = { List EnvelopePoint };
+
+    ghost view = { λ envelope. map in_envelope envelope.points.items };
+
+    ghost invariant = { λ envelope. All IsKept envelope.points.items };
+}
+
+impl Envelope {
+    /// Reads a sheet of at most 65,536 bytes. A byte order mark at its front is passed over. Lines end with a line feed or
+    /// at the end of the sheet; a carriage return at a line's end is dropped. Words are separated by spaces and tabs. A
+    /// line without words, or whose first word begins with `#`, is passed over. Every other line has exactly two words
+    /// and is a point: a place, as `Place::read` takes it, and steps of 1.5 dB, an optional `+` or `-` and one to three
+    /// digits, from -255 to 255. There are 1 to 1,000 points.
+    ///
+    /// # Errors
+    /// `Line` with the first line that is neither passed over nor a point, or is the 1,001st point, counted from 1.
+    /// `NoPoints` where no line is at fault and there is no point. `Memory` where there is no memory.
+    #[tactic(auto, unfolding(crate::specs::Sheets::envelope_of))]
+    pub fn read(alloc: Global, bytes: &[u8]) -> Result<Envelope, EnvelopeFault>
+        requires { length bytes.now ≤ 65536 }
+        ensures { MatchResult result
+            (λ envelope. envelope_of bytes.now ≡ Ok envelope)
+            (λ fault. (fault ≡ Memory) ⊎ (envelope_of bytes.now ≡ Err fault)) }
+    {
+        let points = read_points(alloc, without_mark(bytes))?;
+        Ok(Envelope { points })
+    }
+
+    /// The curve over a stream of so many frames of this class. Takes no memory.
+    ///
+    /// # Errors
+    /// The line of the first point whose frame isn't greater than that of the point before.
+    pub fn place_on(self, class: Class, frames: u32) -> Result<Curve, u32>
+        ensures { result ≡ curve_of class frames self }
+    {
+        let mut points = self.points;
+        place_all(&mut points, class, frames);
+        match first_low(&points) {
+            Some(line) => Err(line),
+            None => Ok(Curve::of(points)),
+        }
+    }
+}

@@ -1,0 +1,16 @@
+//! Fades. `Envelope::read(alloc, bytes)` reads a sheet of points, each a place and the steps of 1.5 dB that gains move
+//! by there; `envelope.place_on(class, frames)` is its curve over a stream, and `curve.steps(frame, back)` is by how many
+//! steps the gains of a frame move.
+#![tactic(auto)]
+
+mod curve;
+mod entry;
+mod envelope;
+mod envelope_fault;
+mod laws;
+mod point;
+
+pub use curve::Curve;
+pub use envelope::Envelope;
+pub use envelope_fault::EnvelopeFault;
+pub use laws::opposite_curves;

@@ -1,0 +1,55 @@
+//! The points of an envelope and of its curve.
+ghost use Rattle.std.specs.Prelude.{◌≡◌, ◌≤◌, map, None, neg_ℤ, unsigned_abs};
+ghost use Rattle.std.specs.List.{All};
+ghost use Rattle.std.specs.List.Sorted.{IsNonDecreasingBy};
+ghost use Rattle.fade_plan.specs.Points.{IsKept, placed, first_low as first_low_lem};
+
+use cue_sheet::Place;
+use frame_header::Class;
+
+/// A point, with room for its frame.
+#[derive(Clone, Copy)]
+pub(crate) struct Point {
+    /// The frame before which the place is, once that is known.
+    pub(crate) frame: u64,
+    pub(crate) place: Place,
+    /// The line in which it stands, counted from 1.
+    pub(crate) line: u32,
+    /// Steps of 1.5 dB, from -255 to 255.
+    pub(crate) steps: i16,
+}
+
+/// As many steps the other way.
+pub(crate) fn opposite(steps: i16) -> i16
+    requires { unsigned_abs steps ≤ 255 }
+    ensures steps { result ≡ neg_ℤ steps }
+    ensures most { unsigned_abs result ≤ 255 }
+{
+    -steps
+}
+
+/// Gives every point its frame.
+pub(crate) fn place_all(points: &mut [Point], class: Class, frames: u32)
+    requires { All IsKept points.old }
+    ensures placed { points.new ≡ map (placed class frames) points.old }
+    ensures kept { All IsKept points.new }
+{
+    for point in points.iter_mut() {
+        point.frame = point.place.frame_of(class, frames);
+    }
+}
+
+/// The line of the first point whose frame isn't greater than that of the point before.
+pub(crate) fn first_low(points: &[Point]) -> Option<u32>
+    ensures line { result ≡ first_low_lem points.now }
+    ensures rising { result ≡ None → IsNonDecreasingBy (λ point. point.frame) points.now }
+{
+    let mut next = 1;
+    while next < points.len() {
+        if points[next].frame <= points[next - 1].frame {
+            return Some(points[next].line);
+        }
+        next += 1;
+    }
+    None
+}
