@@ -87,7 +87,8 @@ impl Model for Curve {
     ghost view = { λ curve. map in_curve curve.points.items };
 
     ghost invariant = { λ curve.
-        All IsKept curve.points.items × IsNonDecreasingBy (λ point. point.frame) curve.points.items };
+        All IsKept curve.points.items
+        × IsNonDecreasingBy (λ point. point.frame) curve.points.items };
 }
 
 impl Curve {

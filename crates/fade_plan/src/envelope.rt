@@ -56,7 +56,8 @@ fn keep(points: &mut Vec<Point>, line: u32, entry: Entry) -> Result<(), Envelope
     requires sound { IsEntry entry }
     requires kept { All IsKept points.old.items }
     ensures points { MatchResult result
-        (λ _. map in_envelope points.new.items ≡ map in_envelope points.old.items ++ point_at line entry)
+        (λ _. map in_envelope points.new.items
+        ≡ map in_envelope points.old.items ++ point_at line entry)
         (λ fault. fault ≡ Memory) }
     ensures kept { IfOk result (λ _. All IsKept points.new.items) }
 {
