@@ -37,6 +37,13 @@ impl Plan {
     ghost use Rattle.std.specs.Prelude.{◌≡◌};
     ghost use Rattle.slot_plan.specs.Plans.{entries};
 
+    /// A plan with these entries.
+    pub fn from_placed(placed: Vec<Placed>) -> Plan
+        ensures { entries result ≡ placed.items }
+    {
+        Plan { placed }
+    }
+
     /// The frames in order of output, a part's lead-in before its frames.
     pub fn placed(&self) -> &[Placed]
         ensures { result.now ≡ entries self.now }
