@@ -1,0 +1,5 @@
+pub mod RowLaws
+pub mod SumLaws
+pub mod WalkLaws
+pub mod PlanLaws
+pub mod ShortestLaw

@@ -1,0 +1,6 @@
+-- The law.
+use Rattle.best_plan.proofs.ShortestLaw.{best-shortest}
+use Rattle.best_plan.proofs.laws.best_is_shortest.Goals as goal
+
+pub returns : goal.returns
+returns c = best-shortest

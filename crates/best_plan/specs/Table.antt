@@ -1,0 +1,60 @@
+-- The rows of all frames, and what is placed by them.
+use Rattle.std.specs.Prelude.{◌≡◌, ℕ, ◌+◌, ◌<◌, ◌≤◌, true, false, List, [], ◌∷◌, ◌++◌, map, length, slice_index, All, AllPairs, Contains}
+use Rattle.frame_header.specs.Fields.{SlotFields, ClassFields, HeaderFields}
+use Rattle.frame_header.specs.Tables.{area_of}
+use Rattle.frame_header.specs.Slots.{all_slots}
+use Rattle.slot_plan.specs.declared.needs.Need.{Need}
+use Rattle.slot_plan.specs.declared.needs.Placed.{Placed}
+use Rattle.slot_plan.specs.Parts.{open_of, item_of, own_area, areas_with}
+use Rattle.best_plan.specs.Best.{IsBestFor}
+use Rattle.best_plan.specs.Rows.{nothing, IsChoice, IsRow}
+
+-- the areas among which a frame chooses
+abbrev pub areas_for : (HeaderFields → List SlotFields) → Need → List ℕ
+areas_for choices need = (open_of (item_of choices need)).areas
+
+-- the row of a frame in front of the rows of the frames behind it
+pub record IsRowBefore (window : ℕ) (choices : HeaderFields → List SlotFields) (need : Need) (IsBehind : List ℕ → List ℕ → Type 0) (sums places : List ℕ) : Type 0 where
+  pub later : List ℕ
+  pub before : List ℕ
+  pub cells : List ℕ
+  pub behind : IsBehind later before
+  pub appended : places ≡ before ++ cells
+  pub row : IsRow window need.bytes (areas_for choices need) later sums cells
+  pub most : All (λ n. n ≤ 1441) (areas_for choices need)
+  pub own : Contains (areas_for choices need) (own_area need)
+
+-- behind the last frame there are no areas
+pub record IsEnd (window : ℕ) (sums places : List ℕ) : Type 0 where
+  pub width : length sums ≡ window + 1
+  pub zeros : (free : ℕ) → free ≤ window → slice_index sums free ≡ 0
+  pub none : places ≡ []
+
+-- the least sums before the first frame, and the places of all frames, the last frame's first
+unfoldable pub IsTable : ℕ → (HeaderFields → List SlotFields) → List Need → List ℕ → List ℕ → Type 0
+IsTable window choices [] sums places = IsEnd window sums places
+IsTable window choices (need ∷ needs) sums places = IsRowBefore window choices need (IsTable window choices needs) sums places
+
+-- some list fits behind so many free bytes, by the table
+pub record CanWalk (window : ℕ) (choices : HeaderFields → List SlotFields) (free : ℕ) (needs : List Need) (places : List ℕ) : Type 0 where
+  pub sums : List ℕ
+  pub table : IsTable window choices needs sums places
+  pub some : slice_index sums free < nothing
+
+-- the frames were placed behind what was placed before
+pub record Walks (window : ℕ) (choices : HeaderFields → List SlotFields) (free : ℕ) (needs : List Need) (old new : List Placed) : Type 0 where
+  pub more : List Placed
+  pub appended : new ≡ old ++ more
+  pub best : IsBestFor window free (map (item_of choices) needs) more
+
+-- the lead-in by the least sums from the first frame on
+pub record IsLeadInBy (window : ℕ) (class : ClassFields) (sums : List ℕ) (p : Placed) : Type 0 where
+  pub cost : ℕ
+  pub place : ℕ
+  pub choice : IsChoice window 0 0 (areas_with class false all_slots) sums cost place
+  pub some : cost < nothing
+  pub area : area_of class p.slot false ≡ slice_index (areas_with class false all_slots) place
+  pub chosen : Contains all_slots p.slot
+  pub ascending : AllPairs (λ m n. m < n) (areas_with class false all_slots)
+  pub lead_in : p.lead_in ≡ true
+  pub begin : p.begin ≡ 0

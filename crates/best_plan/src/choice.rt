@@ -1,0 +1,90 @@
+//! Of the areas of one frame, the one with which it and all frames behind it have the fewest bytes.
+ghost use Rattle.std.specs.Prelude.{◌≡◌, ◌+◌, ◌≤◌, All, length};
+ghost use Rattle.slot_plan.specs.Parts.{areas_with};
+ghost use Rattle.slot_plan.specs.Reserve.{free_behind as free_behind_lem};
+ghost use Rattle.best_plan.specs.Rows.{IsSum, IsChoice};
+
+use arrayvec::ArrayVec;
+use frame_header::{Class, Slot};
+
+/// The sum where no list of areas fits. No list has as many bytes.
+pub(crate) const NOTHING: u32 = u32::MAX;
+
+/// The least sum of areas from a frame on, and the place of the frame's area in its list.
+#[derive(Clone, Copy)]
+pub(crate) struct Choice {
+    pub(crate) sum: u32,
+    pub(crate) place: u8,
+}
+
+/// The areas of some slots, in bytes.
+pub(crate) fn areas_among(class: Class, protected: bool, slots: &[Slot]) -> ArrayVec<u32, 28>
+    requires { length slots.now ≤ 28 }
+    ensures areas { result.items ≡ areas_with class protected slots.now }
+    ensures most { All (λ n. n ≤ 1441) result.items }
+{
+    let mut areas = ArrayVec::new();
+    for slot in slots {
+        areas.push(class.area_of(*slot, protected));
+    }
+    areas
+}
+
+/// The free bytes behind a frame: what it leaves of those before it and its own area, but no more than the window.
+pub(crate) fn free_behind(window: u32, free: u32, bytes: u32, area: u32) -> u32
+    requires window { window ≤ 511 }
+    requires free { free ≤ window }
+    requires area { area ≤ 1441 }
+    requires fits { bytes ≤ free + area }
+    ensures free { result ≡ free_behind_lem window free bytes area }
+    ensures within { result ≤ window }
+{
+    (free + area - bytes).min(window)
+}
+
+/// The sum of an area and of the least sum behind it; nothing where the main data don't fit.
+fn sum_behind(window: u32, free: u32, bytes: u32, area: u32, later: &[u32]) -> u32
+    requires window { window ≤ 511 }
+    requires free { free ≤ window }
+    requires area { area ≤ 1441 }
+    requires later { length later.now ≡ window + 1 }
+    ensures { IsSum window free bytes area later.now result }
+{
+    if free + area < bytes {
+        return NOTHING;
+    }
+    let behind = free_behind(window, free, bytes, area);
+    area.saturating_add(later[behind as usize])
+}
+
+/// The first area of the least sum behind so many free bytes, where `later` holds the least sums of the frames
+/// behind, by the bytes that are free before them.
+pub(crate) fn best_choice(
+    window: u32,
+    free: u32,
+    bytes: u32,
+    areas: &[u32],
+    later: &[u32],
+) -> Choice
+    requires window { window ≤ 511 }
+    requires free { free ≤ window }
+    requires areas { All (λ n. n ≤ 1441) areas.now }
+    requires few { length areas.now ≤ 28 }
+    requires later { length later.now ≡ window + 1 }
+    ensures { IsChoice window free bytes areas.now later.now result.sum result.place }
+{
+    let mut choice = Choice {
+        sum: NOTHING,
+        place: 0,
+    };
+    for (place, area) in areas.iter().enumerate() {
+        let sum = sum_behind(window, free, bytes, *area, later);
+        if sum < choice.sum {
+            choice = Choice {
+                sum,
+                place: place as u8,
+            };
+        }
+    }
+    choice
+}

@@ -1,0 +1,61 @@
+//! The shortest packing.
+ghost use Rattle.std.specs.Prelude.{◌≡◌, ◌+◌, ◌≤◌, length, slice_index, map, IfOk};
+ghost use Rattle.frame_header.specs.Tables.{window_of};
+ghost use Rattle.slot_plan.specs.Layouts.{IsFeasible};
+ghost use Rattle.slot_plan.specs.Parts.{AreOfOneClass, window_in, own_frame};
+ghost use Rattle.slot_plan.specs.Plans.{entries};
+ghost use Rattle.best_plan.specs.Best.{IsBestPlan};
+ghost use Rattle.best_plan.specs.Table.{IsLeadInBy};
+
+use crate::choice::{NOTHING, areas_among, best_choice, free_behind};
+use crate::table::table_of;
+use crate::walk::walk;
+use frame_header::Class;
+use slot_plan::{Need, Placed, Plan, Policy};
+use std::alloc::{AllocError, Global};
+
+/// The lead-in with which all frames have the fewest bytes, where `sums` holds those of the frames behind it.
+fn lead_in(class: Class, window: u32, sums: &[u32]) -> Placed
+    requires window { window ≡ window_of class.version }
+    requires sums { length sums.now ≡ window + 1 }
+    requires some { slice_index sums.now window ≤ 288200000 }
+    ensures { IsLeadInBy window class sums.now result }
+{
+    // The largest slot has room for a whole window.
+    let room = class.window();
+    let slots = class.slots();
+    let areas = areas_among(class, false, slots.as_slice());
+    let choice = best_choice(room, 0, 0, areas.as_slice(), sums);
+    Placed {
+        lead_in: true,
+        slot: slots.as_slice()[choice.place as usize],
+        begin: 0,
+    }
+}
+
+/// The list of areas with the least sum that has a layout, and the lexicographically least of those, behind a
+/// lead-in of any slot where the frames have no layout without one. Main data start as early as they may (ISO/IEC
+/// 11172-3, 2.4.2.7). Want of memory is the one refusal.
+pub fn best<P: Policy>(alloc: Global, needs: &[Need], policy: &P) -> Result<Plan, AllocError>
+    requires class { AreOfOneClass needs.now }
+    requires some { 1 ≤ length needs.now }
+    requires few { length needs.now ≤ 200000 }
+    requires feasible { IsFeasible (window_in needs.now) (window_in needs.now) (map own_frame needs.now) }
+    ensures { IfOk result (λ p. IsBestPlan (window_in needs.now) (P.choices_of policy.now) needs.now (entries p)) }
+{
+    let class = needs[0].header.class();
+    let window = class.window();
+    // There is at most one lead-in.
+    let mut placed = Vec::with_capacity(alloc, needs.len() + 1)?;
+    let table = table_of(alloc, window, needs, policy)?;
+    if table.sums[0] < NOTHING {
+        walk(window, 0, needs, policy, table.places, &mut placed)?;
+        return Ok(Plan::from_placed(placed));
+    }
+    let frame = lead_in(class, window, table.sums.as_slice());
+    let area = class.area_of(frame.slot, false);
+    placed.push(frame)?;
+    let free = free_behind(window, 0, 0, area);
+    walk(window, free, needs, policy, table.places, &mut placed)?;
+    Ok(Plan::from_placed(placed))
+}

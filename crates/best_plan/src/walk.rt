@@ -1,0 +1,56 @@
+//! From the first frame to the last: each in the area that the table has for the bytes that are free before it.
+ghost use Rattle.std.specs.Prelude.{◌≡◌, ◌<◌, ◌≤◌, false, AllPairs, Contains, length, slice_index, IfOk};
+ghost use Rattle.slot_plan.specs.Parts.{area_in, item_of};
+ghost use Rattle.best_plan.specs.Table.{areas_for, CanWalk, Walks};
+
+use crate::choice::free_behind;
+use slot_plan::{Need, Placed, Policy};
+use std::alloc::AllocError;
+
+/// The frame in the slot at this place of its choices.
+fn frame_at<P: Policy>(need: &Need, place: u8, free: u32, policy: &P) -> Placed
+    requires place { place < length (areas_for (P.choices_of policy.now) need.now) }
+    requires free { free ≤ 511 }
+    ensures frame { result.lead_in ≡ false }
+    ensures begin { result.begin ≡ free }
+    ensures chosen { Contains (P.choices_of policy.now need.now.header) result.slot }
+    ensures area { area_in (item_of (P.choices_of policy.now) need.now) result.slot ≡ slice_index (areas_for (P.choices_of policy.now) need.now) place }
+    ensures ascending { AllPairs (λ m n. m < n) (areas_for (P.choices_of policy.now) need.now) }
+{
+    let choices = policy.choices(&need.header);
+    Placed {
+        lead_in: false,
+        slot: choices.as_slice()[place as usize],
+        begin: free as u16,
+    }
+}
+
+/// Places the frames behind so many free bytes.
+pub(crate) fn walk<P: Policy>(
+    window: u32,
+    free: u32,
+    needs: &[Need],
+    policy: &P,
+    places: Vec<u8>,
+    placed: &mut Vec<Placed>,
+) -> Result<(), AllocError>
+    requires window { window ≤ 511 }
+    requires free { free ≤ window }
+    requires table { CanWalk window (P.choices_of policy.now) free needs.now places.items }
+    ensures { IfOk result (λ _. Walks window (P.choices_of policy.now) free needs.now placed.old.items placed.new.items) }
+{
+    let width = window as usize + 1;
+    let mut places = places;
+    let mut free = free;
+    for need in needs {
+        let from = places.len() - width;
+        let place = places[from + free as usize];
+        places.truncate(from);
+        let frame = frame_at(need, place, free, policy);
+        let class = need.header.class();
+        let area = class.area_of(frame.slot, need.header.protected);
+        free = free_behind(window, free, need.bytes, area);
+        placed.push(frame)?;
+    }
+    Ok(())
+}
