@@ -30,7 +30,7 @@ reverse_mapped f (x ∷ xs) =
 
 -- ---- finding in parted lists
 
-none_passes : {X : Type 0} (p : X → Bool) (xs : List X) → All (λ x. p x ≡ false) xs → find p xs ≡ None
+pub none_passes : {X : Type 0} (p : X → Bool) (xs : List X) → All (λ x. p x ≡ false) xs → find p xs ≡ None
 none_passes p [] fails = refl
 none_passes p (x ∷ xs) fails =
     ap (λ b. cond b (Some x) (find p xs)) (fails 0 x (omega arith)) ∙ none_passes p xs (λ k d less. fails (suc k) d (omega (arith, less)))
@@ -39,13 +39,13 @@ first_passes : {X : Type 0} (p : X → Bool) (xs : List X) (d : X) → 0 < lengt
 first_passes p [] d some is = absurd (omega (arith, some))
 first_passes p (x ∷ xs) d some is = ap (λ b. cond b (Some x) (find p xs)) is
 
-none_passes_back : {X : Type 0} (p : X → Bool) (xs : List X) → All (λ x. p x ≡ false) xs → find p (reverse xs) ≡ None
+pub none_passes_back : {X : Type 0} (p : X → Bool) (xs : List X) → All (λ x. p x ≡ false) xs → find p (reverse xs) ≡ None
 none_passes_back {X} p xs fails =
     none_passes p (reverse xs) (λ k d less.
     let within : k < length xs = omega (arith, less, length-reverse xs) in
     ap p (get_or-reverse xs k d within) ∙ fails (length xs - 1 - k) d (omega (arith, within)))
 
-last_passes : {X : Type 0} (p : X → Bool) (xs : List X) (d : X) → 0 < length xs → All (λ x. p x ≡ true) xs → find p (reverse xs) ≡ Some (get_or xs (length xs - 1) d)
+pub last_passes : {X : Type 0} (p : X → Bool) (xs : List X) (d : X) → 0 < length xs → All (λ x. p x ≡ true) xs → find p (reverse xs) ≡ Some (get_or xs (length xs - 1) d)
 last_passes {X} p xs d some all =
     let back : get_or (reverse xs) 0 d ≡ get_or xs (length xs - 1) d = get_or-reverse xs 0 d some ∙ ap (λ n. get_or xs n d) (omega arith) in
     first_passes p (reverse xs) d (omega (arith, some, length-reverse xs)) (ap p back ∙ all (length xs - 1) d (omega (arith, some))) ∙ ap Some back

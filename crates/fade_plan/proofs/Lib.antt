@@ -3,4 +3,5 @@ pub mod LowLaws
 pub mod SheetLaws
 pub mod CurveLaws
 pub mod StepsLaws
+pub mod EvenLaws
 pub mod OppositeLaws

@@ -1,9 +1,28 @@
--- The law of the opposite: an envelope whose steps have the opposite sign rises where the envelope does, and gives every frame the
--- opposite steps.
-use Rattle.std.specs.Prelude.{◌≡◌, ℕ, List, map, Result, Ok, Err, neg_ℤ}
+-- Laws of curves: how their steps go from point to point, and that the opposite envelope gives the opposite steps.
+use Rattle.std.specs.Prelude.{◌≡◌, ◌<◌, ◌≤◌, ℕ, List, [], ◌∷◌, ◌++◌, map, Result, Ok, Err, neg_ℤ}
+use Rattle.std.specs.List.{AllPairs}
 use Rattle.frame_header.specs.Fields.{ClassFields}
 use Rattle.fade_plan.specs.Sheets.{EnvelopePoint}
-use Rattle.fade_plan.specs.Curves.{CurvePoint, curve_of, steps_at}
+use Rattle.fade_plan.specs.Curves.{CurvePoint, curve_of, steps_between, steps_at}
+
+-- ---- from point to point
+
+-- the frame of each point is greater than those of the points before
+abbrev pub AreRising : List CurvePoint → Type 0
+AreRising points = AllPairs (λ p q. p.frame < q.frame) points
+
+pub record CurvesGoEvenly : Type 0 where
+  -- the points of a curve rise
+  pub rising : (class : ClassFields) (frames : ℕ) (points : List EnvelopePoint) (curve : List CurvePoint) → curve_of class frames points ≡ Ok curve → AreRising curve
+  -- before the first point its steps
+  pub before : (p : CurvePoint) (more : List CurvePoint) (frame : ℕ) → AreRising (p ∷ more) → frame < p.frame → steps_at (p ∷ more) frame ≡ p.steps
+  -- between a point and the next, from the frame of the one on, evenly from the one to the other
+  pub between : (front back : List CurvePoint) (p q : CurvePoint) (frame : ℕ) → AreRising (front ++ (p ∷ q ∷ back)) → p.frame ≤ frame → frame < q.frame
+      → steps_at (front ++ (p ∷ q ∷ back)) frame ≡ steps_between p q frame
+  -- from the last point's frame on its steps
+  pub behind : (front : List CurvePoint) (p : CurvePoint) (frame : ℕ) → AreRising (front ++ (p ∷ [])) → p.frame ≤ frame → steps_at (front ++ (p ∷ [])) frame ≡ p.steps
+
+-- ---- the opposite
 
 -- the same points, each with the opposite steps
 abbrev pub opposite_point : EnvelopePoint → EnvelopePoint
