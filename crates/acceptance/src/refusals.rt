@@ -25,7 +25,7 @@ const SHORT_AT_48_KHZ: Frame = Frame {
     ..G_AT_48_KHZ
 };
 
-static FAULTY: [Row; 30] = [
+static NO_FRAME: [Row; 6] = [
     Row {
         what: "an empty file",
         files: &[File {
@@ -92,6 +92,16 @@ static FAULTY: [Row; 30] = [
         line: "a: no frame at 0\n",
         ..ROW
     },
+];
+
+#[test]
+fn files_without_a_frame(rt: HostRuntime) -> Result<(), Fail> {
+    assert_eq!(rt; first_difference(rt.alloc(), &NO_FRAME)?, None);
+    Ok(())
+}
+
+/// What is at fault in the input `a`: bytes behind a frame that are no item.
+static NO_ITEM: [Row; 5] = [
     Row {
         what: "bytes that are no item",
         files: &[File {
@@ -150,6 +160,16 @@ static FAULTY: [Row; 30] = [
         line: "a: lost synchronisation at 417\n",
         ..ROW
     },
+];
+
+#[test]
+fn bytes_that_are_no_item(rt: HostRuntime) -> Result<(), Fail> {
+    assert_eq!(rt; first_difference(rt.alloc(), &NO_ITEM)?, None);
+    Ok(())
+}
+
+/// What is at fault in the input `a`: an item that passes the end of the file.
+static CUT_SHORT: [Row; 5] = [
     Row {
         what: "a frame without its last byte",
         files: &[File {
@@ -205,6 +225,16 @@ static FAULTY: [Row; 30] = [
         line: "a: truncated at 417\n",
         ..ROW
     },
+];
+
+#[test]
+fn items_that_are_cut_short(rt: HostRuntime) -> Result<(), Fail> {
+    assert_eq!(rt; first_difference(rt.alloc(), &CUT_SHORT)?, None);
+    Ok(())
+}
+
+/// What is at fault in the input `a`: free format, or frames of two classes.
+static OTHER_FRAMES: [Row; 5] = [
     Row {
         what: "free format",
         files: &[File {
@@ -260,6 +290,16 @@ static FAULTY: [Row; 30] = [
         line: "a: mixed class at 417\n",
         ..ROW
     },
+];
+
+#[test]
+fn frames_in_free_format_and_of_another_class(rt: HostRuntime) -> Result<(), Fail> {
+    assert_eq!(rt; first_difference(rt.alloc(), &OTHER_FRAMES)?, None);
+    Ok(())
+}
+
+/// What is at fault in the input `a`: where main data begin or end.
+static MAIN_DATA: [Row; 7] = [
     Row {
         what: "main data before the stream, behind a frame that has some",
         files: &[File {
@@ -337,6 +377,16 @@ static FAULTY: [Row; 30] = [
         line: "a: overrun at 417, bits 3372, room 3368\n",
         ..ROW
     },
+];
+
+#[test]
+fn main_data_at_fault(rt: HostRuntime) -> Result<(), Fail> {
+    assert_eq!(rt; first_difference(rt.alloc(), &MAIN_DATA)?, None);
+    Ok(())
+}
+
+/// Two faults in the input `a`, of which the first is told.
+static TWO_FAULTS: [Row; 2] = [
     Row {
         what: "a frame at fault before bytes that are no item",
         files: &[File {
@@ -366,8 +416,8 @@ static FAULTY: [Row; 30] = [
 ];
 
 #[test]
-fn files_at_fault(rt: HostRuntime) -> Result<(), Fail> {
-    assert_eq!(rt; first_difference(rt.alloc(), &FAULTY)?, None);
+fn the_first_of_two_faults(rt: HostRuntime) -> Result<(), Fail> {
+    assert_eq!(rt; first_difference(rt.alloc(), &TWO_FAULTS)?, None);
     Ok(())
 }
 

@@ -6,8 +6,9 @@ use std::test::Fail;
 use test_files::files::{ID3V2, ID3V2_REST, Stretch};
 use test_files::frames::Z;
 
-/// A file of 513 bytes, whose tag stands at 417: the tag of the undo item `-001,-001,W` with another value at one place.
-static DAMAGES: [Row; 29] = [
+/// A file of 513 bytes, whose tag stands at 417: the tag of the undo item `-001,-001,W` with another value at one place in its
+/// header.
+static HEADERS: [Row; 6] = [
     Row {
         what: "byte 8 is d1",
         files: &[File {
@@ -107,6 +108,16 @@ static DAMAGES: [Row; 29] = [
         line: "bad tag at 449\n",
         ..ROW
     },
+];
+
+#[test]
+fn a_header_with_one_wrong_byte(rt: HostRuntime) -> Result<(), Fail> {
+    assert_eq!(rt; first_difference(rt.alloc(), &HEADERS)?, None);
+    Ok(())
+}
+
+/// The same in the item.
+static ITEMS: [Row; 7] = [
     // A value that ends behind the footer's begin.
     Row {
         what: "byte 32 is 0c",
@@ -224,6 +235,16 @@ static DAMAGES: [Row; 29] = [
         line: "bad tag at 449\n",
         ..ROW
     },
+];
+
+#[test]
+fn an_item_with_one_wrong_byte(rt: HostRuntime) -> Result<(), Fail> {
+    assert_eq!(rt; first_difference(rt.alloc(), &ITEMS)?, None);
+    Ok(())
+}
+
+/// The same behind the item.
+static FOOTERS: [Row; 7] = [
     // The footer.
     Row {
         what: "byte 64 is 00",
@@ -338,6 +359,16 @@ static DAMAGES: [Row; 29] = [
         line: "bad tag at 481\n",
         ..ROW
     },
+];
+
+#[test]
+fn a_footer_with_one_wrong_byte(rt: HostRuntime) -> Result<(), Fail> {
+    assert_eq!(rt; first_difference(rt.alloc(), &FOOTERS)?, None);
+    Ok(())
+}
+
+/// The same in the key or the value of the undo item.
+static UNDO_ITEMS: [Row; 9] = [
     Row {
         what: "byte 40 is 4e",
         files: &[File {
@@ -486,8 +517,8 @@ static DAMAGES: [Row; 29] = [
 ];
 
 #[test]
-fn a_tag_with_one_wrong_byte(rt: HostRuntime) -> Result<(), Fail> {
-    assert_eq!(rt; first_difference(rt.alloc(), &DAMAGES)?, None);
+fn an_undo_item_with_one_wrong_byte(rt: HostRuntime) -> Result<(), Fail> {
+    assert_eq!(rt; first_difference(rt.alloc(), &UNDO_ITEMS)?, None);
     Ok(())
 }
 

@@ -14,7 +14,7 @@ use test_files::frames::{
 };
 
 /// Files of one frame, with and without a tag that has the undo item alone.
-static NOTES: [Row; 16] = [
+static CHANGES: [Row; 7] = [
     Row {
         what: "both channels, and 255 wraps",
         files: &[File {
@@ -141,6 +141,16 @@ static NOTES: [Row; 16] = [
         }],
         ..ROW
     },
+];
+
+#[test]
+fn what_the_note_says(rt: HostRuntime) -> Result<(), Fail> {
+    assert_eq!(rt; first_difference(rt.alloc(), &CHANGES)?, None);
+    Ok(())
+}
+
+/// Each kind of file.
+static KINDS: [Row; 5] = [
     Row {
         what: "MPEG-1, one channel",
         files: &[File {
@@ -231,6 +241,16 @@ static NOTES: [Row; 16] = [
         }],
         ..ROW
     },
+];
+
+#[test]
+fn what_the_note_says_in_each_kind_of_file(rt: HostRuntime) -> Result<(), Fail> {
+    assert_eq!(rt; first_difference(rt.alloc(), &KINDS)?, None);
+    Ok(())
+}
+
+/// Files that have a note already.
+static NOTED_BEFORE: [Row; 4] = [
     Row {
         what: "a note that stands there",
         files: &[File {
@@ -326,8 +346,8 @@ static NOTES: [Row; 16] = [
 ];
 
 #[test]
-fn what_the_note_says(rt: HostRuntime) -> Result<(), Fail> {
-    assert_eq!(rt; first_difference(rt.alloc(), &NOTES)?, None);
+fn what_a_note_that_stands_becomes(rt: HostRuntime) -> Result<(), Fail> {
+    assert_eq!(rt; first_difference(rt.alloc(), &NOTED_BEFORE)?, None);
     Ok(())
 }
 

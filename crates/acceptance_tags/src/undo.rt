@@ -32,7 +32,7 @@ const G_LOUDER_LOWER: Frame = Frame {
     ..G
 };
 
-static UNDOS: [Row; 18] = [
+static UNDONE_GAINS: [Row; 6] = [
     Row {
         what: "gains that wrapped at the top",
         files: &[File {
@@ -141,6 +141,16 @@ static UNDOS: [Row; 18] = [
         }],
         ..ROW
     },
+];
+
+#[test]
+fn what_an_undo_makes_of_gains(rt: HostRuntime) -> Result<(), Fail> {
+    assert_eq!(rt; first_difference(rt.alloc(), &UNDONE_GAINS)?, None);
+    Ok(())
+}
+
+/// The same of each kind of file.
+static UNDONE_KINDS: [Row; 6] = [
     Row {
         what: "MPEG-1, one channel, which is the left one",
         files: &[File {
@@ -249,6 +259,16 @@ static UNDOS: [Row; 18] = [
         }],
         ..ROW
     },
+];
+
+#[test]
+fn what_an_undo_makes_of_each_kind_of_file(rt: HostRuntime) -> Result<(), Fail> {
+    assert_eq!(rt; first_difference(rt.alloc(), &UNDONE_KINDS)?, None);
+    Ok(())
+}
+
+/// The same of tags and of what else stands in a file.
+static UNDONE_TAGS: [Row; 6] = [
     Row {
         what: "the item alone goes, with a key in other letters",
         files: &[File {
@@ -384,8 +404,8 @@ static UNDOS: [Row; 18] = [
 ];
 
 #[test]
-fn what_an_undo_makes(rt: HostRuntime) -> Result<(), Fail> {
-    assert_eq!(rt; first_difference(rt.alloc(), &UNDOS)?, None);
+fn what_an_undo_makes_of_tags(rt: HostRuntime) -> Result<(), Fail> {
+    assert_eq!(rt; first_difference(rt.alloc(), &UNDONE_TAGS)?, None);
     Ok(())
 }
 
