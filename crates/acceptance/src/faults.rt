@@ -1,9 +1,11 @@
 //! Calls of the outside that fail.
 
 use crate::check_words::WRONG_M;
-use acceptance_kit::commands::{folder_of_frames, run_over, sink};
-use acceptance_kit::rows::{Failing, File, ROW, Row, first_difference};
-use outside::Call;
+use acceptance_kit::commands::{Ended, folder_of_frames, run_over, sink};
+use acceptance_kit::rows::{Failing, File, MORE, More, ROW, Row, first_difference};
+use outside::{Call, MemFolder, MemSink};
+use std::alloc::{AllocError, AllocGlobal, Global};
+use std::process::Abort;
 use std::test::Fail;
 use test_files::files::{APE, ID3V1, ID3V1_REST, ID3V2, ID3V2_REST, Stretch};
 use test_files::frames::{G, G_LOWER, HEAD, PROTECTED_G, PROTECTED_G_LOWER, Z};
@@ -39,13 +41,16 @@ static FAILING: [Row; 5] = [
             name: "g",
             bytes: FILE,
         }],
-        fails: &[Failing {
-            call: Call::Find,
-            number: 1,
-        }],
         words: &[WORDS],
         status: 3,
         line: "g: read fault\n",
+        more: Some(&More {
+            fails: Some(&[Failing {
+                call: Call::Find,
+                number: 1,
+            }]),
+            ..MORE
+        }),
         ..ROW
     },
     Row {
@@ -53,13 +58,16 @@ static FAILING: [Row; 5] = [
             name: "g",
             bytes: FILE,
         }],
-        fails: &[Failing {
-            call: Call::Read,
-            number: 1,
-        }],
         words: &[WORDS],
         status: 3,
         line: "g: read fault\n",
+        more: Some(&More {
+            fails: Some(&[Failing {
+                call: Call::Read,
+                number: 1,
+            }]),
+            ..MORE
+        }),
         ..ROW
     },
     // The input is read once more when the output is there.
@@ -68,10 +76,6 @@ static FAILING: [Row; 5] = [
             name: "g",
             bytes: FILE,
         }],
-        fails: &[Failing {
-            call: Call::Read,
-            number: 2,
-        }],
         words: &[WORDS],
         status: 3,
         line: "g: read fault\n",
@@ -79,30 +83,36 @@ static FAILING: [Row; 5] = [
             name: "o",
             bytes: &[],
         }],
+        more: Some(&More {
+            fails: Some(&[Failing {
+                call: Call::Read,
+                number: 2,
+            }]),
+            ..MORE
+        }),
         ..ROW
     },
     Row {
         files: &[File {
             name: "g",
             bytes: FILE,
-        }],
-        fails: &[Failing {
-            call: Call::Create,
-            number: 1,
         }],
         words: &[WORDS],
         status: 3,
         line: "o: write fault\n",
+        more: Some(&More {
+            fails: Some(&[Failing {
+                call: Call::Create,
+                number: 1,
+            }]),
+            ..MORE
+        }),
         ..ROW
     },
     Row {
         files: &[File {
             name: "g",
             bytes: FILE,
-        }],
-        fails: &[Failing {
-            call: Call::Write,
-            number: 1,
         }],
         words: &[WORDS],
         status: 3,
@@ -111,6 +121,13 @@ static FAILING: [Row; 5] = [
             name: "o",
             bytes: &[],
         }],
+        more: Some(&More {
+            fails: Some(&[Failing {
+                call: Call::Write,
+                number: 1,
+            }]),
+            ..MORE
+        }),
         ..ROW
     },
 ];
@@ -127,15 +144,18 @@ static FURTHER: [Row; 4] = [
             name: "g",
             bytes: FILE,
         }],
-        fails: &[Failing {
-            call: Call::Find,
-            number: 2,
-        }],
         words: &[WORDS],
         after: &[File {
             name: "o",
             bytes: LOWER_FILE,
         }],
+        more: Some(&More {
+            fails: Some(&[Failing {
+                call: Call::Find,
+                number: 2,
+            }]),
+            ..MORE
+        }),
         ..ROW
     },
     Row {
@@ -143,15 +163,18 @@ static FURTHER: [Row; 4] = [
             name: "g",
             bytes: FILE,
         }],
-        fails: &[Failing {
-            call: Call::Read,
-            number: 3,
-        }],
         words: &[WORDS],
         after: &[File {
             name: "o",
             bytes: LOWER_FILE,
         }],
+        more: Some(&More {
+            fails: Some(&[Failing {
+                call: Call::Read,
+                number: 3,
+            }]),
+            ..MORE
+        }),
         ..ROW
     },
     Row {
@@ -159,15 +182,18 @@ static FURTHER: [Row; 4] = [
             name: "g",
             bytes: FILE,
         }],
-        fails: &[Failing {
-            call: Call::Create,
-            number: 2,
-        }],
         words: &[WORDS],
         after: &[File {
             name: "o",
             bytes: LOWER_FILE,
         }],
+        more: Some(&More {
+            fails: Some(&[Failing {
+                call: Call::Create,
+                number: 2,
+            }]),
+            ..MORE
+        }),
         ..ROW
     },
     Row {
@@ -175,15 +201,18 @@ static FURTHER: [Row; 4] = [
             name: "g",
             bytes: FILE,
         }],
-        fails: &[Failing {
-            call: Call::Write,
-            number: 2,
-        }],
         words: &[WORDS],
         after: &[File {
             name: "o",
             bytes: LOWER_FILE,
         }],
+        more: Some(&More {
+            fails: Some(&[Failing {
+                call: Call::Write,
+                number: 2,
+            }]),
+            ..MORE
+        }),
         ..ROW
     },
 ];
@@ -206,13 +235,16 @@ static THERE: [Row; 2] = [
                 bytes: &[Stretch::Bytes(b"old")],
             },
         ],
-        fails: &[Failing {
-            call: Call::Create,
-            number: 1,
-        }],
         words: &[WORDS],
         status: 3,
         line: "o: write fault\n",
+        more: Some(&More {
+            fails: Some(&[Failing {
+                call: Call::Create,
+                number: 1,
+            }]),
+            ..MORE
+        }),
         ..ROW
     },
     Row {
@@ -226,10 +258,6 @@ static THERE: [Row; 2] = [
                 bytes: &[Stretch::Bytes(b"old")],
             },
         ],
-        fails: &[Failing {
-            call: Call::Write,
-            number: 1,
-        }],
         words: &[WORDS],
         status: 3,
         line: "o: write fault\n",
@@ -237,6 +265,13 @@ static THERE: [Row; 2] = [
             name: "o",
             bytes: &[],
         }],
+        more: Some(&More {
+            fails: Some(&[Failing {
+                call: Call::Write,
+                number: 1,
+            }]),
+            ..MORE
+        }),
         ..ROW
     },
 ];
@@ -253,7 +288,6 @@ static NO_ROOM: [Row; 2] = [
             name: "g",
             bytes: &[Stretch::Frames(&[G])],
         }],
-        room: 416,
         words: &[WORDS],
         status: 3,
         line: "o: write fault\n",
@@ -261,6 +295,7 @@ static NO_ROOM: [Row; 2] = [
             name: "o",
             bytes: &[],
         }],
+        more: Some(&More { room: 416, ..MORE }),
         ..ROW
     },
     Row {
@@ -271,7 +306,10 @@ static NO_ROOM: [Row; 2] = [
         words: &["gain -s s -g -5 g p"],
         status: 3,
         line: "p: write fault\n",
-        absent: &["p"],
+        more: Some(&More {
+            absent: Some(&["p"]),
+            ..MORE
+        }),
         ..ROW
     },
 ];
@@ -317,22 +355,49 @@ static TOLD: [Told; 5] = [
     },
 ];
 
+/// A folder with the file `g`, and the file `m` with a wrong check word.
+fn folder_of_two(alloc: Global) -> Result<MemFolder, AllocError> {
+    let mut folder = folder_of_frames(alloc, "g", &[G])?;
+    folder.put("m", &WRONG_M)?;
+    Ok(folder)
+}
+
+/// A sink with room for a line, whose write of this number fails.
+fn failing_sink(alloc: Global, number: u64) -> Result<MemSink, AllocError> {
+    let mut err = sink(alloc)?;
+    err.fail(number)?;
+    Ok(err)
+}
+
+/// Runs the words, where the write of this number to standard error fails.
+fn run_told(alloc: Global, words: &str, number: u64) -> Result<Ended, AllocError> {
+    let err = failing_sink(alloc, number)?;
+    let mut folder = folder_of_two(alloc)?;
+    run_over(alloc, &mut folder, words, err)
+}
+
+/// Asserts that a prefix of the line was sent where this write fails: nothing where it is the first, and all of it where it
+/// is the fifteenth.
+fn expect_sent(rt: &impl Abort, sent: &[u8], case: &Told, number: u64) {
+    let line = case.line.as_bytes();
+    assert!(rt; line.starts_with(sent), "{}", case.words);
+    assert!(rt; number > 1 || sent.is_empty(), "{}", case.words);
+    assert!(rt; number < 15 || sent == line, "{}", case.words);
+}
+
+fn expect_told<R: Abort + AllocGlobal>(rt: &R, case: &Told, number: u64) -> Result<(), AllocError> {
+    let ended = run_told(rt.alloc(), case.words, number)?;
+    assert_eq!(rt; ended.status, case.status, "{}", case.words);
+    expect_sent(rt, ended.err.sent(), case, number);
+    Ok(())
+}
+
 // No line is sent in fifteen pieces: where the fifteenth would fail the line is whole.
 #[test]
 fn standard_error_fails(rt: HostRuntime) -> Result<(), Fail> {
     for case in &TOLD {
-        let line = case.line.as_bytes();
         for number in 1..16 {
-            let mut folder = folder_of_frames(rt.alloc(), "g", &[G])?;
-            folder.put("m", &WRONG_M)?;
-            let mut err = sink(rt.alloc())?;
-            err.fail(number)?;
-            let ended = run_over(rt.alloc(), &mut folder, case.words, err)?;
-            assert_eq!(rt; ended.status, case.status, "{}", case.words);
-            let sent = ended.err.sent();
-            assert!(rt; line.starts_with(sent), "{}", case.words);
-            assert!(rt; number > 1 || sent.is_empty(), "{}", case.words);
-            assert!(rt; number < 15 || sent == line, "{}", case.words);
+            expect_told(&rt, case, number)?;
         }
     }
     Ok(())

@@ -2,8 +2,10 @@
 
 use crate::reservoirs::{FIRST, NEARER, SECOND};
 use acceptance_kit::commands::{folder_of_file, list_to};
-use acceptance_kit::rows::{Failing, File, ROW, Row, first_difference};
-use outside::Call;
+use acceptance_kit::rows::{Failing, File, MORE, More, ROW, Row, first_difference};
+use outside::{Call, MemFolder};
+use std::alloc::{AllocError, AllocGlobal};
+use std::process::Abort;
 use std::test::Fail;
 use test_files::files::{APE, ID3V1, ID3V1_REST, ID3V2, ID3V2_REST, Stretch};
 use test_files::frames::{EARLY_HEAD, HEAD, LOWER, MONO, PADDED, PROTECTED_Z, Z};
@@ -16,10 +18,15 @@ static CASES: [Row; 8] = [
             bytes: &[Stretch::Frames(&[FIRST, SECOND])],
         }],
         words: &["list a"],
-        text: "frame 0 at 0: 128 kbit/s, begin 0, bits 2400
+        more: Some(&More {
+            text: Some(
+                "frame 0 at 0: 128 kbit/s, begin 0, bits 2400
 frame 1 at 417: 128 kbit/s, begin 81, bits 3200
 2 frames, MPEG-1, 44100 Hz, 2 channels, 0.00.05
 ",
+            ),
+            ..MORE
+        }),
         ..ROW
     },
     Row {
@@ -29,10 +36,15 @@ frame 1 at 417: 128 kbit/s, begin 81, bits 3200
             bytes: &[Stretch::Frames(&[HEAD, NEARER])],
         }],
         words: &["list a"],
-        text: "head at 0: 417 bytes
+        more: Some(&More {
+            text: Some(
+                "head at 0: 417 bytes
 frame 0 at 417: 128 kbit/s, begin 40, bits 3200
 1 frames, MPEG-1, 44100 Hz, 2 channels, 0.00.02
 ",
+            ),
+            ..MORE
+        }),
         ..ROW
     },
     Row {
@@ -42,9 +54,14 @@ frame 0 at 417: 128 kbit/s, begin 40, bits 3200
             bytes: &[Stretch::Frames(&[SECOND])],
         }],
         words: &["list a"],
-        text: "frame 0 at 0: 128 kbit/s, begin 81, bits 3200, lost
+        more: Some(&More {
+            text: Some(
+                "frame 0 at 0: 128 kbit/s, begin 81, bits 3200, lost
 1 frames, MPEG-1, 44100 Hz, 2 channels, 0.00.02
 ",
+            ),
+            ..MORE
+        }),
         ..ROW
     },
     // The false frame in the junk isn't anchored: zeros stand at its end.
@@ -66,7 +83,9 @@ frame 0 at 417: 128 kbit/s, begin 40, bits 3200
             ],
         }],
         words: &["list a"],
-        text: "block ID3v2 at 0: 40 bytes
+        more: Some(&More {
+            text: Some(
+                "block ID3v2 at 0: 40 bytes
 junk at 42: 300 bytes
 frame 0 at 342: 128 kbit/s, begin 0, bits 0
 frame 1 at 759: 128 kbit/s, begin 0, bits 0
@@ -74,6 +93,9 @@ block APEv2 at 1176: 79 bytes
 block ID3v1 at 1255: 128 bytes
 2 frames, MPEG-1, 44100 Hz, 2 channels, 0.00.05
 ",
+            ),
+            ..MORE
+        }),
         ..ROW
     },
     Row {
@@ -94,7 +116,9 @@ block ID3v1 at 1255: 128 bytes
             ],
         }],
         words: &["list a"],
-        text: "block APEv2 at 0: 79 bytes
+        more: Some(&More {
+            text: Some(
+                "block APEv2 at 0: 79 bytes
 head at 79: 417 bytes
 frame 0 at 496: 128 kbit/s, begin 0, bits 0
 block ID3v2 at 913: 40 bytes
@@ -103,6 +127,9 @@ block ID3v1 at 1374: 128 bytes
 frame 2 at 1502: 128 kbit/s, begin 0, bits 0
 3 frames, MPEG-1, 44100 Hz, 2 channels, 0.00.07
 ",
+            ),
+            ..MORE
+        }),
         ..ROW
     },
     Row {
@@ -112,9 +139,14 @@ frame 2 at 1502: 128 kbit/s, begin 0, bits 0
             bytes: &[Stretch::Frames(&[MONO])],
         }],
         words: &["list a"],
-        text: "frame 0 at 0: 128 kbit/s, begin 0, bits 24
+        more: Some(&More {
+            text: Some(
+                "frame 0 at 0: 128 kbit/s, begin 0, bits 24
 1 frames, MPEG-1, 44100 Hz, 1 channels, 0.00.02
 ",
+            ),
+            ..MORE
+        }),
         ..ROW
     },
     Row {
@@ -124,9 +156,14 @@ frame 2 at 1502: 128 kbit/s, begin 0, bits 0
             bytes: &[Stretch::Frames(&[LOWER])],
         }],
         words: &["list a"],
-        text: "frame 0 at 0: 64 kbit/s padded, begin 0, bits 24
+        more: Some(&More {
+            text: Some(
+                "frame 0 at 0: 64 kbit/s padded, begin 0, bits 24
 1 frames, MPEG-2, 22050 Hz, 2 channels, 0.00.02
 ",
+            ),
+            ..MORE
+        }),
         ..ROW
     },
     // 8,000 Hz, 8 kbit/s, one channel, all bytes behind the header 0: 72 bytes and 72 ms each.
@@ -142,10 +179,15 @@ frame 2 at 1502: 128 kbit/s, begin 0, bits 0
             ],
         }],
         words: &["list a"],
-        text: "frame 0 at 0: 8 kbit/s, begin 0, bits 0
+        more: Some(&More {
+            text: Some(
+                "frame 0 at 0: 8 kbit/s, begin 0, bits 0
 frame 1 at 72: 8 kbit/s, begin 0, bits 0
 2 frames, MPEG-2.5, 8000 Hz, 1 channels, 0.00.14
 ",
+            ),
+            ..MORE
+        }),
         ..ROW
     },
 ];
@@ -175,7 +217,10 @@ static REFUSED: [Row; 5] = [
         words: &["list x"],
         status: 3,
         line: "x: absent\n",
-        absent: &["x"],
+        more: Some(&More {
+            absent: Some(&["x"]),
+            ..MORE
+        }),
         ..ROW
     },
     Row {
@@ -183,13 +228,16 @@ static REFUSED: [Row; 5] = [
             name: "a",
             bytes: &[],
         }],
-        fails: &[Failing {
-            call: Call::Find,
-            number: 1,
-        }],
         words: &["list a"],
         status: 3,
         line: "a: read fault\n",
+        more: Some(&More {
+            fails: Some(&[Failing {
+                call: Call::Find,
+                number: 1,
+            }]),
+            ..MORE
+        }),
         ..ROW
     },
     Row {
@@ -207,13 +255,16 @@ static REFUSED: [Row; 5] = [
             name: "a",
             bytes: &[Stretch::Frames(&[Z]), ID3V2],
         }],
-        fails: &[Failing {
-            call: Call::Read,
-            number: 1,
-        }],
         words: &["list a"],
         status: 3,
         line: "a: read fault\n",
+        more: Some(&More {
+            fails: Some(&[Failing {
+                call: Call::Read,
+                number: 1,
+            }]),
+            ..MORE
+        }),
         ..ROW
     },
 ];
@@ -225,26 +276,60 @@ fn refused_files(rt: HostRuntime) -> Result<(), Fail> {
     Ok(())
 }
 
+/// Asserts that so much of the text was sent at least.
+fn expect_prefix(rt: &impl Abort, sent: &[u8], whole: &[u8], least: usize) {
+    assert!(rt; sent.len() >= least);
+    assert!(rt; whole.starts_with(sent));
+}
+
+/// Asserts that a prefix of the text was sent where its write of this number fails.
+fn expect_failed<R: Abort + AllocGlobal>(
+    rt: &R,
+    folder: &mut MemFolder,
+    number: u64,
+    whole: &[u8],
+) -> Result<(), AllocError> {
+    let ended = list_to(rt.alloc(), folder, "z", Some(number))?;
+    assert_eq!(rt; ended.status, 3);
+    assert_eq!(rt;
+        ended.err.sent(),
+        b"standard output: write fault\n".as_slice()
+    );
+    let least = (number as usize).saturating_sub(1).saturating_mul(65_000);
+    expect_prefix(rt, ended.out.sent(), whole, least);
+    Ok(())
+}
+
+/// Asserts that all of it was sent where no fourth write is made.
+fn expect_whole<R: Abort + AllocGlobal>(
+    rt: &R,
+    folder: &mut MemFolder,
+    whole: &[u8],
+) -> Result<(), AllocError> {
+    let ended = list_to(rt.alloc(), folder, "z", Some(4))?;
+    assert_eq!(rt; ended.status, 0);
+    assert!(rt; ended.out.sent() == whole);
+    Ok(())
+}
+
+fn expect_each_write<R: Abort + AllocGlobal>(
+    rt: &R,
+    folder: &mut MemFolder,
+) -> Result<(), AllocError> {
+    let whole = list_to(rt.alloc(), folder, "z", None)?;
+    assert_eq!(rt; whole.status, 0);
+    assert!(rt; whole.out.sent().len() > 2 * 65_536);
+    for number in 1..4 {
+        expect_failed(rt, folder, number, whole.out.sent())?;
+    }
+    expect_whole(rt, folder, whole.out.sent())
+}
+
 // Each write of a text of several fails in turn: a prefix of the text was sent.
 #[test]
 fn each_write_fails_once(rt: HostRuntime) -> Result<(), Fail> {
     let mut folder = folder_of_file(rt.alloc(), "z", &MANY)?;
-    let whole = list_to(rt.alloc(), &mut folder, "z", None)?;
-    assert_eq!(rt; whole.status, 0);
-    assert!(rt; whole.out.sent().len() > 2 * 65_536);
-    for number in 1..4 {
-        let ended = list_to(rt.alloc(), &mut folder, "z", Some(number))?;
-        assert_eq!(rt; ended.status, 3);
-        assert_eq!(rt;
-            ended.err.sent(),
-            b"standard output: write fault\n".as_slice()
-        );
-        assert!(rt; ended.out.sent().len() >= (number as usize - 1) * 65_000);
-        assert!(rt; whole.out.sent().starts_with(ended.out.sent()));
-    }
-    let ended = list_to(rt.alloc(), &mut folder, "z", Some(4))?;
-    assert_eq!(rt; ended.status, 0);
-    assert!(rt; ended.out.sent() == whole.out.sent());
+    expect_each_write(&rt, &mut folder)?;
     Ok(())
 }
 

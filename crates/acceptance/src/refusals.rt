@@ -4,7 +4,7 @@ use crate::reservoirs::{
     FIRST, OVERFULL_BEHIND, OVERLAPPING, OVERLAPPING_AND_OVERFULL, SECOND, SILENT_BACK_POINTER,
     SILENT_TOO_FAR, TOO_FAR,
 };
-use acceptance_kit::rows::{Failing, File, ROW, Row, first_difference};
+use acceptance_kit::rows::{Failing, File, MORE, More, ROW, Row, first_difference};
 use outside::Call;
 use std::test::Fail;
 use test_files::files::{ID3V1, ID3V2, Stretch};
@@ -427,25 +427,28 @@ const CLOSED: Row = Row {
         name: "a",
         bytes: &[Stretch::Frames(&[G])],
     }],
-    outputs: &["b"],
-    fails: &[
-        Failing {
-            call: Call::Find,
-            number: 1,
-        },
-        Failing {
-            call: Call::Read,
-            number: 1,
-        },
-        Failing {
-            call: Call::Create,
-            number: 1,
-        },
-        Failing {
-            call: Call::Write,
-            number: 1,
-        },
-    ],
+    more: Some(&More {
+        outputs: Some(&["b"]),
+        fails: Some(&[
+            Failing {
+                call: Call::Find,
+                number: 1,
+            },
+            Failing {
+                call: Call::Read,
+                number: 1,
+            },
+            Failing {
+                call: Call::Create,
+                number: 1,
+            },
+            Failing {
+                call: Call::Write,
+                number: 1,
+            },
+        ]),
+        ..MORE
+    }),
     ..ROW
 };
 
@@ -522,7 +525,10 @@ static ABSENT: [Row; 2] = [
         words: &["gain -s s -g 5 a o"],
         status: 3,
         line: "a: absent\n",
-        absent: &["a"],
+        more: Some(&More {
+            absent: Some(&["a"]),
+            ..MORE
+        }),
         ..ROW
     },
     Row {
@@ -533,7 +539,10 @@ static ABSENT: [Row; 2] = [
         words: &["gain -s s -g 5 a a"],
         status: 1,
         line: "a: input is an output\n",
-        absent: &["a"],
+        more: Some(&More {
+            absent: Some(&["a"]),
+            ..MORE
+        }),
         ..ROW
     },
 ];

@@ -1,24 +1,12 @@
 //! A whole song.
 
-use crate::expected::expect;
-use acceptance_kit::commands::{folder_of, list_to};
+use acceptance_kit::commands::{Ended, folder_of_file, list_to};
+use acceptance_kit::rows::{File, MORE, More, ROW, Row, first_difference};
 use std::alloc::{AllocError, Global};
+use std::process::Abort;
 use std::test::Fail;
-use test_files::files::{ID3V1, ID3V1_REST, Stretch, bytes_of};
-use test_files::frames::{Frame, file_of};
-
-/// An ID3v2 block of 30,000 bytes, and a head of 417 with its text, flags, number of frames and number of
-/// bytes.
-static FRONT: [Stretch; 6] = [
-    Stretch::Bytes(&[b'I', b'D', b'3', 3, 0, 0, 0x00, 0x01, 0x6a, 0x26]),
-    Stretch::Fill(0xff, 29_990),
-    Stretch::Bytes(&[0xff, 0xfb, 0x90, 0x64]),
-    Stretch::Fill(0, 32),
-    Stretch::Bytes(b"Xing\0\0\0\x03\0\0\x23\xf0\0\x41\xf3\x45"),
-    Stretch::Fill(0x2a, 365),
-];
-
-static BACK: [Stretch; 2] = [ID3V1, ID3V1_REST];
+use test_files::files::{ID3V1, ID3V1_REST, Stretch};
+use test_files::frames::Frame;
 
 /// Four joint stereo frames of changing rates at 44,100 Hz, whose main data begin in the areas of the frames
 /// before them. Behind them the same four may stand again. The second channel of the third is silent.
@@ -117,38 +105,84 @@ const LOUDER: [Frame; 4] = [
     },
 ];
 
-// The block, the head, so many times four frames, and an ID3v1 block.
-fn song(alloc: Global, frames: &[Frame], times: usize) -> Result<Vec<u8>, AllocError> {
-    let mut file = bytes_of(alloc, &FRONT)?;
-    let frames = file_of(alloc, frames)?;
-    for _ in 0..times {
-        file.extend_from_slice(&frames)?;
-    }
-    file.extend_from_slice(&bytes_of(alloc, &BACK)?)?;
-    Ok(file)
-}
+/// An ID3v2 block of 30,000 bytes, and a head of 417 with its text, flags, number of frames and number of
+/// bytes. Then the frames stand 2,300 times, which is 9,200 of them and four minutes of sound, and at the end an ID3v1 block.
+const SONG: &[Stretch] = &[
+    Stretch::Bytes(&[b'I', b'D', b'3', 3, 0, 0, 0x00, 0x01, 0x6a, 0x26]),
+    Stretch::Fill(0xff, 29_990),
+    Stretch::Bytes(&[0xff, 0xfb, 0x90, 0x64]),
+    Stretch::Fill(0, 32),
+    Stretch::Bytes(b"Xing\0\0\0\x03\0\0\x23\xf0\0\x41\xf3\x45"),
+    Stretch::Fill(0x2a, 365),
+    Stretch::Repeated(&FRAMES, 2300),
+    ID3V1,
+    ID3V1_REST,
+];
 
-// 9,200 frames, four minutes of sound.
+/// The same with the louder frames.
+const LOUDER_SONG: &[Stretch] = &[
+    Stretch::Bytes(&[b'I', b'D', b'3', 3, 0, 0, 0x00, 0x01, 0x6a, 0x26]),
+    Stretch::Fill(0xff, 29_990),
+    Stretch::Bytes(&[0xff, 0xfb, 0x90, 0x64]),
+    Stretch::Fill(0, 32),
+    Stretch::Bytes(b"Xing\0\0\0\x03\0\0\x23\xf0\0\x41\xf3\x45"),
+    Stretch::Fill(0x2a, 365),
+    Stretch::Repeated(&LOUDER, 2300),
+    ID3V1,
+    ID3V1_REST,
+];
+
+// The third command is refused, so what the first two wrote stays.
+static THERE_AND_BACK: [Row; 1] = [Row {
+    files: &[File {
+        name: "s",
+        bytes: SONG,
+    }],
+    words: &[
+        "gain -s s -g 3 s o",
+        "gain -s s -g -3 o p",
+        "gain -s s -g -3 s o",
+    ],
+    status: 1,
+    line: "gain 0 out of range at 31774, granule 0, channel 0\n",
+    after: &[
+        File {
+            name: "o",
+            bytes: LOUDER_SONG,
+        },
+        File {
+            name: "p",
+            bytes: SONG,
+        },
+    ],
+    more: Some(&More {
+        outputs: Some(&["o", "p"]),
+        room: 5_000_000,
+        ..MORE
+    }),
+    ..ROW
+}];
+
 #[test]
 fn a_song_there_and_back(rt: HostRuntime) -> Result<(), Fail> {
-    let before = song(rt.alloc(), &FRAMES, 2300)?;
-    let after = song(rt.alloc(), &LOUDER, 2300)?;
-    let mut folder = folder_of(rt.alloc(), "s", &before, before.len())?;
-    folder.reserve("p", before.len() as u64)?;
-    expect(&rt, &mut folder, "gain -s s -g 3 s o", 0, "")?;
-    assert!(rt; folder.get("o") == Some(after.as_slice()));
-    expect(&rt, &mut folder, "gain -s s -g -3 o p", 0, "")?;
-    assert!(rt; folder.get("p") == Some(before.as_slice()));
-    let line = "gain 0 out of range at 31774, granule 0, channel 0\n";
-    expect(&rt, &mut folder, "gain -s s -g -3 s o", 1, line)?;
+    assert_eq!(rt; first_difference(rt.alloc(), &THERE_AND_BACK)?, None);
     Ok(())
+}
+
+fn listed(alloc: Global) -> Result<Ended, AllocError> {
+    let mut folder = folder_of_file(alloc, "s", SONG)?;
+    list_to(alloc, &mut folder, "s", None)
+}
+
+fn expect_between(rt: &impl Abort, text: &[u8], front: &[u8], end: &[u8]) {
+    assert!(rt; text.starts_with(front));
+    assert!(rt; text.ends_with(end));
 }
 
 #[test]
 fn a_listed_song(rt: HostRuntime) -> Result<(), Fail> {
-    let song = song(rt.alloc(), &FRAMES, 2300)?;
-    let mut folder = folder_of(rt.alloc(), "s", &song, 0)?;
-    let ended = list_to(rt.alloc(), &mut folder, "s", None)?;
+    let ended = listed(rt.alloc())?;
+    assert_eq!(rt; ended.status, 0);
     let front = b"block ID3v2 at 0: 30000 bytes
 head at 30000: 417 bytes
 frame 0 at 30417: 128 kbit/s, begin 200, bits 3597
@@ -156,8 +190,6 @@ frame 0 at 30417: 128 kbit/s, begin 200, bits 3597
     let end = b"block ID3v1 at 4352117: 128 bytes
 9200 frames, MPEG-1, 44100 Hz, 2 channels, 4.00.32
 ";
-    assert_eq!(rt; ended.status, 0);
-    assert!(rt; ended.out.sent().starts_with(front));
-    assert!(rt; ended.out.sent().ends_with(end));
+    expect_between(&rt, ended.out.sent(), front, end);
     Ok(())
 }

@@ -2,6 +2,8 @@
 
 use crate::expected::expect;
 use outside::{Failed, FindFault, Folder};
+use std::alloc::{AllocError, AllocGlobal};
+use std::process::Abort;
 use std::test::Fail;
 
 /// A folder whose files are all found with one length and end at another when they are read. It tells
@@ -78,24 +80,30 @@ static CASES: [Case; 3] = [
     },
 ];
 
+/// Asserts how the command ends, how often the end was met, and that nothing was written.
+fn expect_case<R: Abort + AllocGlobal>(rt: &R, case: &Case) -> Result<(), AllocError> {
+    let mut folder = Changing {
+        found: case.found,
+        there: case.there,
+        ends: 0,
+        write_faults: 0,
+    };
+    expect(
+        rt,
+        &mut folder,
+        "gain -s s -g 1 a o",
+        case.status,
+        case.line,
+    )?;
+    assert_eq!(rt; folder.ends, case.ends, "{}", case.line);
+    assert_eq!(rt; folder.write_faults, 0, "{}", case.line);
+    Ok(())
+}
+
 #[test]
 fn inputs_that_shrink_or_are_too_long(rt: HostRuntime) -> Result<(), Fail> {
     for case in &CASES {
-        let mut folder = Changing {
-            found: case.found,
-            there: case.there,
-            ends: 0,
-            write_faults: 0,
-        };
-        expect(
-            &rt,
-            &mut folder,
-            "gain -s s -g 1 a o",
-            case.status,
-            case.line,
-        )?;
-        assert_eq!(rt; folder.ends, case.ends, "{}", case.line);
-        assert_eq!(rt; folder.write_faults, 0, "{}", case.line);
+        expect_case(&rt, case)?;
     }
     Ok(())
 }

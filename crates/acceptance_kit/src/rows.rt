@@ -18,42 +18,71 @@ pub struct Failing {
 }
 
 /// A row: a folder, the commands over it, and what they leave. A file of `files` that `after` doesn't name has to stay, and a
-/// name of `outputs` that none of the three lists of files names has to be absent.
+/// name of the outputs that none of the three lists of files names has to be absent.
 pub struct Row {
     pub what: &'static str,
     pub files: &'static [File],
-    /// Names that a command may write, each with `room`.
-    pub outputs: &'static [&'static str],
-    pub room: u64,
-    pub fails: &'static [Failing],
     /// Commands that are run one after another. All but the last have to be done.
     pub words: &'static [&'static str],
-    /// The status of the last one, its line on standard error, and its text on standard output.
+    /// The status of the last one, and its line on standard error.
     pub status: u8,
     pub line: &'static str,
-    pub text: &'static str,
     pub after: &'static [File],
+    pub more: Option<&'static More>,
+}
+
+/// What few rows say. It stands apart from them, since each reference of a row costs the check of its table.
+pub struct More {
+    /// Names that a command may write, each with `room`; where it isn't said, `o` alone.
+    pub outputs: Option<&'static [&'static str]>,
+    pub room: u64,
+    pub fails: Option<&'static [Failing]>,
+    /// The text of the last command on standard output; where it isn't said, none.
+    pub text: Option<&'static str>,
     /// Files that must have become others than these.
-    pub others: &'static [File],
+    pub others: Option<&'static [File]>,
     /// Further names that must be absent.
-    pub absent: &'static [&'static str],
+    pub absent: Option<&'static [&'static str]>,
 }
 
 /// A command that is done over an empty folder and writes nothing: what a row doesn't say.
 pub const ROW: Row = Row {
     what: "",
     files: &[],
-    outputs: &["o"],
-    room: 200_000,
-    fails: &[],
     words: &[],
     status: 0,
     line: "",
-    text: "",
     after: &[],
-    others: &[],
-    absent: &[],
+    more: None,
 };
+
+/// What most rows don't say.
+pub const MORE: More = More {
+    outputs: None,
+    room: 200_000,
+    fails: None,
+    text: None,
+    others: None,
+    absent: None,
+};
+
+static NO_MORE: More = MORE;
+
+impl Row {
+    fn more(&self) -> &'static More {
+        self.more.unwrap_or(&NO_MORE)
+    }
+
+    fn others(&self) -> &'static [File] {
+        self.more().others.unwrap_or(&[])
+    }
+}
+
+impl More {
+    fn outputs(&self) -> &'static [&'static str] {
+        self.outputs.unwrap_or(&["o"])
+    }
+}
 
 /// What was found in place of what a row says.
 #[derive(Debug, PartialEq, Eq, Drop)]
@@ -112,9 +141,10 @@ fn fail_calls(folder: &mut MemFolder, fails: &'static [Failing]) -> Result<(), A
 
 /// Puts into the folder what the row begins with.
 fn prepare(alloc: Global, folder: &mut MemFolder, row: &'static Row) -> Result<(), AllocError> {
+    let more = row.more();
     put_files(alloc, folder, row.files)?;
-    reserve_outputs(folder, row.outputs, row.room)?;
-    fail_calls(folder, row.fails)
+    reserve_outputs(folder, more.outputs(), more.room)?;
+    fail_calls(folder, more.fails.unwrap_or(&[]))
 }
 
 /// The first place where the bytes differ, or the length of the shorter.
@@ -167,7 +197,7 @@ pub fn difference_of_files(
 
 /// Whether the row says of this name that a file stands there.
 fn may_be_there(row: &'static Row, after: &'static [File], name: &str) -> bool {
-    is_named(row.files, name) || is_named(after, name) || is_named(row.others, name)
+    is_named(row.files, name) || is_named(after, name) || is_named(row.others(), name)
 }
 
 /// The first output that is there and may not be.
@@ -176,7 +206,7 @@ fn difference_of_outputs(
     row: &'static Row,
     after: &'static [File],
 ) -> Option<Found> {
-    for name in row.outputs {
+    for name in row.more().outputs() {
         if folder.get(name).is_some() && !may_be_there(row, after, name) {
             return Some(Found::Present(name));
         }
@@ -224,7 +254,8 @@ fn difference_of_folder(
     if let Some(found) = difference_of_outputs(folder, row, after) {
         return Ok(Some(found));
     }
-    Ok(difference_of_absent(folder, row.absent))
+    let absent = row.more().absent.unwrap_or(&[]);
+    Ok(difference_of_absent(folder, absent))
 }
 
 /// How a command ended otherwise than with this status, line and text.
@@ -311,13 +342,14 @@ fn difference_of_last(
     if wants_memory(ended) {
         return difference_of_want(alloc, folder, row);
     }
-    if let Some(found) = difference_of_end(alloc, ended, row.status, row.line, row.text)? {
+    let text = row.more().text.unwrap_or("");
+    if let Some(found) = difference_of_end(alloc, ended, row.status, row.line, text)? {
         return Ok(Some(found));
     }
     if let Some(found) = difference_of_folder(alloc, folder, row, row.after)? {
         return Ok(Some(found));
     }
-    difference_of_others(alloc, folder, row.others)
+    difference_of_others(alloc, folder, row.others())
 }
 
 fn run_last(

@@ -36,34 +36,6 @@ const KINDS: &[Kind] = &[
     },
 ];
 
-/// The same where two writes are made at least.
-const KINDS_OF_CUT: &[Kind] = &[
-    Kind {
-        call: Call::Find,
-        line: "u: read fault\n",
-        least: 1,
-        written: 0,
-    },
-    Kind {
-        call: Call::Read,
-        line: "u: read fault\n",
-        least: 1,
-        written: 0,
-    },
-    Kind {
-        call: Call::Create,
-        line: "o: write fault\n",
-        least: 1,
-        written: 0,
-    },
-    Kind {
-        call: Call::Write,
-        line: "o: write fault\n",
-        least: 2,
-        written: 0,
-    },
-];
-
 static COMMANDS: [Steps; 2] = [
     Steps {
         words: "cut u 0 2 o",
@@ -84,7 +56,7 @@ static COMMANDS: [Steps; 2] = [
             ],
         }],
         room: 200000,
-        kinds: KINDS_OF_CUT,
+        kinds: KINDS,
     },
     Steps {
         words: "pack u o",

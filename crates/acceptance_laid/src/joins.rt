@@ -1,7 +1,7 @@
 //! Files that are joined.
 
 use crate::songs::{A, A_0, A_1, INFO, INFO_REST, LEAD_IN, NO_SIDE};
-use acceptance_kit::rows::{File, ROW, Row, first_difference};
+use acceptance_kit::rows::{File, MORE, More, ROW, Row, first_difference};
 use std::test::Fail;
 use test_files::files::Stretch;
 use test_files::frames::{Frame, MPEG_2, Z};
@@ -149,7 +149,10 @@ static REFUSED: [Row; 3] = [
         words: &["join o a x m"],
         status: 3,
         line: "x: absent\n",
-        absent: &["x"],
+        more: Some(&More {
+            absent: Some(&["x"]),
+            ..MORE
+        }),
         ..ROW
     },
 ];

@@ -1,7 +1,7 @@
 //! Files that are split at places.
 
 use crate::songs::{INFO, INFO_REST, NO_SIDE};
-use acceptance_kit::rows::{File, ROW, Row, first_difference};
+use acceptance_kit::rows::{File, MORE, More, ROW, Row, first_difference};
 use std::test::Fail;
 use test_files::files::Stretch;
 use test_files::frames::{Frame, Z};
@@ -48,7 +48,6 @@ static AT_TIMES: [Row; 1] = [Row {
         name: "z",
         bytes: FOUR,
     }],
-    outputs: &["p01.mp3", "p02.mp3"],
     words: &["split z p 0.0 0.00.05 EOF"],
     after: &[
         File {
@@ -60,7 +59,11 @@ static AT_TIMES: [Row; 1] = [Row {
             bytes: PIECE_2,
         },
     ],
-    absent: &["p03.mp3"],
+    more: Some(&More {
+        outputs: Some(&["p01.mp3", "p02.mp3"]),
+        absent: Some(&["p03.mp3"]),
+        ..MORE
+    }),
     ..ROW
 }];
 
@@ -78,10 +81,13 @@ static REFUSED: [Row; 4] = [
             name: "p99.mp3",
             bytes: FOUR,
         }],
-        outputs: &["p01.mp3", "p02.mp3"],
         words: &["split p99.mp3 p 0.0 0.00.05 EOF"],
         status: 1,
         line: "p99.mp3: input is an output\n",
+        more: Some(&More {
+            outputs: Some(&["p01.mp3", "p02.mp3"]),
+            ..MORE
+        }),
         ..ROW
     },
     Row {
@@ -89,10 +95,13 @@ static REFUSED: [Row; 4] = [
             name: "z",
             bytes: FOUR,
         }],
-        outputs: &["p01.mp3", "p02.mp3"],
         words: &["split z p 0 5"],
         status: 1,
         line: "range 0 to 5 of 4 frames\n",
+        more: Some(&More {
+            outputs: Some(&["p01.mp3", "p02.mp3"]),
+            ..MORE
+        }),
         ..ROW
     },
     Row {
@@ -100,10 +109,13 @@ static REFUSED: [Row; 4] = [
             name: "z",
             bytes: FOUR,
         }],
-        outputs: &["p01.mp3", "p02.mp3"],
         words: &["split z p 0 2 2 4"],
         status: 1,
         line: "range 2 to 2 of 4 frames\n",
+        more: Some(&More {
+            outputs: Some(&["p01.mp3", "p02.mp3"]),
+            ..MORE
+        }),
         ..ROW
     },
     Row {
@@ -111,10 +123,13 @@ static REFUSED: [Row; 4] = [
             name: "z",
             bytes: FOUR,
         }],
-        outputs: &["p01.mp3", "p02.mp3"],
         words: &["split z p 0 1 EOF EOF"],
         status: 1,
         line: "range 4 to 4 of 4 frames\n",
+        more: Some(&More {
+            outputs: Some(&["p01.mp3", "p02.mp3"]),
+            ..MORE
+        }),
         ..ROW
     },
 ];

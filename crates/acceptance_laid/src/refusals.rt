@@ -1,7 +1,7 @@
 //! What `cut` and `pack` refuse.
 
 use crate::songs::A;
-use acceptance_kit::rows::{File, ROW, Row, first_difference};
+use acceptance_kit::rows::{File, MORE, More, ROW, Row, first_difference};
 use std::test::Fail;
 
 static REFUSED: [Row; 10] = [
@@ -84,7 +84,10 @@ static REFUSED: [Row; 10] = [
         words: &["cut x 0 1 o"],
         status: 3,
         line: "x: absent\n",
-        absent: &["x"],
+        more: Some(&More {
+            absent: Some(&["x"]),
+            ..MORE
+        }),
         ..ROW
     },
     Row {
@@ -95,7 +98,10 @@ static REFUSED: [Row; 10] = [
         words: &["pack x o"],
         status: 3,
         line: "x: absent\n",
-        absent: &["x"],
+        more: Some(&More {
+            absent: Some(&["x"]),
+            ..MORE
+        }),
         ..ROW
     },
     Row {

@@ -2,7 +2,7 @@
 
 use crate::pieces::{Z_FROM_381, Z_FROM_511};
 use crate::songs::{INFO, INFO_REST, NO_SIDE};
-use acceptance_kit::rows::{File, ROW, Row, first_difference};
+use acceptance_kit::rows::{File, MORE, More, ROW, Row, first_difference};
 use std::test::Fail;
 use test_files::files::Stretch;
 use test_files::frames::Z;
@@ -60,7 +60,6 @@ static TRACKS: [Row; 1] = [Row {
             bytes: SHEET,
         },
     ],
-    outputs: &["p01.mp3", "p02.mp3"],
     words: &["split z p -c s"],
     after: &[
         File {
@@ -72,7 +71,11 @@ static TRACKS: [Row; 1] = [Row {
             bytes: TRACK_2,
         },
     ],
-    absent: &["p03.mp3"],
+    more: Some(&More {
+        outputs: Some(&["p01.mp3", "p02.mp3"]),
+        absent: Some(&["p03.mp3"]),
+        ..MORE
+    }),
     ..ROW
 }];
 
@@ -95,10 +98,13 @@ static REFUSED: [Row; 5] = [
                 bytes: &[TWO_TRACKS],
             },
         ],
-        outputs: &["p01.mp3", "p02.mp3"],
         words: &["split z p -c s"],
         status: 1,
         line: "range 76 to 76 of 76 frames\n",
+        more: Some(&More {
+            outputs: Some(&["p01.mp3", "p02.mp3"]),
+            ..MORE
+        }),
         ..ROW
     },
     Row {
@@ -114,10 +120,13 @@ static REFUSED: [Row; 5] = [
                 )],
             },
         ],
-        outputs: &["p01.mp3", "p02.mp3"],
         words: &["split z p -c s"],
         status: 1,
         line: "s: bad line 3\n",
+        more: Some(&More {
+            outputs: Some(&["p01.mp3", "p02.mp3"]),
+            ..MORE
+        }),
         ..ROW
     },
     Row {
@@ -133,10 +142,13 @@ static REFUSED: [Row; 5] = [
                 )],
             },
         ],
-        outputs: &["p01.mp3", "p02.mp3"],
         words: &["split z p -c s"],
         status: 1,
         line: "s: not rising at line 5\n",
+        more: Some(&More {
+            outputs: Some(&["p01.mp3", "p02.mp3"]),
+            ..MORE
+        }),
         ..ROW
     },
     Row {
@@ -150,10 +162,13 @@ static REFUSED: [Row; 5] = [
                 bytes: &[Stretch::Bytes(b"FILE \"a.mp3\" MP3\n")],
             },
         ],
-        outputs: &["p01.mp3", "p02.mp3"],
         words: &["split z p -c s"],
         status: 1,
         line: "s: no tracks\n",
+        more: Some(&More {
+            outputs: Some(&["p01.mp3", "p02.mp3"]),
+            ..MORE
+        }),
         ..ROW
     },
     Row {
@@ -167,10 +182,13 @@ static REFUSED: [Row; 5] = [
                 bytes: &[Stretch::Fill(0x0a, 65_537)],
             },
         ],
-        outputs: &["p01.mp3", "p02.mp3"],
         words: &["split z p -c s"],
         status: 1,
         line: "s: sheet too large, 65537 bytes\n",
+        more: Some(&More {
+            outputs: Some(&["p01.mp3", "p02.mp3"]),
+            ..MORE
+        }),
         ..ROW
     },
 ];
@@ -193,11 +211,14 @@ static ABSENT: [Row; 2] = [
                 bytes: SHEET,
             },
         ],
-        outputs: &["p01.mp3", "p02.mp3"],
         words: &["split x p -c y"],
         status: 3,
         line: "x: absent\n",
-        absent: &["x", "y"],
+        more: Some(&More {
+            outputs: Some(&["p01.mp3", "p02.mp3"]),
+            absent: Some(&["x", "y"]),
+            ..MORE
+        }),
         ..ROW
     },
     Row {
@@ -211,11 +232,14 @@ static ABSENT: [Row; 2] = [
                 bytes: SHEET,
             },
         ],
-        outputs: &["p01.mp3", "p02.mp3"],
         words: &["split z p -c y"],
         status: 3,
         line: "y: absent\n",
-        absent: &["y"],
+        more: Some(&More {
+            outputs: Some(&["p01.mp3", "p02.mp3"]),
+            absent: Some(&["y"]),
+            ..MORE
+        }),
         ..ROW
     },
 ];

@@ -1,7 +1,7 @@
 //! Calls of the outside that fail, where tags are read and written.
 
 use crate::blocks::{THREE_BACK, THREE_FRONT, TWO, UNDO_BACK, UNDO_FRONT};
-use acceptance_kit::rows::{Failing, File, ROW, Row, first_difference};
+use acceptance_kit::rows::{Failing, File, MORE, More, ROW, Row, first_difference};
 use acceptance_kit::steps::{Kind, Steps, first_strayed};
 use outside::Call;
 use std::test::Fail;
@@ -136,13 +136,16 @@ static READINGS: [Row; 6] = [
             name: "u",
             bytes: NOTED,
         }],
-        fails: &[Failing {
-            call: Call::Read,
-            number: 1,
-        }],
         words: &["gain -g -5 u o"],
         status: 3,
         line: "u: read fault\n",
+        more: Some(&More {
+            fails: Some(&[Failing {
+                call: Call::Read,
+                number: 1,
+            }]),
+            ..MORE
+        }),
         ..ROW
     },
     Row {
@@ -150,23 +153,22 @@ static READINGS: [Row; 6] = [
             name: "u",
             bytes: NOTED,
         }],
-        fails: &[Failing {
-            call: Call::Read,
-            number: 2,
-        }],
         words: &["gain -g -5 u o"],
         status: 3,
         line: "u: read fault\n",
+        more: Some(&More {
+            fails: Some(&[Failing {
+                call: Call::Read,
+                number: 2,
+            }]),
+            ..MORE
+        }),
         ..ROW
     },
     Row {
         files: &[File {
             name: "u",
             bytes: NOTED,
-        }],
-        fails: &[Failing {
-            call: Call::Read,
-            number: 3,
         }],
         words: &["gain -g -5 u o"],
         status: 3,
@@ -175,44 +177,53 @@ static READINGS: [Row; 6] = [
             name: "o",
             bytes: &[],
         }],
+        more: Some(&More {
+            fails: Some(&[Failing {
+                call: Call::Read,
+                number: 3,
+            }]),
+            ..MORE
+        }),
         ..ROW
     },
     Row {
         files: &[File {
             name: "u",
             bytes: NOTED,
-        }],
-        fails: &[Failing {
-            call: Call::Read,
-            number: 1,
         }],
         words: &["gain -u u o"],
         status: 3,
         line: "u: read fault\n",
+        more: Some(&More {
+            fails: Some(&[Failing {
+                call: Call::Read,
+                number: 1,
+            }]),
+            ..MORE
+        }),
         ..ROW
     },
     Row {
         files: &[File {
             name: "u",
             bytes: NOTED,
-        }],
-        fails: &[Failing {
-            call: Call::Read,
-            number: 2,
         }],
         words: &["gain -u u o"],
         status: 3,
         line: "u: read fault\n",
+        more: Some(&More {
+            fails: Some(&[Failing {
+                call: Call::Read,
+                number: 2,
+            }]),
+            ..MORE
+        }),
         ..ROW
     },
     Row {
         files: &[File {
             name: "u",
             bytes: NOTED,
-        }],
-        fails: &[Failing {
-            call: Call::Read,
-            number: 3,
         }],
         words: &["gain -u u o"],
         status: 3,
@@ -221,6 +232,13 @@ static READINGS: [Row; 6] = [
             name: "o",
             bytes: &[],
         }],
+        more: Some(&More {
+            fails: Some(&[Failing {
+                call: Call::Read,
+                number: 3,
+            }]),
+            ..MORE
+        }),
         ..ROW
     },
 ];

@@ -1,6 +1,6 @@
 //! Tags about as long as a tag may be, 1,048,576 bytes.
 
-use acceptance_kit::rows::{File, ROW, Row, first_difference};
+use acceptance_kit::rows::{File, MORE, More, ROW, Row, first_difference};
 use std::test::Fail;
 use test_files::files::Stretch;
 use test_files::frames::{G, G_LOWER, MONO, Z};
@@ -62,12 +62,15 @@ static DONE: [Row; 3] = [
             name: "a",
             bytes: &[Stretch::Frames(&[G]), ROOM, ROOM_VALUE, ROOM_BACK],
         }],
-        room: 2_000_000,
         words: &["gain -g -5 a o"],
         after: &[File {
             name: "o",
             bytes: &[Stretch::Frames(&[G_LOWER]), FILLED, ROOM_VALUE, FILLED_BACK],
         }],
+        more: Some(&More {
+            room: 2_000_000,
+            ..MORE
+        }),
         ..ROW
     },
     Row {
@@ -76,12 +79,15 @@ static DONE: [Row; 3] = [
             name: "a",
             bytes: &[Stretch::Frames(&[G_LOWER]), FILLED, ROOM_VALUE, FILLED_BACK],
         }],
-        room: 2_000_000,
         words: &["gain -u a o"],
         after: &[File {
             name: "o",
             bytes: &[Stretch::Frames(&[G]), ROOM, ROOM_VALUE, ROOM_BACK],
         }],
+        more: Some(&More {
+            room: 2_000_000,
+            ..MORE
+        }),
         ..ROW
     },
     Row {
@@ -90,12 +96,15 @@ static DONE: [Row; 3] = [
             name: "a",
             bytes: &[Stretch::Frames(&[G]), TOO_LONG, TOO_LONG_REST],
         }],
-        room: 2_000_000,
         words: &["gain -s s -g -5 a o"],
         after: &[File {
             name: "o",
             bytes: &[Stretch::Frames(&[G_LOWER]), TOO_LONG, TOO_LONG_REST],
         }],
+        more: Some(&More {
+            room: 2_000_000,
+            ..MORE
+        }),
         ..ROW
     },
 ];
@@ -113,10 +122,13 @@ static REFUSED: [Row; 7] = [
             name: "a",
             bytes: &[Stretch::Frames(&[MONO]), TOO_LONG, TOO_LONG_REST],
         }],
-        room: 2_000_000,
         words: &["gain -l 0 1 a o"],
         status: 1,
         line: "tag too large, 1048577\n",
+        more: Some(&More {
+            room: 2_000_000,
+            ..MORE
+        }),
         ..ROW
     },
     Row {
@@ -125,10 +137,13 @@ static REFUSED: [Row; 7] = [
             name: "a",
             bytes: &[TOO_LONG, TOO_LONG_REST, Stretch::Frames(&[G])],
         }],
-        room: 2_000_000,
         words: &["gain -u a o"],
         status: 1,
         line: "tag too large, 1048577\n",
+        more: Some(&More {
+            room: 2_000_000,
+            ..MORE
+        }),
         ..ROW
     },
     Row {
@@ -142,10 +157,13 @@ static REFUSED: [Row; 7] = [
                 Stretch::Bytes(b"x"),
             ],
         }],
-        room: 2_000_000,
         words: &["gain -u a o"],
         status: 1,
         line: "a: lost synchronisation at 1048994\n",
+        more: Some(&More {
+            room: 2_000_000,
+            ..MORE
+        }),
         ..ROW
     },
     Row {
@@ -154,10 +172,13 @@ static REFUSED: [Row; 7] = [
             name: "a",
             bytes: &[Stretch::Frames(&[Z]), LONGEST, LONGEST_VALUE, LONGEST_BACK],
         }],
-        room: 2_000_000,
         words: &["gain -u a o"],
         status: 1,
         line: "no undo item\n",
+        more: Some(&More {
+            room: 2_000_000,
+            ..MORE
+        }),
         ..ROW
     },
     Row {
@@ -166,10 +187,13 @@ static REFUSED: [Row; 7] = [
             name: "a",
             bytes: &[Stretch::Frames(&[Z]), LONGEST, LONGEST_VALUE, LONGEST_BACK],
         }],
-        room: 2_000_000,
         words: &["gain -g 0 a o"],
         status: 1,
         line: "tag too large, 1048608\n",
+        more: Some(&More {
+            room: 2_000_000,
+            ..MORE
+        }),
         ..ROW
     },
     Row {
@@ -178,10 +202,13 @@ static REFUSED: [Row; 7] = [
             name: "a",
             bytes: &[Stretch::Frames(&[G]), NO_ROOM, NO_ROOM_VALUE, NO_ROOM_BACK],
         }],
-        room: 2_000_000,
         words: &["gain -g 1 a o"],
         status: 1,
         line: "tag too large, 1048577\n",
+        more: Some(&More {
+            room: 2_000_000,
+            ..MORE
+        }),
         ..ROW
     },
     Row {
@@ -195,10 +222,13 @@ static REFUSED: [Row; 7] = [
                 NO_ROOM_BACK,
             ],
         }],
-        room: 2_000_000,
         words: &["gain -l 1 1 a o"],
         status: 1,
         line: "one channel only\n",
+        more: Some(&More {
+            room: 2_000_000,
+            ..MORE
+        }),
         ..ROW
     },
 ];

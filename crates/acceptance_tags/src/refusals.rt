@@ -1,7 +1,7 @@
 //! What is refused of a file with a tag, and in which order.
 
 use crate::blocks::{JOINT, M, TWO, UNDO_BACK, UNDO_FRONT};
-use acceptance_kit::rows::{File, ROW, Row, first_difference};
+use acceptance_kit::rows::{File, MORE, More, ROW, Row, first_difference};
 use std::test::Fail;
 use test_files::files::Stretch;
 use test_files::frames::{G, Z};
@@ -290,7 +290,10 @@ static NAMES: [Row; 4] = [
         words: &["gain -u x o"],
         status: 3,
         line: "x: absent\n",
-        absent: &["x"],
+        more: Some(&More {
+            absent: Some(&["x"]),
+            ..MORE
+        }),
         ..ROW
     },
     Row {
@@ -301,7 +304,10 @@ static NAMES: [Row; 4] = [
         words: &["gain -g 1 x o"],
         status: 3,
         line: "x: absent\n",
-        absent: &["x"],
+        more: Some(&More {
+            absent: Some(&["x"]),
+            ..MORE
+        }),
         ..ROW
     },
 ];

@@ -3,6 +3,8 @@
 use crate::blocks::{UNDO_BACK, UNDO_FRONT};
 use crate::expected::expect;
 use outside::{Failed, FindFault, Folder};
+use std::alloc::{AllocError, AllocGlobal};
+use std::process::Abort;
 use std::test::Fail;
 use test_files::files::{Stretch, bytes_of};
 use test_files::frames::G_LOWER;
@@ -107,20 +109,26 @@ static CASES: [Case; 5] = [
     },
 ];
 
+/// Asserts how the words end, how many outputs were created, and that the end was met once.
+fn expect_case<R: Abort + AllocGlobal>(rt: &R, case: &Case, words: &str) -> Result<(), AllocError> {
+    let mut folder = Shrinking {
+        bytes: bytes_of(rt.alloc(), &NOTED)?,
+        whole_reads: case.whole_reads,
+        shorter: case.shorter,
+        ends: 0,
+        created: 0,
+    };
+    expect(rt, &mut folder, words, 3, case.line)?;
+    assert_eq!(rt; folder.created, case.created, "{}", case.line);
+    assert_eq!(rt; folder.ends, 1, "{}", case.line);
+    Ok(())
+}
+
 #[test]
 fn a_file_that_becomes_shorter(rt: HostRuntime) -> Result<(), Fail> {
     for case in &CASES {
         for words in ["gain -g 1 a o", "gain -u a o"] {
-            let mut folder = Shrinking {
-                bytes: bytes_of(rt.alloc(), &NOTED)?,
-                whole_reads: case.whole_reads,
-                shorter: case.shorter,
-                ends: 0,
-                created: 0,
-            };
-            expect(&rt, &mut folder, words, 3, case.line)?;
-            assert_eq!(rt; folder.created, case.created, "{}", case.line);
-            assert_eq!(rt; folder.ends, 1, "{}", case.line);
+            expect_case(&rt, case, words)?;
         }
     }
     Ok(())

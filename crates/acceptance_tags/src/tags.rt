@@ -5,7 +5,7 @@ use crate::blocks::{
     M_LOUDER, NONE, THREE_BACK, THREE_FRONT, TWO, TWO_AND_UNDO_BACK, TWO_AND_UNDO_FRONT, UNDO_BACK,
     UNDO_FRONT,
 };
-use acceptance_kit::rows::{File, ROW, Row, first_difference};
+use acceptance_kit::rows::{File, MORE, More, ROW, Row, first_difference};
 use std::test::Fail;
 use test_files::files::{ID3V1, ID3V1_REST, ID3V2, ID3V2_REST, Stretch};
 use test_files::frames::{
@@ -667,7 +667,6 @@ static SUMS: [Row; 2] = [
             name: "z",
             bytes: &[Stretch::Frames(&[Z])],
         }],
-        outputs: &["a", "b", "c", "o"],
         words: &["gain -g 255 z a", "gain -g 255 a b", "gain -g 255 b c"],
         after: &[
             File {
@@ -683,6 +682,10 @@ static SUMS: [Row; 2] = [
                 bytes: LOUDEST,
             },
         ],
+        more: Some(&More {
+            outputs: Some(&["a", "b", "c", "o"]),
+            ..MORE
+        }),
         ..ROW
     },
     Row {

@@ -4,7 +4,7 @@ use crate::blocks::{
     G_WRAPPED_DOWN, G_WRAPPED_UP, JOINT, LOST, LOWEST, LOWEST_LOUDER, M, M_LOUDER, THREE_BACK,
     THREE_FRONT, TWO, UNDO_BACK, UNDO_FRONT,
 };
-use acceptance_kit::rows::{File, ROW, Row, first_difference};
+use acceptance_kit::rows::{File, MORE, More, ROW, Row, first_difference};
 use std::test::Fail;
 use test_files::files::{ID3V1, ID3V1_REST, ID3V2, ID3V2_REST, Stretch};
 use test_files::frames::{
@@ -416,7 +416,6 @@ static CHAINS: [Row; 9] = [
             name: "a",
             bytes: &[Stretch::Frames(&[G, Z, PROTECTED_G])],
         }],
-        outputs: &["b", "c", "d", "o"],
         words: &[
             "gain -g -5 a b",
             "gain -g 3 b c",
@@ -427,20 +426,24 @@ static CHAINS: [Row; 9] = [
             name: "o",
             bytes: &[Stretch::Frames(&[G, Z, PROTECTED_G])],
         }],
-        others: &[
-            File {
-                name: "b",
-                bytes: &[Stretch::Frames(&[G, Z, PROTECTED_G])],
-            },
-            File {
-                name: "c",
-                bytes: &[Stretch::Frames(&[G, Z, PROTECTED_G])],
-            },
-            File {
-                name: "d",
-                bytes: &[Stretch::Frames(&[G, Z, PROTECTED_G])],
-            },
-        ],
+        more: Some(&More {
+            outputs: Some(&["b", "c", "d", "o"]),
+            others: Some(&[
+                File {
+                    name: "b",
+                    bytes: &[Stretch::Frames(&[G, Z, PROTECTED_G])],
+                },
+                File {
+                    name: "c",
+                    bytes: &[Stretch::Frames(&[G, Z, PROTECTED_G])],
+                },
+                File {
+                    name: "d",
+                    bytes: &[Stretch::Frames(&[G, Z, PROTECTED_G])],
+                },
+            ]),
+            ..MORE
+        }),
         ..ROW
     },
     Row {
@@ -449,7 +452,6 @@ static CHAINS: [Row; 9] = [
             name: "a",
             bytes: &[Stretch::Frames(&[G, PADDED])],
         }],
-        outputs: &["b", "c", "d", "o"],
         words: &[
             "gain -l 0 -5 a b",
             "gain -w -g 255 b c",
@@ -460,20 +462,24 @@ static CHAINS: [Row; 9] = [
             name: "o",
             bytes: &[Stretch::Frames(&[G, PADDED])],
         }],
-        others: &[
-            File {
-                name: "b",
-                bytes: &[Stretch::Frames(&[G, PADDED])],
-            },
-            File {
-                name: "c",
-                bytes: &[Stretch::Frames(&[G, PADDED])],
-            },
-            File {
-                name: "d",
-                bytes: &[Stretch::Frames(&[G, PADDED])],
-            },
-        ],
+        more: Some(&More {
+            outputs: Some(&["b", "c", "d", "o"]),
+            others: Some(&[
+                File {
+                    name: "b",
+                    bytes: &[Stretch::Frames(&[G, PADDED])],
+                },
+                File {
+                    name: "c",
+                    bytes: &[Stretch::Frames(&[G, PADDED])],
+                },
+                File {
+                    name: "d",
+                    bytes: &[Stretch::Frames(&[G, PADDED])],
+                },
+            ]),
+            ..MORE
+        }),
         ..ROW
     },
     Row {
@@ -482,7 +488,6 @@ static CHAINS: [Row; 9] = [
             name: "a",
             bytes: &[Stretch::Frames(&[G, LONG]), TWO, ID3V1, ID3V1_REST],
         }],
-        outputs: &["b", "c", "d", "o"],
         words: &[
             "gain -g -1 a b",
             "gain -w -g 1 b c",
@@ -493,20 +498,24 @@ static CHAINS: [Row; 9] = [
             name: "o",
             bytes: &[Stretch::Frames(&[G, LONG]), TWO, ID3V1, ID3V1_REST],
         }],
-        others: &[
-            File {
-                name: "b",
-                bytes: &[Stretch::Frames(&[G, LONG]), TWO, ID3V1, ID3V1_REST],
-            },
-            File {
-                name: "c",
-                bytes: &[Stretch::Frames(&[G, LONG]), TWO, ID3V1, ID3V1_REST],
-            },
-            File {
-                name: "d",
-                bytes: &[Stretch::Frames(&[G, LONG]), TWO, ID3V1, ID3V1_REST],
-            },
-        ],
+        more: Some(&More {
+            outputs: Some(&["b", "c", "d", "o"]),
+            others: Some(&[
+                File {
+                    name: "b",
+                    bytes: &[Stretch::Frames(&[G, LONG]), TWO, ID3V1, ID3V1_REST],
+                },
+                File {
+                    name: "c",
+                    bytes: &[Stretch::Frames(&[G, LONG]), TWO, ID3V1, ID3V1_REST],
+                },
+                File {
+                    name: "d",
+                    bytes: &[Stretch::Frames(&[G, LONG]), TWO, ID3V1, ID3V1_REST],
+                },
+            ]),
+            ..MORE
+        }),
         ..ROW
     },
     Row {
@@ -515,7 +524,6 @@ static CHAINS: [Row; 9] = [
             name: "a",
             bytes: &[TWO, Stretch::Frames(&[G])],
         }],
-        outputs: &["b", "c", "d", "o"],
         words: &[
             "gain -g -1 a b",
             "gain -l 0 1 b c",
@@ -526,20 +534,24 @@ static CHAINS: [Row; 9] = [
             name: "o",
             bytes: &[TWO, Stretch::Frames(&[G])],
         }],
-        others: &[
-            File {
-                name: "b",
-                bytes: &[TWO, Stretch::Frames(&[G])],
-            },
-            File {
-                name: "c",
-                bytes: &[TWO, Stretch::Frames(&[G])],
-            },
-            File {
-                name: "d",
-                bytes: &[TWO, Stretch::Frames(&[G])],
-            },
-        ],
+        more: Some(&More {
+            outputs: Some(&["b", "c", "d", "o"]),
+            others: Some(&[
+                File {
+                    name: "b",
+                    bytes: &[TWO, Stretch::Frames(&[G])],
+                },
+                File {
+                    name: "c",
+                    bytes: &[TWO, Stretch::Frames(&[G])],
+                },
+                File {
+                    name: "d",
+                    bytes: &[TWO, Stretch::Frames(&[G])],
+                },
+            ]),
+            ..MORE
+        }),
         ..ROW
     },
     Row {
@@ -556,7 +568,6 @@ static CHAINS: [Row; 9] = [
                 ID3V1_REST,
             ],
         }],
-        outputs: &["b", "c", "d", "o"],
         words: &[
             "gain -g -1 a b",
             "gain -g -1 b c",
@@ -575,44 +586,48 @@ static CHAINS: [Row; 9] = [
                 ID3V1_REST,
             ],
         }],
-        others: &[
-            File {
-                name: "b",
-                bytes: &[
-                    ID3V2,
-                    ID3V2_REST,
-                    Stretch::Fill(0, 2),
-                    Stretch::Frames(&[HEAD, G]),
-                    Stretch::Fill(0, 3),
-                    ID3V1,
-                    ID3V1_REST,
-                ],
-            },
-            File {
-                name: "c",
-                bytes: &[
-                    ID3V2,
-                    ID3V2_REST,
-                    Stretch::Fill(0, 2),
-                    Stretch::Frames(&[HEAD, G]),
-                    Stretch::Fill(0, 3),
-                    ID3V1,
-                    ID3V1_REST,
-                ],
-            },
-            File {
-                name: "d",
-                bytes: &[
-                    ID3V2,
-                    ID3V2_REST,
-                    Stretch::Fill(0, 2),
-                    Stretch::Frames(&[HEAD, G]),
-                    Stretch::Fill(0, 3),
-                    ID3V1,
-                    ID3V1_REST,
-                ],
-            },
-        ],
+        more: Some(&More {
+            outputs: Some(&["b", "c", "d", "o"]),
+            others: Some(&[
+                File {
+                    name: "b",
+                    bytes: &[
+                        ID3V2,
+                        ID3V2_REST,
+                        Stretch::Fill(0, 2),
+                        Stretch::Frames(&[HEAD, G]),
+                        Stretch::Fill(0, 3),
+                        ID3V1,
+                        ID3V1_REST,
+                    ],
+                },
+                File {
+                    name: "c",
+                    bytes: &[
+                        ID3V2,
+                        ID3V2_REST,
+                        Stretch::Fill(0, 2),
+                        Stretch::Frames(&[HEAD, G]),
+                        Stretch::Fill(0, 3),
+                        ID3V1,
+                        ID3V1_REST,
+                    ],
+                },
+                File {
+                    name: "d",
+                    bytes: &[
+                        ID3V2,
+                        ID3V2_REST,
+                        Stretch::Fill(0, 2),
+                        Stretch::Frames(&[HEAD, G]),
+                        Stretch::Fill(0, 3),
+                        ID3V1,
+                        ID3V1_REST,
+                    ],
+                },
+            ]),
+            ..MORE
+        }),
         ..ROW
     },
     Row {
@@ -621,7 +636,6 @@ static CHAINS: [Row; 9] = [
             name: "a",
             bytes: &[Stretch::Frames(&[LOWER, PROTECTED_LOWER])],
         }],
-        outputs: &["b", "c", "d", "o"],
         words: &[
             "gain -g -5 a b",
             "gain -w -g 100 b c",
@@ -632,20 +646,24 @@ static CHAINS: [Row; 9] = [
             name: "o",
             bytes: &[Stretch::Frames(&[LOWER, PROTECTED_LOWER])],
         }],
-        others: &[
-            File {
-                name: "b",
-                bytes: &[Stretch::Frames(&[LOWER, PROTECTED_LOWER])],
-            },
-            File {
-                name: "c",
-                bytes: &[Stretch::Frames(&[LOWER, PROTECTED_LOWER])],
-            },
-            File {
-                name: "d",
-                bytes: &[Stretch::Frames(&[LOWER, PROTECTED_LOWER])],
-            },
-        ],
+        more: Some(&More {
+            outputs: Some(&["b", "c", "d", "o"]),
+            others: Some(&[
+                File {
+                    name: "b",
+                    bytes: &[Stretch::Frames(&[LOWER, PROTECTED_LOWER])],
+                },
+                File {
+                    name: "c",
+                    bytes: &[Stretch::Frames(&[LOWER, PROTECTED_LOWER])],
+                },
+                File {
+                    name: "d",
+                    bytes: &[Stretch::Frames(&[LOWER, PROTECTED_LOWER])],
+                },
+            ]),
+            ..MORE
+        }),
         ..ROW
     },
     Row {
@@ -654,7 +672,6 @@ static CHAINS: [Row; 9] = [
             name: "a",
             bytes: &[Stretch::Frames(&[M, M_LOUDER])],
         }],
-        outputs: &["b", "c", "d", "o"],
         words: &[
             "gain -g -5 a b",
             "gain -w -g 200 b c",
@@ -665,20 +682,24 @@ static CHAINS: [Row; 9] = [
             name: "o",
             bytes: &[Stretch::Frames(&[M, M_LOUDER])],
         }],
-        others: &[
-            File {
-                name: "b",
-                bytes: &[Stretch::Frames(&[M, M_LOUDER])],
-            },
-            File {
-                name: "c",
-                bytes: &[Stretch::Frames(&[M, M_LOUDER])],
-            },
-            File {
-                name: "d",
-                bytes: &[Stretch::Frames(&[M, M_LOUDER])],
-            },
-        ],
+        more: Some(&More {
+            outputs: Some(&["b", "c", "d", "o"]),
+            others: Some(&[
+                File {
+                    name: "b",
+                    bytes: &[Stretch::Frames(&[M, M_LOUDER])],
+                },
+                File {
+                    name: "c",
+                    bytes: &[Stretch::Frames(&[M, M_LOUDER])],
+                },
+                File {
+                    name: "d",
+                    bytes: &[Stretch::Frames(&[M, M_LOUDER])],
+                },
+            ]),
+            ..MORE
+        }),
         ..ROW
     },
     Row {
@@ -687,7 +708,6 @@ static CHAINS: [Row; 9] = [
             name: "a",
             bytes: &[Stretch::Frames(&[LOWEST])],
         }],
-        outputs: &["b", "c", "d", "o"],
         words: &[
             "gain -g 155 a b",
             "gain -w -g 1 b c",
@@ -698,20 +718,24 @@ static CHAINS: [Row; 9] = [
             name: "o",
             bytes: &[Stretch::Frames(&[LOWEST])],
         }],
-        others: &[
-            File {
-                name: "b",
-                bytes: &[Stretch::Frames(&[LOWEST])],
-            },
-            File {
-                name: "c",
-                bytes: &[Stretch::Frames(&[LOWEST])],
-            },
-            File {
-                name: "d",
-                bytes: &[Stretch::Frames(&[LOWEST])],
-            },
-        ],
+        more: Some(&More {
+            outputs: Some(&["b", "c", "d", "o"]),
+            others: Some(&[
+                File {
+                    name: "b",
+                    bytes: &[Stretch::Frames(&[LOWEST])],
+                },
+                File {
+                    name: "c",
+                    bytes: &[Stretch::Frames(&[LOWEST])],
+                },
+                File {
+                    name: "d",
+                    bytes: &[Stretch::Frames(&[LOWEST])],
+                },
+            ]),
+            ..MORE
+        }),
         ..ROW
     },
     Row {
@@ -720,7 +744,6 @@ static CHAINS: [Row; 9] = [
             name: "a",
             bytes: &[Stretch::Frames(&[LOST, G])],
         }],
-        outputs: &["b", "c", "d", "o"],
         words: &[
             "gain -g -5 a b",
             "gain -g 3 b c",
@@ -731,20 +754,24 @@ static CHAINS: [Row; 9] = [
             name: "o",
             bytes: &[Stretch::Frames(&[LOST, G])],
         }],
-        others: &[
-            File {
-                name: "b",
-                bytes: &[Stretch::Frames(&[LOST, G])],
-            },
-            File {
-                name: "c",
-                bytes: &[Stretch::Frames(&[LOST, G])],
-            },
-            File {
-                name: "d",
-                bytes: &[Stretch::Frames(&[LOST, G])],
-            },
-        ],
+        more: Some(&More {
+            outputs: Some(&["b", "c", "d", "o"]),
+            others: Some(&[
+                File {
+                    name: "b",
+                    bytes: &[Stretch::Frames(&[LOST, G])],
+                },
+                File {
+                    name: "c",
+                    bytes: &[Stretch::Frames(&[LOST, G])],
+                },
+                File {
+                    name: "d",
+                    bytes: &[Stretch::Frames(&[LOST, G])],
+                },
+            ]),
+            ..MORE
+        }),
         ..ROW
     },
 ];
@@ -763,10 +790,13 @@ static UNCHANGED: [Row; 9] = [
             name: "a",
             bytes: &[Stretch::Frames(&[G, Z, PROTECTED_G])],
         }],
-        outputs: &["b"],
         words: &["gain -u a b"],
         status: 1,
         line: "no undo item\n",
+        more: Some(&More {
+            outputs: Some(&["b"]),
+            ..MORE
+        }),
         ..ROW
     },
     Row {
@@ -775,10 +805,13 @@ static UNCHANGED: [Row; 9] = [
             name: "a",
             bytes: &[Stretch::Frames(&[G, PADDED])],
         }],
-        outputs: &["b"],
         words: &["gain -u a b"],
         status: 1,
         line: "no undo item\n",
+        more: Some(&More {
+            outputs: Some(&["b"]),
+            ..MORE
+        }),
         ..ROW
     },
     Row {
@@ -787,10 +820,13 @@ static UNCHANGED: [Row; 9] = [
             name: "a",
             bytes: &[Stretch::Frames(&[G, LONG]), TWO, ID3V1, ID3V1_REST],
         }],
-        outputs: &["b"],
         words: &["gain -u a b"],
         status: 1,
         line: "no undo item\n",
+        more: Some(&More {
+            outputs: Some(&["b"]),
+            ..MORE
+        }),
         ..ROW
     },
     Row {
@@ -799,10 +835,13 @@ static UNCHANGED: [Row; 9] = [
             name: "a",
             bytes: &[TWO, Stretch::Frames(&[G])],
         }],
-        outputs: &["b"],
         words: &["gain -u a b"],
         status: 1,
         line: "no undo item\n",
+        more: Some(&More {
+            outputs: Some(&["b"]),
+            ..MORE
+        }),
         ..ROW
     },
     Row {
@@ -819,10 +858,13 @@ static UNCHANGED: [Row; 9] = [
                 ID3V1_REST,
             ],
         }],
-        outputs: &["b"],
         words: &["gain -u a b"],
         status: 1,
         line: "no undo item\n",
+        more: Some(&More {
+            outputs: Some(&["b"]),
+            ..MORE
+        }),
         ..ROW
     },
     Row {
@@ -831,10 +873,13 @@ static UNCHANGED: [Row; 9] = [
             name: "a",
             bytes: &[Stretch::Frames(&[LOWER, PROTECTED_LOWER])],
         }],
-        outputs: &["b"],
         words: &["gain -u a b"],
         status: 1,
         line: "no undo item\n",
+        more: Some(&More {
+            outputs: Some(&["b"]),
+            ..MORE
+        }),
         ..ROW
     },
     Row {
@@ -843,10 +888,13 @@ static UNCHANGED: [Row; 9] = [
             name: "a",
             bytes: &[Stretch::Frames(&[M, M_LOUDER])],
         }],
-        outputs: &["b"],
         words: &["gain -u a b"],
         status: 1,
         line: "no undo item\n",
+        more: Some(&More {
+            outputs: Some(&["b"]),
+            ..MORE
+        }),
         ..ROW
     },
     Row {
@@ -855,10 +903,13 @@ static UNCHANGED: [Row; 9] = [
             name: "a",
             bytes: &[Stretch::Frames(&[LOWEST])],
         }],
-        outputs: &["b"],
         words: &["gain -u a b"],
         status: 1,
         line: "no undo item\n",
+        more: Some(&More {
+            outputs: Some(&["b"]),
+            ..MORE
+        }),
         ..ROW
     },
     Row {
@@ -867,10 +918,13 @@ static UNCHANGED: [Row; 9] = [
             name: "a",
             bytes: &[Stretch::Frames(&[LOST, G])],
         }],
-        outputs: &["b"],
         words: &["gain -u a b"],
         status: 1,
         line: "no undo item\n",
+        more: Some(&More {
+            outputs: Some(&["b"]),
+            ..MORE
+        }),
         ..ROW
     },
 ];

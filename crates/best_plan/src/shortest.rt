@@ -40,8 +40,10 @@ pub fn best<P: Policy>(alloc: Global, needs: &[Need], policy: &P) -> Result<Plan
     requires class { AreOfOneClass needs.now }
     requires some { 1 ≤ length needs.now }
     requires few { length needs.now ≤ 200000 }
-    requires feasible { IsFeasible (window_in needs.now) (window_in needs.now) (map own_frame needs.now) }
-    ensures { IfOk result (λ p. IsBestPlan (window_in needs.now) (P.choices_of policy.now) needs.now (entries p)) }
+    requires feasible { IsFeasible (window_in needs.now) (window_in needs.now)
+        (map own_frame needs.now) }
+    ensures { IfOk result (λ p. IsBestPlan (window_in needs.now) (P.choices_of policy.now) needs.now
+        (entries p)) }
 {
     let class = needs[0].header.class();
     let window = class.window();

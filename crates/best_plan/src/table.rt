@@ -32,7 +32,8 @@ fn append_row(
     requires areas { All (λ n. n ≤ 1441) areas.now }
     requires few { length areas.now ≤ 28 }
     requires later { length later.now ≡ window + 1 }
-    ensures { IfOk result (λ _. AppendsRow window bytes areas.now later.now sums.new.items places.old.items places.new.items) }
+    ensures { IfOk result (λ _. AppendsRow window bytes areas.now later.now sums.new.items
+        places.old.items places.new.items) }
 {
     sums.clear();
     for free in 0..window + 1 {
@@ -78,7 +79,8 @@ pub(crate) fn table_of<P: Policy>(
 ) -> Result<Table, AllocError>
     requires window { window ≤ 511 }
     requires few { length needs.now ≤ 200000 }
-    ensures { IfOk result (λ t. IsTable window (P.choices_of policy.now) needs.now t.sums.items t.places.items) }
+    ensures { IfOk result (λ t. IsTable window
+        (P.choices_of policy.now) needs.now t.sums.items t.places.items) }
 {
     let width = window as usize + 1;
     let mut places = Vec::with_capacity(alloc, needs.len() * width)?;

@@ -14,7 +14,8 @@ fn frame_at<P: Policy>(need: &Need, place: u8, free: u32, policy: &P) -> Placed
     ensures frame { result.lead_in ≡ false }
     ensures begin { result.begin ≡ free }
     ensures chosen { Contains (P.choices_of policy.now need.now.header) result.slot }
-    ensures area { area_in (item_of (P.choices_of policy.now) need.now) result.slot ≡ slice_index (areas_for (P.choices_of policy.now) need.now) place }
+    ensures area { area_in (item_of (P.choices_of policy.now) need.now) result.slot ≡ slice_index
+        (areas_for (P.choices_of policy.now) need.now) place }
     ensures ascending { AllPairs (λ m n. m < n) (areas_for (P.choices_of policy.now) need.now) }
 {
     let choices = policy.choices(&need.header);
@@ -37,7 +38,8 @@ pub(crate) fn walk<P: Policy>(
     requires window { window ≤ 511 }
     requires free { free ≤ window }
     requires table { CanWalk window (P.choices_of policy.now) free needs.now places.items }
-    ensures { IfOk result (λ _. Walks window (P.choices_of policy.now) free needs.now placed.old.items placed.new.items) }
+    ensures { IfOk result (λ _. Walks window
+        (P.choices_of policy.now) free needs.now placed.old.items placed.new.items) }
 {
     let width = window as usize + 1;
     let mut places = places;

@@ -1,5 +1,5 @@
 -- A format as a list of widths: successive groups of so many bits each, as the tables of a standard give them.
-use Rattle.std.specs.Prelude.{ℕ, ◌^◌, ◌<◌, List, [], ◌∷◌, ◌++◌, take, drop}
+use Rattle.std.specs.Prelude.{ℕ, ◌+◌, ◌^◌, ◌<◌, List, [], ◌∷◌, ◌++◌, take, drop}
 use Rattle.bit_fields.specs.Bits.{bits_of, number}
 
 -- the number of the group of so many bits that begins at a bit
@@ -16,6 +16,10 @@ unfoldable pub spelled : List ℕ → List ℕ → List ℕ
 spelled [] ns = []
 spelled (width ∷ widths) [] = []
 spelled (width ∷ widths) (n ∷ ns) = bits_of width n ++ spelled widths ns
+
+-- bits with a value in place of the group of so many bits that begins at a bit
+abbrev pub with_value : ℕ → ℕ → ℕ → List ℕ → List ℕ
+with_value at width value bs = take at bs ++ bits_of width value ++ drop (at + width) bs
 
 -- there is a number for each group, and it fits
 abbrev pub Fits : List ℕ → List ℕ → Type 0

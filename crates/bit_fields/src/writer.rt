@@ -11,7 +11,8 @@ pub fn put(bytes: &mut [u8], at: usize, n: u32, value: u32)
     requires room { at + n ≤ 8 * length bytes.old }
     requires fits { value < 2 ^ n }
     requires short { length bytes.old ≤ 2 ^ 28 }
-    ensures { bits bytes.new ≡ take at (bits bytes.old) ++ bits_of n value ++ drop (at + n) (bits bytes.old) }
+    ensures { bits bytes.new ≡ take at (bits bytes.old) ++ bits_of n value ++ drop (at + n)
+        (bits bytes.old) }
 {
     if n > 0 && bytes.len() >= 8 {
         put_in_word(bytes, at, n, value);
@@ -27,7 +28,8 @@ pub fn put(bytes: &mut [u8], at: usize, n: u32, value: u32)
 pub fn put_byte(bytes: &mut [u8], at: usize, value: u8)
     requires room { at + 16 ≤ 8 * length bytes.old }
     requires short { length bytes.old ≤ 2 ^ 28 }
-    ensures { bits bytes.new ≡ take at (bits bytes.old) ++ bits_of 8 value ++ drop (at + 8) (bits bytes.old) }
+    ensures { bits bytes.new ≡ take at (bits bytes.old) ++ bits_of 8 value ++ drop (at + 8)
+        (bits bytes.old) }
 {
     put_in_bytes(bytes, at, 8, u32::from(value), at / 8 + 2);
 }
@@ -42,7 +44,8 @@ fn put_in_bytes(bytes: &mut [u8], at: usize, n: u32, value: u32, last: usize)
     requires room { last ≤ length bytes.old }
     requires fits { value < 2 ^ n }
     requires short { length bytes.old ≤ 2 ^ 28 }
-    ensures { bits bytes.new ≡ take at (bits bytes.old) ++ bits_of n value ++ drop (at + n) (bits bytes.old) }
+    ensures { bits bytes.new ≡ take at (bits bytes.old) ++ bits_of n value ++ drop (at + n)
+        (bits bytes.old) }
 {
     let end = at + n as usize;
     let low = (8 * last - end) as u32;
@@ -60,7 +63,8 @@ fn put_in_word(bytes: &mut [u8], at: usize, n: u32, value: u32)
     requires long { 8 ≤ length bytes.old }
     requires fits { value < 2 ^ n }
     requires short { length bytes.old ≤ 2 ^ 28 }
-    ensures { bits bytes.new ≡ take at (bits bytes.old) ++ bits_of n value ++ drop (at + n) (bits bytes.old) }
+    ensures { bits bytes.new ≡ take at (bits bytes.old) ++ bits_of n value ++ drop (at + n)
+        (bits bytes.old) }
 {
     let end = at + n as usize;
     let first = (at / 8).min(bytes.len() - 8);

@@ -77,7 +77,8 @@ impl Seen {
     pub(crate) fn behind(self, entry: Entry) -> Seen
         requires lines { self.lines < 65537 }
         requires tracks { self.tracks ≤ self.lines }
-        ensures seen { (before : List EntryData) → IsSeen before self → IsSeen (before ++ entry ∷ []) result }
+        ensures seen { (before : List EntryData) → IsSeen before self
+            → IsSeen (before ++ entry ∷ []) result }
         ensures lines { result.lines ≡ self.lines + 1 }
         ensures tracks { result.tracks ≤ result.lines }
     {

@@ -1,6 +1,6 @@
 -- Frames that a command chooses of a surveyed file: they have a plan, and the file of them holds the stream that the command says.
 use Rattle.std.proofs.Common.{◌≡◌, ◌≢◌, ℕ, suc, ◌+◌, ◌-◌, ◌==◌, eqb, ◌&&◌, Bool, true, false, cond, List, [], ◌∷◌, ◌++◌, length, get_or, map, drop, take, Option, Some, None, Result, Ok, Err, refl, sym, ◌∙◌, ap, subst, inl, inr, arith, rules, append-nil, length-append}
-use Rattle.std.specs.Prelude.{◌⊎◌, ◌↔◌, ◌<◌, ◌≤◌, nat_lt, nat_le, IfSome, IfErr, slice_get, slice_range, flat_map, Contains, All, replicate}
+use Rattle.std.specs.Prelude.{◌⊎◌, ◌↔◌, ◌<◌, ◌≤◌, nat_lt, nat_le, IfSome, IfErr, slice_get, slice_range, Contains, All, replicate}
 use Rattle.std.specs.List.{range_with_len}
 use Rattle.std.proofs.lemmas.Bool.Decides.{eqb_tells}
 use Rattle.std.proofs.lemmas.Option.{slice_get_cases, slice_get-get_or}
@@ -22,11 +22,11 @@ use Rattle.slot_plan.specs.Plans.{IsPlan}
 use Rattle.slot_plan.specs.Laws.{ChooseInOrder}
 use Rattle.slot_plan.proofs.ThePlan.{plan-the_plan}
 use Rattle.part_needs.specs.Needs.{Asked, need_of, needs_of, asked_of}
-use Rattle.part_needs.specs.Fit.{own_choice, any_choice, IsPlaced, AreFit}
+use Rattle.part_needs.specs.Fit.{IsPlaced, AreFit}
 use Rattle.part_needs.proofs.FitLaws.{AreKnown, part-fits, part-known}
 use Rattle.part_needs.proofs.PartsLaws.{one-part-fits, parts_are}
 use Rattle.frame_writer.specs.Frames.{Frame}
-use Rattle.laying.specs.Relaid.{Part, IsPart, AreParts, AreSlots, frames_in, stream_in, needs_in, relaid, with_lead_ins}
+use Rattle.laying.specs.Relaid.{Part, AreParts, AreSlots, frames_in, stream_in, relaid, with_lead_ins}
 use Rattle.laying.specs.Fits.{FitsFrom}
 use Rattle.laying.specs.Written.{front_blocks, back_blocks, slot_in, table_entry, head_info}
 use Rattle.laying.proofs.HoldLaws.{files-hold, blocks-kept}
@@ -52,32 +52,6 @@ use Rattle.moved_gains.proofs.SurveyedFiles.{survey_of-parts}
 use Rattle.edits.proofs.OneLaws.{IsProper}
 use Rattle.edits.proofs.Proper.{unless_ok}
 use Rattle.edits.proofs.Refusals.{IsLate, err_late, unless_late}
-
--- ---- how many frames there are
-
-not_more : (n : ℕ) → (n == n) ≡ false → ⊥
-not_more n none = at (eqb_tells n n)
-  where
-    at : ((eqb n n ≡ true) × (n ≡ n)) ⊎ ((eqb n n ≡ false) × (n ≢ n)) → ⊥
-    at (inl same) = let both : true ≡ false = sym same.0 ∙ none in absurd cc
-    at (inr differ) = differ.1 refl
-
--- a survey has no more frames than it may have
-few_rows : (n : ℕ) (rows : List Row) → ((r : Row) → slice_get rows n ≡ Some r → (n == n) ≡ false) → length rows ≤ n
-few_rows n rows none = at (slice_get_cases rows n).1
-  where
-    at : ((x : Row) × (n < length rows) × (slice_get rows n ≡ Some x) × (get_or rows n x ≡ x)) ⊎ ((length rows ≤ n) × (slice_get rows n ≡ None)) → length rows ≤ n
-    at (inl found) = absurd (not_more n (none found.0 found.2))
-    at (inr past) = past.0
-
-pub survey-few : (file : List ℕ) (allowed : ℕ) (s : SurveyFields) → surveyed file allowed ≡ Ok s → length s.frames ≤ allowed
-survey-few file allowed s e =
-    let parts = surveyed-parts file allowed s e in
-    let start = parts.0 in
-    let rows = rows_of file (frames_from file start) in
-    let sound = all_faults-none_sound file (head_of file start.first) (class_from start) allowed rows parts.1.frames in
-    let few = few_rows allowed rows (λ r is. (sound allowed r is).few) in
-    omega (arith, few, ap (λ (t : SurveyFields). length t.frames) (sym parts.2) ∙ marked-length (head_of file start.first) rows)
 
 -- ---- how many places a plan of them has
 

@@ -1,41 +1,70 @@
--- The pass that lays chosen frames anew, as one of the passes of this crate.
-use Rattle.std.proofs.Common.{◌≡◌, ℕ, List, ◌++◌, take, Some, None, refl, ◌∙◌, ap, inl, inr, arith, get_or, length}
+-- The pass that lays chosen frames anew.
+use Rattle.std.proofs.Common.{◌≡◌, ◌≢◌, ℕ, List, ◌++◌, take, Some, None, refl, sym, subst, ◌∙◌, ap, inl, inr, arith, get_or, length}
 use Rattle.std.specs.Prelude.{◌⊎◌, ◌<◌, ◌≤◌, slice_get, slice_range}
 use Rattle.std.specs.List.{concat}
 use Rattle.std.proofs.lemmas.Option.{slice_get_cases}
-use Rattle.outside.specs.Files.{Files, Holds}
+use Rattle.outside.specs.Files.{Files, Holds, IsThere, emptied}
 use Rattle.outside.specs.Counts.{Counts}
+use Rattle.outside.specs.Feed.{Fed, IsFedFrom}
+use Rattle.outside.specs.declared.pass.PassFault.{PassFault}
+use Rattle.outside.specs.declared.pass.PassFault.TheVariants.{Read, Shrunk, Write}
+use Rattle.outside.specs.Pass.{Appends, AppendsPrefix, HasPassCause}
+use Rattle.outside.proofs.FilesLaws.{emptied_there, emptied_keeps}
 use Rattle.frame_writer.specs.Frames.{frame_bytes}
 use Rattle.slot_plan.specs.declared.needs.Placed.{Placed}
 use Rattle.laid_files.specs.LaidFiles.{laid_file}
-use Rattle.laying.specs.declared.relay.PassFault.{PassFault}
-use Rattle.laying.specs.declared.relay.PassFault.TheVariants.{Read, Shrunk, Write}
+use Rattle.laying.specs.declared.relay.Relay.{Relay}
 use Rattle.laying.specs.Relaid.{all_frames, relaid}
 use Rattle.laying.specs.Written.{front_blocks, back_blocks}
-use Rattle.laying.specs.Passing.{Appends as Adds, AppendsPrefix as AddsPrefix, HasPassCause}
+use Rattle.laying.specs.Passing.{IsReady}
+use Rattle.laying.proofs.ReadLaws.{survey-length}
 use Rattle.sync_survey.specs.declared.rows.Row.{Row}
-use Rattle.sync_survey.specs.Faults.{SurveyFields}
-use Rattle.moved_gains.specs.Pass.{Appends, AppendsPrefix, HasCopyCause}
-use Rattle.edits.specs.PassFaults.{of_relay, of_pass}
+use Rattle.sync_survey.specs.Faults.{SurveyFields, tells}
+use Rattle.sync_survey.specs.Survey.{IsLaidOut}
+use Rattle.edits.specs.PassFaults.{of_pass}
 use Rattle.edits.specs.Chosen.{Chosen, plan_of, laid_from, chosen_file, IsChosenInfo}
-use Rattle.edits.specs.One.{Making, IsInputFault}
+use Rattle.edits.specs.Selected.{IsSurveyOf}
+use Rattle.edits.specs.One.{Making, IsInputFault, most_frames}
 use Rattle.edits.specs.Left.{seen}
+use Rattle.edits.proofs.OutputLaws.{emptied_held}
 
-pub appends-as : (input output : List ℕ) (made other : List ℕ → List ℕ) (old new : Files) → ((file : List ℕ) → Holds old input file → made file ≡ other file) → Adds input output made old new → Appends input output other old new
-appends-as input output made other old new same h = record { bytes = h.bytes; is = λ file holds. h.is file holds ∙ same file holds; files = h.files }
+-- the same, said otherwise
+pub appends-as : {input output : List ℕ} (made other : List ℕ → List ℕ) {old new : Files} → ((file : List ℕ) → Holds old input file → made file ≡ other file) → Appends input output made old new → Appends input output other old new
+appends-as made other same h = record { bytes = h.bytes; is = λ file holds. h.is file holds ∙ same file holds; files = h.files }
 
-pub appends-as_prefix : (input output : List ℕ) (made other : List ℕ → List ℕ) (old new : Files) → ((file : List ℕ) → Holds old input file → made file ≡ other file) → AddsPrefix input output made old new → AppendsPrefix input output other old new
-appends-as_prefix input output made other old new same h =
-    record { bytes = h.bytes; prefix = λ file holds. h.prefix file holds ∙ ap (take (length h.bytes)) (same file holds); files = h.files }
+pub appends-as_prefix : {input output : List ℕ} (made other : List ℕ → List ℕ) {old new : Files} → ((file : List ℕ) → Holds old input file → made file ≡ other file) → AppendsPrefix input output made old new
+    → AppendsPrefix input output other old new
+appends-as_prefix made other same h = record { bytes = h.bytes; prefix = λ file holds. h.prefix file holds ∙ ap (take (length h.bytes)) (same file holds); files = h.files }
 
-pub relay-cause : (fault : PassFault) (size : ℕ) (files : Files) (before after : Counts) → HasPassCause size files before after fault → HasCopyCause size files before after (of_relay fault)
-relay-cause Read size files before after h = h
-relay-cause (Shrunk first second) size files before after h = h
-relay-cause Write size files before after h = h
+-- once the output was created, all is ready for the pass
+pub relay-ready : (relay : Relay) (old mid : Files) (fed : Fed) → relay.pass.input.now ≢ relay.pass.output.now → IsThere old relay.pass.input.now → IsLaidOut (tells relay.survey.now) → IsSurveyOf relay.pass.input.now (tells relay.survey.now) old
+    → relay.pass.length ≡ (tells relay.survey.now).length → mid ≡ emptied old relay.pass.output.now → IsFedFrom fed mid relay.pass.input.now → IsReady relay mid fed
+relay-ready relay old mid fed apart there laid surveyed long created fed_from =
+    let input = relay.pass.input.now in
+    let output = relay.pass.output.now in
+    let s = tells relay.survey.now in
+    let held : (file : List ℕ) → Holds mid input file → Holds old input file = λ file holds. emptied_held old input output file apart (subst (λ f. Holds f input file) created holds) in
+    record {
+      pass = record {
+        apart = apart;
+        source = subst (λ f. IsThere f input) (sym created) (emptied_keeps old output input there);
+        target = subst (λ f. IsThere f output) (sym created) (emptied_there old output);
+        length_is = λ file holds. survey-length file s (most_frames, surveyed file (held file holds)) ∙ sym long;
+        few = omega (arith, long, laid.few);
+        fed_from = fed_from;
+      };
+      length_is = long;
+      exact = λ file holds. (most_frames, surveyed file (held file holds));
+      laid = laid;
+    }
+
+-- and the survey is that of the input still
+pub survey-still : (input output : List ℕ) (s : SurveyFields) (old mid : Files) → input ≢ output → mid ≡ emptied old output → IsSurveyOf input s old → IsSurveyOf input s mid
+survey-still input output s old mid apart created surveyed = λ file holds. surveyed file (emptied_held old input output file apart (subst (λ f. Holds f input file) created holds))
 
 -- a fault of reading before the output is created
 pub read_is_input : (make : Making) (name : List ℕ) (files new : Files) (before after : Counts) (same : new ≡ files) (fault : PassFault) (size : ℕ) → (fault ≡ Write → ⊥) → HasPassCause size files before after fault
-    → IsInputFault make name (seen files before) (seen new after) (of_pass (of_relay fault))
+    → IsInputFault make name (seen files before) (seen new after) (of_pass fault)
 read_is_input make name files new before after same Read size reads h = record { rose = h.0; files = same }
 read_is_input make name files new before after same (Shrunk first second) size reads h = record { rose = h.3; counts = h.4; untold_before = h.0; untold_after = same ∙ h.0 }
 read_is_input make name files new before after same Write size reads h = absurd (reads refl)

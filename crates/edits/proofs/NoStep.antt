@@ -18,7 +18,8 @@ use Rattle.moved_gains.specs.declared.shift.Steps.{Steps}
 use Rattle.moved_gains.specs.Gains.{moved_side}
 use Rattle.moved_gains.specs.Edited.{edited}
 use Rattle.moved_gains.specs.Streams.{moved_survey, without_junk, moved_stream_frame}
-use Rattle.moved_gains.specs.Moving.{row_length, row_end, moved_row_bytes, bytes_between}
+use Rattle.outside.specs.Pass.{bytes_between}
+use Rattle.moved_gains.specs.Moving.{row_length, row_end, moved_row_bytes}
 use Rattle.moved_gains.proofs.MovedGains.{GainsFit, IsNoStep, side_none}
 use Rattle.moved_gains.proofs.MovedFrame.{frame_none}
 use Rattle.moved_gains.proofs.MovingLaws.{written-edited}

@@ -3,11 +3,11 @@ use Rattle.std.proofs.Common.{◌≡◌, ◌≢◌, ℕ, List, [], ◌++◌, len
 use Rattle.outside.specs.Files.{Files, untold, emptied, appended, with_file, Holds}
 use Rattle.outside.specs.Counts.{Counts, Rose, NoneFell, NothingFailed}
 use Rattle.outside.proofs.FilesLaws.{with_file_here, with_file_other, with_file_twice, emptied_told, appended_told}
-use Rattle.moved_gains.specs.declared.moving.CopyFault.{CopyFault}
-use Rattle.moved_gains.specs.declared.moving.CopyFault.TheVariants.{Read, Shrunk, Write}
+use Rattle.outside.specs.declared.pass.PassFault.{PassFault}
+use Rattle.outside.specs.declared.pass.PassFault.TheVariants.{Read, Shrunk, Write}
 use Rattle.edits.specs.One.{holding, IsBegun, IsPassFault}
 use Rattle.edits.specs.Left.{seen, IsOfPass}
-use Rattle.moved_gains.specs.Pass.{Appends, AppendsPrefix, HasCopyCause}
+use Rattle.outside.specs.Pass.{Appends, AppendsPrefix, HasPassCause}
 use Rattle.edits.specs.PassFaults.{of_pass}
 
 -- emptied and then appended to, the output holds these bytes
@@ -42,12 +42,12 @@ unfolding appended
 appended_untold None name more is = refl
 appended_untold (Some f) name more is = absurd cc
 
-pub pass_of : (fault : CopyFault) (size : ℕ) (files : Files) (before after : Counts) → HasCopyCause size files before after fault → IsOfPass (of_pass fault)
+pub pass_of : (fault : PassFault) (size : ℕ) (files : Files) (before after : Counts) → HasPassCause size files before after fault → IsOfPass (of_pass fault)
 pass_of Read size files before after h = (refl, (λ e. cc), tt)
 pass_of (Shrunk first second) size files before after h = (refl, (λ e. cc), h.2)
 pass_of Write size files before after h = refl
 
-pub cause_counts : (fault : CopyFault) (size : ℕ) (files : Files) (before after : Counts) → HasCopyCause size files before after fault → NoneFell before after
+pub cause_counts : (fault : PassFault) (size : ℕ) (files : Files) (before after : Counts) → HasPassCause size files before after fault → NoneFell before after
 cause_counts Read size files before after h = record { misses = h.1.misses; ends = h.1.ends; read_faults = h.1.read_faults; write_faults = omega (arith, h.1.write_faults) }
 cause_counts (Shrunk first second) size files before after h =
     record { misses = h.5.misses; ends = h.5.ends; read_faults = h.5.read_faults; write_faults = omega (arith, h.5.write_faults) }
@@ -76,7 +76,7 @@ module _ (made : List ℕ → List ℕ) (size : ℕ) (input output : List ℕ) (
   pub told_prefix : AppendsPrefix input output made mid new → is_some new ≡ is_some old
   told_prefix part = appended_told_new part.bytes part.files
 
-  pub pass_fault : (fault : CopyFault) (before between after : Counts) → between ≡ before → AppendsPrefix input output made mid new → HasCopyCause size mid between after fault
+  pub pass_fault : (fault : PassFault) (before between after : Counts) → between ≡ before → AppendsPrefix input output made mid new → HasPassCause size mid between after fault
       → IsPassFault made input output (seen old before) (seen new after) (of_pass fault)
   pass_fault Read before between after same part h = record { rose = subst (λ c. Rose c.read_faults after.read_faults) same h.0; files = output_prefix part }
   pass_fault (Shrunk first second) before between after same part h =

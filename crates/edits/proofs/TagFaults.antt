@@ -1,13 +1,13 @@
 -- Why the tag isn't read, as a fault of the command.
-use Rattle.std.proofs.Common.{◌≡◌, ℕ, ◌+◌, ◌≤◌, List, Option, Some, None, Ok, Err, refl, sym, ◌∙◌, ap, ap₂, subst, inl, inr, arith}
+use Rattle.std.proofs.Common.{◌≡◌, ℕ, List, Ok, Err, refl, sym, ◌∙◌, ap, ap₂, subst, inl, inr}
 use Rattle.std.specs.Prelude.{◌⊎◌}
 use Rattle.outside.specs.Files.{Files, Holds, IsThere}
 use Rattle.outside.specs.Counts.{Counts}
 use Rattle.file_tag.specs.declared.fault.FileTagFault.{FileTagFault}
 use Rattle.file_tag.specs.declared.fault.FileTagFault.TheVariants.{TooLarge, Bad, Read, Shrunk, Memory as NoRoom}
 use Rattle.file_tag.specs.Reading.{file_tag, IsTagCause}
-use Rattle.sync_survey.specs.Faults.{SurveyFields, longest_file}
-use Rattle.sync_survey.specs.Survey.{survey_of, IsLaidOut}
+use Rattle.sync_survey.specs.Faults.{SurveyFields}
+use Rattle.sync_survey.specs.Survey.{survey_of}
 use Rattle.edits.specs.declared.fault.EditFault.{EditFault}
 use Rattle.edits.specs.declared.fault.EditFault.TheVariants.{Memory}
 use Rattle.edits.specs.One.{most_frames}

@@ -13,3 +13,4 @@ pub mod Gain
 pub mod Undo
 pub mod Undoing
 pub mod Chosen
+pub mod Selected

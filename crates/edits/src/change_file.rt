@@ -12,8 +12,8 @@ ghost use Rattle.edits.specs.Left.{seen, IsOfSurvey, IsOfInput, IsOfPass};
 
 use crate::fault::EditFault;
 use crate::limits::MOST_FRAMES;
-use moved_gains::{Change, write_changed};
-use outside::{Feed, Folder, WriteBuffer};
+use moved_gains::{Buffers, Change, write_changed};
+use outside::Folder;
 use std::alloc::Global;
 use sync_survey::{Survey, SurveyFault, survey};
 
@@ -39,24 +39,23 @@ pub fn survey_at<D: Folder>(
     allowed: u32,
 ) -> Result<Survey, EditFault>
     ensures there { OnOk result (IsThere (D.files folder.old) name.now) }
-    ensures surveyed { IfOk result (λ s. (bytes : List ℕ) → Holds (D.files folder.old) name.now bytes → survey_of bytes allowed ≡ Ok (tells s)) }
+    ensures surveyed { IfOk result (λ s. (bytes : List ℕ)
+        → Holds (D.files folder.old) name.now bytes → survey_of bytes allowed ≡ Ok (tells s)) }
     ensures laid { IfOk result (λ s. IsLaidOut (tells s)) }
     ensures few { IfOk result (λ s. length (tells s).frames ≤ allowed) }
-    ensures octets { OnOk result ((bytes : List ℕ) → Holds (D.files folder.old) name.now bytes → AreBytes bytes) }
-    ensures refused { IfErr result (IsFileFault place allowed name.now (seen (D.files folder.old) (D.counts folder.old)) (seen (D.files folder.new) (D.counts folder.new))) }
+    ensures octets { OnOk result ((bytes : List ℕ) → Holds (D.files folder.old) name.now bytes
+        → AreBytes bytes) }
+    ensures refused { IfErr result (IsFileFault place allowed name.now
+        (seen (D.files folder.old) (D.counts folder.old))
+        (seen (D.files folder.new) (D.counts folder.new))) }
     ensures numbers { IfErr result (IsOfSurvey place) }
     ensures done { OnOk result (D.counts folder.new ≡ D.counts folder.old) }
     ensures files { D.files folder.new ≡ D.files folder.old }
     ensures counts { OnlyReads (D.counts folder.old) (D.counts folder.new) }
 {
-    let survey = match survey(alloc, folder, name, allowed) {
-        Ok(survey) => survey,
-        Err(fault) => return Err(of_survey(place, fault)),
-    };
-    // No file that is told has more frames than were allowed.
-    match survey.frames().get(allowed as usize) {
-        Some(row) => Err(EditFault::Input(place, SurveyFault::TooManyFrames(row.offset))),
-        None => Ok(survey),
+    match survey(alloc, folder, name, allowed) {
+        Ok(survey) => Ok(survey),
+        Err(fault) => Err(of_survey(place, fault)),
     }
 }
 
@@ -67,12 +66,16 @@ pub(crate) fn survey_input<D: Folder>(
     name: &str,
 ) -> Result<Survey, EditFault>
     ensures there { OnOk result (IsThere (D.files folder.old) name.now) }
-    ensures surveyed { IfOk result (λ s. (bytes : List ℕ) → Holds (D.files folder.old) name.now bytes → survey_of bytes most_frames ≡ Ok (tells s)) }
+    ensures surveyed { IfOk result (λ s. (bytes : List ℕ)
+        → Holds (D.files folder.old) name.now bytes → survey_of bytes most_frames ≡ Ok (tells s)) }
     ensures laid { IfOk result (λ s. IsLaidOut (tells s)) }
     ensures few { IfOk result (λ s. length (tells s).frames ≤ most_frames) }
-    ensures octets { OnOk result ((bytes : List ℕ) → Holds (D.files folder.old) name.now bytes → AreBytes bytes) }
+    ensures octets { OnOk result ((bytes : List ℕ) → Holds (D.files folder.old) name.now bytes
+        → AreBytes bytes) }
     // Whatever the command changes.
-    ensures refused { IfErr result (λ fault. (make : Making) → IsInputFault make name.now (seen (D.files folder.old) (D.counts folder.old)) (seen (D.files folder.new) (D.counts folder.new)) fault) }
+    ensures refused { IfErr result (λ fault. (make : Making)
+        → IsInputFault make name.now (seen (D.files folder.old) (D.counts folder.old))
+        (seen (D.files folder.new) (D.counts folder.new)) fault) }
     ensures numbers { IfErr result IsOfInput }
     ensures done { OnOk result (D.counts folder.new ≡ D.counts folder.old) }
     ensures files { D.files folder.new ≡ D.files folder.old }
@@ -93,28 +96,25 @@ pub(crate) fn write_change<D: Folder>(
     requires apart { input.now ≢ output.now }
     requires there { IsThere (D.files folder.old) input.now }
     requires laid { IsLaidOut (tells survey.now) }
-    requires surveyed { (bytes : List ℕ) → Holds (D.files folder.old) input.now bytes → survey_of bytes most_frames ≡ Ok (tells survey.now) }
-    ensures written { OnOk result ((bytes : List ℕ) → Holds (D.files folder.old) input.now bytes → D.files folder.new ≡ holding (D.files folder.old) output.now (changed (change_in change.now) bytes (tells survey.now))) }
+    requires surveyed { (bytes : List ℕ) → Holds (D.files folder.old) input.now bytes
+        → survey_of bytes most_frames ≡ Ok (tells survey.now) }
+    ensures written { OnOk result ((bytes : List ℕ) → Holds (D.files folder.old) input.now bytes
+        → D.files folder.new ≡ holding (D.files folder.old) output.now
+        (changed (change_in change.now) bytes (tells survey.now))) }
     ensures told { is_some (D.files folder.new) ≡ is_some (D.files folder.old) }
     ensures done { OnOk result (D.counts folder.new ≡ D.counts folder.old) }
-    ensures left { IfErr result (IsPassFault (λ file. changed (change_in change.now) file (tells survey.now)) input.now output.now (seen (D.files folder.old) (D.counts folder.old)) (seen (D.files folder.new) (D.counts folder.new))) }
+    ensures left { IfErr result (IsPassFault
+        (λ file. changed (change_in change.now) file (tells survey.now)) input.now output.now
+        (seen (D.files folder.old) (D.counts folder.old))
+        (seen (D.files folder.new) (D.counts folder.new))) }
     ensures numbers { IfErr result IsOfPass }
     ensures counts { NoneFell (D.counts folder.old) (D.counts folder.new) }
 {
-    let mut feed = Feed::new(alloc)?;
-    let mut waiting = WriteBuffer::new(alloc)?;
+    let mut buffers = Buffers::new(alloc)?;
     let Ok(()) = folder.create(output) else {
         return Err(EditFault::Write(0));
     };
-    match write_changed(
-        folder,
-        input,
-        output,
-        survey,
-        change,
-        &mut feed,
-        &mut waiting,
-    ) {
+    match write_changed(folder, input, output, survey, change, &mut buffers) {
         Ok(()) => Ok(()),
         Err(fault) => Err(fault.into()),
     }

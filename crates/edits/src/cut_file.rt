@@ -10,7 +10,7 @@ use crate::change_file::survey_input;
 use crate::chosen::cut_choice;
 use crate::chosen_file::write_planned;
 use crate::fault::EditFault;
-use crate::planned::plan_file;
+use crate::planned::{Selection, plan_file};
 use cue_sheet::Place;
 use outside::Folder;
 use std::alloc::Global;
@@ -39,13 +39,19 @@ pub fn cut<D: Folder>(
 ) -> Result<(), EditFault>
     requires from { IsPlace from.now }
     requires to { IsPlace to.now }
-    ensures done { OnOk result (IsDone (cut_command from.now to.now least input.now output.now) (seen (D.files folder.old) (D.counts folder.old)) (seen (D.files folder.new) (D.counts folder.new))) }
-    ensures left { IfErr result (Leaves (cut_command from.now to.now least input.now output.now) (seen (D.files folder.old) (D.counts folder.old)) (seen (D.files folder.new) (D.counts folder.new))) }
+    ensures done { OnOk result (IsDone (cut_command from.now to.now least input.now output.now)
+        (seen (D.files folder.old) (D.counts folder.old))
+        (seen (D.files folder.new) (D.counts folder.new))) }
+    ensures left { IfErr result (Leaves (cut_command from.now to.now least input.now output.now)
+        (seen (D.files folder.old) (D.counts folder.old))
+        (seen (D.files folder.new) (D.counts folder.new))) }
     // Over a folder that tells nothing too.
-    ensures numbers { IfErr result (HasNumbers (cut_command from.now to.now least input.now output.now)) }
+    ensures numbers { IfErr result (HasNumbers
+        (cut_command from.now to.now least input.now output.now)) }
     ensures names { IsErrOf result (EditFault.EqualNames 0) ↔ (input.now ≡ output.now) }
     // The input is well-formed, and the output holds at most one lead-in and then exactly the chosen frames of its stream.
-    ensures streams { OnOk result (HoldsStreams (cut_command from.now to.now least input.now output.now) (D.files folder.old)) }
+    ensures streams { OnOk result (HoldsStreams
+        (cut_command from.now to.now least input.now output.now) (D.files folder.old)) }
     ensures counts { NoneFell (D.counts folder.old) (D.counts folder.new) }
 {
     if input == output {
@@ -54,5 +60,6 @@ pub fn cut<D: Folder>(
     let survey = survey_input(alloc, folder, input)?;
     let chosen = cut_choice(&survey, from, to, least)?;
     let planned = plan_file(alloc, &survey, &chosen)?;
-    write_planned(alloc, folder, input, output, &survey, &chosen, &planned)
+    let selection = Selection { chosen, planned };
+    write_planned(alloc, folder, input, output, &survey, &selection)
 }

@@ -8,7 +8,7 @@ ghost use Rattle.edits.specs.PassFaults.{of_pass};
 
 use cue_sheet::CueFault;
 use file_tag::FileTagFault;
-use moved_gains::CopyFault;
+use outside::PassFault;
 use std::alloc::{AllocError, AllocFailed};
 use sync_survey::SurveyFault;
 
@@ -83,16 +83,16 @@ impl From<SurveyFault> for EditFault {
 }
 
 /// The fault of a pass over the one input of a command, which writes its one output.
-impl From<CopyFault> for EditFault {
+impl From<PassFault> for EditFault {
     ghost from_gives = { λ fault e. e ≡ of_pass fault };
 
-    fn from(fault: CopyFault) -> EditFault {
+    fn from(fault: PassFault) -> EditFault {
         match fault {
-            CopyFault::Read => EditFault::Input(0, SurveyFault::Read),
-            CopyFault::Shrunk(first, second) => {
+            PassFault::Read => EditFault::Input(0, SurveyFault::Read),
+            PassFault::Shrunk(first, second) => {
                 EditFault::Input(0, SurveyFault::Shrunk(first, second))
             }
-            CopyFault::Write => EditFault::Write(0),
+            PassFault::Write => EditFault::Write(0),
         }
     }
 }

@@ -44,7 +44,9 @@ fn plain_change(survey: &Survey, shift: &Shift) -> Result<Change, EditFault>
 fn output_length(survey: &Survey, tag: u64) -> u64
     requires laid { IsLaidOut (tells survey.now) }
     requires few { tag ≤ 2097088 }
-    ensures { result ≡ (tells survey.now).length - ((tells survey.now).first - (tells survey.now).junk) - tag_length (tells survey.now) + tag }
+    ensures { result ≡ (tells survey.now).length
+        - ((tells survey.now).first - (tells survey.now).junk) - tag_length
+        (tells survey.now) + tag }
 {
     let (_, junk) = survey.junk();
     (survey.length() - junk).saturating_sub(tag_place(survey).length) + tag
@@ -100,9 +102,15 @@ fn gain_change<D: Folder>(
 ) -> Result<Change, EditFault>
     requires there { IsThere (D.files folder.old) name.now }
     requires laid { IsLaidOut (tells survey.now) }
-    requires surveyed { (bytes : List ℕ) → Holds (D.files folder.old) name.now bytes → survey_of bytes most_frames ≡ Ok (tells survey.now) }
-    ensures change { IfOk result (λ change. (bytes : List ℕ) → Holds (D.files folder.old) name.now bytes → gain_change_lem shift.now tags bytes (tells survey.now) ≡ Ok (change_in change)) }
-    ensures refused { IfErr result (IsInputFault (changing (gain_change_lem shift.now tags)) name.now (seen (D.files folder.old) (D.counts folder.old)) (seen (D.files folder.new) (D.counts folder.new))) }
+    requires surveyed { (bytes : List ℕ) → Holds (D.files folder.old) name.now bytes
+        → survey_of bytes most_frames ≡ Ok (tells survey.now) }
+    ensures change { IfOk result (λ change. (bytes : List ℕ)
+        → Holds (D.files folder.old) name.now bytes
+        → gain_change_lem shift.now tags bytes (tells survey.now) ≡ Ok (change_in change)) }
+    ensures refused { IfErr result (IsInputFault
+        (changing (gain_change_lem shift.now tags)) name.now
+        (seen (D.files folder.old) (D.counts folder.old))
+        (seen (D.files folder.new) (D.counts folder.new))) }
     ensures numbers { IfErr result IsOfInput }
     ensures done { OnOk result (D.counts folder.new ≡ D.counts folder.old) }
     ensures files { D.files folder.new ≡ D.files folder.old }
@@ -140,13 +148,18 @@ pub fn gain<D: Folder>(
     shift: &Shift,
     tags: bool,
 ) -> Result<(), EditFault>
-    ensures done { OnOk result (IsDone (gain_command shift.now tags input.now output.now) (seen (D.files folder.old) (D.counts folder.old)) (seen (D.files folder.new) (D.counts folder.new))) }
-    ensures left { IfErr result (Leaves (gain_command shift.now tags input.now output.now) (seen (D.files folder.old) (D.counts folder.old)) (seen (D.files folder.new) (D.counts folder.new))) }
+    ensures done { OnOk result (IsDone (gain_command shift.now tags input.now output.now)
+        (seen (D.files folder.old) (D.counts folder.old))
+        (seen (D.files folder.new) (D.counts folder.new))) }
+    ensures left { IfErr result (Leaves (gain_command shift.now tags input.now output.now)
+        (seen (D.files folder.old) (D.counts folder.old))
+        (seen (D.files folder.new) (D.counts folder.new))) }
     // Over a folder that tells nothing too.
     ensures numbers { IfErr result (HasNumbers (gain_command shift.now tags input.now output.now)) }
     ensures names { IsErrOf result (EditFault.EqualNames 0) ↔ (input.now ≡ output.now) }
     // The input is well-formed, and the output holds its stream with each gain moved.
-    ensures streams { OnOk result (HoldsStreams (gain_command shift.now tags input.now output.now) (D.files folder.old)) }
+    ensures streams { OnOk result (HoldsStreams (gain_command shift.now tags input.now output.now)
+        (D.files folder.old)) }
     ensures counts { NoneFell (D.counts folder.old) (D.counts folder.new) }
 {
     if input == output {

@@ -18,13 +18,13 @@ mod undoing;
 
 pub use change_file::survey_at;
 pub use chosen::{Chosen, choose};
-pub use chosen_file::write_chosen;
+pub use chosen_file::write_selection;
 pub use cut_file::cut;
 pub use fault::EditFault;
 pub use gain_file::gain;
 pub use limits::MOST_FRAMES;
-pub use moved_gains::{Channels, CopyFault, Shift, Steps, Stuck};
+pub use moved_gains::{Channels, Shift, Steps, Stuck};
 pub use pack_file::pack;
-pub use planned::{Planned, plan_file};
+pub use planned::{Planned, Selection, plan_file};
 pub use undo_file::undo;
 pub use undoing::{opposite_gives_back, undo_gives_back};

@@ -11,9 +11,9 @@ ghost use Rattle.edits.specs.Left.{seen, IsDone, Leaves, HasNumbers, IsOfInput};
 
 use crate::change_file::survey_input;
 use crate::chosen::{Chosen, choose};
-use crate::chosen_file::{copy_fault, write_planned};
+use crate::chosen_file::write_planned;
 use crate::fault::EditFault;
-use crate::planned::plan_file;
+use crate::planned::{Selection, plan_file};
 use laying::kept_fields;
 use outside::Folder;
 use std::alloc::Global;
@@ -24,11 +24,16 @@ fn pack_choice<D: Folder>(folder: &mut D, name: &str, survey: &Survey) -> Result
     requires there { IsThere (D.files folder.old) name.now }
     requires laid { IsLaidOut (tells survey.now) }
     requires few { length (tells survey.now).frames ≤ 2900000 }
-    requires surveyed { (bytes : List ℕ) → Holds (D.files folder.old) name.now bytes → survey_of bytes most_frames ≡ Ok (tells survey.now) }
-    ensures chosen { IfOk result (λ chosen. (bytes : List ℕ) → Holds (D.files folder.old) name.now bytes → pack_choice_lem bytes (tells survey.now) ≡ Ok (chosen_in chosen)) }
+    requires surveyed { (bytes : List ℕ) → Holds (D.files folder.old) name.now bytes
+        → survey_of bytes most_frames ≡ Ok (tells survey.now) }
+    ensures chosen { IfOk result (λ chosen. (bytes : List ℕ)
+        → Holds (D.files folder.old) name.now bytes
+        → pack_choice_lem bytes (tells survey.now) ≡ Ok (chosen_in chosen)) }
     ensures some { IfOk result (λ chosen. chosen.from < chosen.to) }
     ensures within { IfOk result (λ chosen. chosen.to ≤ length (tells survey.now).frames) }
-    ensures refused { IfErr result (IsInputFault (choosing pack_choice_lem) name.now (seen (D.files folder.old) (D.counts folder.old)) (seen (D.files folder.new) (D.counts folder.new))) }
+    ensures refused { IfErr result (IsInputFault (choosing pack_choice_lem) name.now
+        (seen (D.files folder.old) (D.counts folder.old))
+        (seen (D.files folder.new) (D.counts folder.new))) }
     ensures numbers { IfErr result IsOfInput }
     ensures done { OnOk result (D.counts folder.new ≡ D.counts folder.old) }
     ensures files { D.files folder.new ≡ D.files folder.old }
@@ -36,7 +41,7 @@ fn pack_choice<D: Folder>(folder: &mut D, name: &str, survey: &Survey) -> Result
 {
     let kept = match kept_fields(folder, name, survey) {
         Ok(kept) => kept,
-        Err(fault) => return Err(copy_fault(fault).into()),
+        Err(fault) => return Err(fault.into()),
     };
     let frames = survey.frames().len();
     choose(0, frames as u64, frames, true, kept)
@@ -59,13 +64,18 @@ pub fn pack<D: Folder>(
     input: &str,
     output: &str,
 ) -> Result<(), EditFault>
-    ensures done { OnOk result (IsDone (pack_command input.now output.now) (seen (D.files folder.old) (D.counts folder.old)) (seen (D.files folder.new) (D.counts folder.new))) }
-    ensures left { IfErr result (Leaves (pack_command input.now output.now) (seen (D.files folder.old) (D.counts folder.old)) (seen (D.files folder.new) (D.counts folder.new))) }
+    ensures done { OnOk result (IsDone (pack_command input.now output.now)
+        (seen (D.files folder.old) (D.counts folder.old))
+        (seen (D.files folder.new) (D.counts folder.new))) }
+    ensures left { IfErr result (Leaves (pack_command input.now output.now)
+        (seen (D.files folder.old) (D.counts folder.old))
+        (seen (D.files folder.new) (D.counts folder.new))) }
     // Over a folder that tells nothing too.
     ensures numbers { IfErr result (HasNumbers (pack_command input.now output.now)) }
     ensures names { IsErrOf result (EditFault.EqualNames 0) ↔ (input.now ≡ output.now) }
     // The input is well-formed, and the output holds its stream.
-    ensures streams { OnOk result (HoldsStreams (pack_command input.now output.now) (D.files folder.old)) }
+    ensures streams { OnOk result (HoldsStreams (pack_command input.now output.now)
+        (D.files folder.old)) }
     ensures counts { NoneFell (D.counts folder.old) (D.counts folder.new) }
 {
     if input == output {
@@ -74,5 +84,6 @@ pub fn pack<D: Folder>(
     let survey = survey_input(alloc, folder, input)?;
     let chosen = pack_choice(folder, input, &survey)?;
     let planned = plan_file(alloc, &survey, &chosen)?;
-    write_planned(alloc, folder, input, output, &survey, &chosen, &planned)
+    let selection = Selection { chosen, planned };
+    write_planned(alloc, folder, input, output, &survey, &selection)
 }

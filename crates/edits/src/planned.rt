@@ -27,11 +27,20 @@ pub struct Planned {
     pub info: ArrayVec<u8, 1441>,
 }
 
+/// Chosen frames with their plan.
+#[derive(Drop)]
+pub struct Selection {
+    pub chosen: Chosen,
+    pub planned: Planned,
+}
+
 /// The plan of one part by a policy.
 fn plan_part<P: Policy>(alloc: Global, rows: &[Row], policy: &P) -> Result<Plan, AllocError>
     requires planned { CanBePlanned (asked_of (rows.now ∷ [])) }
     requires few { length rows.now ≤ 2900000 }
-    ensures { IfOk result (λ plan. IsPlan (window_in (asked_of (rows.now ∷ [])).needs) (P.choices_of policy.now) (parts_of (asked_of (rows.now ∷ [])).needs (asked_of (rows.now ∷ [])).places) (entries plan)) }
+    ensures { IfOk result (λ plan. IsPlan (window_in (asked_of (rows.now ∷ [])).needs)
+        (P.choices_of policy.now) (parts_of (asked_of (rows.now ∷ [])).needs
+        (asked_of (rows.now ∷ [])).places) (entries plan)) }
 {
     let mut parts = Parts::new(alloc);
     parts.push(rows)?;
@@ -44,8 +53,11 @@ fn plan_chosen(alloc: Global, survey: &Survey, chosen: &Chosen) -> Result<Plan, 
     requires few { length (tells survey.now).frames ≤ 2900000 }
     requires some { chosen.now.from < chosen.now.to }
     requires within { chosen.now.to ≤ length (tells survey.now).frames }
-    ensures plan { IfOk result (λ plan. entries plan ≡ plan_of (chosen_in chosen.now) (tells survey.now)) }
-    ensures fits { IfOk result (λ plan. FitsFrom (window_of (tells survey.now).class.version) 0 (map need_of (slice_range (tells survey.now).frames chosen.now.from chosen.now.to)) (entries plan)) }
+    ensures plan { IfOk result (λ plan. entries plan ≡ plan_of (chosen_in chosen.now)
+        (tells survey.now)) }
+    ensures fits { IfOk result (λ plan. FitsFrom (window_of (tells survey.now).class.version) 0
+        (map need_of (slice_range (tells survey.now).frames chosen.now.from chosen.now.to))
+        (entries plan)) }
 {
     let rows = &survey.frames()[chosen.from..chosen.to];
     if chosen.least {
@@ -61,9 +73,14 @@ pub fn plan_file(alloc: Global, survey: &Survey, chosen: &Chosen) -> Result<Plan
     requires few { length (tells survey.now).frames ≤ 2900000 }
     requires some { chosen.now.from < chosen.now.to }
     requires within { chosen.now.to ≤ length (tells survey.now).frames }
-    ensures plan { IfOk result (λ p. entries p.plan ≡ plan_of (chosen_in chosen.now) (tells survey.now)) }
-    ensures fits { IfOk result (λ p. FitsFrom (window_of (tells survey.now).class.version) 0 (map need_of (slice_range (tells survey.now).frames chosen.now.from chosen.now.to)) (entries p.plan)) }
-    ensures info { IfOk result (λ p. (file : List ℕ) → survey_of file most_frames ≡ Ok (tells survey.now) → IsChosenInfo (chosen_in chosen.now) file (tells survey.now) p.info.items) }
+    ensures plan { IfOk result (λ p. entries p.plan ≡ plan_of (chosen_in chosen.now)
+        (tells survey.now)) }
+    ensures fits { IfOk result (λ p. FitsFrom (window_of (tells survey.now).class.version) 0
+        (map need_of (slice_range (tells survey.now).frames chosen.now.from chosen.now.to))
+        (entries p.plan)) }
+    ensures info { IfOk result (λ p. (file : List ℕ)
+        → survey_of file most_frames ≡ Ok (tells survey.now)
+        → IsChosenInfo (chosen_in chosen.now) file (tells survey.now) p.info.items) }
 {
     let plan = plan_chosen(alloc, survey, chosen)?;
     let fields = info_of(survey.class(), plan.placed(), &chosen.kept);

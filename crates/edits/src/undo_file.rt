@@ -64,9 +64,14 @@ fn undo_change<D: Folder>(
 ) -> Result<Change, EditFault>
     requires there { IsThere (D.files folder.old) name.now }
     requires laid { IsLaidOut (tells survey.now) }
-    requires surveyed { (bytes : List ℕ) → Holds (D.files folder.old) name.now bytes → survey_of bytes most_frames ≡ Ok (tells survey.now) }
-    ensures change { IfOk result (λ change. (bytes : List ℕ) → Holds (D.files folder.old) name.now bytes → undo_change_lem bytes (tells survey.now) ≡ Ok (change_in change)) }
-    ensures refused { IfErr result (IsInputFault (changing undo_change_lem) name.now (seen (D.files folder.old) (D.counts folder.old)) (seen (D.files folder.new) (D.counts folder.new))) }
+    requires surveyed { (bytes : List ℕ) → Holds (D.files folder.old) name.now bytes
+        → survey_of bytes most_frames ≡ Ok (tells survey.now) }
+    ensures change { IfOk result (λ change. (bytes : List ℕ)
+        → Holds (D.files folder.old) name.now bytes
+        → undo_change_lem bytes (tells survey.now) ≡ Ok (change_in change)) }
+    ensures refused { IfErr result (IsInputFault (changing undo_change_lem) name.now
+        (seen (D.files folder.old) (D.counts folder.old))
+        (seen (D.files folder.new) (D.counts folder.new))) }
     ensures numbers { IfErr result IsOfInput }
     ensures done { OnOk result (D.counts folder.new ≡ D.counts folder.old) }
     ensures files { D.files folder.new ≡ D.files folder.old }
@@ -93,13 +98,18 @@ pub fn undo<D: Folder>(
     input: &str,
     output: &str,
 ) -> Result<(), EditFault>
-    ensures done { OnOk result (IsDone (undo_command input.now output.now) (seen (D.files folder.old) (D.counts folder.old)) (seen (D.files folder.new) (D.counts folder.new))) }
-    ensures left { IfErr result (Leaves (undo_command input.now output.now) (seen (D.files folder.old) (D.counts folder.old)) (seen (D.files folder.new) (D.counts folder.new))) }
+    ensures done { OnOk result (IsDone (undo_command input.now output.now)
+        (seen (D.files folder.old) (D.counts folder.old))
+        (seen (D.files folder.new) (D.counts folder.new))) }
+    ensures left { IfErr result (Leaves (undo_command input.now output.now)
+        (seen (D.files folder.old) (D.counts folder.old))
+        (seen (D.files folder.new) (D.counts folder.new))) }
     // Over a folder that tells nothing too.
     ensures numbers { IfErr result (HasNumbers (undo_command input.now output.now)) }
     ensures names { IsErrOf result (EditFault.EqualNames 0) ↔ (input.now ≡ output.now) }
     // The input is well-formed, and the output holds its stream with each gain moved back.
-    ensures streams { OnOk result (HoldsStreams (undo_command input.now output.now) (D.files folder.old)) }
+    ensures streams { OnOk result (HoldsStreams (undo_command input.now output.now)
+        (D.files folder.old)) }
     ensures counts { NoneFell (D.counts folder.old) (D.counts folder.new) }
 {
     if input == output {

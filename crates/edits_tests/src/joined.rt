@@ -1,11 +1,13 @@
 //! Files that are joined; the bytes were worked out by hand.
 
+use crate::files::{are_same, expect_file, expect_part, length_of, put_file};
 use crate::two::TWO;
 use cue_sheet::Place;
 use edits::{EditFault, cut};
 use joining::join;
 use outside::{Call, MemFolder};
-use std::alloc::{AllocError, Global};
+use std::alloc::{AllocError, AllocGlobal, Global};
+use std::process::Abort;
 use std::test::Fail;
 use sync_survey::SurveyFault;
 use test_files::files::{Stretch, bytes_of};
@@ -80,25 +82,19 @@ static BEHIND: [Stretch; 10] = [
     Stretch::Fill(0x33, 270),
 ];
 
-/// A folder with the file of two frames as `a`, the headed one as `b` and the fast one as `f`, and room for `o`.
-fn folder_of_files(alloc: Global) -> Result<MemFolder, AllocError> {
-    let mut folder = MemFolder::new(alloc);
-    folder.put("a", &bytes_of(alloc, &TWO)?)?;
-    folder.put("b", &bytes_of(alloc, &HEADED)?)?;
-    folder.put("f", &bytes_of(alloc, &FAST)?)?;
-    folder.reserve("o", 4000)?;
-    Ok(folder)
+/// Puts the file of two frames as `a`, the headed one as `b` and the fast one as `f`, and room for `o`.
+fn put_files(alloc: Global, folder: &mut MemFolder) -> Result<(), AllocError> {
+    put_file(alloc, folder, "a", &[&TWO])?;
+    put_file(alloc, folder, "b", &[&HEADED])?;
+    put_file(alloc, folder, "f", &[&FAST])?;
+    folder.reserve("o", 4000)
 }
 
-/// A folder with the file of two frames behind a block in front, and room for `o` and `p`.
-fn folder_of_block(alloc: Global) -> Result<MemFolder, AllocError> {
-    let mut file = bytes_of(alloc, &BLOCK)?;
-    file.extend_from_slice(&bytes_of(alloc, &TWO)?)?;
-    let mut folder = MemFolder::new(alloc);
-    folder.put("a", &file)?;
+/// Puts the file of two frames behind a block in front, and room for `o` and `p`.
+fn put_block(alloc: Global, folder: &mut MemFolder) -> Result<(), AllocError> {
+    put_file(alloc, folder, "a", &[&BLOCK, &TWO])?;
     folder.reserve("o", 4000)?;
-    folder.reserve("p", 4000)?;
-    Ok(folder)
+    folder.reserve("p", 4000)
 }
 
 fn owned(alloc: Global, names: &[&str]) -> Result<Vec<String>, AllocError> {
@@ -135,60 +131,75 @@ fn cut_whole(alloc: Global, folder: &mut MemFolder) -> Result<(), EditFault> {
     )
 }
 
+fn expect_joined<R: Abort + AllocGlobal>(
+    rt: &R,
+    folder: &mut MemFolder,
+    output: &str,
+    names: &[&str],
+) {
+    let done = join_named(rt.alloc(), folder, output, names);
+    assert_eq!(rt; done, Ok(()));
+}
+
+fn expect_twice<R: Abort + AllocGlobal>(rt: &R, folder: &mut MemFolder) -> Result<(), Fail> {
+    put_files(rt.alloc(), folder)?;
+    expect_joined(rt, folder, "o", &["a", "a"]);
+    expect_file(rt, folder, "o", &[&FOUR, &TWICE], 1876)?;
+    Ok(())
+}
+
 #[test]
 fn one_file_twice(rt: HostRuntime) -> Result<(), Fail> {
-    let alloc = rt.alloc();
-    let mut folder = folder_of_files(alloc)?;
-    let done = join_named(alloc, &mut folder, "o", &["a", "a"]);
-    assert_eq!(&rt; done, Ok(()));
-    let mut wanted = bytes_of(alloc, &FOUR)?;
-    wanted.extend_from_slice(&bytes_of(alloc, &TWICE)?)?;
-    assert_eq!(&rt; wanted.len(), 1876);
-    assert_eq!(&rt; folder.get("o"), Some(&wanted[..]));
+    let mut folder = MemFolder::new(rt.alloc());
+    expect_twice(&rt, &mut folder)
+}
+
+fn expect_lead_in<R: Abort + AllocGlobal>(rt: &R, folder: &mut MemFolder) -> Result<(), Fail> {
+    put_files(rt.alloc(), folder)?;
+    expect_joined(rt, folder, "o", &["a", "b"]);
+    let behind = bytes_of(rt.alloc(), &BEHIND)?;
+    assert_eq!(rt; behind.len(), 827);
+    expect_part(rt, folder, "o", 1563, 36, b"Xing");
+    expect_part(rt, folder, "o", 1563, 625, &behind);
     Ok(())
 }
 
 /// A lead-in stands between the files, as it does where the second is cut out alone.
 #[test]
 fn lead_in_between(rt: HostRuntime) -> Result<(), Fail> {
-    let alloc = rt.alloc();
-    let mut folder = folder_of_files(alloc)?;
-    let done = join_named(alloc, &mut folder, "o", &["a", "b"]);
-    assert_eq!(&rt; done, Ok(()));
-    let behind = bytes_of(alloc, &BEHIND)?;
-    assert!(&rt; behind.len() == 827);
-    let joined = folder.get("o").ok_or("no output")?;
-    assert!(&rt; joined.len() == 1563);
-    assert_eq!(&rt; &joined[36..40], b"Xing".as_slice());
-    assert_eq!(&rt; &joined[625..1452], behind.as_slice());
+    let mut folder = MemFolder::new(rt.alloc());
+    expect_lead_in(&rt, &mut folder)
+}
+
+fn expect_alone<R: Abort + AllocGlobal>(rt: &R, folder: &mut MemFolder) -> Result<(), Fail> {
+    put_block(rt.alloc(), folder)?;
+    expect_joined(rt, folder, "o", &["a"]);
+    assert_eq!(rt; cut_whole(rt.alloc(), folder), Ok(()));
+    assert_eq!(rt; length_of(folder, "o"), Some(12 + 208 + 834));
+    assert!(rt; are_same(folder, "o", "p"));
     Ok(())
 }
 
 /// One file alone is as cut from its first frame to its end.
 #[test]
 fn one_file_alone(rt: HostRuntime) -> Result<(), Fail> {
-    let alloc = rt.alloc();
-    let mut folder = folder_of_block(alloc)?;
-    let done = join_named(alloc, &mut folder, "o", &["a"]);
-    assert_eq!(&rt; done, Ok(()));
-    assert_eq!(&rt; cut_whole(alloc, &mut folder), Ok(()));
-    let joined = folder.get("o").ok_or("no output")?;
-    assert_eq!(&rt; joined.len(), 12 + 208 + 834);
-    assert_eq!(&rt; Some(joined), folder.get("p"));
+    let mut folder = MemFolder::new(rt.alloc());
+    expect_alone(&rt, &mut folder)
+}
+
+fn expect_one_block<R: Abort + AllocGlobal>(rt: &R, folder: &mut MemFolder) -> Result<(), Fail> {
+    put_block(rt.alloc(), folder)?;
+    assert_eq!(rt; cut_whole(rt.alloc(), folder), Ok(()));
+    expect_joined(rt, folder, "p", &["a", "a"]);
+    assert_eq!(rt; length_of(folder, "p"), Some(12 + 208 + 2 * 834));
     Ok(())
 }
 
 /// Of several files the first one's block in front stands alone.
 #[test]
 fn one_block_in_front(rt: HostRuntime) -> Result<(), Fail> {
-    let alloc = rt.alloc();
-    let mut folder = folder_of_block(alloc)?;
-    assert_eq!(&rt; cut_whole(alloc, &mut folder), Ok(()));
-    let done = join_named(alloc, &mut folder, "p", &["a", "a"]);
-    assert_eq!(&rt; done, Ok(()));
-    let joined = folder.get("p").ok_or("no output")?;
-    assert_eq!(&rt; joined.len(), 12 + 208 + 2 * 834);
-    Ok(())
+    let mut folder = MemFolder::new(rt.alloc());
+    expect_one_block(&rt, &mut folder)
 }
 
 struct Case {
@@ -225,31 +236,49 @@ static CASES: [Case; 4] = [
     },
 ];
 
+fn expect_refused<R: Abort + AllocGlobal>(rt: &R, folder: &mut MemFolder, case: &Case) {
+    let names = [case.first, case.second];
+    let done = join_named(rt.alloc(), folder, case.output, &names);
+    assert_eq!(rt; done, Err(case.fault), "{} {}", case.first, case.second);
+}
+
+fn expect_cases<R: Abort + AllocGlobal>(rt: &R, folder: &mut MemFolder) -> Result<(), Fail> {
+    put_files(rt.alloc(), folder)?;
+    for case in &CASES {
+        expect_refused(rt, folder, case);
+    }
+    assert_eq!(rt; length_of(folder, "o"), None);
+    assert_eq!(rt; length_of(folder, "a"), Some(834));
+    Ok(())
+}
+
 #[test]
 fn refused(rt: HostRuntime) -> Result<(), Fail> {
-    let alloc = rt.alloc();
-    let mut folder = folder_of_files(alloc)?;
-    for case in &CASES {
-        let names = [case.first, case.second];
-        let done = join_named(alloc, &mut folder, case.output, &names);
-        assert_eq!(&rt; done, Err(case.fault), "{} {}", case.first, case.second);
-    }
-    assert!(&rt; folder.get("o").is_none());
-    assert_eq!(&rt; folder.get("a").ok_or("no input")?.len(), 834);
+    let mut folder = MemFolder::new(rt.alloc());
+    expect_cases(&rt, &mut folder)
+}
+
+/// The front was written, and not all of the rest.
+fn expect_begun(rt: &impl Abort, folder: &MemFolder) {
+    let begun = folder.get("o").unwrap_or(&[]);
+    assert!(rt; begun.len() >= 208);
+    assert!(rt; begun.len() < 1563);
+    let front = begun.get(36..).unwrap_or(&[]);
+    assert!(rt; front.starts_with(b"Xing"));
+}
+
+fn expect_read_fault<R: Abort + AllocGlobal>(rt: &R, folder: &mut MemFolder) -> Result<(), Fail> {
+    put_files(rt.alloc(), folder)?;
+    folder.fail(Call::Read, 4)?;
+    let done = join_named(rt.alloc(), folder, "o", &["a", "b"]);
+    assert_eq!(rt; done, Err(EditFault::Input(1, SurveyFault::Read)));
+    expect_begun(rt, folder);
     Ok(())
 }
 
 /// The fourth read is that of the second file in the second pass: the front was written by then.
 #[test]
 fn read_fails_late(rt: HostRuntime) -> Result<(), Fail> {
-    let alloc = rt.alloc();
-    let mut folder = folder_of_files(alloc)?;
-    folder.fail(Call::Read, 4)?;
-    let done = join_named(alloc, &mut folder, "o", &["a", "b"]);
-    assert_eq!(&rt; done, Err(EditFault::Input(1, SurveyFault::Read)));
-    let begun = folder.get("o").ok_or("no output")?;
-    assert!(&rt; begun.len() >= 208);
-    assert_eq!(&rt; &begun[36..40], b"Xing".as_slice());
-    assert!(&rt; begun.len() < 1563);
-    Ok(())
+    let mut folder = MemFolder::new(rt.alloc());
+    expect_read_fault(&rt, &mut folder)
 }

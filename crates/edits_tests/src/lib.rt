@@ -4,6 +4,8 @@
 #[cfg(test)]
 mod edited;
 #[cfg(test)]
+mod files;
+#[cfg(test)]
 mod joined;
 #[cfg(test)]
 mod split;

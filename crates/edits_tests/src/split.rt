@@ -4,14 +4,16 @@ ghost use Rattle.std.specs.Prelude.{◌≤◌, length};
 ghost use Rattle.std.specs.List.{All};
 ghost use Rattle.cue_sheet.specs.Places.{IsPlace};
 
+use crate::files::{are_same, length_of, put_file};
 use cue_sheet::{CueFault, Place};
 use edits::{EditFault, cut};
 use outside::{Call, MemFolder};
 use splitting::{split_at, split_by};
-use std::alloc::{AllocError, Global};
+use std::alloc::{AllocError, AllocGlobal, Global};
+use std::process::Abort;
 use std::test::Fail;
 use sync_survey::SurveyFault;
-use test_files::files::{Stretch, bytes_of};
+use test_files::files::Stretch;
 
 /// Twice two frames of MPEG-1, 44,100 Hz, 128 kbit/s, stereo, of 417 bytes with an area of 381. The first has 300 bytes of
 /// main data in its area; those of the second, 400, begin 81 bytes before its own.
@@ -33,24 +35,27 @@ static FOUR: [Stretch; 14] = [
 ];
 
 /// A sheet of two tracks. The start of the second, at 2/75 second, is in the frame with number 1.
-const TRACKS: &[u8] = b"TRACK 01 AUDIO\nINDEX 01 00:00:00\nTRACK 02 AUDIO\nINDEX 01 00:00:02\n";
+static TRACKS: [Stretch; 1] = [Stretch::Bytes(
+    b"TRACK 01 AUDIO\nINDEX 01 00:00:00\nTRACK 02 AUDIO\nINDEX 01 00:00:02\n",
+)];
 
-/// A folder with a file of four frames, and room for three pieces.
-fn folder_of_four(alloc: Global) -> Result<MemFolder, AllocError> {
-    let mut folder = MemFolder::new(alloc);
-    folder.put("a", &bytes_of(alloc, &FOUR)?)?;
-    folder.reserve("p01.mp3", 4000)?;
-    folder.reserve("p02.mp3", 4000)?;
-    folder.reserve("p03.mp3", 4000)?;
-    folder.reserve("cut", 4000)?;
-    Ok(folder)
+/// Puts a file of four frames as `a`, and room for three pieces and for `cut`.
+fn put_four(alloc: Global, folder: &mut MemFolder) -> Result<(), AllocError> {
+    put_file(alloc, folder, "a", &[&FOUR])?;
+    for name in ["p01.mp3", "p02.mp3", "p03.mp3", "cut"] {
+        folder.reserve(name, 4000)?;
+    }
+    Ok(())
 }
 
 /// The same with a sheet.
-fn folder_with_sheet(alloc: Global, sheet: &[u8]) -> Result<MemFolder, AllocError> {
-    let mut folder = folder_of_four(alloc)?;
-    folder.put("sheet", sheet)?;
-    Ok(folder)
+fn put_with_sheet(
+    alloc: Global,
+    folder: &mut MemFolder,
+    sheet: &[Stretch],
+) -> Result<(), AllocError> {
+    put_four(alloc, folder)?;
+    put_file(alloc, folder, "sheet", &[sheet])
 }
 
 fn split(
@@ -86,65 +91,84 @@ fn is_cut(
     let from = Place::Frame(from);
     let to = Place::Frame(to);
     cut(alloc, folder, "a", &from, &to, false, "cut")?;
-    Ok(folder.get(piece).is_some() && folder.get(piece) == folder.get("cut"))
+    Ok(are_same(folder, piece, "cut"))
 }
 
-#[test]
-fn pieces_are_cut_out(rt: HostRuntime) -> Result<(), Fail> {
+fn expect_pieces<R: Abort + AllocGlobal>(rt: &R, folder: &mut MemFolder) -> Result<(), Fail> {
     let alloc = rt.alloc();
-    let mut folder = folder_of_four(alloc)?;
+    put_four(alloc, folder)?;
     let places = [
         Place::Frame(0),
         Place::Frame(1),
         Place::Frame(3),
         Place::End,
     ];
-    let done = split(alloc, &mut folder, "a", &places);
-    assert_eq!(&rt; done, Ok(()));
-    assert!(&rt; is_cut(alloc, &mut folder, "p01.mp3", 0, 1)?);
-    assert!(&rt; is_cut(alloc, &mut folder, "p02.mp3", 1, 3)?);
-    assert!(&rt; is_cut(alloc, &mut folder, "p03.mp3", 3, 4)?);
+    let done = split(alloc, folder, "a", &places);
+    assert_eq!(rt; done, Ok(()));
+    assert_eq!(rt; is_cut(alloc, folder, "p01.mp3", 0, 1), Ok(true));
+    assert_eq!(rt; is_cut(alloc, folder, "p02.mp3", 1, 3), Ok(true));
+    assert_eq!(rt; is_cut(alloc, folder, "p03.mp3", 3, 4), Ok(true));
+    Ok(())
+}
+
+#[test]
+fn pieces_are_cut_out(rt: HostRuntime) -> Result<(), Fail> {
+    let mut folder = MemFolder::new(rt.alloc());
+    expect_pieces(&rt, &mut folder)
+}
+
+fn expect_tracks<R: Abort + AllocGlobal>(rt: &R, folder: &mut MemFolder) -> Result<(), Fail> {
+    let alloc = rt.alloc();
+    put_with_sheet(alloc, folder, &TRACKS)?;
+    let done = split_tracks(alloc, folder, "a", "sheet");
+    assert_eq!(rt; done, Ok(()));
+    assert_eq!(rt; is_cut(alloc, folder, "p01.mp3", 0, 1), Ok(true));
+    assert_eq!(rt; is_cut(alloc, folder, "p02.mp3", 1, 4), Ok(true));
+    assert_eq!(rt; length_of(folder, "p03.mp3"), None);
     Ok(())
 }
 
 #[test]
 fn pieces_of_a_sheet(rt: HostRuntime) -> Result<(), Fail> {
+    let mut folder = MemFolder::new(rt.alloc());
+    expect_tracks(&rt, &mut folder)
+}
+
+fn expect_order<R: Abort + AllocGlobal>(rt: &R, folder: &mut MemFolder) -> Result<(), Fail> {
     let alloc = rt.alloc();
-    let mut folder = folder_with_sheet(alloc, TRACKS)?;
-    let done = split_tracks(alloc, &mut folder, "a", "sheet");
-    assert_eq!(&rt; done, Ok(()));
-    assert!(&rt; is_cut(alloc, &mut folder, "p01.mp3", 0, 1)?);
-    assert!(&rt; is_cut(alloc, &mut folder, "p02.mp3", 1, 4)?);
-    assert!(&rt; folder.get("p03.mp3").is_none());
+    put_four(alloc, folder)?;
+    let places = [Place::Frame(0), Place::Frame(2), Place::Frame(2)];
+    let equal = split(alloc, folder, "a", &places);
+    assert_eq!(rt; equal, Err(EditFault::Range(2, 2, 4)));
+    let places = [Place::Frame(0), Place::Frame(5), Place::Frame(2)];
+    let behind = split(alloc, folder, "a", &places);
+    assert_eq!(rt; behind, Err(EditFault::Range(0, 5, 4)));
+    assert_eq!(rt; length_of(folder, "p01.mp3"), None);
     Ok(())
 }
 
 #[test]
 fn places_out_of_order(rt: HostRuntime) -> Result<(), Fail> {
+    let mut folder = MemFolder::new(rt.alloc());
+    expect_order(&rt, &mut folder)
+}
+
+fn expect_names<R: Abort + AllocGlobal>(rt: &R, folder: &mut MemFolder) -> Result<(), Fail> {
     let alloc = rt.alloc();
-    let mut folder = folder_of_four(alloc)?;
-    let places = [Place::Frame(0), Place::Frame(2), Place::Frame(2)];
-    let equal = split(alloc, &mut folder, "a", &places);
-    assert_eq!(&rt; equal, Err(EditFault::Range(2, 2, 4)));
-    let places = [Place::Frame(0), Place::Frame(5), Place::Frame(2)];
-    let behind = split(alloc, &mut folder, "a", &places);
-    assert_eq!(&rt; behind, Err(EditFault::Range(0, 5, 4)));
-    assert!(&rt; folder.get("p01.mp3").is_none());
+    let places = [Place::Frame(0), Place::End];
+    let input = split(alloc, folder, "p99.mp3", &places);
+    assert_eq!(rt; input, Err(EditFault::EqualNames(0)));
+    let sheet = split_tracks(alloc, folder, "p00.mp3", "p99.mp3");
+    assert_eq!(rt; sheet, Err(EditFault::EqualNames(1)));
+    let absent = split_tracks(alloc, folder, "p00.mp3", "p100.mp3");
+    assert_eq!(rt; absent, Err(EditFault::Input(0, SurveyFault::Absent)));
     Ok(())
 }
 
 #[test]
 fn names_of_pieces(rt: HostRuntime) -> Result<(), Fail> {
-    let alloc = rt.alloc();
-    let mut folder = MemFolder::new(alloc);
-    let places = [Place::Frame(0), Place::End];
-    let input = split(alloc, &mut folder, "p99.mp3", &places);
-    assert_eq!(&rt; input, Err(EditFault::EqualNames(0)));
-    let sheet = split_tracks(alloc, &mut folder, "p00.mp3", "p99.mp3");
-    assert_eq!(&rt; sheet, Err(EditFault::EqualNames(1)));
-    let absent = split_tracks(alloc, &mut folder, "p00.mp3", "p100.mp3");
-    assert_eq!(&rt; absent, Err(EditFault::Input(0, SurveyFault::Absent)));
-    Ok(())
+    let mut folder = MemFolder::new(rt.alloc());
+    expect_names(&rt, &mut folder)
 }
 
 /// A sheet in stretches, and why it is refused.
@@ -168,35 +192,58 @@ static SHEETS: [Sheet; 3] = [
     },
 ];
 
+fn expect_sheet<R: Abort + AllocGlobal>(
+    rt: &R,
+    folder: &mut MemFolder,
+    case: &Sheet,
+) -> Result<(), Fail> {
+    put_with_sheet(rt.alloc(), folder, case.stretches)?;
+    let done = split_tracks(rt.alloc(), folder, "a", "sheet");
+    assert_eq!(rt; done, Err(case.fault));
+    Ok(())
+}
+
+fn expect_own_folder<R: Abort + AllocGlobal>(rt: &R, case: &Sheet) -> Result<(), Fail> {
+    let mut folder = MemFolder::new(rt.alloc());
+    expect_sheet(rt, &mut folder, case)
+}
+
 #[test]
 fn sheets_at_fault(rt: HostRuntime) -> Result<(), Fail> {
-    let alloc = rt.alloc();
     for case in &SHEETS {
-        let mut folder = folder_with_sheet(alloc, &bytes_of(alloc, case.stretches)?)?;
-        let done = split_tracks(alloc, &mut folder, "a", "sheet");
-        assert_eq!(&rt; done, Err(case.fault));
+        expect_own_folder(&rt, case)?;
     }
+    Ok(())
+}
+
+fn expect_no_sheet<R: Abort + AllocGlobal>(rt: &R, folder: &mut MemFolder) -> Result<(), Fail> {
+    let alloc = rt.alloc();
+    put_four(alloc, folder)?;
+    let absent = split_tracks(alloc, folder, "a", "sheet");
+    assert_eq!(rt; absent, Err(EditFault::Input(1, SurveyFault::Absent)));
     Ok(())
 }
 
 #[test]
 fn no_sheet(rt: HostRuntime) -> Result<(), Fail> {
+    let mut folder = MemFolder::new(rt.alloc());
+    expect_no_sheet(&rt, &mut folder)
+}
+
+fn expect_first_piece<R: Abort + AllocGlobal>(rt: &R, folder: &mut MemFolder) -> Result<(), Fail> {
     let alloc = rt.alloc();
-    let mut folder = folder_of_four(alloc)?;
-    let absent = split_tracks(alloc, &mut folder, "a", "sheet");
-    assert_eq!(&rt; absent, Err(EditFault::Input(1, SurveyFault::Absent)));
+    put_four(alloc, folder)?;
+    folder.fail(Call::Create, 2)?;
+    let places = [Place::Frame(0), Place::Frame(1), Place::End];
+    let done = split(alloc, folder, "a", &places);
+    assert_eq!(rt; done, Err(EditFault::Write(1)));
+    assert_eq!(rt; length_of(folder, "p02.mp3"), None);
+    assert_eq!(rt; is_cut(alloc, folder, "p01.mp3", 0, 1), Ok(true));
     Ok(())
 }
 
 #[test]
 fn second_piece_not_created(rt: HostRuntime) -> Result<(), Fail> {
-    let alloc = rt.alloc();
-    let mut folder = folder_of_four(alloc)?;
-    folder.fail(Call::Create, 2)?;
-    let places = [Place::Frame(0), Place::Frame(1), Place::End];
-    let done = split(alloc, &mut folder, "a", &places);
-    assert_eq!(&rt; done, Err(EditFault::Write(1)));
-    assert!(&rt; folder.get("p02.mp3").is_none());
-    assert!(&rt; is_cut(alloc, &mut folder, "p01.mp3", 0, 1)?);
-    Ok(())
+    let mut folder = MemFolder::new(rt.alloc());
+    expect_first_piece(&rt, &mut folder)
 }

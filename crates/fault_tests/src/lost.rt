@@ -1,12 +1,12 @@
 //! Files whose first frames point before the stream, and which of their frames are lost. Worked out by hand: a
 //! frame of 417 bytes adds 381 bytes to the main data, one of `SHORT` 11.
 
+use crate::shapes::surveyed;
 use crate::stretches::{HEAD, SHORT, SHORT_LOUD, SHORT_OF_FOUR, Z};
-use outside::MemFolder;
 use std::alloc::AllocGlobal;
 use std::process::Abort;
 use std::test::Fail;
-use sync_survey::{Survey, survey};
+use sync_survey::Survey;
 use test_files::files::{Stretch, bytes_of};
 
 /// As `SHORT` with main_data_begin 12.
@@ -83,17 +83,15 @@ static CASES: [Case; 11] = [
 fn expect_marks<R: Abort>(rt: &R, survey: &Survey, case: &Case) {
     let rows = survey.frames();
     assert_eq!(rt; rows.len(), case.lost.len(), "{}", case.name);
-    for at in 0..case.lost.len() {
-        assert_eq!(rt; rows[at].lost, case.lost[at], "{}", case.name);
+    for (row, lost) in rows.iter().zip(case.lost) {
+        assert_eq!(rt; row.lost, *lost, "{}", case.name);
     }
 }
 
 /// Surveys the file.
 fn expect<R: Abort + AllocGlobal>(rt: &R, case: &Case) -> Result<(), Fail> {
     let file = bytes_of(rt.alloc(), case.file)?;
-    let mut folder = MemFolder::new(rt.alloc());
-    folder.put("a", &file)?;
-    let Ok(survey) = survey(rt.alloc(), &mut folder, "a", 100) else {
+    let Ok(survey) = surveyed(rt.alloc(), &file, 100)? else {
         panic!(rt; "{}: no survey", case.name);
     };
     expect_marks(rt, &survey, case);

@@ -28,20 +28,39 @@ fn text_place(survey: &Survey) -> Option<u32> {
 fn expect_frames<R: Abort>(rt: &R, name: &str, survey: &Survey, offsets: &[u64]) {
     let rows = survey.frames();
     assert_eq!(rt; rows.len(), offsets.len(), "{name}");
-    for at in 0..offsets.len() {
-        assert_eq!(rt; rows[at].offset, offsets[at], "{name}");
+    for (row, offset) in rows.iter().zip(offsets) {
+        assert_eq!(rt; row.offset, *offset, "{name}");
     }
+}
+
+/// Asserts that the survey tells this of the start.
+fn expect_start<R: Abort>(rt: &R, name: &str, survey: &Survey, shape: &Shape) {
+    let junk = shape.first.saturating_sub(shape.front_end);
+    assert_eq!(rt; survey.junk(), (shape.front_end, junk), "{name}");
+    assert_eq!(rt; survey.first(), shape.first, "{name}");
+    assert_eq!(rt; text_place(survey), shape.text_at, "{name}");
+}
+
+fn expect_blocks<R: Abort>(rt: &R, name: &str, found: &[Piece], blocks: &[Piece]) {
+    assert_eq!(rt; found, blocks, "{name}");
 }
 
 /// Asserts that the survey tells this.
 fn expect_shape<R: Abort>(rt: &R, name: &str, survey: &Survey, shape: &Shape) {
-    let (front_end, junk) = survey.junk();
-    assert_eq!(rt; front_end, shape.front_end, "{name}");
-    assert_eq!(rt; junk, shape.first.saturating_sub(shape.front_end), "{name}");
-    assert_eq!(rt; survey.first(), shape.first, "{name}");
-    assert_eq!(rt; text_place(survey), shape.text_at, "{name}");
+    expect_start(rt, name, survey, shape);
     expect_frames(rt, name, survey, shape.frames);
-    assert_eq!(rt; survey.blocks(), shape.blocks, "{name}");
+    expect_blocks(rt, name, survey.blocks(), shape.blocks);
+}
+
+/// The survey of a file of so many frames at most.
+pub fn surveyed(
+    alloc: Global,
+    file: &[u8],
+    allowed: u32,
+) -> Result<Result<Survey, SurveyFault>, AllocError> {
+    let mut folder = MemFolder::new(alloc);
+    folder.put("a", file)?;
+    Ok(survey(alloc, &mut folder, "a", allowed))
 }
 
 /// Asserts that the survey of a file gives this.
@@ -51,9 +70,7 @@ pub fn expect<R: Abort + AllocGlobal>(
     file: &[u8],
     answer: &Result<Shape, SurveyFault>,
 ) -> Result<(), AllocError> {
-    let mut folder = MemFolder::new(rt.alloc());
-    folder.put("a", file)?;
-    match (survey(rt.alloc(), &mut folder, "a", 1000), answer) {
+    match (surveyed(rt.alloc(), file, 1000)?, answer) {
         (Ok(survey), Ok(shape)) => expect_shape(rt, name, &survey, shape),
         (Ok(_), Err(fault)) => panic!(rt; "{name}: no {fault:?}"),
         (Err(found), Ok(_)) => panic!(rt; "{name}: {found:?}"),
@@ -68,9 +85,7 @@ pub fn survey_fault(
     file: &[u8],
     allowed: u32,
 ) -> Result<Option<SurveyFault>, AllocError> {
-    let mut folder = MemFolder::new(alloc);
-    folder.put("a", file)?;
-    match survey(alloc, &mut folder, "a", allowed) {
+    match surveyed(alloc, file, allowed)? {
         Ok(_) => Ok(None),
         Err(fault) => Ok(Some(fault)),
     }

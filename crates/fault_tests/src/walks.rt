@@ -3,6 +3,8 @@
 use crate::plain::first_fault;
 use crate::shapes::{Shape, expect, survey_fault};
 use crate::stretches::{HEAD, HEADER, OTHER_CLASS, SILENCE, Z};
+use std::alloc::{AllocError, AllocGlobal, Global};
+use std::process::Abort;
 use std::test::Fail;
 use sync_survey::{Piece, SurveyFault};
 use tag_blocks::{Block, Kind};
@@ -262,17 +264,29 @@ fn files_cut_short(rt: HostRuntime) -> Result<(), Fail> {
     Ok(())
 }
 
+/// Two frames with another value of one byte.
+fn changed(alloc: Global, at: usize, value: u8) -> Result<Vec<u8>, AllocError> {
+    let mut file = bytes_of(alloc, TWO_FRAMES)?;
+    if let Some(byte) = file.get_mut(at) {
+        *byte = value;
+    }
+    Ok(file)
+}
+
+/// Asserts that the survey finds what the plain reading does.
+fn expect_plain<R: Abort + AllocGlobal>(rt: &R, at: usize, value: u8) -> Result<(), AllocError> {
+    let file = changed(rt.alloc(), at, value)?;
+    let found = survey_fault(rt.alloc(), &file, 1000)?;
+    let plain = first_fault(rt.alloc(), &file, 1000)?;
+    assert_eq!(rt; found, plain, "byte {at} as {value}");
+    Ok(())
+}
+
 #[test]
 fn changed_headers(rt: HostRuntime) -> Result<(), Fail> {
     for at in 417..421 {
         for value in 0..=255 {
-            let mut file = bytes_of(rt.alloc(), TWO_FRAMES)?;
-            if let Some(byte) = file.get_mut(at) {
-                *byte = value;
-            }
-            let found = survey_fault(rt.alloc(), &file, 1000)?;
-            let plain = first_fault(rt.alloc(), &file, 1000)?;
-            assert_eq!(rt; found, plain, "byte {at} as {value}");
+            expect_plain(&rt, at, value)?;
         }
     }
     Ok(())

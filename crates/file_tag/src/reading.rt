@@ -29,13 +29,17 @@ fn read_block<D: Folder>(
 ) -> Result<Vec<u8>, FileTagFault>
     requires there { IsThere (D.files folder.old) name.now }
     requires laid { IsLaidOut (tells survey.now) }
-    requires surveyed { (bytes : List ℕ) → Holds (D.files folder.old) name.now bytes → IsSurveyOf bytes (tells survey.now) }
+    requires surveyed { (bytes : List ℕ) → Holds (D.files folder.old) name.now bytes
+        → IsSurveyOf bytes (tells survey.now) }
     requires tag { tag_block (tells survey.now) ≡ Some piece.now }
     requires few { piece.now.block.length ≤ longest_tag }
     ensures length { IfOk result (λ block. length block.items ≡ piece.now.block.length) }
-    ensures bytes { IfOk result (λ block. (bytes : List ℕ) → Holds (D.files folder.old) name.now bytes → block.items ≡ take piece.now.block.length (drop piece.now.offset bytes)) }
+    ensures bytes { IfOk result (λ block. (bytes : List ℕ)
+        → Holds (D.files folder.old) name.now bytes
+        → block.items ≡ take piece.now.block.length (drop piece.now.offset bytes)) }
     ensures done { OnOk result (D.counts folder.new ≡ D.counts folder.old) }
-    ensures cause { IfErr result (IsTagCause name.now (D.files folder.old) (tells survey.now) (D.counts folder.old) (D.counts folder.new)) }
+    ensures cause { IfErr result (IsTagCause name.now (D.files folder.old) (tells survey.now)
+        (D.counts folder.old) (D.counts folder.new)) }
     ensures files { D.files folder.new ≡ D.files folder.old }
     ensures counts { OnlyReads (D.counts folder.old) (D.counts folder.new) }
 {
@@ -55,7 +59,9 @@ fn read_block<D: Folder>(
 fn tag_at_offset(alloc: Global, offset: u64, block: &[u8]) -> Result<Tag, FileTagFault>
     requires few { length block.now ≤ longest_tag }
     requires place { offset + length block.now ≤ 2 ^ 62 }
-    ensures tag { IfOk result (λ tag. block_front block.now ≡ Some (record { kind = Ape; length = length block.now }) → tag_of_block offset block.now ≡ Ok tag) }
+    ensures tag { IfOk result (λ tag. block_front block.now ≡ Some
+        (record { kind = Ape; length = length block.now })
+        → tag_of_block offset block.now ≡ Ok tag) }
     ensures cause { IfErr result (IsBlockCause offset block.now) }
 {
     match block_at(block) {
@@ -80,12 +86,16 @@ fn read_piece<D: Folder>(
 ) -> Result<Tag, FileTagFault>
     requires there { IsThere (D.files folder.old) name.now }
     requires laid { IsLaidOut (tells survey.now) }
-    requires surveyed { (bytes : List ℕ) → Holds (D.files folder.old) name.now bytes → IsSurveyOf bytes (tells survey.now) }
+    requires surveyed { (bytes : List ℕ) → Holds (D.files folder.old) name.now bytes
+        → IsSurveyOf bytes (tells survey.now) }
     requires tag { tag_block (tells survey.now) ≡ Some piece.now }
-    ensures exact { IfOk result (λ tag. (bytes : List ℕ) → Holds (D.files folder.old) name.now bytes → file_tag bytes (tells survey.now) ≡ Ok tag) }
-    ensures large { longest_tag < piece.now.block.length → result ≡ Err (FileTagFault.TooLarge piece.now.block.length) }
+    ensures exact { IfOk result (λ tag. (bytes : List ℕ) → Holds (D.files folder.old) name.now bytes
+        → file_tag bytes (tells survey.now) ≡ Ok tag) }
+    ensures large { longest_tag < piece.now.block.length
+        → result ≡ Err (FileTagFault.TooLarge piece.now.block.length) }
     ensures done { OnOk result (D.counts folder.new ≡ D.counts folder.old) }
-    ensures cause { IfErr result (IsTagCause name.now (D.files folder.old) (tells survey.now) (D.counts folder.old) (D.counts folder.new)) }
+    ensures cause { IfErr result (IsTagCause name.now (D.files folder.old) (tells survey.now)
+        (D.counts folder.old) (D.counts folder.new)) }
     ensures files { D.files folder.new ≡ D.files folder.old }
     ensures counts { OnlyReads (D.counts folder.old) (D.counts folder.new) }
 {
@@ -117,13 +127,17 @@ pub fn read_tag<D: Folder>(
 ) -> Result<Tag, FileTagFault>
     requires there { IsThere (D.files folder.old) name.now }
     requires laid { IsLaidOut (tells survey.now) }
-    requires surveyed { (bytes : List ℕ) → Holds (D.files folder.old) name.now bytes → IsSurveyOf bytes (tells survey.now) }
-    ensures exact { IfOk result (λ tag. (bytes : List ℕ) → Holds (D.files folder.old) name.now bytes → file_tag bytes (tells survey.now) ≡ Ok tag) }
+    requires surveyed { (bytes : List ℕ) → Holds (D.files folder.old) name.now bytes
+        → IsSurveyOf bytes (tells survey.now) }
+    ensures exact { IfOk result (λ tag. (bytes : List ℕ) → Holds (D.files folder.old) name.now bytes
+        → file_tag bytes (tells survey.now) ≡ Ok tag) }
     // Whether the files are told or not.
     ensures none { tag_block (tells survey.now) ≡ None → result ≡ Ok empty_tag }
-    ensures large { longest_tag < tag_length (tells survey.now) → result ≡ Err (FileTagFault.TooLarge (tag_length (tells survey.now))) }
+    ensures large { longest_tag < tag_length (tells survey.now)
+        → result ≡ Err (FileTagFault.TooLarge (tag_length (tells survey.now))) }
     ensures done { OnOk result (D.counts folder.new ≡ D.counts folder.old) }
-    ensures cause { IfErr result (IsTagCause name.now (D.files folder.old) (tells survey.now) (D.counts folder.old) (D.counts folder.new)) }
+    ensures cause { IfErr result (IsTagCause name.now (D.files folder.old) (tells survey.now)
+        (D.counts folder.old) (D.counts folder.new)) }
     ensures files { D.files folder.new ≡ D.files folder.old }
     ensures counts { OnlyReads (D.counts folder.old) (D.counts folder.new) }
 {

@@ -106,7 +106,11 @@ static HEADERS: [Says; 10] = [
 fn expect_class(rt: &impl Abort, class: Class, row: &Says) {
     assert_eq!(rt; class.version, row.version, "{:?}", row.bytes);
     assert_eq!(rt; class.channels, row.channels, "{:?}", row.bytes);
-    assert_eq!(rt; class.frequency(), row.frequency, "{:?}", row.bytes);
+    expect_number(rt, class.frequency(), row.frequency, row.bytes);
+}
+
+fn expect_number(rt: &impl Abort, found: u32, wanted: u32, bytes: [u8; 4]) {
+    assert_eq!(rt; found, wanted, "{bytes:?}");
 }
 
 #[test]
@@ -114,8 +118,8 @@ fn headers(rt: HostRuntime) -> Result<(), Fail> {
     for row in &HEADERS {
         let header = Header::read(row.bytes)?;
         expect_class(&rt, header.class(), row);
-        assert_eq!(rt; header.length(), row.length, "{:?}", row.bytes);
-        assert_eq!(rt; header.area(), row.area, "{:?}", row.bytes);
+        expect_number(&rt, header.length(), row.length, row.bytes);
+        expect_number(&rt, header.area(), row.area, row.bytes);
     }
     Ok(())
 }
@@ -382,18 +386,25 @@ fn rates(rt: HostRuntime) {
 // A protected joint stereo frame of 128 kbit/s and 44,100 Hz: area 379.
 const PROTECTED: [u8; 4] = [0xff, 0xfa, 0x90, 0x64];
 
+fn expect_header(rt: &impl Abort, header: &Header, bytes: [u8; 4], area: u32) {
+    assert_eq!(rt; header.bytes(), bytes);
+    assert_eq!(rt; header.area(), area);
+}
+
 #[test]
 fn slots(rt: HostRuntime) -> Result<(), Fail> {
     let header = Header::read(PROTECTED)?;
     let slots = header.class().slots();
-    assert_eq!(rt; slots.len(), 28);
+    assert!(rt; slots.len() == 28);
     let first = header.unprotected(slots[0]);
-    assert_eq!(rt; first.bytes(), [0xff, 0xfb, 0x10, 0x64]);
-    assert_eq!(rt; first.area(), 68);
+    expect_header(&rt, &first, [0xff, 0xfb, 0x10, 0x64], 68);
     let last = header.with_slot(slots[27]);
-    assert_eq!(rt; last.bytes(), [0xff, 0xfa, 0xe2, 0x64]);
-    assert_eq!(rt; last.area(), 1007);
+    expect_header(&rt, &last, [0xff, 0xfa, 0xe2, 0x64], 1007);
     Ok(())
+}
+
+fn expect_slot(rt: &impl Abort, found: Slot, wanted: Slot) {
+    assert_eq!(rt; found, wanted);
 }
 
 #[test]
@@ -403,9 +414,9 @@ fn slots_in_their_order(rt: HostRuntime) -> Result<(), Fail> {
         rate_index: 9,
         padding: true,
     };
-    assert_eq!(rt; slots.len(), 28);
-    assert_eq!(rt; slots[17], wanted);
-    assert_eq!(rt; slots[0], Slot::default());
+    assert!(rt; slots.len() == 28);
+    expect_slot(&rt, slots[17], wanted);
+    expect_slot(&rt, slots[0], Slot::default());
     Ok(())
 }
 

@@ -130,13 +130,17 @@ fn expect_shape<R: Abort + AllocGlobal>(
 }
 
 #[test]
-fn each_version_with_one_channel_and_two(rt: HostRuntime) {
+fn mpeg_1_with_one_channel(rt: HostRuntime) {
     let one = [
         0xaa, 0xd6, 0xaa, 0xd6, 0x41, 0xa5, 0xba, 0xaa, 0xaa, 0xaa, 0xaa, 0x84, 0x58, 0x58, 0xaa,
         0xaa, 0xaa,
     ];
     let wanted = side_of(341, 21, [10, 0], [[FIRST, NONE], [SECOND, NONE]]);
     expect_shape(&rt, Version::One, 1, &one, &wanted);
+}
+
+#[test]
+fn mpeg_1_with_two_channels(rt: HostRuntime) {
     let two = [
         0xaa, 0xda, 0x6a, 0xb5, 0x90, 0x69, 0x6e, 0xaa, 0xaa, 0xaa, 0xaa, 0xa1, 0x16, 0x16, 0x2a,
         0xaa, 0xaa, 0xbf, 0xff, 0xff, 0xff, 0xff, 0xff, 0xff, 0xf8, 0x00, 0x80, 0x80, 0xd0, 0x00,
@@ -144,27 +148,37 @@ fn each_version_with_one_channel_and_two(rt: HostRuntime) {
     ];
     let wanted = side_of(341, 5, [10, 6], [[FIRST, SECOND], [FULL, SMALL]]);
     expect_shape(&rt, Version::One, 2, &two, &wanted);
-    // 9 bits of scalefac_compress, and no preflag.
-    let first = Granule {
-        scalefac_compress: 421,
-        preflag: false,
-        ..FIRST
-    };
-    let second = Granule {
-        scalefac_compress: 90,
-        ..SECOND
-    };
-    for version in [Version::Two, Version::TwoFive] {
-        let one = [0xab, 0xd5, 0xac, 0x83, 0x4b, 0x4b, 0xaa, 0xaa, 0xa9];
-        let wanted = side_of(171, 1, [0, 0], [[first, NONE], [NONE, NONE]]);
-        expect_shape(&rt, version, 1, &one, &wanted);
-        let two = [
-            0xab, 0xaa, 0xd6, 0x41, 0xa5, 0xa5, 0xd5, 0x55, 0x54, 0xaa, 0xa8, 0x45, 0x84, 0xb4,
-            0x55, 0x55, 0x56,
-        ];
-        let wanted = side_of(171, 2, [0, 0], [[first, second], [NONE, NONE]]);
-        expect_shape(&rt, version, 2, &two, &wanted);
-    }
+}
+
+// In MPEG-2 and MPEG-2.5: 9 bits of scalefac_compress, and no preflag.
+const LOWER_FIRST: Granule = Granule {
+    scalefac_compress: 421,
+    preflag: false,
+    ..FIRST
+};
+
+const LOWER_SECOND: Granule = Granule {
+    scalefac_compress: 90,
+    ..SECOND
+};
+
+#[test]
+fn lower_versions_with_one_channel(rt: HostRuntime) {
+    let one = [0xab, 0xd5, 0xac, 0x83, 0x4b, 0x4b, 0xaa, 0xaa, 0xa9];
+    let wanted = side_of(171, 1, [0, 0], [[LOWER_FIRST, NONE], [NONE, NONE]]);
+    expect_shape(&rt, Version::Two, 1, &one, &wanted);
+    expect_shape(&rt, Version::TwoFive, 1, &one, &wanted);
+}
+
+#[test]
+fn lower_versions_with_two_channels(rt: HostRuntime) {
+    let two = [
+        0xab, 0xaa, 0xd6, 0x41, 0xa5, 0xa5, 0xd5, 0x55, 0x54, 0xaa, 0xa8, 0x45, 0x84, 0xb4, 0x55,
+        0x55, 0x56,
+    ];
+    let wanted = side_of(171, 2, [0, 0], [[LOWER_FIRST, LOWER_SECOND], [NONE, NONE]]);
+    expect_shape(&rt, Version::Two, 2, &two, &wanted);
+    expect_shape(&rt, Version::TwoFive, 2, &two, &wanted);
 }
 
 #[test]
@@ -270,7 +284,12 @@ fn gains_where_they_stand(rt: HostRuntime) -> Result<(), Fail> {
     let mut after = before;
     after[4..36].copy_from_slice(&AFTER);
     expect_gains(&rt, &header, &side([101, 102, 0, 91]), &mut before, &after);
-    // With a check word.
+    Ok(())
+}
+
+#[test]
+#[tactic(auto, unfolding(frame_header::specs::Tables::side_size_of))]
+fn gains_behind_a_check_word(rt: HostRuntime) -> Result<(), Fail> {
     let header = Header::read(MONO_HEADER)?;
     let mut side = Side::read(MPEG_2_MONO, &MONO_BEFORE);
     side.granules[0][0].global_gain = 101;

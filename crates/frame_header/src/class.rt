@@ -124,14 +124,16 @@ impl Class {
         ensures whole { overhead_of self.now protected + result ≡ length_of self.now slot }
     {
         let check_word = if protected { 2 } else { 0 };
-        self.length_of(slot) - 4 - check_word - self.side_size()
+        let overhead = 4 + check_word + self.side_size();
+        self.length_of(slot) - overhead
     }
 
     /// All slots, the areas ascending, whether or not the frames have check words.
     pub fn slots(&self) -> ArrayVec<Slot, 28>
         ensures slots { result.items ≡ all_slots }
         ensures all { (slot : SlotFields) → IsSlot slot → Contains all_slots slot }
-        ensures ascending { (protected : Bool) → AllPairs (λ m n. m < n) (areas_of self.now protected) }
+        ensures ascending { (protected : Bool)
+            → AllPairs (λ m n. m < n) (areas_of self.now protected) }
     {
         // The areas are those of a class.
         let _ = &self.version;

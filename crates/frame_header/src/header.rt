@@ -175,7 +175,8 @@ impl Header {
     pub fn bytes(&self) -> [u8; 4]
         ensures bits { bits result ≡ header_bits self.now }
         ensures back { header_at result ≡ Ok self.now }
-        ensures same { (four : List ℕ) → AreBytes four → length four ≡ 4 → header_at four ≡ Ok self.now → result ≡ four }
+        ensures same { (four : List ℕ) → AreBytes four → length four ≡ 4
+            → header_at four ≡ Ok self.now → result ≡ four }
     {
         word_of(self).to_be_bytes()
     }
@@ -223,7 +224,8 @@ impl Header {
         ensures area { result ≡ area_of (class_of self.now) self.now.slot self.now.protected }
         ensures some { 1 ≤ result }
         ensures most { result ≤ 1441 }
-        ensures whole { overhead_of (class_of self.now) self.now.protected + result ≡ length_of (class_of self.now) self.now.slot }
+        ensures whole { overhead_of (class_of self.now) self.now.protected + result ≡ length_of
+            (class_of self.now) self.now.slot }
     {
         self.class().area_of(self.slot, self.protected)
     }

@@ -1,6 +1,6 @@
 -- Laws of frames that wait.
 use Rattle.std.proofs.Common.{◌≡◌, ℕ, ◌⊎◌, inl, inr, ◌+◌, ◌*◌, ◌-◌, ◌≤◌, ◌<◌, min, Bool, true, false, cond, eqb, List, [], ◌∷◌, ◌++◌, length, take, drop, refl, sym, subst, ap, ap₂, ◌∙◌, append_assoc, append-nil, arith, length-append, mul-suc, lit≤, zero, suc}
-use Rattle.std.proofs.lemmas.List.{length-drop, length-take-le, take-append-le, drop-append-le, map-append, drop-drop}
+use Rattle.std.proofs.lemmas.List.{length-drop, take-append-le, drop-append-le, map-append, drop-drop}
 use Rattle.std.proofs.Math.Seq.{drop-append-add, take-length}
 use Rattle.std.proofs.Math.Nat.{min-eq_left, min-eq_right}
 use Rattle.std.proofs.lemmas.Bool.{cases_lt}
@@ -21,11 +21,11 @@ use Rattle.side_info.specs.Side.{SideFits, side_bits}
 use Rattle.side_info.specs.Frame.{frame_with, word_part}
 use Rattle.circular_buffer.specs.Buffer.{Buffer, buffer, keep_last}
 use Rattle.std.specs.Prelude.{slice_get, Some, unwrap_or, Ok}
-use borrow.Rule.Slice.PartMut.{put_mid, post_of}
 use Rattle.frame_writer.specs.declared.frames.Kept.{Kept}
 use Rattle.frame_writer.specs.Laid.{Piece, Waiting, laid, AreLaid, BeginsWithin}
-use Rattle.frame_writer.specs.Frames.{front_of, area_in, areas_in, framed, Frame, piece_of, all_kept, pieces, frame_bytes, Held, held_bytes, AreOf, IsNextSettled, AreWritten}
+use Rattle.frame_writer.specs.Frames.{front_of, area_in, areas_in, first_bytes, framed, Frame, piece_of, all_kept, pieces, frame_bytes, Held, held_bytes, AreOf, IsNextSettled, AreWritten}
 use Rattle.frame_writer.proofs.LaidLaws.{laid-later}
+use Rattle.frame_writer.specs.Writing.{IsNew}
 use Rattle.frame_writer.specs.Laws.{LaidSteps, HaveRoom, FewWait}
 
 -- ---- areas cut off one after another
@@ -57,6 +57,9 @@ laid-steps taken held fs are =
 -- no frame was given
 pub none-written : (c : ClassFields) → AreLaid [] (record { bytes = []; free = 0 }) [] → AreWritten [] (record { class = c; kept = []; waiting = record { bytes = []; free = 0 } }) []
 none-written c are = record { done = []; given = []; all = refl; long = refl; laid = are; bytes = refl }
+
+pub none-new : (c : ClassFields) → AreLaid [] (record { bytes = []; free = 0 }) [] → IsNew c (record { class = c; kept = []; waiting = record { bytes = []; free = 0 } })
+none-new c are = record { class_is = refl; none = refl; free = refl; written = none-written c are; unsettled = λ next. omega (arith, next.some) }
 
 -- one frame more
 pub more-written : (taken : List ℕ) (c : ClassFields) (kept : List Kept) (waiting more : Waiting) (fs : List Frame) (f : Frame) →
@@ -160,28 +163,29 @@ front-put h s four frame new is put =
     ∙ ap (λ (xs : List ℕ). bytes (header_bits h) ++ xs) (sym (append_assoc (word_part h s) (bytes (side_bits (class_of h) s)) (drop n frame)))
     ∙ sym (append_assoc (bytes (header_bits h)) (word_part h s ++ bytes (side_bits (class_of h) s)) (drop n frame))
 
--- an area behind what stands before it
-pub taken-first : (whole area most : ℕ) (frame area_bytes front rest : List ℕ) → frame ≡ front ++ rest → length front + area ≡ whole → length area_bytes ≡ area →
-    take whole (put_mid (whole - area) most frame area_bytes) ≡ front ++ area_bytes
-taken-first whole area most frame area_bytes front rest is long many =
-    let from : whole - area ≡ length front = omega (arith, long) in
-    let first : take (whole - area) frame ≡ front =
-    ap₂ (λ n (xs : List ℕ). take n xs) from is ∙ take-append-le (length front) front rest (omega arith) ∙ take-length front in
-    let behind = post_of (whole - area) most frame in
-    let all : whole ≡ length (front ++ area_bytes) = omega (arith, length-append front area_bytes, long, many) in
-    ap (λ (xs : List ℕ). take whole (xs ++ (area_bytes ++ behind))) first
-    ∙ ap (take whole) (sym (append_assoc front area_bytes behind))
-    ∙ take-append-le whole (front ++ area_bytes) behind (omega (arith, all))
-    ∙ ap (λ n. take n (front ++ area_bytes)) all
-    ∙ take-length (front ++ area_bytes)
+-- the bytes of a first frame, and those of the frames behind it
+pub first-framed : (k : Kept) (ks : List Kept) (bytes : List ℕ) → first_bytes k bytes ++ framed ks (drop (area_in k) bytes) ≡ framed (k ∷ ks) bytes
+first-framed k ks bytes = append_assoc (front_of k.header k.side) (take (area_in k) bytes) (framed ks (drop (area_in k) bytes))
 
--- where an area stands
-pub length-mid : (whole area : ℕ) (frame : List ℕ) → area ≤ whole → whole ≤ length frame → length (take (whole - (whole - area)) (drop (whole - area) frame)) ≡ area
-length-mid whole area frame fits within =
-    length-take-le (whole - (whole - area)) (drop (whole - area) frame) (omega (arith, length-drop (whole - area) frame, fits, within)) ∙ omega (arith, fits)
+side_bytes-most : (version : Version) (channels : ℕ) → side_bytes_of version channels ≤ 32
+side_bytes-most One channels = elim (eqb channels 1) as (λ b. cond b 17 32 ≤ 32) [ true ↦ lit≤ tt | false ↦ lit≤ tt ]
+side_bytes-most Two channels = elim (eqb channels 1) as (λ b. cond b 9 17 ≤ 32) [ true ↦ lit≤ tt | false ↦ lit≤ tt ]
+side_bytes-most TwoFive channels = elim (eqb channels 1) as (λ b. cond b 9 17 ≤ 32) [ true ↦ lit≤ tt | false ↦ lit≤ tt ]
+
+-- what stands before an area has at most 38 bytes
+pub overhead-most : (c : ClassFields) (protected : Bool) → overhead_of c protected ≤ 38
+unfolding overhead_of side_size_of
+overhead-most c true = omega (arith, side_bytes-most c.version c.channels)
+overhead-most c false = omega (arith, side_bytes-most c.version c.channels)
 
 pub length-front : (n : ℕ) (frame front into : List ℕ) → frame ≡ front ++ drop n into → length frame ≡ length into → n ≤ length into → length front ≡ n
 length-front n frame front into is same within = omega (arith, ap length is, length-append front (drop n into), length-drop n into, same, within)
+
+-- the front alone
+pub front-alone : (n : ℕ) (frame front into : List ℕ) → frame ≡ front ++ drop n into → length frame ≡ length into → n ≤ length into → take n frame ≡ front
+front-alone n frame front into is same within =
+    let long : length front ≡ n = length-front n frame front into is same within in
+    ap (take n) is ∙ take-append-le n front (drop n into) (omega (arith, long)) ∙ ap (λ k. take k front) (sym long) ∙ take-length front
 
 -- ---- how many can wait
 

@@ -1,10 +1,11 @@
 -- Laws of main data laid into areas.
-use Rattle.std.proofs.Common.{◌≡◌, ℕ, ◌⊎◌, inl, inr, ◌+◌, ◌-◌, ◌≤◌, ◌<◌, min, List, [], ◌∷◌, ◌++◌, length, take, drop, refl, sym, ap, ap₂, ◌∙◌, append_assoc, append-nil, arith, length-append}
+use Rattle.std.proofs.Common.{◌≡◌, ℕ, ◌⊎◌, inl, inr, ◌+◌, ◌-◌, ◌≤◌, ◌<◌, min, List, [], ◌∷◌, ◌++◌, length, take, drop, refl, sym, subst, ap, ap₂, ◌∙◌, append_assoc, append-nil, arith, length-append}
 use Rattle.std.proofs.lemmas.List.{length-replicate, take-append-le, drop-append-le, take-append-drop, take-replicate, drop-replicate, replicate-append-replicate, append_cancel_right}
 use Rattle.std.proofs.Math.Seq.{drop-append-add, take-append-add, drop-length, take-length}
 use Rattle.std.proofs.Math.Nat.{min-eq_left, min-eq_right}
 use Rattle.std.proofs.lemmas.Bool.{cases_lt}
 use Rattle.circular_buffer.specs.Buffer.{Buffer, buffer, keep_last}
+use Rattle.reservoir.proofs.WindowLaws.{take_two}
 use Rattle.frame_writer.specs.Laid.{Piece, zeros, start_of, end_of, areas_end, data_end, CanBeLaidFrom, laid_from, laid, Waiting, put_at, AreLaid, BeginsWithin}
 
 -- ---- lists of zeros
@@ -157,10 +158,6 @@ first_cases n free items within (inr many) =
           ∙ sym (ap (λ k. drop k (items ++ zeros free)) split ∙ drop-append-add items (zeros free) (n - length items) ∙ drop-replicate (n - length items) free 0),
     )
 
-pub first-taken : (n free : ℕ) (items : List ℕ) → n ≤ length items + free →
-    take (min n (length items)) items ++ zeros (n - min n (length items)) ≡ take n (items ++ zeros free)
-first-taken n free items within = (first_cases n free items within (cases_lt n (length items))).0
-
 pub first-left : (n free : ℕ) (items : List ℕ) → n ≤ length items + free →
     drop (min n (length items)) items ++ zeros (free - (n - min n (length items))) ≡ drop n (items ++ zeros free)
 first-left n free items within = (first_cases n free items within (cases_lt n (length items))).1
@@ -237,25 +234,45 @@ pushed old mid new xs ys many first second fits =
     ∙ ap (λ (zs : List ℕ). zs ++ ys) first_is
     ∙ append_assoc old.items xs ys
 
--- as many as are taken from the queue
-counted : (n r : ℕ) (items before : List ℕ) → before ≡ zeros n → r ≡ min (length before) (length items) → r ≡ min n (length items)
-counted n r items before blank counts = counts ∙ ap (λ k. min k (length items)) (ap length blank ∙ length-zeros n)
+-- ---- the first bytes of what waits
 
--- the first bytes of the queue, before zeros
-pub taken-is : (n free r : ℕ) (items before into now : List ℕ) → before ≡ zeros n → r ≡ min (length before) (length items) →
-    into ≡ take r items ++ drop r before → items ++ zeros free ≡ now → n ≤ length now → into ≡ take n now
-taken-is n free r items before into now blank counts reads views within =
-    reads
-    ∙ ap (λ (xs : List ℕ). take r items ++ drop r xs) blank
-    ∙ ap (λ (xs : List ℕ). take r items ++ xs) (drop-replicate r n 0)
-    ∙ ap (λ k. take k items ++ zeros (n - k)) (counted n r items before blank counts)
-    ∙ first-taken n free items (omega (arith, within, ap length views, length-append items (zeros free), length-zeros free))
-    ∙ ap (take n) views
+minus_min : (n a : ℕ) → n - min n a ≡ n - a
+minus_min n a = by_cases (cases_lt n a)
+  where
+    by_cases : (n < a) ⊎ (a ≤ n) → n - min n a ≡ n - a
+    by_cases (inl less) = let is : min n a ≡ n = min-eq_left (omega (arith, less)) in omega (arith, is, less)
+    by_cases (inr more) = ap (λ k. n - k) (min-eq_right more)
 
-pub left-is : (n free r long : ℕ) (items before left now : List ℕ) → before ≡ zeros n → r ≡ min (length before) (length items) →
-    left ≡ drop r items → long ≡ n → items ++ zeros free ≡ now → n ≤ length now → left ++ zeros (free - (long - r)) ≡ drop n now
-left-is n free r long items before left now blank counts leaves longs views within =
-    ap₂ (λ (xs : List ℕ) k. xs ++ zeros (free - (k - r))) leaves longs
-    ∙ ap (λ k. drop k items ++ zeros (free - (n - k))) (counted n r items before blank counts)
+-- a part of the one slice, a part of the other, and zeros
+pub first-parts : (n free first second : ℕ) (front back now : List ℕ) → (front ++ back) ++ zeros free ≡ now → n ≤ length now →
+    first ≡ min n (length front) → second ≡ min (n - first) (length back) → take first front ++ (take second back ++ zeros (n - first - second)) ≡ take n now
+first-parts n free first second front back now views within firsts seconds =
+    let one : n - first ≡ n - length front = ap (λ k. n - k) firsts ∙ minus_min n (length front) in
+    let two : n - first - second ≡ n - length front - length back =
+    ap (λ k. n - first - k) seconds ∙ minus_min (n - first) (length back) ∙ ap (λ k. k - length back) one in
+    let few : n - first - second ≤ free =
+    omega (arith, two, within, ap length views, length-append (front ++ back) (zeros free), length-append front back, length-zeros free) in
+    let last : take (n - first - second) (zeros free) ≡ zeros (n - first - second) = take-replicate (n - first - second) free 0 few in
+    let behind : take (n - first) (back ++ zeros free) ≡ take second back ++ zeros (n - first - second) =
+    take_two (n - first) back (zeros free)
+    ∙ ap (λ k. take k back ++ take (n - first - k) (zeros free)) (sym seconds)
+    ∙ ap (λ (xs : List ℕ). take second back ++ xs) last in
+    ap (λ (xs : List ℕ). take first front ++ xs) (sym behind)
+    ∙ ap (λ k. take k front ++ take (n - k) (back ++ zeros free)) firsts
+    ∙ sym (take_two n front (back ++ zeros free))
+    ∙ ap (take n) (sym (append_assoc front back (zeros free)) ∙ views)
+
+-- what is left behind them
+pub left-is : (n free stored m : ℕ) (items left now : List ℕ) → stored ≡ min n (length items) → m ≡ length items - stored → left ≡ keep_last m items →
+    items ++ zeros free ≡ now → n ≤ length now → left ++ zeros (free - (n - stored)) ≡ drop n now
+left-is n free stored m items left now stores keeps leaves views within =
+    let few : stored ≤ length items = subst (λ k. k ≤ length items) (sym stores) (min-le (cases_lt n (length items))) in
+    let from : length items - m ≡ stored = omega (arith, keeps, few) in
+    ap (λ (xs : List ℕ). xs ++ zeros (free - (n - stored))) (leaves ∙ ap (λ k. drop k items) (from ∙ stores))
+    ∙ ap (λ k. drop (min n (length items)) items ++ zeros (free - (n - k))) stores
     ∙ first-left n free items (omega (arith, within, ap length views, length-append items (zeros free), length-zeros free))
     ∙ ap (drop n) views
+  where
+    min-le : (n < length items) ⊎ (length items ≤ n) → min n (length items) ≤ length items
+    min-le (inl less) = let is : min n (length items) ≡ n = min-eq_left (omega (arith, less)) in omega (arith, is, less)
+    min-le (inr more) = let is : min n (length items) ≡ length items = min-eq_right more in omega (arith, is)

@@ -1,13 +1,16 @@
 -- Laws of frames on their way to a file.
-use Rattle.std.proofs.Common.{◌≡◌, ℕ, List, [], ◌∷◌, ◌++◌, length, take, refl, sym, subst, ap, ◌∙◌, append_assoc, append-nil, arith, length-append}
+use Rattle.std.proofs.Common.{◌≡◌, ℕ, List, [], ◌∷◌, ◌++◌, ◌≤◌, length, take, drop, refl, sym, subst, ap, ap₂, ◌∙◌, append_assoc, append-nil, arith, length-append}
 use Rattle.std.specs.Prelude.{Result, Ok, Err, OnOk, OnErr}
-use Rattle.std.proofs.lemmas.List.{take-append-le, append_cancel_right, nil_from_length}
+use Rattle.std.proofs.lemmas.List.{length-take-le, take-append-le, append_cancel_right, nil_from_length}
 use Rattle.outside.specs.Files.{Files, appended}
 use Rattle.outside.specs.Passed.{PassedOn, AppendedPrefix}
-use Rattle.outside.proofs.PassedLaws.{passed_with, passed_then_prefix}
+use Rattle.outside.proofs.PassedLaws.{passed_with, passed_then_prefix, passed_more, passed_more_prefix}
 use Rattle.frame_writer.specs.declared.frames.Kept.{Kept}
-use Rattle.frame_writer.specs.Frames.{Frame, Held, framed, held_bytes, AreWritten}
-use Rattle.frame_writer.specs.Writing.{Writing, waiting_bytes, HandedOn, HandedPart, IsWriterOf, WritesOn, WritesPart}
+use Rattle.frame_header.specs.Fields.{ClassFields}
+use Rattle.frame_writer.specs.Laid.{Piece, Waiting, AreLaid}
+use Rattle.frame_writer.specs.Frames.{Frame, Held, area_in, first_bytes, framed, held_bytes, AreWritten}
+use Rattle.frame_writer.proofs.FrameLaws.{first-framed, first-written}
+use Rattle.frame_writer.specs.Writing.{Writing, writing, waiting_bytes, HandedOn, HandedPart, AreBehind, WritesOn, WritesPart, GoesOn}
 
 -- ---- facts of an answer
 
@@ -29,12 +32,7 @@ ok-both (Err e) f p q = tt
 
 -- ---- one frame handed on
 
--- a piece out of what waits behind the buffer was passed on, or waits in it
-pub passed-piece : (name unsent unsent_now piece before after : List ℕ) (f g : Files) → piece ++ after ≡ before →
-    PassedOn name (unsent ++ piece) unsent_now f g → PassedOn name (unsent ++ before) (unsent_now ++ after) f g
-passed-piece name unsent unsent_now piece before after f g is p =
-    subst (λ (xs : List ℕ). PassedOn name xs (unsent_now ++ after) f g) (append_assoc unsent piece after ∙ ap (λ (xs : List ℕ). unsent ++ xs) is) (passed_with after p)
-
+-- a prefix of what waits and a piece is one of what waits and more
 pub prefix-piece : (name unsent piece before after : List ℕ) (f g : Files) → piece ++ after ≡ before →
     AppendedPrefix name (unsent ++ piece) f g → AppendedPrefix name (unsent ++ before) f g
 prefix-piece name unsent piece before after f g is p =
@@ -62,6 +60,45 @@ handed-then {old} {mid} {new} p q = record {
       subst (λ (xs : List ℕ). AreWritten xs new fs) (append_assoc taken p.moved q.moved) (q.written (taken ++ p.moved) fs (p.written taken fs are));
 }
 
+-- the first frame was taken
+pub first-handed : (old : Held) (c : ClassFields) (k : Kept) (ks left : List Kept) (waiting less : Waiting) → record { class = c; kept = ks; waiting = waiting } ≡ old → ks ≡ k ∷ drop 1 ks → left ≡ drop 1 ks →
+    less.bytes ≡ drop (area_in k) waiting.bytes →
+    ((given : List ℕ) (ps : List Piece) → AreLaid given waiting ps → AreLaid (given ++ take (area_in k) waiting.bytes) less ps) → area_in k ≤ length waiting.bytes →
+    HandedOn old (record { class = c; kept = left; waiting = less })
+first-handed old c k ks left waiting less view is rest drops step within = record {
+  moved = first_bytes k waiting.bytes;
+  bytes =
+      ap₂ (λ (js : List Kept) (xs : List ℕ). first_bytes k waiting.bytes ++ framed js xs) rest drops
+      ∙ first-framed k (drop 1 ks) waiting.bytes
+      ∙ ap (λ (js : List Kept). framed js waiting.bytes) (sym is)
+      ∙ ap held_bytes view;
+  class = ap (λ (h : Held). h.class) view;
+  written = λ taken fs are.
+      subst (λ (js : List Kept). AreWritten (taken ++ first_bytes k waiting.bytes) (record { class = c; kept = js; waiting = less }) fs) (sym rest)
+      (first-written taken (take (area_in k) waiting.bytes) c k (drop 1 ks) waiting less fs (length-take-le (area_in k) waiting.bytes within) step
+      (subst (λ (js : List Kept). AreWritten taken (record { class = c; kept = js; waiting = waiting }) fs) is
+      (subst (λ (h : Held). AreWritten taken h fs) (sym view) are)));
+}
+
+-- the first frame was taken, and a prefix of it was written
+pub first-part : (name unsent : List ℕ) (old : Held) (c : ClassFields) (k : Kept) (ks left : List Kept) (waiting less : Waiting) (f g : Files) → record { class = c; kept = ks; waiting = waiting } ≡ old →
+    ks ≡ k ∷ drop 1 ks → left ≡ drop 1 ks → less.bytes ≡ drop (area_in k) waiting.bytes →
+    ((given : List ℕ) (ps : List Piece) → AreLaid given waiting ps → AreLaid (given ++ take (area_in k) waiting.bytes) less ps) → area_in k ≤ length waiting.bytes →
+    AppendedPrefix name (unsent ++ first_bytes k waiting.bytes) f g → HandedPart name (writing old unsent) (record { class = c; kept = left; waiting = less }) f g
+unfolding first-handed
+first-part name unsent old c k ks left waiting less f g view is rest drops step within prefix = record {
+  on = first-handed old c k ks left waiting less view is rest drops step within;
+  prefix = prefix;
+}
+
+-- what stood there before, and behind it what is taken
+pub behind-more : {base bytes : List ℕ} {old new : Held} {fs : List Frame} → (h : HandedOn old new) → AreBehind base bytes old fs → AreBehind base (bytes ++ h.moved) new fs
+behind-more {base} {bytes} {old} {new} {fs} h are = record {
+  taken = are.taken ++ h.moved;
+  is = ap (λ (xs : List ℕ). xs ++ h.moved) are.is ∙ append_assoc base are.taken h.moved;
+  written = h.written are.taken fs are.written;
+}
+
 -- what was passed on, and what waits in the buffer, are the bytes before and those of the frames that were taken
 passed-same : (name unsent : List ℕ) (mid : Held) (new : Writing) (f g : Files) (p : PassedOn name (unsent ++ held_bytes mid) (waiting_bytes new) f g) (h : HandedOn mid new.held)
     → unsent ++ h.moved ≡ p.passed ++ new.unsent
@@ -72,36 +109,39 @@ passed-same name unsent mid new f g p h =
     ∙ p.split
     ∙ sym (append_assoc p.passed new.unsent (held_bytes new.held)))
 
--- the frame behind those before waits, in front of the file these bytes
-module _ (name : List ℕ) (f : Frame) (old : Writing) (unsent : List ℕ) (mid : Held) where
+-- the frame behind those before waits, in front of the file the same bytes
+module _ (name : List ℕ) (f : Frame) (old : Writing) (mid : Held) where
   abbrev Waits : Type 0
-  Waits = (out : List ℕ) (fs : List Frame) → IsWriterOf out old fs → AreWritten (out ++ unsent) mid (fs ++ f ∷ [])
+  Waits = (taken : List ℕ) (fs : List Frame) → AreWritten taken old.held fs → AreWritten taken mid (fs ++ f ∷ [])
+
+  behind-frame : {base bytes : List ℕ} {fs : List Frame} → Waits → AreBehind base bytes old.held fs → AreBehind base bytes mid (fs ++ f ∷ [])
+  behind-frame {base} {bytes} {fs} waits are = record { taken = are.taken; is = are.is; written = waits are.taken fs are.written }
 
   -- the writer goes on
-  pub writes-on : (new : Writing) (before after : Files) → Waits → PassedOn name (unsent ++ held_bytes mid) (waiting_bytes new) before after → HandedOn mid new.held → WritesOn name f old new before after
+  pub writes-on : (new : Writing) (before after : Files) → Waits → GoesOn name (writing mid old.unsent) new before after → HandedOn mid new.held → WritesOn name f old new before after
   writes-on new before after waits p h =
-      let same = passed-same name unsent mid new before after p h in
+      let same = passed-same name old.unsent mid new before after p h in
       record {
         passed = p.passed;
         files = p.files;
-        writer = λ out fs are.
+        writer = λ base out fs are.
             subst
-            (λ (xs : List ℕ). AreWritten xs new.held (fs ++ f ∷ []))
-            (append_assoc out unsent h.moved ∙ ap (λ (xs : List ℕ). out ++ xs) same ∙ sym (append_assoc out p.passed new.unsent))
-            (h.written (out ++ unsent) (fs ++ f ∷ []) (waits out fs are));
+            (λ (xs : List ℕ). AreBehind base xs new.held (fs ++ f ∷ []))
+            (append_assoc out old.unsent h.moved ∙ ap (λ (xs : List ℕ). out ++ xs) same ∙ sym (append_assoc out p.passed new.unsent))
+            (behind-more h (behind-frame waits are));
       }
 
   -- a write fails
-  pub writes-part : (held : Held) (before after : Files) → Waits → HandedPart name (record { held = mid; unsent = unsent }) held before after → WritesPart name f old held before after
+  pub writes-part : (held : Held) (before after : Files) → Waits → HandedPart name (writing mid old.unsent) held before after → WritesPart name f old held before after
   writes-part held before after waits part = record {
-    settled = unsent ++ part.on.moved;
+    settled = old.unsent ++ part.on.moved;
     prefix = part.prefix;
-    writer = λ out fs are.
-        subst (λ (xs : List ℕ). AreWritten xs held (fs ++ f ∷ [])) (append_assoc out unsent part.on.moved) (part.on.written (out ++ unsent) (fs ++ f ∷ []) (waits out fs are));
+    writer = λ base out fs are.
+        subst (λ (xs : List ℕ). AreBehind base xs held (fs ++ f ∷ [])) (append_assoc out old.unsent part.on.moved) (behind-more part.on (behind-frame waits are));
   }
 
 -- behind frames that were handed on
-pub part-then : (name : List ℕ) (old mid : Writing) (held : Held) (f g h : Files) → PassedOn name (waiting_bytes old) (waiting_bytes mid) f g → HandedOn old.held mid.held → HandedPart name mid held g h → HandedPart name old held f h
+pub part-then : (name : List ℕ) (old mid : Writing) (held : Held) (f g h : Files) → GoesOn name old mid f g → HandedOn old.held mid.held → HandedPart name mid held g h → HandedPart name old held f h
 unfolding handed-then
 part-then name old mid held f g h passed on part =
     let same = passed-same name old.unsent old.held mid f g passed on in
@@ -113,6 +153,15 @@ part-then name old mid held f g h passed on part =
     }
 
 -- where no frame waits, what waits is in the buffer
-pub none-left : (w : Writing) → length w.held.kept ≡ 0 → waiting_bytes w ≡ w.unsent
-none-left w none =
-    ap (λ (ks : List Kept). w.unsent ++ framed ks w.held.waiting.bytes) (nil_from_length w.held.kept none) ∙ append-nil w.unsent
+pub none-left : (held : Held) (unsent : List ℕ) → length held.kept ≡ 0 → waiting_bytes (writing held unsent) ≡ unsent
+none-left held unsent none =
+    ap (λ (ks : List Kept). unsent ++ framed ks held.waiting.bytes) (nil_from_length held.kept none) ∙ append-nil unsent
+
+-- two pieces, one behind the other
+pub passed-two : {name mid after : List ℕ} {f g h : Files} (before a b c : List ℕ) → a ++ b ≡ c → PassedOn name (before ++ a) mid f g → PassedOn name (mid ++ b) after g h → PassedOn name (before ++ c) after f h
+passed-two {name} {mid} {after} {f} {g} {h} before a b c is p q =
+    subst (λ (xs : List ℕ). PassedOn name xs after f h) (append_assoc before a b ∙ ap (λ (xs : List ℕ). before ++ xs) is) (passed_more b p q)
+
+pub prefix-two : {name mid : List ℕ} {f g h : Files} (before a b c : List ℕ) → a ++ b ≡ c → PassedOn name (before ++ a) mid f g → AppendedPrefix name (mid ++ b) g h → AppendedPrefix name (before ++ c) f h
+prefix-two {name} {mid} {f} {g} {h} before a b c is p q =
+    subst (λ (xs : List ℕ). AppendedPrefix name xs f h) (append_assoc before a b ∙ ap (λ (xs : List ℕ). before ++ xs) is) (passed_more_prefix b p q)

@@ -1,5 +1,5 @@
 -- Frames with the main data of all of them laid into their areas (ISO/IEC 11172-3 and 13818-3, 2.4.1).
-use Rattle.std.specs.Prelude.{◌≡◌, ℕ, ◌+◌, ◌<◌, ◌≤◌, min, List, [], ◌∷◌, ◌++◌, length, take, drop, map}
+use Rattle.std.specs.Prelude.{◌≡◌, ℕ, ◌+◌, ◌-◌, ◌<◌, ◌≤◌, min, List, [], ◌∷◌, ◌++◌, length, take, drop, map}
 use Rattle.bit_fields.specs.Bits.{bytes}
 use Rattle.frame_header.specs.Fields.{HeaderFields, ClassFields, IsHeader}
 use Rattle.frame_header.specs.Tables.{class_of, area_of, window_of}
@@ -8,7 +8,7 @@ use Rattle.side_info.specs.declared.side.Side.{Side}
 use Rattle.side_info.specs.Side.{side_bits, SideFits}
 use Rattle.side_info.specs.Frame.{word_part}
 use Rattle.frame_writer.specs.declared.frames.Kept.{Kept}
-use Rattle.frame_writer.specs.Laid.{Piece, Waiting, laid, AreLaid}
+use Rattle.frame_writer.specs.Laid.{Piece, Waiting, laid, laid_behind, AreLaid}
 
 -- what stands before the area: the header, the check word of a protected frame, which is right for this header and this side
 -- information, and the side information
@@ -46,6 +46,10 @@ all_kept fs = map (λ f. f.kept) fs
 abbrev pub pieces : List Frame → List Piece
 pieces fs = map piece_of fs
 
+-- the main data of a frame end before its own area does, where they begin as it says
+abbrev pub EndsInArea : Frame → Type 0
+EndsInArea f = length f.payload ≤ f.kept.side.main_data_begin + area_in f.kept
+
 -- the bytes of these frames
 abbrev pub frame_bytes : List Frame → List ℕ
 frame_bytes fs = framed (all_kept fs) (laid (pieces fs))
@@ -62,6 +66,14 @@ pub record Held : Type 0 where
 abbrev pub held_bytes : Held → List ℕ
 held_bytes held = framed held.kept held.waiting.bytes
 
+-- what waits of the areas with that of one frame more
+abbrev pub areas_with : Waiting → Frame → List ℕ
+areas_with w f = laid_behind w f.payload f.kept.side.main_data_begin (area_in f.kept)
+
+-- the bytes of a frame whose area is the first of these
+abbrev pub first_bytes : Kept → List ℕ → List ℕ
+first_bytes k bytes = front_of k.header k.side ++ take (area_in k) bytes
+
 -- frames of one class, whose side information fits it
 abbrev pub AreOf : ClassFields → List Kept → Type 0
 AreOf c [] = Unit {0}
@@ -75,6 +87,10 @@ reach_of held = min (window_of held.class.version) held.waiting.free
 pub record IsNextSettled (held : Held) : Type 0 where
   pub some : 0 < length held.kept
   pub behind : first_area held.kept + min (window_of held.class.version) held.waiting.free ≤ length held.waiting.bytes
+
+-- how many bytes before the next frame's own area its main data may begin, where this frame was given last
+abbrev pub reach_with : ClassFields → Frame → ℕ
+reach_with c f = min (window_of c.version) (f.kept.side.main_data_begin + area_in f.kept - length f.payload)
 
 -- of these frames so many were taken, with these bytes as their areas, and the others wait
 pub record AreWritten (taken : List ℕ) (held : Held) (fs : List Frame) : Type 0 where

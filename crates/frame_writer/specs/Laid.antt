@@ -60,6 +60,10 @@ pub record Waiting : Type 0 where
 abbrev pub put_at : ℕ → List ℕ → List ℕ → List ℕ
 put_at place more bytes = take place bytes ++ (more ++ drop (place + length more) bytes)
 
+-- what waits behind main data that are laid from so many bytes before an area of this length on
+abbrev pub laid_behind : Waiting → List ℕ → ℕ → ℕ → List ℕ
+laid_behind w payload begin area = put_at (length w.bytes - begin) payload (w.bytes ++ zeros area)
+
 -- what was handed on and what waits are the bytes of the areas of these frames, and what is free is free in all of them
 pub record AreLaid (given : List ℕ) (waiting : Waiting) (ps : List Piece) : Type 0 where
   pub fit : CanBeLaid ps

@@ -1,17 +1,37 @@
--- Frames on their way to a file.
+-- Frames on their way to a file, through a buffer in front of it.
 use Rattle.std.specs.Prelude.{◌≡◌, ℕ, List, [], ◌∷◌, ◌++◌}
+use Rattle.frame_header.specs.Fields.{ClassFields}
 use Rattle.outside.specs.Files.{Files, appended}
-use Rattle.outside.specs.Passed.{AppendedPrefix}
-use Rattle.frame_writer.specs.Frames.{Frame, Held, held_bytes, AreWritten}
+use Rattle.outside.specs.Passed.{PassedOn, AppendedPrefix}
+use Rattle.outside.specs.Counts.{Counts, Rose}
+use Rattle.frame_writer.specs.Frames.{Frame, Held, held_bytes, framed, areas_with, IsNextSettled, AreWritten}
 
 -- the frames that wait, and the bytes in front of the file
 pub record Writing : Type 0 where
   pub held : Held
   pub unsent : List ℕ
 
+abbrev pub writing : Held → List ℕ → Writing
+writing held unsent = record { held = held; unsent = unsent }
+
 -- all bytes that wait
 abbrev pub waiting_bytes : Writing → List ℕ
 waiting_bytes w = w.unsent ++ held_bytes w.held
+
+-- all bytes that wait, with those of one frame more
+abbrev pub bytes_with : Writing → Frame → List ℕ
+bytes_with w f = w.unsent ++ framed (w.held.kept ++ f.kept ∷ []) (areas_with w.held.waiting f)
+
+-- no frame of this class was given yet
+pub record IsNew (class : ClassFields) (held : Held) : Type 0 where
+  pub class_is : held.class ≡ class
+  pub none : held.kept ≡ []
+  pub free : held.waiting.free ≡ 0
+  pub written : AreWritten [] held []
+  pub unsettled : IsNextSettled held → ⊥
+
+abbrev pub WriteFailed : Counts → Counts → Type 0
+WriteFailed before after = Rose before.write_faults after.write_faults
 
 -- frames that waited were taken
 pub record HandedOn (old new : Held) : Type 0 where
@@ -20,15 +40,21 @@ pub record HandedOn (old new : Held) : Type 0 where
   pub class : new.class ≡ old.class
   pub written : (taken : List ℕ) (fs : List Frame) → AreWritten taken old fs → AreWritten (taken ++ moved) new fs
 
--- these bytes were appended before, and with what waits they are the bytes of these frames
-abbrev pub IsWriterOf : List ℕ → Writing → List Frame → Type 0
-IsWriterOf out w fs = AreWritten (out ++ w.unsent) w.held fs
+-- these bytes are some that stood there before, and behind them those that were taken of these frames
+pub record AreBehind (base bytes : List ℕ) (held : Held) (fs : List Frame) : Type 0 where
+  pub taken : List ℕ
+  pub is : bytes ≡ base ++ taken
+  pub written : AreWritten taken held fs
+
+-- what was appended before and what waits are the bytes that stood there before, and behind them those of these frames
+abbrev pub IsWriterOf : List ℕ → List ℕ → Writing → List Frame → Type 0
+IsWriterOf base out w fs = AreBehind base (out ++ w.unsent) w.held fs
 
 -- A frame was given: more was appended, so that the writer goes on, whatever frames were given before.
 pub record WritesOn (name : List ℕ) (f : Frame) (old new : Writing) (before after : Files) : Type 0 where
   pub passed : List ℕ
   pub files : after ≡ appended before name passed
-  pub writer : (out : List ℕ) (fs : List Frame) → IsWriterOf out old fs → IsWriterOf (out ++ passed) new (fs ++ f ∷ [])
+  pub writer : (base out : List ℕ) (fs : List Frame) → IsWriterOf base out old fs → IsWriterOf base (out ++ passed) new (fs ++ f ∷ [])
 
 -- A write failed: of the bytes that waited in front of the file and those of frames that were taken a prefix was appended, and these
 -- frames wait.
@@ -41,4 +67,8 @@ pub record HandedPart (name : List ℕ) (old : Writing) (held : Held) (before af
 pub record WritesPart (name : List ℕ) (f : Frame) (old : Writing) (held : Held) (before after : Files) : Type 0 where
   pub settled : List ℕ
   pub prefix : AppendedPrefix name settled before after
-  pub writer : (out : List ℕ) (fs : List Frame) → IsWriterOf out old fs → AreWritten (out ++ settled) held (fs ++ f ∷ [])
+  pub writer : (base out : List ℕ) (fs : List Frame) → IsWriterOf base out old fs → AreBehind base (out ++ settled) held (fs ++ f ∷ [])
+
+-- frames went on into the buffer, and out of it what does not fit
+abbrev pub GoesOn : List ℕ → Writing → Writing → Files → Files → Type 0
+GoesOn name old new before after = PassedOn name (waiting_bytes old) (waiting_bytes new) before after

@@ -1,8 +1,14 @@
 //! The areas that wait, over a queue of bytes.
-ghost use Rattle.std.specs.Prelude.{◌≡◌, ℕ, ◌+◌, ◌-◌, ◌≤◌, min, List, [], ◌∷◌, ◌++◌, length, take, drop, IfOk};
-ghost use Rattle.frame_writer.specs.Laid.{Piece, Waiting, zeros, put_at, AreLaid};
+ghost use Rattle.std.specs.Prelude.{◌≡◌, ℕ, ◌+◌, ◌-◌, ◌≤◌, min, List, [], ◌∷◌, ◌++◌, length, take, drop, IfOk, OnOk, OnErr};
+ghost use Rattle.outside.specs.Files.{IsThere};
+ghost use Rattle.outside.specs.Passed.{PassedOn, AppendedPrefix};
+ghost use Rattle.outside.specs.Counts.{OnlyWrites};
+ghost use Rattle.frame_writer.specs.Laid.{Piece, Waiting, zeros, laid_behind, AreLaid};
+ghost use Rattle.frame_writer.specs.Writing.{WriteFailed};
 
 use circular_buffer::HeapCircularBuffer;
+use outside::{Failed, Folder, WriteBuffer};
+use reservoir::Payload;
 use std::alloc::{AllocError, Global};
 use std::marker::Model;
 
@@ -74,34 +80,74 @@ impl Areas {
 
     /// Adds the area of a frame, `area` bytes, and lays the frame's main data: they begin `begin` bytes before that
     /// area, the frame's main_data_begin. All else in the area is 0.
-    pub fn push(&mut self, begin: u32, area: u32, payload: &[u8])
+    pub fn push(&mut self, begin: u32, area: u32, payload: &Payload<'_>)
         requires start { begin ≤ self.old.free }
         requires within { length payload.now ≤ begin + area }
         requires room { length self.old.bytes + area ≤ 8192 }
-        ensures put { self.new.bytes ≡ put_at (length self.old.bytes - begin) payload.now (self.old.bytes ++ zeros area) }
+        requires few { length payload.now ≤ 2048 }
+        ensures put { self.new.bytes ≡ laid_behind self.old payload.now begin area }
         ensures free { self.new.free + length payload.now ≡ begin + area }
         ensures long { length self.new.bytes ≡ length self.old.bytes + area }
-        ensures laid { (given : List ℕ) (ps : List Piece) → AreLaid given self.old ps → AreLaid given self.new (ps ++ record { payload = payload.now; begin = begin; area = area } ∷ []) }
+        ensures laid { (given : List ℕ) (ps : List Piece) → AreLaid given self.old ps →
+            AreLaid given self.new (ps ++ record { payload = payload.now; begin = begin; area = area } ∷ []) }
     {
         let gap = self.free - begin;
         self.queue.extend_from_slice(zeros_of(gap as usize));
-        self.queue.extend_from_slice(payload);
+        payload.append_to(&mut self.queue);
         self.free = begin + area - payload.len() as u32;
     }
 
-    /// Takes the first bytes of what waits, as many as `into` has. Where these are no more than are settled, whatever
-    /// main data could be laid before can be laid still.
-    pub fn take_into(&mut self, into: &mut [u8])
-        requires { length into.old ≤ length self.old.bytes }
-        ensures taken { into.new ≡ take (length into.old) self.old.bytes }
-        ensures left { self.new.bytes ≡ drop (length into.old) self.old.bytes }
-        ensures free { self.new.free ≡ min self.old.free (length self.new.bytes) }
-        ensures laid { (given : List ℕ) (ps : List Piece) → AreLaid given self.old ps → AreLaid (given ++ into.new) self.new ps }
+    /// Adds the first bytes of what waits, so many, to what waits for the file.
+    ///
+    /// # Errors
+    /// Where a write failed. Then a prefix of both was appended.
+    #[inline]
+    pub(crate) fn add_first<D: Folder>(
+        &self,
+        count: usize,
+        folder: &mut D,
+        name: &str,
+        unsent: &mut WriteBuffer,
+    ) -> Result<(), Failed>
+        requires there { IsThere (D.files folder.old) name.now }
+        requires within { count ≤ length self.now.bytes }
+        ensures passed { OnOk result (PassedOn name.now (unsent.old ++ take count self.now.bytes)
+            unsent.new (D.files folder.old) (D.files folder.new)) }
+        ensures prefix { OnErr result (AppendedPrefix name.now (unsent.old ++ take count self.now.bytes)
+            (D.files folder.old) (D.files folder.new)) }
+        ensures failed { OnErr result (WriteFailed (D.counts folder.old) (D.counts folder.new)) }
+        ensures done { OnOk result (D.counts folder.new ≡ D.counts folder.old) }
+        ensures counts { OnlyWrites (D.counts folder.old) (D.counts folder.new) }
     {
-        let _ = &self.queue;
-        into.copy_from_slice(zeros_of(into.len()));
-        let stored = self.queue.read_into(into);
-        self.free -= (into.len() - stored) as u32;
+        let (front, back) = self.queue.as_slices();
+        let first = count.min(front.len());
+        let second = (count - first).min(back.len());
+        unsent.push(folder, name, &front[..first])?;
+        unsent.push(folder, name, &back[..second])?;
+        unsent.push(folder, name, zeros_of(count - first - second))
+    }
+
+    /// Drops the first bytes of what waits. Where these are no more than are settled, whatever main data could be laid
+    /// before can be laid still.
+    pub(crate) fn drop_first(&mut self, count: usize)
+        requires { count ≤ length self.old.bytes }
+        ensures left { self.new.bytes ≡ drop count self.old.bytes }
+        ensures free { self.new.free ≡ min self.old.free (length self.new.bytes) }
+        ensures laid { (given : List ℕ) (ps : List Piece) → AreLaid given self.old ps →
+            AreLaid (given ++ take count self.old.bytes) self.new ps }
+    {
+        let stored = count.min(self.queue.len());
+        self.queue.truncate_front(self.queue.len() - stored);
+        self.free -= (count - stored) as u32;
+    }
+
+    /// Forgets all that waits.
+    pub(crate) fn clear(&mut self)
+        ensures none { self.new ≡ record { bytes = []; free = 0 } }
+        ensures laid { AreLaid [] self.new [] }
+    {
+        self.queue.clear();
+        self.free = 0;
     }
 }
 

@@ -3,8 +3,10 @@
 //!
 //! ```text
 //! let mut writer = Writer::new(alloc, header.class())?;
-//! writer.frame(&header, &side, payload, &mut folder, name)?;
-//! writer.finish(&mut folder, name)?;
+//! let mut unsent = WriteBuffer::new(alloc)?;
+//! writer.frame(&frame, &mut folder, name, &mut unsent)?;
+//! writer.finish(&mut folder, name, &mut unsent)?;
+//! unsent.finish(&mut folder, name)?;
 //! ```
 #![tactic(auto)]
 
@@ -14,6 +16,6 @@ mod laws;
 mod writer;
 
 pub use areas::Areas;
-pub use frames::{Frames, Kept, put_front};
+pub use frames::{Frame, Kept, put_front};
 pub use laws::{few_frames_wait, laid_steps};
 pub use writer::Writer;

@@ -1,40 +1,43 @@
 //! Frames written to one file of a folder.
-ghost use Rattle.std.specs.Prelude.{◌≡◌, ℕ, ◌+◌, ◌-◌, ◌<◌, ◌≤◌, ◌↔◌, List, [], ◌∷◌, ◌++◌, length, min, IsTrue, IfOk, OnOk, OnErr};
-ghost use Rattle.frame_header.specs.Tables.{class_of, area_of, window_of};
+ghost use Rattle.std.specs.Prelude.{◌≡◌, ℕ, ◌+◌, ◌-◌, ◌<◌, ◌≤◌, ◌↔◌, List, [], ◌∷◌, ◌++◌, length, drop, min, IsTrue, IfOk, OnOk, OnErr};
+ghost use Rattle.frame_header.specs.Tables.{class_of, window_of};
 ghost use Rattle.side_info.specs.Side.{SideFits};
-ghost use Rattle.outside.specs.Files.{appended, IsThere};
+ghost use Rattle.outside.specs.Files.{IsThere};
 ghost use Rattle.outside.specs.Passed.{PassedOn, AppendedPrefix};
-ghost use Rattle.outside.specs.Counts.{OnlyWrites, Rose};
-ghost use Rattle.frame_writer.specs.Laid.{put_at, zeros};
-ghost use Rattle.frame_writer.specs.Frames.{Frame, framed, held_bytes, reach_of, IsNextSettled};
-ghost use Rattle.frame_writer.specs.Writing.{Writing, waiting_bytes, HandedOn, HandedPart, IsWriterOf, WritesOn, WritesPart};
+ghost use Rattle.outside.specs.Counts.{OnlyWrites};
+ghost use Rattle.frame_writer.specs.Frames.{held_bytes, first_area, area_in, areas_with, Frame, EndsInArea, IsNextSettled, reach_of, reach_with, AreWritten};
+ghost use Rattle.frame_writer.specs.Writing.{Writing, writing, waiting_bytes, bytes_with, IsNew, HandedOn, HandedPart, WritesOn, WritesPart, GoesOn, WriteFailed};
 
-use crate::frames::Frames;
-use frame_header::{Class, Header};
+use crate::areas::Areas;
+use crate::frames::{Frame, Kept, add_frame};
+use circular_buffer::HeapCircularBuffer;
+use frame_header::Class;
 use outside::{Failed, Folder, WriteBuffer};
-use side_info::Side;
 use std::alloc::{AllocError, Global};
 use std::marker::Model;
 
-/// The length of the longest frame in bytes.
-const LONGEST: usize = 1441;
+/// As many frames as may wait.
+const MOST: usize = 256;
 
-/// Frames of one class on their way to a file: those that wait, and in front of the file bytes that no later main data
-/// can reach. Contracts see both.
+/// Frames of one class on their way to a file: those whose main data were laid, and whose areas later main data may
+/// reach. Contracts see the class, the frames that wait and what waits of their areas. They go through a buffer in front
+/// of the file, which is the caller's: what waits in it stands before them.
 #[derive(Drop)]
 pub struct Writer {
-    frames: Frames,
-    buffer: WriteBuffer,
-    // The frame that goes from the one to the other. It stands here so that its bytes aren't set to 0 for each frame.
-    frame: [u8; LONGEST],
+    class: Class,
+    kept: HeapCircularBuffer<Kept>,
+    areas: Areas,
 }
 
 impl Model for Writer {
-    ghost use Rattle.frame_writer.specs.Writing.{Writing};
+    ghost use Rattle.std.specs.Prelude.{◌≡◌, ◌≤◌, length};
+    ghost use Rattle.frame_writer.specs.Frames.{Held, AreOf, areas_in};
 
-    ghost Value = { Writing };
+    ghost Value = { Held };
 
-    ghost view = { λ w. record { held = w.frames; unsent = w.buffer } };
+    ghost view = { λ w. record { class = w.class; kept = w.kept.items; waiting = w.areas } };
+
+    ghost invariant = { λ w. (w.kept.capacity ≡ 256) × (length w.kept.items ≤ 256) × (areas_in w.kept.items ≡ length w.areas.bytes) × AreOf w.class w.kept.items };
 }
 
 impl Writer {
@@ -43,37 +46,51 @@ impl Writer {
     /// # Errors
     /// Where there is no memory.
     pub fn new(alloc: Global, class: Class) -> Result<Writer, AllocError>
-        ensures writer { IfOk result (λ writer. IsWriterOf [] writer []) }
-        ensures class { IfOk result (λ writer. writer.held.class ≡ class) }
-        ensures free { IfOk result (λ writer. writer.held.waiting.free ≡ 0) }
-        ensures unsettled { IfOk result (λ writer. IsNextSettled writer.held → ⊥) }
+        ensures { IfOk result (IsNew class) }
     {
         Ok(Writer {
-            frames: Frames::new(alloc, class)?,
-            buffer: WriteBuffer::new(alloc)?,
-            frame: [0; LONGEST],
+            class,
+            kept: HeapCircularBuffer::with_capacity(alloc, MOST)?,
+            areas: Areas::new(alloc)?,
         })
+    }
+
+    /// Begins anew, with frames of this class. What waits is forgotten.
+    pub fn restart(&mut self, class: Class)
+        ensures { IsNew class self.new }
+    {
+        self.class = class;
+        self.kept.clear();
+        self.areas.clear();
     }
 
     /// The class of the frames.
     pub fn class(&self) -> Class
-        ensures { result ≡ self.now.held.class }
+        ensures { result ≡ self.now.class }
     {
-        self.frames.class()
+        self.class
     }
 
     /// Whether it takes a frame: where a write failed, it may not.
     pub fn is_ready(&self) -> bool
-        ensures { IsTrue result ↔ (IsNextSettled self.now.held → ⊥) }
+        ensures { IsTrue result ↔ (IsNextSettled self.now → ⊥) }
     {
-        !self.frames.is_next_settled()
+        !self.is_next_settled()
     }
 
     /// How many bytes before the next frame's own area its main data may begin.
     pub fn reach(&self) -> u32
-        ensures { result ≡ reach_of self.now.held }
+        ensures { result ≡ reach_of self.now }
     {
-        self.frames.free().min(self.frames.class().window())
+        self.areas.free().min(self.class.window())
+    }
+
+    /// How many frames wait, at most 256.
+    pub fn count(&self) -> usize
+        ensures count { result ≡ length self.now.kept }
+        ensures most { result ≤ 256 }
+    {
+        self.kept.len()
     }
 
     /// Adds a frame, lays its main data, and hands on what no later main data can reach.
@@ -83,85 +100,163 @@ impl Writer {
     /// main data can reach.
     pub fn frame<D: Folder>(
         &mut self,
-        header: &Header,
-        side: &Side,
-        payload: &[u8],
+        frame: &Frame<'_>,
         folder: &mut D,
         name: &str,
+        unsent: &mut WriteBuffer,
     ) -> Result<(), Failed>
         requires there { IsThere (D.files folder.old) name.now }
-        requires class { class_of header.now ≡ self.old.held.class }
-        requires fits { SideFits self.old.held.class side.now }
-        requires start { side.now.main_data_begin ≤ self.old.held.waiting.free }
-        requires within { length payload.now ≤ side.now.main_data_begin + area_of (class_of header.now) header.now.slot header.now.protected }
-        requires unsettled { IsNextSettled self.old.held → ⊥ }
-        ensures written { OnOk result (WritesOn name.now (record { kept = record { header = header.now; side = side.now }; payload = payload.now }) self.old self.new (D.files folder.old) (D.files folder.new)) }
-        ensures part { OnErr result (WritesPart name.now (record { kept = record { header = header.now; side = side.now }; payload = payload.now }) self.old self.new.held (D.files folder.old) (D.files folder.new)) }
-        ensures prefix { OnErr result (AppendedPrefix name.now (self.old.unsent ++ framed (self.old.held.kept ++ record { header = header.now; side = side.now } ∷ []) (put_at (length self.old.held.waiting.bytes - side.now.main_data_begin) payload.now (self.old.held.waiting.bytes ++ zeros (area_of (class_of header.now) header.now.slot header.now.protected)))) (D.files folder.old) (D.files folder.new)) }
-        ensures class { OnOk result (self.new.held.class ≡ self.old.held.class) }
-        ensures reach { reach_of self.new.held ≡ min (window_of self.old.held.class.version) (side.now.main_data_begin + area_of (class_of header.now) header.now.slot header.now.protected - length payload.now) }
-        ensures unsettled { OnOk result (IsNextSettled self.new.held → ⊥) }
-        ensures failed { OnErr result (Rose (D.counts folder.old).write_faults (D.counts folder.new).write_faults) }
+        requires class { class_of frame.now.kept.header ≡ self.old.class }
+        requires fits { SideFits self.old.class frame.now.kept.side }
+        requires start { frame.now.kept.side.main_data_begin ≤ self.old.waiting.free }
+        requires within { EndsInArea frame.now }
+        requires few { length frame.now.payload ≤ 2048 }
+        requires unsettled { IsNextSettled self.old → ⊥ }
+        ensures written { OnOk result (WritesOn name.now frame.now (writing self.old unsent.old)
+            (writing self.new unsent.new) (D.files folder.old) (D.files folder.new)) }
+        ensures part { OnErr result (WritesPart name.now frame.now (writing self.old unsent.old)
+            self.new (D.files folder.old) (D.files folder.new)) }
+        ensures prefix { OnErr result (AppendedPrefix name.now
+            (bytes_with (writing self.old unsent.old) frame.now) (D.files folder.old) (D.files folder.new)) }
+        ensures class { self.new.class ≡ self.old.class }
+        ensures reach { reach_of self.new ≡ reach_with self.old.class frame.now }
+        ensures unsettled { OnOk result (IsNextSettled self.new → ⊥) }
+        ensures failed { OnErr result (WriteFailed (D.counts folder.old) (D.counts folder.new)) }
         ensures done { OnOk result (D.counts folder.new ≡ D.counts folder.old) }
         ensures counts { OnlyWrites (D.counts folder.old) (D.counts folder.new) }
     {
-        self.frames.push(header, side, payload);
-        self.hand_on(folder, name)
+        self.push(frame);
+        self.hand_on(folder, name, unsent)
     }
 
-    /// Hands on all that waits.
+    /// Hands on all that waits, to the buffer in front of the file.
     ///
     /// # Errors
     /// Where a write failed. Then a prefix of what waited was appended.
-    pub fn finish<D: Folder>(&mut self, folder: &mut D, name: &str) -> Result<(), Failed>
+    pub fn finish<D: Folder>(
+        &mut self,
+        folder: &mut D,
+        name: &str,
+        unsent: &mut WriteBuffer,
+    ) -> Result<(), Failed>
         requires there { IsThere (D.files folder.old) name.now }
-        ensures appended { OnOk result (D.files folder.new ≡ appended (D.files folder.old) name.now (waiting_bytes self.old)) }
-        ensures none { OnOk result (waiting_bytes self.new ≡ []) }
-        ensures prefix { OnErr result (AppendedPrefix name.now (waiting_bytes self.old) (D.files folder.old) (D.files folder.new)) }
-        ensures failed { OnErr result (Rose (D.counts folder.old).write_faults (D.counts folder.new).write_faults) }
+        ensures passed { OnOk result (PassedOn name.now (unsent.old ++ held_bytes self.old)
+            unsent.new (D.files folder.old) (D.files folder.new)) }
+        ensures none { OnOk result (self.new.kept ≡ []) }
+        ensures prefix { OnErr result (AppendedPrefix name.now (unsent.old ++ held_bytes self.old)
+            (D.files folder.old) (D.files folder.new)) }
+        ensures failed { OnErr result (WriteFailed (D.counts folder.old) (D.counts folder.new)) }
         ensures done { OnOk result (D.counts folder.new ≡ D.counts folder.old) }
         ensures counts { OnlyWrites (D.counts folder.old) (D.counts folder.new) }
     {
-        while self.frames.count() > 0 {
-            self.hand_on_one(folder, name)?;
-        }
-        self.buffer.finish(folder, name)
-    }
-
-    /// Hands on frames for as long as the first is settled.
-    fn hand_on<D: Folder>(&mut self, folder: &mut D, name: &str) -> Result<(), Failed>
-        requires there { IsThere (D.files folder.old) name.now }
-        ensures passed { OnOk result (PassedOn name.now (waiting_bytes self.old) (waiting_bytes self.new) (D.files folder.old) (D.files folder.new)) }
-        ensures moved { OnOk result (HandedOn self.old.held self.new.held) }
-        ensures part { OnErr result (HandedPart name.now self.old self.new.held (D.files folder.old) (D.files folder.new)) }
-        ensures reach { reach_of self.new.held ≡ reach_of self.old.held }
-        ensures unsettled { OnOk result (IsNextSettled self.new.held → ⊥) }
-        ensures prefix { OnErr result (AppendedPrefix name.now (waiting_bytes self.old) (D.files folder.old) (D.files folder.new)) }
-        ensures failed { OnErr result (Rose (D.counts folder.old).write_faults (D.counts folder.new).write_faults) }
-        ensures done { OnOk result (D.counts folder.new ≡ D.counts folder.old) }
-        ensures counts { OnlyWrites (D.counts folder.old) (D.counts folder.new) }
-    {
-        while self.frames.is_next_settled() {
-            self.hand_on_one(folder, name)?;
+        while self.count() > 0 {
+            self.take_first(folder, name, unsent)?;
         }
         Ok(())
     }
 
-    /// Hands on the first frame that waits.
-    fn hand_on_one<D: Folder>(&mut self, folder: &mut D, name: &str) -> Result<(), Failed>
+    /// Hands on frames for as long as the first is settled.
+    fn hand_on<D: Folder>(
+        &mut self,
+        folder: &mut D,
+        name: &str,
+        unsent: &mut WriteBuffer,
+    ) -> Result<(), Failed>
         requires there { IsThere (D.files folder.old) name.now }
-        requires some { 0 < length self.old.held.kept }
-        ensures passed { OnOk result (PassedOn name.now (waiting_bytes self.old) (waiting_bytes self.new) (D.files folder.old) (D.files folder.new)) }
-        ensures moved { OnOk result (HandedOn self.old.held self.new.held) }
-        ensures part { OnErr result (HandedPart name.now self.old self.new.held (D.files folder.old) (D.files folder.new)) }
-        ensures reach { IsNextSettled self.old.held → reach_of self.new.held ≡ reach_of self.old.held }
-        ensures fewer { length self.new.held.kept + 1 ≡ length self.old.held.kept }
-        ensures prefix { OnErr result (AppendedPrefix name.now (waiting_bytes self.old) (D.files folder.old) (D.files folder.new)) }
-        ensures failed { OnErr result (Rose (D.counts folder.old).write_faults (D.counts folder.new).write_faults) }
+        ensures passed { OnOk result (GoesOn name.now (writing self.old unsent.old)
+            (writing self.new unsent.new) (D.files folder.old) (D.files folder.new)) }
+        ensures moved { OnOk result (HandedOn self.old self.new) }
+        ensures part { OnErr result (HandedPart name.now (writing self.old unsent.old)
+            self.new (D.files folder.old) (D.files folder.new)) }
+        ensures class { self.new.class ≡ self.old.class }
+        ensures reach { reach_of self.new ≡ reach_of self.old }
+        ensures unsettled { OnOk result (IsNextSettled self.new → ⊥) }
+        ensures prefix { OnErr result (AppendedPrefix name.now (unsent.old ++ held_bytes self.old)
+            (D.files folder.old) (D.files folder.new)) }
+        ensures failed { OnErr result (WriteFailed (D.counts folder.old) (D.counts folder.new)) }
         ensures done { OnOk result (D.counts folder.new ≡ D.counts folder.old) }
         ensures counts { OnlyWrites (D.counts folder.old) (D.counts folder.new) }
     {
-        let length = self.frames.take_frame(&mut self.frame);
-        self.buffer.push(folder, name, &self.frame[..length])
+        while self.is_next_settled() {
+            self.take_first(folder, name, unsent)?;
+        }
+        Ok(())
+    }
+
+    /// Adds a frame, and lays its main data into the areas that wait and its own: they begin main_data_begin bytes
+    /// before its own area (ISO/IEC 11172-3 and 13818-3, 2.4.2.7). There is always room for it where the first frame
+    /// that waits isn't settled: at most 255 frames wait then (`few_frames_wait`).
+    fn push(&mut self, frame: &Frame<'_>)
+        requires class { class_of frame.now.kept.header ≡ self.old.class }
+        requires fits { SideFits self.old.class frame.now.kept.side }
+        requires start { frame.now.kept.side.main_data_begin ≤ self.old.waiting.free }
+        requires within { EndsInArea frame.now }
+        requires few { length frame.now.payload ≤ 2048 }
+        requires unsettled { IsNextSettled self.old → ⊥ }
+        ensures class { self.new.class ≡ self.old.class }
+        ensures kept { self.new.kept ≡ self.old.kept ++ frame.now.kept ∷ [] }
+        ensures free { self.new.waiting.free + length frame.now.payload ≡
+            frame.now.kept.side.main_data_begin + area_in frame.now.kept }
+        ensures put { self.new.waiting.bytes ≡ areas_with self.old.waiting frame.now }
+        ensures written { (taken : List ℕ) (fs : List Frame) → AreWritten taken self.old fs →
+            AreWritten taken self.new (fs ++ frame.now ∷ []) }
+    {
+        let Kept { header, side } = frame.kept;
+        let _ = &header.slot;
+        self.kept.push_back(frame.kept);
+        self.areas.push(
+            u32::from(side.main_data_begin),
+            header.area(),
+            &frame.payload,
+        );
+    }
+
+    /// Takes the first frame that waits, and adds its bytes to what waits for the file: its header, its check word where
+    /// it is protected, its side information and its area. Where it was settled, main data can begin afterwards wherever
+    /// they could before.
+    ///
+    /// # Errors
+    /// Where a write failed. Then a prefix was appended of what waited and the frame.
+    fn take_first<D: Folder>(
+        &mut self,
+        folder: &mut D,
+        name: &str,
+        unsent: &mut WriteBuffer,
+    ) -> Result<(), Failed>
+        requires there { IsThere (D.files folder.old) name.now }
+        requires some { 0 < length self.old.kept }
+        ensures passed { OnOk result (GoesOn name.now (writing self.old unsent.old)
+            (writing self.new unsent.new) (D.files folder.old) (D.files folder.new)) }
+        ensures moved { HandedOn self.old self.new }
+        ensures part { OnErr result (HandedPart name.now (writing self.old unsent.old)
+            self.new (D.files folder.old) (D.files folder.new)) }
+        ensures prefix { OnErr result (AppendedPrefix name.now (unsent.old ++ held_bytes self.old)
+            (D.files folder.old) (D.files folder.new)) }
+        ensures class { self.new.class ≡ self.old.class }
+        ensures kept { self.new.kept ≡ drop 1 self.old.kept }
+        ensures left { self.new.waiting.bytes ≡ drop
+            (first_area self.old.kept) self.old.waiting.bytes }
+        ensures free { self.new.waiting.free ≡ min self.old.waiting.free
+            (length self.new.waiting.bytes) }
+        ensures reach { IsNextSettled self.old → reach_of self.new ≡ reach_of self.old }
+        ensures failed { OnErr result (WriteFailed (D.counts folder.old) (D.counts folder.new)) }
+        ensures done { OnOk result (D.counts folder.new ≡ D.counts folder.old) }
+        ensures counts { OnlyWrites (D.counts folder.old) (D.counts folder.new) }
+    {
+        let first = self.kept.pop_front().unwrap();
+        let added = add_frame(&first, &self.areas, folder, name, unsent);
+        self.areas.drop_first(first.header.area() as usize);
+        added
+    }
+
+    /// Whether a frame waits whose area no later main data can reach: these begin at most 511 bytes before their frame's
+    /// own area in MPEG-1, 255 in MPEG-2 and MPEG-2.5, and not before the end of the last main data.
+    fn is_next_settled(&self) -> bool
+        ensures { IsTrue result ↔ IsNextSettled self.now }
+    {
+        match self.kept.front() {
+            None => false,
+            Some(kept) => kept.header.area() as usize <= self.areas.settled(self.class.window()),
+        }
     }
 }

@@ -23,7 +23,8 @@ const ALL_FLAGS: u32 = 15;
 pub fn info_slot(class: Class) -> Slot
     ensures slot { result ≡ info_slot_of class }
     ensures room { 156 ≤ area_of class result false }
-    ensures least { (slot : SlotFields) → IsSlot slot → 156 ≤ area_of class slot false → area_of class result false ≤ area_of class slot false }
+    ensures least { (slot : SlotFields) → IsSlot slot → 156 ≤ area_of class slot false
+        → area_of class result false ≤ area_of class slot false }
 {
     // The areas are those of a class.
     let _ = &class.version;

@@ -1,6 +1,6 @@
 //! Main data worked out by hand. Byte n of all areas is n modulo 251, so that bytes at two places less than 251 apart differ.
 
-use arrayvec::ArrayVec;
+use circular_buffer::HeapCircularBuffer;
 use reservoir::*;
 use std::alloc::AllocGlobal;
 use std::process::Abort;
@@ -123,7 +123,18 @@ static CASES: [Case; 7] = [
     },
 ];
 
-fn expect_payload(rt: &impl Abort, window: &Window, case: &Case) {
+/// The bytes of main data.
+fn bytes_of<R: AllocGlobal>(rt: &R, payload: &Payload) -> Result<Vec<u8>, Fail> {
+    let mut queue = HeapCircularBuffer::with_capacity(rt.alloc(), 2048)?;
+    payload.append_to(&mut queue);
+    Ok(queue.to_vec(rt.alloc())?)
+}
+
+fn expect_payload<R: AllocGlobal + Abort>(
+    rt: &R,
+    window: &Window,
+    case: &Case,
+) -> Result<(), Fail> {
     let (area, begin, bits) = (
         u32::from(case.area),
         u32::from(case.begin),
@@ -131,11 +142,9 @@ fn expect_payload(rt: &impl Abort, window: &Window, case: &Case) {
     );
     assert!(rt; (area + begin) as usize <= window.held(), "{}", case.what);
     assert!(rt; bits <= 8 * (area + begin), "{}", case.what);
-    let mut payload = ArrayVec::new();
-    payload.push(0xff);
-    window.payload(area, begin, bits, &mut payload);
-    assert_eq!(rt; payload.len(), case.length, "{}", case.what);
-    for (k, byte) in payload.as_slice().iter().enumerate() {
+    let bytes = bytes_of(rt, &window.payload(area, begin, bits))?;
+    assert_eq!(rt; bytes.len(), case.length, "{}", case.what);
+    for (k, byte) in bytes.iter().enumerate() {
         let place = usize::from(case.start) + k;
         let wanted = if k + 1 == case.length {
             case.last
@@ -144,13 +153,14 @@ fn expect_payload(rt: &impl Abort, window: &Window, case: &Case) {
         };
         assert_eq!(rt; *byte, wanted, "{}, byte {k}", case.what);
     }
+    Ok(())
 }
 
 #[test]
 fn payloads(rt: HostRuntime) -> Result<(), Fail> {
     for case in &CASES {
         let window = window_over(&rt, case.areas)?;
-        expect_payload(&rt, &window, case);
+        expect_payload(&rt, &window, case)?;
     }
     Ok(())
 }

@@ -135,7 +135,8 @@ pub fn word_at(words: &[String], place: u32) -> &str
 pub fn words_from(words: &[String], first: u32, count: u32) -> &[String]
     requires counted { 1 ≤ first }
     requires last { first + count ≤ length words.now + 1 }
-    ensures words { map string_bytes result.now ≡ words_from_lem (map string_bytes words.now) first count }
+    ensures words { map string_bytes result.now ≡ words_from_lem
+        (map string_bytes words.now) first count }
     ensures count { length result.now ≡ count }
 {
     &words[first as usize - 1..][..count as usize]
@@ -232,7 +233,8 @@ fn fits(word: &str, kind: &WordKind) -> bool
 
 // How many words there are in front that have the first of these kinds.
 fn follow(words: &[String], kinds: &[WordKind]) -> usize
-    ensures { result ≡ common_prefix_len fits_kind (map word_kind kinds.now) (map string_bytes words.now) }
+    ensures { result ≡ common_prefix_len fits_kind (map word_kind kinds.now)
+        (map string_bytes words.now) }
 {
     let mut count = 0;
     while count < kinds.len() && count < words.len() && fits(words[count].as_str(), &kinds[count]) {
@@ -297,7 +299,8 @@ fn append(kinds: &mut Kinds, more: &[WordKind])
 // `gain`, the options, and what stands behind them.
 fn gain_kinds(options: GainOptions, behind: &[WordKind]) -> Kinds
     requires { length behind.now ≤ 5 }
-    ensures { map word_kind result.items ≡ Fixed (codes "gain") ∷ (option_kinds (options_named options) ++ map word_kind behind.now) }
+    ensures { map word_kind result.items ≡ Fixed (codes "gain") ∷
+        (option_kinds (options_named options) ++ map word_kind behind.now) }
 {
     let mut kinds = ArrayVec::new();
     kinds.push(WordKind::Fixed("gain"));
@@ -319,7 +322,8 @@ fn some_kinds(kinds: &[WordKind]) -> Kinds
 fn repeat_last(kinds: &mut Kinds, count: usize)
     requires some { 1 ≤ length kinds.old.items }
     requires room { length kinds.old.items + count ≤ 103 }
-    ensures { kinds.new.items ≡ kinds.old.items ++ replicate count (slice_index_or kinds.old.items (length kinds.old.items - 1) WordKind.Name) }
+    ensures { kinds.new.items ≡ kinds.old.items ++ replicate count
+        (slice_index_or kinds.old.items (length kinds.old.items - 1) WordKind.Name) }
 {
     let last = kinds.as_slice()[kinds.len() - 1];
     for _ in 0..count {
@@ -471,7 +475,13 @@ impl FormName {
 // A change of these channels by these steps of the file that this word names, to the file that the next one does.
 fn gain_of(channels: Channels, steps: &str, options: GainOptions, input: u32) -> Job
     requires { input < 2 ^ 31 }
-    ensures { result ≡ Job.Gain (record { channels = channels; steps = unwrap_or (steps_of steps.now) (pos 0); wrap = do_wrap (options_named options) }) (keep_tags (options_named options)) input (input + 1) }
+    ensures { result ≡ Job.Gain (record {
+      channels = channels;
+      steps = unwrap_or
+          (steps_of steps.now) (pos 0);
+      wrap = do_wrap (options_named options);
+    })
+        (keep_tags (options_named options)) input (input + 1) }
 {
     let shift = Shift {
         channels,

@@ -1,6 +1,6 @@
 -- What the command leaves, by its steps.
-use Rattle.std.proofs.Common.{◌≡◌, ◌≢◌, ℕ, ◌+◌, ◌-◌, ◌<◌, ◌≤◌, Bool, true, false, cond, List, [], ◌∷◌, length, take, Option, Some, None, Result, Ok, Err, refl, sym, ◌∙◌, ap, ap₂, subst, arith, inl, inr, is_some, bytes_eq}
-use Rattle.std.specs.Prelude.{◌⊎◌, ◌↔◌, IfSome, IfErr, OnOk, IsErrOf, unwrap_or}
+use Rattle.std.proofs.Common.{◌≡◌, ℕ, ◌-◌, ◌≤◌, List, [], ◌∷◌, length, Option, Some, None, Result, Ok, Err, refl, sym, ◌∙◌, ap, ap₂, subst, arith, inl, inr, is_some}
+use Rattle.std.specs.Prelude.{◌↔◌, IfSome, IfErr, IsErrOf, unwrap_or}
 use Rattle.outside.specs.Files.{Contents, Files, Holds, IsThere}
 use Rattle.outside.proofs.FilesLaws.{there_holds}
 use Rattle.frame_header.specs.Fields.{ClassFields}
@@ -8,14 +8,13 @@ use Rattle.sync_survey.specs.Faults.{SurveyFields, HoldsStream}
 use Rattle.laying.specs.Relaid.{Part}
 use Rattle.edits.specs.declared.fault.EditFault.{EditFault}
 use Rattle.edits.specs.declared.fault.EditFault.TheVariants.{EqualNames, Input, GainRange, Mono, Joint, TagTooLarge, BadTag, NoUndo, BadUndo, UndoRange, OutputTooLong, Range, Differ, SheetTooLarge, Sheet, Write, Sent, Memory}
-use Rattle.edits.specs.Command.{Made, Command, clash_from, clash_of, Gives, written, written_to, AreSound, MakesStreams, HoldsStreams}
+use Rattle.edits.specs.Command.{Made, Command, clash_from, Gives, written, written_to, AreSound, MakesStreams, HoldsStreams}
 use Rattle.edits.specs.One.{most_frames, holding, HoldsPrefix, IsPassFaultBy, IsPassFault}
 use Rattle.edits.specs.Left.{Why, Refused, Missing, Unread, Shorter, Unwritten, Unsent, NoMemory, why_of, Seen, IsDone, IsWrittenTo, TakesMemory, LeavesBy, Leaves, HasNumbers}
 use Rattle.moved_gains.proofs.SurveyedFiles.{survey_of-sound}
 use Rattle.edits.proofs.OneLaws.{ok_made}
 use Rattle.joining.specs.Join.{parts_of, joined_file, joined_stream, join_made, join_stream, join_command}
 use Rattle.joining.specs.Inputs.{IsOfJoin, AreInputs, CanBeJoined, parts_in, told_parts}
-use Rattle.joining.specs.Laying.{AreSources}
 use Rattle.joining.proofs.InputLaws.{parts-all}
 use Rattle.joining.proofs.StreamLaws.{joined-holds, sources-inputs}
 

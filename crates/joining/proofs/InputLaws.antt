@@ -1,5 +1,5 @@
 -- The surveys of the inputs, one after the other, and what is made of the inputs by them.
-use Rattle.std.proofs.Common.{◌≡◌, ◌≢◌, ℕ, zero, suc, pos, take, drop, ◌+◌, ◌-◌, ◌<◌, ◌≤◌, ◌==◌, Bool, true, false, cond, List, [], ◌∷◌, ◌++◌, length, Option, Some, None, Result, Ok, Err, refl, sym, ◌∙◌, ap, ap₂, subst, arith, inl, inr, append-nil, length-append}
+use Rattle.std.proofs.Common.{◌≡◌, ℕ, zero, suc, pos, take, drop, ◌+◌, ◌-◌, ◌<◌, ◌≤◌, ◌==◌, Bool, true, false, cond, List, [], ◌∷◌, ◌++◌, length, Option, Some, None, Result, Ok, Err, refl, sym, ◌∙◌, ap, ap₂, subst, arith, inl, append-nil}
 use Rattle.std.specs.Prelude.{IfSome, IfErr, unwrap_or}
 use Rattle.outside.specs.Files.{Contents, Files, Holds, IsThere}
 use Rattle.outside.proofs.FilesLaws.{there_holds}
@@ -10,19 +10,19 @@ use Rattle.sync_survey.specs.declared.survey_fault.SurveyFault.{SurveyFault}
 use Rattle.sync_survey.specs.declared.survey_fault.SurveyFault.TheVariants.{Absent, TooLong}
 use Rattle.sync_survey.specs.Faults.{longest_file, SurveyFields, surveyed}
 use Rattle.sync_survey.specs.Survey.{survey_of}
-use Rattle.sync_survey.proofs.BytesFaults.{IsOfBytes, surveyed_of_bytes}
+use Rattle.sync_survey.proofs.BytesFaults.{surveyed_of_bytes}
 use Rattle.sync_survey.proofs.FoldersLaws.{survey_of-short}
 use Rattle.edits.specs.declared.fault.EditFault.{EditFault}
 use Rattle.edits.specs.declared.fault.EditFault.TheVariants.{Input, Differ, Memory}
 use Rattle.edits.specs.Choice.{then_made}
-use Rattle.edits.specs.Command.{Made, Command, clash_from, clash_of, Gives}
+use Rattle.edits.specs.Command.{clash_from, Gives}
 use Rattle.edits.specs.One.{most_frames, NeedsMemory}
-use Rattle.edits.specs.Left.{Why, Refused, Missing, Unread, Shorter, Unwritten, Unsent, NoMemory, why_of, Seen, TakesMemory, is_before_memory, LeavesBy, Leaves}
+use Rattle.edits.specs.Left.{Why, Refused, Missing, Unread, Shorter, Unwritten, Unsent, NoMemory, why_of, Seen, TakesMemory, LeavesBy, Leaves}
 use Rattle.moved_gains.proofs.SurveyedFiles.{survey_of-parts}
 use Rattle.moved_gains.proofs.TagPlaces.{stands_somewhere}
 use Rattle.edits.proofs.OneLaws.{of_bytes_behind}
 use Rattle.edits.proofs.Refusals.{IsLate, then_late}
-use Rattle.joining.specs.Join.{whole_part, may_follow, part_by, part_of, parts_from, parts_of, joined_file, join_made, join_command}
+use Rattle.joining.specs.Join.{whole_part, may_follow, part_by, part_of, parts_from, parts_of, join_made, join_command}
 use Rattle.joining.specs.Inputs.{IsInput, IsPartFaultBy, IsPartFault, Follows, AreInputs, class_in, frames_of, parts_in}
 
 -- ---- one more
@@ -281,15 +281,3 @@ pub frames-more : (ss : List SurveyFields) (s : SurveyFields) → frames_of (ss 
 unfolding frames_of
 frames-more [] s = omega arith
 frames-more (t ∷ ss) s = omega (arith, frames-more ss s)
-
--- a told file that has a survey has a frame
-pub surveyed-some : (file : List ℕ) (allowed : ℕ) (s : SurveyFields) → survey_of file allowed ≡ Ok s → 0 < length s.frames
-surveyed-some file allowed s is = (stands_somewhere (record { left = pos 0; right = pos 0; wrap = false }) file allowed s (survey_of-parts file allowed s is).1).some
-
--- so none of them gives a survey without
-pub never-empty : (files : Files) (name : List ℕ) (place allowed : ℕ) (first : Option ClassFields) (fault : EditFault) (s : SurveyFields) → IsThere files name → ((file : List ℕ) → Holds files name file → survey_of file allowed ≡ Ok s) → length s.frames ≡ 0
-    → IfSome files (λ f. part_of place first allowed (f name) ≡ Err fault)
-never-empty None name place allowed first fault s there exact none = tt
-never-empty (Some f) name place allowed first fault s there exact none =
-    let held = there_holds f name there in
-    absurd (omega (arith, surveyed-some held.0 allowed s (exact held.0 held.1), none))

@@ -1,33 +1,33 @@
 -- Frames of several inputs, one input after the other.
-use Rattle.std.proofs.Common.{◌≡◌, ◌≢◌, ℕ, zero, suc, ◌+◌, ◌-◌, ◌<◌, ◌≤◌, Bool, true, false, List, [], ◌∷◌, ◌++◌, length, get_or, map, take, drop, Option, Some, None, refl, sym, ◌∙◌, ap, ap₂, subst, arith, length-append, append-nil}
+use Rattle.std.proofs.Common.{◌≡◌, ◌≢◌, ℕ, zero, suc, ◌+◌, ◌-◌, ◌<◌, ◌≤◌, Bool, true, false, List, [], ◌∷◌, ◌++◌, length, get_or, map, take, drop, Option, Some, None, refl, sym, ◌∙◌, ap, ap₂, subst, arith, append-nil}
 use Rattle.std.specs.Prelude.{slice_range, flat_map, unwrap_or}
 use Rattle.std.specs.List.{enumerate_from}
 use Rattle.std.proofs.lemmas.List.{length-map, length-drop}
 use Rattle.std.proofs.lemmas.List.FromFn.{length-enumerate_from}
-use Rattle.outside.specs.Files.{Contents, Files, Holds, IsThere}
+use Rattle.outside.specs.Files.{Files, Holds, IsThere}
 use Rattle.outside.proofs.FilesLaws.{there_holds}
 use Rattle.frame_header.specs.Fields.{ClassFields}
+use Rattle.frame_header.specs.Tables.{window_of}
 use Rattle.slot_plan.specs.declared.needs.Need.{Need}
 use Rattle.slot_plan.specs.declared.needs.Placed.{Placed}
 use Rattle.part_needs.specs.Needs.{need_of, needs_of}
 use Rattle.frame_writer.specs.Laid.{Piece, BeginsWithin}
 use Rattle.frame_writer.specs.Frames.{Frame, pieces}
 use Rattle.frame_writer.specs.Writing.{Writing}
-use Rattle.laying.specs.Relaid.{Part, frames_in, frame_of, all_frames, left_behind, relaid}
+use Rattle.laying.specs.Relaid.{frames_in, frame_of, all_frames, left_behind, relaid}
 use Rattle.laying.specs.Fits.{reach_behind, FitsFrom, last_reach}
 use Rattle.laying.specs.Passing.{HasSurvey, Lays, LaysPart}
-use Rattle.laying.proofs.PlannedFrames.{one, relaid-cons, AreNeedsOf}
+use Rattle.laying.proofs.PlannedFrames.{one, AreNeedsOf}
 use Rattle.laying.proofs.HoldLaws.{needs-range}
 use Rattle.laying.proofs.ReadLaws.{survey-surveyed}
 use Rattle.laying.proofs.RelayLaws.{relaid-end, relaid-none}
-use Rattle.laying.proofs.PassLaws.{appended_holds, appended_held, appended_is_there}
+use Rattle.outside.proofs.PassLaws.{input_holds, input_held, still_there}
 use Rattle.sync_survey.specs.declared.rows.Row.{Row}
 use Rattle.sync_survey.specs.Faults.{SurveyFields}
 use Rattle.outside.specs.Files.{appended}
-use Rattle.edits.specs.One.{most_frames}
 use Rattle.joining.specs.Join.{whole_part}
-use Rattle.joining.specs.Inputs.{rows_of, frames_of, parts_in, told_parts}
-use Rattle.joining.specs.Laying.{frames_behind, places_for, IsSource, AreSources}
+use Rattle.joining.specs.Inputs.{rows_of, parts_in, told_parts}
+use Rattle.joining.specs.Laying.{frames_behind, places_for, own_places, input_frames, input_reach, IsSource, AreSources}
 use Rattle.joining.proofs.PlanLaws.{range-whole}
 
 -- ---- lists
@@ -102,24 +102,38 @@ relaid-append (x ∷ xs) ys (p ∷ placed) =
     ∙ ap (λ (l : List Frame). one p.lead_in p x ∷ l) (relaid-append (left_behind p.lead_in x xs) ys placed)
     ∙ ap (λ n. one p.lead_in p x ∷ (relaid (left_behind p.lead_in x xs) placed ++ relaid ys (drop (places_for n placed) placed))) (behind-length p.lead_in x xs)
 
-no-places : (window reach : ℕ) (needs : List Need) → FitsFrom window reach needs []
-unfolding FitsFrom
-no-places window reach [] = tt
-no-places window reach (need ∷ needs) = tt
-
 pub fits-append : (window reach : ℕ) (xs ys : List Need) (placed : List Placed) → FitsFrom window reach (xs ++ ys) placed
-    → FitsFrom window reach xs placed × FitsFrom window (last_reach window reach xs placed) ys (drop (places_for (length xs) placed) placed)
+    → FitsFrom window reach xs (own_places (length xs) placed) × FitsFrom window (last_reach window reach xs placed) ys (drop (places_for (length xs) placed) placed)
 unfolding FitsFrom last_reach places_for
 fits-append window reach [] ys [] fits = (tt, fits)
 fits-append window reach [] ys (p ∷ placed) fits = (tt, fits)
-fits-append window reach (x ∷ xs) ys [] fits = (tt, no-places window reach ys)
+fits-append window reach (x ∷ xs) ys [] fits = absurd fits
 fits-append window reach (x ∷ xs) ys (p ∷ placed) fits =
     let both =
     fits-append window (reach_behind window p x) (left_behind p.lead_in x xs) ys placed
     (subst (λ (l : List Need). FitsFrom window (reach_behind window p x) l placed) (behind-append p.lead_in x xs ys) fits.2) in (
-      (fits.0, fits.1, both.0),
+      (fits.0, fits.1, subst (λ n. FitsFrom window (reach_behind window p x) (left_behind p.lead_in x xs) (own_places n placed)) (behind-length p.lead_in x xs) both.0),
       subst (λ n. FitsFrom window (last_reach window (reach_behind window p x) (left_behind p.lead_in x xs) placed) ys (drop (places_for n placed) placed)) (behind-length p.lead_in x xs) both.1,
     )
+
+-- the frames of a plan are those in their own places
+pub relaid-own : (xs : List Frame) (placed : List Placed) → relaid xs (own_places (length xs) placed) ≡ relaid xs placed
+unfolding relaid places_for
+relaid-own [] [] = refl
+relaid-own [] (p ∷ placed) = refl
+relaid-own (x ∷ xs) [] = refl
+relaid-own (x ∷ xs) (p ∷ placed) =
+    ap (λ n. one p.lead_in p x ∷ relaid (left_behind p.lead_in x xs) (own_places n placed)) (sym (behind-length p.lead_in x xs))
+    ∙ ap (λ (l : List Frame). one p.lead_in p x ∷ l) (relaid-own (left_behind p.lead_in x xs) placed)
+
+pub last-own : (window reach : ℕ) (xs : List Need) (placed : List Placed) → last_reach window reach xs (own_places (length xs) placed) ≡ last_reach window reach xs placed
+unfolding last_reach places_for
+last-own window reach [] [] = refl
+last-own window reach [] (p ∷ placed) = refl
+last-own window reach (x ∷ xs) [] = refl
+last-own window reach (x ∷ xs) (p ∷ placed) =
+    ap (λ n. last_reach window (reach_behind window p x) (left_behind p.lead_in x xs) (own_places n placed)) (sym (behind-length p.lead_in x xs))
+    ∙ last-own window (reach_behind window p x) (left_behind p.lead_in x xs) placed
 
 needs-append : (needs more : List Need) (fs gs : List Frame) → AreNeedsOf needs fs → AreNeedsOf more gs → AreNeedsOf (needs ++ more) (fs ++ gs)
 needs-append [] more [] gs are behind = behind
@@ -141,6 +155,16 @@ part-length : (file : List ℕ) (s : SurveyFields) → length (frames_in (whole_
 part-length file s =
     let all = all-length file s in
     ap (λ n. length (slice_range (all_frames file s) 0 n)) (sym all) ∙ ap length (range-whole (all_frames file s)) ∙ all
+
+pub input-own : (file : List ℕ) (s : SurveyFields) (placed : List Placed) → input_frames s (own_places (length s.frames) placed) file ≡ input_frames s placed file
+input-own file s placed =
+    let frames = slice_range (all_frames file s) 0 (length s.frames) in
+    ap (λ n. relaid frames (own_places n placed)) (sym (part-length file s)) ∙ relaid-own frames placed
+
+pub reach-own : (reach : ℕ) (s : SurveyFields) (placed : List Placed) → input_reach reach s (own_places (length s.frames) placed) ≡ input_reach reach s placed
+reach-own reach s placed =
+    ap (λ n. last_reach (window_of s.class.version) reach (map need_of s.frames) (own_places n placed)) (sym (length-map s.frames need_of))
+    ∙ last-own (window_of s.class.version) reach (map need_of s.frames) placed
 
 pub part-needs : (file : List ℕ) (s : SurveyFields) → HasSurvey file s → AreNeedsOf (map need_of s.frames) (frames_in (whole_part file s))
 part-needs file s has =
@@ -222,6 +246,20 @@ own-split (Some f) key told name s names ss placed holds there =
     ∙ ap₂ (λ (l : List Frame) n. l ++ relaid (told_frames (Some f) names ss) (drop (places_for n placed) placed))
     (ap (λ (l : List Frame). relaid l placed) (sym (append-nil part))) (part-length (unwrap_or (f name) []) s)
 
+-- the same, said otherwise
+pub part-as : (input output : List ℕ) (made other : List ℕ → List Frame) (reach last : ℕ) (old : Writing) (before after : Files) → ((file : List ℕ) → made file ≡ other file) → reach ≡ last → LaysPart input output made reach old before after
+    → LaysPart input output other last old before after
+part-as input output made other reach last old before after same is part = record {
+  settled = part.settled;
+  prefix = part.prefix;
+  done = part.done;
+  held = part.held;
+  writer = part.writer;
+  is = λ file holds more begins.
+      let found = part.is file holds more (subst (λ n. BeginsWithin n (pieces more)) (sym is) begins) in
+      (found.0, found.1 ∙ ap (λ (l : List Frame). l ++ more) (same file), found.2);
+}
+
 -- one input behind those before it, of which so much was appended
 module _ (output : List ℕ) (first now after : Files) (name : List ℕ) (s : SurveyFields) (placed : List Placed) (old new : Writing) (source : IsSource output first name s) (passed : List ℕ) (grown : now ≡ appended first output passed) where
   abbrev made : List ℕ → List Frame
@@ -230,16 +268,16 @@ module _ (output : List ℕ) (first now after : Files) (name : List ℕ) (s : Su
   pub source-later : IsSource output now name s
   source-later = record {
     apart = source.apart;
-    there = appended_is_there first now output passed name grown source.there;
-    exact = λ file holds. source.exact file (appended_held first now name output passed file source.apart grown holds);
+    there = still_there first now output passed name grown source.there;
+    exact = λ file holds. source.exact file (input_held first now name output passed file source.apart grown holds);
     laid = source.laid;
   }
 
   module _ (key : List ℕ) (apart : key ≢ output) where
     told : (file : List ℕ) → Holds now key file → (own : List ℕ) × Holds now name own × (made own ≡ own_frames first name s placed)
     told file holds =
-        let is = own-is first key file name s placed (appended_held first now key output passed file apart grown holds) source.there in
-        (is.0, appended_holds first now name output passed is.0 source.apart grown is.1, is.2)
+        let is = own-is first key file name s placed (input_held first now key output passed file apart grown holds) source.there in
+        (is.0, input_holds first now name output passed is.0 source.apart grown is.1, is.2)
 
     pub lays-own : Lays name output made old new now after → Lays key output (λ _. own_frames first name s placed) old new now after
     lays-own lays = record {

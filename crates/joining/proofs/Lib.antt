@@ -6,3 +6,4 @@ pub mod StreamLaws
 pub mod OutLaws
 pub mod CommandLaws
 pub mod StepLaws
+pub mod EndLaws

@@ -1,33 +1,31 @@
 -- What is appended to the output: the front, and then the frames of all inputs.
-use Rattle.std.proofs.Common.{◌≡◌, ◌≢◌, ℕ, ◌<◌, ◌≤◌, List, [], ◌∷◌, ◌++◌, length, map, take, Option, Some, None, Result, Ok, Err, refl, sym, ◌∙◌, ap, ap₂, subst, arith, inl, inr, append_assoc, append-nil, is_some}
+use Rattle.std.proofs.Common.{◌≡◌, ◌≢◌, ℕ, ◌<◌, ◌≤◌, List, [], ◌∷◌, ◌++◌, length, map, take, Option, Some, None, Result, Ok, Err, refl, sym, ◌∙◌, ap, ap₂, subst, arith, append_assoc, append-nil, is_some}
 use Rattle.std.specs.Prelude.{IfErr, OnOk, OnErr, unwrap_or, flat_map}
 use Rattle.std.specs.List.{concat}
+use Rattle.std.proofs.lemmas.List.{length-take, take-append-le}
 use Rattle.outside.specs.Files.{Contents, Files, untold, emptied, appended, with_file, Holds, IsThere}
 use Rattle.outside.specs.Counts.{Counts, Rose, NoneFell, NothingFailed}
-use Rattle.outside.proofs.FilesLaws.{there_holds, with_file_other, emptied_keeps, emptied_there}
+use Rattle.outside.proofs.FilesLaws.{there_holds, with_file_other, emptied_keeps}
 use Rattle.frame_header.specs.Fields.{ClassFields}
 use Rattle.slot_plan.specs.declared.needs.Placed.{Placed}
-use Rattle.frame_writer.specs.Frames.{Frame, frame_bytes}
+use Rattle.frame_writer.specs.Frames.{frame_bytes}
 use Rattle.laid_files.specs.LaidFiles.{laid_file}
 use Rattle.info_header.specs.InfoFrame.{info_frame}
-use Rattle.laying.specs.declared.relay.PassFault.{PassFault}
-use Rattle.laying.specs.declared.relay.PassFault.TheVariants.{Read, Shrunk, Write}
+use Rattle.outside.specs.declared.pass.PassFault.{PassFault}
+use Rattle.outside.specs.declared.pass.PassFault.TheVariants.{Read, Shrunk, Write}
 use Rattle.laying.specs.Relaid.{Part, frames_in, relaid}
-use Rattle.laying.specs.Written.{front_blocks, slot_in, plain_info}
-use Rattle.laying.specs.Passing.{HasPassCause, Appends as Adds, AppendsPrefix as AddsPrefix}
-use Rattle.laying.proofs.PassLaws.{appended_held, appended_is_there, cause_later}
-use Rattle.laying.proofs.CopyLaws.{prefix-as, appends-then, appends-then_part}
+use Rattle.laying.specs.Written.{front_blocks, plain_info}
+use Rattle.outside.proofs.PassLaws.{input_held, still_there, cause_later, appends_then, appends_then_part}
 use Rattle.sync_survey.specs.Faults.{SurveyFields}
 use Rattle.edits.specs.declared.fault.EditFault.{EditFault}
 use Rattle.edits.specs.One.{holding, IsPassFault}
 use Rattle.edits.specs.Left.{seen}
-use Rattle.moved_gains.specs.Pass.{Appends, AppendsPrefix}
-use Rattle.edits.specs.PassFaults.{of_relay}
-use Rattle.edits.proofs.LaidPass.{appends-as, appends-as_prefix, relay-cause}
-use Rattle.edits.proofs.OutputLaws.{emptied_held, output_whole, output_prefix, told_whole, told_prefix, cause_counts}
+use Rattle.outside.specs.Pass.{Appends, AppendsPrefix, HasPassCause}
+use Rattle.edits.proofs.LaidPass.{appends-as, appends-as_prefix}
+use Rattle.edits.proofs.OutputLaws.{emptied_held, output_whole, output_prefix, told_whole, cause_counts}
 use Rattle.joining.specs.Join.{whole_part, plan_of, joined_frames, joined_file}
 use Rattle.joining.specs.Inputs.{IsOfJoin, CanBeJoined, parts_in, told_parts}
-use Rattle.joining.specs.Laying.{the_plan_of, IsJoinedInfo, IsSource, AreSources, of_pass, HasJoinCause}
+use Rattle.joining.specs.Laying.{the_plan_of, IsJoinedInfo, AreSources, of_pass, HasJoinCause}
 use Rattle.joining.proofs.LayLaws.{told_frames}
 use Rattle.joining.proofs.StreamLaws.{told-plan, told-slots, found, joined-is}
 
@@ -46,7 +44,7 @@ sources-at class output old new (name ∷ names) (s ∷ ss) there held are = (
 
 pub sources-appended : (class : ClassFields) (output more : List ℕ) (old new : Files) (names : List (List ℕ)) (ss : List SurveyFields) → new ≡ appended old output more → AreSources class output old names ss → AreSources class output new names ss
 sources-appended class output more old new names ss grown =
-    sources-at class output old new names ss (λ name there. appended_is_there old new output more name grown there) (λ name file apart holds. appended_held old new name output more file apart grown holds)
+    sources-at class output old new names ss (λ name there. still_there old new output more name grown there) (λ name file apart holds. input_held old new name output more file apart grown holds)
 
 pub sources-emptied : (class : ClassFields) (output : List ℕ) (old new : Files) (names : List (List ℕ)) (ss : List SurveyFields) → new ≡ emptied old output → AreSources class output old names ss → AreSources class output new names ss
 sources-emptied class output old new names ss created =
@@ -92,11 +90,22 @@ front-is (Some f) key told name s info holds there =
     (held.0, held.1, ap (λ (o : Option (List ℕ)). concat (front_blocks (unwrap_or o []) s) ++ info) (sym held.1))
 
 module _ (key name output : List ℕ) (s : SurveyFields) (info : List ℕ) (old new : Files) (there : IsThere old name) where
-  pub front-key : Adds name output (λ file. concat (front_blocks file s) ++ info) old new → Adds key output (λ _. told_front old name s info) old new
+  pub front-key : Appends name output (λ file. concat (front_blocks file s) ++ info) old new → Appends key output (λ _. told_front old name s info) old new
   front-key h = record { bytes = h.bytes; is = λ file holds. let t = front-is old key file name s info holds there in h.is t.0 t.1 ∙ t.2; files = h.files }
 
-  pub front-key_prefix : AddsPrefix name output (λ file. concat (front_blocks file s) ++ info) old new → AddsPrefix key output (λ _. told_front old name s info) old new
+  pub front-key_prefix : AppendsPrefix name output (λ file. concat (front_blocks file s) ++ info) old new → AppendsPrefix key output (λ _. told_front old name s info) old new
   front-key_prefix h = record { bytes = h.bytes; prefix = λ file holds. let t = front-is old key file name s info holds there in h.prefix t.0 t.1 ∙ ap (take (length h.bytes)) t.2; files = h.files }
+
+-- a prefix of some is one of more
+prefix-more : (input output : List ℕ) (made rest : List ℕ → List ℕ) (old new : Files) → AppendsPrefix input output made old new → AppendsPrefix input output (λ file. made file ++ rest file) old new
+prefix-more input output made rest old new part = record {
+  bytes = part.bytes;
+  prefix = λ file holds.
+      let is = part.prefix file holds in
+      let short : length part.bytes ≤ length (made file) = omega (arith, ap length is, length-take (length part.bytes) (made file)) in
+      is ∙ sym (take-append-le (length part.bytes) (made file) (rest file) short);
+  files = part.files;
+}
 
 -- ---- the whole
 
@@ -133,29 +142,29 @@ module _ (output : List ℕ) (old mid : Files) (name : List ℕ) (names : List (
   all : (file : List ℕ) → Holds old key file → front file ++ frames file ≡ whole file
   all file holds = joined-told output old key file name names s ss placed info can are plan is holds
 
-  pub prefix-front : AddsPrefix name output (λ file. concat (front_blocks file s) ++ info) old mid → AppendsPrefix key output whole old mid
+  pub prefix-front : AppendsPrefix name output (λ file. concat (front_blocks file s) ++ info) old mid → AppendsPrefix key output whole old mid
   prefix-front part =
-      appends-as_prefix key output (λ file. front file ++ frames file) whole old mid all
-      (prefix-as key output front (λ file. front file ++ frames file) frames old mid (λ file holds. refl) (front-key_prefix key name output s info old mid are.0.there part))
+      appends-as_prefix (λ file. front file ++ frames file) whole all
+      (prefix-more key output front frames old mid (front-key_prefix key name output s info old mid are.0.there part))
 
-  module _ (first : Adds name output (λ file. concat (front_blocks file s) ++ info) old mid) (new : Files) where
+  module _ (first : Appends name output (λ file. concat (front_blocks file s) ++ info) old mid) (new : Files) where
     told-mid : told_parts mid (name ∷ names) (s ∷ ss) ≡ told_parts old (name ∷ names) (s ∷ ss)
     told-mid = told-appended s.class output first.bytes old mid (name ∷ names) (s ∷ ss) first.files are
 
     abbrev frames_mid : List ℕ → List ℕ
     frames_mid _ = frame_bytes (relaid (told_frames mid (name ∷ names) (s ∷ ss)) placed)
 
-    pub whole-frames : Adds key output frames_mid mid new → Appends key output whole old new
+    pub whole-frames : Appends key output frames_mid mid new → Appends key output whole old new
     whole-frames second =
-        appends-as key output (λ file. front file ++ frames file) whole old new all
-        (appends-then key output apart front frames (λ file. front file ++ frames file) (λ file. refl) old mid (front-key key name output s info old mid are.0.there first) new
-        (subst (λ (parts : List Part). Adds key output (λ _. frame_bytes (relaid (flat_map frames_in parts) placed)) mid new) told-mid second))
+        appends-as (λ file. front file ++ frames file) whole all
+        (appends_then apart (front-key key name output s info old mid are.0.there first) (λ file. front file ++ frames file) (λ file. refl)
+        (subst (λ (parts : List Part). Appends key output (λ _. frame_bytes (relaid (flat_map frames_in parts) placed)) mid new) told-mid second))
 
-    pub prefix-frames : AddsPrefix key output frames_mid mid new → AppendsPrefix key output whole old new
+    pub prefix-frames : AppendsPrefix key output frames_mid mid new → AppendsPrefix key output whole old new
     prefix-frames second =
-        appends-as_prefix key output (λ file. front file ++ frames file) whole old new all
-        (appends-then_part key output apart front frames (λ file. front file ++ frames file) (λ file. refl) old mid (front-key key name output s info old mid are.0.there first) new
-        (subst (λ (parts : List Part). AddsPrefix key output (λ _. frame_bytes (relaid (flat_map frames_in parts) placed)) mid new) told-mid second))
+        appends-as_prefix (λ file. front file ++ frames file) whole all
+        (appends_then_part apart (front-key key name output s info old mid are.0.there first) (λ file. front file ++ frames file) (λ file. refl)
+        (subst (λ (parts : List Part). AppendsPrefix key output (λ _. frame_bytes (relaid (flat_map frames_in parts) placed)) mid new) told-mid second))
 
 -- ---- why it ends early
 
@@ -178,7 +187,7 @@ pub join-numbers : (count : ℕ) (files : Files) (before after : Counts) (fault 
 join-numbers count files before after fault h = subst (IsOfJoin count) (sym h.is) (pass-numbers count h.place h.size files before after h.pass h.within h.cause)
 
 pub join-counts : (count : ℕ) (files : Files) (before after : Counts) (fault : EditFault) → HasJoinCause count files before after fault → NoneFell before after
-join-counts count files before after fault h = cause_counts (of_relay h.pass) h.size files before after (relay-cause h.pass h.size files before after h.cause)
+join-counts count files before after fault h = cause_counts h.pass h.size files before after h.cause
 
 -- ---- the output was created
 
@@ -244,22 +253,22 @@ module _ (output : List ℕ) (old mid : Files) (name : List ℕ) (later names : 
   frames-at : (P : List ℕ → Type 0) → P (frame_bytes (relaid (told_frames mid names ss) placed)) → P (frame_bytes (relaid (told_frames mid (name ∷ later) (s ∷ behind)) placed))
   frames-at P h = subst (λ (l : List (List ℕ)). P (frame_bytes (relaid (told_frames mid l (s ∷ behind)) placed))) names_are (subst (λ (l : List SurveyFields). P (frame_bytes (relaid (told_frames mid names l) placed))) ss_are h)
 
-  pub front_prefix : AddsPrefix name output (λ file. concat (front_blocks file s) ++ info) old mid → AppendsPrefix key output (λ _. joined_file (told_parts old names ss)) old mid
+  pub front_prefix : AppendsPrefix name output (λ file. concat (front_blocks file s) ++ info) old mid → AppendsPrefix key output (λ _. joined_file (told_parts old names ss)) old mid
   front_prefix part = bytes-at (λ (bytes : List ℕ). AppendsPrefix key output (λ _. bytes) old mid) (prefix-front output old mid name later s behind placed info can_at are_at plan_at is_at key apart part)
 
-  pub frames_prefix : Adds name output (λ file. concat (front_blocks file s) ++ info) old mid → (new : Files) → AddsPrefix key output (λ _. frame_bytes (relaid (told_frames mid names ss) placed)) mid new
+  pub frames_prefix : Appends name output (λ file. concat (front_blocks file s) ++ info) old mid → (new : Files) → AppendsPrefix key output (λ _. frame_bytes (relaid (told_frames mid names ss) placed)) mid new
       → AppendsPrefix key output (λ _. joined_file (told_parts old names ss)) old new
   frames_prefix first new part =
       bytes-at (λ (bytes : List ℕ). AppendsPrefix key output (λ _. bytes) old new)
       (prefix-frames output old mid name later s behind placed info can_at are_at plan_at is_at key apart first new
-      (frames-at (λ (bytes : List ℕ). AddsPrefix key output (λ _. bytes) mid new) part))
+      (frames-at (λ (bytes : List ℕ). AppendsPrefix key output (λ _. bytes) mid new) part))
 
-  pub frames_whole : Adds name output (λ file. concat (front_blocks file s) ++ info) old mid → (new : Files) → Adds key output (λ _. frame_bytes (relaid (told_frames mid names ss) placed)) mid new
+  pub frames_whole : Appends name output (λ file. concat (front_blocks file s) ++ info) old mid → (new : Files) → Appends key output (λ _. frame_bytes (relaid (told_frames mid names ss) placed)) mid new
       → Appends key output (λ _. joined_file (told_parts old names ss)) old new
   frames_whole first new part =
       bytes-at (λ (bytes : List ℕ). Appends key output (λ _. bytes) old new)
       (whole-frames output old mid name later s behind placed info can_at are_at plan_at is_at key apart first new
-      (frames-at (λ (bytes : List ℕ). Adds key output (λ _. bytes) mid new) part))
+      (frames-at (λ (bytes : List ℕ). Appends key output (λ _. bytes) mid new) part))
 
 -- ---- by the answer of a step
 

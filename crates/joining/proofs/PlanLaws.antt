@@ -1,6 +1,6 @@
 -- The plan of all frames of several surveys.
-use Rattle.std.proofs.Common.{◌≡◌, ℕ, zero, suc, ◌+◌, ◌-◌, ◌<◌, ◌≤◌, List, [], ◌∷◌, ◌++◌, length, get_or, map, take, drop, All, Option, Some, None, refl, sym, ◌∙◌, ap, ap₂, subst, arith, append-nil, length-append}
-use Rattle.std.specs.Prelude.{◌↔◌, slice_get, slice_range, unwrap_or}
+use Rattle.std.proofs.Common.{◌≡◌, ℕ, zero, suc, ◌+◌, ◌-◌, ◌<◌, ◌≤◌, List, [], ◌∷◌, length, get_or, map, take, All, Option, Some, None, refl, sym, ◌∙◌, ap, ap₂, subst, arith, length-append}
+use Rattle.std.specs.Prelude.{◌↔◌, slice_get, slice_range}
 use Rattle.std.proofs.lemmas.List.{length-map, take-map}
 use Rattle.std.proofs.lemmas.List.Elements.{All-cons}
 use Rattle.frame_header.specs.Fields.{SlotFields, HeaderFields, ClassFields}
@@ -24,7 +24,7 @@ use Rattle.sync_survey.specs.declared.rows.Row.{Row}
 use Rattle.sync_survey.specs.Faults.{SurveyFields}
 use Rattle.outside.specs.Files.{Files}
 use Rattle.edits.specs.One.{most_frames}
-use Rattle.joining.specs.Inputs.{IsInput, AreInputs, frames_of, rows_of, AreAlike, CanBeJoined}
+use Rattle.joining.specs.Inputs.{AreInputs, frames_of, rows_of, AreAlike, CanBeJoined}
 use Rattle.joining.specs.Laying.{the_plan_of, FitsAll, IsJoinedInfo}
 use Rattle.joining.proofs.InputLaws.{inputs-length, inputs-few}
 

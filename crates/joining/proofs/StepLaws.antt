@@ -1,5 +1,5 @@
 -- One input more is laid.
-use Rattle.std.proofs.Common.{◌≡◌, ◌≢◌, ℕ, List, [], ◌∷◌, ◌++◌, length, map, drop, refl, sym, ◌∙◌, ap, subst, arith, append_assoc}
+use Rattle.std.proofs.Common.{◌≡◌, ◌≢◌, ℕ, List, [], ◌∷◌, ◌++◌, length, map, drop, sym, ◌∙◌, ap, subst, append_assoc}
 use Rattle.std.specs.Prelude.{slice_range}
 use Rattle.outside.specs.Files.{Files, Holds}
 use Rattle.frame_header.specs.Fields.{ClassFields}
@@ -10,23 +10,25 @@ use Rattle.frame_writer.specs.Frames.{Frame, frame_bytes, reach_of}
 use Rattle.frame_writer.specs.Writing.{Writing, IsWriterOf}
 use Rattle.laying.specs.Relaid.{all_frames, relaid}
 use Rattle.laying.specs.Fits.{FitsFrom, last_reach}
-use Rattle.laying.specs.Passing.{Lays, LaysPart, AppendsPrefix}
+use Rattle.outside.specs.Pass.{AppendsPrefix}
+use Rattle.laying.specs.Passing.{Lays, LaysPart}
 use Rattle.laying.proofs.PassLaws.{lays_then, part_then}
 use Rattle.laying.proofs.RelayLaws.{LaysUpTo, begins-left, part_more}
-use Rattle.laying.proofs.EndLaws.{part-end}
+use Rattle.joining.proofs.EndLaws.{part-end}
 use Rattle.sync_survey.specs.Faults.{SurveyFields}
 use Rattle.std.proofs.lemmas.List.{length-map}
 use Rattle.joining.specs.Inputs.{rows_of}
-use Rattle.joining.specs.Laying.{places_for, AreSources}
+use Rattle.joining.specs.Laying.{places_for, own_places, AreSources}
 use Rattle.joining.proofs.LayLaws.{fits-append, rows-next, told_frames, own_frames, own-split, sources-needs, lays-own, part-own}
 
 -- the plan fits the input, and behind it those that follow
 pub fits-input : (class : ClassFields) (reach : ℕ) (s : SurveyFields) (ss : List SurveyFields) (placed : List Placed) → s.class ≡ class → FitsFrom (window_of class.version) reach (needs_of (rows_of (s ∷ ss))) placed
-    → FitsFrom (window_of s.class.version) reach (map need_of s.frames) placed
+    → FitsFrom (window_of s.class.version) reach (map need_of s.frames) (own_places (length s.frames) placed)
     × FitsFrom (window_of class.version) (last_reach (window_of s.class.version) reach (map need_of s.frames) placed) (needs_of (rows_of ss)) (drop (places_for (length s.frames) placed) placed)
 fits-input class reach s ss placed same fits =
     let both = fits-append (window_of class.version) reach (map need_of s.frames) (needs_of (rows_of ss)) placed (subst (λ l. FitsFrom (window_of class.version) reach l placed) (rows-next s ss) fits) in (
-      subst (λ (c : ClassFields). FitsFrom (window_of c.version) reach (map need_of s.frames) placed) (sym same) both.0,
+      subst (λ (c : ClassFields). FitsFrom (window_of c.version) reach (map need_of s.frames) (own_places (length s.frames) placed)) (sym same)
+          (subst (λ n. FitsFrom (window_of class.version) reach (map need_of s.frames) (own_places n placed)) (length-map s.frames need_of) both.0),
       subst (λ (c : ClassFields). FitsFrom (window_of class.version) (last_reach (window_of c.version) reach (map need_of s.frames) placed) (needs_of (rows_of ss)) (drop (places_for (length s.frames) placed) placed)) (sym same)
           (subst (λ n. FitsFrom (window_of class.version) (last_reach (window_of class.version) reach (map need_of s.frames) placed) (needs_of (rows_of ss)) (drop (places_for n placed) placed)) (length-map s.frames need_of) both.1),
     )
@@ -56,7 +58,7 @@ module _ (class : ClassFields) (output : List ℕ) (first now after : Files) (na
     left = λ file holds. sym (split file holds);
   }
 
-  pub step-part : FitsFrom (window_of class.version) (reach_of old.held) (needs_of (rows_of (s ∷ ss))) placed → IsWriterOf [] begun []
+  pub step-part : FitsFrom (window_of class.version) (reach_of old.held) (needs_of (rows_of (s ∷ ss))) placed → IsWriterOf [] [] begun []
       → LaysPart name output made (last_reach (window_of s.class.version) (reach_of old.held) (map need_of s.frames) placed) old now after → AppendsPrefix key output (λ file. frame_bytes (whole file)) first after
   step-part fits written part =
       let window = window_of class.version in

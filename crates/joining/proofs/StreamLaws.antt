@@ -1,12 +1,12 @@
 -- What is written of well-formed inputs holds the lead-ins and the frames of their streams.
-use Rattle.std.proofs.Common.{◌≡◌, ◌≢◌, ℕ, ◌+◌, ◌-◌, ◌<◌, ◌≤◌, Bool, true, false, cond, List, [], ◌∷◌, ◌++◌, length, get_or, map, replicate, Option, Some, None, Result, Ok, Err, refl, sym, ◌∙◌, ap, ap₂, subst, arith, bytes_eq}
-use Rattle.std.specs.Prelude.{◌⊎◌, slice_get, slice_range, flat_map, Contains, unwrap_or, ◌||◌}
+use Rattle.std.proofs.Common.{◌≡◌, ◌≢◌, ℕ, ◌+◌, ◌-◌, ◌<◌, ◌≤◌, Bool, true, false, cond, List, [], ◌∷◌, length, get_or, map, Option, Some, None, refl, sym, ◌∙◌, ap, ap₂, subst, arith, bytes_eq}
+use Rattle.std.specs.Prelude.{slice_get, flat_map, Contains, unwrap_or, ◌||◌}
 use Rattle.std.specs.List.{range_with_len, list_any}
 use Rattle.std.proofs.lemmas.List.{length-map}
 use Rattle.std.proofs.lemmas.List.FromFn.{length-range_with_len}
-use Rattle.outside.specs.Files.{Contents, Files, Holds, IsThere}
+use Rattle.outside.specs.Files.{Contents, Files, IsThere}
 use Rattle.outside.proofs.FilesLaws.{bytes_eq_same, there_holds}
-use Rattle.frame_header.specs.Fields.{SlotFields, ClassFields, HeaderFields, IsSlot, IsHeader}
+use Rattle.frame_header.specs.Fields.{SlotFields, ClassFields, IsSlot, IsHeader}
 use Rattle.frame_header.specs.Tables.{class_of, window_of}
 use Rattle.slot_plan.specs.declared.needs.Need.{Need}
 use Rattle.slot_plan.specs.declared.needs.Placed.{Placed}
@@ -16,9 +16,8 @@ use Rattle.slot_plan.specs.ThePlan.{the_plan}
 use Rattle.part_needs.specs.Needs.{need_of}
 use Rattle.part_needs.specs.Fit.{own_choice, IsPlaced}
 use Rattle.part_needs.proofs.FitLaws.{AreKnown, part-fits, part-known}
-use Rattle.frame_writer.specs.Frames.{Frame}
 use Rattle.laid_files.specs.LaidFiles.{HasInfoSizes, laid_file}
-use Rattle.laying.specs.Relaid.{Part, frames_in, stream_in, IsPart, AreParts, needs_in, AreSlots, relaid, with_lead_ins}
+use Rattle.laying.specs.Relaid.{Part, stream_in, IsPart, AreParts, needs_in, AreSlots, with_lead_ins}
 use Rattle.laying.specs.Written.{front_blocks, slot_in, table_entry, plain_info}
 use Rattle.laying.specs.Passing.{HasSurvey}
 use Rattle.laying.proofs.HoldLaws.{files-hold, blocks-kept}
@@ -30,7 +29,7 @@ use Rattle.sync_survey.specs.Faults.{SurveyFields, HoldsStream}
 use Rattle.edits.specs.Command.{clash_from}
 use Rattle.joining.specs.Join.{whole_part, plan_of, joined_frames, joined_from, joined_file, joined_stream}
 use Rattle.joining.specs.Inputs.{AreInputs, rows_of, AreAlike, CanBeJoined, parts_in}
-use Rattle.joining.specs.Laying.{the_plan_of, IsSource, AreSources}
+use Rattle.joining.specs.Laying.{the_plan_of, AreSources}
 use Rattle.joining.proofs.PlanLaws.{range-whole, the-plan}
 
 -- ---- the inputs as sources

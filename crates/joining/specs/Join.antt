@@ -1,5 +1,5 @@
 -- One file of all frames of several.
-use Rattle.std.specs.Prelude.{◌≡◌, ℕ, ◌+◌, ◌-◌, if◌then◌else◌, Bool, true, List, [], ◌∷◌, length, map, flat_map, slice_get, unwrap_or, Option, Some, None, Result, Ok, Err}
+use Rattle.std.specs.Prelude.{ℕ, ◌+◌, ◌-◌, if◌then◌else◌, Bool, true, List, [], ◌∷◌, length, map, flat_map, slice_get, unwrap_or, Option, Some, None, Result, Ok, Err}
 use Rattle.outside.specs.Files.{Contents}
 use Rattle.frame_header.specs.Fields.{ClassFields, same_class}
 use Rattle.frame_header.specs.Tables.{window_of}

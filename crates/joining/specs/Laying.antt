@@ -1,5 +1,5 @@
 -- The second pass over the inputs.
-use Rattle.std.specs.Prelude.{◌≡◌, ◌≢◌, ℕ, ◌+◌, ◌<◌, zero, suc, Bool, true, false, List, [], ◌∷◌, length, map, slice_get, Some}
+use Rattle.std.specs.Prelude.{◌≡◌, ◌≢◌, ℕ, ◌<◌, zero, suc, Bool, true, false, List, [], ◌∷◌, length, map, flat_map, take, slice_get, slice_range, Some}
 use Rattle.outside.specs.Files.{Files, Holds, IsThere}
 use Rattle.outside.specs.Counts.{Counts}
 use Rattle.frame_header.specs.Fields.{ClassFields}
@@ -10,18 +10,20 @@ use Rattle.slot_plan.specs.ThePlan.{the_plan}
 use Rattle.part_needs.specs.Needs.{need_of, needs_of}
 use Rattle.part_needs.specs.Fit.{own_choice}
 use Rattle.frame_writer.specs.Frames.{Frame}
-use Rattle.laying.specs.declared.relay.PassFault.{PassFault}
-use Rattle.laying.specs.declared.relay.PassFault.TheVariants.{Read, Shrunk, Write}
-use Rattle.laying.specs.Fits.{FitsFrom}
+use Rattle.outside.specs.declared.pass.PassFault.{PassFault}
+use Rattle.outside.specs.declared.pass.PassFault.TheVariants.{Read, Shrunk, Write}
+use Rattle.outside.specs.Pass.{HasPassCause}
+use Rattle.laying.specs.Relaid.{all_frames, frames_in, relaid}
+use Rattle.laying.specs.Fits.{FitsFrom, last_reach}
 use Rattle.laying.specs.Written.{slot_in, plain_info}
-use Rattle.laying.specs.Passing.{HasSurvey, HasPassCause}
+use Rattle.laying.specs.Passing.{HasSurvey}
 use Rattle.sync_survey.specs.declared.rows.Row.{Row}
 use Rattle.sync_survey.specs.declared.survey_fault.SurveyFault.TheVariants.{Read as Unread, Shrunk as Shorter}
 use Rattle.sync_survey.specs.Faults.{SurveyFields}
 use Rattle.sync_survey.specs.Survey.{IsLaidOut}
 use Rattle.edits.specs.declared.fault.EditFault.{EditFault}
 use Rattle.edits.specs.declared.fault.EditFault.TheVariants.{Input, Write as Unwritten}
-use Rattle.joining.specs.Inputs.{rows_of}
+use Rattle.joining.specs.Inputs.{rows_of, told_parts}
 
 -- ---- the plan
 
@@ -51,6 +53,22 @@ unfoldable pub places_for : ℕ → List Placed → ℕ
 places_for frames [] = 0
 places_for zero (p ∷ placed) = 0
 places_for (suc frames) (p ∷ placed) = suc (places_for (frames_behind p.lead_in frames) placed)
+
+-- these places
+abbrev pub own_places : ℕ → List Placed → List Placed
+own_places frames placed = take (places_for frames placed) placed
+
+-- all frames of an input as they were planned
+abbrev pub input_frames : SurveyFields → List Placed → List ℕ → List Frame
+input_frames s placed file = relaid (slice_range (all_frames file s) 0 (length s.frames)) placed
+
+-- how many bytes before the next area main data may begin behind them
+abbrev pub input_reach : ℕ → SurveyFields → List Placed → ℕ
+input_reach reach s placed = last_reach (window_of s.class.version) reach (map need_of s.frames) placed
+
+-- where the inputs are told, all their frames as they were planned
+abbrev pub all_laid : Files → List (List ℕ) → List SurveyFields → List Placed → List ℕ → List Frame
+all_laid files names ss placed _ = relaid (flat_map frames_in (told_parts files names ss)) placed
 
 -- ---- the inputs
 

@@ -47,13 +47,20 @@ pub fn join<D: Folder>(
 ) -> Result<(), EditFault>
     requires some { 1 ≤ length inputs.now }
     requires few { length inputs.now ≤ 64 }
-    ensures done { OnOk result (IsDone (join_command output.now (map string_bytes inputs.now)) (seen (D.files folder.old) (D.counts folder.old)) (seen (D.files folder.new) (D.counts folder.new))) }
-    ensures left { IfErr result (Leaves (join_command output.now (map string_bytes inputs.now)) (seen (D.files folder.old) (D.counts folder.old)) (seen (D.files folder.new) (D.counts folder.new))) }
+    ensures done { OnOk result (IsDone (join_command output.now (map string_bytes inputs.now))
+        (seen (D.files folder.old) (D.counts folder.old))
+        (seen (D.files folder.new) (D.counts folder.new))) }
+    ensures left { IfErr result (Leaves (join_command output.now (map string_bytes inputs.now))
+        (seen (D.files folder.old) (D.counts folder.old))
+        (seen (D.files folder.new) (D.counts folder.new))) }
     // Over a folder that tells nothing too.
-    ensures numbers { IfErr result (HasNumbers (join_command output.now (map string_bytes inputs.now))) }
-    ensures names { (place : ℕ) → IsErrOf result (EditFault.EqualNames place) ↔ (clash_of (join_command output.now (map string_bytes inputs.now)) ≡ Some place) }
+    ensures numbers { IfErr result (HasNumbers
+        (join_command output.now (map string_bytes inputs.now))) }
+    ensures names { (place : ℕ) → IsErrOf result (EditFault.EqualNames place)
+        ↔ (clash_of (join_command output.now (map string_bytes inputs.now)) ≡ Some place) }
     // The inputs are well-formed, and the output holds the lead-ins and exactly the frames of their streams.
-    ensures streams { OnOk result (HoldsStreams (join_command output.now (map string_bytes inputs.now)) (D.files folder.old)) }
+    ensures streams { OnOk result (HoldsStreams
+        (join_command output.now (map string_bytes inputs.now)) (D.files folder.old)) }
     ensures counts { NoneFell (D.counts folder.old) (D.counts folder.new) }
 {
     if let Some(place) = clash(output, inputs) {

@@ -1,22 +1,20 @@
 //! The frames of all inputs, read one input after the other and given to one writer.
-ghost use Rattle.std.specs.Prelude.{◌≡◌, ◌≢◌, ◌<◌, ◌≤◌, List, ℕ, [], length, map, flat_map, slice_range, string_bytes, IfErr, OnOk, OnErr};
+ghost use Rattle.std.specs.Prelude.{◌≡◌, ◌≢◌, ◌<◌, ◌≤◌, List, ℕ, [], length, map, string_bytes, IfErr, OnOk, OnErr};
 ghost use Rattle.frame_header.specs.Tables.{window_of};
-ghost use Rattle.outside.specs.Files.{Holds, IsThere};
+ghost use Rattle.outside.specs.Files.{IsThere};
+ghost use Rattle.outside.specs.Pass.{AppendsPrefix, HasPassCause};
 ghost use Rattle.part_needs.specs.Needs.{need_of, needs_of};
 ghost use Rattle.frame_writer.specs.Frames.{frame_bytes, reach_of, IsNextSettled};
-ghost use Rattle.frame_writer.specs.Writing.{IsWriterOf};
+ghost use Rattle.frame_writer.specs.Writing.{IsNew};
 ghost use Rattle.sync_survey.specs.Faults.{tells};
-ghost use Rattle.laying.specs.Relaid.{frames_in, all_frames, relaid};
-ghost use Rattle.laying.specs.Fits.{FitsFrom, last_reach};
-ghost use Rattle.laying.specs.Passing.{Lays, LaysPart, AppendsPrefix, HasPassCause};
-ghost use Rattle.joining.specs.Inputs.{rows_of, told_parts};
-ghost use Rattle.joining.specs.Laying.{places_for as places_for_lem, IsSource, AreSources, of_pass as of_pass_lem, HasJoinCause};
+ghost use Rattle.laying.specs.Fits.{FitsFrom};
+ghost use Rattle.laying.specs.Passing.{Lays, GivesFrames, GivesPart, writing_in};
+ghost use Rattle.joining.specs.Inputs.{rows_of};
+ghost use Rattle.joining.specs.Laying.{places_for as places_for_lem, input_frames, input_reach, all_laid, IsSource, AreSources, of_pass as of_pass_lem, HasJoinCause};
 
 use edits::EditFault;
-use frame_writer::Writer;
-use laying::{PassFault, Relay};
-use outside::{Feed, Folder};
-use reservoir::Window;
+use laying::{Buffers, Relay};
+use outside::{Folder, Pass, PassFault};
 use slot_plan::Placed;
 use sync_survey::{Survey, SurveyFault};
 
@@ -55,72 +53,86 @@ fn places_for(frames: usize, placed: &[Placed]) -> usize
 /// Gives all frames of an input to the writer as they were planned. The window may hold whatever it does, and the feed what it
 /// has of any file.
 fn lay_input<D: Folder>(
-    relay: &Relay,
+    relay: &Relay<'_>,
     folder: &mut D,
     placed: &[Placed],
-    feed: &mut Feed,
-    window: &mut Window,
-    writer: &mut Writer,
+    buffers: &mut Buffers,
 ) -> Result<(), PassFault>
-    requires source { IsSource relay.now.output.now (D.files folder.old) relay.now.input.now (tells relay.now.survey.now) }
-    requires target { IsThere (D.files folder.old) relay.now.output.now }
-    requires class { writer.old.held.class ≡ (tells relay.now.survey.now).class }
-    requires fits { FitsFrom (window_of (tells relay.now.survey.now).class.version) (reach_of writer.old.held) (map need_of (tells relay.now.survey.now).frames) placed.now }
-    requires unsettled { IsNextSettled writer.old.held → ⊥ }
-    ensures lays { OnOk result (Lays relay.now.input.now relay.now.output.now (λ file. relaid (slice_range (all_frames file (tells relay.now.survey.now)) 0 (length (tells relay.now.survey.now).frames)) placed.now) writer.old writer.new (D.files folder.old) (D.files folder.new)) }
-    ensures part { OnErr result (LaysPart relay.now.input.now relay.now.output.now (λ file. relaid (slice_range (all_frames file (tells relay.now.survey.now)) 0 (length (tells relay.now.survey.now).frames)) placed.now) (last_reach (window_of (tells relay.now.survey.now).class.version) (reach_of writer.old.held) (map need_of (tells relay.now.survey.now).frames) placed.now) writer.old (D.files folder.old) (D.files folder.new)) }
-    ensures reach { OnOk result (reach_of writer.new.held ≡ last_reach (window_of (tells relay.now.survey.now).class.version) (reach_of writer.old.held) (map need_of (tells relay.now.survey.now).frames) placed.now) }
-    ensures class { OnOk result (writer.new.held.class ≡ (tells relay.now.survey.now).class) }
-    ensures unsettled { OnOk result (IsNextSettled writer.new.held → ⊥) }
+    requires source { IsSource relay.now.pass.output.now (D.files folder.old) relay.now.pass.input.now
+        (tells relay.now.survey.now) }
+    requires length { relay.now.pass.length ≡ (tells relay.now.survey.now).length }
+    requires target { IsThere (D.files folder.old) relay.now.pass.output.now }
+    requires class { buffers.old.writer.class ≡ (tells relay.now.survey.now).class }
+    requires fits { FitsFrom (window_of (tells relay.now.survey.now).class.version)
+        (reach_of buffers.old.writer) (map need_of (tells relay.now.survey.now).frames) placed.now }
+    requires unsettled { IsNextSettled buffers.old.writer → ⊥ }
+    ensures lays { OnOk result (GivesFrames relay.now (input_frames (tells relay.now.survey.now) placed.now)
+        buffers.old buffers.new (D.files folder.old) (D.files folder.new)) }
+    ensures part { OnErr result (GivesPart relay.now (input_frames (tells relay.now.survey.now) placed.now)
+        (input_reach (reach_of buffers.old.writer) (tells relay.now.survey.now) placed.now)
+        buffers.old (D.files folder.old) (D.files folder.new)) }
+    ensures reach { OnOk result (reach_of buffers.new.writer ≡
+        input_reach (reach_of buffers.old.writer) (tells relay.now.survey.now) placed.now) }
+    ensures class { OnOk result (buffers.new.writer.class ≡ (tells relay.now.survey.now).class) }
+    ensures unsettled { OnOk result (IsNextSettled buffers.new.writer → ⊥) }
     ensures done { OnOk result (D.counts folder.new ≡ D.counts folder.old) }
-    ensures cause { IfErr result (HasPassCause (tells relay.now.survey.now).length (D.files folder.old) (D.counts folder.old) (D.counts folder.new)) }
+    ensures cause { IfErr result (HasPassCause relay.now.pass.length (D.files folder.old)
+        (D.counts folder.old) (D.counts folder.new)) }
 {
-    feed.clear();
-    relay.read_before(folder, 0, feed, window)?;
+    buffers.feed.clear();
+    relay.read_before(folder, 0, &mut buffers.feed, &mut buffers.window)?;
     let frames = relay.survey.frames().len();
-    relay.frames(folder, 0, frames, placed, feed, window, writer)
+    relay.frames(folder, 0, frames, placed, buffers)
 }
 
-/// Gives the frames of all inputs to the writer as they were planned, one input after the other. The writer is new.
+/// Gives the frames of all inputs to the writer as they were planned, one input after the other. The writer is new, and
+/// nothing waits in front of the output.
 ///
 /// # Errors
 /// As at `Relay::lay`, with the number of the input. Then a prefix of the frames' bytes was appended.
-pub(crate) fn lay_all<D: Folder>(
+pub(crate) fn lay_all<'a, D: Folder>(
     folder: &mut D,
-    inputs: &[String],
-    output: &str,
-    surveys: &[Survey],
+    inputs: &'a [String],
+    output: &'a str,
+    surveys: &'a [Survey],
     placed: &[Placed],
-    feed: &mut Feed,
-    window: &mut Window,
-    writer: &mut Writer,
+    buffers: &mut Buffers,
 ) -> Result<(), EditFault>
     requires few { length inputs.now ≤ 64 }
-    requires sources { AreSources writer.old.held.class output.now (D.files folder.old) (map string_bytes inputs.now) (map tells surveys.now) }
+    requires sources { AreSources buffers.old.writer.class output.now (D.files folder.old)
+        (map string_bytes inputs.now) (map tells surveys.now) }
     requires target { IsThere (D.files folder.old) output.now }
-    requires written { IsWriterOf [] writer.old [] }
-    requires fits { FitsFrom (window_of writer.old.held.class.version) (reach_of writer.old.held) (needs_of (rows_of (map tells surveys.now))) placed.now }
-    requires unsettled { IsNextSettled writer.old.held → ⊥ }
+    requires new { IsNew buffers.old.writer.class buffers.old.writer }
+    requires none { buffers.old.waiting ≡ [] }
+    requires fits { FitsFrom (window_of buffers.old.writer.class.version) (reach_of buffers.old.writer)
+        (needs_of (rows_of (map tells surveys.now))) placed.now }
     // Any name but the output's stands for the files that are told.
-    ensures lays { OnOk result ((name : List ℕ) → name ≢ output.now → Lays name output.now (λ _. relaid (flat_map frames_in (told_parts (D.files folder.old) (map string_bytes inputs.now) (map tells surveys.now))) placed.now) writer.old writer.new (D.files folder.old) (D.files folder.new)) }
-    ensures prefix { OnErr result ((name : List ℕ) → name ≢ output.now → AppendsPrefix name output.now (λ _. frame_bytes (relaid (flat_map frames_in (told_parts (D.files folder.old) (map string_bytes inputs.now) (map tells surveys.now))) placed.now)) (D.files folder.old) (D.files folder.new)) }
+    ensures lays { OnOk result ((name : List ℕ) → name ≢ output.now → Lays name output.now
+        (all_laid (D.files folder.old) (map string_bytes inputs.now) (map tells surveys.now) placed.now)
+        (writing_in buffers.old) (writing_in buffers.new) (D.files folder.old) (D.files folder.new)) }
+    ensures prefix { OnErr result ((name : List ℕ) → name ≢ output.now → AppendsPrefix name output.now
+        (λ file. frame_bytes (all_laid (D.files folder.old) (map string_bytes inputs.now)
+        (map tells surveys.now) placed.now file)) (D.files folder.old) (D.files folder.new)) }
     ensures done { OnOk result (D.counts folder.new ≡ D.counts folder.old) }
-    ensures cause { IfErr result (HasJoinCause (length inputs.now) (D.files folder.old) (D.counts folder.old) (D.counts folder.new)) }
+    ensures cause { IfErr result (HasJoinCause (length inputs.now) (D.files folder.old)
+        (D.counts folder.old) (D.counts folder.new)) }
 {
     let mut at = 0;
     for i in 0..inputs.len() {
         let survey = &surveys[i];
-        let relay = Relay {
+        let pass = Pass {
             input: inputs[i].as_str(),
             output,
-            survey,
+            length: survey.length(),
         };
+        let relay = Relay { pass, survey };
         let rest = &placed[at..];
-        match lay_input(&relay, folder, rest, feed, window, writer) {
+        let count = places_for(survey.frames().len(), rest);
+        match lay_input(&relay, folder, &rest[..count], buffers) {
             Ok(()) => {}
             Err(fault) => return Err(of_pass(i as u32, fault)),
         }
-        at += places_for(survey.frames().len(), rest);
+        at += count;
     }
     Ok(())
 }

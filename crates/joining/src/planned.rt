@@ -42,7 +42,8 @@ pub(crate) fn plan_join(alloc: Global, surveys: &[Survey]) -> Result<Planned, Al
     requires { CanBeJoined (map tells surveys.now) }
     ensures plan { IfOk result (λ p. entries p.plan ≡ the_plan_of (map tells surveys.now)) }
     ensures fits { IfOk result (λ p. FitsAll (map tells surveys.now) (entries p.plan)) }
-    ensures info { IfOk result (λ p. IsJoinedInfo (map tells surveys.now) (entries p.plan) p.info.items) }
+    ensures info { IfOk result (λ p. IsJoinedInfo (map tells surveys.now)
+        (entries p.plan) p.info.items) }
 {
     let plan = plan_all(alloc, surveys)?;
     let first = &surveys[0];

@@ -12,7 +12,7 @@ use edits::{EditFault, MOST_FRAMES, survey_at};
 use frame_header::Class;
 use outside::Folder;
 use std::alloc::Global;
-use sync_survey::{Survey, SurveyFault};
+use sync_survey::Survey;
 
 /// Frames of this class may follow: any where there is no first input, else those of its class.
 fn may_follow(first: Option<Class>, class: Class) -> bool
@@ -39,19 +39,18 @@ fn survey_part<D: Folder>(
     allowed: u32,
 ) -> Result<Survey, EditFault>
     requires behind { is_some first ≡ true → 0 < place }
-    ensures input { OnOk result (IfOk result (λ s. IsInput allowed (D.files folder.old) name.now (tells s))) }
+    ensures input { OnOk result (IfOk result
+        (λ s. IsInput allowed (D.files folder.old) name.now (tells s))) }
     ensures follows { IfOk result (λ s. Follows first (tells s).class) }
-    ensures refused { IfErr result (IsPartFault place first allowed name.now (seen (D.files folder.old) (D.counts folder.old)) (seen (D.files folder.new) (D.counts folder.new))) }
+    ensures refused { IfErr result (IsPartFault place first allowed name.now
+        (seen (D.files folder.old) (D.counts folder.old))
+        (seen (D.files folder.new) (D.counts folder.new))) }
     ensures numbers { IfErr result (IsOfJoin (place + 1)) }
     ensures done { OnOk result (D.counts folder.new ≡ D.counts folder.old) }
     ensures files { D.files folder.new ≡ D.files folder.old }
     ensures counts { OnlyReads (D.counts folder.old) (D.counts folder.new) }
 {
     let survey = survey_at(alloc, folder, name, place, allowed)?;
-    if survey.frames().is_empty() {
-        // No file that is told has a survey without a frame.
-        return Err(EditFault::Input(place, SurveyFault::NoFrame(survey.length())));
-    }
     if may_follow(first, survey.class()) {
         Ok(survey)
     } else {
@@ -79,8 +78,13 @@ pub(crate) fn survey_all<D: Folder>(
     inputs: &[String],
 ) -> Result<Vec<Survey>, EditFault>
     requires few { length inputs.now ≤ 64 }
-    ensures inputs { IfOk result (λ surveys. AreInputs None most_frames (D.files folder.old) (map string_bytes inputs.now) (map tells surveys.items)) }
-    ensures left { IfErr result (λ fault. (output : List ℕ) → clash_from (output ∷ []) 0 (map string_bytes inputs.now) ≡ None → Leaves (join_command output (map string_bytes inputs.now)) (seen (D.files folder.old) (D.counts folder.old)) (seen (D.files folder.new) (D.counts folder.new)) fault) }
+    ensures inputs { IfOk result (λ surveys. AreInputs None most_frames (D.files folder.old)
+        (map string_bytes inputs.now) (map tells surveys.items)) }
+    ensures left { IfErr result (λ fault. (output : List ℕ)
+        → clash_from (output ∷ []) 0 (map string_bytes inputs.now) ≡ None
+        → Leaves (join_command output (map string_bytes inputs.now))
+        (seen (D.files folder.old) (D.counts folder.old))
+        (seen (D.files folder.new) (D.counts folder.new)) fault) }
     ensures numbers { IfErr result (IsOfJoin (length inputs.now)) }
     ensures done { OnOk result (D.counts folder.new ≡ D.counts folder.old) }
     ensures files { D.files folder.new ≡ D.files folder.old }

@@ -1,64 +1,69 @@
--- What was appended in the end.
-use Rattle.std.proofs.Common.{◌≡◌, ℕ, ◌+◌, List, [], ◌++◌, length, take, refl, sym, ◌∙◌, ap, subst, append_assoc, append-nil, length-append}
+-- The bytes of frames that were given to the writer.
+use Rattle.std.proofs.Common.{◌≡◌, ℕ, List, [], ◌++◌, length, take, sym, ◌∙◌, ap, append_assoc, append-nil}
 use Rattle.std.proofs.lemmas.List.{take-append-le, length-take-le}
-use Rattle.std.proofs.Math.Seq.{take-append-add}
-use Rattle.outside.specs.Files.{Files, appended, Holds, IsThere}
-use Rattle.outside.specs.Passed.{AppendedPrefix}
-use Rattle.outside.proofs.FilesLaws.{appended_twice, appended_nothing}
-use Rattle.frame_writer.specs.Frames.{Frame, held_bytes, frame_bytes}
-use Rattle.frame_writer.specs.Writing.{Writing, waiting_bytes, IsWriterOf}
+use Rattle.outside.specs.Files.{Files}
+use Rattle.outside.specs.Passed.{PassedOn, AppendedPrefix}
+use Rattle.outside.specs.Pass.{Writes, WritesPrefix}
+use Rattle.outside.specs.declared.pass.Pass.{Pass}
+use Rattle.outside.proofs.PassedLaws.{passed_then, passed_then_prefix}
+use Rattle.outside.proofs.PassLaws.{prefix_piece}
+use Rattle.frame_header.specs.Fields.{ClassFields}
+use Rattle.frame_writer.specs.Frames.{Frame, Held, held_bytes, frame_bytes}
+use Rattle.frame_writer.specs.Writing.{Writing, writing, waiting_bytes, IsNew, IsWriterOf}
 use Rattle.frame_writer.proofs.FrameLaws.{laid-steps, later-frames}
-use Rattle.laying.specs.Passing.{Lays, LaysPart, Appends, AppendsPrefix}
+use Rattle.laying.specs.Passing.{Lays, LaysPart}
 
-module _ (input output : List ℕ) (made : List ℕ → List Frame) where
-  -- nothing
-  pub prefix-none : (before : Files) → IsThere before output → AppendsPrefix input output (λ file. frame_bytes (made file)) before before
-  prefix-none before there = record { bytes = []; prefix = λ file holds. refl; files = sym (appended_nothing before output there) }
+-- behind what waits no frame was given yet
+pub new-behind : {class : ClassFields} (held : Held) (waiting : List ℕ) → IsNew class held → IsWriterOf waiting [] (writing held waiting) []
+new-behind held waiting new = record { taken = []; is = sym (append-nil waiting); written = new.written }
 
-  module _ (old new : Writing) (before now : Files) (none : IsWriterOf [] old []) (lays : Lays input output made old new before now) where
-    -- what was appended, and what waits, are the bytes of the frames
-    both : lays.passed ++ waiting_bytes new ≡ frame_bytes lays.frames
-    both = sym (append_assoc lays.passed new.unsent (held_bytes new.held)) ∙ laid-steps (lays.passed ++ new.unsent) new.held lays.frames (lays.writer [] [] none)
-
-    all : (file : List ℕ) → Holds before input file → lays.passed ++ waiting_bytes new ≡ frame_bytes (made file)
-    all file holds = both ∙ ap frame_bytes (lays.is file holds)
-
-    pub lays-end : (after : Files) → after ≡ appended now output (waiting_bytes new) → Appends input output (λ file. frame_bytes (made file)) before after
-    lays-end after is = record {
-      bytes = lays.passed ++ waiting_bytes new;
-      is = all;
-      files = is ∙ ap (λ f. appended f output (waiting_bytes new)) lays.files ∙ appended_twice before output lays.passed (waiting_bytes new);
+-- what was appended, and what waits, are what waited and the bytes of the frames
+lays-passed : (input output : List ℕ) (made : List ℕ → List Frame) (base : List ℕ) (old new : Writing) (before now : Files) → IsWriterOf base [] old [] → (lays : Lays input output made old new before now) →
+    PassedOn output (base ++ frame_bytes lays.frames) (waiting_bytes new) before now
+lays-passed input output made base old new before now none lays =
+    let are = lays.writer base [] [] none in
+    record {
+      passed = lays.passed;
+      split =
+          ap (λ (xs : List ℕ). base ++ xs) (sym (laid-steps are.taken new.held lays.frames are.written))
+          ∙ sym (append_assoc base are.taken (held_bytes new.held))
+          ∙ ap (λ (xs : List ℕ). xs ++ held_bytes new.held) (sym are.is)
+          ∙ append_assoc lays.passed new.unsent (held_bytes new.held);
+      files = lays.files;
     }
 
-    pub lays-end_part : (after : Files) → AppendedPrefix output (waiting_bytes new) now after → AppendsPrefix input output (λ file. frame_bytes (made file)) before after
-    lays-end_part after part =
-        let bytes = lays.passed ++ take part.count (waiting_bytes new) in
-        let long : length bytes ≡ length lays.passed + part.count = length-append lays.passed (take part.count (waiting_bytes new)) ∙ ap (λ n. length lays.passed + n) (length-take-le part.count (waiting_bytes new) part.within) in
-        record {
-          bytes = bytes;
-          prefix = λ file holds. sym (ap (λ n. take n (frame_bytes (made file))) long ∙ ap (take (length lays.passed + part.count)) (sym (all file holds)) ∙ take-append-add lays.passed (waiting_bytes new) part.count);
-          files = part.files ∙ ap (λ f. appended f output (take part.count (waiting_bytes new))) lays.files ∙ appended_twice before output lays.passed (take part.count (waiting_bytes new));
-        }
+module _ (pass : Pass) (made : List ℕ → List Frame) (base : List ℕ) (old : Writing) (before : Files) (none : IsWriterOf base [] old []) where
+  module _ (new : Writing) (now : Files) (lays : Lays pass.input.now pass.output.now made old new before now) where
+    -- all of them, and what waited of them went on
+    pub lays-written : (after : List ℕ) (end : Files) → PassedOn pass.output.now (waiting_bytes new) after now end → Writes pass (λ file. frame_bytes (made file)) base after before end
+    lays-written after end passed = record {
+      piece = frame_bytes lays.frames;
+      is = λ file holds. ap frame_bytes (lays.is file holds);
+      passed = passed_then (lays-passed pass.input.now pass.output.now made base old new before now none lays) passed;
+    }
 
-  -- a part of the frames
-  pub part-end : (reach : ℕ) (old : Writing) (before after : Files) → IsWriterOf [] old [] → LaysPart input output made reach old before after → AppendsPrefix input output (λ file. frame_bytes (made file)) before after
-  part-end reach old before after none part =
+    pub lays-prefix : (end : Files) → AppendedPrefix pass.output.now (waiting_bytes new) now end → WritesPrefix pass (λ file. frame_bytes (made file)) base before end
+    lays-prefix end part =
+        prefix_piece pass (λ file. frame_bytes (made file)) (λ file holds. ap frame_bytes (lays.is file holds))
+        (passed_then_prefix (lays-passed pass.input.now pass.output.now made base old new before now none lays) part)
+
+  -- a part of them
+  pub part-prefix : (reach : ℕ) (after : Files) → LaysPart pass.input.now pass.output.now made reach old before after → WritesPrefix pass (λ file. frame_bytes (made file)) base before after
+  part-prefix reach after part =
       let bytes = take part.prefix.count part.settled in
       let long : length bytes ≡ part.prefix.count = length-take-le part.prefix.count part.settled part.prefix.within in
+      let are = part.writer base [] [] none in
       record {
         bytes = bytes;
         prefix = λ file holds.
             let found = part.is file holds [] tt in
-            let later = later-frames part.settled part.held part.done found.0 (part.writer [] [] none) found.2 in
-            sym (ap (λ n. take n (frame_bytes (made file))) long
-            ∙ ap (take part.prefix.count) (ap frame_bytes (sym (append-nil (made file)) ∙ sym found.1) ∙ later.1)
+            let later = later-frames are.taken part.held part.done found.0 are.written found.2 in
+            let all : base ++ frame_bytes (made file) ≡ part.settled ++ later.0 =
+            ap (λ (xs : List ℕ). base ++ xs) (ap frame_bytes (sym (append-nil (made file)) ∙ sym found.1) ∙ later.1)
+            ∙ sym (append_assoc base are.taken later.0)
+            ∙ ap (λ (xs : List ℕ). xs ++ later.0) (sym are.is) in
+            sym (ap (λ n. take n (base ++ frame_bytes (made file))) long
+            ∙ ap (take part.prefix.count) all
             ∙ take-append-le part.prefix.count part.settled later.0 part.prefix.within);
         files = part.prefix.files;
       }
-
-  -- behind what changed no file
-  pub ends-later : (old mid after : Files) → mid ≡ old → Appends input output (λ file. frame_bytes (made file)) mid after → Appends input output (λ file. frame_bytes (made file)) old after
-  ends-later old mid after same part = subst (λ f. Appends input output (λ file. frame_bytes (made file)) f after) same part
-
-  pub prefix-later : (old mid after : Files) → mid ≡ old → AppendsPrefix input output (λ file. frame_bytes (made file)) mid after → AppendsPrefix input output (λ file. frame_bytes (made file)) old after
-  prefix-later old mid after same part = subst (λ f. AppendsPrefix input output (λ file. frame_bytes (made file)) f after) same part

@@ -46,7 +46,8 @@ fits-on : (window : ℕ) (items : List Item) (needs : List Need) (placed : List 
     → map (λ (p : Placed). p.begin) placed ≡ begins_of window low before (frames_of (map open_of items) (areas_in items placed))
     → FitsFrom window (min window (before - low)) needs placed
 unfolding AreFor IsLayout begins_of frames_of areas_in FitsFrom
-fits-on window [] [] placed end low before starts asks for_items layout early within begins = tt
+fits-on window [] [] [] end low before starts asks for_items layout early within begins = tt
+fits-on window [] [] (p ∷ placed) end low before starts asks for_items layout early within begins = absurd for_items
 fits-on window [] (need ∷ needs) placed end low before starts asks for_items layout early within begins = absurd asks
 fits-on window (item ∷ items) [] placed end low before starts asks for_items layout early within begins = absurd asks
 fits-on window (item ∷ items) (need ∷ needs) [] end low before starts asks for_items layout early within begins = absurd for_items

@@ -1,6 +1,6 @@
 -- The main data of frames as they are read, area by area.
 use Rattle.std.proofs.Common.{◌≡◌, ◌≢◌, eqb, ℕ, zero, suc, min, ◌+◌, ◌-◌, ◌*◌, ◌/◌, ◌≤◌, cond, Bool, true, false, List, [], ◌∷◌, ◌++◌, length, take, drop, Option, Some, None, Ok, inl, inr, refl, sym, ◌∙◌, ap, ap₂, subst, arith, length-drop, length-append, append-nil, append_assoc}
-use Rattle.std.specs.Prelude.{◌⊎◌, ◌==◌, flat_map, slice_get, sum_by, nat_lt, replicate, Result, Err}
+use Rattle.std.specs.Prelude.{IfSome, ◌⊎◌, ◌==◌, flat_map, slice_get, sum_by, nat_lt, replicate, Result, Err}
 use Rattle.std.proofs.lemmas.Bool.{ltb-false}
 use Rattle.std.proofs.lemmas.Bool.Decides.{eqb_tells}
 use Rattle.std.proofs.lemmas.List.{length-replicate, length-take-le, take-append-drop, take-append-le, drop-append-le}
@@ -25,11 +25,11 @@ use Rattle.sync_survey.specs.declared.survey_fault.SurveyFault.{SurveyFault}
 use Rattle.sync_survey.specs.declared.survey_fault.SurveyFault.TheVariants.{TooLong}
 use Rattle.sync_survey.specs.MainData.{own_area, head_area, place, end_before, start_of_data, end_of_data, area_bytes, head_bytes, main_bytes, payload_at}
 use Rattle.sync_survey.specs.Faults.{SurveyFields, surveyed, longest_file}
-use Rattle.sync_survey.specs.Survey.{survey_of, AreLaid, IsWellPlaced}
+use Rattle.sync_survey.specs.Survey.{survey_of, AreLaid, IsWellPlaced, IsLaidOut, IsWholeHead}
 use Rattle.sync_survey.proofs.SurveyParts.{surveyed-parts, data-none_well}
 use Rattle.laying.specs.Relaid.{packed, payload_of}
 use Rattle.laying.specs.Passing.{HasSurvey, HasArea, IsOver, skipped_before, IsOverLast}
-use Rattle.laying.proofs.ChosenFrames.{IsWholeHead, surveyed-whole, main-place, packed-bits, packed-bytes, filling}
+use Rattle.laying.proofs.ChosenFrames.{surveyed-whole, main-place, packed-bits, packed-bytes, filling}
 
 -- ---- the survey of a file
 
@@ -300,9 +300,6 @@ pub main-first : (file : List ℕ) (head : Option Head) (rows : List Row) → ma
 unfolding main_bytes
 main-first file head rows = append-nil (head_bytes file head)
 
--- the head of a file that is told is within it
-pub head-within : (file : List ℕ) (s : SurveyFields) (head : Head) → HasSurvey file s → s.head ≡ Some head → head.offset + length_of (class_of head.header) head.header.slot ≤ s.length
-head-within file s head has is =
-    let whole = surveyed-whole file has.0 s (survey-surveyed file has.0 s has.1) in
-    let own : IsWholeHead file (Some head) = subst (IsWholeHead file) is whole.head in
-    omega (arith, own.within, survey-length file s has)
+-- the head is within the length
+pub head-within : (s : SurveyFields) (head : Head) → IsLaidOut s → s.head ≡ Some head → head.offset + length_of (class_of head.header) head.header.slot ≤ s.length
+head-within s head laid is = (subst (λ (h : Option Head). IfSome h (IsWholeHead s.first s.class s.length)) is laid.head).within

@@ -1,5 +1,7 @@
 -- Frames one after another, as they are planned.
-use Rattle.std.proofs.Common.{◌≡◌, ℕ, zero, suc, ◌+◌, ◌-◌, ◌<◌, ◌≤◌, min, cond, Bool, true, false, List, [], ◌∷◌, ◌++◌, length, get_or, map, take, drop, Some, refl, sym, ◌∙◌, ap, ap₂, subst, arith, append_assoc, append-nil}
+use Rattle.std.proofs.Common.{◌≡◌, ℕ, zero, suc, ◌+◌, ◌-◌, ◌<◌, ◌≤◌, min, cond, Bool, true, false, List, [], ◌∷◌, ◌++◌, length, get_or, map, take, drop, Some, refl, sym, ◌∙◌, ap, ap₂, subst, arith, append_assoc, append-nil, length-drop, ◌⊎◌, inl, inr}
+use Rattle.std.proofs.lemmas.List.{length-take-le}
+use Rattle.std.proofs.lemmas.Bool.{cases_lt}
 use Rattle.std.specs.Prelude.{slice_get, slice_range}
 use Rattle.std.specs.List.{enumerate_from}
 use Rattle.frame_header.specs.Tables.{class_of, area_of}
@@ -34,13 +36,6 @@ range-next xs i to x is within =
 
 pub range-none : {X : Type 0} (xs : List X) (i to : ℕ) → to ≤ i → slice_range xs i to ≡ []
 range-none xs i to past = let none : to - i ≡ 0 = omega (arith, past) in ap (λ n. take n (drop i xs)) none
-
--- the item at a place within the first of a list
-pub found-within : {X : Type 0} (to : ℕ) (xs : List X) (i : ℕ) (x : X) → i < length (take to xs) → x ≡ get_or (take to xs) i x → (slice_get xs i ≡ Some x) × (i < to)
-found-within zero xs i x within is = absurd (omega (arith, within))
-found-within (suc to) [] i x within is = absurd (omega (arith, within))
-found-within (suc to) (y ∷ xs) zero x within is = (ap (λ z. Some z) (sym is), omega arith)
-found-within (suc to) (y ∷ xs) (suc i) x within is = let found = found-within to xs i x (omega (arith, within)) is in (found.0, omega (arith, found.1))
 
 pub item-next : {X : Type 0} (xs : List X) (i : ℕ) (x : X) → i < length xs → x ≡ get_or xs i x → drop i xs ≡ x ∷ drop (i + 1) xs
 item-next [] i x within is = absurd (omega (arith, within))
@@ -104,6 +99,40 @@ module _ (s : SurveyFields) (i to next : ℕ) (row : Row) (p : Placed) (placed :
       ∙ relaid-cons p placed f (slice_range all (i + 1) to)
       ∙ ap (λ (l : List Frame). placed_as p f ∷ relaid l placed) (left-range all i to next f p.lead_in got within next_is)
 
+-- ---- as many places as frames
+
+-- where a place is left, a frame is
+pub fits-some : (window reach : ℕ) (s : SurveyFields) (i to : ℕ) (p : Placed) (placed : List Placed) → FitsFrom window reach (map need_of (slice_range s.frames i to)) (p ∷ placed) → i < to
+unfolding FitsFrom
+fits-some window reach s i to p placed fits = by_cases (cases_lt i to)
+  where
+    none-fits : (needs : List Need) → needs ≡ [] → FitsFrom window reach needs (p ∷ placed) → ⊥
+    none-fits [] none fits = fits
+    none-fits (need ∷ needs) none fits = absurd cc
+
+    by_cases : (i < to) ⊎ (to ≤ i) → i < to
+    by_cases (inl within) = within
+    by_cases (inr past) = absurd (none-fits (map need_of (slice_range s.frames i to)) (ap (map need_of) (range-none s.frames i to past)) fits)
+
+-- where no place is left, no frame is
+pub fits-end : (window reach : ℕ) (s : SurveyFields) (i to : ℕ) → to ≤ length s.frames → FitsFrom window reach (map need_of (slice_range s.frames i to)) [] → to ≤ i
+unfolding FitsFrom
+fits-end window reach s i to within fits = by_cases (cases_lt i to)
+  where
+    some-fits : (rows : List Row) → FitsFrom window reach (map need_of rows) [] → length rows ≡ 0
+    some-fits [] fits = refl
+    some-fits (row ∷ rows) fits = absurd fits
+
+    by_cases : (i < to) ⊎ (to ≤ i) → to ≤ i
+    by_cases (inl some) = omega (arith, some-fits (slice_range s.frames i to) fits, length-take-le (to - i) (drop i s.frames) (omega (arith, within, length-drop i s.frames)), some)
+    by_cases (inr past) = past
+
+-- the item at a place of a list
+pub found-at : {X : Type 0} (xs : List X) (i : ℕ) (x : X) → i < length xs → x ≡ get_or xs i x → slice_get xs i ≡ Some x
+found-at [] i x within is = absurd (omega (arith, within))
+found-at (y ∷ xs) zero x within is = ap (λ z. Some z) (sym is)
+found-at (y ∷ xs) (suc i) x within is = found-at xs i x (omega (arith, within)) is
+
 -- ---- the end
 
 pub fits-none : (window reach : ℕ) (needs : List Need) → last_reach window reach needs [] ≡ reach
@@ -134,10 +163,11 @@ one_begin false p f = refl
 pub begins-left : (window reach : ℕ) (needs : List Need) (fs : List Frame) (placed : List Placed) (more : List Frame) → AreNeedsOf needs fs → FitsFrom window reach needs placed
     → BeginsWithin (last_reach window reach needs placed) (pieces more) → BeginsWithin reach (pieces (relaid fs placed ++ more))
 unfolding FitsFrom last_reach relaid
-begins-left window reach [] [] placed more are fits begins = begins
+begins-left window reach [] [] [] more are fits begins = begins
+begins-left window reach [] [] (p ∷ placed) more are fits begins = absurd fits
 begins-left window reach [] (f ∷ fs) placed more are fits begins = absurd are
 begins-left window reach (need ∷ needs) [] placed more are fits begins = absurd are
-begins-left window reach (need ∷ needs) (f ∷ fs) [] more are fits begins = begins
+begins-left window reach (need ∷ needs) (f ∷ fs) [] more are fits begins = absurd fits
 begins-left window reach (need ∷ needs) (f ∷ fs) (p ∷ placed) more are fits begins = omega (arith, one_begin p.lead_in p f, fits.0)
 
 -- frames that are left behind those of which a write failed

@@ -1,18 +1,10 @@
 -- What is copied of a surveyed input through a buffer: its blocks.
-use Rattle.std.specs.Prelude.{◌≡◌, ℕ, not, Bool, true, false, List, ◌++◌, map, filter}
+use Rattle.std.specs.Prelude.{ℕ, not, Bool, true, false, List, map, filter}
 use Rattle.std.specs.List.{concat}
-use Rattle.outside.specs.Files.{Files, Holds}
-use Rattle.outside.specs.Passed.{PassedOn}
 use Rattle.sync_survey.specs.declared.places.Piece.{Piece}
 use Rattle.sync_survey.specs.Faults.{SurveyFields}
 use Rattle.laid_files.specs.LaidFiles.{block_bytes}
 use Rattle.laying.specs.Written.{goes_in_front}
-
--- Bytes went on to what waited for the output: where the input is told, they are made of its bytes so.
-pub record Copies (input output : List ℕ) (made : List ℕ → List ℕ) (before after : List ℕ) (old new : Files) : Type 0 where
-  pub piece : List ℕ
-  pub is : (file : List ℕ) → Holds old input file → piece ≡ made file
-  pub passed : PassedOn output (before ++ piece) after old new
 
 -- the block is one of those that go in front, or one of the others
 abbrev pub is_chosen : Bool → SurveyFields → Piece → Bool

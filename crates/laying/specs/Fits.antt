@@ -17,11 +17,12 @@ area_at p need = area_of (class_of need.header) p.slot (if p.lead_in then false 
 abbrev pub reach_behind : ℕ → Placed → Need → ℕ
 reach_behind window p need = min window (p.begin + area_at p need - bytes_at p.lead_in need)
 
--- Where main data may begin so many bytes before the first area: each main_data_begin is within reach, and no main data end behind
--- their own area.
+-- Where main data may begin so many bytes before the first area: there is a place for each frame, and none is left; each main_data_begin is
+-- within reach, and no main data end behind their own area.
 unfoldable pub FitsFrom : ℕ → ℕ → List Need → List Placed → Type 0
-FitsFrom window reach [] placed = Unit {0}
-FitsFrom window reach (need ∷ needs) [] = Unit {0}
+FitsFrom window reach [] [] = Unit {0}
+FitsFrom window reach [] (p ∷ placed) = ⊥
+FitsFrom window reach (need ∷ needs) [] = ⊥
 FitsFrom window reach (need ∷ needs) (p ∷ placed) =
     (p.begin ≤ reach) × (bytes_at p.lead_in need ≤ p.begin + area_at p need) × FitsFrom window (reach_behind window p need) (left_behind p.lead_in need needs) placed
 

@@ -1,32 +1,50 @@
--- What a pass over the frames of a surveyed input gives to the writer of its output, and why it ends early.
-use Rattle.std.specs.Prelude.{◌≡◌, ◌≢◌, ℕ, ◌+◌, ◌<◌, ◌==◌, if◌then◌else◌, List, ◌++◌, length, take, Ok}
-use Rattle.outside.specs.Files.{Files, untold, appended, Holds, IsThere}
-use Rattle.outside.specs.Counts.{Counts, Rose, OnlyReads, OnlyWrites, NothingFailed}
+-- What a pass that lays frames anew makes of its output.
+use Rattle.std.specs.Prelude.{◌≡◌, ℕ, ◌+◌, ◌-◌, ◌==◌, ◌≤◌, min, if◌then◌else◌, List, [], ◌∷◌, ◌++◌, length, take, map, slice_range, Ok}
+use Rattle.std.specs.List.{concat}
+use Rattle.frame_header.specs.Fields.{ClassFields}
+use Rattle.frame_header.specs.Tables.{class_of, area_of, window_of}
+use Rattle.outside.specs.Files.{Files, appended, Holds}
 use Rattle.outside.specs.Passed.{AppendedPrefix}
 use Rattle.outside.specs.Feed.{Fed, IsFedFrom}
+use Rattle.outside.specs.Pass.{IsReady as PassReady}
 use Rattle.reservoir.specs.Window.{IsWindowOver}
+use Rattle.slot_plan.specs.declared.needs.Need.{Need}
+use Rattle.slot_plan.specs.declared.needs.Placed.{Placed}
+use Rattle.part_needs.specs.Needs.{need_of}
 use Rattle.frame_writer.specs.Laid.{BeginsWithin}
-use Rattle.frame_writer.specs.Frames.{Frame, Held, pieces, AreWritten}
-use Rattle.frame_writer.specs.Writing.{Writing, IsWriterOf}
+use Rattle.frame_writer.specs.Frames.{Frame, Held, pieces, frame_bytes}
+use Rattle.frame_writer.specs.Writing.{Writing, writing, IsNew, AreBehind, IsWriterOf}
 use Rattle.sync_survey.specs.declared.rows.Row.{Row}
 use Rattle.sync_survey.specs.MainData.{own_area, area_bytes, place, main_bytes}
-use Rattle.sync_survey.specs.Faults.{SurveyFields}
+use Rattle.sync_survey.specs.Faults.{SurveyFields, tells}
 use Rattle.sync_survey.specs.Survey.{survey_of, IsLaidOut}
-use Rattle.laying.specs.declared.relay.PassFault.{PassFault}
-use Rattle.laying.specs.declared.relay.PassFault.TheVariants.{Read, Shrunk, Write}
+use Rattle.laying.specs.declared.buffers.Buffers.{Buffers}
+use Rattle.laying.specs.declared.relay.Relay.{Relay}
+use Rattle.laying.specs.declared.section.Section.{Section}
+use Rattle.laying.specs.Relaid.{frame_of, all_frames, moved_to, placed_as, relaid}
+use Rattle.laying.specs.Fits.{reach_behind, FitsFrom, last_reach}
+use Rattle.laying.specs.Written.{front_blocks, back_blocks}
 
 -- this is the survey of the file
 abbrev pub HasSurvey : List ℕ → SurveyFields → Type 0
 HasSurvey file s = (allowed : ℕ) × (survey_of file allowed ≡ Ok s)
 
--- Two files of other names are there, this is the survey of the input, and what is held of the input is of its bytes.
-pub record IsReady (input output : List ℕ) (s : SurveyFields) (files : Files) (fed : Fed) : Type 0 where
-  pub apart : input ≢ output
-  pub source : IsThere files input
-  pub target : IsThere files output
-  pub exact : (file : List ℕ) → Holds files input file → HasSurvey file s
-  pub laid : IsLaidOut s
-  pub fed_from : IsFedFrom fed files input
+-- The survey is that of the input, which is read to be written to the output, and what is held of the input is of its bytes.
+pub record IsReady (relay : Relay) (files : Files) (fed : Fed) : Type 0 where
+  pub pass : PassReady relay.pass files fed
+  pub length_is : relay.pass.length ≡ (tells relay.survey.now).length
+  pub exact : (file : List ℕ) → Holds files relay.pass.input.now file → HasSurvey file (tells relay.survey.now)
+  pub laid : IsLaidOut (tells relay.survey.now)
+
+-- nothing is held of any file, nothing waits, and no frame of this class was given yet
+pub record IsFresh (class : ClassFields) (b : Buffers) : Type 0 where
+  pub fed : (files : Files) (name : List ℕ) → IsFedFrom b.feed files name
+  pub none : b.waiting ≡ []
+  pub new : IsNew class b.writer
+
+-- what waits for the output
+abbrev pub writing_in : Buffers → Writing
+writing_in b = writing b.writer b.waiting
 
 -- a window is over so many bytes of main data
 abbrev pub Reaches : List ℕ → ℕ → Type 0
@@ -64,7 +82,7 @@ pub record Lays (input output : List ℕ) (made : List ℕ → List Frame) (old 
   pub is : (file : List ℕ) → Holds before input file → frames ≡ made file
   pub passed : List ℕ
   pub files : after ≡ appended before output passed
-  pub writer : (out : List ℕ) (fs : List Frame) → IsWriterOf out old fs → IsWriterOf (out ++ passed) new (fs ++ frames)
+  pub writer : (base out : List ℕ) (fs : List Frame) → IsWriterOf base out old fs → IsWriterOf base (out ++ passed) new (fs ++ frames)
 
 -- Only the first of these frames were given to the writer, or all of them. A prefix was appended of bytes that no later main data can
 -- reach, whichever frames follow that begin within so many bytes before their own area.
@@ -73,25 +91,68 @@ pub record LaysPart (input output : List ℕ) (made : List ℕ → List Frame) (
   pub prefix : AppendedPrefix output settled before after
   pub done : List Frame
   pub held : Held
-  pub writer : (out : List ℕ) (fs : List Frame) → IsWriterOf out old fs → AreWritten (out ++ settled) held (fs ++ done)
+  pub writer : (base out : List ℕ) (fs : List Frame) → IsWriterOf base out old fs → AreBehind base (out ++ settled) held (fs ++ done)
   pub is : (file : List ℕ) → Holds before input file → (more : List Frame) → BeginsWithin reach (pieces more)
       → (rest : List Frame) × (done ++ rest ≡ made file ++ more) × BeginsWithin held.waiting.free (pieces rest)
 
--- The output has more bytes at its end: where the input is told, they are made of its bytes so.
-pub record Appends (input output : List ℕ) (made : List ℕ → List ℕ) (before after : Files) : Type 0 where
-  pub bytes : List ℕ
-  pub is : (file : List ℕ) → Holds before input file → bytes ≡ made file
-  pub files : after ≡ appended before output bytes
+-- ---- the same of a relay and its buffers
 
--- only a prefix of them
-pub record AppendsPrefix (input output : List ℕ) (made : List ℕ → List ℕ) (before after : Files) : Type 0 where
-  pub bytes : List ℕ
-  pub prefix : (file : List ℕ) → Holds before input file → bytes ≡ take (length bytes) (made file)
-  pub files : after ≡ appended before output bytes
+abbrev pub GivesFrames : Relay → (List ℕ → List Frame) → Buffers → Buffers → Files → Files → Type 0
+GivesFrames relay made old new before after = Lays relay.pass.input.now relay.pass.output.now made (writing_in old) (writing_in new) before after
 
--- The cause of a fault: the count that is named rose, and no count of the other kind. An input of which nothing is told had the first
--- length, and a read at the second gave no byte.
-abbrev pub HasPassCause : ℕ → Files → Counts → Counts → PassFault → Type 0
-HasPassCause size files before after Read = Rose before.read_faults after.read_faults × OnlyReads before after
-HasPassCause size files before after (Shrunk first second) = (files ≡ untold) × (first ≡ size) × (second < first) × Rose before.ends after.ends × NothingFailed before after × OnlyReads before after
-HasPassCause size files before after Write = Rose before.write_faults after.write_faults × OnlyWrites before after
+abbrev pub GivesPart : Relay → (List ℕ → List Frame) → ℕ → Buffers → Files → Files → Type 0
+GivesPart relay made reach old before after = LaysPart relay.pass.input.now relay.pass.output.now made reach (writing_in old) before after
+
+-- frame i in its slot
+abbrev pub moved_frame : Relay → ℕ → Row → Placed → List ℕ → List Frame
+moved_frame relay i row p file = moved_to p (frame_of file (tells relay.survey.now) i row) ∷ []
+
+-- what stands at a place of the plan: the lead-in in front of frame i, or the frame
+abbrev pub placed_frame : Relay → ℕ → Row → Placed → List ℕ → List Frame
+placed_frame relay i row p file = placed_as p (frame_of file (tells relay.survey.now) i row) ∷ []
+
+-- the frames from one on and before another, as they were planned
+abbrev pub planned_frames : Relay → ℕ → ℕ → List Placed → List ℕ → List Frame
+planned_frames relay from to placed file = relaid (slice_range (all_frames file (tells relay.survey.now)) from to) placed
+
+abbrev pub window_in : SurveyFields → ℕ
+window_in s = window_of s.class.version
+
+-- how many bytes before the next area main data may begin behind this frame in its slot
+abbrev pub own_reach : Relay → Row → Placed → ℕ
+own_reach relay row p = min (window_in (tells relay.survey.now)) (p.begin + area_of (class_of row.header) p.slot row.header.protected - (need_of row).bytes)
+
+-- behind what stands at this place of the plan
+abbrev pub reach_at : Relay → Row → Placed → ℕ
+reach_at relay row p = reach_behind (window_in (tells relay.survey.now)) p (need_of row)
+
+abbrev pub needs_from : SurveyFields → ℕ → ℕ → List Need
+needs_from s from to = map need_of (slice_range s.frames from to)
+
+-- behind all places
+abbrev pub reach_behind_all : ℕ → Relay → ℕ → ℕ → List Placed → ℕ
+reach_behind_all reach relay from to placed = last_reach (window_in (tells relay.survey.now)) reach (needs_from (tells relay.survey.now) from to) placed
+
+-- the plan can be written frame by frame, where main data may begin so many bytes before the first area
+abbrev pub FitsBehind : ℕ → Relay → ℕ → ℕ → List Placed → Type 0
+FitsBehind reach relay from to placed = FitsFrom (window_in (tells relay.survey.now)) reach (needs_from (tells relay.survey.now) from to) placed
+
+-- ---- the file of a section
+
+-- the frames are there, and their plan can be written frame by frame
+pub record IsSection (s : SurveyFields) (section : Section) : Type 0 where
+  pub ordered : section.from ≤ section.to
+  pub within : section.to ≤ length s.frames
+  pub fits : FitsFrom (window_in s) 0 (needs_from s section.from section.to) section.placed.now
+
+-- its frames as they were planned
+abbrev pub section_frames : SurveyFields → Section → List ℕ → List Frame
+section_frames s section file = relaid (slice_range (all_frames file s) section.from section.to) section.placed.now
+
+-- the blocks in front, the Info frame and the frames
+abbrev pub section_front : SurveyFields → Section → List ℕ → List ℕ
+section_front s section file = (concat (front_blocks file s) ++ section.info.now) ++ frame_bytes (section_frames s section file)
+
+-- the whole file
+abbrev pub section_file : SurveyFields → Section → List ℕ → List ℕ
+section_file s section file = concat (front_blocks file s) ++ (section.info.now ++ (frame_bytes (section_frames s section file) ++ concat (back_blocks file s)))

@@ -2,6 +2,7 @@
 ghost use Rattle.std.specs.Prelude.{◌≡◌, ◌+◌, ◌≤◌, List, ℕ, length, take, drop, map, replicate, None, Some, Ok, IfOk, IfErr, OnOk, IsErrOf};
 ghost use Rattle.outside.specs.Files.{Holds, IsThere};
 ghost use Rattle.outside.specs.Counts.{OnlyReads};
+ghost use Rattle.outside.specs.Pass.{HasPassCause};
 ghost use Rattle.info_header.specs.Info.{info_in};
 ghost use Rattle.frame_writer.specs.Frames.{Frame};
 ghost use Rattle.sync_survey.specs.Faults.{tells, longest_file};
@@ -9,12 +10,11 @@ ghost use Rattle.sync_survey.specs.Survey.{IsLaidOut};
 ghost use Rattle.slot_plan.specs.declared.needs.Placed.{Placed as PlacedFields};
 ghost use Rattle.laid_files.specs.LaidFiles.{HasInfoSizes};
 ghost use Rattle.laying.specs.Written.{slot_in, info_for, head_info};
-ghost use Rattle.laying.specs.Passing.{HasSurvey, HasPassCause};
+ghost use Rattle.laying.specs.Passing.{HasSurvey};
 
-use crate::relay::PassFault;
 use frame_header::Class;
 use info_header::{Info, info_over};
-use outside::{Folder, read_full};
+use outside::{Folder, PassFault, read_full};
 use slot_plan::Placed;
 use sync_survey::{Head, Survey};
 
@@ -71,7 +71,9 @@ fn are_sized(info: &Info)
 /// them, the table, and what is kept of a head. The text is `Info` where all have one bit rate. At most 2,900,064 frames.
 pub fn info_of(class: Class, placed: &[Placed], kept: &Kept) -> Info
     requires few { length placed.now ≤ 2900064 }
-    ensures info { (frames : List Frame) → map slot_in frames ≡ map (λ (p : PlacedFields). p.slot) placed.now → result ≡ info_for class frames kept.now.quality kept.now.extension }
+    ensures info { (frames : List Frame) → map slot_in frames ≡ map
+        (λ (p : PlacedFields). p.slot) placed.now
+        → result ≡ info_for class frames kept.now.quality kept.now.extension }
     ensures sizes { HasInfoSizes result }
 {
     let info = Info {
@@ -92,12 +94,15 @@ fn read_bytes<D: Folder>(
     bytes: &mut [u8],
 ) -> Result<(), PassFault>
     requires there { IsThere (D.files folder.old) name.now }
-    requires exact { (file : List ℕ) → Holds (D.files folder.old) name.now file → HasSurvey file (tells survey.now) }
+    requires exact { (file : List ℕ) → Holds (D.files folder.old) name.now file
+        → HasSurvey file (tells survey.now) }
     requires few { (tells survey.now).length ≤ longest_file }
     requires within { at + length bytes.old ≤ (tells survey.now).length }
-    ensures bytes { OnOk result ((file : List ℕ) → Holds (D.files folder.old) name.now file → bytes.new ≡ take (length bytes.old) (drop at file)) }
+    ensures bytes { OnOk result ((file : List ℕ) → Holds (D.files folder.old) name.now file
+        → bytes.new ≡ take (length bytes.old) (drop at file)) }
     ensures done { OnOk result (D.counts folder.new ≡ D.counts folder.old) }
-    ensures cause { IfErr result (HasPassCause (tells survey.now).length (D.files folder.old) (D.counts folder.old) (D.counts folder.new)) }
+    ensures cause { IfErr result (HasPassCause (tells survey.now).length (D.files folder.old)
+        (D.counts folder.old) (D.counts folder.new)) }
     ensures reads { IsErrOf result PassFault.Write → ⊥ }
     ensures files { D.files folder.new ≡ D.files folder.old }
     ensures counts { OnlyReads (D.counts folder.old) (D.counts folder.new) }
@@ -118,29 +123,28 @@ fn kept_of<D: Folder>(
 ) -> Result<Kept, PassFault>
     requires there { IsThere (D.files folder.old) name.now }
     requires laid { IsLaidOut (tells survey.now) }
-    requires exact { (file : List ℕ) → Holds (D.files folder.old) name.now file → HasSurvey file (tells survey.now) }
+    requires exact { (file : List ℕ) → Holds (D.files folder.old) name.now file
+        → HasSurvey file (tells survey.now) }
     requires head { (tells survey.now).head ≡ Some head.now }
-    ensures kept { IfOk result (λ kept. (file : List ℕ) → Holds (D.files folder.old) name.now file → (kept.quality ≡ (head_info file (tells survey.now).head).quality) × (kept.extension ≡ (head_info file (tells survey.now).head).extension)) }
+    ensures kept { IfOk result (λ kept. (file : List ℕ) → Holds (D.files folder.old) name.now file
+        → (kept.quality ≡ (head_info file (tells survey.now).head).quality)
+        × (kept.extension ≡ (head_info file (tells survey.now).head).extension)) }
     ensures done { OnOk result (D.counts folder.new ≡ D.counts folder.old) }
-    ensures cause { IfErr result (HasPassCause (tells survey.now).length (D.files folder.old) (D.counts folder.old) (D.counts folder.new)) }
+    ensures cause { IfErr result (HasPassCause (tells survey.now).length (D.files folder.old)
+        (D.counts folder.old) (D.counts folder.new)) }
     ensures reads { IsErrOf result PassFault.Write → ⊥ }
     ensures files { D.files folder.new ≡ D.files folder.old }
     ensures counts { OnlyReads (D.counts folder.old) (D.counts folder.new) }
 {
     let length = head.header.length();
-    if head.offset.saturating_add(u64::from(length)) > survey.length() {
-        // No file that is told has a head that passes its end.
-        return Ok(Kept::none());
-    }
     let mut room = [0; 1441];
     let frame = &mut room[..length as usize];
     read_bytes(folder, name, survey, head.offset, frame)?;
     Ok(Kept::read(frame, head.text_at))
 }
 
-/// The quality and the extension that the head of an input has, and `Kept::none` where there is no head, or, where the
-/// folder doesn't tell its files, one that passes the end. It reads the head's frame, at most 1,441 bytes, and takes no
-/// memory. The files stay.
+/// The quality and the extension that the head of an input has, and `Kept::none` where there is no head. It reads the
+/// head's frame, at most 1,441 bytes, and takes no memory. The files stay.
 ///
 /// # Errors
 /// None where there is no head.
@@ -154,12 +158,17 @@ pub fn kept_fields<D: Folder>(
 ) -> Result<Kept, PassFault>
     requires there { IsThere (D.files folder.old) name.now }
     requires laid { IsLaidOut (tells survey.now) }
-    requires exact { (file : List ℕ) → Holds (D.files folder.old) name.now file → HasSurvey file (tells survey.now) }
-    ensures kept { IfOk result (λ kept. (file : List ℕ) → Holds (D.files folder.old) name.now file → (kept.quality ≡ (head_info file (tells survey.now).head).quality) × (kept.extension ≡ (head_info file (tells survey.now).head).extension)) }
+    requires exact { (file : List ℕ) → Holds (D.files folder.old) name.now file
+        → HasSurvey file (tells survey.now) }
+    ensures kept { IfOk result (λ kept. (file : List ℕ) → Holds (D.files folder.old) name.now file
+        → (kept.quality ≡ (head_info file (tells survey.now).head).quality)
+        × (kept.extension ≡ (head_info file (tells survey.now).head).extension)) }
     // Whether the files are told or not.
-    ensures none { (tells survey.now).head ≡ None → result ≡ Ok (record { quality = None; extension = replicate 36 0 }) }
+    ensures none { (tells survey.now).head ≡ None
+        → result ≡ Ok (record { quality = None; extension = replicate 36 0 }) }
     ensures done { OnOk result (D.counts folder.new ≡ D.counts folder.old) }
-    ensures cause { IfErr result (HasPassCause (tells survey.now).length (D.files folder.old) (D.counts folder.old) (D.counts folder.new)) }
+    ensures cause { IfErr result (HasPassCause (tells survey.now).length (D.files folder.old)
+        (D.counts folder.old) (D.counts folder.new)) }
     ensures reads { IsErrOf result PassFault.Write → ⊥ }
     ensures files { D.files folder.new ≡ D.files folder.old }
     ensures counts { OnlyReads (D.counts folder.old) (D.counts folder.new) }

@@ -2,13 +2,17 @@
 #![tactic(auto)]
 
 mod blocks;
+mod buffers;
 mod file;
 mod info;
 mod info_laws;
 mod laws;
 mod relay;
+mod section;
 
+pub use buffers::Buffers;
 pub use info::{Kept, info_of, kept_fields};
 pub use info_laws::slots_are_planned;
 pub use laws::{asked_plans, blocks_are_kept, entries_hold, files_hold, plans_fit};
-pub use relay::{PassFault, Relay};
+pub use relay::Relay;
+pub use section::Section;

@@ -6,16 +6,15 @@ ghost use Rattle.sync_survey.specs.declared.rows.Row.{Row as RowFields};
 ghost use Rattle.part_needs.specs.Needs.{need_of};
 ghost use Rattle.laying.specs.Fits.{FitsFrom};
 
-use frame_writer::Writer;
-use laying::{PassFault, Relay};
-use outside::{Feed, Folder, MemFolder, WriteBuffer};
-use reservoir::Window;
+use crate::outputs::{expect_output, put_input};
+use laying::{Buffers, Relay, Section};
+use outside::{Folder, MemFolder, Pass, PassFault};
 use slot_plan::Placed;
 use std::alloc::{AllocError, AllocGlobal};
 use std::process::Abort;
 use std::test::Fail;
 use sync_survey::{Row, survey};
-use test_files::files::{ID3V1, Stretch, bytes_of};
+use test_files::files::{ID3V1, Stretch};
 
 /// The front of an ID3v2 block of 7,010 bytes: the size in its header is 54 * 128 + 88 (ID3v2.3.0, 3.1).
 const LONG_BLOCK: Stretch = Stretch::Bytes(b"ID3\x03\x00\x00\x00\x00\x36\x58");
@@ -93,36 +92,35 @@ fn write_first<R: Abort + AllocGlobal, D: Folder>(
     let first = &rows[0];
     assert!(rt; !first.lost && first.side.payload_bytes() <= first.header.area());
     let place = own_place(first);
-    let mut feed = Feed::new(rt.alloc())?;
-    let mut window = Window::new(rt.alloc())?;
-    let mut writer = Writer::new(rt.alloc(), survey.class())?;
-    let mut waiting = WriteBuffer::new(rt.alloc())?;
-    let relay = Relay {
+    let mut buffers = Buffers::new(rt.alloc(), survey.class())?;
+    let pass = Pass {
         input: "a",
         output: "b",
+        length: survey.length(),
+    };
+    let relay = Relay {
+        pass,
         survey: &survey,
     };
-    Ok(relay.write(
-        folder,
-        0,
-        1,
-        &[place],
-        b"info",
-        &mut feed,
-        &mut window,
-        &mut writer,
-        &mut waiting,
-    ))
+    let section = Section {
+        from: 0,
+        to: 1,
+        placed: &[place],
+        info: b"info",
+    };
+    Ok(relay.write(folder, &section, &mut buffers))
+}
+
+fn expect_first<R: Abort + AllocGlobal>(rt: &R, folder: &mut MemFolder) -> Result<(), Fail> {
+    put_input(rt.alloc(), folder, &INPUT, 7573)?;
+    let written = write_first(rt, folder);
+    assert_eq!(rt; written, Ok(Ok(())));
+    expect_output(rt, folder, &OUTPUT)?;
+    Ok(())
 }
 
 #[test]
 fn first_frame_between_blocks(rt: HostRuntime) -> Result<(), Fail> {
     let mut folder = MemFolder::new(rt.alloc());
-    folder.put("a", &bytes_of(rt.alloc(), &INPUT)?)?;
-    folder.put("b", &[])?;
-    folder.reserve("b", 7573)?;
-    assert_eq!(&rt; write_first(&rt, &mut folder)?, Ok(()));
-    let written = folder.get("b").ok_or("no output")?;
-    assert_eq!(&rt; written, bytes_of(rt.alloc(), &OUTPUT)?.as_slice());
-    Ok(())
+    expect_first(&rt, &mut folder)
 }

@@ -2,10 +2,12 @@
 //! fields counted by hand from the layout of heads.
 
 use frame_header::{Header, Slot};
-use laying::{Kept, PassFault, info_of, kept_fields};
-use outside::{Call, Folder, MemFolder};
+use info_header::Info;
+use laying::{Kept, info_of, kept_fields};
+use outside::{Call, Folder, MemFolder, PassFault};
 use slot_plan::Placed;
 use std::alloc::{AllocError, Global};
+use std::process::Abort;
 use std::test::Fail;
 use sync_survey::survey;
 use test_files::files::{Stretch, bytes_of};
@@ -25,6 +27,19 @@ const RATE_128: Slot = Slot {
 };
 
 const EXTENSION: [u8; 36] = *b"LAME3.100 and 27 bytes more, in all.";
+
+/// Two frames, and so many bytes.
+fn expect_counts(rt: &impl Abort, info: &Info, vbr: bool, bytes: u32) {
+    assert_eq!(rt;
+        (info.vbr, info.frames, info.bytes),
+        (vbr, Some(2), Some(bytes))
+    );
+}
+
+fn expect_entries(rt: &impl Abort, table: &[u8; 100]) {
+    assert_eq!(rt; (table[0], table[49]), (63, 63));
+    assert_eq!(rt; (table[50], table[99]), (127, 127));
+}
 
 /// An Info frame of 208 bytes, a lead-in of 208 and a frame of 418: 834 bytes. The entries are 256 * 208 / 834 and
 /// 256 * 416 / 834, rounded down.
@@ -48,16 +63,12 @@ fn a_lead_in_and_a_frame(rt: HostRuntime) -> Result<(), Fail> {
         extension: EXTENSION,
     };
     let info = info_of(class, &placed, &kept);
-    assert_eq!(rt;
-        (info.vbr, info.frames, info.bytes),
-        (true, Some(2), Some(834))
-    );
+    expect_counts(&rt, &info, true, 834);
     assert_eq!(rt; (info.quality, info.extension), (Some(57), EXTENSION));
     let Some(table) = info.table else {
         panic!(&rt; "no table");
     };
-    assert_eq!(rt; (table[0], table[49]), (63, 63));
-    assert_eq!(rt; (table[50], table[99]), (127, 127));
+    expect_entries(&rt, &table);
     Ok(())
 }
 
@@ -71,10 +82,7 @@ fn one_bit_rate(rt: HostRuntime) -> Result<(), Fail> {
         begin: 0,
     }; 2];
     let info = info_of(class, &placed, &Kept::none());
-    assert_eq!(rt;
-        (info.vbr, info.frames, info.bytes),
-        (false, Some(2), Some(1044))
-    );
+    expect_counts(&rt, &info, false, 1044);
     assert_eq!(rt; (info.quality, info.extension), (None, [0; 36]));
     Ok(())
 }
@@ -169,13 +177,21 @@ fn kept_of<D: Folder>(alloc: Global, folder: &mut D) -> Option<Result<Kept, Pass
     Some(kept_fields(folder, "a", &survey))
 }
 
+/// Of a file of these stretches.
+fn kept_in(
+    alloc: Global,
+    parts: &[Stretch],
+) -> Result<Option<Result<Kept, PassFault>>, AllocError> {
+    let file = bytes_of(alloc, parts)?;
+    let mut folder = MemFolder::new(alloc);
+    folder.put("a", &file)?;
+    Ok(kept_of(alloc, &mut folder))
+}
+
 #[test]
 fn heads(rt: HostRuntime) -> Result<(), Fail> {
     for case in &CASES {
-        let file = bytes_of(rt.alloc(), case.file)?;
-        let mut folder = MemFolder::new(rt.alloc());
-        folder.put("a", &file)?;
-        let kept = kept_of(rt.alloc(), &mut folder);
+        let kept = kept_in(rt.alloc(), case.file)?;
         assert_eq!(rt; kept, Some(Ok(case.wanted)), "{}", case.name);
     }
     Ok(())

@@ -2,14 +2,10 @@
 #![tactic(auto)]
 
 #[cfg(test)]
-mod appended;
-#[cfg(test)]
 mod files;
 #[cfg(test)]
 mod infos;
 #[cfg(test)]
+mod outputs;
+#[cfg(test)]
 mod relays;
-#[cfg(test)]
-mod streams;
-#[cfg(test)]
-mod writers;

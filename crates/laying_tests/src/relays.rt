@@ -1,16 +1,15 @@
 //! A part worked out by hand: frames of MPEG-1, 44,100 Hz and 128 kbit/s in two channels have 417 bytes and an area of 381
 //! (ISO/IEC 11172-3, 2.4.3.1), a lead-in at 32 kbit/s 104 and an area of 68.
-use frame_writer::Writer;
-use laying::{PassFault, Relay, asked_plans, plans_fit};
-use outside::{Feed, Folder, MemFolder};
+use crate::outputs::{expect_output, put_input};
+use laying::{Buffers, Relay, Section, asked_plans, plans_fit};
+use outside::{Folder, MemFolder, Pass, PassFault};
 use part_needs::{Parts, one_part_fits};
-use reservoir::Window;
 use slot_plan::Keep;
 use std::alloc::{AllocError, AllocGlobal};
 use std::process::Abort;
 use std::test::Fail;
 use sync_survey::survey;
-use test_files::files::{Stretch, bytes_of};
+use test_files::files::Stretch;
 
 /// Main data of 300 bytes, and of 400 that begin right behind them, 81 bytes before the second area. Of the side information
 /// main_data_begin is the first 9 bits, and the bits of the first channel's main data are those from the 21st to the 32nd.
@@ -56,33 +55,35 @@ fn lay_second<R: Abort + AllocGlobal, D: Folder>(
     asked_plans();
     plans_fit();
     let plan = parts.plan(rt.alloc(), &Keep)?;
-    let mut feed = Feed::new(rt.alloc())?;
-    let mut window = Window::new(rt.alloc())?;
-    let mut writer = Writer::new(rt.alloc(), survey.class())?;
-    let relay = Relay {
+    let mut buffers = Buffers::new(rt.alloc(), survey.class())?;
+    let pass = Pass {
         input: "a",
         output: "b",
+        length: survey.length(),
+    };
+    let relay = Relay {
+        pass,
         survey: &survey,
     };
-    Ok(relay.lay(
-        folder,
-        1,
-        2,
-        plan.placed(),
-        &mut feed,
-        &mut window,
-        &mut writer,
-    ))
+    let section = Section {
+        from: 1,
+        to: 2,
+        placed: plan.placed(),
+        info: &[],
+    };
+    Ok(relay.write(folder, &section, &mut buffers))
+}
+
+fn expect_second<R: Abort + AllocGlobal>(rt: &R, folder: &mut MemFolder) -> Result<(), Fail> {
+    put_input(rt.alloc(), folder, &INPUT, 521)?;
+    let laid = lay_second(rt, folder);
+    assert_eq!(rt; laid, Ok(Ok(())));
+    expect_output(rt, folder, &OUTPUT)?;
+    Ok(())
 }
 
 #[test]
 fn second_frame_alone(rt: HostRuntime) -> Result<(), Fail> {
     let mut folder = MemFolder::new(rt.alloc());
-    folder.put("a", &bytes_of(rt.alloc(), &INPUT)?)?;
-    folder.put("b", &[])?;
-    folder.reserve("b", 521)?;
-    assert_eq!(&rt; lay_second(&rt, &mut folder)?, Ok(()));
-    let written = folder.get("b").ok_or("no output")?;
-    assert_eq!(&rt; written, bytes_of(rt.alloc(), &OUTPUT)?.as_slice());
-    Ok(())
+    expect_second(&rt, &mut folder)
 }

@@ -22,8 +22,10 @@ use sync_survey::{Survey, survey};
 fn send_listing<T: Sink>(survey: &Survey, mut buffer: SendBuffer, out: &mut T) -> Result<(), Failed>
     requires laid { IsLaidOut (tells survey.now) }
     requires empty { buffer ≡ [] }
-    ensures sent { OnOk result (T.sent out.new ≡ sent_more (T.sent out.old) (listing (tells survey.now))) }
-    ensures prefix { OnErr result (SentPrefix (listing (tells survey.now)) (T.sent out.old) (T.sent out.new)) }
+    ensures sent { OnOk result (T.sent out.new ≡ sent_more (T.sent out.old)
+        (listing (tells survey.now))) }
+    ensures prefix { OnErr result (SentPrefix (listing (tells survey.now)) (T.sent out.old)
+        (T.sent out.new)) }
     ensures cause { HasCause (T.faults out.old) (T.faults out.new) result }
 {
     let mut line = Line::new();
@@ -64,10 +66,16 @@ pub fn list<D: Folder, T: Sink>(
     input: &str,
     out: &mut T,
 ) -> Result<(), EditFault>
-    ensures done { OnOk result (IsDone (list_command input.now) (seen (D.files folder.old) (D.counts folder.old)) (seen (D.files folder.new) (D.counts folder.new))) }
-    ensures left { IfErr result (Leaves (list_command input.now) (seen (D.files folder.old) (D.counts folder.old)) (seen (D.files folder.new) (D.counts folder.new))) }
+    ensures done { OnOk result (IsDone (list_command input.now)
+        (seen (D.files folder.old) (D.counts folder.old))
+        (seen (D.files folder.new) (D.counts folder.new))) }
+    ensures left { IfErr result (Leaves (list_command input.now)
+        (seen (D.files folder.old) (D.counts folder.old))
+        (seen (D.files folder.new) (D.counts folder.new))) }
     // The text, of which a prefix was sent where a write failed.
-    ensures says { Says (list_command input.now) (D.files folder.old) (heard (T.sent out.old) (T.faults out.old)) (heard (T.sent out.new) (T.faults out.new)) (fault_of result) }
+    ensures says { Says (list_command input.now) (D.files folder.old)
+        (heard (T.sent out.old) (T.faults out.old)) (heard (T.sent out.new) (T.faults out.new))
+        (fault_of result) }
     // Over a folder that tells nothing too.
     ensures numbers { IfErr result (HasNumbers (list_command input.now)) }
     // The input is well-formed.

@@ -2,7 +2,6 @@
 pub mod MovedGains
 pub mod MovingLaws
 pub mod WrittenLaws
-pub mod PassLaws
 pub mod GainsLaws
 pub mod MovedFrame
 pub mod EditedItems

@@ -10,7 +10,8 @@ use Rattle.side_info.proofs.FrameLaws.{frame_with-again}
 use Rattle.sync_survey.specs.declared.rows.Row.{Row}
 use Rattle.moved_gains.specs.declared.shift.Steps.{Steps}
 use Rattle.moved_gains.specs.Gains.{moved, moved_side, moved_unless}
-use Rattle.moved_gains.specs.Moving.{row_length, row_end, moved_bytes, moved_row_bytes, bytes_between}
+use Rattle.outside.specs.Pass.{bytes_between}
+use Rattle.moved_gains.specs.Moving.{row_length, row_end, moved_bytes, moved_row_bytes}
 use Rattle.moved_gains.proofs.MovedGains.{sum_of, side_twice, IsShaped-moved}
 use Rattle.moved_gains.proofs.MovedFrame.{whole_class, whole_room}
 use Rattle.moved_gains.proofs.MovingLaws.{moved_from, moved_from-nil, moved_from-cons}

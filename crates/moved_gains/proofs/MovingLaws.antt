@@ -31,7 +31,8 @@ use Rattle.sync_survey.proofs.SurveyLaws.{surveyed-is, walked, overhead-within}
 use Rattle.moved_gains.specs.declared.shift.Steps.{Steps}
 use Rattle.moved_gains.specs.Gains.{moved_side}
 use Rattle.moved_gains.specs.Edited.{moved_unless_lost, moved_item, moved_items, moved_stream, is_lost_at, edited}
-use Rattle.moved_gains.specs.Moving.{row_end, AreRowsOf, moved_row_bytes, bytes_between}
+use Rattle.outside.specs.Pass.{bytes_between}
+use Rattle.moved_gains.specs.Moving.{row_end, AreRowsOf, moved_row_bytes}
 use Rattle.moved_gains.proofs.EditedItems.{moved-nil, moved-cons}
 use Rattle.moved_gains.proofs.LostOffsets.{rows_by, marked-by, walk_rising}
 

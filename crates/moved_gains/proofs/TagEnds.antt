@@ -1,5 +1,5 @@
 -- Where the tag stands, and where it ends.
-use Rattle.std.proofs.Common.{◌≡◌, ℕ, ◌+◌, ◌≤◌, Option, Some, None, refl, arith}
+use Rattle.std.proofs.Common.{◌≡◌, ◌+◌, ◌≤◌, Option, Some, None, refl, arith}
 use Rattle.file_tag.specs.Places.{tag_block, tag_at, tag_length}
 use Rattle.file_tag.proofs.FoundTag.{tag-within, last-within}
 use Rattle.sync_survey.specs.declared.places.Piece.{Piece}

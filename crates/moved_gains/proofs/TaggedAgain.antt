@@ -17,7 +17,7 @@ use Rattle.file_tag.proofs.NewTag.{tagged-again}
 use Rattle.moved_gains.specs.declared.shift.Steps.{Steps}
 use Rattle.moved_gains.specs.Edited.{edited}
 use Rattle.moved_gains.specs.Streams.{moved_row, junk_length, moved_survey}
-use Rattle.moved_gains.specs.Moving.{bytes_between}
+use Rattle.outside.specs.Pass.{bytes_between}
 use Rattle.moved_gains.proofs.MovingLaws.{moved_from, IsBehind, moved_from-later, written-edited}
 use Rattle.moved_gains.proofs.WrittenLaws.{EndBy, moved_to, AreSized, moved_to-long, moved_split}
 use Rattle.moved_gains.proofs.TagPlaces.{IsAmong, IsInFront, StandsSomewhere, stands_somewhere}

@@ -5,7 +5,8 @@ use Rattle.std.proofs.lemmas.List.{take_all, length-take-le}
 use Rattle.sync_survey.specs.declared.rows.Row.{Row}
 use Rattle.moved_gains.specs.declared.moving.NewTag.{NewTag}
 use Rattle.moved_gains.specs.declared.shift.Steps.{Steps}
-use Rattle.moved_gains.specs.Moving.{row_length, row_end, moved_row_bytes, bytes_between, copied, written_from}
+use Rattle.outside.specs.Pass.{bytes_between}
+use Rattle.moved_gains.specs.Moving.{row_length, row_end, moved_row_bytes, copied, written_from}
 use Rattle.moved_gains.proofs.MovingLaws.{moved_from, moved_from-nil, moved_from-cons, IsBehind, moved_from-later}
 
 -- ---- one frame more

@@ -13,7 +13,8 @@ use Rattle.moved_gains.specs.declared.shift.Steps.{Steps}
 use Rattle.moved_gains.specs.Edited.{edited}
 use Rattle.moved_gains.specs.Streams.{moved_row, moved_block, junk_length, moved_survey}
 use Rattle.moved_gains.specs.Change.{Change, retag, changed}
-use Rattle.moved_gains.specs.Moving.{row_end, bytes_between, copied, written_from, IsTagOf, IsNewTag}
+use Rattle.outside.specs.Pass.{bytes_between}
+use Rattle.moved_gains.specs.Moving.{row_end, copied, written_from, IsTagOf, IsNewTag}
 use Rattle.moved_gains.proofs.MovingLaws.{moved_from, IsBehind, moved_from-later, written-edited}
 use Rattle.moved_gains.proofs.WrittenLaws.{written-none, EndBy, moved_to, AreSized, moved_to-long, moved_split, before_tag, around_tag, written-behind, written-split}
 use Rattle.moved_gains.proofs.TagPlaces.{last_more, tag_some, tag_none, IsAmong, IsInFront, StandsSomewhere, stands_somewhere}

@@ -5,4 +5,4 @@ pub mod Edited
 pub mod Streams
 pub mod Change
 pub mod Moving
-pub mod Pass
+pub mod Buffers

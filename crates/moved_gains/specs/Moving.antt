@@ -1,10 +1,11 @@
 -- A file that is read once from front to back and written with moved gains and with another tag.
-use Rattle.std.specs.Prelude.{◌≡◌, ℕ, ◌+◌, ◌-◌, ◌&&◌, nat_le, if◌then◌else◌, Option, Some, None, length, List, [], ◌∷◌, ◌++◌, take, drop}
+use Rattle.std.specs.Prelude.{◌≡◌, ℕ, ◌+◌, ◌&&◌, nat_le, if◌then◌else◌, Option, Some, None, length, List, [], ◌∷◌, ◌++◌, take, drop}
 use Rattle.frame_header.specs.Tables.{class_of, length_of}
 use Rattle.side_info.specs.Frame.{side_in, frame_with}
 use Rattle.sync_survey.specs.declared.rows.Row.{Row}
 use Rattle.file_tag.specs.Places.{tag_at, tag_length}
 use Rattle.sync_survey.specs.Faults.{SurveyFields}
+use Rattle.outside.specs.Pass.{bytes_between}
 use Rattle.moved_gains.specs.declared.moving.NewTag.{NewTag}
 use Rattle.moved_gains.specs.declared.shift.Steps.{Steps}
 use Rattle.moved_gains.specs.Gains.{moved_side}
@@ -29,19 +30,22 @@ AreRowsOf file (row ∷ rows) = IsRowOf file row × AreRowsOf file rows
 abbrev pub moved_bytes : Steps → Row → List ℕ → List ℕ
 moved_bytes steps row bytes = if row.lost then bytes else frame_with row.header (moved_side steps row.side) bytes
 
--- a frame of the file with its gains moved
+-- a frame of the file, and the same with its gains moved
+abbrev pub row_bytes : List ℕ → Row → List ℕ
+row_bytes file row = take (row_length row) (drop row.offset file)
+
 abbrev pub moved_row_bytes : Steps → List ℕ → Row → List ℕ
-moved_row_bytes steps file row = moved_bytes steps row (take (row_length row) (drop row.offset file))
+moved_row_bytes steps file row = moved_bytes steps row (row_bytes file row)
 
--- the bytes from one offset of the file to another
-abbrev pub bytes_between : List ℕ → ℕ → ℕ → List ℕ
-bytes_between file from to = take (to - from) (drop from file)
+-- the bytes of the file from one offset to another, with the new tag between them in place of what it replaces
+abbrev pub bytes_around : NewTag → ℕ → ℕ → List ℕ → List ℕ
+bytes_around tag from to file = bytes_between file from tag.at ++ (tag.bytes.now ++ bytes_between file tag.end to)
 
--- the same with the new tag, where what it replaces stands among them
+-- the bytes from one offset to another, with the new tag where what it replaces stands among them
 abbrev pub copied : Option NewTag → List ℕ → ℕ → ℕ → List ℕ
 copied None file from to = bytes_between file from to
 copied (Some tag) file from to =
-    if nat_le from tag.at && (nat_le tag.at tag.end && nat_le tag.end to) then bytes_between file from tag.at ++ (tag.bytes.now ++ bytes_between file tag.end to) else bytes_between file from to
+    if nat_le from tag.at && (nat_le tag.at tag.end && nat_le tag.end to) then bytes_around tag from to file else bytes_between file from to
 
 -- The bytes of the file from an offset on, with the gains of these frames moved, which stand behind it in their order, and with the new tag,
 -- where what it replaces stands between them.

@@ -33,6 +33,7 @@ fn moved(steps: i16, granule: Granule) -> Granule
 
 #[tactic(auto, unfolding(crate::specs::Gains::moved_side))]
 /// The gains of channel 0 and channel 1 moved by their steps; all other fields stay.
+#[inline(always)]
 pub(crate) fn moved_side(steps: &Steps, side: &Side) -> Side
     ensures { result ≡ moved_side_lem steps.now side.now }
 {
@@ -49,7 +50,8 @@ pub(crate) fn moved_side(steps: &Steps, side: &Side) -> Side
 
 /// Whether the gain would leave the range from 0 to 255.
 fn is_stuck(steps: i16, granule: &Granule) -> bool
-    ensures { result ≡ (not (is_silent_granule granule.now) && is_outside (pos granule.now.global_gain +ℤ steps)) }
+    ensures { result ≡ (not (is_silent_granule granule.now)
+        && is_outside (pos granule.now.global_gain +ℤ steps)) }
 {
     granule.part2_3_length != 0 && !(0..=255).contains(&sum(steps, granule.global_gain))
 }

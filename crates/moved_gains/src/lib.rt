@@ -3,12 +3,14 @@
 //! stream but for the gains.
 #![tactic(auto)]
 
+mod buffers;
 mod change;
 mod gains;
 mod moving;
 mod shift;
 
+pub use buffers::Buffers;
 pub use change::Change;
 pub use gains::{Stuck, stuck_in};
-pub use moving::{CopyFault, write_changed};
+pub use moving::write_changed;
 pub use shift::{Channels, Shift, Steps};

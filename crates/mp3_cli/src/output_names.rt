@@ -41,7 +41,8 @@ impl<'a> Outputs<'a> {
     /// The name at a place, counted from 0, and what stands behind it, in parts. Where there is no such output the name is
     /// empty.
     pub(crate) fn named(self, place: u32, behind: &'a str) -> [&'a str; 5]
-        ensures { flat_map (λ part. part.now) result ≡ name_in (names_in self.entry) place ++ behind.now }
+        ensures { flat_map (λ part. part.now) result ≡ name_in
+            (names_in self.entry) place ++ behind.now }
     {
         match self {
             Outputs::One(name) if place == 0 => [name, behind, "", "", ""],

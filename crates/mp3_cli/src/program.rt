@@ -29,7 +29,8 @@ fn report<E: Sink>(
 ) -> u8
     requires { IfErr done HasLine }
     ensures status { result ≡ fault_status (fault_of done) }
-    ensures line { GotLine (E.sent err.old) (E.sent err.new) (E.faults err.old) (E.faults err.new) (result_line (map (λ name. name.now) inputs.now) (names_in outputs.now) (fault_of done)) }
+    ensures line { GotLine (E.sent err.old) (E.sent err.new) (E.faults err.old) (E.faults err.new)
+        (result_line (map (λ name. name.now) inputs.now) (names_in outputs.now) (fault_of done)) }
 {
     match done {
         Ok(()) => 0,
@@ -52,7 +53,8 @@ fn run_job<D: Folder, T: Sink, E: Sink>(
     requires sound { IsSound (map string_bytes words.now) job }
     ensures answers { Answers (command_of (map string_bytes words.now) job) (seen (D.files folder.old) (D.counts folder.old)) (seen (D.files folder.new) (D.counts folder.new))
         (heard (T.sent out.old) (T.faults out.old)) (heard (T.sent out.new) (T.faults out.new)) (heard (E.sent err.old) (E.faults err.old)) (heard (E.sent err.new) (E.faults err.new)) result }
-    ensures streams { result ≡ 0 → HoldsStreams (command_of (map string_bytes words.now) job) (D.files folder.old) }
+    ensures streams { result ≡ 0 → HoldsStreams (command_of (map string_bytes words.now) job)
+        (D.files folder.old) }
     ensures counts { NoneFell (D.counts folder.old) (D.counts folder.new) }
 {
     match job {
@@ -172,7 +174,8 @@ pub fn run<D: Folder, T: Sink, E: Sink>(
         → ((result ≡ 0) ↔ IsAccepted (map string_bytes words.now) files) }
 
     // What is written is well-formed, and holds exactly the streams that the command has to make of well-formed files.
-    ensures streams { result ≡ 0 → HoldsAllStreams (map string_bytes words.now) (D.files folder.old) }
+    ensures streams { result ≡ 0 → HoldsAllStreams (map string_bytes words.now)
+        (D.files folder.old) }
 
     // A refusal and want of memory leave the files.
     ensures kept { result ≢ 0 → result ≢ 3 → D.files folder.new ≡ D.files folder.old }
@@ -185,7 +188,9 @@ pub fn run<D: Folder, T: Sink, E: Sink>(
     // Standard output gets a text only where the command was done, or a write there failed. Where the text is the same whatever the
     // files are, it gets it over every folder: that of `--help` and `--version`, and none of the commands that write a file.
     ensures silent { result ≢ 0 → result ≢ 3 → T.sent out.new ≡ T.sent out.old }
-    ensures text { result ≡ 0 → IfSome (always_of (map string_bytes words.now) (job_of (map string_bytes words.now))) (λ text. T.sent out.new ≡ sent_more (T.sent out.old) text) }
+    ensures text { result ≡ 0 → IfSome (always_of (map string_bytes words.now)
+        (job_of (map string_bytes words.now)))
+        (λ text. T.sent out.new ≡ sent_more (T.sent out.old) text) }
     ensures counts { NoneFell (D.counts folder.old) (D.counts folder.new) }
 {
     match job(words) {

@@ -52,8 +52,10 @@ pub fn status(fault: &EditFault) -> u8
 
 // Sends the pieces one after another, and stops at the first that fails.
 fn send_text<T: Sink>(sink: &mut T, pieces: &[&str]) -> Result<(), Failed>
-    ensures whole { OnOk result (GotWhole (T.sent sink.old) (T.sent sink.new) (T.faults sink.old) (T.faults sink.new) (flat_map (λ piece. piece.now) pieces.now)) }
-    ensures front { OnErr result (GotFront (T.sent sink.old) (T.sent sink.new) (T.faults sink.old) (T.faults sink.new) (flat_map (λ piece. piece.now) pieces.now)) }
+    ensures whole { OnOk result (GotWhole (T.sent sink.old) (T.sent sink.new) (T.faults sink.old)
+        (T.faults sink.new) (flat_map (λ piece. piece.now) pieces.now)) }
+    ensures front { OnErr result (GotFront (T.sent sink.old) (T.sent sink.new) (T.faults sink.old)
+        (T.faults sink.new) (flat_map (λ piece. piece.now) pieces.now)) }
     ensures later { T.faults sink.old ≤ T.faults sink.new }
 {
     for piece in pieces {
@@ -64,7 +66,8 @@ fn send_text<T: Sink>(sink: &mut T, pieces: &[&str]) -> Result<(), Failed>
 
 // Sends the pieces of a line. A write that fails is not answered.
 fn send_pieces<E: Sink>(err: &mut E, pieces: &[&str])
-    ensures { GotLine (E.sent err.old) (E.sent err.new) (E.faults err.old) (E.faults err.new) (flat_map (λ piece. piece.now) pieces.now) }
+    ensures { GotLine (E.sent err.old) (E.sent err.new) (E.faults err.old) (E.faults err.new)
+        (flat_map (λ piece. piece.now) pieces.now) }
 {
     let _ = send_text(err, pieces);
 }
@@ -99,7 +102,10 @@ static HELP: [&str; 24] = [
 
 // Sends a text to standard output.
 fn say<T: Sink>(out: &mut T, pieces: &[&str]) -> Result<(), EditFault>
-    ensures says { (files : Files) → Says (said_command (flat_map (λ piece. piece.now) pieces.now)) files (heard (T.sent out.old) (T.faults out.old)) (heard (T.sent out.new) (T.faults out.new)) (fault_of result) }
+    ensures says { (files : Files) → Says
+        (said_command (flat_map (λ piece. piece.now) pieces.now)) files
+        (heard (T.sent out.old) (T.faults out.old)) (heard (T.sent out.new) (T.faults out.new))
+        (fault_of result) }
     ensures fault { IfErr result (λ fault. fault ≡ EditFault.Sent) }
 {
     match send_text(out, pieces) {
@@ -113,7 +119,9 @@ fn say<T: Sink>(out: &mut T, pieces: &[&str]) -> Result<(), EditFault>
 /// # Errors
 /// `Sent` where a write failed; then a prefix of the text was sent.
 pub fn say_help<T: Sink>(out: &mut T) -> Result<(), EditFault>
-    ensures says { (files : Files) → Says (said_command help_text) files (heard (T.sent out.old) (T.faults out.old)) (heard (T.sent out.new) (T.faults out.new)) (fault_of result) }
+    ensures says { (files : Files) → Says (said_command help_text) files
+        (heard (T.sent out.old) (T.faults out.old)) (heard (T.sent out.new) (T.faults out.new))
+        (fault_of result) }
     ensures fault { IfErr result (λ fault. fault ≡ EditFault.Sent) }
 {
     say(out, &HELP)
@@ -124,14 +132,17 @@ pub fn say_help<T: Sink>(out: &mut T) -> Result<(), EditFault>
 /// # Errors
 /// `Sent` where a write failed; then a prefix of the text was sent.
 pub fn say_version<T: Sink>(out: &mut T) -> Result<(), EditFault>
-    ensures says { (files : Files) → Says (said_command version_text) files (heard (T.sent out.old) (T.faults out.old)) (heard (T.sent out.new) (T.faults out.new)) (fault_of result) }
+    ensures says { (files : Files) → Says (said_command version_text) files
+        (heard (T.sent out.old) (T.faults out.old)) (heard (T.sent out.new) (T.faults out.new))
+        (fault_of result) }
     ensures fault { IfErr result (λ fault. fault ≡ EditFault.Sent) }
 {
     say(out, &["mp3edit 0.1.0\n"])
 }
 
 fn send_gain_range<E: Sink>(err: &mut E, offset: u64, granule: u8, channel: u8, gain: u8)
-    ensures { GotLine (E.sent err.old) (E.sent err.new) (E.faults err.old) (E.faults err.new) (fault_line (EditFault.GainRange offset granule channel gain) [] []) }
+    ensures { GotLine (E.sent err.old) (E.sent err.new) (E.faults err.old) (E.faults err.new)
+        (fault_line (EditFault.GainRange offset granule channel gain) [] []) }
 {
     send_pieces(
         err,
@@ -150,7 +161,8 @@ fn send_gain_range<E: Sink>(err: &mut E, offset: u64, granule: u8, channel: u8, 
 }
 
 fn send_range<E: Sink>(err: &mut E, from: u64, to: u64, frames: u64)
-    ensures { GotLine (E.sent err.old) (E.sent err.new) (E.faults err.old) (E.faults err.new) (fault_line (EditFault.Range from to frames) [] []) }
+    ensures { GotLine (E.sent err.old) (E.sent err.new) (E.faults err.old) (E.faults err.new)
+        (fault_line (EditFault.Range from to frames) [] []) }
 {
     send_pieces(
         err,
@@ -167,7 +179,8 @@ fn send_range<E: Sink>(err: &mut E, from: u64, to: u64, frames: u64)
 }
 
 fn send_undo_range<E: Sink>(err: &mut E, sum: i32)
-    ensures { GotLine (E.sent err.old) (E.sent err.new) (E.faults err.old) (E.faults err.new) (fault_line (EditFault.UndoRange sum) [] []) }
+    ensures { GotLine (E.sent err.old) (E.sent err.new) (E.faults err.old) (E.faults err.new)
+        (fault_line (EditFault.UndoRange sum) [] []) }
 {
     send_pieces(
         err,
@@ -188,7 +201,8 @@ fn hex_digit<'a>(number: u16) -> &'a str
 }
 
 fn send_check_word<E: Sink>(err: &mut E, input: &str, at: u64, said: u16, right: u16)
-    ensures { GotLine (E.sent err.old) (E.sent err.new) (E.faults err.old) (E.faults err.new) (input.now ++ input_text (SurveyFault.CheckWord at said right)) }
+    ensures { GotLine (E.sent err.old) (E.sent err.new) (E.faults err.old) (E.faults err.new)
+        (input.now ++ input_text (SurveyFault.CheckWord at said right)) }
 {
     send_pieces(
         err,
@@ -219,13 +233,15 @@ fn send_number<'a, E: Sink>(
     number: u64,
     behind: &'a str,
 )
-    ensures { GotLine (E.sent err.old) (E.sent err.new) (E.faults err.old) (E.faults err.new) (input.now ++ (before.now ++ (decimal number ++ behind.now))) }
+    ensures { GotLine (E.sent err.old) (E.sent err.new) (E.faults err.old) (E.faults err.new)
+        (input.now ++ (before.now ++ (decimal number ++ behind.now))) }
 {
     send_pieces(err, &[input, before, Buffer::new().format(number), behind]);
 }
 
 fn send_back_pointer<E: Sink>(err: &mut E, input: &str, at: u64, begin: u32, present: u64)
-    ensures { GotLine (E.sent err.old) (E.sent err.new) (E.faults err.old) (E.faults err.new) (input.now ++ input_text (SurveyFault.BackPointer at begin present)) }
+    ensures { GotLine (E.sent err.old) (E.sent err.new) (E.faults err.old) (E.faults err.new)
+        (input.now ++ input_text (SurveyFault.BackPointer at begin present)) }
 {
     send_pieces(
         err,
@@ -243,7 +259,8 @@ fn send_back_pointer<E: Sink>(err: &mut E, input: &str, at: u64, begin: u32, pre
 }
 
 fn send_overrun<E: Sink>(err: &mut E, input: &str, at: u64, bits: u32, room: u32)
-    ensures { GotLine (E.sent err.old) (E.sent err.new) (E.faults err.old) (E.faults err.new) (input.now ++ input_text (SurveyFault.Overrun at bits room)) }
+    ensures { GotLine (E.sent err.old) (E.sent err.new) (E.faults err.old) (E.faults err.new)
+        (input.now ++ input_text (SurveyFault.Overrun at bits room)) }
 {
     send_pieces(
         err,
@@ -261,7 +278,8 @@ fn send_overrun<E: Sink>(err: &mut E, input: &str, at: u64, bits: u32, room: u32
 }
 
 fn send_shrunk<E: Sink>(err: &mut E, input: &str, first: u64, second: u64)
-    ensures { GotLine (E.sent err.old) (E.sent err.new) (E.faults err.old) (E.faults err.new) (input.now ++ input_text (SurveyFault.Shrunk first second)) }
+    ensures { GotLine (E.sent err.old) (E.sent err.new) (E.faults err.old) (E.faults err.new)
+        (input.now ++ input_text (SurveyFault.Shrunk first second)) }
 {
     send_pieces(
         err,
@@ -279,7 +297,8 @@ fn send_shrunk<E: Sink>(err: &mut E, input: &str, first: u64, second: u64)
 /// Sends the line of a fault of the input.
 fn send_input_fault<E: Sink>(err: &mut E, fault: &SurveyFault, input: &str)
     requires { fault.now ≢ SurveyFault.Memory }
-    ensures { GotLine (E.sent err.old) (E.sent err.new) (E.faults err.old) (E.faults err.new) (input.now ++ input_text fault.now) }
+    ensures { GotLine (E.sent err.old) (E.sent err.new) (E.faults err.old) (E.faults err.new)
+        (input.now ++ input_text fault.now) }
 {
     match *fault {
         // Not an input's fault, so it never comes here.
@@ -310,7 +329,8 @@ fn send_input_fault<E: Sink>(err: &mut E, fault: &SurveyFault, input: &str)
 /// Sends the line of a fault of a cue sheet.
 fn send_sheet_fault<E: Sink>(err: &mut E, fault: &CueFault, sheet: &str)
     requires { fault.now ≢ CueFault.Memory }
-    ensures { GotLine (E.sent err.old) (E.sent err.new) (E.faults err.old) (E.faults err.new) (sheet.now ++ sheet_text fault.now) }
+    ensures { GotLine (E.sent err.old) (E.sent err.new) (E.faults err.old) (E.faults err.new)
+        (sheet.now ++ sheet_text fault.now) }
 {
     match *fault {
         // Not a sheet's fault, so it never comes here.
@@ -334,7 +354,8 @@ fn name_in<'a>(names: &[&'a str], place: u32) -> &'a str
 
 /// Sends the line of a failed write to the output at a place, counted from 0.
 fn send_write_fault<E: Sink>(err: &mut E, outputs: &Outputs, place: u32)
-    ensures { GotLine (E.sent err.old) (E.sent err.new) (E.faults err.old) (E.faults err.new) (fault_line (EditFault.Write place) [] (names_in outputs.now)) }
+    ensures { GotLine (E.sent err.old) (E.sent err.new) (E.faults err.old) (E.faults err.new)
+        (fault_line (EditFault.Write place) [] (names_in outputs.now)) }
 {
     send_pieces(err, &outputs.named(place, ": write fault\n"));
 }
@@ -386,7 +407,8 @@ const SHEET: u32 = 1;
 /// | Memory | `out of memory` |
 pub fn send_fault<E: Sink>(err: &mut E, fault: &EditFault, inputs: &[&str], outputs: &Outputs)
     requires { HasLine fault.now }
-    ensures { GotLine (E.sent err.old) (E.sent err.new) (E.faults err.old) (E.faults err.new) (fault_line fault.now (map (λ name. name.now) inputs.now) (names_in outputs.now)) }
+    ensures { GotLine (E.sent err.old) (E.sent err.new) (E.faults err.old) (E.faults err.new)
+        (fault_line fault.now (map (λ name. name.now) inputs.now) (names_in outputs.now)) }
 {
     match *fault {
         EditFault::EqualNames(place) => {
@@ -425,7 +447,8 @@ pub fn send_fault<E: Sink>(err: &mut E, fault: &EditFault, inputs: &[&str], outp
 /// Sends the line `bad word K`, K the place of the word counted from 1, without taking memory.
 /// It stops at the first write that fails, and such a failure is not answered.
 pub fn send_bad_word<E: Sink>(err: &mut E, word: u32)
-    ensures { GotLine (E.sent err.old) (E.sent err.new) (E.faults err.old) (E.faults err.new) (bad_word_line word) }
+    ensures { GotLine (E.sent err.old) (E.sent err.new) (E.faults err.old) (E.faults err.new)
+        (bad_word_line word) }
 {
     send_pieces(err, &["bad word ", Buffer::new().format(word), "\n"]);
 }

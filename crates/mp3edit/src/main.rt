@@ -14,8 +14,9 @@ ghost use Rattle.mp3_cli.specs.Run.{always_of, AnswersWords, IsAccepted, HoldsAl
 use mp3_cli::run;
 use outside::{DiskFolder, Folder, Sink, StdSink};
 use std::alloc::Global;
+use std::fs::File;
 use std::process::ExitCode;
-use std::rt::Env;
+use std::rt::{Env, Files};
 use std::{env, io};
 
 /// The program's words without its name.
@@ -49,14 +50,19 @@ fn answer<D: Folder, T: Sink, E: Sink>(
     ensures accepted { IfOk words (λ v. (files : Contents) → D.files folder.old ≡ Some files → (Rose (D.counts folder.old).read_faults (D.counts folder.new).read_faults → ⊥)
         → (Rose (D.counts folder.old).write_faults (D.counts folder.new).write_faults → ⊥) → (Rose (T.faults out.old) (T.faults out.new) → ⊥) → result ≢ 4
         → ((result ≡ 0) ↔ IsAccepted (map string_bytes v.items) files)) }
-    ensures streams { IfOk words (λ v. result ≡ 0 → HoldsAllStreams (map string_bytes v.items) (D.files folder.old)) }
-    ensures text { IfOk words (λ v. result ≡ 0 → IfSome (always_of (map string_bytes v.items) (job_of (map string_bytes v.items))) (λ text. T.sent out.new ≡ sent_more (T.sent out.old) text)) }
+    ensures streams { IfOk words (λ v. result ≡ 0
+        → HoldsAllStreams (map string_bytes v.items) (D.files folder.old)) }
+    ensures text { IfOk words (λ v. result ≡ 0
+        → IfSome (always_of (map string_bytes v.items) (job_of (map string_bytes v.items)))
+        (λ text. T.sent out.new ≡ sent_more (T.sent out.old) text)) }
 
     // The clauses of `status_without_words`.
     ensures memory { IfErr words (λ error. error_kind error ≡ OutOfMemory → result ≡ 4) }
     ensures other { IfErr words (λ error. error_kind error ≢ OutOfMemory → result ≡ 3) }
-    ensures untouched { OnErr words (seen (D.files folder.new) (D.counts folder.new) ≡ seen (D.files folder.old) (D.counts folder.old)) }
-    ensures silent { OnErr words ((T.sent out.new ≡ T.sent out.old) × (E.sent err.new ≡ E.sent err.old)) }
+    ensures untouched { OnErr words (seen (D.files folder.new) (D.counts folder.new) ≡ seen
+        (D.files folder.old) (D.counts folder.old)) }
+    ensures silent { OnErr words ((T.sent out.new ≡ T.sent out.old)
+        × (E.sent err.new ≡ E.sent err.old)) }
 {
     match words {
         Ok(words) => run(alloc, &words, folder, out, err),
@@ -64,7 +70,15 @@ fn answer<D: Folder, T: Sink, E: Sink>(
     }
 }
 
+/// Opens nothing, for reading. While it is kept, no other file gets its number: where standard output or standard error is
+/// closed, an output would get the number of that stream, and with it a line or a text that isn't its own.
+fn keep_number<R: Files>(rt: &R) -> Option<R::File> {
+    File::open(rt, "/dev/null").ok()
+}
+
 fn main(rt: HostRuntime) -> ExitCode {
+    // One for each standard stream.
+    let _kept = [keep_number(&rt), keep_number(&rt), keep_number(&rt)];
     let words = words(&rt);
     let mut folder = DiskFolder::new(&rt, rt.alloc());
     let mut out = StdSink::new(rt.stdout());

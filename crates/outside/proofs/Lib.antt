@@ -3,6 +3,7 @@ pub mod CountsLaws
 pub mod Pieces
 pub mod FeedLaws
 pub mod PassedLaws
+pub mod PassLaws
 pub mod SentLaws
 pub mod KnownLaws
 mod SlotsLaws

@@ -94,6 +94,16 @@ prefix_waiting name waits piece n f g p = record {
   files = p.files ∙ ap (appended f name) (sym (take-append-le p.count (waits ++ take n piece) (drop n piece) p.within) ∙ ap (take p.count) (piece_in_two waits piece n));
 }
 
+-- a prefix of what waited and of a piece, before another
+pub prefix_in_front : {name : List ℕ} (waits front rest : List ℕ) {f g : Files} → AppendedPrefix name (waits ++ front) f g → AppendedPrefix name (waits ++ (front ++ rest)) f g
+prefix_in_front {name} waits front rest {f} {g} p =
+    let whole = append_assoc waits front rest in
+    record {
+      count = p.count;
+      within = omega (arith, p.within, ap length whole, length-append (waits ++ front) rest);
+      files = p.files ∙ ap (appended f name) (sym (take-append-le p.count (waits ++ front) rest p.within) ∙ ap (take p.count) whole);
+    }
+
 -- the name is there afterwards, and no name goes
 pub passed_there : {name before after : List ℕ} {f g : Files} → PassedOn name before after f g → IsThere g name
 passed_there {name} {before} {after} {f} {g} p = subst (λ files. IsThere files name) (sym p.files) (appended_there f name p.passed)

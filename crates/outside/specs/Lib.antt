@@ -9,3 +9,4 @@ pub mod Opening
 pub mod Faults
 pub mod Feed
 pub mod Passed
+pub mod Pass

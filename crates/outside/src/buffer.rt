@@ -66,7 +66,8 @@ impl Buffer {
     /// Adds the bytes where there is room for all of them, and says whether there is.
     pub fn append(&mut self, bytes: &[u8]) -> bool
         ensures fits { result ≡ nat_le (length self.old.bytes + length bytes.now) self.old.room }
-        ensures added { self.new ≡ (if result then record self.old { bytes = self.old.bytes ++ bytes.now } else self.old) }
+        ensures added { self.new ≡ (if result then record self.old
+            { bytes = self.old.bytes ++ bytes.now } else self.old) }
     {
         let free = self.room - self.content.len() as u64;
         if bytes.len() as u64 > free {

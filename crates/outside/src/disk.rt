@@ -30,7 +30,8 @@ impl<F: Write> Opened<F> {
         ensures name { self.new.name ≡ self.old.name }
         ensures bound { IfOk result (λ k. k ≤ length bytes.now) }
         ensures some { IfOk result (λ k. 0 < length bytes.now → 0 < k) }
-        ensures appended { WriteAppends (F.contents self.old.file) (F.contents self.new.file) result bytes.now }
+        ensures appended { WriteAppends (F.contents self.old.file)
+            (F.contents self.new.file) result bytes.now }
     {
         write_some(&mut self.file, bytes)
     }
@@ -41,8 +42,11 @@ impl<F: Read + Seek> Opened<F> {
         ensures name { self.new.name ≡ self.old.name }
         ensures bound { IfOk result (λ k. k ≤ length into.old) }
         ensures rest { IfOk result (λ k. drop k into.new ≡ drop k into.old) }
-        ensures whole { (xs : List ℕ) → TellsBytes F.stream_position F.stream_bytes self.old.file xs → IfOk result (λ k. k ≡ min (length into.old) (length xs - at)) }
-        ensures bytes { ReadsOn F.remaining F.stream_position F.stream_bytes → (xs : List ℕ) → TellsBytes F.stream_position F.stream_bytes self.old.file xs → IfOk result (λ k. take k into.new ≡ take k (drop at xs)) }
+        ensures whole { (xs : List ℕ) → TellsBytes F.stream_position F.stream_bytes self.old.file xs
+            → IfOk result (λ k. k ≡ min (length into.old) (length xs - at)) }
+        ensures bytes { ReadsOn F.remaining F.stream_position F.stream_bytes → (xs : List ℕ)
+            → TellsBytes F.stream_position F.stream_bytes self.old.file xs
+            → IfOk result (λ k. take k into.new ≡ take k (drop at xs)) }
     {
         read_part(&mut self.file, at, into)
     }
@@ -99,7 +103,8 @@ impl<'a, R: Files> DiskFolder<'a, R> {
     fn locate(&mut self, name: &str) -> Result<u64, FindFault>
         ensures tally { disk_counts self.new ≡ disk_counts self.old }
         ensures opened { OnOk result (found_name self.new ≡ Some name.now) }
-        ensures length { IfOk result (λ n. IfSome (found_file self.new) (λ file. EndsAt R.File.stream_position R.File.stream_bytes file n)) }
+        ensures length { IfOk result (λ n. IfSome (found_file self.new)
+            (λ file. EndsAt R.File.stream_position R.File.stream_bytes file n)) }
         ensures created { self.new.created ≡ self.old.created }
     {
         let (mut file, id) = open_regular(self.rt, name)?;
@@ -113,7 +118,8 @@ impl<'a, R: Files> DiskFolder<'a, R> {
     fn keep(&mut self, name: String, file: R::File, id: FileId) -> Result<(), FindFault>
         ensures tally { disk_counts self.new ≡ disk_counts self.old }
         ensures opened { OnOk result (self.new.found ≡ Some (record { name = name; file = file })) }
-        ensures noted { OnOk result (IsTrue (list_any (λ found. ⟦<FileId as PartialEq>⟧.eq found id) self.new.noted.files.items)) }
+        ensures noted { OnOk result (IsTrue
+            (list_any (λ found. ⟦<FileId as PartialEq>⟧.eq found id) self.new.noted.files.items)) }
         ensures created { self.new.created ≡ self.old.created }
     {
         if !self.noted.note(id) {
@@ -145,8 +151,11 @@ impl<'a, R: Files> DiskFolder<'a, R> {
         ensures rest { IfOk result (λ k. drop k into.new ≡ drop k into.old) }
         ensures tally { disk_counts self.new ≡ disk_counts self.old }
         ensures opened { OnOk result (found_name self.new ≡ Some name.now) }
-        ensures whole { (xs : List ℕ) → HasOpen R.File.stream_position R.File.stream_bytes self.old name.now xs → IfOk result (λ k. k ≡ min (length into.old) (length xs - at)) }
-        ensures open_bytes { ReadsOn R.File.remaining R.File.stream_position R.File.stream_bytes → (xs : List ℕ) → HasOpen R.File.stream_position R.File.stream_bytes self.old name.now xs → IfOk result (λ k. take k into.new ≡ take k (drop at xs)) }
+        ensures whole { (xs : List ℕ) → HasOpen R.File.stream_position R.File.stream_bytes self.old
+            name.now xs → IfOk result (λ k. k ≡ min (length into.old) (length xs - at)) }
+        ensures open_bytes { ReadsOn R.File.remaining R.File.stream_position R.File.stream_bytes
+            → (xs : List ℕ) → HasOpen R.File.stream_position R.File.stream_bytes self.old name.now
+            xs → IfOk result (λ k. take k into.new ≡ take k (drop at xs)) }
         ensures created { self.new.created ≡ self.old.created }
     {
         self.open_to_read(name)?;
@@ -156,7 +165,8 @@ impl<'a, R: Files> DiskFolder<'a, R> {
         }
     }
 
-    // Opens the file of this name, empties it where it is a regular one, and keeps it open.
+    // Opens the file of this name, empties it where it is a regular one, and keeps it open. A file that is empty is
+    // left as it is: some file systems write a file that was cut off to the disk when it is closed.
     fn make_empty(&mut self, name: &str) -> Result<(), Failed>
         ensures tally { disk_counts self.new ≡ disk_counts self.old }
         ensures opened { OnOk result (created_name self.new ≡ Some name.now) }
@@ -168,8 +178,8 @@ impl<'a, R: Files> DiskFolder<'a, R> {
         let metadata = file.metadata()?;
         match opening_of(&self.noted, &FileId::of(&metadata), metadata.is_file()) {
             Opening::Refused => return Err(Failed),
-            Opening::Emptied => file.set_len(0)?,
-            Opening::Kept => {}
+            Opening::Emptied if metadata.len() > 0 => file.set_len(0)?,
+            Opening::Emptied | Opening::Kept => {}
         }
         self.created = Some(Opened { name: kept, file });
         Ok(())
@@ -180,9 +190,13 @@ impl<'a, R: Files> DiskFolder<'a, R> {
         ensures bound { IfOk result (λ k. k ≤ length bytes.now) }
         ensures some { IfOk result (λ k. 0 < length bytes.now → 0 < k) }
         ensures tally { disk_counts self.new ≡ disk_counts self.old }
-        ensures appended { created_name self.old ≡ Some name.now → IfOk result (λ k. Appends (created_bytes R.File.contents self.old) (created_bytes R.File.contents self.new) (take k bytes.now)) }
-        ensures aside { created_name self.old ≢ Some name.now → self.new.created ≡ self.old.created }
-        ensures kept { OnErr result (Keeps (created_bytes R.File.contents self.old) (created_bytes R.File.contents self.new)) }
+        ensures appended { created_name self.old ≡ Some name.now
+            → IfOk result (λ k. Appends (created_bytes R.File.contents self.old)
+            (created_bytes R.File.contents self.new) (take k bytes.now)) }
+        ensures aside { created_name self.old ≢ Some name.now
+            → self.new.created ≡ self.old.created }
+        ensures kept { OnErr result (Keeps (created_bytes R.File.contents self.old)
+            (created_bytes R.File.contents self.new)) }
         ensures opened { created_name self.new ≡ created_name self.old }
         ensures found { self.new.found ≡ self.old.found }
     {
@@ -241,22 +255,29 @@ impl<'a, R: Files> Folder for DiskFolder<'a, R> {
     /// isn't a regular file, as a directory or a pipe, is a fault, and nothing blocks on it. So is a
     /// file that this folder finds after 65 others.
     fn find(&mut self, name: &str) -> Result<u64, FindFault>
-        ensures found { IfOk result (λ n. (bytes : List ℕ) → Holds untold name.now bytes → n ≡ length bytes) }
+        ensures found { IfOk result (λ n. (bytes : List ℕ) → Holds untold name.now bytes
+            → n ≡ length bytes) }
         ensures there { OnOk result (IsThere untold name.now) }
-        ensures octets { OnOk result ((bytes : List ℕ) → Holds untold name.now bytes → AreOctets bytes) }
+        ensures octets { OnOk result ((bytes : List ℕ) → Holds untold name.now bytes
+            → AreOctets bytes) }
         ensures missing { IsErrOf result FindFault.Absent → IsMissing untold name.now }
-        ensures absent { IsErrOf result FindFault.Absent → Rose (disk_counts self.old).misses (disk_counts self.new).misses }
-        ensures failed { IsErrOf result FindFault.Failed → Rose (disk_counts self.old).read_faults (disk_counts self.new).read_faults }
+        ensures absent { IsErrOf result FindFault.Absent
+            → Rose (disk_counts self.old).misses (disk_counts self.new).misses }
+        ensures failed { IsErrOf result FindFault.Failed
+            → Rose (disk_counts self.old).read_faults (disk_counts self.new).read_faults }
         ensures files { untold ≡ untold }
         ensures ends { (disk_counts self.new).ends ≡ (disk_counts self.old).ends }
         ensures done { OnOk result (disk_counts self.new ≡ disk_counts self.old) }
         ensures counts { OnlyReads (disk_counts self.old) (disk_counts self.new) }
         // What the library knows of the open file.
         ensures opened { OnOk result (found_name self.new ≡ Some name.now) }
-        ensures length { IfOk result (λ n. IfSome (found_file self.new) (λ file. EndsAt R.File.stream_position R.File.stream_bytes file n)) }
+        ensures length { IfOk result (λ n. IfSome (found_file self.new)
+            (λ file. EndsAt R.File.stream_position R.File.stream_bytes file n)) }
         ensures created_stays { self.new.created ≡ self.old.created }
-        ensures absent_counts { IsErrOf result FindFault.Absent → disk_counts self.new ≡ with_miss (disk_counts self.old) }
-        ensures failed_counts { IsErrOf result FindFault.Failed → disk_counts self.new ≡ with_read_fault (disk_counts self.old) }
+        ensures absent_counts { IsErrOf result FindFault.Absent
+            → disk_counts self.new ≡ with_miss (disk_counts self.old) }
+        ensures failed_counts { IsErrOf result FindFault.Failed
+            → disk_counts self.new ≡ with_read_fault (disk_counts self.old) }
     {
         match self.locate(name) {
             Ok(length) => Ok(length),
@@ -277,23 +298,35 @@ impl<'a, R: Files> Folder for DiskFolder<'a, R> {
     /// Where the system gives an error, and where the file is cut short while it is read.
     fn read(&mut self, name: &str, at: u64, into: &mut [u8]) -> Result<usize, Failed>
         ensures bound { IfOk result (λ k. k ≤ length into.old) }
-        ensures bytes { IfOk result (λ k. (bytes : List ℕ) → Holds untold name.now bytes → take k into.new ≡ take k (drop at bytes)) }
+        ensures bytes { IfOk result (λ k. (bytes : List ℕ) → Holds untold name.now bytes
+            → take k into.new ≡ take k (drop at bytes)) }
         ensures rest { IfOk result (λ k. drop k into.new ≡ drop k into.old) }
-        ensures end { IfOk result (λ k. (bytes : List ℕ) → Holds untold name.now bytes → k ≡ 0 → (length into.old ≡ 0) ⊎ (length bytes ≤ at)) }
-        ensures within { IfOk result (λ k. (bytes : List ℕ) → Holds untold name.now bytes → k ≤ length bytes - at) }
-        ensures ended { IfOk result (λ k. k ≡ 0 → 0 < length into.old → Rose (disk_counts self.old).ends (disk_counts self.new).ends) }
-        ensures failed { OnErr result (Rose (disk_counts self.old).read_faults (disk_counts self.new).read_faults) }
+        ensures end { IfOk result (λ k. (bytes : List ℕ) → Holds untold name.now bytes → k ≡ 0
+            → (length into.old ≡ 0) ⊎ (length bytes ≤ at)) }
+        ensures within { IfOk result (λ k. (bytes : List ℕ) → Holds untold name.now bytes
+            → k ≤ length bytes - at) }
+        ensures ended { IfOk result (λ k. k ≡ 0 → 0 < length into.old
+            → Rose (disk_counts self.old).ends (disk_counts self.new).ends) }
+        ensures failed { OnErr result (Rose (disk_counts self.old).read_faults
+            (disk_counts self.new).read_faults) }
         ensures files { untold ≡ untold }
-        ensures got { IfOk result (λ k. (0 < k) ⊎ (length into.old ≡ 0) → disk_counts self.new ≡ disk_counts self.old) }
+        ensures got { IfOk result (λ k. (0 < k) ⊎ (length into.old ≡ 0)
+            → disk_counts self.new ≡ disk_counts self.old) }
         ensures done { OnOk result (NothingFailed (disk_counts self.old) (disk_counts self.new)) }
         ensures counts { OnlyReads (disk_counts self.old) (disk_counts self.new) }
         // What the library knows of the open file: its own bytes were read, as many as there are and fit.
         ensures opened { OnOk result (found_name self.new ≡ Some name.now) }
-        ensures whole { (xs : List ℕ) → HasOpen R.File.stream_position R.File.stream_bytes self.old name.now xs → IfOk result (λ k. k ≡ min (length into.old) (length xs - at)) }
-        ensures open_bytes { ReadsOn R.File.remaining R.File.stream_position R.File.stream_bytes → (xs : List ℕ) → HasOpen R.File.stream_position R.File.stream_bytes self.old name.now xs → IfOk result (λ k. take k into.new ≡ take k (drop at xs)) }
+        ensures whole { (xs : List ℕ) → HasOpen R.File.stream_position R.File.stream_bytes self.old
+            name.now xs → IfOk result (λ k. k ≡ min (length into.old) (length xs - at)) }
+        ensures open_bytes { ReadsOn R.File.remaining R.File.stream_position R.File.stream_bytes
+            → (xs : List ℕ) → HasOpen R.File.stream_position R.File.stream_bytes self.old name.now
+            xs → IfOk result (λ k. take k into.new ≡ take k (drop at xs)) }
         ensures created_stays { self.new.created ≡ self.old.created }
-        ensures read_counts { IfOk result (λ k. disk_counts self.new ≡ (if k == 0 && nat_lt 0 (length into.old) then with_end (disk_counts self.old) else disk_counts self.old)) }
-        ensures failed_counts { OnErr result (disk_counts self.new ≡ with_read_fault (disk_counts self.old)) }
+        ensures read_counts { IfOk result
+            (λ k. disk_counts self.new ≡ (if k == 0 && nat_lt 0 (length into.old) then with_end
+            (disk_counts self.old) else disk_counts self.old)) }
+        ensures failed_counts { OnErr result
+            (disk_counts self.new ≡ with_read_fault (disk_counts self.old)) }
     {
         let Ok(count) = self.read_there(name, at, into) else {
             self.tally.count_read_fault();
@@ -311,13 +344,15 @@ impl<'a, R: Files> Folder for DiskFolder<'a, R> {
     fn create(&mut self, name: &str) -> Result<(), Failed>
         ensures created { OnOk result (untold ≡ emptied untold name.now) }
         ensures kept { OnErr result (untold ≡ untold) }
-        ensures failed { OnErr result (Rose (disk_counts self.old).write_faults (disk_counts self.new).write_faults) }
+        ensures failed { OnErr result (Rose (disk_counts self.old).write_faults
+            (disk_counts self.new).write_faults) }
         ensures done { OnOk result (disk_counts self.new ≡ disk_counts self.old) }
         ensures counts { OnlyWrites (disk_counts self.old) (disk_counts self.new) }
         ensures opened { OnOk result (created_name self.new ≡ Some name.now) }
         ensures found_stays { self.new.found ≡ self.old.found }
         ensures noted_stay { self.new.noted ≡ self.old.noted }
-        ensures failed_counts { OnErr result (disk_counts self.new ≡ with_write_fault (disk_counts self.old)) }
+        ensures failed_counts { OnErr result
+            (disk_counts self.new ≡ with_write_fault (disk_counts self.old)) }
     {
         if self.make_empty(name).is_err() {
             self.tally.count_write_fault();
@@ -336,17 +371,23 @@ impl<'a, R: Files> Folder for DiskFolder<'a, R> {
         ensures some { IfOk result (λ k. 0 < length bytes.now → 0 < k) }
         ensures written { IfOk result (λ k. untold ≡ appended untold name.now (take k bytes.now)) }
         ensures kept { OnErr result (untold ≡ untold) }
-        ensures failed { OnErr result (Rose (disk_counts self.old).write_faults (disk_counts self.new).write_faults) }
+        ensures failed { OnErr result (Rose (disk_counts self.old).write_faults
+            (disk_counts self.new).write_faults) }
         ensures done { OnOk result (disk_counts self.new ≡ disk_counts self.old) }
         ensures counts { OnlyWrites (disk_counts self.old) (disk_counts self.new) }
         // What the library knows of the open file: exactly these bytes came to its end, and none in a call that
         // fails.
-        ensures appended { created_name self.old ≡ Some name.now → IfOk result (λ k. Appends (created_bytes R.File.contents self.old) (created_bytes R.File.contents self.new) (take k bytes.now)) }
-        ensures aside { created_name self.old ≢ Some name.now → self.new.created ≡ self.old.created }
-        ensures unwritten { OnErr result (Keeps (created_bytes R.File.contents self.old) (created_bytes R.File.contents self.new)) }
+        ensures appended { created_name self.old ≡ Some name.now
+            → IfOk result (λ k. Appends (created_bytes R.File.contents self.old)
+            (created_bytes R.File.contents self.new) (take k bytes.now)) }
+        ensures aside { created_name self.old ≢ Some name.now
+            → self.new.created ≡ self.old.created }
+        ensures unwritten { OnErr result (Keeps (created_bytes R.File.contents self.old)
+            (created_bytes R.File.contents self.new)) }
         ensures opened { created_name self.new ≡ created_name self.old }
         ensures found_stays { self.new.found ≡ self.old.found }
-        ensures failed_counts { OnErr result (disk_counts self.new ≡ with_write_fault (disk_counts self.old)) }
+        ensures failed_counts { OnErr result
+            (disk_counts self.new ≡ with_write_fault (disk_counts self.old)) }
     {
         let Ok(count) = self.append(name, bytes) else {
             self.tally.count_write_fault();

@@ -42,7 +42,8 @@ impl Feed {
     pub fn new(alloc: Global) -> Result<Feed, AllocError>
         ensures held { IfOk result (λ feed. feed.held ≡ []) }
         ensures given { IfOk result (λ feed. feed.given ≡ []) }
-        ensures fed { IfOk result (λ feed. (files : Files) (name : List ℕ) → IsFedFrom feed files name) }
+        ensures fed { IfOk result (λ feed. (files : Files) (name : List ℕ)
+            → IsFedFrom feed files name) }
     {
         Ok(Feed {
             room: vec![in alloc; 0; SIZE]?,
@@ -96,10 +97,13 @@ impl Feed {
         requires fed { IsFedFrom self.old (D.files folder.old) name.now }
         ensures bound { IfOk result (λ k. k ≤ n) }
         ensures given { IfOk result (λ k. length self.new.given ≡ k) }
-        ensures bytes { IfOk result (λ k. (bytes : List ℕ) → Holds (D.files folder.old) name.now bytes → self.new.given ≡ take n (drop at bytes)) }
+        ensures bytes { IfOk result (λ k. (bytes : List ℕ)
+            → Holds (D.files folder.old) name.now bytes → self.new.given ≡ take n (drop at bytes)) }
         ensures whole { IfOk result (λ k. k ≡ n → D.counts folder.new ≡ D.counts folder.old) }
-        ensures ended { IfOk result (λ k. k < n → Rose (D.counts folder.old).ends (D.counts folder.new).ends) }
-        ensures failed { OnErr result (Rose (D.counts folder.old).read_faults (D.counts folder.new).read_faults) }
+        ensures ended { IfOk result (λ k. k < n
+            → Rose (D.counts folder.old).ends (D.counts folder.new).ends) }
+        ensures failed { OnErr result (Rose (D.counts folder.old).read_faults
+            (D.counts folder.new).read_faults) }
         ensures none { OnErr result (self.new.given ≡ []) }
         ensures fed { IsFedFrom self.new (D.files folder.new) name.now }
         ensures files { D.files folder.new ≡ D.files folder.old }
@@ -130,10 +134,13 @@ impl Feed {
         requires fed { IsFedFrom self.old (D.files folder.old) name.now }
         ensures bound { IfOk result (λ k. k ≤ n) }
         ensures given { IfOk result (λ k. length self.new.given ≡ k) }
-        ensures bytes { IfOk result (λ k. (bytes : List ℕ) → Holds (D.files folder.old) name.now bytes → self.new.given ≡ take n (drop at bytes)) }
+        ensures bytes { IfOk result (λ k. (bytes : List ℕ)
+            → Holds (D.files folder.old) name.now bytes → self.new.given ≡ take n (drop at bytes)) }
         ensures whole { IfOk result (λ k. k ≡ n → D.counts folder.new ≡ D.counts folder.old) }
-        ensures ended { IfOk result (λ k. k < n → Rose (D.counts folder.old).ends (D.counts folder.new).ends) }
-        ensures failed { OnErr result (Rose (D.counts folder.old).read_faults (D.counts folder.new).read_faults) }
+        ensures ended { IfOk result (λ k. k < n
+            → Rose (D.counts folder.old).ends (D.counts folder.new).ends) }
+        ensures failed { OnErr result (Rose (D.counts folder.old).read_faults
+            (D.counts folder.new).read_faults) }
         ensures none { OnErr result (self.new.given ≡ []) }
         ensures fed { IsFedFrom self.new (D.files folder.new) name.now }
         ensures files { D.files folder.new ≡ D.files folder.old }
@@ -159,7 +166,8 @@ fn keep_from(room: &mut [u8], place: u64, held: usize, at: u64) -> usize
     requires within { held ≤ length room.old }
     requires few { held ≤ 65536 }
     ensures fewer { result ≤ held }
-    ensures kept { (bytes : List ℕ) → take held (drop place bytes) ≡ take held room.old → take result room.new ≡ take result (drop at bytes) }
+    ensures kept { (bytes : List ℕ) → take held (drop place bytes) ≡ take held room.old
+        → take result room.new ≡ take result (drop at bytes) }
 {
     if at < place || at > place + held as u64 {
         return 0;

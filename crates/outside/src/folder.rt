@@ -75,12 +75,16 @@ pub trait Folder {
     /// # Errors
     /// `Absent` where the name isn't there, `Failed` where the call failed.
     fn find(&mut self, name: &str) -> Result<u64, FindFault>
-        ensures found { IfOk result (λ n. (bytes : List ℕ) → Holds (files self.old) name.now bytes → n ≡ length bytes) }
+        ensures found { IfOk result (λ n. (bytes : List ℕ) → Holds (files self.old) name.now bytes
+            → n ≡ length bytes) }
         ensures there { OnOk result (IsThere (files self.old) name.now) }
-        ensures octets { OnOk result ((bytes : List ℕ) → Holds (files self.old) name.now bytes → AreOctets bytes) }
+        ensures octets { OnOk result ((bytes : List ℕ) → Holds (files self.old) name.now bytes
+            → AreOctets bytes) }
         ensures missing { IsErrOf result FindFault.Absent → IsMissing (files self.old) name.now }
-        ensures absent { IsErrOf result FindFault.Absent → Rose (counts self.old).misses (counts self.new).misses }
-        ensures failed { IsErrOf result FindFault.Failed → Rose (counts self.old).read_faults (counts self.new).read_faults }
+        ensures absent { IsErrOf result FindFault.Absent
+            → Rose (counts self.old).misses (counts self.new).misses }
+        ensures failed { IsErrOf result FindFault.Failed
+            → Rose (counts self.old).read_faults (counts self.new).read_faults }
         ensures files { files self.new ≡ files self.old }
         ensures ends { (counts self.new).ends ≡ (counts self.old).ends }
         ensures done { OnOk result (counts self.new ≡ counts self.old) }
@@ -94,14 +98,20 @@ pub trait Folder {
     fn read(&mut self, name: &str, at: u64, into: &mut [u8]) -> Result<usize, Failed>
         requires { IsThere (files self.old) name.now }
         ensures bound { IfOk result (λ k. k ≤ length into.old) }
-        ensures bytes { IfOk result (λ k. (bytes : List ℕ) → Holds (files self.old) name.now bytes → take k into.new ≡ take k (drop at bytes)) }
+        ensures bytes { IfOk result (λ k. (bytes : List ℕ) → Holds (files self.old) name.now bytes
+            → take k into.new ≡ take k (drop at bytes)) }
         ensures rest { IfOk result (λ k. drop k into.new ≡ drop k into.old) }
-        ensures end { IfOk result (λ k. (bytes : List ℕ) → Holds (files self.old) name.now bytes → k ≡ 0 → (length into.old ≡ 0) ⊎ (length bytes ≤ at)) }
-        ensures within { IfOk result (λ k. (bytes : List ℕ) → Holds (files self.old) name.now bytes → k ≤ length bytes - at) }
-        ensures ended { IfOk result (λ k. k ≡ 0 → 0 < length into.old → Rose (counts self.old).ends (counts self.new).ends) }
-        ensures failed { OnErr result (Rose (counts self.old).read_faults (counts self.new).read_faults) }
+        ensures end { IfOk result (λ k. (bytes : List ℕ) → Holds (files self.old) name.now bytes
+            → k ≡ 0 → (length into.old ≡ 0) ⊎ (length bytes ≤ at)) }
+        ensures within { IfOk result (λ k. (bytes : List ℕ) → Holds (files self.old) name.now bytes
+            → k ≤ length bytes - at) }
+        ensures ended { IfOk result (λ k. k ≡ 0 → 0 < length into.old
+            → Rose (counts self.old).ends (counts self.new).ends) }
+        ensures failed { OnErr result (Rose (counts self.old).read_faults
+            (counts self.new).read_faults) }
         ensures files { files self.new ≡ files self.old }
-        ensures got { IfOk result (λ k. (0 < k) ⊎ (length into.old ≡ 0) → counts self.new ≡ counts self.old) }
+        ensures got { IfOk result (λ k. (0 < k) ⊎ (length into.old ≡ 0)
+            → counts self.new ≡ counts self.old) }
         ensures done { OnOk result (NothingFailed (counts self.old) (counts self.new)) }
         ensures counts { OnlyReads (counts self.old) (counts self.new) };
 
@@ -112,7 +122,8 @@ pub trait Folder {
     fn create(&mut self, name: &str) -> Result<(), Failed>
         ensures created { OnOk result (files self.new ≡ emptied (files self.old) name.now) }
         ensures kept { OnErr result (files self.new ≡ files self.old) }
-        ensures failed { OnErr result (Rose (counts self.old).write_faults (counts self.new).write_faults) }
+        ensures failed { OnErr result (Rose (counts self.old).write_faults
+            (counts self.new).write_faults) }
         ensures done { OnOk result (counts self.new ≡ counts self.old) }
         ensures counts { OnlyWrites (counts self.old) (counts self.new) };
 
@@ -125,9 +136,11 @@ pub trait Folder {
         requires { IsThere (files self.old) name.now }
         ensures bound { IfOk result (λ k. k ≤ length bytes.now) }
         ensures some { IfOk result (λ k. 0 < length bytes.now → 0 < k) }
-        ensures written { IfOk result (λ k. files self.new ≡ appended (files self.old) name.now (take k bytes.now)) }
+        ensures written { IfOk result (λ k. files self.new ≡ appended (files self.old) name.now
+            (take k bytes.now)) }
         ensures kept { OnErr result (files self.new ≡ files self.old) }
-        ensures failed { OnErr result (Rose (counts self.old).write_faults (counts self.new).write_faults) }
+        ensures failed { OnErr result (Rose (counts self.old).write_faults
+            (counts self.new).write_faults) }
         ensures done { OnOk result (counts self.new ≡ counts self.old) }
         ensures counts { OnlyWrites (counts self.old) (counts self.new) };
 }

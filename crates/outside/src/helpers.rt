@@ -12,9 +12,12 @@ use crate::sink::Sink;
 /// Where a write failed. Then a front of the bytes, none to all of them, was appended.
 pub fn write_all<D: Folder>(folder: &mut D, name: &str, bytes: &[u8]) -> Result<(), Failed>
     requires { IsThere (D.files folder.old) name.now }
-    ensures written { OnOk result (D.files folder.new ≡ appended (D.files folder.old) name.now bytes.now) }
-    ensures front { OnErr result ((k : ℕ) × (k ≤ length bytes.now) × (D.files folder.new ≡ appended (D.files folder.old) name.now (take k bytes.now))) }
-    ensures failed { OnErr result (Rose (D.counts folder.old).write_faults (D.counts folder.new).write_faults) }
+    ensures written { OnOk result (D.files folder.new ≡ appended
+        (D.files folder.old) name.now bytes.now) }
+    ensures front { OnErr result ((k : ℕ) × (k ≤ length bytes.now)
+        × (D.files folder.new ≡ appended (D.files folder.old) name.now (take k bytes.now))) }
+    ensures failed { OnErr result (Rose (D.counts folder.old).write_faults
+        (D.counts folder.new).write_faults) }
     ensures done { OnOk result (D.counts folder.new ≡ D.counts folder.old) }
     ensures counts { OnlyWrites (D.counts folder.old) (D.counts folder.new) }
 {
@@ -31,7 +34,8 @@ pub fn write_all<D: Folder>(folder: &mut D, name: &str, bytes: &[u8]) -> Result<
 /// Where a write failed. Then a front of the bytes, none to all of them, was sent.
 pub fn send_all<T: Sink>(sink: &mut T, bytes: &[u8]) -> Result<(), Failed>
     ensures written { OnOk result (T.sent sink.new ≡ sent_more (T.sent sink.old) bytes.now) }
-    ensures front { OnErr result ((k : ℕ) × (k ≤ length bytes.now) × (T.sent sink.new ≡ sent_more (T.sent sink.old) (take k bytes.now))) }
+    ensures front { OnErr result ((k : ℕ) × (k ≤ length bytes.now)
+        × (T.sent sink.new ≡ sent_more (T.sent sink.old) (take k bytes.now))) }
     ensures cause { HasCause (T.faults sink.old) (T.faults sink.new) result }
 {
     let mut done = 0;
@@ -55,13 +59,18 @@ pub fn read_full<D: Folder>(
     requires there { IsThere (D.files folder.old) name.now }
     requires short { at + length into.old < 2 ^ 63 }
     ensures bound { IfOk result (λ k. k ≤ length into.old) }
-    ensures bytes { IfOk result (λ k. (bytes : List ℕ) → Holds (D.files folder.old) name.now bytes → take k into.new ≡ take k (drop at bytes)) }
+    ensures bytes { IfOk result (λ k. (bytes : List ℕ) → Holds (D.files folder.old) name.now bytes
+        → take k into.new ≡ take k (drop at bytes)) }
     ensures rest { IfOk result (λ k. drop k into.new ≡ drop k into.old) }
-    ensures end { IfOk result (λ k. (bytes : List ℕ) → Holds (D.files folder.old) name.now bytes → k < length into.old → k ≡ length bytes - at) }
-    ensures ended { IfOk result (λ k. k < length into.old → Rose (D.counts folder.old).ends (D.counts folder.new).ends) }
-    ensures failed { OnErr result (Rose (D.counts folder.old).read_faults (D.counts folder.new).read_faults) }
+    ensures end { IfOk result (λ k. (bytes : List ℕ) → Holds (D.files folder.old) name.now bytes
+        → k < length into.old → k ≡ length bytes - at) }
+    ensures ended { IfOk result (λ k. k < length into.old
+        → Rose (D.counts folder.old).ends (D.counts folder.new).ends) }
+    ensures failed { OnErr result (Rose (D.counts folder.old).read_faults
+        (D.counts folder.new).read_faults) }
     ensures files { D.files folder.new ≡ D.files folder.old }
-    ensures filled { IfOk result (λ k. k ≡ length into.old → D.counts folder.new ≡ D.counts folder.old) }
+    ensures filled { IfOk result (λ k. k ≡ length into.old
+        → D.counts folder.new ≡ D.counts folder.old) }
     ensures done { OnOk result (NothingFailed (D.counts folder.old) (D.counts folder.new)) }
     ensures counts { OnlyReads (D.counts folder.old) (D.counts folder.new) }
 {
@@ -89,13 +98,19 @@ pub fn read_on<D: Folder>(
     requires enough { enough ≤ length into.old }
     ensures bound { IfOk result (λ k. k ≤ length into.old) }
     ensures more { IfOk result (λ k. have ≤ k) }
-    ensures bytes { IfOk result (λ k. (bytes : List ℕ) → Holds (D.files folder.old) name.now bytes → take have into.old ≡ take have (drop at bytes) → take k into.new ≡ take k (drop at bytes)) }
+    ensures bytes { IfOk result (λ k. (bytes : List ℕ) → Holds (D.files folder.old) name.now bytes
+        → take have into.old ≡ take have (drop at bytes)
+        → take k into.new ≡ take k (drop at bytes)) }
     ensures rest { IfOk result (λ k. drop k into.new ≡ drop k into.old) }
-    ensures end { IfOk result (λ k. (bytes : List ℕ) → Holds (D.files folder.old) name.now bytes → k < enough → length bytes - at ≤ k) }
-    ensures within { IfOk result (λ k. (bytes : List ℕ) → Holds (D.files folder.old) name.now bytes → have ≤ length bytes - at → k ≤ length bytes - at) }
-    ensures ended { IfOk result (λ k. k < enough → Rose (D.counts folder.old).ends (D.counts folder.new).ends) }
+    ensures end { IfOk result (λ k. (bytes : List ℕ) → Holds (D.files folder.old) name.now bytes
+        → k < enough → length bytes - at ≤ k) }
+    ensures within { IfOk result (λ k. (bytes : List ℕ) → Holds (D.files folder.old) name.now bytes
+        → have ≤ length bytes - at → k ≤ length bytes - at) }
+    ensures ended { IfOk result (λ k. k < enough
+        → Rose (D.counts folder.old).ends (D.counts folder.new).ends) }
     ensures filled { IfOk result (λ k. enough ≤ k → D.counts folder.new ≡ D.counts folder.old) }
-    ensures failed { OnErr result (Rose (D.counts folder.old).read_faults (D.counts folder.new).read_faults) }
+    ensures failed { OnErr result (Rose (D.counts folder.old).read_faults
+        (D.counts folder.new).read_faults) }
     ensures files { D.files folder.new ≡ D.files folder.old }
     ensures done { OnOk result (NothingFailed (D.counts folder.old) (D.counts folder.new)) }
     ensures counts { OnlyReads (D.counts folder.old) (D.counts folder.new) }

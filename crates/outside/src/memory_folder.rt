@@ -65,8 +65,10 @@ impl MemFolder {
     /// Where there is no memory. Then files and rooms stay.
     #[tactic(auto, unfolding(crate::specs::Files::with_file))]
     pub fn put(&mut self, name: &str, bytes: &[u8]) -> Result<(), AllocError>
-        ensures contents { OnOk result (contents_of self.new ≡ with_file (contents_of self.old) name.now bytes.now) }
-        ensures rooms { OnOk result (rooms_of self.new ≡ with_room (rooms_of self.old) name.now (length bytes.now)) }
+        ensures contents { OnOk result (contents_of self.new ≡ with_file
+            (contents_of self.old) name.now bytes.now) }
+        ensures rooms { OnOk result (rooms_of self.new ≡ with_room (rooms_of self.old) name.now
+            (length bytes.now)) }
         ensures contents_kept { OnErr result (contents_of self.new ≡ contents_of self.old) }
         ensures rooms_kept { OnErr result (rooms_of self.new ≡ rooms_of self.old) }
         ensures others { NotCalled self.old self.new }
@@ -82,7 +84,8 @@ impl MemFolder {
     /// Where there is no memory. Then the rooms stay.
     pub fn reserve(&mut self, name: &str, bytes: u64) -> Result<(), AllocError>
         ensures contents { contents_of self.new ≡ contents_of self.old }
-        ensures rooms { OnOk result (rooms_of self.new ≡ with_room (rooms_of self.old) name.now bytes) }
+        ensures rooms { OnOk result (rooms_of self.new ≡ with_room
+            (rooms_of self.old) name.now bytes) }
         ensures rooms_kept { OnErr result (rooms_of self.new ≡ rooms_of self.old) }
         ensures others { NotCalled self.old self.new }
     {
@@ -104,8 +107,10 @@ impl MemFolder {
     /// # Errors
     /// Where there is no memory. Then the list of calls that are to fail stays.
     pub fn fail(&mut self, call: Call, number: u64) -> Result<(), AllocError>
-        ensures added { OnOk result (calls_to_fail self.new call ≡ calls_to_fail self.old call ++ number ∷ []) }
-        ensures others { (other : Call) → other ≢ call → calls_to_fail self.new other ≡ calls_to_fail self.old other }
+        ensures added { OnOk result (calls_to_fail self.new call
+            ≡ calls_to_fail self.old call ++ number ∷ []) }
+        ensures others { (other : Call) → other ≢ call
+            → calls_to_fail self.new other ≡ calls_to_fail self.old other }
         ensures kept { OnErr result (calls_to_fail self.new call ≡ calls_to_fail self.old call) }
         ensures made { (kind : Call) → calls_made self.new kind ≡ calls_made self.old kind }
         ensures counts { counts_of self.new ≡ counts_of self.old }
@@ -138,20 +143,27 @@ impl Folder for MemFolder {
     ghost counts = { λ folder. counts_of folder };
 
     fn find(&mut self, name: &str) -> Result<u64, FindFault>
-        ensures found { IfOk result (λ n. (bytes : List ℕ) → Holds (Some (contents_of self.old)) name.now bytes → n ≡ length bytes) }
+        ensures found { IfOk result (λ n. (bytes : List ℕ)
+            → Holds (Some (contents_of self.old)) name.now bytes → n ≡ length bytes) }
         ensures there { OnOk result (IsThere (Some (contents_of self.old)) name.now) }
-        ensures octets { OnOk result ((bytes : List ℕ) → Holds (Some (contents_of self.old)) name.now bytes → AreOctets bytes) }
-        ensures missing { IsErrOf result FindFault.Absent → IsMissing (Some (contents_of self.old)) name.now }
-        ensures absent { IsErrOf result FindFault.Absent → Rose (counts_of self.old).misses (counts_of self.new).misses }
-        ensures failed { IsErrOf result FindFault.Failed → Rose (counts_of self.old).read_faults (counts_of self.new).read_faults }
+        ensures octets { OnOk result ((bytes : List ℕ)
+            → Holds (Some (contents_of self.old)) name.now bytes → AreOctets bytes) }
+        ensures missing { IsErrOf result FindFault.Absent
+            → IsMissing (Some (contents_of self.old)) name.now }
+        ensures absent { IsErrOf result FindFault.Absent
+            → Rose (counts_of self.old).misses (counts_of self.new).misses }
+        ensures failed { IsErrOf result FindFault.Failed
+            → Rose (counts_of self.old).read_faults (counts_of self.new).read_faults }
         ensures files { Some (contents_of self.new) ≡ Some (contents_of self.old) }
         ensures ends { (counts_of self.new).ends ≡ (counts_of self.old).ends }
         ensures done { OnOk result (counts_of self.new ≡ counts_of self.old) }
         ensures counts { OnlyReads (counts_of self.old) (counts_of self.new) }
         ensures exact { result ≡ find_answer self.old name.now }
         ensures called { Called self.old self.new Call.Find }
-        ensures absent_counts { IsErrOf result FindFault.Absent → counts_of self.new ≡ with_miss (counts_of self.old) }
-        ensures failed_counts { IsErrOf result FindFault.Failed → counts_of self.new ≡ with_read_fault (counts_of self.old) }
+        ensures absent_counts { IsErrOf result FindFault.Absent
+            → counts_of self.new ≡ with_miss (counts_of self.old) }
+        ensures failed_counts { IsErrOf result FindFault.Failed
+            → counts_of self.new ≡ with_read_fault (counts_of self.old) }
     {
         if self.finds.next_fails() {
             self.tally.count_read_fault();
@@ -169,22 +181,34 @@ impl Folder for MemFolder {
     fn read(&mut self, name: &str, at: u64, into: &mut [u8]) -> Result<usize, Failed>
         requires { IsThere (Some (contents_of self.old)) name.now }
         ensures bound { IfOk result (λ k. k ≤ length into.old) }
-        ensures bytes { IfOk result (λ k. (bytes : List ℕ) → Holds (Some (contents_of self.old)) name.now bytes → take k into.new ≡ take k (drop at bytes)) }
+        ensures bytes { IfOk result (λ k. (bytes : List ℕ)
+            → Holds (Some (contents_of self.old)) name.now bytes
+            → take k into.new ≡ take k (drop at bytes)) }
         ensures rest { IfOk result (λ k. drop k into.new ≡ drop k into.old) }
-        ensures end { IfOk result (λ k. (bytes : List ℕ) → Holds (Some (contents_of self.old)) name.now bytes → k ≡ 0 → (length into.old ≡ 0) ⊎ (length bytes ≤ at)) }
-        ensures within { IfOk result (λ k. (bytes : List ℕ) → Holds (Some (contents_of self.old)) name.now bytes → k ≤ length bytes - at) }
-        ensures ended { IfOk result (λ k. k ≡ 0 → 0 < length into.old → Rose (counts_of self.old).ends (counts_of self.new).ends) }
-        ensures failed { OnErr result (Rose (counts_of self.old).read_faults (counts_of self.new).read_faults) }
+        ensures end { IfOk result (λ k. (bytes : List ℕ)
+            → Holds (Some (contents_of self.old)) name.now bytes → k ≡ 0 → (length into.old ≡ 0)
+            ⊎ (length bytes ≤ at)) }
+        ensures within { IfOk result (λ k. (bytes : List ℕ)
+            → Holds (Some (contents_of self.old)) name.now bytes → k ≤ length bytes - at) }
+        ensures ended { IfOk result (λ k. k ≡ 0 → 0 < length into.old
+            → Rose (counts_of self.old).ends (counts_of self.new).ends) }
+        ensures failed { OnErr result (Rose (counts_of self.old).read_faults
+            (counts_of self.new).read_faults) }
         ensures files { Some (contents_of self.new) ≡ Some (contents_of self.old) }
-        ensures got { IfOk result (λ k. (0 < k) ⊎ (length into.old ≡ 0) → counts_of self.new ≡ counts_of self.old) }
+        ensures got { IfOk result (λ k. (0 < k) ⊎ (length into.old ≡ 0)
+            → counts_of self.new ≡ counts_of self.old) }
         ensures done { OnOk result (NothingFailed (counts_of self.old) (counts_of self.new)) }
         ensures counts { OnlyReads (counts_of self.old) (counts_of self.new) }
         ensures fails { is_err result ≡ is_to_fail self.old Call.Read }
-        ensures whole { IfOk result (λ k. k ≡ min (length into.old) (length (bytes_of self.old name.now) - at)) }
+        ensures whole { IfOk result (λ k. k ≡ min (length into.old)
+            (length (bytes_of self.old name.now) - at)) }
         ensures called { Called self.old self.new Call.Read }
         ensures kept { OnErr result (into.new ≡ into.old) }
-        ensures read_counts { IfOk result (λ k. counts_of self.new ≡ (if k == 0 && nat_lt 0 (length into.old) then with_end (counts_of self.old) else counts_of self.old)) }
-        ensures failed_counts { OnErr result (counts_of self.new ≡ with_read_fault (counts_of self.old)) }
+        ensures read_counts { IfOk result
+            (λ k. counts_of self.new ≡ (if k == 0 && nat_lt 0 (length into.old) then with_end
+            (counts_of self.old) else counts_of self.old)) }
+        ensures failed_counts { OnErr result
+            (counts_of self.new ≡ with_read_fault (counts_of self.old)) }
     {
         if self.reads.next_fails() {
             self.tally.count_read_fault();
@@ -199,14 +223,17 @@ impl Folder for MemFolder {
     }
 
     fn create(&mut self, name: &str) -> Result<(), Failed>
-        ensures created { OnOk result (Some (contents_of self.new) ≡ emptied (Some (contents_of self.old)) name.now) }
+        ensures created { OnOk result (Some (contents_of self.new) ≡ emptied
+            (Some (contents_of self.old)) name.now) }
         ensures kept { OnErr result (Some (contents_of self.new) ≡ Some (contents_of self.old)) }
-        ensures failed { OnErr result (Rose (counts_of self.old).write_faults (counts_of self.new).write_faults) }
+        ensures failed { OnErr result (Rose (counts_of self.old).write_faults
+            (counts_of self.new).write_faults) }
         ensures done { OnOk result (counts_of self.new ≡ counts_of self.old) }
         ensures counts { OnlyWrites (counts_of self.old) (counts_of self.new) }
         ensures fails { is_err result ≡ create_fails self.old name.now }
         ensures called { Called self.old self.new Call.Create }
-        ensures failed_counts { OnErr result (counts_of self.new ≡ with_write_fault (counts_of self.old)) }
+        ensures failed_counts { OnErr result
+            (counts_of self.new ≡ with_write_fault (counts_of self.old)) }
     {
         if self.creates.next_fails() || !self.slots.create(name) {
             self.tally.count_write_fault();
@@ -219,15 +246,18 @@ impl Folder for MemFolder {
         requires { IsThere (Some (contents_of self.old)) name.now }
         ensures bound { IfOk result (λ k. k ≤ length bytes.now) }
         ensures some { IfOk result (λ k. 0 < length bytes.now → 0 < k) }
-        ensures written { IfOk result (λ k. Some (contents_of self.new) ≡ appended (Some (contents_of self.old)) name.now (take k bytes.now)) }
+        ensures written { IfOk result (λ k. Some (contents_of self.new) ≡ appended
+            (Some (contents_of self.old)) name.now (take k bytes.now)) }
         ensures kept { OnErr result (Some (contents_of self.new) ≡ Some (contents_of self.old)) }
-        ensures failed { OnErr result (Rose (counts_of self.old).write_faults (counts_of self.new).write_faults) }
+        ensures failed { OnErr result (Rose (counts_of self.old).write_faults
+            (counts_of self.new).write_faults) }
         ensures done { OnOk result (counts_of self.new ≡ counts_of self.old) }
         ensures counts { OnlyWrites (counts_of self.old) (counts_of self.new) }
         ensures fails { is_err result ≡ write_fails self.old name.now bytes.now }
         ensures whole { IfOk result (λ k. k ≡ length bytes.now) }
         ensures called { Called self.old self.new Call.Write }
-        ensures failed_counts { OnErr result (counts_of self.new ≡ with_write_fault (counts_of self.old)) }
+        ensures failed_counts { OnErr result
+            (counts_of self.new ≡ with_write_fault (counts_of self.old)) }
     {
         if self.writes.next_fails() || !self.slots.append(name, bytes) {
             self.tally.count_write_fault();

@@ -61,7 +61,8 @@ impl MemSink {
     /// # Errors
     /// Where there is no memory. Then the list of writes that are to fail stays.
     pub fn fail(&mut self, number: u64) -> Result<(), AllocError>
-        ensures added { OnOk result (writes_to_fail self.new ≡ writes_to_fail self.old ++ number ∷ []) }
+        ensures added { OnOk result (writes_to_fail self.new ≡ writes_to_fail self.old ++ number
+            ∷ []) }
         ensures kept { OnErr result (writes_to_fail self.new ≡ writes_to_fail self.old) }
         ensures sent { bytes_sent self.new ≡ bytes_sent self.old }
         ensures room { sink_room self.new ≡ sink_room self.old }
@@ -89,7 +90,8 @@ impl Sink for MemSink {
     fn write(&mut self, bytes: &[u8]) -> Result<usize, Failed>
         ensures bound { IfOk result (λ k. k ≤ length bytes.now) }
         ensures some { IfOk result (λ k. 0 < length bytes.now → 0 < k) }
-        ensures written { IfOk result (λ k. Some (bytes_sent self.new) ≡ sent_more (Some (bytes_sent self.old)) (take k bytes.now)) }
+        ensures written { IfOk result (λ k. Some (bytes_sent self.new) ≡ sent_more
+            (Some (bytes_sent self.old)) (take k bytes.now)) }
         ensures kept { OnErr result (Some (bytes_sent self.new) ≡ Some (bytes_sent self.old)) }
         ensures cause { HasCause (sink_faults self.old) (sink_faults self.new) result }
         ensures fails { is_err result ≡ send_fails self.old bytes.now }
@@ -98,7 +100,8 @@ impl Sink for MemSink {
         ensures made { writes_made self.new ≡ one_more (writes_made self.old) }
         ensures failing { writes_to_fail self.new ≡ writes_to_fail self.old }
         ensures written_faults { OnOk result (sink_faults self.new ≡ sink_faults self.old) }
-        ensures failed_faults { OnErr result (sink_faults self.new ≡ one_more (sink_faults self.old)) }
+        ensures failed_faults { OnErr result
+            (sink_faults self.new ≡ one_more (sink_faults self.old)) }
     {
         if self.writes.next_fails() || !self.buffer.append(bytes) {
             self.faults = self.faults.saturating_add(1);

@@ -42,15 +42,21 @@ impl Noted {
     }
 
     pub fn has(&self, file: &FileId) -> bool
-        ensures { result ≡ list_any (λ noted. ⟦<FileId as PartialEq>⟧.eq noted file.now) self.now.files.items }
+        ensures { result ≡ list_any (λ noted. ⟦<FileId as PartialEq>⟧.eq noted file.now)
+            self.now.files.items }
     {
         self.files.as_slice().contains(file)
     }
 
     /// Notes a file unless it is noted already, and says whether it is noted now.
     pub fn note(&mut self, file: FileId) -> bool
-        ensures answer { result ≡ (list_any (λ noted. ⟦<FileId as PartialEq>⟧.eq noted file) self.old.files.items || nat_lt (length self.old.files.items) MOST_FILES) }
-        ensures noted { self.new.files.items ≡ (if result && not (list_any (λ noted. ⟦<FileId as PartialEq>⟧.eq noted file) self.old.files.items) then self.old.files.items ++ file ∷ [] else self.old.files.items) }
+        ensures answer { result ≡ (list_any
+            (λ noted. ⟦<FileId as PartialEq>⟧.eq noted file) self.old.files.items || nat_lt
+            (length self.old.files.items) MOST_FILES) }
+        ensures noted { self.new.files.items
+            ≡ (if result && not (list_any
+            (λ noted. ⟦<FileId as PartialEq>⟧.eq noted file) self.old.files.items) then
+            self.old.files.items ++ file ∷ [] else self.old.files.items) }
     {
         self.has(&file) || self.files.try_push(file).is_ok()
     }
@@ -69,7 +75,8 @@ pub enum Opening {
 
 /// Whether a file may be emptied.
 pub fn opening_of(noted: &Noted, file: &FileId, is_regular: bool) -> Opening
-    ensures { result ≡ opening_of_lem (list_any (λ found. ⟦<FileId as PartialEq>⟧.eq found file.now) noted.now.files.items) is_regular }
+    ensures { result ≡ opening_of_lem (list_any
+        (λ found. ⟦<FileId as PartialEq>⟧.eq found file.now) noted.now.files.items) is_regular }
 {
     match (noted.has(file), is_regular) {
         (true, _) => Opening::Refused,

@@ -9,8 +9,10 @@ use std::io::{Read, Seek, SeekFrom};
 
 /// The place of the file's end.
 pub fn length_of<F: Seek>(file: &mut F) -> io::Result<u64>
-    ensures length { (xs : List ℕ) → TellsBytes F.stream_position F.stream_bytes file.old xs → IfOk result (λ n. n ≡ length xs) }
-    ensures moves { SeekMoves (F.stream_position file.old) (F.stream_position file.new) (F.stream_bytes file.old) (SeekFrom.End (pos 0)) result }
+    ensures length { (xs : List ℕ) → TellsBytes F.stream_position F.stream_bytes file.old xs
+        → IfOk result (λ n. n ≡ length xs) }
+    ensures moves { SeekMoves (F.stream_position file.old) (F.stream_position file.new)
+        (F.stream_bytes file.old) (SeekFrom.End (pos 0)) result }
     ensures bytes { Keeps (F.stream_bytes file.old) (F.stream_bytes file.new) }
 {
     file.seek(SeekFrom::End(0))
@@ -20,8 +22,11 @@ pub fn length_of<F: Seek>(file: &mut F) -> io::Result<u64>
 pub fn read_part<F: Read + Seek>(file: &mut F, at: u64, into: &mut [u8]) -> io::Result<usize>
     ensures bound { IfOk result (λ k. k ≤ length into.old) }
     ensures rest { IfOk result (λ k. drop k into.new ≡ drop k into.old) }
-    ensures whole { (xs : List ℕ) → TellsBytes F.stream_position F.stream_bytes file.old xs → IfOk result (λ k. k ≡ min (length into.old) (length xs - at)) }
-    ensures bytes { ReadsOn F.remaining F.stream_position F.stream_bytes → (xs : List ℕ) → TellsBytes F.stream_position F.stream_bytes file.old xs → IfOk result (λ k. take k into.new ≡ take k (drop at xs)) }
+    ensures whole { (xs : List ℕ) → TellsBytes F.stream_position F.stream_bytes file.old xs
+        → IfOk result (λ k. k ≡ min (length into.old) (length xs - at)) }
+    ensures bytes { ReadsOn F.remaining F.stream_position F.stream_bytes → (xs : List ℕ)
+        → TellsBytes F.stream_position F.stream_bytes file.old xs
+        → IfOk result (λ k. take k into.new ≡ take k (drop at xs)) }
 {
     let there = length_of(file)?.saturating_sub(at);
     let count = into.len().min(there as usize);

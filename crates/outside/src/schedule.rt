@@ -31,7 +31,8 @@ impl Schedule {
     }
 
     pub fn fail(&mut self, number: u64) -> Result<(), AllocError>
-        ensures added { OnOk result (self.new ≡ record self.old { failing = self.old.failing ++ number ∷ [] }) }
+        ensures added { OnOk result (self.new
+            ≡ record self.old { failing = self.old.failing ++ number ∷ [] }) }
         ensures kept { OnErr result (self.new ≡ self.old) }
     {
         self.failing.push(number)?;

@@ -52,8 +52,10 @@ impl SendBuffer {
     /// Where a write failed. Then a prefix of what waited and the piece was sent, and nothing waits.
     #[inline]
     pub fn push<T: Sink>(&mut self, sink: &mut T, piece: &[u8]) -> Result<(), Failed>
-        ensures passed { OnOk result (SentOn (self.old ++ piece.now) self.new (T.sent sink.old) (T.sent sink.new)) }
-        ensures prefix { OnErr result (SentPrefix (self.old ++ piece.now) (T.sent sink.old) (T.sent sink.new)) }
+        ensures passed { OnOk result (SentOn (self.old ++ piece.now) self.new (T.sent sink.old)
+            (T.sent sink.new)) }
+        ensures prefix { OnErr result (SentPrefix (self.old ++ piece.now) (T.sent sink.old)
+            (T.sent sink.new)) }
         ensures none { OnErr result (self.new ≡ []) }
         ensures cause { HasCause (T.faults sink.old) (T.faults sink.new) result }
     {
@@ -93,8 +95,10 @@ impl SendBuffer {
     // Sends what waits, and then adds a piece that didn't fit behind it, or sends it too.
     #[inline(never)]
     fn push_over<T: Sink>(&mut self, sink: &mut T, piece: &[u8]) -> Result<(), Failed>
-        ensures passed { OnOk result (SentOn (self.old ++ piece.now) self.new (T.sent sink.old) (T.sent sink.new)) }
-        ensures prefix { OnErr result (SentPrefix (self.old ++ piece.now) (T.sent sink.old) (T.sent sink.new)) }
+        ensures passed { OnOk result (SentOn (self.old ++ piece.now) self.new (T.sent sink.old)
+            (T.sent sink.new)) }
+        ensures prefix { OnErr result (SentPrefix (self.old ++ piece.now) (T.sent sink.old)
+            (T.sent sink.new)) }
         ensures none { OnErr result (self.new ≡ []) }
         ensures cause { HasCause (T.faults sink.old) (T.faults sink.new) result }
     {

@@ -20,7 +20,8 @@ pub trait Sink {
     fn write(&mut self, bytes: &[u8]) -> Result<usize, Failed>
         ensures bound { IfOk result (λ k. k ≤ length bytes.now) }
         ensures some { IfOk result (λ k. 0 < length bytes.now → 0 < k) }
-        ensures written { IfOk result (λ k. sent self.new ≡ sent_more (sent self.old) (take k bytes.now)) }
+        ensures written { IfOk result (λ k. sent self.new ≡ sent_more (sent self.old)
+            (take k bytes.now)) }
         ensures kept { OnErr result (sent self.new ≡ sent self.old) }
         ensures cause { HasCause (faults self.old) (faults self.new) result };
 }

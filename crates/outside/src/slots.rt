@@ -60,8 +60,11 @@ impl Slot {
     /// Adds the bytes to the file where there is room for all of them, and says whether there is.
     pub fn append(&mut self, bytes: &[u8]) -> bool
         requires { IsSome (content_of self.old) }
-        ensures fits { result ≡ nat_le (length (unwrap_or (content_of self.old) []) + length bytes.now) self.old.buffer.room }
-        ensures content { content_of self.new ≡ (if result then Some (unwrap_or (content_of self.old) [] ++ bytes.now) else content_of self.old) }
+        ensures fits { result ≡ nat_le (length
+            (unwrap_or (content_of self.old) []) + length bytes.now) self.old.buffer.room }
+        ensures content { content_of self.new
+            ≡ (if result then Some (unwrap_or (content_of self.old) [] ++ bytes.now) else content_of
+            self.old) }
         ensures room { self.new.buffer.room ≡ self.old.buffer.room }
     {
         self.buffer.append(bytes)
@@ -106,8 +109,10 @@ impl Slots {
 
     /// Puts a slot in the place of what the name has.
     pub fn set(&mut self, alloc: Global, name: &str, slot: Slot) -> Result<(), AllocError>
-        ensures contents { OnOk result (contents_in self.new ≡ update bytes_eq (contents_in self.old) name.now (content_of slot)) }
-        ensures rooms { OnOk result (rooms_in self.new ≡ update bytes_eq (rooms_in self.old) name.now (Some slot.buffer.room)) }
+        ensures contents { OnOk result (contents_in self.new ≡ update bytes_eq
+            (contents_in self.old) name.now (content_of slot)) }
+        ensures rooms { OnOk result (rooms_in self.new ≡ update bytes_eq
+            (rooms_in self.old) name.now (Some slot.buffer.room)) }
         ensures contents_kept { OnErr result (contents_in self.new ≡ contents_in self.old) }
         ensures rooms_kept { OnErr result (rooms_in self.new ≡ rooms_in self.old) }
     {
@@ -119,7 +124,9 @@ impl Slots {
     /// Makes the name a file of no bytes where it has room, and says whether it has.
     pub fn create(&mut self, name: &str) -> bool
         ensures answer { result ≡ is_some (rooms_in self.old name.now) }
-        ensures contents { contents_in self.new ≡ (if result then with_file (contents_in self.old) name.now [] else contents_in self.old) }
+        ensures contents { contents_in self.new
+            ≡ (if result then with_file (contents_in self.old) name.now [] else contents_in
+            self.old) }
         ensures rooms { rooms_in self.new ≡ rooms_in self.old }
     {
         match self.by_name.get_mut(name) {
@@ -134,8 +141,12 @@ impl Slots {
     /// Adds the bytes to the file where there is room for all of them, and says whether there is.
     pub fn append(&mut self, name: &str, bytes: &[u8]) -> bool
         requires { IsSome (contents_in self.old name.now) }
-        ensures answer { result ≡ nat_le (length (unwrap_or (contents_in self.old name.now) []) + length bytes.now) (unwrap_or (rooms_in self.old name.now) 0) }
-        ensures contents { contents_in self.new ≡ (if result then with_file (contents_in self.old) name.now (unwrap_or (contents_in self.old name.now) [] ++ bytes.now) else contents_in self.old) }
+        ensures answer { result ≡ nat_le (length
+            (unwrap_or (contents_in self.old name.now) []) + length bytes.now)
+            (unwrap_or (rooms_in self.old name.now) 0) }
+        ensures contents { contents_in self.new
+            ≡ (if result then with_file (contents_in self.old) name.now
+            (unwrap_or (contents_in self.old name.now) [] ++ bytes.now) else contents_in self.old) }
         ensures rooms { rooms_in self.new ≡ rooms_in self.old }
     {
         match self.by_name.get_mut(name) {

@@ -31,8 +31,10 @@ impl<W: Write + Drop> StdSink<W> {
     fn pass_on(&mut self, bytes: &[u8]) -> Result<usize, Failed>
         ensures bound { IfOk result (λ k. k ≤ length bytes.now) }
         ensures some { IfOk result (λ k. 0 < length bytes.now → 0 < k) }
-        ensures passed { IfOk result (λ k. Appends (W.contents self.old.writer) (W.contents self.new.writer) (take k bytes.now)) }
-        ensures prefix { OnErr result (GrewByPrefix (W.contents self.old.writer) (W.contents self.new.writer) bytes.now) }
+        ensures passed { IfOk result (λ k. Appends (W.contents self.old.writer)
+            (W.contents self.new.writer) (take k bytes.now)) }
+        ensures prefix { OnErr result (GrewByPrefix (W.contents self.old.writer)
+            (W.contents self.new.writer) bytes.now) }
         ensures faults { stream_faults self.new ≡ stream_faults self.old }
     {
         let count = write_some(&mut self.writer, bytes)?;
@@ -53,15 +55,19 @@ impl<W: Write + Drop> Sink for StdSink<W> {
     fn write(&mut self, bytes: &[u8]) -> Result<usize, Failed>
         ensures bound { IfOk result (λ k. k ≤ length bytes.now) }
         ensures some { IfOk result (λ k. 0 < length bytes.now → 0 < k) }
-        ensures written { IfOk result (λ k. untold_bytes ≡ sent_more untold_bytes (take k bytes.now)) }
+        ensures written { IfOk result (λ k. untold_bytes ≡ sent_more untold_bytes
+            (take k bytes.now)) }
         ensures kept { OnErr result (untold_bytes ≡ untold_bytes) }
         ensures cause { HasCause (stream_faults self.old) (stream_faults self.new) result }
         // Where the library knows what the writer holds, exactly these bytes came to it, or in a call that
         // fails a prefix of the piece.
-        ensures passed { IfOk result (λ k. Appends (W.contents self.old.writer) (W.contents self.new.writer) (take k bytes.now)) }
-        ensures prefix { OnErr result (GrewByPrefix (W.contents self.old.writer) (W.contents self.new.writer) bytes.now) }
+        ensures passed { IfOk result (λ k. Appends (W.contents self.old.writer)
+            (W.contents self.new.writer) (take k bytes.now)) }
+        ensures prefix { OnErr result (GrewByPrefix (W.contents self.old.writer)
+            (W.contents self.new.writer) bytes.now) }
         ensures written_faults { OnOk result (stream_faults self.new ≡ stream_faults self.old) }
-        ensures failed_faults { OnErr result (stream_faults self.new ≡ one_more (stream_faults self.old)) }
+        ensures failed_faults { OnErr result
+            (stream_faults self.new ≡ one_more (stream_faults self.old)) }
     {
         let Ok(count) = self.pass_on(bytes) else {
             self.faults = self.faults.saturating_add(1);

@@ -56,11 +56,14 @@ impl WriteBuffer {
         piece: &[u8],
     ) -> Result<(), Failed>
         requires { IsThere (D.files folder.old) name.now }
-        ensures passed { OnOk result (PassedOn name.now (self.old ++ piece.now) self.new (D.files folder.old) (D.files folder.new)) }
-        ensures prefix { OnErr result (AppendedPrefix name.now (self.old ++ piece.now) (D.files folder.old) (D.files folder.new)) }
+        ensures passed { OnOk result (PassedOn name.now (self.old ++ piece.now) self.new
+            (D.files folder.old) (D.files folder.new)) }
+        ensures prefix { OnErr result (AppendedPrefix name.now (self.old ++ piece.now)
+            (D.files folder.old) (D.files folder.new)) }
         ensures none { OnErr result (self.new ≡ []) }
         ensures few { length self.new ≤ 65536 }
-        ensures failed { OnErr result (Rose (D.counts folder.old).write_faults (D.counts folder.new).write_faults) }
+        ensures failed { OnErr result (Rose (D.counts folder.old).write_faults
+            (D.counts folder.new).write_faults) }
         ensures done { OnOk result (D.counts folder.new ≡ D.counts folder.old) }
         ensures counts { OnlyWrites (D.counts folder.old) (D.counts folder.new) }
     {
@@ -77,10 +80,13 @@ impl WriteBuffer {
     /// Where a write failed. Then a prefix of what waited was appended, and nothing waits.
     pub fn finish<D: Folder>(&mut self, folder: &mut D, name: &str) -> Result<(), Failed>
         requires { IsThere (D.files folder.old) name.now }
-        ensures appended { OnOk result (D.files folder.new ≡ appended (D.files folder.old) name.now self.old) }
-        ensures prefix { OnErr result (AppendedPrefix name.now self.old (D.files folder.old) (D.files folder.new)) }
+        ensures appended { OnOk result (D.files folder.new ≡ appended
+            (D.files folder.old) name.now self.old) }
+        ensures prefix { OnErr result (AppendedPrefix name.now self.old (D.files folder.old)
+            (D.files folder.new)) }
         ensures none { self.new ≡ [] }
-        ensures failed { OnErr result (Rose (D.counts folder.old).write_faults (D.counts folder.new).write_faults) }
+        ensures failed { OnErr result (Rose (D.counts folder.old).write_faults
+            (D.counts folder.new).write_faults) }
         ensures done { OnOk result (D.counts folder.new ≡ D.counts folder.old) }
         ensures counts { OnlyWrites (D.counts folder.old) (D.counts folder.new) }
     {
@@ -111,11 +117,14 @@ impl WriteBuffer {
     ) -> Result<(), Failed>
         requires there { IsThere (D.files folder.old) name.now }
         requires over { 65536 < length self.old + length piece.now }
-        ensures passed { OnOk result (PassedOn name.now (self.old ++ piece.now) self.new (D.files folder.old) (D.files folder.new)) }
-        ensures prefix { OnErr result (AppendedPrefix name.now (self.old ++ piece.now) (D.files folder.old) (D.files folder.new)) }
+        ensures passed { OnOk result (PassedOn name.now (self.old ++ piece.now) self.new
+            (D.files folder.old) (D.files folder.new)) }
+        ensures prefix { OnErr result (AppendedPrefix name.now (self.old ++ piece.now)
+            (D.files folder.old) (D.files folder.new)) }
         ensures none { OnErr result (self.new ≡ []) }
         ensures few { length self.new ≤ 65536 }
-        ensures failed { OnErr result (Rose (D.counts folder.old).write_faults (D.counts folder.new).write_faults) }
+        ensures failed { OnErr result (Rose (D.counts folder.old).write_faults
+            (D.counts folder.new).write_faults) }
         ensures done { OnOk result (D.counts folder.new ≡ D.counts folder.old) }
         ensures counts { OnlyWrites (D.counts folder.old) (D.counts folder.new) }
     {
@@ -134,9 +143,12 @@ fn write_whole<D: Folder>(folder: &mut D, name: &str, bytes: &[u8]) -> Result<us
     requires { IsThere (D.files folder.old) name.now }
     ensures within { IfOk result (λ k. k ≤ length bytes.now) }
     ensures few { IfOk result (λ k. length bytes.now - k < 65536) }
-    ensures written { IfOk result (λ k. D.files folder.new ≡ appended (D.files folder.old) name.now (take k bytes.now)) }
-    ensures prefix { OnErr result (AppendedPrefix name.now bytes.now (D.files folder.old) (D.files folder.new)) }
-    ensures failed { OnErr result (Rose (D.counts folder.old).write_faults (D.counts folder.new).write_faults) }
+    ensures written { IfOk result (λ k. D.files folder.new ≡ appended (D.files folder.old) name.now
+        (take k bytes.now)) }
+    ensures prefix { OnErr result (AppendedPrefix name.now bytes.now (D.files folder.old)
+        (D.files folder.new)) }
+    ensures failed { OnErr result (Rose (D.counts folder.old).write_faults
+        (D.counts folder.new).write_faults) }
     ensures done { OnOk result (D.counts folder.new ≡ D.counts folder.old) }
     ensures counts { OnlyWrites (D.counts folder.old) (D.counts folder.new) }
 {

@@ -7,6 +7,7 @@ mod shaky;
 mod slow;
 
 use outside::{Call, Failed, Folder, MemFolder, MemSink, read_full, send_all, write_all};
+use std::process::Abort;
 use std::test::Fail;
 
 #[tactic(auto, using(outside::proofs::FilesLaws::emptied_there))]
@@ -46,15 +47,20 @@ fn folder_in_memory(rt: HostRuntime) -> Result<(), Fail> {
     Ok(())
 }
 
+fn expect_sent(rt: &impl Abort, sink: &mut MemSink, bytes: &[u8], wanted: Result<(), Failed>) {
+    assert_eq!(rt; send_all(sink, bytes), wanted, "{bytes:?}");
+}
+
+// The second write is on the list of those that fail, and three more bytes are past the room.
 #[test]
 fn sink_in_memory(rt: HostRuntime) -> Result<(), Fail> {
     let mut sink = MemSink::new(rt.alloc());
     sink.reserve(4)?;
     sink.fail(2)?;
-    assert_eq!(rt; send_all(&mut sink, b"ab"), Ok(()));
-    assert_eq!(rt; send_all(&mut sink, b"c"), Err(Failed), "on the list");
-    assert_eq!(rt; send_all(&mut sink, b"cde"), Err(Failed), "past the room");
-    assert_eq!(rt; send_all(&mut sink, b"cd"), Ok(()));
+    expect_sent(&rt, &mut sink, b"ab", Ok(()));
+    expect_sent(&rt, &mut sink, b"c", Err(Failed));
+    expect_sent(&rt, &mut sink, b"cde", Err(Failed));
+    expect_sent(&rt, &mut sink, b"cd", Ok(()));
     assert_eq!(rt; sink.sent(), b"abcd".as_slice());
     Ok(())
 }

@@ -87,8 +87,10 @@ impl Parts {
     /// Where there is no memory. Then nothing is added.
     pub fn push(&mut self, rows: &[Row]) -> Result<(), AllocError>
         requires few { length self.old.needs ≤ 4294967295 }
-        ensures added { (parts : List (List RowFields)) → self.old ≡ asked_of parts → OnOk result (self.new ≡ asked_of (parts ++ rows.now ∷ [])) }
-        ensures needs { OnOk result (length self.new.needs ≡ length self.old.needs + length rows.now) }
+        ensures added { (parts : List (List RowFields)) → self.old ≡ asked_of parts
+            → OnOk result (self.new ≡ asked_of (parts ++ rows.now ∷ [])) }
+        ensures needs { OnOk result (length self.new.needs
+            ≡ length self.old.needs + length rows.now) }
         ensures places { OnOk result (length self.new.places ≡ length self.old.places + 1) }
         ensures stays { OnErr result (self.new ≡ self.old) }
     {
@@ -105,7 +107,8 @@ impl Parts {
         requires planned { CanBePlanned self.now }
         requires needs { length self.now.needs ≤ 2900000 }
         requires few { length self.now.places ≤ 64 }
-        ensures { IfOk result (λ p. IsPlan (window_in self.now.needs) (P.choices_of policy.now) (parts_of self.now.needs self.now.places) (entries p)) }
+        ensures { IfOk result (λ p. IsPlan (window_in self.now.needs) (P.choices_of policy.now)
+            (parts_of self.now.needs self.now.places) (entries p)) }
     {
         plan(alloc, self.needs(), self.places(), policy)
     }

@@ -1,11 +1,11 @@
 //! Files worked out by hand: a frame of 417 bytes has an area of 381 (MPEG-1, 44,100 Hz, 128 kbit/s, stereo).
-ghost use Rattle.std.specs.Prelude.{◌<◌, ◌≤◌, length};
+ghost use Rattle.std.specs.Prelude.{◌<◌, ◌≤◌, length, IfOk};
 ghost use Rattle.sync_survey.specs.Faults.{tells};
 ghost use Rattle.sync_survey.specs.Survey.{IsLaidOut};
 
 use outside::{Folder, MemFolder};
 use part_needs::{Parts, one_part_fits};
-use slot_plan::{Keep, Plan};
+use slot_plan::{Keep, Need, Placed, Plan};
 use std::alloc::{AllocError, AllocGlobal};
 use std::process::Abort;
 use std::test::Fail;
@@ -87,36 +87,62 @@ static CASES: [Case; 3] = [
     },
 ];
 
+/// Asserts that the plan has these frames.
+fn expect_placed(rt: &impl Abort, placed: &[Placed], case: &Case) {
+    assert_eq!(rt; placed.len(), case.placed.len(), "from {}", case.from);
+    for (frame, wanted) in placed.iter().zip(case.placed) {
+        let slot = frame.slot;
+        let found = Planned(frame.lead_in, slot.rate_index, frame.begin);
+        assert_eq!(rt; found, *wanted, "from {}", case.from);
+        assert!(rt; !slot.padding);
+    }
+}
+
+fn expect_case<R: Abort + AllocGlobal>(
+    rt: &R,
+    survey: &Survey,
+    case: &Case,
+) -> Result<(), AllocError>
+    requires { IsLaidOut (tells survey.now) }
+{
+    assert!(rt; case.from < case.to && case.to <= survey.frames().len());
+    let plan = plan_between(rt, survey, case.from, case.to)?;
+    expect_placed(rt, plan.placed(), case);
+    Ok(())
+}
+
+/// The survey of the file, in a folder.
+fn survey_of_file<R: Abort + AllocGlobal>(rt: &R) -> Result<Survey, AllocError>
+    ensures { IfOk result (λ survey. IsLaidOut (tells survey)) }
+{
+    let file = bytes_of(rt.alloc(), &FILE)?;
+    let mut folder = MemFolder::new(rt.alloc());
+    folder.put("a", &file)?;
+    Ok(surveyed(rt, &mut folder))
+}
+
 #[test]
 fn parts_of_a_file(rt: HostRuntime) -> Result<(), Fail> {
-    let mut folder = MemFolder::new(rt.alloc());
-    folder.put("a", &bytes_of(rt.alloc(), &FILE)?)?;
-    let survey = surveyed(&rt, &mut folder);
+    let survey = survey_of_file(&rt)?;
     for case in &CASES {
-        assert!(rt; case.from < case.to && case.to <= survey.frames().len());
-        let plan = plan_between(&rt, &survey, case.from, case.to)?;
-        let placed = plan.placed();
-        assert_eq!(rt; placed.len(), case.placed.len(), "from {}", case.from);
-        for (frame, wanted) in placed.iter().zip(case.placed) {
-            let slot = frame.slot;
-            assert_eq!(rt;
-                Planned(frame.lead_in, slot.rate_index, frame.begin),
-                *wanted,
-                "from {}",
-                case.from
-            );
-            assert!(rt; !slot.padding);
-        }
+        expect_case(&rt, &survey, case)?;
     }
     Ok(())
+}
+
+/// Asserts that the parts need these bytes in the slots that the frames have.
+fn expect_needs(rt: &impl Abort, needs: &[Need], bytes: &[u32]) {
+    assert_eq!(rt; needs.len(), bytes.len());
+    for (need, wanted) in needs.iter().zip(bytes) {
+        assert_eq!(rt; need.bytes, *wanted);
+        assert_eq!(rt; need.header.slot.rate_index, OWN);
+    }
 }
 
 /// Two parts, of which the second has one frame.
 #[test]
 fn two_parts(rt: HostRuntime) -> Result<(), Fail> {
-    let mut folder = MemFolder::new(rt.alloc());
-    folder.put("a", &bytes_of(rt.alloc(), &FILE)?)?;
-    let survey = surveyed(&rt, &mut folder);
+    let survey = survey_of_file(&rt)?;
     let frames = survey.frames();
     assert!(rt; frames.len() == 3);
     let mut parts = Parts::new(rt.alloc());
@@ -124,10 +150,6 @@ fn two_parts(rt: HostRuntime) -> Result<(), Fail> {
     assert!(rt; parts.needs().len() < 10);
     parts.push(&frames[2..])?;
     assert_eq!(rt; parts.places(), [0, 2].as_slice());
-    assert_eq!(rt; parts.needs().len(), 3);
-    for (need, bytes) in parts.needs().iter().zip([0, 301, 400]) {
-        assert_eq!(rt; need.bytes, bytes);
-        assert_eq!(rt; need.header.slot.rate_index, OWN);
-    }
+    expect_needs(&rt, parts.needs(), &[0, 301, 400]);
     Ok(())
 }

@@ -1,14 +1,16 @@
 -- Laws of windows: the last bytes of main data, and the bits of a frame's main data among them.
-use Rattle.std.proofs.Common.{◌≡◌, ◌⊎◌, ℕ, zero, suc, min, ◌<◌, inl, inr, ◌+◌, ◌-◌, ◌*◌, ◌/◌, ◌^◌, ◌≤◌, List, [], ◌∷◌, ◌++◌, length, take, drop, replicate, refl, sym, subst, ap, ap₂, ◌∙◌, append_assoc, append-nil, arith, length-append}
-use Rattle.std.proofs.lemmas.List.{length-drop, length-take-le, take-append-le, drop-append-le, take-take, take-append-drop, drop_all, take_at}
-use Rattle.std.proofs.Math.Seq.{drop-append-add, take-append-add, drop-length, take-length}
+use Rattle.std.proofs.Common.{◌≡◌, ◌⊎◌, ℕ, zero, suc, min, ◌<◌, inl, inr, ◌+◌, ◌-◌, ◌*◌, ◌/◌, ◌%◌, ◌^◌, ◌≤◌, List, [], ◌∷◌, ◌++◌, length, take, drop, replicate, refl, sym, subst, ap, ap₂, ◌∙◌, append_assoc, append-nil, arith, length-append, Bor}
+use Rattle.std.proofs.lemmas.List.{length-drop, length-take-le, take-append-le, drop-append-le, take-append-drop, drop-drop}
+use Rattle.std.proofs.lemmas.Option.{get_or_from_slice_get, none-some}
+use Rattle.std.proofs.Math.Seq.{drop-append-add, take-append-add, drop-length, take-length, take-add, drop-cons}
+use Rattle.circular_buffer.proofs.Places.{slice_get-some}
 use Rattle.std.proofs.Math.Nat.{min-eq_left, min-eq_right, zero-div}
 use Rattle.std.proofs.lemmas.Bool.{cases_lt}
-use Rattle.std.specs.Prelude.{Result, Ok, OnOk}
-use Rattle.std.specs.List.{refill}
-use Rattle.circular_buffer.specs.Buffer.{keep_last}
+use Rattle.std.specs.Prelude.{Option, Some, None, slice_get, option_copied, get_or}
+use Rattle.std.specs.Option.{IsSome}
+use Rattle.circular_buffer.specs.Buffer.{Buffer, buffer, keep_last}
 use Rattle.bit_fields.specs.Bits.{bits, bits_of}
-use Rattle.bit_fields.proofs.BitsLaws.{length-bits, length-bits_of, take-bits, drop-bits}
+use Rattle.bit_fields.proofs.BitsLaws.{length-bits_of, take-bits, drop-bits, bits_of-mod, bits_of-cat, take-bits_of, bits-nil, bits-one, bits-cons, bits-append}
 use Rattle.reservoir.specs.Window.{IsWindowOver, main_bits, ArePacked}
 
 -- ---- what is held
@@ -20,15 +22,16 @@ behind d k j xs ys within is =
     sym (drop-append-add (take d xs) (drop d xs ++ ys) k)
     ∙ ap₂ (λ n zs. drop n zs) (omega (arith, front, is)) (sym (append_assoc (take d xs) (drop d xs) ys) ∙ ap (λ zs. zs ++ ys) (take-append-drop d xs))
 
-last_more : (main area : List ℕ) → keep_last 2048 (keep_last 2048 main ++ area) ≡ keep_last 2048 (main ++ area)
-last_more main area =
-    let held : length (drop (length main - 2048) main) ≡ length main - (length main - 2048) = length-drop (length main - 2048) main in
-    behind (length main - 2048) (length (drop (length main - 2048) main ++ area) - 2048) (length (main ++ area) - 2048) main area (omega arith)
-    (omega (arith, held, length-append (drop (length main - 2048) main) area, length-append main area))
+-- what is pushed behind what was kept
+pub last_more : (n : ℕ) (main area : List ℕ) → keep_last n (keep_last n main ++ area) ≡ keep_last n (main ++ area)
+last_more n main area =
+    let held : length (drop (length main - n) main) ≡ length main - (length main - n) = length-drop (length main - n) main in
+    behind (length main - n) (length (drop (length main - n) main ++ area) - n) (length (main ++ area) - n) main area (omega arith)
+    (omega (arith, held, length-append (drop (length main - n) main) area, length-append main area))
 
 -- an area more
 pub window-more : (held main area : List ℕ) → IsWindowOver held main → IsWindowOver (keep_last 2048 (held ++ area)) (main ++ area)
-window-more held main area is = ap (λ bytes. keep_last 2048 (bytes ++ area)) is ∙ last_more main area
+window-more held main area is = ap (λ bytes. keep_last 2048 (bytes ++ area)) is ∙ last_more 2048 main area
 
 -- a window holds no more than it may
 pub last-few : (bytes : List ℕ) → length (keep_last 2048 bytes) ≤ 2048
@@ -44,59 +47,84 @@ held_end held main reach is within =
 
 -- ---- the bits of a frame's main data
 
-pub bits_of-zeros : (n : ℕ) → bits_of n 0 ≡ replicate n 0
+bits_of-zeros : (n : ℕ) → bits_of n 0 ≡ replicate n 0
 unfolding bits_of
 bits_of-zeros zero = refl
 bits_of-zeros (suc n) = rw (zero-div (2 ^ n)) (ap (λ bs. 0 ∷ bs) (bits_of-zeros n))
 
--- the first bits of the first bytes
-first_bits : (n m k : ℕ) (bytes : List ℕ) → n ≤ 8 * m → take n (bits (take m (drop k bytes))) ≡ main_bits bytes k n
-first_bits n m k bytes within =
-    ap (take n) (sym (take-bits m (drop k bytes)))
-    ∙ take-take n (8 * m) (bits (drop k bytes)) within
-    ∙ ap (take n) (sym (drop-bits k bytes))
+-- the first bits of a byte, and zeros behind them
+cleared : (n unused byte : ℕ) → n + unused ≡ 8 → bits (byte / 2 ^ unused * 2 ^ unused % 256 ∷ []) ≡ take n (bits_of 8 byte) ++ replicate unused 0
+cleared n unused byte all =
+    bits-one (byte / 2 ^ unused * 2 ^ unused % 256)
+    ∙ bits_of-mod 8 (byte / 2 ^ unused * 2 ^ unused)
+    ∙ ap₂ bits_of (sym all) (omega arith)
+    ∙ bits_of-cat n unused (byte / 2 ^ unused) 0 (pow_pos unused)
+    ∙ ap₂ (λ (xs ys : List ℕ). xs ++ ys) (sym (take-bits_of n unused byte) ∙ ap (λ k. take n (bits_of k byte)) all) (bits_of-zeros unused)
+  where
+    pow_pos : (k : ℕ) → 0 < 2 ^ k
+    pow_pos zero = omega arith
+    pow_pos (suc k) = omega (arith, pow_pos k)
 
--- the low bits of whole bytes, where they are put to 0
-cleared : (n m : ℕ) (bytes new : List ℕ) → length bytes ≡ m → n ≤ 8 * m →
-    bits new ≡ (take n (bits bytes) ++ bits_of (8 * m - n) 0) ++ drop (n + (8 * m - n)) (bits bytes) → bits new ≡ take n (bits bytes) ++ replicate (8 * m - n) 0
-cleared n m bytes new many within is =
-    let none : drop (n + (8 * m - n)) (bits bytes) ≡ [] = drop_all (n + (8 * m - n)) (bits bytes) (omega (arith, length-bits bytes, many, within)) in
-    is
-    ∙ ap₂ (λ (zeros rest : List ℕ). (take n (bits bytes) ++ zeros) ++ rest) (bits_of-zeros (8 * m - n)) none
-    ∙ append-nil (take n (bits bytes) ++ replicate (8 * m - n) 0)
+-- the bits of a list of which a byte is the first
+take_first : (n byte : ℕ) (bytes : List ℕ) → n ≤ 8 → take n (bits (byte ∷ bytes)) ≡ take n (bits_of 8 byte)
+take_first n byte bytes few =
+    ap (take n) (bits-cons byte bytes) ∙ take-append-le n (bits_of 8 byte) (bits bytes) (omega (arith, few, length-bits_of 8 byte))
 
-length-zeros : (n : ℕ) → length {A = ℕ} (replicate n 0) ≡ n
-length-zeros n = ap (length {A = ℕ}) (sym (bits_of-zeros n)) ∙ length-bits_of n 0
+-- the last byte of main data
+pub last-packed : (held : List ℕ) (at n unused byte : ℕ) → at < length held → byte ≡ get_or held at 0 → n + unused ≡ 8 → 0 < n →
+    ArePacked (byte / 2 ^ unused * 2 ^ unused % 256 ∷ []) n (main_bits held at n)
+last-packed held at n unused byte within is all some =
+    let first : main_bits held at n ≡ take n (bits_of 8 byte) =
+    ap (take n) (drop-bits at held ∙ ap bits (drop-cons held at 0 within ∙ ap (λ b. b ∷ drop (suc at) held) (sym is))) ∙ take_first n byte (drop (suc at) held) (omega (arith, all)) in
+    record {
+      few = omega (arith, all, some);
+      same = cleared n unused byte all ∙ ap₂ (λ (xs : List ℕ) k. xs ++ replicate k 0) (sym first) (omega (arith, all));
+    }
 
-length-cleared : (n m : ℕ) (bytes new : List ℕ) → length bytes ≡ m → n ≤ 8 * m → bits new ≡ take n (bits bytes) ++ replicate (8 * m - n) 0 → length new ≡ m
-length-cleared n m bytes new many within is =
-    let front : length (take n (bits bytes)) ≡ n = length-take-le n (bits bytes) (omega (arith, length-bits bytes, many, within)) in
-    omega (arith, length-bits new, ap length is, length-append (take n (bits bytes)) (replicate (8 * m - n) 0), front, length-zeros (8 * m - n), within)
+-- no bits
+pub none-packed : (held : List ℕ) (at n : ℕ) → n ≡ 0 → ArePacked [] n (main_bits held at n)
+none-packed held at n none = record { few = omega (arith, none); same = bits-nil ∙ ap (λ k. take k (drop (8 * at) (bits held)) ++ replicate (8 * 0 - k) 0) (sym none) }
+
+-- bits behind whole bytes
+packed_behind : (held whole last : List ℕ) (from count rest n : ℕ) → n ≡ 8 * count + rest → whole ≡ take count (drop from held) → length whole ≡ count →
+    ArePacked last rest (main_bits held (from + count) rest) → ArePacked (whole ++ last) n (main_bits held from n)
+packed_behind held whole last from count rest n is same long packed =
+    let b = bits held in
+    let front : bits whole ≡ take (8 * count) (drop (8 * from) b) = ap bits same ∙ sym (take-bits count (drop from held)) ∙ ap (take (8 * count)) (sym (drop-bits from held)) in
+    let behind : main_bits held (from + count) rest ≡ take rest (drop (8 * count) (drop (8 * from) b)) =
+    ap (λ k. take rest (drop k b)) (omega arith) ∙ ap (take rest) (sym (drop-drop (8 * count) (8 * from) b)) in
+    let all : bits whole ++ main_bits held (from + count) rest ≡ main_bits held from n =
+    ap₂ (λ (xs ys : List ℕ). xs ++ ys) front behind
+    ∙ sym (take-add (8 * count) rest (drop (8 * from) b))
+    ∙ ap (λ k. take k (drop (8 * from) b)) (sym is) in
+    let size : length (whole ++ last) ≡ count + length last = length-append whole last ∙ ap (λ k. k + length last) long in
+    record {
+      few = omega (arith, size, packed.few, is);
+      same =
+          bits-append whole last
+          ∙ ap (λ (xs : List ℕ). bits whole ++ xs) packed.same
+          ∙ sym (append_assoc (bits whole) (main_bits held (from + count) rest) (replicate (8 * length last - rest) 0))
+          ∙ ap₂ (λ (xs : List ℕ) k. xs ++ replicate k 0) all (omega (arith, size, is));
+    }
 
 -- the main data of a frame, from what the window holds
-packed : (held main bytes new : List ℕ) (n m reach start : ℕ) →
-    IsWindowOver held main → reach ≤ length held → start ≡ length main - reach → m ≡ (n + 7) / 8 → m ≤ reach →
-    bytes ≡ take m (drop (length held - reach) held) →
-    bits new ≡ (take n (bits bytes) ++ bits_of (8 * m - n) 0) ++ drop (n + (8 * m - n)) (bits bytes) → ArePacked new n (main_bits main start n)
-packed held main bytes new n m reach start is within starts few fits same put =
-    let room : n ≤ 8 * m = omega (arith, few) in
-    let many : length bytes ≡ m = ap length same ∙ length-take-le m (drop (length held - reach) held) (omega (arith, length-drop (length held - reach) held, within, fits)) in
-    let zeros : bits new ≡ take n (bits bytes) ++ replicate (8 * m - n) 0 = cleared n m bytes new many room put in
-    let whole : length new ≡ m = length-cleared n m bytes new many room zeros in
-    let end : drop (length held - reach) held ≡ drop start main = held_end held main reach is within ∙ ap (λ k. drop k main) (sym starts) in
-    let first : take n (bits bytes) ≡ main_bits main start n = ap (λ xs. take n (bits xs)) (same ∙ ap (take m) end) ∙ first_bits n m start main room in
-    record { few = whole ∙ few; same = zeros ∙ ap₂ (λ bs k. bs ++ replicate (8 * k - n) 0) first (sym whole) }
+pub packed : (held main whole last : List ℕ) (reach count rest n : ℕ) → IsWindowOver held main → reach ≤ length held → n ≡ 8 * count + rest → n ≤ 8 * reach →
+    whole ≡ take count (drop (length held - reach) held) → ArePacked last rest (main_bits held (length held - reach + count) rest) →
+    ArePacked (whole ++ last) n (main_bits main (length main - reach) n)
+packed held main whole last reach count rest n is within all fits same last_is =
+    let from = length held - reach in
+    let long : length whole ≡ count = ap length same ∙ length-take-le count (drop from held) (omega (arith, length-drop from held, within, all, fits)) in
+    let end : main_bits held from n ≡ main_bits main (length main - reach) n =
+    ap (take n) (drop-bits from held ∙ ap bits (held_end held main reach is within) ∙ sym (drop-bits (length main - reach) main)) in
+    subst (ArePacked (whole ++ last) n) end (packed_behind held whole last from count rest n all same long last_is)
 
--- the same, where the bytes were cleared through a slice of a list of the same length
-pub packed_in : (held main bytes new : List ℕ) (n m reach start : ℕ) →
-    IsWindowOver held main → reach ≤ length held → start ≡ length main - reach → m ≡ (n + 7) / 8 → m ≤ reach →
-    bytes ≡ take m (drop (length held - reach) held) →
-    bits new ≡ (take n (bits bytes) ++ bits_of (8 * m - n) 0) ++ drop (n + (8 * m - n)) (bits bytes) → ArePacked (refill (length bytes) bytes new) n (main_bits main start n)
-packed_in held main bytes new n m reach start is within starts few fits same put =
-    let done : ArePacked new n (main_bits main start n) = packed held main bytes new n m reach start is within starts few fits same put in
-    let many : length bytes ≡ m = ap length same ∙ length-take-le m (drop (length held - reach) held) (omega (arith, length-drop (length held - reach) held, within, fits)) in
-    let whole : length new ≡ length bytes = done.few ∙ sym few ∙ sym many in
-    subst (λ xs. ArePacked xs n (main_bits main start n)) (sym (take_at new (drop (length new) bytes) (length bytes) whole)) done
+-- a byte that is there
+pub found : (r : Option (Bor ℕ)) (xs : List ℕ) (i : ℕ) → option_copied r ≡ slice_get xs i → i < length xs → IsSome r
+found None xs i is within = let some = slice_get-some xs i within in absurd (none-some some.0 (is ∙ some.1))
+found (Some b) xs i is within = refl
+
+pub found-is : (r : Option (Bor ℕ)) (b : Bor ℕ) (xs : List ℕ) (i : ℕ) → option_copied r ≡ slice_get xs i → r ≡ Some b → b.now ≡ get_or xs i 0
+found-is r b xs i is some = sym (get_or_from_slice_get xs i b.now 0 (sym is ∙ ap option_copied some))
 
 -- ---- a part of two slices, one behind the other
 
@@ -110,7 +138,7 @@ drop_two_cases from xs ys (inr past) =
     let split : from ≡ length xs + (from - length xs) = omega arith in
     rw (least, drop-length xs) (ap (λ k. drop k (xs ++ ys)) split ∙ drop-append-add xs ys (from - length xs))
 
-drop_two : (from : ℕ) (xs ys : List ℕ) → drop from (xs ++ ys) ≡ drop (min from (length xs)) xs ++ drop (from - min from (length xs)) ys
+pub drop_two : (from : ℕ) (xs ys : List ℕ) → drop from (xs ++ ys) ≡ drop (min from (length xs)) xs ++ drop (from - min from (length xs)) ys
 drop_two from xs ys = drop_two_cases from xs ys (cases_lt from (length xs))
 
 take_two_cases : (count : ℕ) (xs ys : List ℕ) → (count < length xs) ⊎ (length xs ≤ count) → take count (xs ++ ys) ≡ take (min count (length xs)) xs ++ take (count - min count (length xs)) ys
@@ -123,7 +151,7 @@ take_two_cases count xs ys (inr past) =
     let split : count ≡ length xs + (count - length xs) = omega arith in
     rw (least, take-length xs) (ap (λ k. take k (xs ++ ys)) split ∙ take-append-add xs ys (count - length xs))
 
-take_two : (count : ℕ) (xs ys : List ℕ) → take count (xs ++ ys) ≡ take (min count (length xs)) xs ++ take (count - min count (length xs)) ys
+pub take_two : (count : ℕ) (xs ys : List ℕ) → take count (xs ++ ys) ≡ take (min count (length xs)) xs ++ take (count - min count (length xs)) ys
 take_two count xs ys = take_two_cases count xs ys (cases_lt count (length xs))
 
 -- the first of a front from a place on, and then as much of the back
@@ -132,11 +160,13 @@ pub part_of_two : (from count passed first : ℕ) (xs ys front back : List ℕ) 
 part_of_two from count passed first xs ys front back fronts backs passes firsts =
     rw (firsts, fronts, backs, passes) (sym (ap (take count) (drop_two from xs ys) ∙ take_two count (drop (min from (length xs)) xs) (drop (from - min from (length xs)) ys)))
 
--- what was done where nothing failed
-pub on_ok : {T E P : Type 0} (r : Result T E) (x : T) → r ≡ Ok x → OnOk r P → P
-on_ok {P = P} r x is holds = subst (λ s. OnOk s P) is holds
+-- ---- three pieces behind one another
 
--- one piece behind another
-pub appended_two : (old mid new a b c : List ℕ) → mid ≡ old ++ a → new ≡ mid ++ b → a ++ b ≡ c → new ≡ old ++ c
-appended_two old mid new a b c first second both =
-    second ∙ ap (λ (xs : List ℕ). xs ++ b) first ∙ append_assoc old a b ∙ ap (λ (xs : List ℕ). old ++ xs) both
+-- what a queue keeps of two pieces
+pub kept_two : (old mid new : Buffer ℕ) (xs ys : List ℕ) → mid ≡ buffer (keep_last old.capacity (old.items ++ xs)) old.capacity →
+    new ≡ buffer (keep_last mid.capacity (mid.items ++ ys)) mid.capacity → new ≡ buffer (keep_last old.capacity (old.items ++ (xs ++ ys))) old.capacity
+kept_two old mid new xs ys first second =
+    second
+    ∙ ap (λ (b : Buffer ℕ). buffer (keep_last b.capacity (b.items ++ ys)) b.capacity) first
+    ∙ ap (λ (zs : List ℕ). buffer zs old.capacity)
+    (last_more old.capacity (old.items ++ xs) ys ∙ ap (keep_last old.capacity) (append_assoc old.items xs ys))

@@ -1,6 +1,6 @@
 -- What a window over main data holds, and the main data of a frame (main_data_begin, ISO/IEC 11172-3 and 13818-3, 2.4.2.7). Main data
 -- are the bytes of all areas, one behind the other.
-use Rattle.std.specs.Prelude.{◌≡◌, ℕ, ◌+◌, ◌-◌, ◌*◌, ◌/◌, List, ◌++◌, length, take, drop, replicate}
+use Rattle.std.specs.Prelude.{◌≡◌, ℕ, ◌+◌, ◌-◌, ◌*◌, ◌/◌, List, [], ◌∷◌, ◌++◌, length, take, drop, replicate, Option, Some, None}
 use Rattle.circular_buffer.specs.Buffer.{keep_last}
 use Rattle.bit_fields.specs.Bits.{bits}
 
@@ -16,3 +16,8 @@ main_bits main start count = take count (drop (8 * start) (bits main))
 pub record ArePacked (packed : List ℕ) (count : ℕ) (bs : List ℕ) : Type 0 where
   pub few : length packed ≡ (count + 7) / 8
   pub same : bits packed ≡ bs ++ replicate (8 * length packed - count) 0
+
+-- a byte that may be there
+abbrev pub byte_of : Option ℕ → List ℕ
+byte_of None = []
+byte_of (Some byte) = byte ∷ []

@@ -5,12 +5,14 @@
 //! ```text
 //! let mut window = Window::new(alloc)?;
 //! window.push_area(area);
-//! window.payload(area.len() as u32, main_data_begin, bits, &mut payload);
+//! let payload = window.payload(area.len() as u32, main_data_begin, bits);
 //! ```
 #![tactic(auto)]
 
 mod laws;
+mod payload;
 mod window;
 
 pub use laws::{areas_are_held, frames_are_held};
+pub use payload::Payload;
 pub use window::Window;

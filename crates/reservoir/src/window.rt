@@ -1,10 +1,10 @@
 //! The window, over a queue that drops its oldest bytes.
-ghost use Rattle.std.specs.Prelude.{◌≡◌, ℕ, ◌+◌, ◌-◌, ◌*◌, ◌/◌, ◌≤◌, List, [], ◌++◌, length, take, drop, IfOk};
+ghost use Rattle.std.specs.Prelude.{◌≡◌, ℕ, ◌+◌, ◌-◌, ◌*◌, ◌/◌, ◌<◌, ◌≤◌, List, [], ◌++◌, length, take, drop, IfOk};
 ghost use Rattle.circular_buffer.specs.Buffer.{keep_last};
-ghost use Rattle.reservoir.specs.Window.{IsWindowOver, main_bits, ArePacked};
+ghost use Rattle.bit_fields.specs.Bits.{AreBytes};
+ghost use Rattle.reservoir.specs.Window.{IsWindowOver, main_bits, ArePacked, byte_of};
 
-use arrayvec::ArrayVec;
-use bit_fields::put;
+use crate::payload::Payload;
 use circular_buffer::HeapCircularBuffer;
 use std::alloc::{AllocError, Global};
 use std::marker::Model;
@@ -64,41 +64,57 @@ impl Window {
     /// the area the last 2,048 bytes stay.
     pub fn push_area(&mut self, area: &[u8])
         ensures held { self.new ≡ keep_last 2048 (self.old ++ area.now) }
-        ensures main { (main : List ℕ) → IsWindowOver self.old main → IsWindowOver self.new (main ++ area.now) }
+        ensures main { (main : List ℕ) → IsWindowOver self.old main
+            → IsWindowOver self.new (main ++ area.now) }
     {
         self.queue.extend_from_slice(area);
     }
 
     /// The main data of a frame whose own area was pushed last: `bits` bits from the place on that is `begin` bytes
     /// before the `area` bytes of its area, in as few bytes as hold them, with the unused low bits of the last byte
-    /// 0. They take the place of what `into` held. `begin` is the frame's main_data_begin (ISO/IEC 11172-3 and
-    /// 13818-3, 2.4.2.7), and `bits` the sum of its part2_3_length.
-    pub fn payload(&self, area: u32, begin: u32, bits: u32, into: &mut ArrayVec<u8, 2048>)
+    /// 0. `begin` is the frame's main_data_begin (ISO/IEC 11172-3 and 13818-3, 2.4.2.7), and `bits` the sum of its
+    /// part2_3_length.
+    pub fn payload(&self, area: u32, begin: u32, bits: u32) -> Payload<'_>
         requires held { area + begin ≤ length self.now }
         requires within { bits ≤ 8 * (area + begin) }
-        ensures payload { (main : List ℕ) → IsWindowOver self.now main → ArePacked into.new.items bits (main_bits main (length main - area - begin) bits) }
+        ensures payload { (main : List ℕ) → IsWindowOver self.now main
+            → ArePacked result bits (main_bits main (length main - area - begin) bits) }
+        ensures bytes { AreBytes result }
     {
         let (front, back) = self.queue.as_slices();
         let from = self.queue.len() - (area + begin) as usize;
-        let count = bits.div_ceil(8);
-        let unused = 8 * count - bits;
-        into.clear();
-        append_part(into, front, back, from, count as usize);
-        put(into.as_mut_slice(), bits as usize, unused, 0);
+        let whole = (bits / 8) as usize;
+        let last = self.last_byte(from + whole, bits % 8);
+        let (front, back) = part(front, back, from, whole);
+        Payload::new(front, back, last)
+    }
+
+    /// The first bits of the byte at a place, fewer than 8, and zeros behind them; of no bits none.
+    fn last_byte(&self, at: usize, bits: u32) -> Option<u8>
+        requires few { bits < 8 }
+        requires within { 8 * at + bits ≤ 8 * length self.now }
+        ensures packed { ArePacked (byte_of result) bits (main_bits self.now at bits) }
+        ensures bytes { AreBytes (byte_of result) }
+    {
+        if bits == 0 {
+            return None;
+        }
+        let byte = *self.queue.get(at).unwrap();
+        let unused = 8 - bits;
+        Some(byte >> unused << unused)
     }
 }
 
-/// Appends so many bytes from a place on of two slices, one behind the other.
-fn append_part(into: &mut ArrayVec<u8, 2048>, front: &[u8], back: &[u8], from: usize, count: usize)
+/// So many bytes from a place on of two slices, one behind the other, as two slices again.
+fn part<'a>(front: &'a [u8], back: &'a [u8], from: usize, count: usize) -> (&'a [u8], &'a [u8])
     requires within { from + count ≤ length front.now + length back.now }
     requires short { length front.now + length back.now ≤ 2048 }
-    requires room { length into.old.items + count ≤ 2048 }
-    ensures { into.new.items ≡ into.old.items ++ take count (drop from (front.now ++ back.now)) }
+    ensures part { result.0.now ++ result.1.now ≡ take count (drop from (front.now ++ back.now)) }
+    ensures bytes { AreBytes result.0.now × AreBytes result.1.now }
 {
     let passed = from.min(front.len());
     let front = &front[passed..];
     let back = &back[from - passed..];
     let first = count.min(front.len());
-    into.try_extend_from_slice(&front[..first]).unwrap();
-    into.try_extend_from_slice(&back[..count - first]).unwrap();
+    (&front[..first], &back[..count - first])
 }

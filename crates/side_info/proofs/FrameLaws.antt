@@ -12,6 +12,7 @@ use Rattle.side_info.specs.Side.{side_at, side_bits, SideFits}
 use Rattle.std.specs.Prelude.{bit_xor}
 use Rattle.side_info.specs.CheckWord.{polynomial, bit_step, remainder, start_word, check_word_of}
 use Rattle.side_info.specs.Frame.{side_place, side_part, side_in, word_said, word_part, frame_with}
+use Rattle.side_info.proofs.ReadLaws.{side_size-small}
 use Rattle.side_info.proofs.SideLaws.{IsShaped, IsShaped-side_at, SideFits-side_at, side_at-side_bits, side_bits-side_at, AreBits-side_bits, length-side_bits}
 
 -- ---- a word of two bytes
@@ -79,6 +80,9 @@ overhead-least c protected = omega (arith, overhead-is c protected, place-least 
 
 pub overhead-most : (c : ClassFields) (protected : Bool) → overhead_of c protected ≤ 6 + side_size_of c
 overhead-most c protected = omega (arith, overhead-is c protected, place-most protected)
+
+pub overhead-few : (c : ClassFields) (protected : Bool) → overhead_of c protected ≤ 38
+overhead-few c protected = omega (arith, overhead-most c protected, side_size-small c)
 
 pub room-least : (h : HeaderFields) (frame : List ℕ) → HasRoom h frame → 4 + side_size_of (class_of h) ≤ length frame
 room-least h frame room = omega (arith, room, overhead-is (class_of h) h.protected, place-least h.protected)

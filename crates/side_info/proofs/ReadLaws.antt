@@ -1,5 +1,5 @@
 -- Side fields as parts of the numbers that are read.
-use Rattle.std.proofs.Common.{◌≡◌, ℕ, ◌+◌, ◌-◌, ◌*◌, ◌/◌, ◌%◌, ◌^◌, ◌<◌, ◌≤◌, true, false, cond, eqb, List, [], ◌∷◌, ◌++◌, length, take, drop, refl, sym, ap, ap₂, ◌∙◌, arith, lit≤, mod-eq_of_lt, length-drop, sum}
+use Rattle.std.proofs.Common.{◌≡◌, ℕ, ◌+◌, ◌-◌, ◌*◌, ◌/◌, ◌%◌, ◌^◌, ◌<◌, ◌≤◌, true, false, cond, eqb, List, [], ◌∷◌, ◌++◌, length, take, drop, refl, sym, ap, ap₂, ◌∙◌, arith, lit≤, mod-eq_of_lt, pow_mono, length-drop, sum, slice_set}
 use Rattle.std.proofs.Math.Nat.{div-one, zero-mul}
 use Rattle.std.proofs.lemmas.Nat.{shr-shr, shr_below}
 use Rattle.std.proofs.lemmas.List.{drop-drop}
@@ -52,6 +52,17 @@ size-is One = refl
 size-is Two = refl
 size-is TwoFive = refl
 
+preflag-narrow : (version : Version) → preflag_width version ≤ 1
+preflag-narrow One = omega arith
+preflag-narrow Two = omega arith
+preflag-narrow TwoFive = omega arith
+
+-- preflag is all that is above the two lowest bits
+pub preflag_once : (version : Version) (last : ℕ) → last < 2 ^ (preflag_width version + 2) → last / 4 % 2 ≡ last / 4
+preflag_once version last small =
+    let most : 2 ^ preflag_width version ≤ 2 ^ 1 = pow_mono (preflag-narrow version) in
+    mod-eq_of_lt (omega (arith, shr_below last (preflag_width version) 2 small, most))
+
 module _ (version : Version) (bs : List ℕ) (at first middle last : ℕ) (all : AreBits bs) (enough : at + granule_size version ≤ length bs) (first_small : first < 2 ^ 29) (middle_small : middle < 2 ^ (compress_width version + 23)) (last_small : last < 2 ^ (preflag_width version + 2)) (first_is : first ≡ group at 29 bs) (middle_is : middle ≡ group (at + 29) (compress_width version + 23) bs) (last_is : last ≡ group (at + 52 + compress_width version) (preflag_width version + 2) bs) where
   compress-below : middle / 2 ^ 23 < 2 ^ compress_width version
   compress-below = shr_below middle (compress_width version) 23 middle_small
@@ -98,6 +109,24 @@ module _ (version : Version) (bs : List ℕ) (at first middle last : ℕ) (all :
       ap granule_of
       (ap₂ (λ xs ys. xs ++ ys) one (ap₂ (λ xs ys. xs ++ ys) two three ∙ sym (numbers_at-append (cw ∷ 1 ∷ 22 ∷ []) (pw ∷ 1 ∷ 1 ∷ []) (drop 29 rest)))
       ∙ sym (numbers_at-append (12 ∷ 9 ∷ 8 ∷ []) (cw ∷ 1 ∷ 22 ∷ pw ∷ 1 ∷ 1 ∷ []) rest))
+
+-- ---- two of a kind
+
+pub set_both : {A : Type 0} (xs : List A) (first second : A) → length xs ≡ 2 → slice_set (slice_set xs 0 first) 1 second ≡ first ∷ second ∷ []
+set_both (x ∷ y ∷ []) first second two = refl
+set_both [] first second two = absurd (omega (arith, two))
+set_both (x ∷ []) first second two = absurd (omega (arith, two))
+set_both (x ∷ y ∷ z ∷ xs) first second two = absurd (omega (arith, two))
+
+pub pair_of_one : (version : Version) (channels : ℕ) (bs : List ℕ) (first : Granule) → first ≡ granule_at version bs → channels ≡ 1 → first ∷ no_granule ∷ [] ≡ pair_at version channels bs
+pair_of_one version channels bs first is one = rw (one, is) refl
+
+pub pair_of_two : (version : Version) (channels at width : ℕ) (bs : List ℕ) (first second : Granule) → width ≡ granule_size version → first ≡ granule_at version (drop at bs) → second ≡ granule_at version (drop (at + width) bs)
+    → eqb channels 1 ≡ false → first ∷ second ∷ [] ≡ pair_at version channels (drop at bs)
+pair_of_two version channels at width bs first second wide is next two =
+    let behind : granule_at version (drop (at + width) bs) ≡ granule_at version (drop (granule_size version) (drop at bs)) =
+    ap (λ n. granule_at version (drop (at + n) bs)) wide ∙ ap (granule_at version) (sym (drop-drop (granule_size version) at bs)) in
+    ap₂ (λ g h. g ∷ h ∷ []) is (next ∙ behind) ∙ rw two refl
 
 -- ---- the whole, from its parts
 sizes : (version : Version) (channels : ℕ) → side_bytes_of version channels ≤ 32

@@ -1,102 +1,81 @@
--- Side fields joined to the numbers that are put in place of the bits.
-use Rattle.std.proofs.Common.{◌≡◌, ℕ, ◌+◌, ◌-◌, ◌*◌, ◌^◌, ◌<◌, ◌≤◌, Bool, true, false, eqb, List, [], ◌∷◌, ◌++◌, length, get_or, take, drop, refl, sym, ap, ap₂, subst, ◌∙◌, arith, sum, append-nil, append_assoc}
+-- Side fields joined to words, and the words that are put.
+use Rattle.std.proofs.Common.{◌≡◌, ℕ, zero, suc, ◌+◌, ◌-◌, ◌*◌, ◌/◌, ◌%◌, ◌^◌, ◌<◌, ◌≤◌, Bool, true, false, eqb, List, [], ◌∷◌, ◌++◌, length, get_or, take, drop, refl, sym, ap, ap₂, subst, ◌∙◌, arith, sum, append-nil, append_assoc, lit≤, take_all}
 use Rattle.std.specs.List.{flat_map}
+use Rattle.std.proofs.Math.Nat.{div-one}
 use Rattle.std.proofs.lemmas.Bool.{ne_eqb}
-use Rattle.std.proofs.lemmas.List.{take_at, take_all}
 use Rattle.std.proofs.lemmas.Grind.{flat_map-append}
+use Rattle.std.proofs.lemmas.Nat.{one_shl}
 use Rattle.bit_fields.specs.Bits.{bits_of}
-use Rattle.bit_fields.specs.Groups.{spelled, Fits}
-use Rattle.bit_fields.proofs.BitsLaws.{length-bits_of}
-use Rattle.bit_fields.proofs.GroupsLaws.{sum-cons, joined, joined-below, spelled-joined, spelled-append, take-put, length-put}
+use Rattle.bit_fields.specs.Groups.{spelled}
+use Rattle.bit_fields.proofs.GroupsLaws.{joined, joined-below, spelled-joined}
+use Rattle.bit_fields.proofs.WordLaws.{into_word, into_last, put_next}
 use mir.Val.{bool_byte}
 use Rattle.frame_header.specs.declared.version.Version.{Version}
 use Rattle.frame_header.specs.declared.version.Version.TheVariants.{One, Two, TwoFive}
-use Rattle.frame_header.specs.Fields.{ClassFields, IsClass}
-use Rattle.frame_header.specs.Tables.{side_size_of, granules_of}
+use Rattle.frame_header.specs.Fields.{ClassFields}
+use Rattle.frame_header.specs.Tables.{granules_of, side_size_of}
 use Rattle.side_info.specs.declared.granule.Granule.{Granule}
 use Rattle.side_info.specs.declared.side.Side.{Side}
-use Rattle.side_info.specs.Granule.{compress_width, preflag_width, bit_of, no_granule, granule_size, granule_numbers, granule_bits, GranuleFits}
-use Rattle.side_info.specs.Parts.{front_size, second_bits}
-use Rattle.side_info.specs.Side.{front_widths_of, side_bits, granules_in}
-use Rattle.side_info.proofs.GranuleLaws.{bit_of-below}
-use Rattle.side_info.proofs.ReadLaws.{parts_size}
+use Rattle.side_info.specs.Granule.{compress_width, preflag_width, bit_of, granule_widths, no_granule, granule_size, granule_numbers, granule_bits, GranuleFits}
+use Rattle.side_info.specs.Parts.{class_with, front_size, second_bits}
+use Rattle.side_info.specs.Side.{front_widths_of, granules_in, side_bits}
+use Rattle.side_info.proofs.GranuleLaws.{Fits-granule}
 
 -- a `bool` as a number
 pub bool_byte-is : (flag : Bool) → bool_byte flag ≡ bit_of flag
 bool_byte-is true = refl
 bool_byte-is false = refl
 
--- three groups put one behind the other
-pub three_puts : (b0 b1 b2 b3 : List ℕ) (at v w x m n o : ℕ) → at + v + w + x ≤ length b0 → b1 ≡ take at b0 ++ bits_of v m ++ drop (at + v) b0 → b2 ≡ take (at + v) b1 ++ bits_of w n ++ drop (at + v + w) b1 → b3 ≡ take (at + v + w) b2 ++ bits_of x o ++ drop (at + v + w + x) b2 → take (at + v + w + x) b3 ≡ take at b0 ++ (bits_of v m ++ (bits_of w n ++ bits_of x o))
-three_puts b0 b1 b2 b3 at v w x m n o room e d f =
-    let l1 : length b1 ≡ length b0 = ap length e ∙ length-put b0 at v m (omega arith) in
-    let l2 : length b2 ≡ length b1 = ap length d ∙ length-put b1 (at + v) w n (omega arith) in
-    ap (take (at + v + w + x)) f
-    ∙ take-put b2 (at + v + w) x o (omega arith)
-    ∙ ap (λ bs. bs ++ bits_of x o) (ap (take (at + v + w)) d ∙ take-put b1 (at + v) w n (omega arith) ∙ ap (λ bs. bs ++ bits_of w n) (ap (take (at + v)) e ∙ take-put b0 at v m (omega arith)))
-    ∙ append_assoc (take at b0 ++ bits_of v m) (bits_of w n) (bits_of x o)
-    ∙ append_assoc (take at b0) (bits_of v m) (bits_of w n ++ bits_of x o)
+-- ---- one granule and channel as one number
+-- the fields by their places
+granule_joined : (version : Version) (g : Granule) → ((g.part2_3_length * 131072 + g.big_values * 256 + g.global_gain) * 2 ^ (compress_width version + 23) + (g.scalefac_compress * 8388608 + bit_of g.window_switching * 4194304 + g.detail)) * 2 ^ (preflag_width version + 2) + (bit_of g.preflag * 4 + bit_of g.scalefac_scale * 2 + bit_of g.count1table_select) ≡ joined (granule_widths version) (granule_numbers g)
+unfolding joined granule_numbers
+granule_joined One g = omega arith
+granule_joined Two g = omega arith
+granule_joined TwoFive g = omega arith
 
--- ---- one granule and channel as three numbers
-module _ (version : Version) (g : Granule) (fits : GranuleFits version g) (first middle last : ℕ) (first_is : first ≡ g.part2_3_length * 131072 + g.big_values * 256 + g.global_gain) (middle_is : middle ≡ g.scalefac_compress * 8388608 + bit_of g.window_switching * 4194304 + g.detail) (last_is : last ≡ bit_of g.preflag * 4 + bit_of g.scalefac_scale * 2 + bit_of g.count1table_select) where
-  first_fits : Fits (12 ∷ 9 ∷ 8 ∷ []) (g.part2_3_length ∷ g.big_values ∷ g.global_gain ∷ [])
-  first_fits = (fits.part2_3_length, (fits.big_values, (fits.global_gain, tt)))
+granule_most : (version : Version) → 2 ^ granule_size version ≤ 2 ^ 63
+granule_most One = lit≤ tt
+granule_most Two = lit≤ tt
+granule_most TwoFive = lit≤ tt
 
-  middle_fits : Fits (compress_width version ∷ 1 ∷ 22 ∷ []) (g.scalefac_compress ∷ bit_of g.window_switching ∷ g.detail ∷ [])
-  middle_fits = (fits.scalefac_compress, (bit_of-below g.window_switching, (fits.detail, tt)))
+compress_most : (version : Version) → compress_width version ≤ 9
+compress_most One = lit≤ tt
+compress_most Two = lit≤ tt
+compress_most TwoFive = lit≤ tt
 
-  last_fits : Fits (preflag_width version ∷ 1 ∷ 1 ∷ []) (bit_of g.preflag ∷ bit_of g.scalefac_scale ∷ bit_of g.count1table_select ∷ [])
-  last_fits = (fits.preflag, (bit_of-below g.scalefac_scale, (bit_of-below g.count1table_select, tt)))
+preflag_most : (version : Version) → preflag_width version ≤ 1
+preflag_most One = lit≤ tt
+preflag_most Two = lit≤ tt
+preflag_most TwoFive = lit≤ tt
 
-  middle_sum : sum (compress_width version ∷ 1 ∷ 22 ∷ []) ≡ compress_width version + 23
-  middle_sum = omega (arith, sum-cons (compress_width version) (1 ∷ 22 ∷ []), sum-cons 1 (22 ∷ []), sum-cons 22 [])
+module _ (version : Version) (g : Granule) (fits : GranuleFits version g) (compress preflag first middle last : ℕ) (compress_is : compress ≡ compress_width version) (preflag_is : preflag ≡ preflag_width version) (first_is : first ≡ g.part2_3_length * 131072 + g.big_values * 256 + g.global_gain) (middle_is : middle ≡ g.scalefac_compress * 8388608 + bit_of g.window_switching * 4194304 + g.detail) (last_is : last ≡ bit_of g.preflag * 4 + bit_of g.scalefac_scale * 2 + bit_of g.count1table_select) where
+  word-joined : (first * (1 * 2 ^ (compress + 23) % 2 ^ 64) + middle) * (1 * 2 ^ (preflag + 2) % 2 ^ 64) + last ≡ joined (granule_widths version) (granule_numbers g)
+  word-joined =
+      let above : 1 * 2 ^ (compress + 23) % 2 ^ 64 ≡ 2 ^ (compress_width version + 23) = one_shl (compress + 23) 64 (omega (arith, compress_is, compress_most version)) ∙ ap (λ n. 2 ^ (n + 23)) compress_is in
+      let below : 1 * 2 ^ (preflag + 2) % 2 ^ 64 ≡ 2 ^ (preflag_width version + 2) = one_shl (preflag + 2) 64 (omega (arith, preflag_is, preflag_most version)) ∙ ap (λ n. 2 ^ (n + 2)) preflag_is in
+      (λ i. (first_is i * above i + middle_is i) * below i + last_is i) ∙ granule_joined version g
 
-  last_sum : sum (preflag_width version ∷ 1 ∷ 1 ∷ []) ≡ preflag_width version + 2
-  last_sum = omega (arith, sum-cons (preflag_width version) (1 ∷ 1 ∷ []), sum-cons 1 (1 ∷ []), sum-cons 1 [])
+  pub word_below : (first * (1 * 2 ^ (compress + 23) % 2 ^ 64) + middle) * (1 * 2 ^ (preflag + 2) % 2 ^ 64) + last < 2 ^ granule_size version
+  word_below = rw word-joined (joined-below (granule_widths version) (granule_numbers g) (Fits-granule version g fits))
 
-  first_joined : first ≡ joined (12 ∷ 9 ∷ 8 ∷ []) (g.part2_3_length ∷ g.big_values ∷ g.global_gain ∷ [])
-  unfolding joined
-  first_joined = omega arith
+  pub word_fits : (first * (1 * 2 ^ (compress + 23) % 2 ^ 64) + middle) * (1 * 2 ^ (preflag + 2) % 2 ^ 64) + last < 2 ^ 64
+  word_fits = omega (arith, word_below, granule_most version)
 
-  middle_joined : middle ≡ joined (compress_width version ∷ 1 ∷ 22 ∷ []) (g.scalefac_compress ∷ bit_of g.window_switching ∷ g.detail ∷ [])
-  unfolding joined
-  middle_joined = omega arith
-
-  last_joined : last ≡ joined (preflag_width version ∷ 1 ∷ 1 ∷ []) (bit_of g.preflag ∷ bit_of g.scalefac_scale ∷ bit_of g.count1table_select ∷ [])
-  unfolding joined
-  last_joined = omega arith
-
-  pub middle_below : middle < 2 ^ (compress_width version + 23)
-  middle_below = rw (middle_joined, ← middle_sum) (joined-below (compress_width version ∷ 1 ∷ 22 ∷ []) (g.scalefac_compress ∷ bit_of g.window_switching ∷ g.detail ∷ []) middle_fits)
-
-  pub last_below : last < 2 ^ (preflag_width version + 2)
-  last_below = rw (last_joined, ← last_sum) (joined-below (preflag_width version ∷ 1 ∷ 1 ∷ []) (bit_of g.preflag ∷ bit_of g.scalefac_scale ∷ bit_of g.count1table_select ∷ []) last_fits)
-
-  pub granule_put : bits_of 29 first ++ (bits_of (compress_width version + 23) middle ++ bits_of (preflag_width version + 2) last) ≡ granule_bits version g
-  unfolding granule_bits granule_numbers
-  granule_put =
-      ap₂ (λ xs ys. xs ++ ys)
-      (ap (bits_of 29) first_joined ∙ sym (spelled-joined (12 ∷ 9 ∷ 8 ∷ []) (g.part2_3_length ∷ g.big_values ∷ g.global_gain ∷ []) first_fits))
-      (ap₂ (λ xs ys. xs ++ ys)
-      (ap₂ bits_of (sym middle_sum) middle_joined ∙ sym (spelled-joined (compress_width version ∷ 1 ∷ 22 ∷ []) (g.scalefac_compress ∷ bit_of g.window_switching ∷ g.detail ∷ []) middle_fits))
-      (ap₂ bits_of (sym last_sum) last_joined ∙ sym (spelled-joined (preflag_width version ∷ 1 ∷ 1 ∷ []) (bit_of g.preflag ∷ bit_of g.scalefac_scale ∷ bit_of g.count1table_select ∷ []) last_fits))
-      ∙ sym (spelled-append (compress_width version ∷ 1 ∷ 22 ∷ []) (preflag_width version ∷ 1 ∷ 1 ∷ []) (g.scalefac_compress ∷ bit_of g.window_switching ∷ g.detail ∷ []) (bit_of g.preflag ∷ bit_of g.scalefac_scale ∷ bit_of g.count1table_select ∷ []) refl))
-      ∙ sym (spelled-append (12 ∷ 9 ∷ 8 ∷ []) (compress_width version ∷ 1 ∷ 22 ∷ preflag_width version ∷ 1 ∷ 1 ∷ []) (g.part2_3_length ∷ g.big_values ∷ g.global_gain ∷ []) (g.scalefac_compress ∷ bit_of g.window_switching ∷ g.detail ∷ bit_of g.preflag ∷ bit_of g.scalefac_scale ∷ bit_of g.count1table_select ∷ []) refl)
+  pub word_bits : bits_of (granule_size version) ((first * (1 * 2 ^ (compress + 23) % 2 ^ 64) + middle) * (1 * 2 ^ (preflag + 2) % 2 ^ 64) + last) ≡ granule_bits version g
+  unfolding granule_bits
+  word_bits = ap (bits_of (granule_size version)) word-joined ∙ sym (spelled-joined (granule_widths version) (granule_numbers g) (Fits-granule version g fits))
 
 -- ---- the front as one number
--- what is put at the front for these widths, of which there are four
-abbrev FrontPut : List ℕ → Type 0
-FrontPut ws = (m p : ℕ) (cs b0 b1 : List ℕ) (n : ℕ) → m < 2 ^ get_or ws 0 0 → p < 2 ^ get_or ws 1 0 → ((k : ℕ) → get_or cs k 0 < 2 ^ get_or ws (2 + k) 0) → length cs ≡ 2 → n ≡ joined ws (m ∷ p ∷ get_or cs 0 0 ∷ get_or cs 1 0 ∷ []) → b1 ≡ bits_of (sum ws) n ++ drop (sum ws) b0
-    → take (sum ws) b1 ≡ spelled ws (m ∷ p ∷ cs)
+-- the number of the front for these widths, of which there are four
+abbrev FrontIs : List ℕ → Type 0
+FrontIs ws = (m p : ℕ) (cs : List ℕ) (n : ℕ) → m < 2 ^ get_or ws 0 0 → p < 2 ^ get_or ws 1 0 → ((k : ℕ) → get_or cs k 0 < 2 ^ get_or ws (2 + k) 0) → length cs ≡ 2 → n ≡ joined ws (m ∷ p ∷ get_or cs 0 0 ∷ get_or cs 1 0 ∷ []) → bits_of (sum ws) n ≡ spelled ws (m ∷ p ∷ cs)
 
-front_put : (begin private first second : ℕ) → FrontPut (begin ∷ private ∷ first ∷ second ∷ [])
-front_put begin private first second m p (a ∷ b ∷ []) b0 b1 n hm hp hs l e d =
+front_is : (begin private first second : ℕ) → FrontIs (begin ∷ private ∷ first ∷ second ∷ [])
+front_is begin private first second m p (a ∷ b ∷ []) n hm hp hs l e =
     let ws : List ℕ = begin ∷ private ∷ first ∷ second ∷ [] in
-    ap (take (sum ws)) d
-    ∙ take_at (bits_of (sum ws) n) (drop (sum ws) b0) (sum ws) (length-bits_of (sum ws) n)
-    ∙ ap (bits_of (sum ws)) e
-    ∙ sym (spelled-joined ws (m ∷ p ∷ a ∷ b ∷ []) (hm, (hp, (hs 0, (hs 1, tt)))))
-front_put begin private first second m p cs b0 b1 n hm hp hs l e d = absurd (omega arith)
+    ap (bits_of (sum ws)) e ∙ sym (spelled-joined ws (m ∷ p ∷ a ∷ b ∷ []) (hm, (hp, (hs 0, (hs 1, tt)))))
+front_is begin private first second m p cs n hm hp hs l e = absurd (omega arith)
 
 pub front_of_one : (version : Version) (channels : ℕ) → channels ≡ 1 → front_widths_of version 1 ≡ front_widths_of version channels
 front_of_one version channels e = ap (front_widths_of version) (sym e)
@@ -106,12 +85,53 @@ front_of_two One channels h = let test : eqb channels 1 ≡ false = ne_eqb chann
 front_of_two Two channels h = let test : eqb channels 1 ≡ false = ne_eqb channels 1 h in rw test refl
 front_of_two TwoFive channels h = let test : eqb channels 1 ≡ false = ne_eqb channels 1 h in rw test refl
 
-pub front_written : (begin private first second : ℕ) (ws : List ℕ) → begin ∷ private ∷ first ∷ second ∷ [] ≡ ws → (m p : ℕ) (cs b0 b1 : List ℕ) (n : ℕ) → m < 2 ^ get_or ws 0 0 → p < 2 ^ get_or ws 1 0 → ((k : ℕ) → get_or cs k 0 < 2 ^ get_or ws (2 + k) 0) → length cs ≡ 2
-    → n ≡ joined (begin ∷ private ∷ first ∷ second ∷ []) (m ∷ p ∷ get_or cs 0 0 ∷ get_or cs 1 0 ∷ []) → b1 ≡ bits_of (sum (begin ∷ private ∷ first ∷ second ∷ [])) n ++ drop (sum (begin ∷ private ∷ first ∷ second ∷ [])) b0 → take (sum ws) b1 ≡ spelled ws (m ∷ p ∷ cs)
-front_written begin private first second ws is m p cs b0 b1 n hm hp hs l e d =
-    subst FrontPut is (front_put begin private first second) m p cs b0 b1 n hm hp hs l
-    (e ∙ ap (λ vs. joined vs (m ∷ p ∷ get_or cs 0 0 ∷ get_or cs 1 0 ∷ [])) is)
-    (d ∙ ap (λ vs. bits_of (sum vs) n ++ drop (sum vs) b0) is)
+pub front_spelled : (begin private first second : ℕ) (ws : List ℕ) → begin ∷ private ∷ first ∷ second ∷ [] ≡ ws → (m p : ℕ) (cs : List ℕ) (n : ℕ) → m < 2 ^ get_or ws 0 0 → p < 2 ^ get_or ws 1 0 → ((k : ℕ) → get_or cs k 0 < 2 ^ get_or ws (2 + k) 0) → length cs ≡ 2
+    → n ≡ joined (begin ∷ private ∷ first ∷ second ∷ []) (m ∷ p ∷ get_or cs 0 0 ∷ get_or cs 1 0 ∷ []) → bits_of (sum ws) n ≡ spelled ws (m ∷ p ∷ cs)
+front_spelled begin private first second ws is m p cs n hm hp hs l e =
+    subst FrontIs is (front_is begin private first second) m p cs n hm hp hs l (e ∙ ap (λ vs. joined vs (m ∷ p ∷ get_or cs 0 0 ∷ get_or cs 1 0 ∷ [])) is)
+
+-- ---- the words
+module _ (b0 b1 b2 : List ℕ) (front granule w : ℕ) (room : length b0 ≡ 72) (word : bits_of 64 w ≡ bits_of 9 front ++ bits_of 55 (granule / 2 ^ 8)) (e1 : b1 ≡ take 0 b0 ++ bits_of 64 w ++ drop 64 b0) (e2 : b2 ≡ take 64 b1 ++ bits_of 8 granule ++ drop 72 b1) where
+  pub one_put : b2 ≡ bits_of 9 front ++ bits_of 63 granule
+  one_put =
+      let p1 = put_next b0 b1 [] 0 64 w refl (omega arith) e1 in
+      let p2 = put_next b1 b2 (bits_of 64 w) 64 8 granule p1.0 (omega (arith, p1.1)) e2 in
+      sym (take_all 72 b2 (omega (arith, p1.1, p2.1)))
+      ∙ p2.0
+      ∙ sym (into_last w 63 55 8 granule (bits_of 9 front) refl word)
+
+module _ (b0 b1 b2 b3 : List ℕ) (front width first second size left w x : ℕ) (room : length b0 ≡ 136) (few : width < 64) (is : size ≡ 64 - width + left) (last : size ≡ 64 - left + 8) (one : bits_of 64 w ≡ bits_of width front ++ bits_of (64 - width) (first / 2 ^ left)) (two : bits_of 64 x ≡ bits_of left first ++ bits_of (64 - left) (second / 2 ^ 8)) (e1 : b1 ≡ take 0 b0 ++ bits_of 64 w ++ drop 64 b0) (e2 : b2 ≡ take 64 b1 ++ bits_of 64 x ++ drop 128 b1) (e3 : b3 ≡ take 128 b2 ++ bits_of 8 second ++ drop 136 b2) where
+  pub two_put : b3 ≡ bits_of width front ++ (bits_of size first ++ bits_of size second)
+  two_put =
+      let p1 = put_next b0 b1 [] 0 64 w refl (omega arith) e1 in
+      let p2 = put_next b1 b2 (bits_of 64 w) 64 64 x p1.0 (omega (arith, p1.1)) e2 in
+      let p3 = put_next b2 b3 (bits_of 64 w ++ bits_of 64 x) 128 8 second p2.0 (omega (arith, p1.1, p2.1)) e3 in
+      sym (take_all 136 b3 (omega (arith, p1.1, p2.1, p3.1)))
+      ∙ p3.0
+      ∙ append_assoc (bits_of 64 w) (bits_of 64 x) (bits_of 8 second)
+      ∙ ap (λ bs. bits_of 64 w ++ bs) (sym (into_last x size (64 - left) 8 second (bits_of left first) last two))
+      ∙ sym (into_word w size (64 - width) left first (bits_of width front) (bits_of size second) is one)
+
+module _ (b0 b1 b2 b3 b4 : List ℕ) (front a b c d w x y z : ℕ) (room : length b0 ≡ 256) (one : bits_of 64 w ≡ bits_of 20 front ++ bits_of 44 (a / 2 ^ 15)) (two : bits_of 64 x ≡ bits_of 15 a ++ bits_of 49 (b / 2 ^ 10)) (three : bits_of 64 y ≡ bits_of 10 b ++ bits_of 54 (c / 2 ^ 5)) (four : bits_of 64 z ≡ bits_of 5 c ++ bits_of 59 (d / 2 ^ 0)) (e1 : b1 ≡ take 0 b0 ++ bits_of 64 w ++ drop 64 b0) (e2 : b2 ≡ take 64 b1 ++ bits_of 64 x ++ drop 128 b1) (e3 : b3 ≡ take 128 b2 ++ bits_of 64 y ++ drop 192 b2) (e4 : b4 ≡ take 192 b3 ++ bits_of 64 z ++ drop 256 b3) where
+  pub four_put : b4 ≡ bits_of 20 front ++ (bits_of 59 a ++ (bits_of 59 b ++ (bits_of 59 c ++ bits_of 59 d)))
+  four_put =
+      let p1 = put_next b0 b1 [] 0 64 w refl (omega arith) e1 in
+      let p2 = put_next b1 b2 (bits_of 64 w) 64 64 x p1.0 (omega (arith, p1.1)) e2 in
+      let p3 = put_next b2 b3 (bits_of 64 w ++ bits_of 64 x) 128 64 y p2.0 (omega (arith, p1.1, p2.1)) e3 in
+      let p4 = put_next b3 b4 (bits_of 64 w ++ bits_of 64 x ++ bits_of 64 y) 192 64 z p3.0 (omega (arith, p1.1, p2.1, p3.1)) e4 in
+      sym (take_all 256 b4 (omega (arith, p1.1, p2.1, p3.1, p4.1)))
+      ∙ p4.0
+      ∙ append_assoc (bits_of 64 w ++ bits_of 64 x) (bits_of 64 y) (bits_of 64 z)
+      ∙ append_assoc (bits_of 64 w) (bits_of 64 x) (bits_of 64 y ++ bits_of 64 z)
+      ∙ ap (λ bs. bits_of 64 w ++ (bits_of 64 x ++ (bits_of 64 y ++ bs))) (four ∙ ap (λ n. bits_of 5 c ++ bits_of 59 n) (div-one d))
+      ∙ ap (λ bs. bits_of 64 w ++ (bits_of 64 x ++ bs)) (sym (into_word y 59 54 5 c (bits_of 10 b) (bits_of 59 d) refl three))
+      ∙ ap (λ bs. bits_of 64 w ++ bs) (sym (into_word x 59 49 10 b (bits_of 15 a) (bits_of 59 c ++ bits_of 59 d) refl two))
+      ∙ sym (into_word w 59 44 15 a (bits_of 20 front) (bits_of 59 b ++ (bits_of 59 c ++ bits_of 59 d)) refl one)
+
+-- the same of a list of four
+pub four_of : (gs : List ℕ) (cs : List ℕ) → length gs ≡ 4 → cs ++ (bits_of 59 (get_or gs 0 0) ++ (bits_of 59 (get_or gs 1 0) ++ (bits_of 59 (get_or gs 2 0) ++ bits_of 59 (get_or gs 3 0)))) ≡ cs ++ flat_map (bits_of 59) gs
+four_of (a ∷ b ∷ c ∷ d ∷ []) cs l = ap (λ bs. cs ++ (bits_of 59 a ++ (bits_of 59 b ++ (bits_of 59 c ++ bs)))) (sym (append-nil (bits_of 59 d)))
+four_of gs cs l = absurd (omega arith)
 
 -- ---- the channels of a granule
 pub flat_one : (version : Version) (gs : List Granule) → length gs ≡ 2 → flat_map (granule_bits version) (take 1 gs) ≡ granule_bits version (get_or gs 0 no_granule)
@@ -140,17 +160,65 @@ side_bits-parts c s l =
     ap (λ bs. front ++ bs) (two_granules c.version c.channels s.granules l)
     ∙ sym (append_assoc front (flat_map (granule_bits c.version) (take c.channels (get_or s.granules 0 []))) (second_bits c.version c.channels (get_or s.granules 1 [])))
 
-pub all_put : (c : ClassFields) → IsClass c → (s : Side) → length s.granules ≡ 2 → (b1 b2 b3 : List ℕ) (begin next : ℕ) → begin ≡ front_size c.version c.channels → next ≡ front_size c.version c.channels + c.channels * granule_size c.version → length b3 ≡ 8 * side_size_of c
-    → take (front_size c.version c.channels) b1 ≡ spelled (front_widths_of c.version c.channels) (s.main_data_begin ∷ s.private_bits ∷ s.scfsi)
-    → take (begin + c.channels * granule_size c.version) b2 ≡ take begin b1 ++ flat_map (granule_bits c.version) (take c.channels (get_or s.granules 0 []))
-    → take (next + (granules_of c.version - 1) * (c.channels * granule_size c.version)) b3 ≡ take next b2 ++ second_bits c.version c.channels (get_or s.granules 1 [])
-    → b3 ≡ side_bits c s
-all_put c class s two b1 b2 b3 begin next begin_is next_is size e1 e2 e3 =
-    let half : ℕ = c.channels * granule_size c.version in
-    let whole = parts_size c class in
-    let first : next ≡ begin + half = omega arith in
-    sym (take_all (next + (granules_of c.version - 1) * half) b3 (omega arith))
-    ∙ e3
-    ∙ ap (λ bs. bs ++ second_bits c.version c.channels (get_or s.granules 1 []))
-    (ap (λ n. take n b2) first ∙ e2 ∙ ap (λ bs. bs ++ flat_map (granule_bits c.version) (take c.channels (get_or s.granules 0 []))) (ap (λ n. take n b1) begin_is ∙ e1))
-    ∙ sym (side_bits-parts c s two)
+-- ---- a front and granules behind it
+-- the bits of a front and of the granules that a version has
+abbrev Whole : Version → ℕ → ℕ → List Granule → List Granule → List ℕ
+Whole version channels front gs hs = (bits_of (front_size version channels) front ++ flat_map (granule_bits version) (take channels gs)) ++ second_bits version channels hs
+
+module _ (gs hs : List Granule) (front a b : ℕ) (gs_two : length gs ≡ 2) (hs_two : length hs ≡ 2) where
+  pub one_mono : (version : Version) (channels : ℕ) → version ≡ One → channels ≡ 1 → bits_of 59 a ≡ granule_bits One (get_or gs 0 no_granule) → bits_of 59 b ≡ granule_bits One (get_or hs 0 no_granule)
+      → bits_of 18 front ++ (bits_of 59 a ++ bits_of 59 b) ≡ Whole version channels front gs hs
+  one_mono version channels v n left right =
+      sym (append_assoc (bits_of 18 front) (bits_of 59 a) (bits_of 59 b))
+      ∙ ap₂ (λ xs ys. (bits_of 18 front ++ xs) ++ ys) (left ∙ sym (flat_one One gs gs_two)) (right ∙ sym (flat_one One hs hs_two))
+      ∙ ap₂ (λ u k. Whole u k front gs hs) (sym v) (sym n)
+
+  pub one_stereo : (version : Version) (channels c d : ℕ) → version ≡ One → channels ≡ 2 → bits_of 59 a ≡ granule_bits One (get_or gs 0 no_granule) → bits_of 59 b ≡ granule_bits One (get_or gs 1 no_granule) → bits_of 59 c ≡ granule_bits One (get_or hs 0 no_granule) → bits_of 59 d ≡ granule_bits One (get_or hs 1 no_granule)
+      → bits_of 20 front ++ (bits_of 59 a ++ (bits_of 59 b ++ (bits_of 59 c ++ bits_of 59 d))) ≡ Whole version channels front gs hs
+  one_stereo version channels c d v n ea eb ec ed =
+      let first : List ℕ = bits_of 59 a ++ bits_of 59 b in
+      let second : List ℕ = bits_of 59 c ++ bits_of 59 d in
+      ap (λ xs. bits_of 20 front ++ xs) (sym (append_assoc (bits_of 59 a) (bits_of 59 b) second))
+      ∙ sym (append_assoc (bits_of 20 front) first second)
+      ∙ ap₂ (λ xs ys. (bits_of 20 front ++ xs) ++ ys)
+      ((λ i. ea i ++ eb i) ∙ sym (flat_two One gs gs_two))
+      ((λ i. ec i ++ ed i) ∙ sym (flat_two One hs hs_two))
+      ∙ ap₂ (λ u k. Whole u k front gs hs) (sym v) (sym n)
+
+  -- MPEG-2 and MPEG-2.5 have one granule
+  pub two_mono : (version : Version) (channels : ℕ) → granules_of version ≡ 1 → channels ≡ 1 → bits_of 63 a ≡ granule_bits version (get_or gs 0 no_granule) → bits_of 9 front ++ bits_of 63 a ≡ Whole version channels front gs hs
+  two_mono One channels one n left = absurd (omega arith)
+  two_mono Two channels one n left =
+      sym (append-nil (bits_of 9 front ++ bits_of 63 a)) ∙ ap (λ xs. (bits_of 9 front ++ xs) ++ []) (left ∙ sym (flat_one Two gs gs_two)) ∙ ap (λ k. Whole Two k front gs hs) (sym n)
+  two_mono TwoFive channels one n left =
+      sym (append-nil (bits_of 9 front ++ bits_of 63 a)) ∙ ap (λ xs. (bits_of 9 front ++ xs) ++ []) (left ∙ sym (flat_one TwoFive gs gs_two)) ∙ ap (λ k. Whole TwoFive k front gs hs) (sym n)
+
+  pub two_stereo : (version : Version) (channels : ℕ) → granules_of version ≡ 1 → channels ≡ 2 → bits_of 63 a ≡ granule_bits version (get_or gs 0 no_granule) → bits_of 63 b ≡ granule_bits version (get_or gs 1 no_granule) → bits_of 10 front ++ (bits_of 63 a ++ bits_of 63 b) ≡ Whole version channels front gs hs
+  two_stereo One channels one n left right = absurd (omega arith)
+  two_stereo Two channels one n left right =
+      sym (append-nil (bits_of 10 front ++ (bits_of 63 a ++ bits_of 63 b))) ∙ ap (λ xs. (bits_of 10 front ++ xs) ++ []) ((λ i. left i ++ right i) ∙ sym (flat_two Two gs gs_two)) ∙ ap (λ k. Whole Two k front gs hs) (sym n)
+  two_stereo TwoFive channels one n left right =
+      sym (append-nil (bits_of 10 front ++ (bits_of 63 a ++ bits_of 63 b))) ∙ ap (λ xs. (bits_of 10 front ++ xs) ++ []) ((λ i. left i ++ right i) ∙ sym (flat_two TwoFive gs gs_two)) ∙ ap (λ k. Whole TwoFive k front gs hs) (sym n)
+
+-- a granule of 63 bits where there is but one granule
+pub size_of_two : (version : Version) → granules_of version ≡ 1 → granule_size version ≡ 63
+size_of_two One one = absurd (omega arith)
+size_of_two Two one = refl
+size_of_two TwoFive one = refl
+
+-- ---- the bytes of each class
+pub size_one : (version : Version) (channels n : ℕ) → version ≡ One → channels ≡ n → side_size_of (class_with version 0 channels) ≡ side_size_of (class_with One 0 n)
+size_one version channels n v e = ap₂ (λ u k. side_size_of (class_with u 0 k)) v e
+
+pub size_two : (version : Version) (channels n : ℕ) → granules_of version ≡ 1 → channels ≡ n → side_size_of (class_with version 0 channels) ≡ side_size_of (class_with Two 0 n)
+unfolding side_size_of
+size_two One channels n one e = absurd (omega arith)
+size_two Two channels n one e = ap (λ k. side_size_of (class_with Two 0 k)) e
+size_two TwoFive channels n one e = ap (λ k. side_size_of (class_with TwoFive 0 k)) e
+
+-- one channel or two
+pub two_channels : (channels : ℕ) → 1 ≤ channels → channels ≤ 2 → (channels ≡ 1 → ⊥) → channels ≡ 2
+two_channels zero some few more = absurd (omega arith)
+two_channels (suc zero) some few more = absurd (more refl)
+two_channels (suc (suc zero)) some few more = refl
+two_channels (suc (suc (suc n))) some few more = absurd (omega arith)

@@ -1,11 +1,12 @@
 -- The parts of the side information that are read and written in turn (ISO/IEC 11172-3 and 13818-3, 2.4.1.7 and 2.4.2.7).
 use Rattle.std.specs.Prelude.{ℕ, ◌==◌, if◌then◌else◌, List, [], ◌∷◌, take, drop, slice_index, sum, flat_map}
-use Rattle.bit_fields.specs.Groups.{numbers_at}
+use Rattle.bit_fields.specs.Groups.{numbers_at, spelled}
 use Rattle.frame_header.specs.declared.version.Version.{Version}
 use Rattle.frame_header.specs.Fields.{ClassFields}
 use Rattle.frame_header.specs.Tables.{granules_of}
 use Rattle.side_info.specs.declared.front.Front.{Front}
 use Rattle.side_info.specs.declared.granule.Granule.{Granule}
+use Rattle.side_info.specs.declared.side.Side.{Side}
 use Rattle.side_info.specs.Granule.{no_granule, granule_at, granule_bits, granule_size}
 use Rattle.side_info.specs.Side.{front_widths_of}
 
@@ -24,6 +25,11 @@ front_at version channels bs = front_of (numbers_at (front_widths_of version cha
 -- how many bits these fields take
 abbrev pub front_size : Version → ℕ → ℕ
 front_size version channels = sum (front_widths_of version channels)
+
+-- the bits of these fields
+abbrev pub front_bits : Version → ℕ → Side → List ℕ
+front_bits version channels s =
+    spelled (front_widths_of version channels) (s.main_data_begin ∷ s.private_bits ∷ s.scfsi)
 
 -- no channel of a granule
 abbrev pub no_pair : List Granule

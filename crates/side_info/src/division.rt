@@ -72,7 +72,9 @@ pub fn check_word_of_bytes(header: &[u8], side: &[u8]) -> u16
     requires { length header.now ≡ 4 }
     ensures bytes { result ≡ remainder start_word (bits (drop 2 header.now ++ side.now)) }
     // It is that of the header and of the side fields that stand there.
-    ensures read { (h : HeaderFields) → header_at header.now ≡ Ok h → length side.now ≡ side_size_of (class_of h) → result ≡ check_word_of h (side_at (class_of h) (bits side.now)) }
+    ensures read { (h : HeaderFields) → header_at header.now ≡ Ok h
+        → length side.now ≡ side_size_of (class_of h)
+        → result ≡ check_word_of h (side_at (class_of h) (bits side.now)) }
 {
     word_behind(word_of_bytes(&header[2..]), side)
 }

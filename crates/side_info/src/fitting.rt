@@ -21,7 +21,10 @@ fn front_limits(class: Class) -> [u16; 4]
 
 /// Whether the fields before the granules are within their bits.
 pub(crate) fn front_fits(side: &Side, class: Class) -> bool
-    ensures { IsTrue result ↔ (side.now.main_data_begin < 2 ^ front_width class 0) × (side.now.private_bits < 2 ^ front_width class 1) × (slice_index side.now.scfsi 0 < 2 ^ front_width class 2) × (slice_index side.now.scfsi 1 < 2 ^ front_width class 3) }
+    ensures { IsTrue result ↔ (side.now.main_data_begin < 2 ^ front_width class 0)
+        × (side.now.private_bits < 2 ^ front_width class 1)
+        × (slice_index side.now.scfsi 0 < 2 ^ front_width class 2)
+        × (slice_index side.now.scfsi 1 < 2 ^ front_width class 3) }
 {
     let limits = front_limits(class);
     side.main_data_begin < limits[0]
@@ -43,7 +46,8 @@ fn has_granule(class: Class, granule: u8, channel: u8) -> bool
 
 /// Whether a granule's fields are within their bits, or all 0 where the class lacks it.
 fn granule_fits(granule: &Granule, version: Version, has: bool) -> bool
-    ensures { IsTrue result ↔ MatchBool has (GranuleFits version granule.now) (granule.now ≡ no_granule) }
+    ensures { IsTrue result ↔ MatchBool has (GranuleFits version granule.now)
+        (granule.now ≡ no_granule) }
 {
     if has {
         granule.fits(version)
@@ -55,7 +59,12 @@ fn granule_fits(granule: &Granule, version: Version, has: bool) -> bool
 /// The same for the channels of one granule.
 pub(crate) fn pair_fits(pair: &[Granule; 2], class: Class, granule: u8) -> bool
     ensures two { length pair.now ≡ 2 }
-    ensures fits { IsTrue result ↔ (MatchBool (has_granule_lem class granule 0) (GranuleFits class.version (slice_index_or pair.now 0 no_granule)) (slice_index_or pair.now 0 no_granule ≡ no_granule)) × (MatchBool (has_granule_lem class granule 1) (GranuleFits class.version (slice_index_or pair.now 1 no_granule)) (slice_index_or pair.now 1 no_granule ≡ no_granule)) }
+    ensures fits { IsTrue result ↔ (MatchBool (has_granule_lem class granule 0)
+        (GranuleFits class.version (slice_index_or pair.now 0 no_granule))
+        (slice_index_or pair.now 0 no_granule ≡ no_granule))
+        × (MatchBool (has_granule_lem class granule 1)
+        (GranuleFits class.version (slice_index_or pair.now 1 no_granule))
+        (slice_index_or pair.now 1 no_granule ≡ no_granule)) }
 {
     granule_fits(&pair[0], class.version, has_granule(class, granule, 0))
         && granule_fits(&pair[1], class.version, has_granule(class, granule, 1))

@@ -15,30 +15,42 @@ pub(crate) const HEADER_SIZE: usize = 4;
 /// The bytes of a header and a check word.
 pub(crate) const PROTECTED_SIZE: usize = 6;
 
-/// The side information at this place in a frame.
-fn side_at_place(class: Class, place: usize, frame: &[u8]) -> Side
+/// Reads the side information at this place in a frame, over what was there.
+fn read_at_place(class: Class, place: usize, frame: &[u8], side: &mut Side)
     requires { place + side_size_of class ≤ length frame.now }
-    ensures side { result ≡ side_at class (bits (take (side_size_of class) (drop place frame.now))) }
-    ensures fits { SideFits class result }
+    ensures side { side.new ≡ side_at class
+        (bits (take (side_size_of class) (drop place frame.now))) }
+    ensures fits { SideFits class side.new }
 {
     let end = place + class.side_size() as usize;
-    Side::read(class, &frame[place..end])
+    side.read_over(class, &frame[place..end]);
 }
 
-/// The side information of the frame with this header. Bytes behind the frame may follow
-/// (ISO/IEC 11172-3 and 13818-3, 2.4.1).
+/// Reads the side information of the frame with this header, over what was there. Bytes behind the frame may
+/// follow (ISO/IEC 11172-3 and 13818-3, 2.4.1).
 #[tactic(auto, unfolding(crate::specs::Frame::side_in, crate::specs::Frame::side_part, frame_header::specs::Tables::overhead_of))]
-pub fn side_of_frame(header: &Header, frame: &[u8]) -> Side
+pub fn read_side(header: &Header, frame: &[u8], side: &mut Side)
     requires { overhead_of (class_of header.now) header.now.protected ≤ length frame.now }
-    ensures side { result ≡ side_in header.now frame.now }
-    ensures fits { SideFits (class_of header.now) result }
+    ensures side { side.new ≡ side_in header.now frame.now }
+    ensures fits { SideFits (class_of header.now) side.new }
 {
     let place = if header.protected {
         PROTECTED_SIZE
     } else {
         HEADER_SIZE
     };
-    side_at_place(header.class(), place, frame)
+    read_at_place(header.class(), place, frame, side);
+}
+
+/// The side information of the frame with this header. Bytes behind the frame may follow.
+pub fn side_of_frame(header: &Header, frame: &[u8]) -> Side
+    requires { overhead_of (class_of header.now) header.now.protected ≤ length frame.now }
+    ensures side { result ≡ side_in header.now frame.now }
+    ensures fits { SideFits (class_of header.now) result }
+{
+    let mut side = Side::empty();
+    read_side(header, frame, &mut side);
+    side
 }
 
 /// The check word that stands in a protected frame, right behind its header.
@@ -62,7 +74,8 @@ pub(crate) fn put_word(word: u16, frame: &mut [u8])
 fn put_side_at(class: Class, side: &Side, place: usize, frame: &mut [u8])
     requires fits { SideFits class side.now }
     requires room { place + side_size_of class ≤ length frame.old }
-    ensures { frame.new ≡ take place frame.old ++ (bytes (side_bits class side.now) ++ drop (place + side_size_of class) frame.old) }
+    ensures { frame.new ≡ take place frame.old ++ (bytes (side_bits class side.now) ++ drop
+        (place + side_size_of class) frame.old) }
 {
     let end = place + class.side_size() as usize;
     side.write(class, &mut frame[place..end]);

@@ -25,7 +25,10 @@ use frame_header::{Class, Header, Version};
 fn put_gain(gain: u8, bytes: &mut [u8], at: usize)
     requires room { at + 37 ≤ 8 * length bytes.old }
     requires short { length bytes.old ≤ 2 ^ 28 }
-    ensures { (version : Version) (g : Granule) (before after : List ℕ) → length before ≡ at → bits bytes.old ≡ before ++ (granule_bits version g ++ after) → bits bytes.new ≡ before ++ (granule_bits version (record g { global_gain = gain }) ++ after) }
+    ensures { (version : Version) (g : Granule) (before after : List ℕ) → length before ≡ at
+        → bits bytes.old ≡ before ++ (granule_bits version g ++ after)
+        → bits bytes.new ≡ before ++ (granule_bits version
+        (record g { global_gain = gain }) ++ after) }
 {
     put_byte(bytes, at + 21, gain);
 }
@@ -38,7 +41,11 @@ fn put_pair(pair: &[Granule; 2], version: Version, channels: u8, bytes: &mut [u8
     requires room { at + channels * granule_size version ≤ 8 * length bytes.old }
     requires short { length bytes.old ≤ 2 ^ 28 }
     ensures two { length pair.now ≡ 2 }
-    ensures put { (gs : List Granule) (before after : List ℕ) → length gs ≡ 2 → length before ≡ at → bits bytes.old ≡ before ++ (pair_bits version channels gs ++ after) → ((channel : ℕ) → AreAlike (slice_index_or gs channel no_granule) (slice_index_or pair.now channel no_granule)) → bits bytes.new ≡ before ++ (pair_bits version channels pair.now ++ after) }
+    ensures put { (gs : List Granule) (before after : List ℕ) → length gs ≡ 2 → length before ≡ at
+        → bits bytes.old ≡ before ++ (pair_bits version channels gs ++ after)
+        → ((channel : ℕ) → AreAlike (slice_index_or gs channel no_granule)
+        (slice_index_or pair.now channel no_granule))
+        → bits bytes.new ≡ before ++ (pair_bits version channels pair.now ++ after) }
 {
     put_gain(pair[0].global_gain, bytes, at);
     if channels == 1 {
@@ -52,10 +59,15 @@ fn put_pair(pair: &[Granule; 2], version: Version, channels: u8, bytes: &mut [u8
 fn put_second(pair: &[Granule; 2], version: Version, channels: u8, bytes: &mut [u8], at: usize)
     requires some { 1 ≤ channels }
     requires few { channels ≤ 2 }
-    requires room { granules_of version ≡ 2 → at + channels * granule_size version ≤ 8 * length bytes.old }
+    requires room { granules_of version ≡ 2
+        → at + channels * granule_size version ≤ 8 * length bytes.old }
     requires short { length bytes.old ≤ 2 ^ 28 }
     ensures two { length pair.now ≡ 2 }
-    ensures put { (gs : List Granule) (before after : List ℕ) → length gs ≡ 2 → length before ≡ at → bits bytes.old ≡ before ++ (second_bits version channels gs ++ after) → ((channel : ℕ) → AreAlike (slice_index_or gs channel no_granule) (slice_index_or pair.now channel no_granule)) → bits bytes.new ≡ before ++ (second_bits version channels pair.now ++ after) }
+    ensures put { (gs : List Granule) (before after : List ℕ) → length gs ≡ 2 → length before ≡ at
+        → bits bytes.old ≡ before ++ (second_bits version channels gs ++ after)
+        → ((channel : ℕ) → AreAlike (slice_index_or gs channel no_granule)
+        (slice_index_or pair.now channel no_granule))
+        → bits bytes.new ≡ before ++ (second_bits version channels pair.now ++ after) }
 {
     match version {
         Version::One => put_pair(pair, version, channels, bytes, at),
@@ -64,9 +76,11 @@ fn put_second(pair: &[Granule; 2], version: Version, channels: u8, bytes: &mut [
 }
 
 /// Puts gains into side information, all its bytes.
+#[inline(always)]
 fn put_all(class: Class, side: &Side, bytes: &mut [u8])
     requires size { length bytes.old ≡ side_size_of class }
-    ensures { HasOtherGains (side_at class (bits bytes.old)) side.now → bits bytes.new ≡ side_bits class side.now }
+    ensures { HasOtherGains (side_at class (bits bytes.old)) side.now
+        → bits bytes.new ≡ side_bits class side.now }
 {
     let begin = front_size(class.version, class.channels);
     let next = begin + granule_width(class.version) * usize::from(class.channels);
@@ -86,15 +100,39 @@ fn put_all(class: Class, side: &Side, bytes: &mut [u8])
     );
 }
 
+/// Puts gains into side information, all its bytes. In MPEG-1 with two channels their places are known.
+#[inline(always)]
+fn put_by_class(class: Class, side: &Side, bytes: &mut [u8])
+    requires size { length bytes.old ≡ side_size_of class }
+    ensures { HasOtherGains (side_at class (bits bytes.old)) side.now →
+        bits bytes.new ≡ side_bits class side.now }
+{
+    match (class.version, class.channels) {
+        (Version::One, 2) => {
+            let stereo = Class {
+                version: Version::One,
+                frequency_index: class.frequency_index,
+                channels: 2,
+            };
+            put_all(stereo, side, bytes);
+        }
+        _ => put_all(class, side, bytes),
+    }
+}
+
 /// Puts gains into the side information at this place in a frame.
+#[inline(always)]
 fn put_at_place(class: Class, side: &Side, place: usize, frame: &mut [u8])
     requires room { place + side_size_of class ≤ length frame.old }
     ensures before { take place frame.new ≡ take place frame.old }
-    ensures behind { drop (place + side_size_of class) frame.new ≡ drop (place + side_size_of class) frame.old }
-    ensures side { HasOtherGains (side_at class (bits (take (side_size_of class) (drop place frame.old)))) side.now → bits (take (side_size_of class) (drop place frame.new)) ≡ side_bits class side.now }
+    ensures behind { drop (place + side_size_of class) frame.new ≡ drop
+        (place + side_size_of class) frame.old }
+    ensures side { HasOtherGains (side_at class
+        (bits (take (side_size_of class) (drop place frame.old)))) side.now
+        → bits (take (side_size_of class) (drop place frame.new)) ≡ side_bits class side.now }
 {
     let end = place + class.side_size() as usize;
-    put_all(class, side, &mut frame[place..end]);
+    put_by_class(class, side, &mut frame[place..end]);
 }
 
 /// Puts the check word that is right for the side bytes as they stand.
@@ -102,7 +140,10 @@ fn put_right_word(header: &Header, frame: &mut [u8])
     requires { 6 + side_size_of (class_of header.now) ≤ length frame.old }
     ensures before { take 4 frame.new ≡ take 4 frame.old }
     ensures behind { drop 6 frame.new ≡ drop 6 frame.old }
-    ensures word { (s : Side) → bits (take (side_size_of (class_of header.now)) (drop 6 frame.old)) ≡ side_bits (class_of header.now) s → frame.new ≡ take 4 frame.old ++ (bytes (bits_of 16 (check_word_of header.now s)) ++ drop 6 frame.old) }
+    ensures word { (s : Side) → bits (take (side_size_of (class_of header.now)) (drop 6 frame.old))
+        ≡ side_bits (class_of header.now) s
+        → frame.new ≡ take 4 frame.old ++ (bytes
+        (bits_of 16 (check_word_of header.now s)) ++ drop 6 frame.old) }
 {
     let end = PROTECTED_SIZE + header.class().side_size() as usize;
     let word = check_word_of_bytes(&header.bytes(), &frame[PROTECTED_SIZE..end]);
@@ -113,12 +154,15 @@ fn put_right_word(header: &Header, frame: &mut [u8])
 /// protected frame the check word that is then right (ISO/IEC 11172-3 and 13818-3, 2.4.1.7 and 2.4.3.1).
 /// Where the frame's own side information differs in gains alone, the frame then has this one. Header and
 /// area stay, and bytes behind the frame.
+#[inline(always)]
 pub fn put_gains(header: &Header, side: &Side, frame: &mut [u8])
     requires { overhead_of (class_of header.now) header.now.protected ≤ length frame.old }
     ensures length { length frame.new ≡ length frame.old }
     ensures header { take 4 frame.new ≡ take 4 frame.old }
-    ensures behind { drop (overhead_of (class_of header.now) header.now.protected) frame.new ≡ drop (overhead_of (class_of header.now) header.now.protected) frame.old }
-    ensures gains { HasOtherGains (side_in header.now frame.old) side.now → frame.new ≡ frame_with header.now side.now frame.old }
+    ensures behind { drop (overhead_of (class_of header.now) header.now.protected) frame.new ≡ drop
+        (overhead_of (class_of header.now) header.now.protected) frame.old }
+    ensures gains { HasOtherGains (side_in header.now frame.old) side.now
+        → frame.new ≡ frame_with header.now side.now frame.old }
 {
     let class = header.class();
     if header.protected {

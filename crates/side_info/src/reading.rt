@@ -37,7 +37,8 @@ fn front_with(bytes: &[u8], begin: u32, private_bits: u32, first: u32, second: u
     requires second { second ≤ 4 }
     requires enough { begin + private_bits + first + second ≤ 8 * length bytes.now }
     requires short { length bytes.now ≤ 2 ^ 28 }
-    ensures { result ≡ front_of (numbers_at (begin ∷ private_bits ∷ first ∷ second ∷ []) (bits bytes.now)) }
+    ensures { result ≡ front_of (numbers_at (begin ∷ private_bits ∷ first ∷ second ∷ [])
+        (bits bytes.now)) }
 {
     let fields = number_at(bytes, 0, begin + private_bits + first + second);
     let above_second = fields >> second;
@@ -74,40 +75,54 @@ fn read_granule(version: Version, bytes: &[u8], at: usize) -> Granule
         scalefac_compress: (middle >> 23) as u16,
         global_gain: (first % 256) as u8,
         window_switching: (middle >> 22) % 2 == 1,
-        preflag: last >> 2 == 1,
+        preflag: (last >> 2) % 2 == 1,
         scalefac_scale: (last >> 1) % 2 == 1,
         count1table_select: last % 2 == 1,
     }
 }
 
-/// The channels of the granule whose side information begins at this bit.
+/// Reads the channels of the granule whose side information begins at this bit into the pair.
+// Each field is stored as it is read, so that few of them wait in registers.
 #[inline]
-pub(crate) fn read_pair(version: Version, channels: u8, bytes: &[u8], at: usize) -> [Granule; 2]
+pub(crate) fn read_pair(
+    version: Version,
+    channels: u8,
+    bytes: &[u8],
+    at: usize,
+    pair: &mut [Granule; 2],
+)
     requires some { 1 ≤ channels }
     requires few { channels ≤ 2 }
     requires enough { at + channels * granule_size version ≤ 8 * length bytes.now }
     requires short { length bytes.now ≤ 2 ^ 28 }
-    ensures { result ≡ pair_at version channels (drop at (bits bytes.now)) }
+    ensures { pair.new ≡ pair_at version channels (drop at (bits bytes.now)) }
 {
-    let first = read_granule(version, bytes, at);
+    pair[0] = read_granule(version, bytes, at);
     if channels == 1 {
-        return [first, NO_GRANULE];
+        pair[1] = NO_GRANULE;
+        return;
     }
-    let second = read_granule(version, bytes, at + granule_width(version));
-    [first, second]
+    pair[1] = read_granule(version, bytes, at + granule_width(version));
 }
 
-/// The channels of the second granule, where the version has one.
+/// Reads the channels of the second granule into the pair, where the version has one.
 #[inline]
-pub(crate) fn read_second(version: Version, channels: u8, bytes: &[u8], at: usize) -> [Granule; 2]
+pub(crate) fn read_second(
+    version: Version,
+    channels: u8,
+    bytes: &[u8],
+    at: usize,
+    pair: &mut [Granule; 2],
+)
     requires some { 1 ≤ channels }
     requires few { channels ≤ 2 }
-    requires enough { granules_of version ≡ 2 → at + channels * granule_size version ≤ 8 * length bytes.now }
+    requires enough { granules_of version ≡ 2
+        → at + channels * granule_size version ≤ 8 * length bytes.now }
     requires short { length bytes.now ≤ 2 ^ 28 }
-    ensures { result ≡ second_at version channels (drop at (bits bytes.now)) }
+    ensures { pair.new ≡ second_at version channels (drop at (bits bytes.now)) }
 {
     match version {
-        Version::One => read_pair(version, channels, bytes, at),
-        Version::Two | Version::TwoFive => [NO_GRANULE, NO_GRANULE],
+        Version::One => read_pair(version, channels, bytes, at, pair),
+        Version::Two | Version::TwoFive => *pair = [NO_GRANULE, NO_GRANULE],
     }
 }

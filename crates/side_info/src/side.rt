@@ -9,7 +9,7 @@ use crate::fitting::{front_fits, pair_fits};
 use crate::granule::{Granule, NO_GRANULE};
 use crate::reading::{read_front, read_pair, read_second};
 use crate::widths::{front_size, granule_width, side_size};
-use crate::writing::{write_front, write_pair, write_second};
+use crate::writing::{front_word, write_granules};
 use frame_header::{Class, Version};
 
 /// The side fields of a frame. What the class of the frame lacks is 0.
@@ -35,45 +35,43 @@ fn pair_bits(pair: &[Granule; 2]) -> u32
     u32::from(first) + u32::from(second)
 }
 
-/// Reads the side information of a frame of this version with so many channels, from its parts.
+/// Reads the side information of a frame of this version with so many channels, from its parts, over what
+/// was there.
 #[inline]
-fn read_parts(version: Version, channels: u8, bytes: &[u8]) -> Side
+fn read_parts(version: Version, channels: u8, bytes: &[u8], side: &mut Side)
     requires some { 1 ≤ channels }
     requires few { channels ≤ 2 }
     requires size { length bytes.now ≡ side_size_of (class_with version 0 channels) }
-    ensures { result ≡ side_at (class_with version 0 channels) (bits bytes.now) }
+    ensures { side.new ≡ side_at (class_with version 0 channels) (bits bytes.now) }
 {
     // All of them; where the arguments are constants, so is the length.
     let part = &bytes[..side_size(version, channels)];
     let begin = front_size(version, channels);
     let next = begin + granule_width(version) * usize::from(channels);
     let front = read_front(version, channels, part);
-    let first = read_pair(version, channels, part, begin);
-    let second = read_second(version, channels, part, next);
+    side.main_data_begin = front.main_data_begin;
+    side.private_bits = front.private_bits;
     let scfsi = front.scfsi;
-    let granules = [first, second];
-    Side {
-        main_data_begin: front.main_data_begin,
-        private_bits: front.private_bits,
-        scfsi,
-        granules,
-    }
+    side.scfsi = scfsi;
+    read_pair(version, channels, part, begin, &mut side.granules[0]);
+    read_second(version, channels, part, next, &mut side.granules[1]);
 }
 
-/// Reads the side information of a frame of this version with so many channels. In most arms the places of
-/// the fields are known.
-fn read_shape(version: Version, channels: u8, bytes: &[u8]) -> Side
+/// Reads the side information of a frame of this version with so many channels, over what was there. In most
+/// arms the places of the fields are known.
+#[inline(never)]
+fn read_shape(version: Version, channels: u8, bytes: &[u8], side: &mut Side)
     requires some { 1 ≤ channels }
     requires few { channels ≤ 2 }
     requires size { length bytes.now ≡ side_size_of (class_with version 0 channels) }
-    ensures { result ≡ side_at (class_with version 0 channels) (bits bytes.now) }
+    ensures { side.new ≡ side_at (class_with version 0 channels) (bits bytes.now) }
 {
     match (version, channels == 1) {
-        (Version::One, true) => read_parts(Version::One, 1, bytes),
-        (Version::One, false) => read_parts(Version::One, 2, bytes),
-        (Version::Two, true) => read_parts(Version::Two, 1, bytes),
-        (Version::Two, false) => read_parts(Version::Two, 2, bytes),
-        (Version::TwoFive, _) => read_parts(Version::TwoFive, channels, bytes),
+        (Version::One, true) => read_parts(Version::One, 1, bytes, side),
+        (Version::One, false) => read_parts(Version::One, 2, bytes, side),
+        (Version::Two, true) => read_parts(Version::Two, 1, bytes, side),
+        (Version::Two, false) => read_parts(Version::Two, 2, bytes, side),
+        (Version::TwoFive, _) => read_parts(Version::TwoFive, channels, bytes, side),
     }
 }
 
@@ -117,7 +115,18 @@ impl Side {
         ensures side { result ≡ side_at class (bits bytes.now) }
         ensures fits { SideFits class result }
     {
-        read_shape(class.version, class.channels, bytes)
+        let mut side = Side::empty();
+        side.read_over(class, bytes);
+        side
+    }
+
+    /// The same, over what was there.
+    pub fn read_over(&mut self, class: Class, bytes: &[u8])
+        requires size { length bytes.now ≡ side_size_of class }
+        ensures side { self.new ≡ side_at class (bits bytes.now) }
+        ensures fits { SideFits class self.new }
+    {
+        read_shape(class.version, class.channels, bytes, self);
     }
 
     /// Writes the side information of a frame over all the bytes.
@@ -128,22 +137,14 @@ impl Side {
         // What is read back is what was written.
         ensures back { side_at class (bits bytes.new) ≡ self.now }
     {
-        let begin = front_size(class.version, class.channels);
-        let next = begin + granule_width(class.version) * usize::from(class.channels);
-        write_front(self, class.version, class.channels, bytes);
-        write_pair(
+        let front = front_word(self, class.version, class.channels);
+        write_granules(
+            front,
             &self.granules[0],
-            class.version,
-            class.channels,
-            bytes,
-            begin,
-        );
-        write_second(
             &self.granules[1],
             class.version,
             class.channels,
             bytes,
-            next,
         );
     }
 

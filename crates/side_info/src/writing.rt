@@ -1,114 +1,153 @@
-//! Side fields put where they stand.
-ghost use Rattle.std.specs.Prelude.{◌≡◌, ℕ, ◌+◌, ◌*◌, ◌^◌, ◌<◌, ◌≤◌, ◌++◌, ◌-◌, ◌==◌, if◌then◌else◌, [], ◌∷◌, length, take, flat_map, slice_index, slice_index_or};
-ghost use Rattle.bit_fields.specs.Bits.{bits};
-ghost use Rattle.bit_fields.specs.Groups.{spelled};
-ghost use Rattle.frame_header.specs.Tables.{granules_of};
+//! Side fields joined to words, and these put in place.
+ghost use Rattle.std.specs.Prelude.{◌≡◌, ℕ, ◌+◌, ◌*◌, ◌^◌, ◌<◌, ◌≤◌, ◌++◌, All, length, flat_map, slice_index, slice_index_or};
+ghost use Rattle.bit_fields.specs.Bits.{bits, bits_of};
+ghost use Rattle.frame_header.specs.Tables.{granules_of, side_size_of};
 ghost use Rattle.side_info.specs.Granule.{no_granule, granule_bits, granule_size, GranuleFits};
-ghost use Rattle.side_info.specs.Parts.{front_size as front_size_lem, pair_bits, second_bits};
+ghost use Rattle.side_info.specs.Parts.{class_with, front_size as front_size_lem, front_bits, pair_bits, second_bits};
 ghost use Rattle.side_info.specs.Side.{front_widths_of};
 
 use crate::granule::Granule;
 use crate::side::Side;
-use crate::widths::{compress_width, granule_width, preflag_width};
-use bit_fields::put;
+use crate::widths::{compress_width, preflag_width};
+use bit_fields::{set_low_byte, set_word, spanned};
 use frame_header::Version;
 
-/// Writes the fields before the granules.
-pub(crate) fn write_front(side: &Side, version: Version, channels: u8, bytes: &mut [u8])
-    requires begin { side.now.main_data_begin < 2 ^ slice_index (front_widths_of version channels) 0 }
-    requires private_bits { side.now.private_bits < 2 ^ slice_index (front_widths_of version channels) 1 }
-    requires scfsi { (channel : ℕ) → slice_index side.now.scfsi channel < 2 ^ slice_index (front_widths_of version channels) (2 + channel) }
-    requires room { front_size_lem version channels ≤ 8 * length bytes.old }
-    requires short { length bytes.old ≤ 2 ^ 28 }
-    ensures { take (front_size_lem version channels) (bits bytes.new) ≡ spelled (front_widths_of version channels) (side.now.main_data_begin ∷ side.now.private_bits ∷ side.now.scfsi) }
+/// The fields before the granules as one number.
+#[inline]
+pub(crate) fn front_word(side: &Side, version: Version, channels: u8) -> u64
+    requires begin { side.now.main_data_begin < 2 ^ slice_index
+        (front_widths_of version channels) 0 }
+    requires private_bits { side.now.private_bits < 2 ^ slice_index
+        (front_widths_of version channels) 1 }
+    requires scfsi { (channel : ℕ) → slice_index side.now.scfsi channel
+        < 2 ^ slice_index (front_widths_of version channels) (2 + channel) }
+    ensures { bits_of (front_size_lem version channels) result
+        ≡ front_bits version channels side.now }
 {
-    let begin = u32::from(side.main_data_begin);
-    let private_bits = u32::from(side.private_bits);
-    let first = u32::from(side.scfsi[0]);
-    let second = u32::from(side.scfsi[1]);
+    let begin = u64::from(side.main_data_begin);
+    let private_bits = u64::from(side.private_bits);
+    let first = u64::from(side.scfsi[0]);
+    let second = u64::from(side.scfsi[1]);
     match (version, channels == 1) {
-        (Version::One, true) => put(bytes, 0, 18, begin * 512 + private_bits * 16 + first),
-        (Version::One, false) => put(
-            bytes,
-            0,
-            20,
-            begin * 2048 + private_bits * 256 + first * 16 + second,
-        ),
-        (Version::Two | Version::TwoFive, true) => put(bytes, 0, 9, begin * 2 + private_bits),
-        (Version::Two | Version::TwoFive, false) => put(bytes, 0, 10, begin * 4 + private_bits),
+        (Version::One, true) => begin * 512 + private_bits * 16 + first,
+        (Version::One, false) => begin * 2048 + private_bits * 256 + first * 16 + second,
+        (Version::Two | Version::TwoFive, true) => begin * 2 + private_bits,
+        (Version::Two | Version::TwoFive, false) => begin * 4 + private_bits,
     }
 }
 
-/// Writes one granule and channel; the bits before it stay.
-fn write_granule(granule: &Granule, version: Version, bytes: &mut [u8], at: usize)
+/// The fields of one granule and channel as one number.
+#[inline]
+fn granule_word(granule: &Granule, version: Version) -> u64
     requires fits { GranuleFits version granule.now }
-    requires room { at + granule_size version ≤ 8 * length bytes.old }
-    requires short { length bytes.old ≤ 2 ^ 28 }
-    ensures { take (at + granule_size version) (bits bytes.new) ≡ take at (bits bytes.old) ++ granule_bits version granule.now }
+    ensures word { bits_of (granule_size version) result ≡ granule_bits version granule.now }
+    ensures below { result < 2 ^ granule_size version }
 {
-    let compress = compress_width(version);
-    let first = u32::from(granule.part2_3_length) * (1 << 17)
-        + u32::from(granule.big_values) * (1 << 8)
-        + u32::from(granule.global_gain);
-    let middle = u32::from(granule.scalefac_compress) * (1 << 23)
-        + u32::from(granule.window_switching) * (1 << 22)
-        + granule.detail;
-    let last = u32::from(granule.preflag) * 4
-        + u32::from(granule.scalefac_scale) * 2
-        + u32::from(granule.count1table_select);
-    put(bytes, at, 29, first);
-    put(bytes, at + 29, compress + 23, middle);
-    put(
-        bytes,
-        at + 52 + compress as usize,
-        preflag_width(version) + 2,
-        last,
-    );
+    let first = u64::from(granule.part2_3_length) * (1 << 17)
+        + u64::from(granule.big_values) * (1 << 8)
+        + u64::from(granule.global_gain);
+    let middle = u64::from(granule.scalefac_compress) * (1 << 23)
+        + u64::from(granule.window_switching) * (1 << 22)
+        + u64::from(granule.detail);
+    let last = u64::from(granule.preflag) * 4
+        + u64::from(granule.scalefac_scale) * 2
+        + u64::from(granule.count1table_select);
+    let upper = first * (1 << (compress_width(version) + 23)) + middle;
+    upper * (1 << (preflag_width(version) + 2)) + last
 }
 
-/// Writes the channels of one granule; the bits before them stay.
-pub(crate) fn write_pair(
-    pair: &[Granule; 2],
+/// Puts a front of 9 bits and one granule of 63.
+#[inline]
+fn put_one(front: u64, granule: u64, bytes: &mut [u8])
+    requires fits { granule < 2 ^ 63 }
+    requires room { length bytes.old ≡ 9 }
+    ensures { bits bytes.new ≡ bits_of 9 front ++ bits_of 63 granule }
+{
+    set_word(bytes, 0, spanned(front, 9, granule, 8));
+    set_low_byte(bytes, 8, granule);
+}
+
+/// Puts a front of so many bits and two granules of `size` bits.
+#[inline]
+fn put_two(front: u64, width: u32, first: u64, second: u64, size: u32, bytes: &mut [u8])
+    requires some { 1 ≤ width }
+    requires few { width < 64 }
+    requires first { first < 2 ^ size }
+    requires second { second < 2 ^ size }
+    requires long { 64 ≤ size + width }
+    requires whole { width + 2 * size ≡ 136 }
+    requires room { length bytes.old ≡ 17 }
+    ensures { bits bytes.new ≡ bits_of width front ++ (bits_of size first ++ bits_of size second) }
+{
+    let left = size + width - 64;
+    set_word(bytes, 0, spanned(front, width, first, left));
+    set_word(bytes, 8, spanned(first, left, second, 8));
+    set_low_byte(bytes, 16, second);
+}
+
+/// Puts a front of 20 bits and four granules of 59.
+#[inline]
+fn put_four(front: u64, granules: [u64; 4], bytes: &mut [u8])
+    requires fits { All (λ granule. granule < 2 ^ 59) granules }
+    requires room { length bytes.old ≡ 32 }
+    ensures { bits bytes.new ≡ bits_of 20 front ++ flat_map (bits_of 59) granules }
+{
+    let first = granules[0];
+    let second = granules[1];
+    let third = granules[2];
+    let fourth = granules[3];
+    set_word(bytes, 0, spanned(front, 20, first, 15));
+    set_word(bytes, 8, spanned(first, 15, second, 10));
+    set_word(bytes, 16, spanned(second, 10, third, 5));
+    set_word(bytes, 24, spanned(third, 5, fourth, 0));
+}
+
+/// Writes a front and the channels of each granule that the version has, over all the bytes.
+pub(crate) fn write_granules(
+    front: u64,
+    first: &[Granule; 2],
+    second: &[Granule; 2],
     version: Version,
     channels: u8,
     bytes: &mut [u8],
-    at: usize,
 )
     requires some { 1 ≤ channels }
     requires few { channels ≤ 2 }
-    requires first { GranuleFits version (slice_index_or pair.now 0 no_granule) }
-    requires second { channels ≡ 2 → GranuleFits version (slice_index_or pair.now 1 no_granule) }
-    requires room { at + channels * granule_size version ≤ 8 * length bytes.old }
-    requires short { length bytes.old ≤ 2 ^ 28 }
-    ensures two { length pair.now ≡ 2 }
-    ensures written { take (at + channels * granule_size version) (bits bytes.new) ≡ take at (bits bytes.old) ++ pair_bits version channels pair.now }
+    requires left { GranuleFits version (slice_index_or first.now 0 no_granule) }
+    requires right { channels ≡ 2 → GranuleFits version (slice_index_or first.now 1 no_granule) }
+    requires second_left { granules_of version ≡ 2
+        → GranuleFits version (slice_index_or second.now 0 no_granule) }
+    requires second_right { granules_of version ≡ 2 → channels ≡ 2
+        → GranuleFits version (slice_index_or second.now 1 no_granule) }
+    requires size { length bytes.old ≡ side_size_of (class_with version 0 channels) }
+    ensures two { length first.now ≡ 2 }
+    ensures second_two { length second.now ≡ 2 }
+    ensures written { bits bytes.new
+        ≡ (bits_of (front_size_lem version channels) front ++ pair_bits version channels first.now)
+        ++ second_bits version channels second.now }
 {
-    write_granule(&pair[0], version, bytes, at);
-    if channels == 1 {
-        return;
-    }
-    write_granule(&pair[1], version, bytes, at + granule_width(version));
-}
-
-/// Writes the channels of the second granule, where the version has one; the bits before them stay.
-pub(crate) fn write_second(
-    pair: &[Granule; 2],
-    version: Version,
-    channels: u8,
-    bytes: &mut [u8],
-    at: usize,
-)
-    requires some { 1 ≤ channels }
-    requires few { channels ≤ 2 }
-    requires first { granules_of version ≡ 2 → GranuleFits version (slice_index_or pair.now 0 no_granule) }
-    requires second { granules_of version ≡ 2 → channels ≡ 2 → GranuleFits version (slice_index_or pair.now 1 no_granule) }
-    requires room { granules_of version ≡ 2 → at + channels * granule_size version ≤ 8 * length bytes.old }
-    requires short { length bytes.old ≤ 2 ^ 28 }
-    ensures two { length pair.now ≡ 2 }
-    ensures written { take (at + (granules_of version - 1) * (channels * granule_size version)) (bits bytes.new) ≡ take at (bits bytes.old) ++ second_bits version channels pair.now }
-{
-    match version {
-        Version::One => write_pair(pair, version, channels, bytes, at),
-        Version::Two | Version::TwoFive => {}
+    match (version, channels == 1) {
+        (Version::One, true) => {
+            let granule = granule_word(&first[0], Version::One);
+            let last = granule_word(&second[0], Version::One);
+            put_two(front, 18, granule, last, 59, bytes);
+        }
+        (Version::One, false) => {
+            let granules = [
+                granule_word(&first[0], Version::One),
+                granule_word(&first[1], Version::One),
+                granule_word(&second[0], Version::One),
+                granule_word(&second[1], Version::One),
+            ];
+            put_four(front, granules, bytes);
+        }
+        (Version::Two | Version::TwoFive, true) => {
+            put_one(front, granule_word(&first[0], version), bytes);
+        }
+        (Version::Two | Version::TwoFive, false) => {
+            let granule = granule_word(&first[0], version);
+            let last = granule_word(&first[1], version);
+            put_two(front, 10, granule, last, 63, bytes);
+        }
     }
 }

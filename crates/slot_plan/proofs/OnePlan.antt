@@ -64,7 +64,7 @@ one_placed (item ∷ items) (p ∷ a) (q ∷ b) ordered first second areas begin
     let begin : p.begin ≡ q.begin = ap (λ l. get_or l 0 0) begins in
     ap₂ (λ (x : Placed) (l : List Placed). x ∷ l) (placed_same p q (first.0 ∙ sym second.0) slot begin) (one_placed items a b ordered.1 first.2 second.2 (ap (drop 1) areas) (ap (drop 1) begins))
 
-one_plan_for : (window : ℕ) (items : List Item) (a b : List Placed) → AreOrdered items → IsPlanFor window items a → IsPlanFor window items b → a ≡ b
+pub one_plan_for : (window : ℕ) (items : List Item) (a b : List Placed) → AreOrdered items → IsPlanFor window items a → IsPlanFor window items b → a ≡ b
 one_plan_for window items a b ordered first second =
     let areas = one_least window (map open_of items) (areas_in items a) (areas_in items b) first.least second.least in
     one_placed items a b ordered first.slots second.slots areas

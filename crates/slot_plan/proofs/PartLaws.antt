@@ -163,7 +163,7 @@ pub feasible-cons : (window : ℕ) (part : List Need) (parts : List (List Need))
 unfolding ArePartsFeasible
 feasible-cons window part parts all = all
 
-class-at : (class : ClassFields) (needs : List Need) (i : ℕ) (d : Need) → AreOfClass class needs → i < length needs → class_of (get_or needs i d).header ≡ class
+pub class-at : (class : ClassFields) (needs : List Need) (i : ℕ) (d : Need) → AreOfClass class needs → i < length needs → class_of (get_or needs i d).header ≡ class
 unfolding AreOfClass
 class-at class [] i d all within = absurd (omega arith)
 class-at class (need ∷ needs) zero d all within = all.0

@@ -75,11 +75,11 @@ found wanted c p (slot ∷ next ∷ slots) some ascend enough =
 -- ---- frame by frame
 
 -- each has a slot to choose
-abbrev HaveSlots : List Item → Type 0
+abbrev pub HaveSlots : List Item → Type 0
 HaveSlots [] = Unit {0}
 HaveSlots (item ∷ items) = (0 < length item.choices) × HaveSlots items
 
-placed-is : (window free : ℕ) (items : List Item) → HaveSlots items → AreOrdered items → needed (map open_of items) ≤ free → AllWithin window (map open_of items) → ArePlaced window free items (placed_from window free items)
+pub placed-is : (window free : ℕ) (items : List Item) → HaveSlots items → AreOrdered items → needed (map open_of items) ≤ free → AllWithin window (map open_of items) → ArePlaced window free items (placed_from window free items)
 unfolding ArePlaced placed_from needed AllWithin
 placed-is window free [] some ordered enough within = tt
 placed-is window free (item ∷ items) some ordered enough within =

@@ -22,6 +22,10 @@ area_in item slot = area_of item.class slot item.protected
 abbrev pub areas_with : ClassFields → Bool → List SlotFields → List ℕ
 areas_with class protected slots = map (λ s. area_of class s protected) slots
 
+-- the areas of the slots that a frame with this header may have
+abbrev pub areas_for : (HeaderFields → List SlotFields) → HeaderFields → List ℕ
+areas_for choices h = areas_with (class_of h) h.protected (choices h)
+
 abbrev pub open_of : Item → Open
 open_of item = record { bytes = item.bytes; areas = areas_with item.class item.protected item.choices }
 

@@ -2,7 +2,7 @@
 -- (`ThePlan`) cites the bytes alone.
 use Rattle.std.specs.Prelude.{◌≡◌, ℕ, ◌+◌, ◌-◌, ◌≤◌, max, Bool, List, [], ◌∷◌, ◌++◌, map, Contains, Option}
 use Rattle.frame_header.specs.Fields.{SlotFields, ClassFields, HeaderFields}
-use Rattle.frame_header.specs.Tables.{area_of}
+use Rattle.frame_header.specs.Tables.{class_of, area_of}
 use Rattle.slot_plan.specs.declared.needs.Placed.{Placed}
 use Rattle.slot_plan.specs.declared.needs.Need.{Need}
 use Rattle.slot_plan.specs.declared.reserves.Reserves.{Reserves}
@@ -33,6 +33,10 @@ pub record IsLeastSlot (wanted : ℕ) (class : ClassFields) (protected : Bool) (
   pub chosen : Contains slots slot
   pub enough : wanted ≤ area_of class slot protected
   pub least : (other : SlotFields) → Contains slots other → wanted ≤ area_of class other protected → area_of class slot protected ≤ area_of class other protected
+
+-- of the slots that a frame with this header may have
+abbrev pub IsLeastFor : ℕ → (HeaderFields → List SlotFields) → HeaderFields → SlotFields → Type 0
+IsLeastFor wanted choices h slot = IsLeastSlot wanted (class_of h) h.protected (choices h) slot
 
 -- each frame has the least area that leaves what is needed behind it
 unfoldable pub ArePlaced : ℕ → ℕ → List Item → List Placed → Type 0

@@ -9,24 +9,24 @@ ghost use Rattle.slot_plan.specs.Reserve.{greatest, needed, needed_behind, AllWi
 use crate::needs::{Need, Placed};
 use crate::policy::Policy;
 use crate::reserves::reserves_of;
-use crate::slots::{free_behind, least_slot};
+use crate::slots::{free_behind, least_slot_of};
 use std::alloc::{AllocError, Global};
 
 /// The frame in the least slot that leaves so many bytes free behind it.
 fn place_frame<P: Policy>(need: &Need, behind: u16, free: u32, policy: &P) -> Placed
-    requires enough { (need.now.bytes + behind) - greatest (open_of (item_of (P.choices_of policy.now) need.now)).areas ≤ free }
+    requires enough { (need.now.bytes + behind) - greatest
+        (open_of (item_of (P.choices_of policy.now) need.now)).areas ≤ free }
     requires free { free ≤ 511 }
     ensures frame { result.lead_in ≡ false }
     ensures begin { result.begin ≡ free }
-    ensures least { IsLeastSlot ((need.now.bytes + behind) - free) (class_of need.now.header) need.now.header.protected (P.choices_of policy.now need.now.header) result.slot }
+    ensures least { IsLeastSlot ((need.now.bytes + behind) - free)
+        (class_of need.now.header) need.now.header.protected
+        (P.choices_of policy.now need.now.header) result.slot }
 {
-    let choices = policy.choices(&need.header);
     let wanted = (u64::from(need.bytes) + u64::from(behind)).saturating_sub(u64::from(free));
-    let class = need.header.class();
-    let slot = least_slot(class, need.header.protected, choices.as_slice(), wanted);
     Placed {
         lead_in: false,
-        slot,
+        slot: policy.least_slot(&need.header, wanted),
         begin: free as u16,
     }
 }
@@ -43,11 +43,9 @@ fn lead_in(need: &Need, behind: u16, free: u32) -> Placed
     // The largest slot has room for a whole window.
     let window = class.window();
     prove!(u32::from(behind) <= window);
-    let slots = class.slots();
-    let slot = least_slot(class, false, slots.as_slice(), u64::from(behind));
     Placed {
         lead_in: true,
-        slot,
+        slot: least_slot_of(class, false, u64::from(behind)),
         begin: free as u16,
     }
 }
@@ -68,7 +66,8 @@ fn place_frames<P: Policy>(
     requires within { AllWithin window (opens_in (P.choices_of policy.now) part.now) }
     requires behind { behind.items ≡ needed_behind (opens_in (P.choices_of policy.now) part.now) }
     ensures within { IfOk result (λ after. after ≤ window) }
-    ensures placed { IfOk result (λ after. PlacesOn window free after (map (item_of (P.choices_of policy.now)) part.now) [] placed.old.items placed.new.items) }
+    ensures placed { IfOk result (λ after. PlacesOn window free after
+        (map (item_of (P.choices_of policy.now)) part.now) [] placed.old.items placed.new.items) }
 {
     let mut behind = behind;
     let mut free = free;
@@ -98,7 +97,8 @@ pub(crate) fn place_part<P: Policy>(
     requires free { free ≤ window }
     requires feasible { IsFeasible window window (map own_frame part.now) }
     ensures within { IfOk result (λ after. after ≤ window) }
-    ensures placed { IfOk result (λ after. PlacesPart window (P.choices_of policy.now) part.now free after placed.old.items placed.new.items) }
+    ensures placed { IfOk result (λ after. PlacesPart window
+        (P.choices_of policy.now) part.now free after placed.old.items placed.new.items) }
 {
     let reserves = reserves_of(alloc, window, part, policy)?;
     if reserves.before == 0 {

@@ -39,7 +39,8 @@ pub fn plan<P: Policy>(
     requires ascending { AllPairs (λ m n. m < n) parts.now }
     requires within { All (λ place. place < length needs.now) parts.now }
     requires feasible { ArePartsFeasible (window_in needs.now) (parts_of needs.now parts.now) }
-    ensures { IfOk result (λ p. IsPlan (window_in needs.now) (P.choices_of policy.now) (parts_of needs.now parts.now) (entries p)) }
+    ensures { IfOk result (λ p. IsPlan (window_in needs.now) (P.choices_of policy.now)
+        (parts_of needs.now parts.now) (entries p)) }
 {
     let window = needs[0].header.class().window();
     // Each part has at most one lead-in.

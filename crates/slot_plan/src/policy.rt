@@ -1,9 +1,12 @@
 //! Among which slots a frame chooses.
-ghost use Rattle.std.specs.Prelude.{◌≡◌, ◌<◌, List, [], ◌∷◌, map, Contains, AllPairs};
+ghost use Rattle.std.specs.Prelude.{◌≡◌, ◌<◌, ◌≤◌, List, [], ◌∷◌, map, Contains, AllPairs};
 ghost use Rattle.frame_header.specs.Fields.{SlotFields, HeaderFields};
 ghost use Rattle.frame_header.specs.Tables.{class_of, area_of};
 ghost use Rattle.frame_header.specs.Slots.{all_slots};
+ghost use Rattle.slot_plan.specs.Parts.{areas_for};
+ghost use Rattle.slot_plan.specs.Reserve.{greatest, IsLeastFor};
 
+use crate::slots::least_slot_of;
 use arrayvec::ArrayVec;
 use frame_header::{Header, Slot};
 
@@ -14,8 +17,19 @@ pub trait Policy {
     /// The slots that a frame with this header may have, the areas ascending. Its own is among them.
     fn choices(&self, header: &Header) -> ArrayVec<Slot, 28>
         ensures choices { result.items ≡ choices_of self.now header.now }
-        ensures ascending { AllPairs (λ m n. m < n) (map (λ s. area_of (class_of header.now) s header.now.protected) result.items) }
+        ensures ascending { AllPairs (λ m n. m < n)
+            (map (λ s. area_of (class_of header.now) s header.now.protected) result.items) }
         ensures own { Contains result.items header.now.slot };
+
+    /// The largest area that a frame with this header may have, in bytes. Its own slot is among the choices.
+    fn largest_area(&self, header: &Header) -> u32
+        ensures largest { result ≡ greatest (areas_for (choices_of self.now) header.now) }
+        ensures own { Contains (choices_of self.now header.now) header.now.slot };
+
+    /// The least slot that a frame with this header may have of which the area has at least so many bytes.
+    fn least_slot(&self, header: &Header, wanted: u64) -> Slot
+        requires { wanted ≤ greatest (areas_for (choices_of self.now) header.now) }
+        ensures { IsLeastFor wanted (choices_of self.now) header.now result };
 }
 
 /// Each frame keeps its own slot.
@@ -30,7 +44,21 @@ impl Policy for Keep {
         slots.push(header.slot);
         slots
     }
+
+    fn largest_area(&self, header: &Header) -> u32 {
+        header.area()
+    }
+
+    fn least_slot(&self, header: &Header, _wanted: u64) -> Slot {
+        header.slot
+    }
 }
+
+/// The slot of the largest area.
+const LARGEST_SLOT: Slot = Slot {
+    rate_index: 14,
+    padding: true,
+};
 
 /// Each frame may have any of the 28 slots of its class.
 #[derive(Clone, Copy, Debug, PartialEq, Eq)]
@@ -43,5 +71,13 @@ impl Policy for Least {
         // Its own slot is one of them.
         let _ = &header.slot;
         header.class().slots()
+    }
+
+    fn largest_area(&self, header: &Header) -> u32 {
+        header.class().area_of(LARGEST_SLOT, header.protected)
+    }
+
+    fn least_slot(&self, header: &Header, wanted: u64) -> Slot {
+        least_slot_of(header.class(), header.protected, wanted)
     }
 }

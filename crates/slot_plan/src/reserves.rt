@@ -6,7 +6,6 @@ ghost use Rattle.slot_plan.specs.Reserve.{greatest, AreReserves};
 
 use crate::needs::Need;
 use crate::policy::Policy;
-use crate::slots::largest_area;
 use std::alloc::{AllocError, Global};
 
 /// The bytes that have to be free.
@@ -20,15 +19,12 @@ pub(crate) struct Reserves {
 
 /// What has to be free before a frame, where so many bytes have to be free behind it.
 fn needed_before<P: Policy>(need: &Need, behind: u16, policy: &P) -> u64
-    ensures needed { result ≡ (need.now.bytes + behind) - greatest (open_of (item_of (P.choices_of policy.now) need.now)).areas }
-    ensures own { Contains (open_of (item_of (P.choices_of policy.now) need.now)).areas (own_area need.now) }
+    ensures needed { result ≡ (need.now.bytes + behind) - greatest
+        (open_of (item_of (P.choices_of policy.now) need.now)).areas }
+    ensures own { Contains (open_of (item_of (P.choices_of policy.now) need.now)).areas
+        (own_area need.now) }
 {
-    let choices = policy.choices(&need.header);
-    let largest = largest_area(
-        need.header.class(),
-        need.header.protected,
-        choices.as_slice(),
-    );
+    let largest = policy.largest_area(&need.header);
     (u64::from(need.bytes) + u64::from(behind)).saturating_sub(u64::from(largest))
 }
 

@@ -1,33 +1,47 @@
-//! The largest area of some slots, and the least that is large enough.
-ghost use Rattle.std.specs.Prelude.{◌≡◌, ◌+◌, ◌<◌, ◌≤◌, AllPairs, Contains, length};
-ghost use Rattle.slot_plan.specs.Parts.{areas_with};
-ghost use Rattle.slot_plan.specs.Reserve.{greatest, IsLeastSlot, free_behind as free_behind_lem};
+//! The least slot of a class that is large enough, and what a frame leaves free.
+ghost use Rattle.std.specs.Prelude.{◌≡◌, ◌+◌, ◌≤◌, false};
+ghost use Rattle.frame_header.specs.Slots.{all_slots, largest_slot};
+ghost use Rattle.frame_header.specs.Tables.{area_of};
+ghost use Rattle.slot_plan.specs.Reserve.{IsLeastSlot, free_behind as free_behind_lem};
 
 use frame_header::{Class, Slot};
 
-/// The area of the last slot, which is the largest, in bytes.
-pub(crate) fn largest_area(class: Class, protected: bool, slots: &[Slot]) -> u32
-    requires some { 0 < length slots.now }
-    requires ascending { AllPairs (λ m n. m < n) (areas_with class protected slots.now) }
-    ensures largest { result ≡ greatest (areas_with class protected slots.now) }
-    ensures most { result ≤ 1441 }
-{
-    class.area_of(slots[slots.len() - 1], protected)
-}
+/// The last of the bit rate indexes.
+const LAST_INDEX: u32 = 14;
 
-/// The first slot, and so the least, of which the area has at least so many bytes.
-pub(crate) fn least_slot(class: Class, protected: bool, slots: &[Slot], wanted: u64) -> Slot
-    requires ascending { AllPairs (λ m n. m < n) (areas_with class protected slots.now) }
-    requires some { wanted ≤ greatest (areas_with class protected slots.now) }
-    requires any { 0 < length slots.now }
-    ensures { IsLeastSlot wanted class protected slots.now result }
+/// The least slot of a class of which the area has at least so many bytes. The areas rise with the bit rate index, so
+/// the first index with enough is found by halves.
+#[inline]
+pub(crate) fn least_slot_of(class: Class, protected: bool, wanted: u64) -> Slot
+    requires { wanted ≤ area_of class largest_slot protected }
+    ensures { IsLeastSlot wanted class protected all_slots result }
 {
-    for slot in slots {
-        if wanted <= u64::from(class.area_of(*slot, protected)) {
-            return *slot;
+    // The areas rise, since they are those of a class.
+    let _ = &class.version;
+    let mut low = 1;
+    let mut high = LAST_INDEX;
+    while low < high {
+        let middle = (low + high) / 2;
+        let padded = Slot {
+            rate_index: middle as u8,
+            padding: true,
+        };
+        if wanted <= u64::from(class.area_of(padded, protected)) {
+            high = middle;
+        } else {
+            low = middle + 1;
         }
     }
-    slots[slots.len() - 1]
+    let rate_index = low as u8;
+    let least = Slot {
+        rate_index,
+        padding: false,
+    };
+    let padding = u64::from(class.area_of(least, protected)) < wanted;
+    Slot {
+        rate_index,
+        padding,
+    }
 }
 
 /// The free bytes behind a frame: what it leaves of those before it and its own area, but no more than the window.

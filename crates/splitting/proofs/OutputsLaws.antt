@@ -8,13 +8,13 @@ use Rattle.outside.specs.Counts.{Counts, Rose, NoneFell, NothingFailed}
 use Rattle.outside.specs.Feed.{Fed, IsFedFrom}
 use Rattle.outside.proofs.FilesLaws.{there_holds, with_file_other}
 use Rattle.sync_survey.specs.Faults.{SurveyFields}
-use Rattle.moved_gains.specs.declared.moving.CopyFault.{CopyFault}
-use Rattle.moved_gains.specs.declared.moving.CopyFault.TheVariants.{Read, Shrunk, Write}
+use Rattle.outside.specs.declared.pass.PassFault.{PassFault}
+use Rattle.outside.specs.declared.pass.PassFault.TheVariants.{Read, Shrunk, Write}
 use Rattle.edits.specs.Command.{Output, begun, written}
 use Rattle.edits.specs.Chosen.{chosen_in, chosen_file}
 use Rattle.edits.specs.One.{holding, HoldsPrefix, IsPassFault}
 use Rattle.edits.specs.Left.{seen}
-use Rattle.moved_gains.specs.Pass.{Appends, AppendsPrefix, HasCopyCause}
+use Rattle.outside.specs.Pass.{Appends, AppendsPrefix, HasPassCause}
 use Rattle.edits.specs.PassFaults.{of_pass}
 use Rattle.edits.proofs.OutputLaws.{emptied_held, output_whole, told_whole, told_prefix, pass_fault, cause_counts}
 use Rattle.splitting.specs.declared.piece.Piece.{Piece}
@@ -80,44 +80,44 @@ fed-beside fed files new input output apart created is = record { same = λ byte
 
 -- ---- one output that was created and then written to
 
-module _ {T : Type 0} (made : List ℕ → List ℕ) (size : ℕ) (input output name : List ℕ) (is : output ≡ name) (apart : input ≢ name) (old mid new : Files) (created : mid ≡ emptied old output) (r : Result T CopyFault) where
+module _ {T : Type 0} (made : List ℕ → List ℕ) (size : ℕ) (input output name : List ℕ) (is : output ≡ name) (apart : input ≢ name) (old mid new : Files) (created : mid ≡ emptied old output) (r : Result T PassFault) where
   apart-from : input ≢ output
   apart-from same = apart (same ∙ is)
 
   pub piece-whole : OnOk r (Appends input output made mid new) → OnOk r ((file : List ℕ) → Holds old input file → new ≡ holding old name (made file))
   piece-whole h = at r h
     where
-      at : (r : Result T CopyFault) → OnOk r (Appends input output made mid new) → OnOk r ((file : List ℕ) → Holds old input file → new ≡ holding old name (made file))
+      at : (r : Result T PassFault) → OnOk r (Appends input output made mid new) → OnOk r ((file : List ℕ) → Holds old input file → new ≡ holding old name (made file))
       at (Ok x) h = λ file holds. output_whole made size input output apart-from old mid new created h file holds ∙ ap (λ n. holding old n (made file)) is
       at (Err fault) h = tt
 
   pub piece-told : OnOk r (Appends input output made mid new) → OnErr r (AppendsPrefix input output made mid new) → is_some new ≡ is_some old
   piece-told h k = at r h k
     where
-      at : (r : Result T CopyFault) → OnOk r (Appends input output made mid new) → OnErr r (AppendsPrefix input output made mid new) → is_some new ≡ is_some old
+      at : (r : Result T PassFault) → OnOk r (Appends input output made mid new) → OnErr r (AppendsPrefix input output made mid new) → is_some new ≡ is_some old
       at (Ok x) h k = told_whole made size input output apart-from old mid new created h
       at (Err fault) h k = told_prefix made size input output apart-from old mid new created k
 
-  pub piece-left : (before between after : Counts) → between ≡ before → OnErr r (AppendsPrefix input output made mid new) → IfErr r (HasCopyCause size mid between after)
+  pub piece-left : (before between after : Counts) → between ≡ before → OnErr r (AppendsPrefix input output made mid new) → IfErr r (HasPassCause size mid between after)
       → IfErr r (λ fault. IsPassFault made input name (seen old before) (seen new after) (of_pass fault))
   piece-left before between after same h k = at r h k
     where
-      at : (r : Result T CopyFault) → OnErr r (AppendsPrefix input output made mid new) → IfErr r (HasCopyCause size mid between after) → IfErr r (λ fault. IsPassFault made input name (seen old before) (seen new after) (of_pass fault))
+      at : (r : Result T PassFault) → OnErr r (AppendsPrefix input output made mid new) → IfErr r (HasPassCause size mid between after) → IfErr r (λ fault. IsPassFault made input name (seen old before) (seen new after) (of_pass fault))
       at (Ok x) h k = tt
       at (Err fault) h k =
           subst (λ n. IsPassFault made input n (seen old before) (seen new after) (of_pass fault)) is
           (pass_fault made size input output apart-from old mid new created fault before between after same h k)
 
-pub copy-counts : {T : Type 0} (r : Result T CopyFault) (size : ℕ) (files : Files) (before after : Counts) → OnOk r (after ≡ before) → IfErr r (HasCopyCause size files before after) → NoneFell before after
+pub copy-counts : {T : Type 0} (r : Result T PassFault) (size : ℕ) (files : Files) (before after : Counts) → OnOk r (after ≡ before) → IfErr r (HasPassCause size files before after) → NoneFell before after
 copy-counts (Ok x) size files before after same cause = subst (λ c. NoneFell before c) (sym same) (record { misses = omega arith; ends = omega arith; read_faults = omega arith; write_faults = omega arith })
 copy-counts (Err fault) size files before after same cause = cause_counts fault size files before after cause
 
-copy-numbers-of : (fault : CopyFault) (size : ℕ) (files : Files) (before after : Counts) → HasCopyCause size files before after fault → IsOfCopy fault
+copy-numbers-of : (fault : PassFault) (size : ℕ) (files : Files) (before after : Counts) → HasPassCause size files before after fault → IsOfCopy fault
 copy-numbers-of Read size files before after h = tt
 copy-numbers-of (Shrunk first second) size files before after h = h.2
 copy-numbers-of Write size files before after h = tt
 
-pub copy-numbers : {T : Type 0} (r : Result T CopyFault) (size : ℕ) (files : Files) (before after : Counts) → IfErr r (HasCopyCause size files before after) → IfErr r IsOfCopy
+pub copy-numbers : {T : Type 0} (r : Result T PassFault) (size : ℕ) (files : Files) (before after : Counts) → IfErr r (HasPassCause size files before after) → IfErr r IsOfCopy
 copy-numbers (Ok x) size files before after cause = tt
 copy-numbers (Err fault) size files before after cause = copy-numbers-of fault size files before after cause
 
@@ -136,17 +136,17 @@ outputs-more : (s : SurveyFields) (done : List Piece) (piece : Piece) (more : Li
 outputs-more s done piece more bytes = sym (map-append (output_of bytes s) done (piece ∷ more))
 
 abbrev piece_made : SurveyFields → Piece → List ℕ → List ℕ
-piece_made s piece file = chosen_file (chosen_in piece.chosen) file s
+piece_made s piece file = chosen_file (chosen_in piece.selection.chosen) file s
 
 pub more-wrote : (s : SurveyFields) (input : List ℕ) (done : List Piece) (piece : Piece) (old now new : Files) → input ≢ string_bytes piece.name → Wrote s input done old now
-    → ((bytes : List ℕ) → Holds now input bytes → new ≡ holding now (string_bytes piece.name) (chosen_file (chosen_in piece.chosen) bytes s)) → is_some new ≡ is_some now → Wrote s input (done ++ piece ∷ []) old new
+    → ((bytes : List ℕ) → Holds now input bytes → new ≡ holding now (string_bytes piece.name) (chosen_file (chosen_in piece.selection.chosen) bytes s)) → is_some new ≡ is_some now → Wrote s input (done ++ piece ∷ []) old new
 more-wrote s input done piece old now new apart wrote written told =
     let beside = stands-beside input (string_bytes piece.name) (piece_made s piece) now new apart wrote.stands.there written told in
     record {
       files = λ bytes holds.
           written bytes (wrote.stands.after bytes holds)
-          ∙ ap (λ f. holding f (string_bytes piece.name) (chosen_file (chosen_in piece.chosen) bytes s)) (wrote.files bytes holds)
-          ∙ more-written (outputs_of s done bytes) (string_bytes piece.name) (chosen_file (chosen_in piece.chosen) bytes s) old
+          ∙ ap (λ f. holding f (string_bytes piece.name) (chosen_file (chosen_in piece.selection.chosen) bytes s)) (wrote.files bytes holds)
+          ∙ more-written (outputs_of s done bytes) (string_bytes piece.name) (chosen_file (chosen_in piece.selection.chosen) bytes s) old
           ∙ ap (λ os. with_outputs os old) (outputs-more s done piece [] bytes);
       told = told ∙ wrote.told;
       stands = record {
@@ -176,7 +176,7 @@ module _ (s : SurveyFields) (input : List ℕ) (done : List Piece) (piece : Piec
     told = told ∙ wrote.told;
   }
 
-  pub pieces-fault : (fault : CopyFault) (place : ℕ) (before between after : Counts) → place ≡ length done → between ≡ before
+  pub pieces-fault : (fault : PassFault) (place : ℕ) (before between after : Counts) → place ≡ length done → between ≡ before
       → IsPassFault (piece_made s piece) input (string_bytes piece.name) (seen now between) (seen new after) (of_pass fault) → IsPiecesFault (outputs_of s all) input (seen old before) (seen new after) (of_piece place fault)
   pieces-fault Read place before between after is same h =
       record { rose = subst (λ c. Rose c.read_faults after.read_faults) same h.rose; place = place; files = part-written h.files place is }

@@ -63,7 +63,7 @@ pieces-push prefix s k n (first ∷ pieces) piece are is named ready = (are.0, a
 pub outputs-are : (prefix : List ℕ) (s : SurveyFields) (k : ℕ) (pieces : List Piece) (bytes : List ℕ) → ArePieces prefix s k pieces → outputs_of s pieces bytes ≡ pieces_from prefix k bytes s (map chosen_of pieces)
 outputs-are prefix s k [] bytes are = refl
 outputs-are prefix s k (piece ∷ pieces) bytes are =
-    ap₂ (λ name outputs. record { name = name; bytes = chosen_file (chosen_in piece.chosen) bytes s } ∷ outputs) are.0 (outputs-are prefix s (k + 1) pieces bytes are.2)
+    ap₂ (λ name outputs. record { name = name; bytes = chosen_file (chosen_in piece.selection.chosen) bytes s } ∷ outputs) are.0 (outputs-are prefix s (k + 1) pieces bytes are.2)
 
 -- an input that has the name of no piece
 other-name : (prefix input : List ℕ) (k : ℕ) → list_any (bytes_eq input) (piece_names prefix) ≡ false → 1 ≤ k → k ≤ 99 → input ≢ piece_name prefix k

@@ -1,27 +1,21 @@
 -- The steps of a command that cuts a file.
-use Rattle.std.specs.Prelude.{◌≡◌, ◌≢◌, ℕ, ◌+◌, ◌<◌, ◌≤◌, List, [], ◌∷◌, length, map, slice_range, string_bytes, Option, Some, Ok, Err, is_some, option_map}
-use Rattle.frame_header.specs.Tables.{window_of}
+use Rattle.std.specs.Prelude.{◌≡◌, ◌≢◌, ℕ, ◌+◌, ◌<◌, List, [], ◌∷◌, length, map, string_bytes, Option, Some, Ok, Err, is_some, option_map}
 use Rattle.outside.specs.Files.{Files, Holds, IsThere, IsMissing}
 use Rattle.outside.specs.Counts.{Rose}
-use Rattle.part_needs.specs.Needs.{need_of}
-use Rattle.slot_plan.specs.Plans.{entries}
-use Rattle.laying.specs.Fits.{FitsFrom}
-use Rattle.frame_writer.specs.Frames.{IsNextSettled}
-use Rattle.frame_writer.specs.Writing.{IsWriterOf}
 use Rattle.sync_survey.specs.declared.survey_fault.SurveyFault.TheVariants.{Absent, Read, Shrunk, Memory as NoRoom}
 use Rattle.sync_survey.specs.Faults.{SurveyFields}
-use Rattle.sync_survey.specs.Survey.{survey_of}
 use Rattle.edits.specs.declared.fault.EditFault.{EditFault}
 use Rattle.edits.specs.declared.fault.EditFault.TheVariants.{EqualNames, Input, Write as Unwritable, Differ, SheetTooLarge, Sheet, Sent, Memory}
 use Rattle.cue_sheet.specs.declared.place.Place.{Place}
 use Rattle.cue_sheet.specs.declared.cue_fault.CueFault.TheVariants.{Memory as NoSheetRoom}
-use Rattle.moved_gains.specs.declared.moving.CopyFault.{CopyFault}
-use Rattle.moved_gains.specs.declared.moving.CopyFault.TheVariants.{Read as CopyRead, Shrunk as CopyShrunk, Write as CopyWrite}
+use Rattle.outside.specs.declared.pass.PassFault.{PassFault}
+use Rattle.outside.specs.declared.pass.PassFault.TheVariants.{Read as CopyRead, Shrunk as CopyShrunk, Write as CopyWrite}
 use Rattle.edits.specs.Kinds.{HasRightNumbers}
 use Rattle.edits.specs.Command.{Output, written, written_to}
 use Rattle.edits.specs.Left.{Why, Refused, Missing, Unread, Shorter, Unwritten, Unsent, NoMemory, why_of, Seen, longest_sheet}
-use Rattle.edits.specs.One.{most_frames, ReadsNothing, LosesInput}
-use Rattle.edits.specs.Chosen.{Chosen, chosen_in, chosen_file, plan_of, IsChosenInfo}
+use Rattle.edits.specs.One.{ReadsNothing, LosesInput}
+use Rattle.edits.specs.Chosen.{Chosen, chosen_in, chosen_file}
+use Rattle.edits.specs.Selected.{IsSelected}
 use Rattle.splitting.specs.declared.piece.Piece.{Piece}
 use Rattle.splitting.specs.Split.{piece_name, chosen_at, pieces_from, places_where}
 
@@ -54,17 +48,9 @@ IsSheetFault name old new fault = IsSheetFaultBy name old new fault (why_of faul
 
 -- ---- pieces that are to be written
 
--- a piece has a plan, the bytes of its Info frame, and a new writer
-pub record IsReady (s : SurveyFields) (piece : Piece) : Type 0 where
-  pub some : piece.chosen.from < piece.chosen.to
-  pub within : piece.chosen.to ≤ length s.frames
-  pub plan : entries piece.planned.plan ≡ plan_of (chosen_in piece.chosen) s
-  pub fits : FitsFrom (window_of s.class.version) 0 (map need_of (slice_range s.frames piece.chosen.from piece.chosen.to)) (entries piece.planned.plan)
-  pub info : (file : List ℕ) → survey_of file most_frames ≡ Ok s → IsChosenInfo (chosen_in piece.chosen) file s piece.planned.info.items
-  pub new : IsWriterOf [] piece.writer []
-  pub free : piece.writer.held.waiting.free ≡ 0
-  pub class : piece.writer.held.class ≡ s.class
-  pub unsettled : IsNextSettled piece.writer.held → ⊥
+-- a piece has a plan, and the bytes of its Info frame
+abbrev pub IsReady : SurveyFields → Piece → Type 0
+IsReady s piece = IsSelected s piece.selection
 
 -- the pieces are ready, and have the names of the prefix with the numbers from this one on
 abbrev pub ArePieces : List ℕ → SurveyFields → ℕ → List Piece → Type 0
@@ -77,11 +63,11 @@ CanBeWritten input s [] = Unit {0}
 CanBeWritten input s (piece ∷ pieces) = (input ≢ string_bytes piece.name) × IsReady s piece × CanBeWritten input s pieces
 
 abbrev pub chosen_of : Piece → Chosen
-chosen_of piece = chosen_in piece.chosen
+chosen_of piece = chosen_in piece.selection.chosen
 
 -- their files
 abbrev pub output_of : List ℕ → SurveyFields → Piece → Output
-output_of file s piece = record { name = string_bytes piece.name; bytes = chosen_file (chosen_in piece.chosen) file s }
+output_of file s piece = record { name = string_bytes piece.name; bytes = chosen_file (chosen_in piece.selection.chosen) file s }
 
 abbrev pub outputs_of : SurveyFields → List Piece → List ℕ → List Output
 outputs_of s pieces file = map (output_of file s) pieces
@@ -121,7 +107,7 @@ abbrev pub IsPiecesFault : (List ℕ → List Output) → List ℕ → Seen → 
 IsPiecesFault made input old new fault = IsPiecesFaultBy made input old new (why_of fault)
 
 -- the fault of the pass that writes this piece, counted from 0
-abbrev pub of_piece : ℕ → CopyFault → EditFault
+abbrev pub of_piece : ℕ → PassFault → EditFault
 of_piece place CopyRead = Input 0 Read
 of_piece place (CopyShrunk first second) = Input 0 (Shrunk first second)
 of_piece place CopyWrite = Unwritable place
@@ -133,7 +119,7 @@ IsOfPieces count (Unwritable place) = place < count
 IsOfPieces count _ = ⊥
 
 -- the numbers of the fault of a pass
-abbrev pub IsOfCopy : CopyFault → Type 0
+abbrev pub IsOfCopy : PassFault → Type 0
 IsOfCopy CopyRead = Unit {0}
 IsOfCopy (CopyShrunk first second) = second < first
 IsOfCopy CopyWrite = Unit {0}

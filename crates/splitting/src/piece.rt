@@ -11,19 +11,16 @@ ghost use Rattle.splitting.specs.Steps.{IsReady, ArePieces, chosen_of};
 
 use crate::names::piece_name;
 use cue_sheet::Place;
-use edits::{Chosen, EditFault, Planned, choose, plan_file};
-use frame_writer::Writer;
+use edits::{EditFault, Selection, choose, plan_file};
 use laying::Kept;
 use std::alloc::Global;
 use sync_survey::Survey;
 
-/// A piece that is to be written: its name, its frames and their plan, and the writer of its output, which is new.
+/// A piece that is to be written: its name, and its frames with their plan.
 #[derive(Drop)]
 pub(crate) struct Piece {
     pub name: String,
-    pub chosen: Chosen,
-    pub planned: Planned,
-    pub writer: Writer,
+    pub selection: Selection,
 }
 
 /// The piece with this number, of the frames from one on and before another: `Range` where there is none between them, or
@@ -42,16 +39,14 @@ fn make_piece(
     ensures name { IfOk result (λ piece. string_bytes piece.name ≡ piece_name_lem prefix.now number) }
     ensures ready { IfOk result (IsReady (tells survey.now)) }
     ensures chosen { MatchResult result
-        (λ piece. frames_between (length (tells survey.now).frames) from to ≡ Ok (chosen_in piece.chosen))
+        (λ piece. frames_between (length (tells survey.now).frames) from to ≡ Ok (chosen_in piece.selection.chosen))
         (λ fault. (fault ≡ EditFault.Memory) ⊎ (IsRefusal fault × (frames_between (length (tells survey.now).frames) from to ≡ Err fault))) }
 {
     let chosen = choose(from, to, survey.frames().len(), false, Kept::none())?;
     let planned = plan_file(alloc, survey, &chosen)?;
     Ok(Piece {
         name: piece_name(alloc, prefix, number)?,
-        chosen,
-        planned,
-        writer: Writer::new(alloc, survey.class())?,
+        selection: Selection { chosen, planned },
     })
 }
 

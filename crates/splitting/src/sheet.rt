@@ -23,9 +23,12 @@ const SHEET: u32 = 1;
 /// The length of the sheet in bytes.
 fn sheet_length<D: Folder>(folder: &mut D, sheet: &str) -> Result<u64, EditFault>
     ensures there { OnOk result (IsThere (D.files folder.old) sheet.now) }
-    ensures length { IfOk result (λ n. (bytes : List ℕ) → Holds (D.files folder.old) sheet.now bytes → n ≡ length bytes) }
+    ensures length { IfOk result (λ n. (bytes : List ℕ) → Holds (D.files folder.old) sheet.now bytes
+        → n ≡ length bytes) }
     ensures most { IfOk result (λ n. n ≤ longest_sheet) }
-    ensures refused { IfErr result (IsSheetFault sheet.now (seen (D.files folder.old) (D.counts folder.old)) (seen (D.files folder.new) (D.counts folder.new))) }
+    ensures refused { IfErr result (IsSheetFault sheet.now
+        (seen (D.files folder.old) (D.counts folder.old))
+        (seen (D.files folder.new) (D.counts folder.new))) }
     ensures numbers { IfErr result IsOfSheet }
     ensures done { OnOk result (D.counts folder.new ≡ D.counts folder.old) }
     ensures files { D.files folder.new ≡ D.files folder.old }
@@ -43,8 +46,11 @@ fn sheet_length<D: Folder>(folder: &mut D, sheet: &str) -> Result<u64, EditFault
 fn sheet_bytes<D: Folder>(alloc: Global, folder: &mut D, sheet: &str) -> Result<Vec<u8>, EditFault>
     ensures there { OnOk result (IsThere (D.files folder.old) sheet.now) }
     ensures most { IfOk result (λ read. length read.items ≤ longest_sheet) }
-    ensures bytes { IfOk result (λ read. (bytes : List ℕ) → Holds (D.files folder.old) sheet.now bytes → read.items ≡ bytes) }
-    ensures refused { IfErr result (IsSheetFault sheet.now (seen (D.files folder.old) (D.counts folder.old)) (seen (D.files folder.new) (D.counts folder.new))) }
+    ensures bytes { IfOk result (λ read. (bytes : List ℕ)
+        → Holds (D.files folder.old) sheet.now bytes → read.items ≡ bytes) }
+    ensures refused { IfErr result (IsSheetFault sheet.now
+        (seen (D.files folder.old) (D.counts folder.old))
+        (seen (D.files folder.new) (D.counts folder.new))) }
     ensures numbers { IfErr result IsOfSheet }
     ensures done { OnOk result (D.counts folder.new ≡ D.counts folder.old) }
     ensures files { D.files folder.new ≡ D.files folder.old }
@@ -94,11 +100,15 @@ pub(crate) fn sheet_places<D: Folder>(
     sheet: &str,
 ) -> Result<Vec<Place>, EditFault>
     ensures there { OnOk result (IsThere (D.files folder.old) sheet.now) }
-    ensures places { IfOk result (λ places. (bytes : List ℕ) → Holds (D.files folder.old) sheet.now bytes → places_where (Some bytes) ≡ Ok places.items) }
+    ensures places { IfOk result (λ places. (bytes : List ℕ)
+        → Holds (D.files folder.old) sheet.now bytes
+        → places_where (Some bytes) ≡ Ok places.items) }
     ensures sound { IfOk result (λ places. All IsPlace places.items) }
     ensures some { IfOk result (λ places. 2 ≤ length places.items) }
     ensures most { IfOk result (λ places. length places.items ≤ 100) }
-    ensures refused { IfErr result (IsSheetFault sheet.now (seen (D.files folder.old) (D.counts folder.old)) (seen (D.files folder.new) (D.counts folder.new))) }
+    ensures refused { IfErr result (IsSheetFault sheet.now
+        (seen (D.files folder.old) (D.counts folder.old))
+        (seen (D.files folder.new) (D.counts folder.new))) }
     ensures numbers { IfErr result IsOfSheet }
     ensures done { OnOk result (D.counts folder.new ≡ D.counts folder.old) }
     ensures files { D.files folder.new ≡ D.files folder.old }

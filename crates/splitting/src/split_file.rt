@@ -18,8 +18,8 @@ use crate::sheet::sheet_places;
 use crate::writing::write_pieces;
 use cue_sheet::Place;
 use edits::{EditFault, MOST_FRAMES, survey_at};
-use outside::{Feed, Folder, WriteBuffer};
-use reservoir::Window;
+use laying::Buffers;
+use outside::Folder;
 use std::alloc::Global;
 use sync_survey::Survey;
 
@@ -36,30 +36,24 @@ fn split_surveyed<D: Folder>(
     requires there { IsThere (D.files folder.old) input.now }
     requires laid { IsLaidOut (tells survey.now) }
     requires few { length (tells survey.now).frames ≤ 2900000 }
-    requires surveyed { (bytes : List ℕ) → Holds (D.files folder.old) input.now bytes → survey_of bytes most_frames ≡ Ok (tells survey.now) }
+    requires surveyed { (bytes : List ℕ) → Holds (D.files folder.old) input.now bytes
+        → survey_of bytes most_frames ≡ Ok (tells survey.now) }
     requires places { All IsPlace places.now }
     requires some { 1 ≤ length places.now }
     requires most { length places.now ≤ 100 }
-    ensures written { OnOk result (IsMadeOf input.now (tells survey.now) places.now prefix.now (D.files folder.old) (D.files folder.new)) }
+    ensures written { OnOk result (IsMadeOf input.now (tells survey.now) places.now prefix.now
+        (D.files folder.old) (D.files folder.new)) }
     ensures told { is_some (D.files folder.new) ≡ is_some (D.files folder.old) }
     ensures done { OnOk result (D.counts folder.new ≡ D.counts folder.old) }
-    ensures left { IfErr result (IsSplitFault input.now (tells survey.now) places.now prefix.now (seen (D.files folder.old) (D.counts folder.old)) (seen (D.files folder.new) (D.counts folder.new))) }
+    ensures left { IfErr result (IsSplitFault input.now (tells survey.now) places.now prefix.now
+        (seen (D.files folder.old) (D.counts folder.old))
+        (seen (D.files folder.new) (D.counts folder.new))) }
     ensures numbers { IfErr result IsOfSplit }
     ensures counts { NoneFell (D.counts folder.old) (D.counts folder.new) }
 {
     let pieces = make_pieces(alloc, survey, places, prefix)?;
-    let mut feed = Feed::new(alloc)?;
-    let mut window = Window::new(alloc)?;
-    let mut waiting = WriteBuffer::new(alloc)?;
-    write_pieces(
-        folder,
-        input,
-        survey,
-        pieces,
-        &mut feed,
-        &mut window,
-        &mut waiting,
-    )
+    let mut buffers = Buffers::new(alloc, survey.class())?;
+    write_pieces(folder, input, survey, pieces, &mut buffers)
 }
 
 /// Writes the pieces of the input, which are the frames from each place on and before the next, with all main data. Each is
@@ -88,13 +82,19 @@ pub fn split_at<D: Folder>(
     requires places { All IsPlace places.now }
     requires some { 2 ≤ length places.now }
     requires most { length places.now ≤ 100 }
-    ensures done { OnOk result (IsDone (split_at_command places.now input.now prefix.now) (seen (D.files folder.old) (D.counts folder.old)) (seen (D.files folder.new) (D.counts folder.new))) }
-    ensures left { IfErr result (Leaves (split_at_command places.now input.now prefix.now) (seen (D.files folder.old) (D.counts folder.old)) (seen (D.files folder.new) (D.counts folder.new))) }
+    ensures done { OnOk result (IsDone (split_at_command places.now input.now prefix.now)
+        (seen (D.files folder.old) (D.counts folder.old))
+        (seen (D.files folder.new) (D.counts folder.new))) }
+    ensures left { IfErr result (Leaves (split_at_command places.now input.now prefix.now)
+        (seen (D.files folder.old) (D.counts folder.old))
+        (seen (D.files folder.new) (D.counts folder.new))) }
     // Over a folder that tells nothing too.
     ensures numbers { IfErr result (HasNumbers (split_at_command places.now input.now prefix.now)) }
-    ensures names { (place : ℕ) → IsErrOf result (EditFault.EqualNames place) ↔ (clash_of (split_at_command places.now input.now prefix.now) ≡ Some place) }
+    ensures names { (place : ℕ) → IsErrOf result (EditFault.EqualNames place)
+        ↔ (clash_of (split_at_command places.now input.now prefix.now) ≡ Some place) }
     // The input is well-formed, and each piece holds at most one lead-in and then exactly its frames of the input's stream.
-    ensures streams { OnOk result (HoldsStreams (split_at_command places.now input.now prefix.now) (D.files folder.old)) }
+    ensures streams { OnOk result (HoldsStreams (split_at_command places.now input.now prefix.now)
+        (D.files folder.old)) }
     ensures counts { NoneFell (D.counts folder.old) (D.counts folder.new) }
 {
     if is_piece_name(prefix, input) {
@@ -119,13 +119,19 @@ pub fn split_by<D: Folder>(
     sheet: &str,
     prefix: &str,
 ) -> Result<(), EditFault>
-    ensures done { OnOk result (IsDone (split_by_command input.now sheet.now prefix.now) (seen (D.files folder.old) (D.counts folder.old)) (seen (D.files folder.new) (D.counts folder.new))) }
-    ensures left { IfErr result (Leaves (split_by_command input.now sheet.now prefix.now) (seen (D.files folder.old) (D.counts folder.old)) (seen (D.files folder.new) (D.counts folder.new))) }
+    ensures done { OnOk result (IsDone (split_by_command input.now sheet.now prefix.now)
+        (seen (D.files folder.old) (D.counts folder.old))
+        (seen (D.files folder.new) (D.counts folder.new))) }
+    ensures left { IfErr result (Leaves (split_by_command input.now sheet.now prefix.now)
+        (seen (D.files folder.old) (D.counts folder.old))
+        (seen (D.files folder.new) (D.counts folder.new))) }
     // Over a folder that tells nothing too.
     ensures numbers { IfErr result (HasNumbers (split_by_command input.now sheet.now prefix.now)) }
-    ensures names { (place : ℕ) → IsErrOf result (EditFault.EqualNames place) ↔ (clash_of (split_by_command input.now sheet.now prefix.now) ≡ Some place) }
+    ensures names { (place : ℕ) → IsErrOf result (EditFault.EqualNames place)
+        ↔ (clash_of (split_by_command input.now sheet.now prefix.now) ≡ Some place) }
     // The input is well-formed, and each piece holds at most one lead-in and then exactly its frames of the input's stream.
-    ensures streams { OnOk result (HoldsStreams (split_by_command input.now sheet.now prefix.now) (D.files folder.old)) }
+    ensures streams { OnOk result (HoldsStreams (split_by_command input.now sheet.now prefix.now)
+        (D.files folder.old)) }
     ensures counts { NoneFell (D.counts folder.old) (D.counts folder.new) }
 {
     if is_piece_name(prefix, input) {

@@ -74,13 +74,17 @@ const CLASS: Class = Class {
 
 /// Asserts what stands where in the song.
 fn expect_places<R: Abort>(rt: &R, survey: &Survey) {
-    let (front_end, junk) = survey.junk();
-    assert_eq!(rt; front_end, 42);
-    assert_eq!(rt; junk, 300);
+    assert_eq!(rt; survey.junk(), (42, 300));
     assert_eq!(rt; survey.first(), 342);
-    assert_eq!(rt; survey.class(), CLASS);
     assert_eq!(rt; survey.length(), 1800);
-    assert_eq!(rt; survey.blocks(), BLOCKS.as_slice());
+}
+
+fn expect_class<R: Abort>(rt: &R, class: Class) {
+    assert_eq!(rt; class, CLASS);
+}
+
+fn expect_blocks<R: Abort>(rt: &R, blocks: &[Piece]) {
+    assert_eq!(rt; blocks, BLOCKS.as_slice());
 }
 
 /// Asserts that the row is such a frame.
@@ -91,36 +95,52 @@ fn expect_row<R: Abort>(rt: &R, row: &Row, offset: u64, begin: u16, bits: u32) {
     assert_eq!(rt; row.side.bits(), bits);
 }
 
-fn expect_frames<R: Abort>(rt: &R, survey: &Survey) {
-    let head = Head {
+fn expect_head<R: Abort>(rt: &R, head: Option<Head>) {
+    let wanted = Head {
         offset: 342,
         header: HEADER,
         text_at: 36,
     };
-    assert_eq!(rt; survey.head(), Some(head));
-    let [first, second] = survey.frames() else {
+    assert_eq!(rt; head, Some(wanted));
+}
+
+fn expect_frames<R: Abort>(rt: &R, rows: &[Row]) {
+    let [first, second] = rows else {
         panic!(rt; "two frames");
     };
     expect_row(rt, first, 759, 0, 0);
     expect_row(rt, second, 1176, 200, 2400);
 }
 
+/// The survey of the file of two frames at most, where there is one.
+fn surveyed(alloc: Global, parts: &[Stretch]) -> Result<Option<Survey>, AllocError> {
+    let file = bytes_of(alloc, parts)?;
+    let mut folder = MemFolder::new(alloc);
+    folder.put("song", &file)?;
+    Ok(survey(alloc, &mut folder, "song", 2).ok())
+}
+
 #[test]
 fn a_song(rt: HostRuntime) -> Result<(), Fail> {
-    let file = bytes_of(rt.alloc(), &SONG)?;
-    let mut folder = MemFolder::new(rt.alloc());
-    folder.put("song", &file)?;
-    let Ok(survey) = survey(rt.alloc(), &mut folder, "song", 2) else {
+    let Some(survey) = surveyed(rt.alloc(), &SONG)? else {
         panic!(&rt; "no survey");
     };
     expect_places(&rt, &survey);
-    expect_frames(&rt, &survey);
+    expect_class(&rt, survey.class());
+    expect_blocks(&rt, survey.blocks());
+    expect_head(&rt, survey.head());
+    expect_frames(&rt, survey.frames());
     Ok(())
 }
 
-/// The fault that a survey of a file of two frames at most finds, where there is one.
-fn fault_of<D: Folder>(alloc: Global, folder: &mut D, name: &str) -> Option<SurveyFault> {
-    match survey(alloc, folder, name, 2) {
+/// The fault that a survey of a file of so many frames at most finds, where there is one.
+fn fault_of<D: Folder>(
+    alloc: Global,
+    folder: &mut D,
+    name: &str,
+    allowed: u32,
+) -> Option<SurveyFault> {
+    match survey(alloc, folder, name, allowed) {
         Ok(_) => None,
         Err(fault) => Some(fault),
     }
@@ -130,29 +150,38 @@ fn fault_of<D: Folder>(alloc: Global, folder: &mut D, name: &str) -> Option<Surv
 fn no_file_of_that_name(rt: HostRuntime) -> Result<(), Fail> {
     let mut folder = MemFolder::new(rt.alloc());
     folder.put("song", b"")?;
-    let absent = fault_of(rt.alloc(), &mut folder, "son");
+    let absent = fault_of(rt.alloc(), &mut folder, "son", 2);
     assert_eq!(rt; absent, Some(SurveyFault::Absent));
-    let empty = fault_of(rt.alloc(), &mut folder, "song");
+    let empty = fault_of(rt.alloc(), &mut folder, "song", 2);
     assert_eq!(rt; empty, Some(SurveyFault::NoFrame(0)));
     Ok(())
 }
 
-/// What a survey finds where this call fails, which changes no file.
-fn fault_where_it_fails<R: Abort + AllocGlobal>(
-    rt: &R,
+/// What a survey finds where this call fails, and whether the file is left as it was.
+#[derive(Clone, Copy)]
+struct Outcome {
+    fault: Option<SurveyFault>,
+    is_left: bool,
+}
+
+fn outcome_of(alloc: Global, folder: &mut MemFolder, file: &[u8]) -> Outcome {
+    let fault = fault_of(alloc, folder, "song", 1000);
+    Outcome {
+        fault,
+        is_left: folder.get("song") == Some(file),
+    }
+}
+
+fn outcome_where_it_fails(
+    alloc: Global,
     file: &[u8],
     kind: Call,
     number: u64,
-) -> Result<Option<SurveyFault>, AllocError> {
-    let mut folder = MemFolder::new(rt.alloc());
+) -> Result<Outcome, AllocError> {
+    let mut folder = MemFolder::new(alloc);
     folder.put("song", file)?;
     folder.fail(kind, number)?;
-    let fault = match survey(rt.alloc(), &mut folder, "song", 1000) {
-        Ok(_) => None,
-        Err(fault) => Some(fault),
-    };
-    assert!(rt; folder.get("song") == Some(file));
-    Ok(fault)
+    Ok(outcome_of(alloc, &mut folder, file))
 }
 
 /// Lets the calls of a kind fail in turn, until a survey makes fewer; gives how many it makes.
@@ -162,7 +191,9 @@ fn fail_in_turn<R: Abort + AllocGlobal>(
     kind: Call,
 ) -> Result<u64, AllocError> {
     for number in 1..10 {
-        match fault_where_it_fails(rt, file, kind, number)? {
+        let outcome = outcome_where_it_fails(rt.alloc(), file, kind, number)?;
+        assert!(rt; outcome.is_left);
+        match outcome.fault {
             Some(fault) => assert_eq!(rt; fault, SurveyFault::Read),
             None => return Ok(number - 1),
         }
@@ -213,12 +244,16 @@ static ENDINGS: [Ending; 4] = [
     },
 ];
 
+fn fault_of_ending(alloc: Global, ending: &Ending) -> Result<Option<SurveyFault>, AllocError> {
+    let file = bytes_of(alloc, &[Stretch::Fill(0, ending.length)])?;
+    let mut folder = Untold::new(ending.found, &file, &file);
+    Ok(fault_of(alloc, &mut folder, "a", 2))
+}
+
 #[test]
 fn a_file_that_ends_early(rt: HostRuntime) -> Result<(), Fail> {
     for ending in &ENDINGS {
-        let file = bytes_of(rt.alloc(), &[Stretch::Fill(0, ending.length)])?;
-        let mut folder = Untold::new(ending.found, &file, &file);
-        let fault = fault_of(rt.alloc(), &mut folder, "a");
+        let fault = fault_of_ending(rt.alloc(), ending)?;
         assert_eq!(rt; fault, Some(ending.fault));
     }
     Ok(())
@@ -227,7 +262,7 @@ fn a_file_that_ends_early(rt: HostRuntime) -> Result<(), Fail> {
 #[test]
 fn a_file_that_is_too_long(rt: HostRuntime) {
     let mut folder = Untold::new(1_073_741_825, b"", b"");
-    let fault = fault_of(rt.alloc(), &mut folder, "a");
+    let fault = fault_of(rt.alloc(), &mut folder, "a", 2);
     assert_eq!(rt; fault, Some(SurveyFault::TooLong(1_073_741_825)));
     assert_eq!(rt; folder.reads(), 0);
 }

@@ -150,16 +150,23 @@ static CASES: [Case; 8] = [
     },
 ];
 
-fn expect_tag<R: Abort + AllocGlobal>(rt: &R, case: &Case) -> Result<(), AllocError> {
-    let file = bytes_of(rt.alloc(), case.parts)?;
-    let mut folder = MemFolder::new(rt.alloc());
+/// The tag of a file of these stretches.
+fn tag_in(alloc: Global, parts: &[Stretch]) -> Result<Result<Found, NoTag>, AllocError> {
+    let file = bytes_of(alloc, parts)?;
+    let mut folder = MemFolder::new(alloc);
     folder.put("a", &file)?;
-    match tag_of(rt.alloc(), &mut folder) {
-        Ok(found) => {
-            assert_eq!(rt; found.place.offset, case.offset, "{}", case.name);
-            assert_eq!(rt; found.place.length, case.length, "{}", case.name);
-            assert_eq!(rt; found.bytes.as_slice(), case.tag, "{}", case.name);
-        }
+    Ok(tag_of(alloc, &mut folder))
+}
+
+fn expect_found<R: Abort>(rt: &R, found: &Found, case: &Case) {
+    assert_eq!(rt; found.place.offset, case.offset, "{}", case.name);
+    assert_eq!(rt; found.place.length, case.length, "{}", case.name);
+    assert_eq!(rt; found.bytes.as_slice(), case.tag, "{}", case.name);
+}
+
+fn expect_tag<R: Abort + AllocGlobal>(rt: &R, case: &Case) -> Result<(), AllocError> {
+    match tag_in(rt.alloc(), case.parts)? {
+        Ok(found) => expect_found(rt, &found, case),
         Err(reason) => panic!(rt; "{}: {reason:?}", case.name),
     }
     Ok(())
@@ -230,13 +237,18 @@ static REFUSED: [Refused; 4] = [
     },
 ];
 
+/// Why no tag of a file of these stretches is read, where none is.
+fn reason_in(alloc: Global, parts: &[Stretch]) -> Result<Option<NoTag>, AllocError> {
+    match tag_in(alloc, parts)? {
+        Ok(_) => Ok(None),
+        Err(reason) => Ok(Some(reason)),
+    }
+}
+
 #[test]
 fn tags_at_fault(rt: HostRuntime) -> Result<(), Fail> {
     for refused in &REFUSED {
-        let file = bytes_of(rt.alloc(), refused.parts)?;
-        let mut folder = MemFolder::new(rt.alloc());
-        folder.put("a", &file)?;
-        let reason = no_tag_of(rt.alloc(), &mut folder);
+        let reason = reason_in(rt.alloc(), refused.parts)?;
         assert_eq!(rt; reason, Some(NoTag::Tag(refused.fault)), "{}", refused.name);
     }
     Ok(())
@@ -297,13 +309,21 @@ static CHANGED: [Changed; 4] = [
     },
 ];
 
+fn reason_of_change(
+    alloc: Global,
+    first: &[u8],
+    changed: &Changed,
+) -> Result<Option<NoTag>, AllocError> {
+    let later = bytes_of(alloc, changed.later)?;
+    let mut folder = Untold::new(first.len() as u64, first, &later);
+    Ok(no_tag_of(alloc, &mut folder))
+}
+
 #[test]
 fn a_file_that_changes(rt: HostRuntime) -> Result<(), Fail> {
     let first = bytes_of(rt.alloc(), &[FRAME, APE])?;
     for changed in &CHANGED {
-        let later = bytes_of(rt.alloc(), changed.later)?;
-        let mut folder = Untold::new(first.len() as u64, &first, &later);
-        let reason = no_tag_of(rt.alloc(), &mut folder);
+        let reason = reason_of_change(rt.alloc(), &first, changed)?;
         assert_eq!(rt; reason, Some(NoTag::Tag(changed.fault)));
     }
     Ok(())

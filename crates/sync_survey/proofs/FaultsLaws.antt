@@ -1,6 +1,6 @@
 -- The first of several faults, and the faults of a frame in their order.
-use Rattle.std.proofs.Common.{◌≡◌, ℕ, zero, suc, ◌+◌, ◌<◌, ◌≤◌, true, List, [], ◌∷◌, ◌++◌, length, drop, Option, Some, None, refl, sym, ◌∙◌, ap, ap₂, arith, map, length-append}
-use Rattle.std.specs.Prelude.{◌==◌, flat_map, slice_get, sum_by}
+use Rattle.std.proofs.Common.{◌≡◌, ℕ, zero, suc, ◌+◌, ◌<◌, ◌≤◌, true, false, List, [], ◌∷◌, ◌++◌, length, get_or, drop, Option, Some, None, refl, sym, ◌∙◌, ap, ap₂, arith, map, length-append}
+use Rattle.std.specs.Prelude.{slice_set, flat_map, slice_get, sum_by}
 use Rattle.std.specs.List.{enumerate_from}
 use Rattle.std.specs.Option.{option_or}
 use Rattle.std.proofs.lemmas.List.{take-append-le, take_all, map-append, length-map}
@@ -8,15 +8,14 @@ use Rattle.std.proofs.lemmas.List.Concat.{flat_map-append}
 use Rattle.std.proofs.lemmas.List.Sums.{sum_by_push}
 use Rattle.frame_header.specs.Fields.{ClassFields}
 use Rattle.frame_header.specs.Tables.{class_of}
-use Rattle.side_info.specs.CheckWord.{check_word_of}
 use Rattle.side_info.specs.Frame.{word_said}
 use Rattle.sync_survey.specs.declared.places.Head.{Head}
 use Rattle.sync_survey.specs.declared.rows.Row.{Row}
 use Rattle.sync_survey.specs.declared.survey_fault.SurveyFault.{SurveyFault}
-use Rattle.sync_survey.specs.declared.survey_fault.SurveyFault.TheVariants.{CheckWord, TooManyFrames}
+use Rattle.sync_survey.specs.declared.survey_fault.SurveyFault.TheVariants.{Mixed}
 use Rattle.sync_survey.specs.Items.{same_class}
 use Rattle.sync_survey.specs.MainData.{own_area, head_area, lacks_data, place, end_behind, end_before, is_lost, marked_row, marked}
-use Rattle.sync_survey.specs.Faults.{where_true, has_wrong_word, data_faults, faults_at, frame_faults, all_faults, first_of}
+use Rattle.sync_survey.specs.Faults.{word_faults, count_faults, data_faults, later_faults, faults_at, frame_faults, all_faults, first_of}
 
 -- ---- lists of faults
 
@@ -35,19 +34,32 @@ some-append (x ∷ xs) ys fault e = e
 -- ---- one frame
 
 module _ (said : ℕ) (class : ClassFields) (allowed place ended count : ℕ) (r : Row) where
-  abbrev word_faults : List SurveyFault
-  word_faults = where_true (has_wrong_word said r) (CheckWord r.offset said (check_word_of r.header r.side))
-
-  abbrev count_faults : List SurveyFault
-  count_faults = where_true (count == allowed) (TooManyFrames r.offset)
-
-  pub first-same : same_class (class_of r.header) class ≡ true
-      → option_or (option_or (first_of word_faults) (first_of (data_faults place ended r))) (first_of count_faults) ≡ first_of (faults_at said class allowed place ended count r)
+  pub first-mixed : same_class (class_of r.header) class ≡ false → first_of (faults_at said class allowed place ended count r) ≡ Some (Mixed r.offset)
   unfolding faults_at
-  first-same same =
-      rw same
-      (ap (λ o. option_or o (first_of count_faults)) (sym (first-append word_faults (data_faults place ended r)))
-      ∙ sym (first-append (word_faults ++ data_faults place ended r) count_faults))
+  first-mixed differ = rw differ refl
+
+  pub first-same : same_class (class_of r.header) class ≡ true → first_of (later_faults said allowed place ended count r) ≡ first_of (faults_at said class allowed place ended count r)
+  unfolding faults_at
+  first-same same = rw same refl
+
+module _ (said allowed place ended count : ℕ) (r : Row) where
+  by_parts : option_or (option_or (first_of (word_faults said r)) (first_of (data_faults place ended r))) (first_of (count_faults count allowed r))
+      ≡ first_of (later_faults said allowed place ended count r)
+  by_parts =
+      ap (λ o. option_or o (first_of (count_faults count allowed r))) (sym (first-append (word_faults said r) (data_faults place ended r)))
+      ∙ sym (first-append (word_faults said r ++ data_faults place ended r) (count_faults count allowed r))
+
+  -- the fault of the check word is the first
+  pub first-word : (fault : SurveyFault) → first_of (word_faults said r) ≡ Some fault → first_of (later_faults said allowed place ended count r) ≡ Some fault
+  first-word fault is = sym by_parts ∙ rw is refl
+
+  -- without one it is that of the main data
+  pub first-data : (fault : SurveyFault) → first_of (word_faults said r) ≡ None → first_of (data_faults place ended r) ≡ Some fault → first_of (later_faults said allowed place ended count r) ≡ Some fault
+  first-data fault none is = sym by_parts ∙ rw (none, is) refl
+
+  -- without these it is that of the number of frames, if any
+  pub first-count : first_of (word_faults said r) ≡ None → first_of (data_faults place ended r) ≡ None → first_of (later_faults said allowed place ended count r) ≡ first_of (count_faults count allowed r)
+  first-count none sound = sym by_parts ∙ rw (none, sound) refl
 
 -- ---- one frame more behind these
 
@@ -59,6 +71,14 @@ get_more (r ∷ rows) more (suc i) lt = get_more rows more i (omega (arith, lt))
 pub get_next : (rows : List Row) (r : Row) → slice_get (rows ++ r ∷ []) (length rows) ≡ Some r
 get_next [] r = refl
 get_next (q ∷ rows) r = get_next rows r
+
+pub get_last : (rows : List Row) (r other : Row) → get_or (rows ++ r ∷ []) (length rows) other ≡ r
+get_last [] r other = refl
+get_last (q ∷ rows) r other = get_last rows r other
+
+pub set_last : (rows : List Row) (r q : Row) → slice_set (rows ++ r ∷ []) (length rows) q ≡ rows ++ q ∷ []
+set_last [] r q = refl
+set_last (p ∷ rows) r q = ap (λ l. p ∷ l) (set_last rows r q)
 
 module _ (head : Option Head) (rows : List Row) where
   pub place-more : (more : List Row) (i : ℕ) → i ≤ length rows → place head (rows ++ more) i ≡ place head rows i

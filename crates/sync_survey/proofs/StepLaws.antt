@@ -1,6 +1,7 @@
 -- One item more is judged and kept.
-use Rattle.std.proofs.Common.{◌≡◌, ℕ, ◌+◌, ◌≤◌, ◌⊎◌, min, false, List, [], ◌∷◌, ◌++◌, length, drop, Option, Some, None, Err, refl, sym, ◌∙◌, ap, ap₂, subst, inl, inr, arith, append-nil}
+use Rattle.std.proofs.Common.{◌≡◌, ℕ, ◌+◌, ◌<◌, ◌≤◌, ◌==◌, ◌⊎◌, min, false, List, [], ◌∷◌, ◌++◌, length, drop, Option, Some, None, Err, refl, sym, ◌∙◌, ap, ap₂, subst, inl, inr, arith, append-nil, length-append}
 use Rattle.std.specs.Prelude.{option_to_list}
+use Rattle.std.proofs.lemmas.Bool.{true≢false, eq-eqb, cases_lt}
 use Rattle.frame_header.specs.Fields.{HeaderFields, ClassFields, IsHeader}
 use Rattle.frame_header.specs.Tables.{class_of, length_of, overhead_of, area_of}
 use Rattle.side_info.specs.Side.{SideFits}
@@ -26,8 +27,9 @@ use Rattle.sync_survey.specs.Faults.{faults_at, first_of, class_from, surveyed}
 use Rattle.sync_survey.specs.Kinds.{RefusesRightly}
 use Rattle.sync_survey.specs.Survey.{AreLaid, BlocksAreLaid, HasLength, IsRefusal}
 use Rattle.sync_survey.proofs.ItemsLaws.{stands, header_front-in_range}
-use Rattle.sync_survey.proofs.FaultsLaws.{marked-length, marked-push}
+use Rattle.sync_survey.proofs.FaultsLaws.{none-of, marked-length, marked-push}
 use Rattle.sync_survey.proofs.SurveyLaws.{overhead-within}
+use Rattle.sync_survey.proofs.SurveyParts.{faults-none_sound}
 use Rattle.sync_survey.proofs.BytesFaults.{frame_rightly}
 use Rattle.sync_survey.proofs.FrontLaws.{blocks_more}
 use Rattle.sync_survey.proofs.FoldersLaws.{memory_refusal, bytes_refusal}
@@ -172,7 +174,7 @@ laid_push : (from : ℕ) (rows : List Row) (to later : ℕ) (r : Row) → AreLai
 laid_push from [] to later r laid fits low high = (omega (arith, laid, low), fits, high)
 laid_push from (q ∷ rows) to later r laid fits low high = (laid.0, laid.1, laid_push (q.offset + length_of (class_of q.header) q.header.slot) rows to later r laid.2 fits low high)
 
-laid_later : (from : ℕ) (rows : List Row) (to later : ℕ) → AreLaid from rows to → to ≤ later → AreLaid from rows later
+pub laid_later : (from : ℕ) (rows : List Row) (to later : ℕ) → AreLaid from rows to → to ≤ later → AreLaid from rows later
 laid_later from [] to later laid low = omega (arith, laid, low)
 laid_later from (q ∷ rows) to later laid low = (laid.0, laid.1, laid_later (q.offset + length_of (class_of q.header) q.header.slot) rows to later laid.2 low)
 
@@ -208,6 +210,27 @@ module _ (head : Option Head) (first : ℕ) (class : ClassFields) (allowed at : 
   laid_more Zero known least keeps = laid_blocks Zero [] refl least keeps
   laid_more End known least keeps = laid_blocks End [] refl least keeps
   laid_more Nothing known least keeps = laid_blocks Nothing [] refl least keeps
+
+-- ---- how many frames there are
+
+-- a frame without fault is not the first past the number that is allowed
+fewer : (n allowed : ℕ) → (n == allowed) ≡ false → n ≤ allowed → n < allowed
+fewer n allowed differ few = elim (cases_lt n allowed) as (λ _. n < allowed) [
+  | inl below ↦ below
+  | inr above ↦ absurd (true≢false (sym (eq-eqb n allowed (omega (arith, few, above))) ∙ differ))
+]
+
+pub few_more : (class : ClassFields) (allowed at : ℕ) (front : List ℕ) (old new : Found) (item : Item) → Keeps class allowed at item front old new → length old.rows.items ≤ allowed → length new.rows.items ≤ allowed
+few_more class allowed at front old new (Frame h) keeps few =
+    let r = row_in at h front in
+    let sound = faults-none_sound (word_said front) class allowed old.before.place old.before.ended (length old.rows.items) r (none-of _ keeps.sound) in
+    let kept = record r { lost = lacks_data old.before.place old.before.ended r } in
+    omega (arith, fewer (length old.rows.items) allowed sound.few few, ap length keeps.rows, length-append old.rows.items (kept ∷ []))
+few_more class allowed at front old new Free keeps few = omega (arith, ap length keeps.rows, few)
+few_more class allowed at front old new (Block b) keeps few = omega (arith, ap length keeps.rows, few)
+few_more class allowed at front old new Zero keeps few = omega (arith, ap length keeps.rows, few)
+few_more class allowed at front old new End keeps few = omega (arith, ap length keeps.rows, few)
+few_more class allowed at front old new Nothing keeps few = omega (arith, ap length keeps.rows, few)
 
 -- ---- the refusal of one item
 

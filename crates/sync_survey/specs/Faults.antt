@@ -52,14 +52,26 @@ own_faults place ended r =
 abbrev pub data_faults : ℕ → ℕ → Row → List SurveyFault
 data_faults place ended r = if lacks_data place ended r then [] else own_faults place ended r
 
+-- the fault of its check word
+abbrev pub word_faults : ℕ → Row → List SurveyFault
+word_faults said r = where_true (has_wrong_word said r) (CheckWord r.offset said (check_word_of r.header r.side))
+
+-- the fault of a frame that so many frames stand before, where so many are allowed
+abbrev pub count_faults : ℕ → ℕ → Row → List SurveyFault
+count_faults count allowed r = where_true (count == allowed) (TooManyFrames r.offset)
+
+-- the faults of a frame of the class, in their order
+abbrev pub later_faults : ℕ → ℕ → ℕ → ℕ → ℕ → Row → List SurveyFault
+later_faults said allowed place ended count r = word_faults said r ++ data_faults place ended r ++ count_faults count allowed r
+
 -- The faults of a frame, in their order: the check word that stands in it, the place of its own area among the main data, the end of
 -- the main data before it, and how many frames stand before it are given, and of how many frames the file may be.
 unfoldable pub faults_at : ℕ → ClassFields → ℕ → ℕ → ℕ → ℕ → Row → List SurveyFault
 faults_at said class allowed place ended count r =
     where_true (not (same_class (class_of r.header) class)) (Mixed r.offset)
-    ++ where_true (has_wrong_word said r) (CheckWord r.offset said (check_word_of r.header r.side))
+    ++ word_faults said r
     ++ data_faults place ended r
-    ++ where_true (count == allowed) (TooManyFrames r.offset)
+    ++ count_faults count allowed r
 
 -- the faults of frame i of these
 abbrev pub frame_faults : List ℕ → Option Head → ClassFields → ℕ → List Row → ℕ → Row → List SurveyFault

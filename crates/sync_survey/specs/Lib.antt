@@ -9,3 +9,4 @@ pub mod Faults
 pub mod Kinds
 pub mod Survey
 pub mod Laws
+pub mod Begun

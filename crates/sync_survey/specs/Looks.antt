@@ -1,7 +1,7 @@
 -- What is seen of a file through a look at so many of its bytes.
-use Rattle.std.specs.Prelude.{◌≡◌, ℕ, ◌+◌, ◌-◌, List, [], ◌∷◌, ◌++◌, length, take, drop, Option, Some, None, option_to_list}
-use Rattle.frame_header.specs.Fields.{ClassFields}
-use Rattle.frame_header.specs.Tables.{class_of}
+use Rattle.std.specs.Prelude.{◌≡◌, ℕ, ◌+◌, ◌-◌, ◌≤◌, List, [], ◌∷◌, ◌++◌, length, take, drop, Option, Some, None, option_to_list}
+use Rattle.frame_header.specs.Fields.{HeaderFields, ClassFields}
+use Rattle.frame_header.specs.Tables.{class_of, overhead_of}
 use Rattle.side_info.specs.Side.{SideFits}
 use Rattle.side_info.specs.Frame.{word_said}
 use Rattle.sync_survey.specs.declared.found.Found.{Found}
@@ -9,9 +9,11 @@ use Rattle.sync_survey.specs.declared.items.Item.{Item}
 use Rattle.sync_survey.specs.declared.items.Item.TheVariants.{Frame, Block}
 use Rattle.sync_survey.specs.declared.places.Piece.{Piece}
 use Rattle.sync_survey.specs.declared.rows.Row.{Row}
+use Rattle.sync_survey.specs.declared.rows.Before.{Before}
+use Rattle.sync_survey.specs.declared.rows.Behind.{Behind}
 use Rattle.sync_survey.specs.declared.survey_fault.SurveyFault.{SurveyFault}
 use Rattle.sync_survey.specs.MainData.{row_in, own_area, lacks_data, end_behind}
-use Rattle.sync_survey.specs.Faults.{faults_at, first_of}
+use Rattle.sync_survey.specs.Faults.{data_faults, later_faults, faults_at, first_of}
 use Rattle.sync_survey.specs.declared.runs.Part.{Part}
 use Rattle.sync_survey.specs.declared.runs.Step.{Step}
 use Rattle.sync_survey.specs.Runs.{item_of, run, frame_as, block_as, frames_of, blocks_of}
@@ -36,7 +38,36 @@ abbrev pub IsStep : Part → List ℕ → ℕ → Option Step → Type 0
 IsStep part file at None = item_of part file at ≡ None
 IsStep part file at (Some step) = Passes part file at step.item step.size
 
+-- ---- a frame that is judged
+
+-- the bytes reach to the own area of the frame that they begin with
+abbrev pub ReachArea : HeaderFields → List ℕ → Type 0
+ReachArea h bytes = overhead_of (class_of h) h.protected ≤ length bytes
+
+-- the row with the side information that stands in these bytes
+abbrev pub row_read : Row → List ℕ → Row
+row_read r bytes = row_in r.offset r.header bytes
+
+-- the same, marked where the frame is lost
+abbrev pub marked_by : Before → Row → Row
+marked_by b r = record r { lost = lacks_data b.place b.ended r }
+
+-- the first fault of its main data
+abbrev pub data_fault : Before → Row → Option SurveyFault
+data_fault b r = first_of (data_faults b.place b.ended r)
+
+-- the first fault of a frame of the class, by its bytes and how many frames stand before it
+abbrev pub frame_fault : List ℕ → ℕ → Before → ℕ → Row → Option SurveyFault
+frame_fault bytes allowed b count r = first_of (later_faults (word_said bytes) allowed b.place b.ended count r)
+
 -- ---- what is kept of an item
+
+-- what a frame without fault leaves, by the place of its own area and where the main data before it end: whether it is lost, and the main
+-- data before the next frame
+pub record IsBehind (place_now ended_now : ℕ) (r : Row) (b : Behind) : Type 0 where
+  pub lost : b.lost ≡ lacks_data place_now ended_now r
+  pub place : b.before.place ≡ place_now + own_area r.header
+  pub ended : b.before.ended ≡ end_behind place_now ended_now (Some r)
 
 -- a frame has no fault, and is kept behind the others, marked where it is lost
 pub record KeepsFrame (said : ℕ) (class : ClassFields) (allowed : ℕ) (r : Row) (old new : Found) : Type 0 where

@@ -1,5 +1,6 @@
 -- What a survey of a file of a folder answers.
-use Rattle.std.specs.Prelude.{◌≡◌, ℕ, ◌+◌, ◌≤◌, nat_lt, if◌then◌else◌, List, [], ◌∷◌, length, slice_get, Option, Some, Result, Err}
+use Rattle.std.specs.Prelude.{◌≡◌, ℕ, ◌+◌, ◌<◌, ◌≤◌, nat_lt, if◌then◌else◌, List, [], ◌∷◌, length, slice_get, Option, Some, IfSome, Result, Ok, Err}
+use Rattle.bit_fields.specs.Bits.{AreBytes}
 use Rattle.frame_header.specs.Fields.{ClassFields, IsHeader}
 use Rattle.frame_header.specs.Tables.{class_of, length_of}
 use Rattle.side_info.specs.Side.{SideFits}
@@ -7,16 +8,33 @@ use Rattle.outside.specs.Files.{Files, untold, Holds, IsThere, IsMissing}
 use Rattle.outside.specs.Counts.{Counts, Rose, NothingFailed}
 use Rattle.sync_survey.specs.declared.places.Head.{Head}
 use Rattle.sync_survey.specs.declared.places.Piece.{Piece}
+use Rattle.sync_survey.specs.declared.places.PlacedFrame.{PlacedFrame}
+use Rattle.sync_survey.specs.declared.places.Start.{Start}
 use Rattle.sync_survey.specs.declared.rows.Row.{Row}
 use Rattle.sync_survey.specs.declared.survey_fault.SurveyFault.{SurveyFault}
 use Rattle.sync_survey.specs.declared.survey_fault.SurveyFault.TheVariants.{TooLong}
 use Rattle.sync_survey.specs.MainData.{place, end_before, is_lost}
-use Rattle.sync_survey.specs.Faults.{SurveyFields, surveyed, data_faults, longest_file}
+use Rattle.sync_survey.specs.Faults.{SurveyFields, surveyed, data_faults, faults_from, fault_place, NoneBefore, longest_file}
+use Rattle.sync_survey.specs.Start.{start_of}
+use Rattle.sync_survey.specs.Walk.{head_of}
 use Rattle.sync_survey.specs.Kinds.{kind_of, by_kind, HasRightNumbers}
 
 -- the survey of a file with these bytes, or why there is none: it is too long, or else its first fault
 unfoldable pub survey_of : List ℕ → ℕ → Result SurveyFields SurveyFault
 survey_of file allowed = if nat_lt longest_file (length file) then Err (TooLong (length file)) else surveyed file allowed
+
+-- where the name's file is told, this is its survey
+abbrev pub IsSurveyOf : List ℕ → Files → ℕ → SurveyFields → Type 0
+IsSurveyOf name files allowed s = (bytes : List ℕ) → Holds files name bytes → survey_of bytes allowed ≡ Ok s
+
+-- where it is told, it is bytes
+abbrev pub HoldsOctets : List ℕ → Files → Type 0
+HoldsOctets name files = (bytes : List ℕ) → Holds files name bytes → AreBytes bytes
+
+-- where it is told, no other fault of its bytes stands before this one
+abbrev pub IsFirstFault : List ℕ → Files → ℕ → SurveyFault → Type 0
+IsFirstFault name files allowed fault =
+    (bytes : List ℕ) → Holds files name bytes → (start : Start) → start_of bytes ≡ Ok start → NoneBefore (fault_place fault) (faults_from bytes allowed start)
 
 -- ---- refusals
 
@@ -56,7 +74,15 @@ pub record IsRefusal (name : List ℕ) (files : Files) (allowed : ℕ) (before a
   pub cause : IsSurveyFault name files allowed before after fault
   pub numbers : HasRightNumbers fault
 
+-- so refused, whatever number of frames is allowed
+abbrev pub IsEarlyRefusal : List ℕ → Files → Counts → Counts → SurveyFault → Type 0
+IsEarlyRefusal name files before after fault = (allowed : ℕ) → IsRefusal name files allowed before after fault
+
 -- ---- what is known of the file while it is read
+
+-- where the name's file is told, this is the head that its frame is
+abbrev pub IsHeadOf : List ℕ → Files → PlacedFrame → Option Head → Type 0
+IsHeadOf name files p o = (bytes : List ℕ) → Holds files name bytes → o ≡ head_of bytes p
 
 -- the name is there, with this length where it is told, and that isn't too long
 pub record HasLength (files : Files) (name : List ℕ) (size : ℕ) : Type 0 where
@@ -89,10 +115,18 @@ pub record IsWellPlaced (head : Option Head) (class : ClassFields) (rows : List 
 abbrev pub AreWellPlaced : Option Head → ClassFields → List Row → Type 0
 AreWellPlaced head class rows = (i : ℕ) (r : Row) → slice_get rows i ≡ Some r → IsWellPlaced head class rows i r
 
--- the junk ends where the first frame begins, and all frames and blocks are within the length
+-- a head begins where the first frame does, is of the class, and is within the length
+pub record IsWholeHead (first : ℕ) (class : ClassFields) (length : ℕ) (head : Head) : Type 0 where
+  pub place : head.offset ≡ first
+  pub class_is : class_of head.header ≡ class
+  pub within : head.offset + length_of (class_of head.header) head.header.slot ≤ length
+
+-- the junk ends where the first frame begins, there is a frame besides the head, and head, frames and blocks are within the length
 pub record IsLaidOut (s : SurveyFields) : Type 0 where
   pub junk : s.junk ≤ s.first
   pub first : s.first ≤ s.length
+  pub head : IfSome s.head (IsWholeHead s.first s.class s.length)
+  pub some : 0 < length s.frames
   pub frames : AreLaid s.first s.frames s.length
   pub blocks : BlocksAreLaid 0 s.blocks s.length
   pub few : s.length ≤ longest_file

@@ -1,5 +1,5 @@
 -- The walk over a whole file: the frames and blocks from the start on, and where it stops.
-use Rattle.std.specs.Prelude.{ℕ, ◌+◌, List, [], ◌∷◌, ◌++◌, length, take, drop, Option, Some, None, option_map}
+use Rattle.std.specs.Prelude.{◌≡◌, ℕ, ◌+◌, List, [], ◌∷◌, ◌++◌, length, take, drop, Option, Some, None, option_map}
 use Rattle.frame_header.specs.Tables.{class_of, length_of}
 use Rattle.info_header.specs.HeadText.{head_text_of}
 use Rattle.sync_survey.specs.declared.items.Item.{Item}
@@ -20,13 +20,25 @@ stream_run file start = run Stream file start.first.offset
 
 -- ---- the head
 
+-- a frame's own bytes, by the bytes from its first on
+abbrev pub own_bytes : PlacedFrame → List ℕ → List ℕ
+own_bytes p bytes = take (length_of (class_of p.header) p.header.slot) bytes
+
 -- the bytes of a frame of the file
 abbrev pub frame_bytes : List ℕ → PlacedFrame → List ℕ
-frame_bytes file p = take (length_of (class_of p.header) p.header.slot) (drop p.offset file)
+frame_bytes file p = own_bytes p (drop p.offset file)
 
--- the frame is a head where `Xing` or `Info` stands in it
+-- a frame with these bytes is a head where `Xing` or `Info` stands in it
+abbrev pub head_by : PlacedFrame → List ℕ → Option Head
+head_by p own = option_map (λ at. record { offset = p.offset; header = p.header; text_at = at }) (head_text_of p.header own)
+
+-- the head that a frame of the file is
 unfoldable pub head_of : List ℕ → PlacedFrame → Option Head
-head_of file p = option_map (λ at. record { offset = p.offset; header = p.header; text_at = at }) (head_text_of p.header (frame_bytes file p))
+head_of file p = head_by p (frame_bytes file p)
+
+-- a head is this frame
+abbrev pub IsFrameOf : PlacedFrame → Head → Type 0
+IsFrameOf p head = (head.offset ≡ p.offset) × (head.header ≡ p.header)
 
 -- only the first frame can be a head, and it isn't counted: all others are numbered from 0, in their order
 abbrev pub numbered : Option Head → List PlacedFrame → List PlacedFrame

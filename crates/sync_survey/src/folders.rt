@@ -1,18 +1,14 @@
 //! The survey of a file of a folder.
-ghost use Rattle.std.specs.Prelude.{◌≡◌, ℕ, List, Ok, Some, ◌+◌, ◌≤◌, ◌<◌, length, IfOk, IfErr, OnOk};
-ghost use Rattle.bit_fields.specs.Bits.{AreBytes};
-ghost use Rattle.outside.specs.Files.{Holds, IsThere};
+ghost use Rattle.std.specs.Prelude.{◌≡◌, Some, ◌≤◌, ◌<◌, length, IfOk, IfErr, OnOk};
+ghost use Rattle.outside.specs.Files.{IsThere};
 ghost use Rattle.outside.specs.Counts.{OnlyReads};
 ghost use Rattle.outside.specs.Feed.{IsFedFrom};
-ghost use Rattle.sync_survey.specs.declared.items.Item.TheVariants.{Frame};
-ghost use Rattle.sync_survey.specs.declared.runs.Part.TheVariants.{Front};
-ghost use Rattle.sync_survey.specs.Items.{size_of, item_front as item_front_lem};
-ghost use Rattle.sync_survey.specs.Runs.{run, blocks_of};
-ghost use Rattle.sync_survey.specs.Start.{start_of};
-ghost use Rattle.sync_survey.specs.Walk.{head_of, fault_at};
-ghost use Rattle.sync_survey.specs.Faults.{tells, faults_from, fault_place, NoneBefore};
+ghost use Rattle.sync_survey.specs.Items.{item_front as item_front_lem};
+ghost use Rattle.sync_survey.specs.Walk.{fault_at};
+ghost use Rattle.sync_survey.specs.Faults.{tells};
 ghost use Rattle.sync_survey.specs.Kinds.{HasRightNumbers, RefusesRightly};
-ghost use Rattle.sync_survey.specs.Survey.{survey_of, HasLength, IsRefusal, IsSurveyFault, IsLaidOut, BlocksAreLaid};
+ghost use Rattle.sync_survey.specs.Survey.{HoldsOctets, IsSurveyOf, IsFirstFault, IsRefusal, IsSurveyFault, IsLaidOut};
+ghost use Rattle.sync_survey.specs.Begun.{IsWalk};
 
 use crate::found::Found;
 use crate::fronts::pass_front;
@@ -40,34 +36,42 @@ fn stop_fault(bytes: &[u8], at: u64) -> SurveyFault
         .unwrap_or(SurveyFault::LostSync(at))
 }
 
-/// The survey of a file whose stream begins so, with these blocks before it: the frames are judged one after
-/// the other.
+/// What is known of a file before its frames are judged: its length, where its stream begins, its head, and
+/// the blocks before.
+#[derive(Drop)]
+pub(crate) struct Walk {
+    pub(crate) size: u64,
+    pub(crate) start: Start,
+    pub(crate) head: Option<Head>,
+    pub(crate) pieces: Vec<Piece>,
+}
+
+/// The survey of a file that begins so: the frames are judged one after the other.
 fn judge_frames<D: Folder>(
     alloc: Global,
     feed: &mut Feed,
     folder: &mut D,
     name: &str,
-    size: u64,
+    walk: Walk,
     allowed: u32,
-    start: Start,
-    head: Option<Head>,
-    pieces: Vec<Piece>,
 ) -> Result<Survey, SurveyFault>
-    requires known { HasLength (D.files folder.old) name.now size }
     requires fed { IsFedFrom feed.old (D.files folder.old) name.now }
-    requires whole { start.first.offset + size_of (Frame start.first.header) ≤ size }
-    requires junk { start.front_end ≤ start.first.offset }
-    requires laid { BlocksAreLaid 0 pieces.items start.front_end }
-    requires start { (bytes : List ℕ) → Holds (D.files folder.old) name.now bytes → start_of bytes ≡ Ok start }
-    requires head { (bytes : List ℕ) → Holds (D.files folder.old) name.now bytes → head ≡ head_of bytes start.first }
-    requires kept { (bytes : List ℕ) → Holds (D.files folder.old) name.now bytes → pieces.items ≡ blocks_of (run Front bytes 0).items }
-    ensures exact { IfOk result (λ s. (bytes : List ℕ) → Holds (D.files folder.old) name.now bytes → survey_of bytes allowed ≡ Ok (tells s)) }
+    requires walk { IsWalk (D.files folder.old) name.now walk }
+    ensures exact { IfOk result (λ s. IsSurveyOf name.now (D.files folder.old) allowed (tells s)) }
     ensures laid { IfOk result (λ s. IsLaidOut (tells s)) }
+    ensures few { IfOk result (λ s. length (tells s).frames ≤ allowed) }
     ensures done { OnOk result (D.counts folder.new ≡ D.counts folder.old) }
-    ensures refused { IfErr result (IsRefusal name.now (D.files folder.old) allowed (D.counts folder.old) (D.counts folder.new)) }
+    ensures refused { IfErr result (IsRefusal name.now (D.files folder.old) allowed
+        (D.counts folder.old) (D.counts folder.new)) }
     ensures files { D.files folder.new ≡ D.files folder.old }
     ensures counts { OnlyReads (D.counts folder.old) (D.counts folder.new) }
 {
+    let Walk {
+        size,
+        start,
+        head,
+        pieces,
+    } = walk;
     let class = start.first.header.class();
     let mut at = numbered_from(&start.first, &head);
     let mut found = Found {
@@ -105,12 +109,14 @@ fn survey_file<D: Folder>(
     name: &str,
     allowed: u32,
 ) -> Result<Survey, SurveyFault>
-    ensures exact { IfOk result (λ s. (bytes : List ℕ) → Holds (D.files folder.old) name.now bytes → survey_of bytes allowed ≡ Ok (tells s)) }
+    ensures exact { IfOk result (λ s. IsSurveyOf name.now (D.files folder.old) allowed (tells s)) }
     ensures laid { IfOk result (λ s. IsLaidOut (tells s)) }
+    ensures few { IfOk result (λ s. length (tells s).frames ≤ allowed) }
     ensures there { OnOk result (IsThere (D.files folder.old) name.now) }
-    ensures octets { OnOk result ((bytes : List ℕ) → Holds (D.files folder.old) name.now bytes → AreBytes bytes) }
+    ensures octets { OnOk result (HoldsOctets name.now (D.files folder.old)) }
     ensures done { OnOk result (D.counts folder.new ≡ D.counts folder.old) }
-    ensures refused { IfErr result (IsRefusal name.now (D.files folder.old) allowed (D.counts folder.old) (D.counts folder.new)) }
+    ensures refused { IfErr result (IsRefusal name.now (D.files folder.old) allowed
+        (D.counts folder.old) (D.counts folder.new)) }
     ensures files { D.files folder.new ≡ D.files folder.old }
     ensures counts { OnlyReads (D.counts folder.old) (D.counts folder.new) }
 {
@@ -120,9 +126,13 @@ fn survey_file<D: Folder>(
     let front_end = pass_front(&mut feed, folder, name, size, &mut pieces)?;
     let start = find_start(&mut feed, folder, name, size, front_end)?;
     let head = find_head(&mut feed, folder, name, size, &start.first)?;
-    judge_frames(
-        alloc, &mut feed, folder, name, size, allowed, start, head, pieces,
-    )
+    let walk = Walk {
+        size,
+        start,
+        head,
+        pieces,
+    };
+    judge_frames(alloc, &mut feed, folder, name, walk, allowed)
 }
 
 /// The survey of a file that may have so many frames besides the head. The files stay.
@@ -140,16 +150,19 @@ pub fn survey<D: Folder>(
     name: &str,
     allowed: u32,
 ) -> Result<Survey, SurveyFault>
-    ensures exact { IfOk result (λ s. (bytes : List ℕ) → Holds (D.files folder.old) name.now bytes → survey_of bytes allowed ≡ Ok (tells s)) }
-    // Whether the files are told or not: where frames and blocks stand, and that the main data of the frames do so well.
+    ensures exact { IfOk result (λ s. IsSurveyOf name.now (D.files folder.old) allowed (tells s)) }
+    // Whether the files are told or not: where head, frames and blocks stand, that there is a frame, and that the main data of
+    // the frames are placed well.
     ensures laid { IfOk result (λ s. IsLaidOut (tells s)) }
+    ensures few { IfOk result (λ s. length (tells s).frames ≤ allowed) }
     ensures there { OnOk result (IsThere (D.files folder.old) name.now) }
-    ensures octets { OnOk result ((bytes : List ℕ) → Holds (D.files folder.old) name.now bytes → AreBytes bytes) }
+    ensures octets { OnOk result (HoldsOctets name.now (D.files folder.old)) }
     ensures done { OnOk result (D.counts folder.new ≡ D.counts folder.old) }
-    ensures refused { IfErr result (IsSurveyFault name.now (D.files folder.old) allowed (D.counts folder.old) (D.counts folder.new)) }
+    ensures refused { IfErr result (IsSurveyFault name.now (D.files folder.old) allowed
+        (D.counts folder.old) (D.counts folder.new)) }
     ensures numbers { IfErr result HasRightNumbers }
     // No other fault of the bytes stands before the one that is told.
-    ensures first { IfErr result (λ fault. (bytes : List ℕ) → Holds (D.files folder.old) name.now bytes → (start : Start) → start_of bytes ≡ Ok start → NoneBefore (fault_place fault) (faults_from bytes allowed start)) }
+    ensures first { IfErr result (IsFirstFault name.now (D.files folder.old) allowed) }
     ensures files { D.files folder.new ≡ D.files folder.old }
     ensures counts { OnlyReads (D.counts folder.old) (D.counts folder.new) }
 {

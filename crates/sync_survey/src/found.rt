@@ -1,17 +1,14 @@
 //! What was found so far, and judged.
-ghost use Rattle.std.specs.Prelude.{◌≡◌, ◌⊎◌, ◌^◌, ◌≤◌, length, MatchResult};
+ghost use Rattle.std.specs.Prelude.{◌≡◌, ◌⊎◌, ◌^◌, ◌≤◌, MatchResult};
 ghost use Rattle.frame_header.specs.Fields.{HeaderFields};
-ghost use Rattle.frame_header.specs.Tables.{class_of, overhead_of};
-ghost use Rattle.side_info.specs.Frame.{word_said as word_said_lem};
-ghost use Rattle.sync_survey.specs.MainData.{row_in as row_in_lem};
-ghost use Rattle.sync_survey.specs.Faults.{faults_at, first_of};
-ghost use Rattle.sync_survey.specs.Looks.{KeepsFrame, Keeps, IsFrameFault};
+ghost use Rattle.sync_survey.specs.Looks.{ReachArea, Keeps, IsFrameFault};
 
-use crate::items::Item;
+use crate::items::{Item, is_same_class};
 use crate::places::Piece;
-use crate::rows::{Before, Row, row_in};
+use crate::rows::{Before, Row};
 use crate::survey_fault::SurveyFault;
 use frame_header::{Class, Header};
+use side_info::Side;
 
 /// The frames that were judged and have no fault, the blocks that were met, and the main data so far.
 #[derive(Drop)]
@@ -32,23 +29,28 @@ impl Found {
         class: Class,
         allowed: u32,
     ) -> Result<(), SurveyFault>
-        requires room { overhead_of (class_of header) header.protected ≤ length bytes.now }
+        requires room { ReachArea header bytes.now }
         requires bound { self.old.before.place ≤ 2 ^ 62 }
         ensures { MatchResult result
-            (λ _. KeepsFrame (word_said_lem bytes.now) class allowed (row_in_lem offset header bytes.now) self.old self.new)
-            (λ fault. (fault ≡ SurveyFault.Memory) ⊎ (first_of (faults_at (word_said_lem bytes.now) class allowed self.old.before.place self.old.before.ended (length self.old.rows.items) (row_in_lem offset header bytes.now)) ≡ Some fault)) }
+            (λ _. Keeps class allowed offset (Item.Frame header) bytes.now self.old self.new)
+            (λ fault. (fault ≡ SurveyFault.Memory)
+            ⊎ IsFrameFault class allowed offset (Item.Frame header) bytes.now self.old fault) }
     {
-        let row = row_in(offset, header, bytes);
-        let count = self.rows.len() as u64;
-        if let Some(fault) = self
-            .before
-            .fault(&row, bytes, class, count, u64::from(allowed))
-        {
-            return Err(fault);
+        if !is_same_class(header.class(), class) {
+            return Err(SurveyFault::Mixed(offset));
         }
-        let lost = self.before.is_lost(&row);
-        self.before = self.before.behind(&row);
-        self.rows.push(Row { lost, ..row })?;
+        let count = self.rows.len();
+        // The row is read and judged where it stays, since to copy it takes as long as to read it.
+        self.rows.push(Row {
+            offset,
+            header,
+            side: Side::empty(),
+            lost: false,
+        })?;
+        let row = &mut self.rows[count];
+        self.before = self
+            .before
+            .read_row(&header, row, bytes, count as u64, u64::from(allowed))?;
         Ok(())
     }
 
@@ -62,11 +64,12 @@ impl Found {
         class: Class,
         allowed: u32,
     ) -> Result<(), SurveyFault>
-        requires room { (h : HeaderFields) → item.now ≡ Item.Frame h → overhead_of (class_of h) h.protected ≤ length bytes.now }
+        requires room { (h : HeaderFields) → item.now ≡ Item.Frame h → ReachArea h bytes.now }
         requires bound { self.old.before.place ≤ 2 ^ 62 }
         ensures { MatchResult result
             (λ _. Keeps class allowed offset item.now bytes.now self.old self.new)
-            (λ fault. (fault ≡ SurveyFault.Memory) ⊎ IsFrameFault class allowed offset item.now bytes.now self.old fault) }
+            (λ fault. (fault ≡ SurveyFault.Memory)
+            ⊎ IsFrameFault class allowed offset item.now bytes.now self.old fault) }
     {
         match *item {
             Item::Frame(header) => self.judge(offset, header, bytes, class, allowed)?,

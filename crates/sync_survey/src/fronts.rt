@@ -5,7 +5,7 @@ ghost use Rattle.outside.specs.Counts.{OnlyReads};
 ghost use Rattle.outside.specs.Feed.{IsFedFrom};
 ghost use Rattle.sync_survey.specs.Runs.{run, block_as, blocks_of};
 ghost use Rattle.sync_survey.specs.Start.{front_end_of};
-ghost use Rattle.sync_survey.specs.Survey.{HasLength, IsRefusal, BlocksAreLaid};
+ghost use Rattle.sync_survey.specs.Survey.{HasLength, IsEarlyRefusal, BlocksAreLaid};
 
 use crate::items::Item;
 use crate::looks::look;
@@ -21,7 +21,8 @@ pub(crate) fn keep_block(
     offset: u64,
     item: &Item,
 ) -> Result<(), AllocError>
-    ensures { OnOk result (pieces.new.items ≡ pieces.old.items ++ option_to_list (block_as offset item.now)) }
+    ensures { OnOk result (pieces.new.items ≡ pieces.old.items ++ option_to_list
+        (block_as offset item.now)) }
 {
     if let Item::Block(block) = *item {
         pieces.push(Piece { offset, block })?;
@@ -41,12 +42,15 @@ pub(crate) fn pass_front<D: Folder>(
     requires known { HasLength (D.files folder.old) name.now size }
     requires fed { IsFedFrom feed.old (D.files folder.old) name.now }
     requires none { pieces.old.items ≡ [] }
-    ensures front_end { IfOk result (λ at. (bytes : List ℕ) → Holds (D.files folder.old) name.now bytes → at ≡ front_end_of bytes) }
-    ensures blocks { OnOk result ((bytes : List ℕ) → Holds (D.files folder.old) name.now bytes → pieces.new.items ≡ blocks_of (run Part.Front bytes 0).items) }
+    ensures front_end { IfOk result (λ at. (bytes : List ℕ)
+        → Holds (D.files folder.old) name.now bytes → at ≡ front_end_of bytes) }
+    ensures blocks { OnOk result ((bytes : List ℕ) → Holds (D.files folder.old) name.now bytes
+        → pieces.new.items ≡ blocks_of (run Part.Front bytes 0).items) }
     ensures laid { IfOk result (λ at. BlocksAreLaid 0 pieces.new.items at) }
     ensures within { IfOk result (λ at. at ≤ size) }
     ensures done { OnOk result (D.counts folder.new ≡ D.counts folder.old) }
-    ensures refused { IfErr result (λ fault. (allowed : ℕ) → IsRefusal name.now (D.files folder.old) allowed (D.counts folder.old) (D.counts folder.new) fault) }
+    ensures refused { IfErr result (IsEarlyRefusal name.now (D.files folder.old)
+        (D.counts folder.old) (D.counts folder.new)) }
     ensures fed { IsFedFrom feed.new (D.files folder.new) name.now }
     ensures files { D.files folder.new ≡ D.files folder.old }
     ensures counts { OnlyReads (D.counts folder.old) (D.counts folder.new) }

@@ -1,15 +1,13 @@
 //! The head of a file.
-ghost use Rattle.std.specs.Prelude.{◌≡◌, ℕ, List, ◌+◌, ◌^◌, ◌≤◌, take, option_map, IfOk, IfErr, IfSome, OnOk};
+ghost use Rattle.std.specs.Prelude.{◌≡◌, ◌+◌, ◌^◌, ◌≤◌, IfOk, IfErr, IfSome, OnOk};
 ghost use Rattle.frame_header.specs.Tables.{class_of, length_of};
-ghost use Rattle.info_header.specs.HeadText.{head_text_of};
-ghost use Rattle.outside.specs.Files.{Holds};
 ghost use Rattle.outside.specs.Counts.{OnlyReads};
 ghost use Rattle.outside.specs.Feed.{IsFedFrom};
 ghost use Rattle.sync_survey.specs.declared.items.Item.TheVariants.{Frame};
 ghost use Rattle.sync_survey.specs.Items.{size_of};
-ghost use Rattle.sync_survey.specs.Walk.{head_of as head_of_lem, numbered_at};
+ghost use Rattle.sync_survey.specs.Walk.{head_by, own_bytes, numbered_at, IsFrameOf};
 ghost use Rattle.sync_survey.specs.MainData.{head_area as head_area_lem};
-ghost use Rattle.sync_survey.specs.Survey.{HasLength, IsRefusal};
+ghost use Rattle.sync_survey.specs.Survey.{HasLength, IsHeadOf, IsEarlyRefusal};
 
 use crate::looks::look;
 use crate::places::{Head, PlacedFrame};
@@ -20,7 +18,8 @@ use outside::{Feed, Folder};
 /// The head that the frame is, where it is one. The first of the bytes are the frame's, all of them.
 fn head_in(frame: &PlacedFrame, bytes: &[u8]) -> Option<Head>
     ensures most { length_of (class_of frame.now.header) frame.now.header.slot ≤ 1441 }
-    ensures head { result ≡ option_map (λ at. record { offset = frame.now.offset; header = frame.now.header; text_at = at }) (head_text_of frame.now.header (take (length_of (class_of frame.now.header) frame.now.header.slot) bytes.now)) }
+    ensures head { result ≡ head_by frame.now (own_bytes frame.now bytes.now) }
+    ensures same { IfSome result (IsFrameOf frame.now) }
 {
     let length = frame.header.length() as usize;
     let own = bytes.get(..length).unwrap_or(bytes);
@@ -44,9 +43,12 @@ pub(crate) fn find_head<D: Folder>(
     requires known { HasLength (D.files folder.old) name.now size }
     requires fed { IsFedFrom feed.old (D.files folder.old) name.now }
     requires whole { first.now.offset + size_of (Frame first.now.header) ≤ size }
-    ensures head { IfOk result (λ o. (bytes : List ℕ) → Holds (D.files folder.old) name.now bytes → o ≡ head_of_lem bytes first.now) }
+    ensures head { IfOk result (IsHeadOf name.now (D.files folder.old) first.now) }
+    // Whether the files are told or not.
+    ensures same { IfOk result (λ o. IfSome o (IsFrameOf first.now)) }
     ensures done { OnOk result (D.counts folder.new ≡ D.counts folder.old) }
-    ensures refused { IfErr result (λ fault. (allowed : ℕ) → IsRefusal name.now (D.files folder.old) allowed (D.counts folder.old) (D.counts folder.new) fault) }
+    ensures refused { IfErr result (IsEarlyRefusal name.now (D.files folder.old)
+        (D.counts folder.old) (D.counts folder.new)) }
     ensures fed { IsFedFrom feed.new (D.files folder.new) name.now }
     ensures files { D.files folder.new ≡ D.files folder.old }
     ensures counts { OnlyReads (D.counts folder.old) (D.counts folder.new) }

@@ -37,6 +37,7 @@ fn header_front(bytes: &[u8]) -> Result<Header, NotHeader>
 }
 
 /// The item at the front of the bytes.
+#[inline(always)]
 #[tactic(auto, unfolding(crate::specs::Items::item_front))]
 pub(crate) fn item_front(bytes: &[u8]) -> Item
     ensures { result ≡ item_front_lem bytes.now }

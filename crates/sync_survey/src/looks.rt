@@ -5,7 +5,7 @@ ghost use Rattle.outside.specs.Files.{Holds};
 ghost use Rattle.outside.specs.Counts.{OnlyReads};
 ghost use Rattle.outside.specs.Feed.{IsFedFrom};
 ghost use Rattle.sync_survey.specs.Looks.{look_size, Shows};
-ghost use Rattle.sync_survey.specs.Survey.{HasLength, IsRefusal};
+ghost use Rattle.sync_survey.specs.Survey.{HasLength, IsEarlyRefusal};
 
 use crate::survey_fault::SurveyFault;
 use outside::{Feed, FindFault, Folder};
@@ -19,9 +19,11 @@ const LOOK_SIZE: u64 = 4096;
 /// The length of the file in bytes, where it may have it.
 pub(crate) fn find_length<D: Folder>(folder: &mut D, name: &str) -> Result<u64, SurveyFault>
     ensures found { IfOk result (HasLength (D.files folder.old) name.now) }
-    ensures octets { IfOk result (λ _. (bytes : List ℕ) → Holds (D.files folder.old) name.now bytes → AreBytes bytes) }
+    ensures octets { IfOk result (λ _. (bytes : List ℕ) → Holds (D.files folder.old) name.now bytes
+        → AreBytes bytes) }
     ensures done { OnOk result (D.counts folder.new ≡ D.counts folder.old) }
-    ensures refused { IfErr result (λ fault. (allowed : ℕ) → IsRefusal name.now (D.files folder.old) allowed (D.counts folder.old) (D.counts folder.new) fault) }
+    ensures refused { IfErr result (IsEarlyRefusal name.now (D.files folder.old)
+        (D.counts folder.old) (D.counts folder.new)) }
     ensures files { D.files folder.new ≡ D.files folder.old }
     ensures counts { OnlyReads (D.counts folder.old) (D.counts folder.new) }
 {
@@ -37,7 +39,8 @@ pub(crate) fn find_length<D: Folder>(folder: &mut D, name: &str) -> Result<u64, 
 /// for.
 fn cut_short(size: u64, at: u64, wanted: usize, got: usize) -> Option<SurveyFault>
     requires { at + got < 2 ^ 64 }
-    ensures { result ≡ (if nat_lt got wanted then Some (SurveyFault.Shrunk size (at + got)) else None) }
+    ensures { result ≡ (if nat_lt got wanted then Some
+        (SurveyFault.Shrunk size (at + got)) else None) }
 {
     if got < wanted {
         Some(SurveyFault::Shrunk(size, at + got as u64))
@@ -58,11 +61,13 @@ pub(crate) fn look<D: Folder>(
     requires known { HasLength (D.files folder.old) name.now size }
     requires early { at ≤ 2 ^ 31 }
     requires fed { IsFedFrom feed.old (D.files folder.old) name.now }
-    ensures shows { IfOk result (λ left. (bytes : List ℕ) → Holds (D.files folder.old) name.now bytes → Shows bytes at feed.new.given left) }
+    ensures shows { IfOk result (λ left. (bytes : List ℕ)
+        → Holds (D.files folder.old) name.now bytes → Shows bytes at feed.new.given left) }
     ensures left { IfOk result (λ left. left ≡ size - at) }
     ensures many { IfOk result (λ left. length feed.new.given ≡ min look_size left) }
     ensures done { OnOk result (D.counts folder.new ≡ D.counts folder.old) }
-    ensures refused { IfErr result (λ fault. (allowed : ℕ) → IsRefusal name.now (D.files folder.old) allowed (D.counts folder.old) (D.counts folder.new) fault) }
+    ensures refused { IfErr result (IsEarlyRefusal name.now (D.files folder.old)
+        (D.counts folder.old) (D.counts folder.new)) }
     ensures fed { IsFedFrom feed.new (D.files folder.new) name.now }
     ensures files { D.files folder.new ≡ D.files folder.old }
     ensures counts { OnlyReads (D.counts folder.old) (D.counts folder.new) }

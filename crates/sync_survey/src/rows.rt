@@ -1,16 +1,15 @@
 //! The frames of a stream with their side information, and the faults of their main data.
-ghost use Rattle.std.specs.Prelude.{◌≡◌, ◌+◌, ◌^◌, ◌==◌, ◌≤◌, length};
-ghost use Rattle.frame_header.specs.Tables.{class_of, overhead_of};
+ghost use Rattle.std.specs.Prelude.{◌≡◌, ◌+◌, ◌^◌, ◌≤◌, false, Some, None, IfOk, IfErr, OnOk};
+ghost use Rattle.frame_header.specs.Tables.{class_of};
 ghost use Rattle.side_info.specs.Side.{SideFits};
-ghost use Rattle.side_info.specs.CheckWord.{check_word_of};
 ghost use Rattle.side_info.specs.Frame.{word_said as word_said_lem};
-ghost use Rattle.sync_survey.specs.MainData.{row_in as row_in_lem, own_area, lacks_data, end_behind};
-ghost use Rattle.sync_survey.specs.Faults.{where_true, has_wrong_word, data_faults, faults_at, first_of};
+ghost use Rattle.sync_survey.specs.MainData.{own_area, lacks_data, end_behind};
+ghost use Rattle.sync_survey.specs.Faults.{word_faults, count_faults, first_of};
+ghost use Rattle.sync_survey.specs.Looks.{ReachArea, row_read, marked_by, data_fault, frame_fault, IsBehind};
 
-use crate::items::is_same_class;
 use crate::survey_fault::SurveyFault;
-use frame_header::{Class, Header};
-use side_info::{Side, check_word, side_of_frame, word_said};
+use frame_header::Header;
+use side_info::{Side, check_word, read_side, word_said};
 
 /// A frame of the stream: the offset of its header in bytes, its header, and its side information.
 #[derive(Clone, Copy, Debug, PartialEq, Eq)]
@@ -24,21 +23,6 @@ pub struct Row {
     pub lost: bool,
 }
 
-/// The frame at the offset with its side information, not marked as lost. The first of the bytes are the
-/// frame's.
-pub(crate) fn row_in(offset: u64, header: Header, bytes: &[u8]) -> Row
-    requires { overhead_of (class_of header) header.protected ≤ length bytes.now }
-    ensures row { result ≡ row_in_lem offset header bytes.now }
-    ensures fits { SideFits (class_of header) result.side }
-{
-    Row {
-        offset,
-        header,
-        side: side_of_frame(&header, bytes),
-        lost: false,
-    }
-}
-
 /// The main data before a frame.
 #[derive(Clone, Copy)]
 pub(crate) struct Before {
@@ -48,11 +32,18 @@ pub(crate) struct Before {
     pub(crate) ended: u64,
 }
 
+/// What a frame without fault leaves: whether it is lost, and the main data before the next frame.
+#[derive(Clone, Copy)]
+pub(crate) struct Behind {
+    pub(crate) lost: bool,
+    pub(crate) before: Before,
+}
+
 /// The fault of the frame's check word, where it has one and it isn't the right one.
 fn word_fault(row: &Row, bytes: &[u8]) -> Option<SurveyFault>
-    requires room { overhead_of (class_of row.now.header) row.now.header.protected ≤ length bytes.now }
+    requires room { ReachArea row.now.header bytes.now }
     requires fits { SideFits (class_of row.now.header) row.now.side }
-    ensures { result ≡ first_of (where_true (has_wrong_word (word_said_lem bytes.now) row.now) (SurveyFault.CheckWord row.now.offset (word_said_lem bytes.now) (check_word_of row.now.header row.now.side))) }
+    ensures { result ≡ first_of (word_faults (word_said_lem bytes.now) row.now) }
 {
     if !row.header.protected {
         return None;
@@ -67,7 +58,7 @@ fn word_fault(row: &Row, bytes: &[u8]) -> Option<SurveyFault>
 
 /// The fault of a frame that as many frames stand before as are allowed.
 fn count_fault(row: &Row, count: u64, allowed: u64) -> Option<SurveyFault>
-    ensures { result ≡ first_of (where_true (count == allowed) (SurveyFault.TooManyFrames row.now.offset)) }
+    ensures { result ≡ first_of (count_faults count allowed row.now) }
 {
     if count == allowed {
         Some(SurveyFault::TooManyFrames(row.offset))
@@ -78,78 +69,110 @@ fn count_fault(row: &Row, count: u64, allowed: u64) -> Option<SurveyFault>
 
 impl Before {
     /// Whether the frame is lost: its main data begin before the stream, and no frame before it has any.
-    pub(crate) fn is_lost(&self, row: &Row) -> bool
+    fn is_lost(&self, row: &Row) -> bool
         ensures { result ≡ lacks_data self.now.place self.now.ended row.now }
     {
         self.ended == 0 && self.place < u64::from(row.side.main_data_begin)
     }
 
-    /// The first fault of the frame's main data. A lost frame has none.
-    fn data_fault(&self, row: &Row) -> Option<SurveyFault>
-        requires { self.now.place ≤ 2 ^ 62 }
-        ensures { result ≡ first_of (data_faults self.now.place self.now.ended row.now) }
+    /// What the frame leaves, whose own area has so many bytes, or the first fault of its main data. A lost
+    /// frame has none.
+    fn behind(&self, row: &Row, area: u32) -> Result<Behind, SurveyFault>
+        requires bound { self.now.place ≤ 2 ^ 62 }
+        requires area { area ≡ own_area row.now.header }
+        requires few { area ≤ 1441 }
+        ensures fault { IfErr result (λ f. data_fault self.now row.now ≡ Some f) }
+        ensures sound { OnOk result (data_fault self.now row.now ≡ None) }
+        ensures behind { IfOk result (IsBehind self.now.place self.now.ended row.now) }
     {
+        let place = self.place + u64::from(area);
         if self.is_lost(row) {
-            return None;
+            let ended = self.ended;
+            return Ok(Behind {
+                lost: true,
+                before: Before { place, ended },
+            });
         }
         let begin = row.side.main_data_begin;
-        let area = row.header.area();
         if self.place < u64::from(begin) {
-            return Some(SurveyFault::BackPointer(row.offset, u32::from(begin), self.place));
+            return Err(SurveyFault::BackPointer(row.offset, u32::from(begin), self.place));
         }
         let start = self.place - u64::from(begin);
         if start < self.ended {
-            return Some(SurveyFault::Overlap(row.offset));
+            return Err(SurveyFault::Overlap(row.offset));
         }
-        if self.place + u64::from(area) < start + u64::from(row.side.payload_bytes()) {
+        let bits = row.side.bits();
+        let end = start + u64::from(row.side.payload_bytes());
+        if place < end {
             let room = 8 * (u32::from(begin) + area);
-            return Some(SurveyFault::Overrun(row.offset, row.side.bits(), room));
+            return Err(SurveyFault::Overrun(row.offset, bits, room));
         }
-        None
+        let ended = if bits == 0 { self.ended } else { end };
+        Ok(Behind {
+            lost: false,
+            before: Before { place, ended },
+        })
     }
 
-    /// The main data before the next frame.
-    pub(crate) fn behind(&self, row: &Row) -> Before
-        requires { self.now.place ≤ 2 ^ 62 }
-        ensures place { result.place ≡ self.now.place + own_area row.now.header }
-        ensures ended { result.ended ≡ end_behind self.now.place self.now.ended (Some row.now) }
-    {
-        let place = self.place + u64::from(row.header.area());
-        if row.side.bits() == 0 || self.is_lost(row) {
-            return Before {
-                place,
-                ended: self.ended,
-            };
-        }
-        let start = self
-            .place
-            .saturating_sub(u64::from(row.side.main_data_begin));
-        Before {
-            place,
-            ended: start + u64::from(row.side.payload_bytes()),
-        }
-    }
-
-    /// The first fault of a frame that so many frames stand before. The first of the bytes are its own.
-    #[tactic(auto, unfolding(crate::specs::Faults::faults_at))]
-    pub(crate) fn fault(
+    /// What a frame of the class leaves, whose own area has so many bytes, or its first fault, where so many
+    /// frames stand before it. The first of the bytes are its own.
+    fn step(
         &self,
         row: &Row,
+        area: u32,
         bytes: &[u8],
-        class: Class,
         count: u64,
         allowed: u64,
-    ) -> Option<SurveyFault>
-        requires room { overhead_of (class_of row.now.header) row.now.header.protected ≤ length bytes.now }
+    ) -> Result<Behind, SurveyFault>
+        requires room { ReachArea row.now.header bytes.now }
         requires fits { SideFits (class_of row.now.header) row.now.side }
         requires bound { self.now.place ≤ 2 ^ 62 }
-        ensures { result ≡ first_of (faults_at (word_said_lem bytes.now) class allowed self.now.place self.now.ended count row.now) }
+        requires area { area ≡ own_area row.now.header }
+        requires few { area ≤ 1441 }
+        ensures fault { IfErr result (λ f. frame_fault bytes.now allowed self.now count
+            row.now ≡ Some f) }
+        ensures sound { OnOk result (frame_fault bytes.now allowed self.now count row.now ≡ None) }
+        ensures behind { IfOk result (IsBehind self.now.place self.now.ended row.now) }
     {
-        if !is_same_class(row.header.class(), class) {
-            return Some(SurveyFault::Mixed(row.offset));
+        if let Some(fault) = word_fault(row, bytes) {
+            return Err(fault);
         }
-        word_fault(row, bytes)
-            .or(self.data_fault(row))
-            .or(count_fault(row, count, allowed))
+        let behind = self.behind(row, area)?;
+        match count_fault(row, count, allowed) {
+            Some(fault) => Err(fault),
+            None => Ok(behind),
+        }
+    }
+
+    /// Reads the side information of a frame of the class into its row, which has this header, and marks the
+    /// row where the frame is lost; answers the main data before the next frame. Or the first fault of the
+    /// frame, where so many frames stand before it. The first of the bytes are its own.
+    pub(crate) fn read_row(
+        &self,
+        header: &Header,
+        row: &mut Row,
+        bytes: &[u8],
+        count: u64,
+        allowed: u64,
+    ) -> Result<Before, SurveyFault>
+        requires same { header.now ≡ row.old.header }
+        requires room { ReachArea row.old.header bytes.now }
+        requires bound { self.now.place ≤ 2 ^ 62 }
+        requires unmarked { row.old.lost ≡ false }
+        ensures fault { IfErr result (λ f. frame_fault bytes.now allowed self.now count
+            (row_read row.old bytes.now) ≡ Some f) }
+        ensures sound { OnOk result (frame_fault bytes.now allowed self.now count
+            (row_read row.old bytes.now) ≡ None) }
+        ensures row { OnOk result (row.new ≡ marked_by self.now (row_read row.old bytes.now)) }
+        ensures fits { SideFits (class_of row.old.header) row.new.side }
+        ensures place { IfOk result (λ b. b.place ≡ self.now.place + own_area row.old.header) }
+        ensures ended { IfOk result (λ b. b.ended ≡ end_behind self.now.place self.now.ended
+            (Some (row_read row.old bytes.now))) }
+    {
+        let area = header.area();
+        read_side(header, bytes, &mut row.side);
+        let behind = self.step(row, area, bytes, count, allowed)?;
+        row.lost = behind.lost;
+        Ok(behind.before)
     }
 }

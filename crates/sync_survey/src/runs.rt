@@ -44,14 +44,15 @@ fn zeros(bytes: &[u8]) -> usize
     bytes.iter().take_while(|byte| **byte == 0).count()
 }
 
-/// How many bytes are passed with the item at the front of the bytes.
-fn passed(item: &Item, front: &[u8]) -> u64
+/// How many bytes are passed with the item of this size at the front of the bytes.
+fn passed(item: &Item, size: u64, front: &[u8]) -> u64
+    requires { size ≡ size_of item.now }
     ensures zeros { item.now ≡ Item.Zero → result ≡ prefix_len (λ b. b == 0) front.now }
     ensures size { (item.now ≡ Item.Zero → ⊥) → result ≡ size_of item.now }
 {
     match item {
         Item::Zero => zeros(front) as u64,
-        _ => item.size(),
+        _ => size,
     }
 }
 
@@ -59,10 +60,12 @@ fn passed(item: &Item, front: &[u8]) -> u64
 /// are left of the file there.
 pub(crate) fn step_at(part: Part, front: &[u8], left: u64) -> Option<Step>
     requires { length front.now ≤ left }
-    ensures step { (file : List ℕ) (at : ℕ) → Shows file at front.now left → IsStep part file at result }
+    ensures step { (file : List ℕ) (at : ℕ) → Shows file at front.now left
+        → IsStep part file at result }
     ensures item { IfSome result (λ s. s.item ≡ item_front_lem front.now) }
     ensures least { IfSome result (λ s. size_of s.item ≤ s.size) }
-    ensures most { IfSome result (λ s. (h : HeaderFields) → s.item ≡ Item.Frame h → size_of s.item ≤ 1441) }
+    ensures most { IfSome result (λ s. (h : HeaderFields) → s.item ≡ Item.Frame h
+        → size_of s.item ≤ 1441) }
     ensures some { IfSome result (λ s. 0 < s.size) }
     ensures within { IfSome result (λ s. s.size ≤ left) }
 {
@@ -70,9 +73,10 @@ pub(crate) fn step_at(part: Part, front: &[u8], left: u64) -> Option<Step>
     if !belongs(part, &item) {
         return None;
     }
-    if item.size() > left {
+    let own = item.size();
+    if own > left {
         return None;
     }
-    let size = passed(&item, front);
+    let size = passed(&item, own, front);
     Some(Step { item, size })
 }

@@ -7,7 +7,7 @@ ghost use Rattle.sync_survey.specs.Items.{size_of, item_front as item_front_lem}
 ghost use Rattle.sync_survey.specs.Start.{is_anchor as is_anchor_lem, anchored_frame as anchored_frame_lem, first_anchored as first_anchored_lem, longest_junk, start_behind as start_behind_lem, start_at, front_end_of, start_of};
 ghost use Rattle.sync_survey.specs.Looks.{Shows};
 ghost use Rattle.sync_survey.specs.Kinds.{RefusesRightly};
-ghost use Rattle.sync_survey.specs.Survey.{HasLength, IsRefusal};
+ghost use Rattle.sync_survey.specs.Survey.{HasLength, IsEarlyRefusal};
 
 use crate::items::{Item, is_same_class, item_front};
 use crate::looks::look;
@@ -41,7 +41,8 @@ fn bytes_behind(bytes: &[u8], place: usize) -> &[u8]
 /// and at its end stands a header of its class, the beginning of a block, or the end of the file.
 #[tactic(auto, unfolding(crate::specs::Start::anchored_frame))]
 pub(crate) fn anchored_frame(front: &[u8], offset: u64, left: u64) -> Option<PlacedFrame>
-    ensures frame { (file : List ℕ) → Shows file offset front.now left → result ≡ anchored_frame_lem file offset }
+    ensures frame { (file : List ℕ) → Shows file offset front.now left
+        → result ≡ anchored_frame_lem file offset }
     ensures offset { IfSome result (λ p. p.offset ≡ offset) }
     ensures header { IfSome result (λ p. item_front_lem front.now ≡ Item.Frame p.header) }
     ensures within { IfSome result (λ p. size_of (Item.Frame p.header) ≤ left) }
@@ -62,9 +63,14 @@ pub(crate) fn anchored_frame(front: &[u8], offset: u64, left: u64) -> Option<Pla
 
 /// The start that the item at an offset makes, where so many bytes are left; none where junk begins there.
 fn start_here(item: &Item, offset: u64, left: u64) -> Option<Result<Start, SurveyFault>>
-    ensures start { (file : List ℕ) → left ≡ length file - offset → MatchOption result (start_at file offset item.now ≡ start_behind_lem offset (first_anchored_lem longest_junk file (offset + 1))) (λ r. start_at file offset item.now ≡ r) }
+    ensures start { (file : List ℕ) → left ≡ length file - offset
+        → MatchOption result (start_at file offset item.now ≡ start_behind_lem offset
+        (first_anchored_lem longest_junk file (offset + 1)))
+        (λ r. start_at file offset item.now ≡ r) }
     ensures refused { IfSome result (λ r. IfErr r RefusesRightly) }
-    ensures first { IfSome result (λ r. IfOk r (λ s. (s.front_end ≡ offset) × (s.first.offset ≡ offset) × (item.now ≡ Item.Frame s.first.header) × (size_of item.now ≤ left))) }
+    ensures first { IfSome result (λ r. IfOk r
+        (λ s. (s.front_end ≡ offset) × (s.first.offset ≡ offset)
+        × (item.now ≡ Item.Frame s.first.header) × (size_of item.now ≤ left))) }
 {
     match *item {
         Item::Frame(header) if item.size() <= left => Some(Ok(Start {
@@ -88,11 +94,14 @@ fn first_anchored<D: Folder>(
     requires known { HasLength (D.files folder.old) name.now size }
     requires fed { IsFedFrom feed.old (D.files folder.old) name.now }
     requires early { from ≤ size + 1 }
-    ensures first { IfOk result (λ o. (bytes : List ℕ) → Holds (D.files folder.old) name.now bytes → o ≡ first_anchored_lem longest_junk bytes from) }
-    ensures whole { IfOk result (λ o. IfSome o (λ p. p.offset + size_of (Item.Frame p.header) ≤ size)) }
+    ensures first { IfOk result (λ o. (bytes : List ℕ) → Holds (D.files folder.old) name.now bytes
+        → o ≡ first_anchored_lem longest_junk bytes from) }
+    ensures whole { IfOk result (λ o. IfSome o
+        (λ p. p.offset + size_of (Item.Frame p.header) ≤ size)) }
     ensures behind { IfOk result (λ o. IfSome o (λ p. from ≤ p.offset)) }
     ensures done { OnOk result (D.counts folder.new ≡ D.counts folder.old) }
-    ensures refused { IfErr result (λ fault. (allowed : ℕ) → IsRefusal name.now (D.files folder.old) allowed (D.counts folder.old) (D.counts folder.new) fault) }
+    ensures refused { IfErr result (IsEarlyRefusal name.now (D.files folder.old)
+        (D.counts folder.old) (D.counts folder.new)) }
     ensures fed { IsFedFrom feed.new (D.files folder.new) name.now }
     ensures files { D.files folder.new ≡ D.files folder.old }
     ensures counts { OnlyReads (D.counts folder.old) (D.counts folder.new) }
@@ -124,12 +133,15 @@ pub(crate) fn find_start<D: Folder>(
     requires known { HasLength (D.files folder.old) name.now size }
     requires fed { IsFedFrom feed.old (D.files folder.old) name.now }
     requires within { front_end ≤ size }
-    requires front { (bytes : List ℕ) → Holds (D.files folder.old) name.now bytes → front_end ≡ front_end_of bytes }
-    ensures start { IfOk result (λ s. (bytes : List ℕ) → Holds (D.files folder.old) name.now bytes → start_of bytes ≡ Ok s) }
+    requires front { (bytes : List ℕ) → Holds (D.files folder.old) name.now bytes
+        → front_end ≡ front_end_of bytes }
+    ensures start { IfOk result (λ s. (bytes : List ℕ) → Holds (D.files folder.old) name.now bytes
+        → start_of bytes ≡ Ok s) }
     ensures whole { IfOk result (λ s. s.first.offset + size_of (Item.Frame s.first.header) ≤ size) }
     ensures junk { IfOk result (λ s. (s.front_end ≡ front_end) × (front_end ≤ s.first.offset)) }
     ensures done { OnOk result (D.counts folder.new ≡ D.counts folder.old) }
-    ensures refused { IfErr result (λ fault. (allowed : ℕ) → IsRefusal name.now (D.files folder.old) allowed (D.counts folder.old) (D.counts folder.new) fault) }
+    ensures refused { IfErr result (IsEarlyRefusal name.now (D.files folder.old)
+        (D.counts folder.old) (D.counts folder.new)) }
     ensures fed { IsFedFrom feed.new (D.files folder.new) name.now }
     ensures files { D.files folder.new ≡ D.files folder.old }
     ensures counts { OnlyReads (D.counts folder.old) (D.counts folder.new) }

@@ -62,7 +62,8 @@ struct Layout {
 #[tactic(auto, unfolding(crate::specs::Items::stands))]
 fn layout_at(bytes: &[u8]) -> Option<Layout>
     ensures stands { is_some result ≡ stands_lem bytes.now }
-    ensures places { IfSome result (λ layout. IsLayout bytes.now layout.key_end layout.value_at layout.end) }
+    ensures places { IfSome result (λ layout. IsLayout bytes.now layout.key_end layout.value_at
+        layout.end) }
 {
     if bytes.len() < KEY_AT {
         return None;

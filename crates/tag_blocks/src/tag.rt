@@ -41,7 +41,8 @@ impl Model for Tag {
 fn read_block(alloc: Global, block: &[u8]) -> Result<Tag, TagFault>
     requires long { 64 ≤ length block.now }
     requires most { length block.now ≤ 1048576 }
-    requires block { block_front block.now ≡ Some (record { kind = Ape; length = length block.now }) }
+    requires block { block_front block.now ≡ Some
+        (record { kind = Ape; length = length block.now }) }
     ensures tag { MatchResult result
         (λ tag. tag_of block.now ≡ Ok tag)
         (λ fault. (fault ≡ Memory) ⊎ (tag_of block.now ≡ Err fault)) }
@@ -83,7 +84,11 @@ impl Tag {
     /// A tag without items. Its flags are those of a tag with a header and a footer: a0000000 and 80000000
     /// (hexadecimal). It takes no memory.
     pub fn new(alloc: Global) -> Tag
-        ensures { result ≡ record { header_flags = 0xa0000000; footer_flags = 0x80000000; items = [] } }
+        ensures { result ≡ record {
+          header_flags = 0xa0000000;
+          footer_flags = 0x80000000;
+          items = [];
+        } }
     {
         Tag {
             alloc,
@@ -108,7 +113,8 @@ impl Tag {
     ///
     /// `Memory` where there is no memory.
     pub fn read(alloc: Global, block: &[u8]) -> Result<Tag, TagFault>
-        requires block { block_front block.now ≡ Some (record { kind = Ape; length = length block.now }) }
+        requires block { block_front block.now ≡ Some
+            (record { kind = Ape; length = length block.now }) }
         requires most { length block.now ≤ 1048576 }
         ensures tag { MatchResult result
             (λ tag. tag_of block.now ≡ Ok tag)
@@ -156,7 +162,8 @@ impl Tag {
     /// Where there is no memory. Then the tag stays as it was.
     pub fn set_undo(&mut self, undo: &Undo) -> Result<(), AllocError>
         requires { FitsText undo.now }
-        ensures set { OnOk result (self.new ≡ record self.old { items = with_undo undo.now self.old.items }) }
+        ensures set { OnOk result (self.new
+            ≡ record self.old { items = with_undo undo.now self.old.items }) }
         ensures stays { OnErr result (self.new ≡ self.old) }
     {
         put_undo(self.alloc, &mut self.items, undo)
@@ -179,7 +186,8 @@ impl Tag {
     pub fn write(&self, alloc: Global) -> Result<Vec<u8>, AllocError>
         ensures bytes { IfOk result (λ block. block.items ≡ tag_bytes self.now) }
         ensures back { IfOk result (λ block. tag_of block.items ≡ Ok self.now) }
-        ensures block { IfOk result (λ block. block_front block.items ≡ Some (record { kind = Ape; length = length block.items })) }
+        ensures block { IfOk result (λ block. block_front block.items ≡ Some
+            (record { kind = Ape; length = length block.items })) }
     {
         let size = (items_length(&self.items) + APE_HEADER) as u32;
         let count = self.items.len() as u32;

@@ -1,12 +1,14 @@
 //! Files that are cut and packed; the bytes were worked out by hand.
 
+use crate::files::{expect_file, expect_part, put_file};
 use crate::two::TWO;
 use cue_sheet::Place;
 use edits::{EditFault, cut, pack};
 use outside::MemFolder;
-use std::alloc::{AllocError, Global};
+use std::alloc::{AllocError, AllocGlobal, Global};
+use std::process::Abort;
 use std::test::Fail;
-use test_files::files::{Stretch, bytes_of};
+use test_files::files::Stretch;
 
 /// An Info frame of 64 kbit/s with its table of 100 entries, no quality, and an extension that is all 0: `Xing`, since the
 /// bit rates differ. Then a lead-in of 32 kbit/s, with an area of 68, and the second frame, whose main data begin 68 bytes
@@ -29,12 +31,10 @@ static SECOND: [Stretch; 13] = [
     Stretch::Fill(0, 49),
 ];
 
-/// A folder with the file of two frames as `a`, and room for `b`.
-fn folder_of_two(alloc: Global) -> Result<MemFolder, AllocError> {
-    let mut folder = MemFolder::new(alloc);
-    folder.put("a", &bytes_of(alloc, &TWO)?)?;
-    folder.reserve("b", 2000)?;
-    Ok(folder)
+/// Puts the file of two frames as `a`, and room for `b`.
+fn put_two(alloc: Global, folder: &mut MemFolder) -> Result<(), AllocError> {
+    put_file(alloc, folder, "a", &[&TWO])?;
+    folder.reserve("b", 2000)
 }
 
 /// Cuts from the frame with this number on, or from the end, to `b`.
@@ -50,18 +50,30 @@ fn pack_two(alloc: Global, folder: &mut MemFolder) -> Result<(), EditFault> {
     pack(alloc, folder, "a", "b")
 }
 
+fn expect_second<R: Abort + AllocGlobal>(rt: &R, folder: &mut MemFolder) -> Result<(), Fail> {
+    put_two(rt.alloc(), folder)?;
+    assert_eq!(rt; cut_from(rt.alloc(), folder, Some(1)), Ok(()));
+    expect_file(rt, folder, "b", &[&SECOND], 729)?;
+    let none = cut_from(rt.alloc(), folder, None);
+    assert_eq!(rt; none, Err(EditFault::Range(2, 2, 2)));
+    expect_file(rt, folder, "b", &[&SECOND], 729)?;
+    Ok(())
+}
+
 /// A range without a frame is refused, and leaves what was written before.
 #[test]
 fn second_frame_cut_out(rt: HostRuntime) -> Result<(), Fail> {
-    let alloc = rt.alloc();
-    let wanted = bytes_of(alloc, &SECOND)?;
-    assert_eq!(&rt; wanted.len(), 729);
-    let mut folder = folder_of_two(alloc)?;
-    assert_eq!(&rt; cut_from(alloc, &mut folder, Some(1)), Ok(()));
-    assert_eq!(&rt; folder.get("b"), Some(&wanted[..]));
-    let none = cut_from(alloc, &mut folder, None);
-    assert_eq!(&rt; none, Err(EditFault::Range(2, 2, 2)));
-    assert_eq!(&rt; folder.get("b"), Some(&wanted[..]));
+    let mut folder = MemFolder::new(rt.alloc());
+    expect_second(&rt, &mut folder)
+}
+
+fn expect_packed<R: Abort + AllocGlobal>(rt: &R, folder: &mut MemFolder) -> Result<(), Fail> {
+    put_two(rt.alloc(), folder)?;
+    assert_eq!(rt; pack_two(rt.alloc(), folder), Ok(()));
+    let first = [0xff, 0xfb, 0x80, 0x00, 0x00, 0x00, 0x09, 0x60];
+    expect_part(rt, folder, "b", 990, 208, &first);
+    let second = [0xff, 0xfb, 0x90, 0x00, 0x0e, 0x80, 0x0c, 0x80];
+    expect_part(rt, folder, "b", 990, 573, &second);
     Ok(())
 }
 
@@ -69,18 +81,6 @@ fn second_frame_cut_out(rt: HostRuntime) -> Result<(), Fail> {
 /// and one of 128 kbit/s, whose main data begin in these.
 #[test]
 fn both_frames_packed(rt: HostRuntime) -> Result<(), Fail> {
-    let alloc = rt.alloc();
-    let mut folder = folder_of_two(alloc)?;
-    assert_eq!(&rt; pack_two(alloc, &mut folder), Ok(()));
-    let packed = folder.get("b").ok_or("no output")?;
-    assert!(&rt; packed.len() == 990);
-    assert_eq!(&rt;
-        &packed[208..216],
-        [0xff, 0xfb, 0x80, 0x00, 0x00, 0x00, 0x09, 0x60].as_slice()
-    );
-    assert_eq!(&rt;
-        &packed[573..581],
-        [0xff, 0xfb, 0x90, 0x00, 0x0e, 0x80, 0x0c, 0x80].as_slice()
-    );
-    Ok(())
+    let mut folder = MemFolder::new(rt.alloc());
+    expect_packed(&rt, &mut folder)
 }

@@ -1,9 +1,11 @@
 //! Files longer than what is read at once, written with other gains; the bytes of both were worked out by hand.
 
 use crate::edited::slow::{Slow, Trouble};
+use crate::files::{expect_file, put_file};
 use edits::{Channels, EditFault, Shift, gain};
-use outside::MemFolder;
-use std::alloc::{AllocError, Global};
+use outside::{Folder, MemFolder};
+use std::alloc::{AllocError, AllocGlobal, Global};
+use std::process::Abort;
 use std::test::Fail;
 use sync_survey::SurveyFault;
 use test_files::files::{Stretch, bytes_of};
@@ -88,22 +90,23 @@ static LOUD: [Stretch; 12] = [
     Stretch::Fill(0x20, 125),
 ];
 
-/// What `gain` answers, and the folder that it leaves.
-fn gain_quiet(alloc: Global) -> Result<(Result<(), EditFault>, MemFolder), AllocError> {
-    let mut folder = MemFolder::new(alloc);
-    folder.put("quiet", &bytes_of(alloc, &QUIET)?)?;
+/// Makes the file `quiet` louder, as `loud`.
+fn gain_quiet<D: Folder>(alloc: Global, folder: &mut D) -> Result<(), EditFault> {
+    gain(alloc, folder, "quiet", "loud", &LOUDER, false)
+}
+
+fn expect_louder<R: Abort + AllocGlobal>(rt: &R, folder: &mut MemFolder) -> Result<(), Fail> {
+    put_file(rt.alloc(), folder, "quiet", &[&QUIET])?;
     folder.reserve("loud", 80_000)?;
-    let answer = gain(alloc, &mut folder, "quiet", "loud", &LOUDER, false);
-    Ok((answer, folder))
+    assert_eq!(rt; gain_quiet(rt.alloc(), folder), Ok(()));
+    expect_file(rt, folder, "loud", &[&LOUD], 76_090)?;
+    Ok(())
 }
 
 #[test]
 fn moves_the_gains_of_a_long_file(rt: HostRuntime) -> Result<(), Fail> {
-    let (answer, folder) = gain_quiet(rt.alloc())?;
-    assert_eq!(rt; answer, Ok(()));
-    let loud = bytes_of(rt.alloc(), &LOUD)?;
-    assert_eq!(rt; folder.get("loud"), Some(&loud[..]));
-    Ok(())
+    let mut folder = MemFolder::new(rt.alloc());
+    expect_louder(&rt, &mut folder)
 }
 
 /// What goes wrong once the output was created, and what the answer is.
@@ -137,16 +140,22 @@ static CASES: [Case; 4] = [
     },
 ];
 
+/// Asserts what is answered, and that so many bytes were written, which are the first of these.
+fn expect_case<R: Abort + AllocGlobal>(rt: &R, case: &Case, loud: &[u8]) -> Result<(), AllocError> {
+    let quiet = bytes_of(rt.alloc(), &QUIET)?;
+    let mut folder = Slow::new(rt.alloc(), quiet, case.trouble);
+    let answer = gain_quiet(rt.alloc(), &mut folder);
+    assert_eq!(rt; answer, case.answer);
+    assert_eq!(rt; folder.output.len(), case.written, "{:?}", case.trouble);
+    assert!(rt; loud.starts_with(&folder.output), "{:?}", case.trouble);
+    Ok(())
+}
+
 #[test]
 fn reads_and_writes_a_few_bytes_at_a_time(rt: HostRuntime) -> Result<(), Fail> {
     let loud = bytes_of(rt.alloc(), &LOUD)?;
     for case in &CASES {
-        let quiet = bytes_of(rt.alloc(), &QUIET)?;
-        let mut folder = Slow::new(rt.alloc(), quiet, case.trouble);
-        let answer = gain(rt.alloc(), &mut folder, "quiet", "loud", &LOUDER, false);
-        assert_eq!(rt; answer, case.answer);
-        assert_eq!(rt; folder.output.len(), case.written, "{:?}", case.trouble);
-        assert!(rt; loud.starts_with(&folder.output), "{:?}", case.trouble);
+        expect_case(&rt, case, &loud)?;
     }
     Ok(())
 }

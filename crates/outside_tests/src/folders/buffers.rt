@@ -9,11 +9,21 @@ use std::process::Abort;
 use std::test::Fail;
 
 // What a `fill` asks for, what it answers, and how many reads there were by then.
+#[derive(Clone, Copy)]
 struct Case {
     at: u64,
     n: usize,
     count: usize,
     reads: u64,
+}
+
+// These are the bytes of the file from this place on.
+fn expect_bytes(rt: &impl Abort, bytes: &[u8], at: u64) {
+    let mut place = at as usize;
+    for byte in bytes {
+        assert_eq!(rt; *byte, byte_at(place), "at {place}, from {at} on");
+        place = place.saturating_add(1);
+    }
 }
 
 fn expect(rt: &impl Abort, feed: &mut Feed, folder: &mut Slow, name: &str, case: Case)
@@ -22,22 +32,23 @@ fn expect(rt: &impl Abort, feed: &mut Feed, folder: &mut Slow, name: &str, case:
     requires fed { IsFedFrom feed.old untold name.now }
     ensures fed { IsFedFrom feed.new untold name.now }
 {
-    let Case {
-        at,
-        n,
-        count,
-        reads,
-    } = case;
-    assert_eq!(rt;
-        feed.fill(folder, name, at, n),
-        Ok(count),
-        "{n} bytes at {at}"
-    );
-    assert_eq!(rt; feed.bytes().len(), count, "{n} bytes at {at}");
-    for (i, byte) in feed.bytes().iter().enumerate() {
-        assert_eq!(rt; *byte, byte_at(at as usize + i), "byte {i} at {at}");
-    }
-    assert_eq!(rt; folder.calls.made, reads, "{n} bytes at {at}");
+    let filled = feed.fill(folder, name, case.at, case.n);
+    expect_filled(rt, filled, feed.bytes(), folder.calls.made, &case);
+}
+
+// What a call of `fill` answered, the bytes that were there then, and the reads by then.
+fn expect_filled(
+    rt: &impl Abort,
+    filled: Result<usize, Failed>,
+    bytes: &[u8],
+    reads: u64,
+    case: &Case,
+) {
+    let Case { at, n, count, .. } = *case;
+    assert_eq!(rt; filled, Ok(count), "{n} bytes at {at}");
+    assert_eq!(rt; bytes.len(), count, "{n} bytes at {at}");
+    expect_bytes(rt, bytes, at);
+    assert_eq!(rt; reads, case.reads, "{n} bytes at {at}");
 }
 
 // Reads of at most 1,000 bytes: the first buffer, and pieces at its end.

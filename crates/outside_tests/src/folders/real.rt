@@ -23,36 +23,66 @@ fn expect<R: Files + AllocGlobal + Abort>(rt: &R, name: &str, text: &str) -> Res
     Ok(())
 }
 
+// A copy of the ten bytes is made, and it has them alone.
+fn expect_copied<R: Files + AllocGlobal + Abort>(
+    rt: &R,
+    folder: &mut DiskFolder<R>,
+    from: &str,
+    to: &str,
+) -> Result<(), Fail> {
+    assert_eq!(rt; copied(folder, from, to), Ok(10), "{to}");
+    expect(rt, to, "0123456789")
+}
+
+// Two bytes are appended, and the file has this text then.
+fn expect_grown<R: Files + AllocGlobal + Abort>(
+    rt: &R,
+    folder: &mut DiskFolder<R>,
+    name: &str,
+    bytes: &[u8; 2],
+    text: &str,
+) -> Result<(), Fail> {
+    assert_eq!(rt; folder.write(name, bytes), Ok(2), "{text}");
+    expect(rt, name, text)
+}
+
+// From this place on the file has so many bytes, and the rest of the room stays.
+fn expect_read<R: Files + AllocGlobal + Abort>(
+    rt: &R,
+    folder: &mut DiskFolder<R>,
+    name: &str,
+    at: u64,
+    count: usize,
+    wanted: &[u8; 4],
+) {
+    let mut into = [b'-'; 4];
+    assert_eq!(rt; folder.read(name, at, &mut into), Ok(count), "at {at}");
+    assert_eq!(rt; into, *wanted, "at {at}");
+}
+
+fn expect_files<R: Files + AllocGlobal + Abort>(
+    rt: &R,
+    folder: &mut DiskFolder<R>,
+) -> Result<(), Fail> {
+    expect_copied(rt, folder, "outside_files/from", "outside_files/to")?;
+    expect_grown(rt, folder, "outside_files/to", b"ab", "0123456789ab")?;
+    fs::write(rt, "outside_files/link", "longer than what comes")?;
+    expect_copied(rt, folder, "outside_files/from", "outside_files/link")?;
+    expect_read(rt, folder, "outside_files/from", 7, 3, b"789-");
+    expect_read(rt, folder, "outside_files/from", 10, 0, b"----");
+    // A file that is opened anew.
+    expect_grown(rt, folder, "outside_files/to", b"cd", "0123456789abcd")
+}
+
 #[test]
 fn real_files(rt: HostRuntime) -> Result<(), Fail> {
     prepare(&rt, "outside_files", "outside_files/from")?;
     let mut folder = DiskFolder::new(&rt, rt.alloc());
     assert_eq!(rt; folder.find("outside_files/to"), Err(FindFault::Absent));
     assert_eq!(rt; folder.find("outside_files"), Err(FindFault::Failed));
-    assert_eq!(rt;
-        copied(&mut folder, "outside_files/from", "outside_files/to"),
-        Ok(10),
-        "a new file"
-    );
-    assert_eq!(rt; folder.write("outside_files/to", b"ab"), Ok(2));
-    expect(&rt, "outside_files/to", "0123456789ab")?;
-    fs::write(&rt, "outside_files/link", "longer than what comes")?;
-    assert_eq!(rt;
-        copied(&mut folder, "outside_files/from", "outside_files/link"),
-        Ok(10),
-        "a file that was there"
-    );
-    expect(&rt, "outside_files/link", "0123456789")?;
-    let mut into = [b'-'; 4];
-    assert_eq!(rt; folder.read("outside_files/from", 7, &mut into), Ok(3));
-    assert_eq!(rt; into, *b"789-");
-    assert_eq!(rt; folder.read("outside_files/from", 10, &mut into), Ok(0));
-    assert_eq!(rt;
-        folder.write("outside_files/to", b"cd"),
-        Ok(2),
-        "a file opened anew"
-    );
-    expect(&rt, "outside_files/to", "0123456789abcd")?;
+    let done = expect_files(&rt, &mut folder);
+    drop(folder);
+    done?;
     fs::remove_dir_all(&rt, "outside_files")?;
     Ok(())
 }
@@ -84,11 +114,8 @@ fn a_file_of_two_names(rt: HostRuntime) -> Result<(), Fail> {
     Ok(())
 }
 
-#[test]
-fn a_shaky_file(rt: HostRuntime) -> Result<(), Fail> {
-    prepare(&rt, "outside_shaky", "outside_shaky/from")?;
-    let files = Shaky { files: &rt };
-    let mut folder = DiskFolder::new(&files, rt.alloc());
+// The second read moves fewer bytes, so the third is asked for the rest, and fails.
+fn expect_shaky_reads<R: Files>(rt: &impl Abort, folder: &mut DiskFolder<R>) {
     let mut into = [b'-'; 4];
     assert_eq!(rt; folder.find("outside_shaky/from"), Ok(10));
     assert_eq!(rt;
@@ -98,6 +125,9 @@ fn a_shaky_file(rt: HostRuntime) -> Result<(), Fail> {
     );
     assert_eq!(rt; folder.read("outside_shaky/from", 3, &mut into), Ok(4));
     assert_eq!(rt; into, *b"3456");
+}
+
+fn expect_shaky_writes<R: Files>(rt: &impl Abort, folder: &mut DiskFolder<R>) {
     assert_eq!(rt; folder.create("outside_shaky/to"), Ok(()));
     assert_eq!(rt;
         folder.write("outside_shaky/to", b"abcdef"),
@@ -110,6 +140,16 @@ fn a_shaky_file(rt: HostRuntime) -> Result<(), Fail> {
         "the third write"
     );
     assert_eq!(rt; folder.write("outside_shaky/to", b"cdef"), Ok(4));
+}
+
+#[test]
+fn a_shaky_file(rt: HostRuntime) -> Result<(), Fail> {
+    prepare(&rt, "outside_shaky", "outside_shaky/from")?;
+    let files = Shaky { files: &rt };
+    let mut folder = DiskFolder::new(&files, rt.alloc());
+    expect_shaky_reads(&rt, &mut folder);
+    expect_shaky_writes(&rt, &mut folder);
+    drop(folder);
     expect(&rt, "outside_shaky/to", "abcdef")?;
     fs::remove_dir_all(&rt, "outside_shaky")?;
     Ok(())

@@ -1,40 +1,66 @@
 //! A buffer in front of a sink.
 
 use outside::{Failed, MemSink, SendBuffer};
+use std::alloc::{AllocError, Global};
+use std::process::Abort;
 use std::test::Fail;
 
 static LETTERS: [u8; 70_000] = [b'x'; 70_000];
 
+// A sink with room for all that is sent here, which may have a write that fails.
+fn sink_of(alloc: Global, failing: Option<u64>) -> Result<MemSink, AllocError> {
+    let mut sink = MemSink::new(alloc);
+    sink.reserve(200_000)?;
+    if let Some(number) = failing {
+        sink.fail(number)?;
+    }
+    Ok(sink)
+}
+
+// So many bytes were sent once the piece is pushed.
+fn expect_pushed(
+    rt: &impl Abort,
+    buffer: &mut SendBuffer,
+    sink: &mut MemSink,
+    piece: &[u8],
+    sent: usize,
+) {
+    assert_eq!(rt; buffer.push(sink, piece), Ok(()));
+    assert_eq!(rt; sink.sent().len(), sent, "a piece of {} bytes", piece.len());
+}
+
+// Whether what waits is sent too.
+fn finish(buffer: &mut SendBuffer, sink: &mut MemSink) -> Result<(), Failed> {
+    buffer.finish(sink)
+}
+
+fn are_around(front: &[u8], end: &[u8], bytes: &[u8]) -> bool {
+    bytes.starts_with(front) && bytes.ends_with(end)
+}
+
 // Pieces that fit wait. One that doesn't is added when what waits was sent, or sent too where it is longer than the buffer.
 #[test]
 fn pieces_wait_and_are_sent(rt: HostRuntime) -> Result<(), Fail> {
-    let mut sink = MemSink::new(rt.alloc());
-    sink.reserve(200_000)?;
+    let mut sink = sink_of(rt.alloc(), None)?;
     let mut buffer = SendBuffer::new(rt.alloc())?;
-    assert!(rt; buffer.push(&mut sink, b"begin ").is_ok());
-    assert!(rt; buffer.push(&mut sink, &LETTERS[..65_530]).is_ok());
-    assert_eq!(rt; sink.sent().len(), 0);
-    assert!(rt; buffer.push(&mut sink, b" end").is_ok());
-    assert_eq!(rt; sink.sent().len(), 65_536);
-    assert!(rt; sink.sent().starts_with(b"begin x"));
-    assert!(rt; buffer.push(&mut sink, &LETTERS).is_ok());
-    assert_eq!(rt; sink.sent().len(), 135_540);
-    assert!(rt; buffer.push(&mut sink, b".").is_ok());
-    assert!(rt; buffer.finish(&mut sink).is_ok());
-    assert!(rt; sink.sent().ends_with(b"x."));
+    expect_pushed(&rt, &mut buffer, &mut sink, b"begin ", 0);
+    expect_pushed(&rt, &mut buffer, &mut sink, &LETTERS[..65_530], 0);
+    expect_pushed(&rt, &mut buffer, &mut sink, b" end", 65_536);
+    expect_pushed(&rt, &mut buffer, &mut sink, &LETTERS, 135_540);
+    expect_pushed(&rt, &mut buffer, &mut sink, b".", 135_540);
+    assert_eq!(rt; finish(&mut buffer, &mut sink), Ok(()));
+    assert!(rt; are_around(b"begin x", b"x.", sink.sent()));
     Ok(())
 }
 
 // The second write fails: what waited before it is there, and nothing else.
 #[test]
 fn a_write_behind_the_buffer_fails(rt: HostRuntime) -> Result<(), Fail> {
-    let mut sink = MemSink::new(rt.alloc());
-    sink.reserve(200_000)?;
-    sink.fail(2)?;
+    let mut sink = sink_of(rt.alloc(), Some(2))?;
     let mut buffer = SendBuffer::new(rt.alloc())?;
-    assert!(rt; buffer.push(&mut sink, &LETTERS[..40_000]).is_ok());
-    assert!(rt; buffer.push(&mut sink, &LETTERS[..40_000]).is_ok());
-    assert!(rt; buffer.finish(&mut sink) == Err(Failed));
+    expect_pushed(&rt, &mut buffer, &mut sink, &LETTERS[..40_000], 0);
+    expect_pushed(&rt, &mut buffer, &mut sink, &LETTERS[..40_000], 40_000);
+    assert_eq!(rt; finish(&mut buffer, &mut sink), Err(Failed));
     assert_eq!(rt; sink.sent().len(), 40_000);
     Ok(())
 }

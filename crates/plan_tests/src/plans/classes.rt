@@ -1,8 +1,7 @@
 //! The greatest payload that a frame can have, in each class and slot.
 
-use super::checked::plan_of;
 use super::rows::Row::{Frame, LeadIn, Padded};
-use super::rows::expect_rows;
+use super::rows::expect_plan;
 use frame_header::{Header, Slot};
 use slot_plan::{Keep, Least, Need};
 use std::alloc::AllocGlobal;
@@ -110,12 +109,10 @@ fn expect_greatest<R: Abort + AllocGlobal>(
         Frame(rate, begin)
     };
     let rows = [LeadIn(lead_in, 0), frame];
-    let kept = plan_of(rt, &needs, &[0], &Keep)?;
-    expect_rows(rt, class, &kept, &rows, "kept");
+    expect_plan(rt, &needs, &[0], &Keep, &rows, "kept")?;
     // No slot is larger than the largest.
     if slot.rate_index == 14 && slot.padding {
-        let least = plan_of(rt, &needs, &[0], &Least)?;
-        expect_rows(rt, class, &least, &rows, "least");
+        expect_plan(rt, &needs, &[0], &Least, &rows, "least")?;
     }
     Ok(())
 }

@@ -1,7 +1,9 @@
 //! The frames of a plan, as tests write them.
 
+use super::checked::plan_of;
 use frame_header::Class;
-use slot_plan::{Placed, Plan};
+use slot_plan::{Need, Placed, Plan, Policy};
+use std::alloc::{AllocError, AllocGlobal};
 use std::process::Abort;
 
 /// A frame of a plan: its bit rate in kbit/s, and its main_data_begin in bytes.
@@ -24,10 +26,26 @@ fn row_of(class: Class, placed: &Placed) -> Row {
 }
 
 /// The plan has these frames.
-pub fn expect_rows(rt: &impl Abort, class: Class, plan: &Plan, rows: &[Row], name: &str) {
+fn expect_rows(rt: &impl Abort, class: Class, plan: &Plan, rows: &[Row], name: &str) {
     let placed = plan.placed();
     assert_eq!(rt; placed.len(), rows.len(), "{name}");
     for (i, (frame, row)) in placed.iter().zip(rows.iter()).enumerate() {
         assert_eq!(rt; row_of(class, frame), *row, "{name}, frame {i}");
     }
+}
+
+/// The plan of these parts has these frames.
+pub fn expect_plan<R: Abort + AllocGlobal, P: Policy>(
+    rt: &R,
+    needs: &[Need],
+    parts: &[u32],
+    policy: &P,
+    rows: &[Row],
+    name: &str,
+) -> Result<(), AllocError> {
+    assert!(rt; !needs.is_empty());
+    let class = needs[0].header.class();
+    let plan = plan_of(rt, needs, parts, policy)?;
+    expect_rows(rt, class, &plan, rows, name);
+    Ok(())
 }

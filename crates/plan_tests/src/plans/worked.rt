@@ -1,9 +1,8 @@
 //! Parts whose plans were worked out by hand.
 
 use super::asked::{Asked, LARGE, LOW, PROTECTED, STEREO, needs_of};
-use super::checked::plan_of;
 use super::rows::Row::{Frame, LeadIn, Padded};
-use super::rows::{Row, expect_rows};
+use super::rows::{Row, expect_plan};
 use frame_header::Header;
 use slot_plan::{Keep, Least, Need};
 use std::alloc::{AllocError, AllocGlobal, Global};
@@ -127,12 +126,8 @@ static JOINED: [Case; 4] = [
 
 fn expect_plans<R: Abort + AllocGlobal>(rt: &R, case: &Case) -> Result<(), Fail> {
     let needs = needs_of(rt.alloc(), case.frames)?;
-    assert!(rt; !needs.is_empty());
-    let class = needs[0].header.class();
-    let kept = plan_of(rt, needs.as_slice(), case.parts, &Keep)?;
-    expect_rows(rt, class, &kept, case.kept, case.name);
-    let least = plan_of(rt, needs.as_slice(), case.parts, &Least)?;
-    expect_rows(rt, class, &least, case.least, case.name);
+    expect_plan(rt, &needs, case.parts, &Keep, case.kept, case.name)?;
+    expect_plan(rt, &needs, case.parts, &Least, case.least, case.name)?;
     Ok(())
 }
 
@@ -173,13 +168,9 @@ fn thirty_rows(alloc: Global) -> Result<Vec<Row>, AllocError> {
 
 #[test]
 fn thirty_frames(rt: HostRuntime) -> Result<(), Fail> {
-    let header = Header::read(LOW)?;
-    let class = header.class();
-    let needs = thirty_needs(rt.alloc(), header)?;
+    let needs = thirty_needs(rt.alloc(), Header::read(LOW)?)?;
     let rows = thirty_rows(rt.alloc())?;
-    let kept = plan_of(&rt, needs.as_slice(), &[0], &Keep)?;
-    expect_rows(&rt, class, &kept, rows.as_slice(), "kept");
-    let least = plan_of(&rt, needs.as_slice(), &[0], &Least)?;
-    expect_rows(&rt, class, &least, rows.as_slice(), "least");
+    expect_plan(&rt, &needs, &[0], &Keep, &rows, "kept")?;
+    expect_plan(&rt, &needs, &[0], &Least, &rows, "least")?;
     Ok(())
 }

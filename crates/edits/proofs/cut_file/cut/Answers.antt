@@ -1,12 +1,11 @@
 -- What the command leaves, from what its steps ensure.
-use Rattle.std.proofs.Common.{◌≡◌, true, false, bytes_eq, sym, ◌∙◌, ap, ap₂, subst, rules}
+use Rattle.std.proofs.Common.{◌≡◌, true, false, bytes_eq, ap, ap₂, rules}
 use Rattle.std.proofs.lemmas.Result.{err_from_is_err_and}
-use Rattle.outside.specs.Files.{Holds}
 use Rattle.sync_survey.specs.Faults.{tells}
 use Rattle.edits.specs.declared.fault.EditFault.TheVariants.{Memory}
 use Rattle.edits.specs.Left.{seen}
 use Rattle.edits.specs.Chosen.{chosen_in, chosen_file, laid_with, choosing, stream_chosen, cut_choice}
-use Rattle.edits.proofs.OneLaws.{IsFree, equal_left, clashes, input_left, input_behind, input_numbers, refusal_is_input, refusal_of_input, memory_is_input, done_behind, left_behind, streams_behind}
+use Rattle.edits.proofs.OneLaws.{IsFree, equal_left, clashes, input_left, input_numbers, refusal_is_input, refusal_of_input, memory_is_input, done_behind, left_behind, streams_behind}
 use Rattle.edits.proofs.ChosenLaws.{cut_proper}
 use Rattle.edits.proofs.cut_file.cut.Goals as goal
 

@@ -6,10 +6,9 @@ use Rattle.laying.specs.Written.{head_info}
 use Rattle.sync_survey.specs.Faults.{SurveyFields, tells}
 use Rattle.edits.specs.declared.chosen.Chosen.{Chosen as CodeChosen}
 use Rattle.edits.specs.declared.fault.EditFault.{EditFault}
-use Rattle.edits.specs.Chosen.{Chosen, chosen_in, chosen_with, laid_with, choosing, pack_choice}
+use Rattle.edits.specs.Chosen.{chosen_in, chosen_with, laid_with, choosing, pack_choice}
 use Rattle.edits.specs.Left.{seen, IsRefusal}
-use Rattle.edits.proofs.OneLaws.{refusal_is_input, refusal_of_input}
-use Rattle.edits.proofs.LaidPass.{read_is_input}
+use Rattle.edits.proofs.OneLaws.{refusal_is_input}
 use Rattle.edits.proofs.pack_file.pack_choice.Goals as goal
 
 module _ (quality : Option ℕ) (extension : List ℕ) (frames : ℕ) (s : SurveyFields) (same : frames ≡ length s.frames) (P : List ℕ → Type 0)

@@ -1,5 +1,5 @@
 -- What the planner answers of the chosen frames is their plan.
-use Rattle.std.proofs.Common.{◌≡◌, ℕ, List, [], ◌∷◌, map, Bool, true, false, Result, Ok, Err, refl, sym, ap, subst}
+use Rattle.std.proofs.Common.{◌≡◌, List, [], ◌∷◌, map, Bool, true, false, Result, Ok, Err, sym, subst}
 use Rattle.std.specs.Prelude.{IfOk, ◌<◌, ◌≤◌, length, slice_range}
 use Rattle.frame_header.specs.Tables.{window_of}
 use Rattle.frame_header.specs.Fields.{SlotFields, HeaderFields}

@@ -1,5 +1,5 @@
 -- The Info frame tells of the slots of the plan, which are those of the frames.
-use Rattle.std.proofs.Common.{◌≡◌, ℕ, ◌-◌, get_or, List, length, map, drop, Some, refl, sym, ◌∙◌, ap, ap₂, subst, arith}
+use Rattle.std.proofs.Common.{◌≡◌, ℕ, ◌-◌, get_or, List, length, map, drop, Some, refl, sym, ◌∙◌, ap, ap₂, arith}
 use Rattle.std.specs.Prelude.{slice_get, ◌<◌}
 use Rattle.std.proofs.lemmas.List.{length-map, length-take}
 use Rattle.std.proofs.lemmas.Option.{slice_get_read}

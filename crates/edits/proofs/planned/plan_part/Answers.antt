@@ -1,5 +1,5 @@
 -- The parts are the one.
-use Rattle.std.proofs.Common.{◌≡◌, [], ◌∷◌, sym, subst, ap}
+use Rattle.std.proofs.Common.{◌≡◌, [], ◌∷◌, sym, subst}
 use Rattle.std.specs.Prelude.{IfOk}
 use Rattle.slot_plan.specs.Parts.{window_in, parts_of}
 use Rattle.slot_plan.specs.Plans.{IsPlan, entries}

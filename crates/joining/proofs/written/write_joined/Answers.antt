@@ -1,14 +1,14 @@
 -- The output is created, and then written by a pass over the inputs, which stay.
-use Rattle.std.proofs.Common.{◌≡◌, ℕ, ◌<◌, List, [], ◌∷◌, None, length, map, drop, string_bytes, sym, ◌∙◌, ap, subst, arith}
+use Rattle.std.proofs.Common.{◌≡◌, ℕ, List, ◌∷◌, None, length, map, drop, string_bytes, sym, ◌∙◌, ap, subst, arith}
 use Rattle.std.proofs.lemmas.List.{length-map}
 use Rattle.outside.specs.Files.{IsThere}
 use Rattle.outside.proofs.FilesLaws.{emptied_there}
 use Rattle.frame_header.specs.Fields.{ClassFields}
+use Rattle.frame_writer.specs.Writing.{IsNew}
 use Rattle.frame_writer.proofs.WritingLaws.{ok-map}
-use Rattle.sync_survey.specs.Faults.{SurveyFields, tells}
-use Rattle.edits.specs.One.{most_frames, IsPassFault}
-use Rattle.edits.specs.Left.{seen}
-use Rattle.moved_gains.specs.Pass.{Appends, AppendsPrefix}
+use Rattle.sync_survey.specs.Faults.{tells}
+use Rattle.edits.specs.One.{most_frames}
+use Rattle.outside.specs.Pass.{Appends, AppendsPrefix}
 use Rattle.edits.proofs.OutputLaws.{told_whole, told_prefix}
 use Rattle.joining.specs.Join.{joined_file}
 use Rattle.joining.specs.Inputs.{CanBeJoined, AreAlike, told_parts}
@@ -34,7 +34,7 @@ append_joined-requires-clause-sources g c =
     let can = subst CanBeJoined ss_are c.requires.joined in
     let alike : AreAlike s.class ss = subst (AreAlike s.class) (sym ss_are) can.0 in
     let are = sources-inputs s.class output 0 None most_frames old names ss c.requires.apart alike c.requires.inputs in
-    subst (λ (k : ClassFields). AreSources k output mid names ss) (sym (c.in_ok-writer.ensures.class ∙ c.class.ensures)) (sources-emptied s.class output old mid names ss created are)
+    subst (λ (k : ClassFields). AreSources k output mid names ss) (sym (c.in_ok-buffers.ensures.new.class_is ∙ c.class.ensures)) (sources-emptied s.class output old mid names ss created are)
 
 pub append_joined-requires-clause-target : goal.append_joined-requires-clause-target
 append_joined-requires-clause-target g c =
@@ -99,3 +99,8 @@ returns-clause-left g c =
     (λ fault prefix cause name apart.
     pass-fault output old mid new created whole (length c.args.inputs.now) name apart fault (counts c.args.folder.now) (counts c.create.new.self) (counts c.append_joined.new.folder) c.in-Ok.ensures.done
     (subst (λ (b : List ℕ). AppendsPrefix name output (λ _. b) mid new) same (prefix name apart)) cause)
+
+pub append_joined-requires-clause-new : goal.append_joined-requires-clause-new
+append_joined-requires-clause-new g c =
+    let new = c.in_ok-buffers.ensures.new in
+    subst (λ (k : ClassFields). IsNew k c.in_ok-buffers.buffers.writer) (sym new.class_is) new

@@ -1,24 +1,11 @@
--- The head of a file that is told is within it, and its fields are those of the bytes of its frame.
+-- The fields of the head are those of the bytes of its frame.
 use Rattle.std.proofs.Common.{◌≡◌, ℕ, List, length, take, drop, ◌∙◌, ap, arith}
 use Rattle.std.specs.Prelude.{replicate}
 use Rattle.std.proofs.lemmas.List.{length-take-le, length-replicate}
 use Rattle.info_header.specs.declared.fields.Info.{Info}
 use Rattle.sync_survey.specs.Faults.{tells}
-use Rattle.laying.proofs.ReadLaws.{head-within}
 use Rattle.laying.proofs.KeptLaws.{info-some}
 use Rattle.laying.proofs.info.kept_of.Goals as goal
-
-pub returns-then-saturating_add-length-clause-kept : goal.returns-then-saturating_add-length-clause-kept
-returns-then-saturating_add-length-clause-kept g c = λ file holds.
-    absurd (omega (
-      arith,
-      head-within file (tells c.args.survey.now) c.args.head.now (c.requires.exact file holds) c.requires.head,
-      c.if-saturating_add-length.true,
-      c.saturating_add.ensures,
-      c.from.ensures,
-      c.length-length.ensures.length,
-      c.length.ensures,
-    ))
 
 pub returns-clause-kept : goal.returns-clause-kept
 returns-clause-kept g c = λ file holds.

@@ -7,6 +7,6 @@ use Rattle.side_info.proofs.gains.put_at_place.Goals as goal
 
 pub returns-clause-behind : goal.returns-clause-behind
 returns-clause-behind c =
-    drop-put_mid c.args.place (c.args.place + c.side_size.result - c.args.place) c.args.frame.now c.put_all.new.bytes (c.args.place + side_size_of c.args.class)
+    drop-put_mid c.args.place (c.args.place + c.side_size.result - c.args.place) c.args.frame.now c.put_by_class.new.bytes (c.args.place + side_size_of c.args.class)
     (omega (arith, c.side_size.ensures.size)) (omega (arith, c.requires.room))
-    (c.put_all.auto.bytes ∙ length-take-le (c.args.place + c.side_size.result - c.args.place) (drop c.args.place c.args.frame.now) (simp length-drop (omega (arith, c.requires.room, c.side_size.ensures.size))))
+    (c.put_by_class.auto.bytes ∙ length-take-le (c.args.place + c.side_size.result - c.args.place) (drop c.args.place c.args.frame.now) (simp length-drop (omega (arith, c.requires.room, c.side_size.ensures.size))))

@@ -6,7 +6,7 @@ use Rattle.frame_header.specs.Fields.{IsClass}
 use Rattle.frame_header.specs.Tables.{granules_of}
 use Rattle.side_info.specs.Granule.{granule_size}
 use Rattle.side_info.specs.Parts.{class_with, front_size, front_at, pair_at, second_at}
-use Rattle.side_info.proofs.ReadLaws.{parts_size, side_size-small, second_room, side_is}
+use Rattle.side_info.proofs.ReadLaws.{parts_size, side_size-small, second_room, set_both, side_is}
 use Rattle.side_info.proofs.side.read_parts.Goals as goal
 use Rattle.side_info.proofs.side.read_parts.Goals.{After-from}
 
@@ -29,27 +29,33 @@ read_front-front-requires-clause-enough c = omega (arith, size (goal.at.read_fro
 pub read_front-front-requires-clause-short : goal.read_front-front-requires-clause-short
 read_front-front-requires-clause-short c = omega (arith, short (goal.at.read_front-front-requires-clause-short c).After-from)
 
-pub read_pair-first-requires-clause-enough : goal.read_pair-first-requires-clause-enough
-read_pair-first-requires-clause-enough c = omega (arith, size (goal.at.read_pair-first-requires-clause-enough c).After-from, c.front_size-begin.ensures)
+pub read_pair-requires-clause-enough : goal.read_pair-requires-clause-enough
+read_pair-requires-clause-enough c = omega (arith, size (goal.at.read_pair-requires-clause-enough c).After-from, c.front_size-begin.ensures)
 
-pub read_pair-first-requires-clause-short : goal.read_pair-first-requires-clause-short
-read_pair-first-requires-clause-short c = omega (arith, short (goal.at.read_pair-first-requires-clause-short c).After-from)
+pub read_pair-requires-clause-short : goal.read_pair-requires-clause-short
+read_pair-requires-clause-short c = omega (arith, short (goal.at.read_pair-requires-clause-short c).After-from)
 
 next : (c : After-from) → c.front_size-begin.result + c.granule_width.result * c.from.result ≡ front_size c.args.version c.args.channels + c.args.channels * granule_size c.args.version
 next c = ap₂ (λ m n. m + n) c.front_size-begin.ensures (ap₂ (λ m n. m * n) c.granule_width.ensures c.from.ensures ∙ omega arith)
 
-pub read_second-second-requires-clause-enough : goal.read_second-second-requires-clause-enough
-read_second-second-requires-clause-enough c two =
-    let at = (goal.at.read_second-second-requires-clause-enough c).After-from in
+pub read_second-requires-clause-enough : goal.read_second-requires-clause-enough
+read_second-requires-clause-enough c two =
+    let at = (goal.at.read_second-requires-clause-enough c).After-from in
     second_room (granules_of c.args.version) (front_size c.args.version c.args.channels) (c.args.channels * granule_size c.args.version) _ _ two (next at) (size at)
 
-pub read_second-second-requires-clause-short : goal.read_second-second-requires-clause-short
-read_second-second-requires-clause-short c = omega (arith, short (goal.at.read_second-second-requires-clause-short c).After-from)
+pub read_second-requires-clause-short : goal.read_second-requires-clause-short
+read_second-requires-clause-short c = omega (arith, short (goal.at.read_second-requires-clause-short c).After-from)
 
 pub returns : goal.returns
 returns c =
     let at = (goal.at.returns c).After-from in
-    side_is (class_with c.args.version 0 c.args.channels) (bits c.args.bytes.now) c.read_front-front.result c.read_pair-first.result c.read_second-second.result
+    ap (λ granules. record {
+      main_data_begin = c.read_front-front.result.main_data_begin;
+      private_bits = c.read_front-front.result.private_bits;
+      scfsi = c.read_front-front.result.scfsi;
+      granules = granules;
+    }) (set_both c.args.side.now.granules c.read_pair.new.pair c.read_second.new.pair (omega arith))
+    ∙ side_is (class_with c.args.version 0 c.args.channels) (bits c.args.bytes.now) c.read_front-front.result c.read_pair.new.pair c.read_second.new.pair
     (c.read_front-front.ensures ∙ ap (λ xs. front_at c.args.version c.args.channels (bits xs)) (whole at))
-    (c.read_pair-first.ensures ∙ ap₂ (λ xs k. pair_at c.args.version c.args.channels (drop k (bits xs))) (whole at) c.front_size-begin.ensures)
-    (c.read_second-second.ensures ∙ ap₂ (λ xs k. second_at c.args.version c.args.channels (drop k (bits xs))) (whole at) (next at))
+    (c.read_pair.ensures ∙ ap₂ (λ xs k. pair_at c.args.version c.args.channels (drop k (bits xs))) (whole at) c.front_size-begin.ensures)
+    (c.read_second.ensures ∙ ap₂ (λ xs k. second_at c.args.version c.args.channels (drop k (bits xs))) (whole at) (next at))

@@ -14,6 +14,6 @@ invariant-loop-piece g l =
     × CanBeWritten l.input (tells l.survey) (into_iter_items l.piece-iterator)
     × (l.place ≡ length l.yielded)
     × Wrote (tells l.survey) l.input l.yielded (g.D.Folder.files l.fn.folder) (g.D.Folder.files l.folder)
-    × IsFedFrom l.feed (g.D.Folder.files l.folder) l.input
-    × (l.waiting ≡ [])
+    × IsFedFrom l.buffers.feed (g.D.Folder.files l.folder) l.input
+    × (l.buffers.waiting ≡ [])
     × (g.D.Folder.counts l.folder ≡ g.D.Folder.counts l.fn.folder)

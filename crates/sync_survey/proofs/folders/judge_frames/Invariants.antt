@@ -1,5 +1,5 @@
 -- The file was surveyed up to an offset.
-use Rattle.std.proofs.Common.{◌≡◌, ℕ, ◌-◌, ◌≤◌, List}
+use Rattle.std.proofs.Common.{◌≡◌, ℕ, ◌-◌, ◌≤◌, List, length}
 use Rattle.outside.specs.Files.{Holds}
 use Rattle.outside.specs.Feed.{IsFedFrom}
 use Rattle.sync_survey.specs.Faults.{class_from}
@@ -11,6 +11,7 @@ abbrev pub invariant-loop-at : goal.invariant-loop-at
 invariant-loop-at g l = record {
   surveyed : (bytes : List ℕ) → Holds (g.D.Folder.files l.initial.folder) l.name bytes → IsMarkedTo bytes l.start l.head l.allowed l.found.rows.items l.found.pieces.items l.found.before.place l.found.before.ended l.at;
   laid : IsLaidTo l.head (class_from l.start) l.start.first.offset l.found l.at;
+  few : length l.found.rows.items ≤ l.allowed;
   within : l.at ≤ l.size;
   fed : IsFedFrom l.feed (g.D.Folder.files l.folder) l.name;
   files : g.D.Folder.files l.folder ≡ g.D.Folder.files l.initial.folder;

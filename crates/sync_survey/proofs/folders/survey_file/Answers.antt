@@ -1,6 +1,8 @@
 -- What a step refuses, the survey refuses, since the steps before left the files and all counts.
-use Rattle.std.proofs.Common.{◌∙◌}
+use Rattle.std.proofs.Common.{◌≡◌, sym, ◌∙◌, subst, arith}
 use Rattle.std.proofs.lemmas.Result.{err_from_is_err_and}
+use Rattle.outside.specs.Files.{Holds}
+use Rattle.sync_survey.specs.Survey.{HasLength, BlocksAreLaid}
 use Rattle.sync_survey.proofs.FoldersLaws.{refusal_later}
 use Rattle.sync_survey.proofs.folders.survey_file.Goals as goal
 
@@ -28,3 +30,24 @@ returns-in_err-head-clause-refused g c =
     rw (p.1, p.2) (refusal_later c.args.name.now (g.D.Folder.files c.args.folder.now) (g.D.Folder.files c.find_start.new.folder) c.args.allowed (g.D.Folder.counts c.args.folder.now) (g.D.Folder.counts c.find_start.new.folder)
     (g.D.Folder.counts c.find_head.new.folder) c.in_err-head.field-0.0 (c.in_ok-start.ensures.files ∙ c.in_ok-front_end.ensures.files ∙ c.in_ok-size.ensures.files)
     (c.in_ok-start.ensures.done ∙ c.in_ok-front_end.ensures.done ∙ c.in_ok-size.ensures.done) (c.in_err-head.ensures.refused c.args.allowed))
+
+-- what was found before the frames is what they are judged by
+pub judge_frames-requires-clause-walk : goal.judge_frames-requires-clause-walk
+judge_frames-requires-clause-walk g c =
+    let files = g.D.Folder.files in
+    let name = c.args.name.now in
+    let from_start : files c.find_head.new.folder ≡ files c.find_start.new.folder = c.in_ok-head.ensures.files in
+    let from_front : files c.find_head.new.folder ≡ files c.pass_front.new.folder = from_start ∙ c.in_ok-start.ensures.files in
+    let from_length : files c.find_head.new.folder ≡ files c.find_length.new.folder = from_front ∙ c.in_ok-front_end.ensures.files in
+    let junk = c.in_ok-start.ensures.junk in record {
+      known = subst (λ f. HasLength f name c.in_ok-size.size) (sym (from_length ∙ c.in_ok-size.ensures.files)) c.in_ok-size.ensures.found;
+      whole = c.in_ok-start.ensures.whole;
+      junk = omega (arith, junk.0, junk.1);
+      laid = subst (BlocksAreLaid 0 c.pass_front.new.pieces.items) (sym junk.0) c.in_ok-front_end.ensures.laid;
+      same = c.in_ok-head.ensures.same;
+      told = λ bytes holds. record {
+        start = c.in_ok-start.ensures.start bytes (subst (λ f. Holds f name bytes) from_front holds);
+        head = c.in_ok-head.ensures.head bytes (subst (λ f. Holds f name bytes) from_start holds);
+        kept = c.in_ok-front_end.ensures.blocks bytes (subst (λ f. Holds f name bytes) from_length holds);
+      };
+    }

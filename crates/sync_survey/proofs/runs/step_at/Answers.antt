@@ -9,26 +9,26 @@ returns-then-not-belongs-clause-step c = λ file at shows.
     not_here file at c.args.front.now c.args.left shows c.args.part c.item_front-item.result c.item_front-item.ensures
     (λ here. absurd (false≢true (sym c.if-not-belongs.true ∙ c.belongs.ensures ∙ here)))
 
-pub returns-then-size-left-clause-step : goal.returns-then-size-left-clause-step
-returns-then-size-left-clause-step c = λ file at shows.
-    not_here file at c.args.front.now c.args.left shows c.args.part c.item_front-item.result c.item_front-item.ensures (λ here. omega (arith, c.size.ensures.size, c.if-size-left.true))
+pub returns-then-own-left-clause-step : goal.returns-then-own-left-clause-step
+returns-then-own-left-clause-step c = λ file at shows.
+    not_here file at c.args.front.now c.args.left shows c.args.part c.item_front-item.result c.item_front-item.ensures (λ here. omega (arith, c.size-own.ensures.size, c.if-own-left.true))
 
 pub returns-clause-step : goal.returns-clause-step
 returns-clause-step c = λ file at shows.
     step_passes file at c.args.front.now c.args.left shows c.args.part c.passed-size.result c.item_front-item.result c.item_front-item.ensures (sym c.belongs.ensures ∙ c.if-not-belongs.false)
-    (omega (arith, c.size.ensures.size, c.if-size-left.false)) c.passed-size.ensures.zeros c.passed-size.ensures.size
+    (omega (arith, c.size-own.ensures.size, c.if-own-left.false)) c.passed-size.ensures.zeros c.passed-size.ensures.size
 
 pub returns-clause-least : goal.returns-clause-least
 returns-clause-least c =
     (sized c.args.part c.args.front.now c.args.left c.passed-size.result c.item_front-item.result c.item_front-item.ensures (sym c.belongs.ensures ∙ c.if-not-belongs.false)
-    (omega (arith, c.size.ensures.size, c.if-size-left.false)) c.requires c.passed-size.ensures.zeros c.passed-size.ensures.size).least
+    (omega (arith, c.size-own.ensures.size, c.if-own-left.false)) c.requires c.passed-size.ensures.zeros c.passed-size.ensures.size).least
 
 pub returns-clause-some : goal.returns-clause-some
 returns-clause-some c =
     (sized c.args.part c.args.front.now c.args.left c.passed-size.result c.item_front-item.result c.item_front-item.ensures (sym c.belongs.ensures ∙ c.if-not-belongs.false)
-    (omega (arith, c.size.ensures.size, c.if-size-left.false)) c.requires c.passed-size.ensures.zeros c.passed-size.ensures.size).some
+    (omega (arith, c.size-own.ensures.size, c.if-own-left.false)) c.requires c.passed-size.ensures.zeros c.passed-size.ensures.size).some
 
 pub returns-clause-within : goal.returns-clause-within
 returns-clause-within c =
     (sized c.args.part c.args.front.now c.args.left c.passed-size.result c.item_front-item.result c.item_front-item.ensures (sym c.belongs.ensures ∙ c.if-not-belongs.false)
-    (omega (arith, c.size.ensures.size, c.if-size-left.false)) c.requires c.passed-size.ensures.zeros c.passed-size.ensures.size).within
+    (omega (arith, c.size-own.ensures.size, c.if-own-left.false)) c.requires c.passed-size.ensures.zeros c.passed-size.ensures.size).within

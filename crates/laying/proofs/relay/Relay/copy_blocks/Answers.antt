@@ -8,7 +8,8 @@ use Rattle.tag_blocks.specs.declared.block.Kind.TheVariants.{Id3v2}
 use Rattle.sync_survey.specs.declared.places.Piece.{Piece}
 use Rattle.sync_survey.specs.Faults.{tells}
 use Rattle.laying.specs.Copying.{chosen_bytes}
-use Rattle.laying.proofs.CopyLaws.{up-to-begun, up-to-more, up-to-prefix, up-to-end, chosen-next, block-at, block-within, cause-behind}
+use Rattle.outside.proofs.PassLaws.{up_to_begun, up_to_more, up_to_prefix, up_to_end, cause_behind}
+use Rattle.laying.proofs.CopyLaws.{chosen-next, block-at, block-within}
 use Rattle.laying.proofs.relay.Relay.copy_blocks.Goals as goal
 
 -- what stands where there is no block
@@ -20,7 +21,7 @@ loop-block-init g c =
     let self = c.args.self.now in
     let all = chosen_bytes c.args.in_front (tells self.survey.now) (tells self.survey.now).blocks in
     record {
-      up_to = up-to-begun self.input.now self.output.now all all c.args.waiting.now (g.D.Folder.files c.args.folder.now) c.requires.ready.target (λ file holds. refl);
+      up_to = up_to_begun self.pass all c.args.waiting.now (g.D.Folder.files c.args.folder.now) c.requires.ready.pass.target;
       ready = c.requires.ready;
       counts = refl;
     }
@@ -43,14 +44,14 @@ returns-in_err-copy_chosen-clause-prefix g c =
     let here : drop k s.blocks ≡ p ∷ drop (k + 1) s.blocks =
     block-at s.blocks k no_block (omega (arith, c.loop-block-test.true, ap length c.blocks-block-items.ensures)) ∙ ap (λ (l : List Piece). slice_index_or l k no_block ∷ drop (k + 1) s.blocks) (sym c.blocks-block-items.ensures) in
     on_err c.from_residual.result
-    (up-to-prefix self.input.now self.output.now c.requires.ready.apart (chosen s.blocks) (chosen (drop k s.blocks)) _ _ _ _ c.loop-block.invariant.up_to
-    (chosen (p ∷ [])) (chosen (drop (k + 1) s.blocks)) (λ file. ap (λ (l : List Piece). chosen l file) here ∙ chosen-next c.args.in_front s p (drop (k + 1) s.blocks) file) _ c.in_err-copy_chosen.ensures.prefix)
+    (up_to_prefix self.pass c.requires.ready.pass.apart c.loop-block.invariant.up_to
+    (chosen (p ∷ [])) (chosen (drop (k + 1) s.blocks)) (λ file holds. ap (λ (l : List Piece). chosen l file) here ∙ chosen-next c.args.in_front s p (drop (k + 1) s.blocks) file) c.in_err-copy_chosen.ensures.prefix)
 
 pub returns-in_err-copy_chosen-clause-cause : goal.returns-in_err-copy_chosen-clause-cause
 returns-in_err-copy_chosen-clause-cause g c =
     let p = err_from_is_err_and c.from_residual.result c.from_residual.ensures.1 in
     rw (p.1, p.2)
-    (cause-behind c.args.self.now.input.now c.args.self.now.output.now _ _ _ _ _ _ c.loop-block.invariant.up_to (tells c.args.self.now.survey.now).length _ _ _ _ c.loop-block.invariant.counts c.in_err-copy_chosen.ensures.cause)
+    (cause_behind c.loop-block.invariant.up_to.written c.args.self.now.pass.length _ _ _ c.loop-block.invariant.counts _ c.in_err-copy_chosen.ensures.cause)
 
 pub loop-block-preserved : goal.loop-block-preserved
 loop-block-preserved g c =
@@ -62,8 +63,8 @@ loop-block-preserved g c =
     let here : drop k s.blocks ≡ p ∷ drop (k + 1) s.blocks =
     block-at s.blocks k no_block (omega (arith, c.loop-block-test.true, ap length c.blocks-block-items.ensures)) ∙ ap (λ (l : List Piece). slice_index_or l k no_block ∷ drop (k + 1) s.blocks) (sym c.blocks-block-items.ensures) in
     record {
-      up_to = up-to-more self.input.now self.output.now c.requires.ready.apart (chosen s.blocks) (chosen (drop k s.blocks)) _ _ _ _ c.loop-block.invariant.up_to
-          (chosen (p ∷ [])) (chosen (drop (k + 1) s.blocks)) (λ file. ap (λ (l : List Piece). chosen l file) here ∙ chosen-next c.args.in_front s p (drop (k + 1) s.blocks) file) _ _ c.in_ok-copy_chosen.ensures.written;
+      up_to = up_to_more self.pass c.requires.ready.pass.apart c.loop-block.invariant.up_to
+          (chosen (p ∷ [])) (chosen (drop (k + 1) s.blocks)) (λ file holds. ap (λ (l : List Piece). chosen l file) here ∙ chosen-next c.args.in_front s p (drop (k + 1) s.blocks) file) c.in_ok-copy_chosen.ensures.written;
       ready = c.in_ok-copy_chosen.ensures.ready;
       counts = c.in_ok-copy_chosen.ensures.done ∙ c.loop-block.invariant.counts;
     }
@@ -75,5 +76,5 @@ returns-clause-written g c =
     let chosen = chosen_bytes c.args.in_front s in
     let k = c.loop-block.block-index in
     let none : drop k s.blocks ≡ [] = drop_all k s.blocks (omega (arith, c.loop-block-test.false, ap length c.blocks-block-items.ensures)) in
-    up-to-end self.input.now self.output.now c.requires.ready.apart (chosen s.blocks) (chosen (drop k s.blocks)) _ _ _ _ c.loop-block.invariant.up_to
-    (λ file. ap (λ (l : List Piece). chosen l file) none)
+    up_to_end self.pass c.requires.ready.pass.apart c.loop-block.invariant.up_to
+    (λ file holds. ap (λ (l : List Piece). chosen l file) none)

@@ -1,15 +1,15 @@
 -- The blocks before went on.
 use Rattle.std.proofs.Common.{◌≡◌, drop}
+use Rattle.outside.proofs.PassLaws.{WritesUpTo}
 use Rattle.sync_survey.specs.Faults.{tells}
 use Rattle.laying.specs.Copying.{chosen_bytes}
 use Rattle.laying.specs.Passing.{IsReady}
-use Rattle.laying.proofs.CopyLaws.{CopiesUpTo}
 use Rattle.laying.proofs.relay.Relay.copy_blocks.Given as goal
 
 abbrev pub invariant-loop-block : goal.invariant-loop-block
 invariant-loop-block g l = record {
-  up_to : CopiesUpTo l.self.input.now l.self.output.now (chosen_bytes l.in_front (tells l.self.survey.now) (tells l.self.survey.now).blocks)
+  up_to : WritesUpTo l.self.pass (chosen_bytes l.in_front (tells l.self.survey.now) (tells l.self.survey.now).blocks)
       (chosen_bytes l.in_front (tells l.self.survey.now) (drop l.block-index (tells l.self.survey.now).blocks)) l.fn.waiting l.waiting (g.D.Folder.files l.fn.folder) (g.D.Folder.files l.folder);
-  ready : IsReady l.self.input.now l.self.output.now (tells l.self.survey.now) (g.D.Folder.files l.folder) l.feed;
+  ready : IsReady l.self (g.D.Folder.files l.folder) l.feed;
   counts : g.D.Folder.counts l.folder ≡ g.D.Folder.counts l.fn.folder;
 }

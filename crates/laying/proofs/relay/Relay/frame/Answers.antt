@@ -12,7 +12,8 @@ use Rattle.sync_survey.specs.MainData.{side_of}
 use Rattle.sync_survey.specs.Faults.{tells}
 use Rattle.part_needs.specs.Needs.{need_of}
 use Rattle.laying.specs.Relaid.{frame_of, moved_to}
-use Rattle.laying.specs.Passing.{IsOver, Lays, LaysPart}
+use Rattle.frame_writer.specs.Writing.{writing}
+use Rattle.laying.specs.Passing.{IsOver, Lays, LaysPart, writing_in}
 use Rattle.laying.proofs.PlannedFrames.{begun_fits}
 use Rattle.laying.proofs.ChosenFrames.{side_fits}
 use Rattle.laying.proofs.ReadLaws.{over-next}
@@ -29,18 +30,18 @@ returns-in_err-read_area-clause-part g c =
     let s = tells self.survey.now in
     let files = g.D.Folder.files in
     let made = λ (file : List ℕ). moved_to c.args.place.now (frame_of file s c.args.i c.args.row.now) ∷ [] in
-    let near : c.args.place.now.begin ≤ c.args.writer.now.held.waiting.free = omega (arith, c.requires.begin) in
+    let near : c.args.place.now.begin ≤ c.args.buffers.now.writer.waiting.free = omega (arith, c.requires.begin) in
     on_err c.from_residual.result
-    (subst (λ f. LaysPart self.input.now self.output.now made (behind s.class (record c.args.row.now.header { slot = c.args.place.now.slot }) c.args.place.now.begin (need_of c.args.row.now).bytes) c.args.writer.now (files c.args.folder.now) f) (sym c.read_area.ensures.files)
-    (part_none self.input.now self.output.now made (behind s.class (record c.args.row.now.header { slot = c.args.place.now.slot }) c.args.place.now.begin (need_of c.args.row.now).bytes) c.args.writer.now (files c.args.folder.now) c.requires.ready.target (λ file holds more begins. near)))
+    (subst (λ f. LaysPart self.pass.input.now self.pass.output.now made (behind s.class (record c.args.row.now.header { slot = c.args.place.now.slot }) c.args.place.now.begin (need_of c.args.row.now).bytes) (writing_in c.args.buffers.now) (files c.args.folder.now) f) (sym c.read_area.ensures.files)
+    (part_none self.pass.input.now self.pass.output.now made (behind s.class (record c.args.row.now.header { slot = c.args.place.now.slot }) c.args.place.now.begin (need_of c.args.row.now).bytes) (writing_in c.args.buffers.now) (files c.args.folder.now) c.requires.ready.pass.target (λ file holds more begins. near)))
 
 pub write_frame-requires-clause-fits : goal.write_frame-requires-clause-fits
 write_frame-requires-clause-fits g c =
     let s = tells c.args.self.now.survey.now in
     let row = c.args.row.now in
-    let class = c.args.writer.now.held.class in
+    let class = c.args.buffers.now.writer.class in
     let well = c.requires.ready.laid.placed c.args.i row c.requires.found in
-    subst (SideFits class) (sym (c.with_begin-side.ensures ∙ ap (λ (t : Side). record t { main_data_begin = c.args.place.now.begin }) c.side_of.ensures))
+    subst (SideFits class) (sym (c.with_begin.ensures ∙ ap (λ (t : Side). record t { main_data_begin = c.args.place.now.begin }) c.side_of.ensures))
     (begun_fits class (side_of row) c.args.place.now.begin (subst (λ d. SideFits d (side_of row)) (sym c.requires.class) (side_fits s.class row.lost row.side well.fits)) (omega (arith, c.requires.begin)))
 
 pub returns-clause-lays : goal.returns-clause-lays
@@ -49,17 +50,17 @@ returns-clause-lays g c =
     let s = tells self.survey.now in
     let files = g.D.Folder.files in
     let over =
-    over-next c.args.window.now c.read_area.new.window self.input.now (files c.read_area.new.folder) s c.args.i c.args.row.now c.requires.found (subst (λ f. IsOver c.args.window.now self.input.now f s c.args.i) (sym c.read_area.ensures.files) c.requires.over) c.in_ok-read_area.ensures.area in
+    over-next c.args.buffers.now.window c.read_area.new.window self.pass.input.now (files c.read_area.new.folder) s c.args.i c.args.row.now c.requires.found (subst (λ f. IsOver c.args.buffers.now.window self.pass.input.now f s c.args.i) (sym c.read_area.ensures.files) c.requires.over) c.in_ok-read_area.ensures.area in
     let made = λ (file : List ℕ). moved_to c.args.place.now (frame_of file s c.args.i c.args.row.now) ∷ [] in
-    let side = c.with_begin-side.ensures ∙ ap (λ (t : Side). record t { main_data_begin = c.args.place.now.begin }) c.side_of.ensures in
-    let told : (file : List ℕ) → Holds (files c.read_area.new.folder) self.input.now file → (record { kept = record { header = c.with_slot-header.result; side = c.with_begin-side.result }; payload = c.as_slice.result.now }) ∷ [] ≡ made file =
+    let side = c.with_begin.ensures ∙ ap (λ (t : Side). record t { main_data_begin = c.args.place.now.begin }) c.side_of.ensures in
+    let told : (file : List ℕ) → Holds (files c.read_area.new.folder) self.pass.input.now file → (record { kept = record { header = c.with_slot.result; side = c.with_begin.result }; payload = c.cut_payload-payload.result }) ∷ [] ≡ made file =
     λ file holds.
-    let payload = c.as_slice.ensures.value ∙ c.cut_payload.ensures.told file over.main over.held over.long (over.is file holds) in
-    let header = c.with_slot-header.ensures in
+    let payload = c.cut_payload-payload.ensures.told file over.main over.held over.long (over.is file holds) in
+    let header = c.with_slot.ensures in
     λ j. (record { kept = record { header = header j; side = side j }; payload = payload j }) ∷ [] in
     ok-map c.write_frame.result
-    (λ on. subst (λ f. Lays self.input.now self.output.now made c.args.writer.now c.write_frame.new.writer f (files c.write_frame.new.folder)) c.read_area.ensures.files
-    (lays_one self.input.now self.output.now made _ c.args.writer.now c.write_frame.new.writer (files c.read_area.new.folder) (files c.write_frame.new.folder) told on))
+    (λ on. subst (λ f. Lays self.pass.input.now self.pass.output.now made (writing_in c.args.buffers.now) (writing c.write_frame.new.writer c.write_frame.new.unsent) f (files c.write_frame.new.folder)) c.read_area.ensures.files
+    (lays_one self.pass.input.now self.pass.output.now made _ (writing_in c.args.buffers.now) (writing c.write_frame.new.writer c.write_frame.new.unsent) (files c.read_area.new.folder) (files c.write_frame.new.folder) told on))
     c.write_frame.ensures.written
 
 pub returns-clause-part : goal.returns-clause-part
@@ -68,31 +69,31 @@ returns-clause-part g c =
     let s = tells self.survey.now in
     let files = g.D.Folder.files in
     let over =
-    over-next c.args.window.now c.read_area.new.window self.input.now (files c.read_area.new.folder) s c.args.i c.args.row.now c.requires.found (subst (λ f. IsOver c.args.window.now self.input.now f s c.args.i) (sym c.read_area.ensures.files) c.requires.over) c.in_ok-read_area.ensures.area in
+    over-next c.args.buffers.now.window c.read_area.new.window self.pass.input.now (files c.read_area.new.folder) s c.args.i c.args.row.now c.requires.found (subst (λ f. IsOver c.args.buffers.now.window self.pass.input.now f s c.args.i) (sym c.read_area.ensures.files) c.requires.over) c.in_ok-read_area.ensures.area in
     let made = λ (file : List ℕ). moved_to c.args.place.now (frame_of file s c.args.i c.args.row.now) ∷ [] in
-    let side = c.with_begin-side.ensures ∙ ap (λ (t : Side). record t { main_data_begin = c.args.place.now.begin }) c.side_of.ensures in
-    let header = c.with_slot-header.ensures in
-    let size : length c.as_slice.result.now ≡ (need_of c.args.row.now).bytes = ap length c.as_slice.ensures.value ∙ c.cut_payload.ensures.size in
-    let begin : c.with_begin-side.result.main_data_begin ≡ c.args.place.now.begin = ap (λ (t : Side). t.main_data_begin) side in
+    let side = c.with_begin.ensures ∙ ap (λ (t : Side). record t { main_data_begin = c.args.place.now.begin }) c.side_of.ensures in
+    let header = c.with_slot.ensures in
+    let size : length c.cut_payload-payload.result ≡ (need_of c.args.row.now).bytes = c.cut_payload-payload.ensures.size in
+    let begin : c.with_begin.result.main_data_begin ≡ c.args.place.now.begin = ap (λ (t : Side). t.main_data_begin) side in
     let class = c.requires.class in
-    let reach : reach_of c.write_frame.new.writer.held ≡ behind s.class (record c.args.row.now.header { slot = c.args.place.now.slot }) c.args.place.now.begin (need_of c.args.row.now).bytes =
+    let reach : reach_of c.write_frame.new.writer ≡ behind s.class (record c.args.row.now.header { slot = c.args.place.now.slot }) c.args.place.now.begin (need_of c.args.row.now).bytes =
     c.write_frame.ensures.reach ∙ (λ j. behind (class j) (header j) (begin j) (size j)) in
-    let told : (file : List ℕ) → Holds (files c.read_area.new.folder) self.input.now file → (record { kept = record { header = c.with_slot-header.result; side = c.with_begin-side.result }; payload = c.as_slice.result.now }) ∷ [] ≡ made file =
+    let told : (file : List ℕ) → Holds (files c.read_area.new.folder) self.pass.input.now file → (record { kept = record { header = c.with_slot.result; side = c.with_begin.result }; payload = c.cut_payload-payload.result }) ∷ [] ≡ made file =
     λ file holds.
-    let payload = c.as_slice.ensures.value ∙ c.cut_payload.ensures.told file over.main over.held over.long (over.is file holds) in
+    let payload = c.cut_payload-payload.ensures.told file over.main over.held over.long (over.is file holds) in
     λ j. (record { kept = record { header = header j; side = side j }; payload = payload j }) ∷ [] in
     err-map c.write_frame.result
-    (λ part. subst (λ f. LaysPart self.input.now self.output.now made (behind s.class (record c.args.row.now.header { slot = c.args.place.now.slot }) c.args.place.now.begin (need_of c.args.row.now).bytes) c.args.writer.now f (files c.write_frame.new.folder)) c.read_area.ensures.files
-    (part_one self.input.now self.output.now made (behind s.class (record c.args.row.now.header { slot = c.args.place.now.slot }) c.args.place.now.begin (need_of c.args.row.now).bytes) _ c.args.writer.now c.write_frame.new.writer.held (files c.read_area.new.folder) (files c.write_frame.new.folder) told (omega (arith, reach)) part))
+    (λ part. subst (λ f. LaysPart self.pass.input.now self.pass.output.now made (behind s.class (record c.args.row.now.header { slot = c.args.place.now.slot }) c.args.place.now.begin (need_of c.args.row.now).bytes) (writing_in c.args.buffers.now) f (files c.write_frame.new.folder)) c.read_area.ensures.files
+    (part_one self.pass.input.now self.pass.output.now made (behind s.class (record c.args.row.now.header { slot = c.args.place.now.slot }) c.args.place.now.begin (need_of c.args.row.now).bytes) _ (writing_in c.args.buffers.now) c.write_frame.new.writer (files c.read_area.new.folder) (files c.write_frame.new.folder) told (omega (arith, reach)) part))
     c.write_frame.ensures.part
 
-pub cut_payload-requires-clause-over : goal.cut_payload-requires-clause-over
-cut_payload-requires-clause-over g c =
+pub cut_payload-payload-requires-clause-over : goal.cut_payload-payload-requires-clause-over
+cut_payload-payload-requires-clause-over g c =
     let self = c.args.self.now in
     let s = tells self.survey.now in
     let files = g.D.Folder.files in
     let over =
-    over-next c.args.window.now c.read_area.new.window self.input.now (files c.read_area.new.folder) s c.args.i c.args.row.now c.requires.found (subst (λ f. IsOver c.args.window.now self.input.now f s c.args.i) (sym c.read_area.ensures.files) c.requires.over) c.in_ok-read_area.ensures.area in
+    over-next c.args.buffers.now.window c.read_area.new.window self.pass.input.now (files c.read_area.new.folder) s c.args.i c.args.row.now c.requires.found (subst (λ f. IsOver c.args.buffers.now.window self.pass.input.now f s c.args.i) (sym c.read_area.ensures.files) c.requires.over) c.in_ok-read_area.ensures.area in
     (over.main, over.held, over.long)
 
 pub returns-clause-over : goal.returns-clause-over
@@ -101,14 +102,14 @@ returns-clause-over g c =
     let s = tells self.survey.now in
     let files = g.D.Folder.files in
     let over =
-    over-next c.args.window.now c.read_area.new.window self.input.now (files c.read_area.new.folder) s c.args.i c.args.row.now c.requires.found (subst (λ f. IsOver c.args.window.now self.input.now f s c.args.i) (sym c.read_area.ensures.files) c.requires.over) c.in_ok-read_area.ensures.area in
+    over-next c.args.buffers.now.window c.read_area.new.window self.pass.input.now (files c.read_area.new.folder) s c.args.i c.args.row.now c.requires.found (subst (λ f. IsOver c.args.buffers.now.window self.pass.input.now f s c.args.i) (sym c.read_area.ensures.files) c.requires.over) c.in_ok-read_area.ensures.area in
     ok-map c.write_frame.result
-    (λ on. over-later c.read_area.new.window self.input.now self.output.now s (c.args.i + 1) _ _ on.passed c.requires.ready.apart on.files over)
+    (λ on. over-later c.read_area.new.window self.pass.input.now self.pass.output.now s (c.args.i + 1) _ _ on.passed c.requires.ready.pass.apart on.files over)
     c.write_frame.ensures.written
 
 pub returns-clause-ready : goal.returns-clause-ready
 returns-clause-ready g c =
     let self = c.args.self.now in
     ok-map c.write_frame.result
-    (λ on. ready-later self.input.now self.output.now (tells self.survey.now) _ _ c.read_area.new.feed on.passed on.files c.in_ok-read_area.ensures.ready)
+    (λ on. ready-later self _ _ c.read_area.new.feed on.passed on.files c.in_ok-read_area.ensures.ready)
     c.write_frame.ensures.written

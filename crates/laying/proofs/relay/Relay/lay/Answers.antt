@@ -1,96 +1,67 @@
 -- What was handed on and what waits are the bytes of the frames.
-use Rattle.std.proofs.Common.{ℕ, List, map, ◌∙◌, ap}
-use Rattle.std.specs.Prelude.{slice_range}
-use Rattle.std.proofs.lemmas.Result.{on_ok_weaker}
-use Rattle.frame_header.specs.Tables.{window_of}
+use Rattle.std.proofs.Common.{◌∙◌, ap, subst}
+use Rattle.std.proofs.lemmas.Result.{on_ok_weaker, on_err_weaker}
 use Rattle.outside.specs.Files.{appended}
+use Rattle.outside.specs.Pass.{Writes, WritesPrefix}
 use Rattle.outside.proofs.PassedLaws.{on_err}
-use Rattle.frame_writer.specs.Frames.{reach_of}
-use Rattle.frame_writer.proofs.WritingLaws.{ok-map, err-map}
-use Rattle.part_needs.specs.Needs.{need_of}
+use Rattle.outside.proofs.PassLaws.{causes_later, prefix_nothing}
+use Rattle.frame_writer.specs.Frames.{reach_of, frame_bytes}
 use Rattle.sync_survey.specs.Faults.{tells}
-use Rattle.laying.specs.Relaid.{all_frames, relaid}
-use Rattle.laying.specs.Fits.{last_reach}
-use Rattle.laying.proofs.PassLaws.{causes_later, ready-later}
-use Rattle.laying.proofs.EndLaws.{prefix-none, lays-end, lays-end_part, part-end, ends-later, prefix-later}
+use Rattle.laying.specs.Passing.{writing_in, section_frames, reach_behind_all}
+use Rattle.laying.proofs.PassLaws.{ready-passed}
+use Rattle.laying.proofs.EndLaws.{new-behind, lays-written, lays-prefix, part-prefix}
 use Rattle.laying.proofs.relay.Relay.lay.Goals as goal
 
 pub returns-in_err-read_before-clause-prefix : goal.returns-in_err-read_before-clause-prefix
 returns-in_err-read_before-clause-prefix g c =
     let self = c.args.self.now in
-    let s = tells self.survey.now in
-    let input = self.input.now in
-    let output = self.output.now in
-    let files = g.D.Folder.files in
-    let old = files c.args.folder.now in
-    let made = λ (file : List ℕ). relaid (slice_range (all_frames file s) c.args.from c.args.to) c.args.placed.now in
-    let same = c.read_before.ensures.files in
-    on_err c.from_residual.result (prefix-later input output made old (files c.read_before.new.folder) (files c.read_before.new.folder) same (prefix-none input output made (files c.read_before.new.folder) c.read_before.ensures.ready.target))
+    on_err c.from_residual.result
+    (prefix_nothing self.pass (λ file. frame_bytes (section_frames (tells self.survey.now) c.args.section.now file)) c.args.buffers.now.waiting _ _ c.read_before.ensures.files c.requires.ready.pass.target)
 
 pub returns-in_err-frames-clause-prefix : goal.returns-in_err-frames-clause-prefix
 returns-in_err-frames-clause-prefix g c =
     let self = c.args.self.now in
-    let s = tells self.survey.now in
-    let input = self.input.now in
-    let output = self.output.now in
+    let section = c.args.section.now in
+    let made = section_frames (tells self.survey.now) section in
+    let b = c.args.buffers.now in
     let files = g.D.Folder.files in
-    let old = files c.args.folder.now in
-    let made = λ (file : List ℕ). relaid (slice_range (all_frames file s) c.args.from c.args.to) c.args.placed.now in
-    let same = c.read_before.ensures.files in
-    let reach = last_reach (window_of s.class.version) (reach_of c.args.writer.now.held) (map need_of (slice_range s.frames c.args.from c.args.to)) c.args.placed.now in
     on_err c.from_residual-in_err-frames.result
-    (prefix-later input output made old (files c.read_before.new.folder) (files c.frames.new.folder) same
-    (part-end input output made reach c.args.writer.now (files c.read_before.new.folder) (files c.frames.new.folder) c.requires.written c.in_err-frames.ensures.part))
+    (subst (λ f. WritesPrefix self.pass (λ file. frame_bytes (made file)) b.waiting f (files c.frames.new.folder)) c.read_before.ensures.files
+    (part-prefix self.pass made b.waiting (writing_in b) (files c.read_before.new.folder) (new-behind b.writer b.waiting c.requires.new)
+    (reach_behind_all (reach_of b.writer) self section.from section.to section.placed.now) (files c.frames.new.folder) c.in_err-frames.ensures.part))
 
 pub returns-clause-written : goal.returns-clause-written
 returns-clause-written g c =
     let self = c.args.self.now in
-    let s = tells self.survey.now in
-    let input = self.input.now in
-    let output = self.output.now in
+    let made = section_frames (tells self.survey.now) c.args.section.now in
+    let b = c.args.buffers.now in
     let files = g.D.Folder.files in
-    let old = files c.args.folder.now in
-    let made = λ (file : List ℕ). relaid (slice_range (all_frames file s) c.args.from c.args.to) c.args.placed.now in
-    let same = c.read_before.ensures.files in
-    ok-map c.finish.result
-    (λ is. ends-later input output made old (files c.read_before.new.folder) (files c.finish.new.folder) same
-    (lays-end input output made c.args.writer.now c.frames.new.writer (files c.read_before.new.folder) (files c.frames.new.folder) c.requires.written c.in_ok-frames.ensures.lays (files c.finish.new.folder) is))
-    c.finish.ensures.appended
+    on_ok_weaker c.finish.result
+    (λ passed. subst (λ f. Writes self.pass (λ file. frame_bytes (made file)) b.waiting c.finish.new.unsent f (files c.finish.new.folder)) c.read_before.ensures.files
+    (lays-written self.pass made b.waiting (writing_in b) (files c.read_before.new.folder) (new-behind b.writer b.waiting c.requires.new)
+    (writing_in c.frames.new.buffers) (files c.frames.new.folder) c.in_ok-frames.ensures.lays c.finish.new.unsent (files c.finish.new.folder) passed))
+    c.finish.ensures.passed
 
 pub returns-clause-prefix : goal.returns-clause-prefix
 returns-clause-prefix g c =
     let self = c.args.self.now in
-    let s = tells self.survey.now in
-    let input = self.input.now in
-    let output = self.output.now in
+    let made = section_frames (tells self.survey.now) c.args.section.now in
+    let b = c.args.buffers.now in
     let files = g.D.Folder.files in
-    let old = files c.args.folder.now in
-    let made = λ (file : List ℕ). relaid (slice_range (all_frames file s) c.args.from c.args.to) c.args.placed.now in
-    let same = c.read_before.ensures.files in
-    err-map c.finish.result
-    (λ part. prefix-later input output made old (files c.read_before.new.folder) (files c.finish.new.folder) same
-    (lays-end_part input output made c.args.writer.now c.frames.new.writer (files c.read_before.new.folder) (files c.frames.new.folder) c.requires.written c.in_ok-frames.ensures.lays (files c.finish.new.folder) part))
+    on_err_weaker c.finish.result
+    (λ part. subst (λ f. WritesPrefix self.pass (λ file. frame_bytes (made file)) b.waiting f (files c.finish.new.folder)) c.read_before.ensures.files
+    (lays-prefix self.pass made b.waiting (writing_in b) (files c.read_before.new.folder) (new-behind b.writer b.waiting c.requires.new)
+    (writing_in c.frames.new.buffers) (files c.frames.new.folder) c.in_ok-frames.ensures.lays (files c.finish.new.folder) part))
     c.finish.ensures.prefix
 
 pub returns-clause-cause : goal.returns-clause-cause
 returns-clause-cause g c =
     let self = c.args.self.now in
-    let s = tells self.survey.now in
-    let input = self.input.now in
-    let output = self.output.now in
     let files = g.D.Folder.files in
-    let old = files c.args.folder.now in
-    let made = λ (file : List ℕ). relaid (slice_range (all_frames file s) c.args.from c.args.to) c.args.placed.now in
-    let same = c.read_before.ensures.files in
     let lays = c.in_ok-frames.ensures.lays in
-    let counts = g.D.Folder.counts in
-    causes_later c.finish.result s.length old (files c.frames.new.folder) output lays.passed (counts c.args.folder.now) (counts c.frames.new.folder) (counts c.finish.new.folder)
-    (lays.files ∙ ap (λ f. appended f output lays.passed) same) (c.in_ok-frames.ensures.done ∙ c.in_ok-read_before.ensures.done) c.finish.ensures.cause
+    causes_later c.finish.result self.pass.length (files c.args.folder.now) (files c.frames.new.folder) self.pass.output.now lays.passed _ _ _
+    (lays.files ∙ ap (λ f. appended f self.pass.output.now lays.passed) c.read_before.ensures.files) (c.in_ok-frames.ensures.done ∙ c.in_ok-read_before.ensures.done) c.finish.ensures.cause
 
 pub returns-clause-ready : goal.returns-clause-ready
 returns-clause-ready g c =
-    let self = c.args.self.now in
-    let s = tells self.survey.now in
-    on_ok_weaker c.finish.result
-    (λ is. ready-later self.input.now self.output.now s _ _ _ _ is c.in_ok-frames.ensures.ready)
-    c.finish.ensures.appended
+    on_ok_weaker c.finish.result (λ passed. ready-passed c.args.self.now passed c.in_ok-frames.ensures.ready) c.finish.ensures.passed

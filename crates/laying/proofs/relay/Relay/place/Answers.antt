@@ -6,7 +6,8 @@ use Rattle.sync_survey.specs.Faults.{tells}
 use Rattle.part_needs.specs.Needs.{need_of}
 use Rattle.laying.specs.Relaid.{frame_of, moved_to, lead_in_before, placed_as}
 use Rattle.laying.specs.Fits.{reach_behind}
-use Rattle.laying.specs.Passing.{LaysPart}
+use Rattle.frame_writer.specs.Writing.{writing}
+use Rattle.laying.specs.Passing.{Lays, LaysPart, writing_in}
 use Rattle.laying.proofs.PassLaws.{ready-later, over-later, lays_one, part_one}
 use Rattle.laying.proofs.RelayLaws.{reach-lead}
 use Rattle.laying.proofs.relay.Relay.place.Goals as goal
@@ -23,10 +24,10 @@ returns-in_err-lead_in-clause-part g c =
     let files = g.D.Folder.files in
     let window = window_of s.class.version in
     let made = λ (file : List ℕ). placed_as p (frame_of file s c.args.i row) ∷ [] in
-    let reach : reach_behind window p (need_of row) ≤ c.lead_in.new.writer.held.waiting.free =
+    let reach : reach_behind window p (need_of row) ≤ c.lead_in.new.writer.waiting.free =
     omega (arith, reach-lead window p (need_of row) c.if-place.true, c.lead_in.ensures.reach, ap (λ class. window_of class.version) c.requires.class) in
     on_err c.from_residual.result
-    (part_one self.input.now self.output.now made (reach_behind window p (need_of row)) (lead_in_before p row.header) c.args.writer.now c.lead_in.new.writer.held (files c.args.folder.now) (files c.lead_in.new.folder)
+    (part_one self.pass.input.now self.pass.output.now made (reach_behind window p (need_of row)) (lead_in_before p row.header) (writing_in c.args.buffers.now) c.lead_in.new.writer (files c.args.folder.now) (files c.lead_in.new.folder)
     (λ file holds. ap (λ b. cond b (lead_in_before p row.header) (moved_to p (frame_of file s c.args.i row)) ∷ []) (sym c.if-place.true)) reach c.in_err-lead_in.ensures.part)
 
 pub returns-in_err-frame-clause-part : goal.returns-in_err-frame-clause-part
@@ -39,8 +40,8 @@ returns-in_err-frame-clause-part g c =
     let files = g.D.Folder.files in
     on_err c.from_residual-in_err-frame.result
     (subst
-    (λ b. LaysPart self.input.now self.output.now (λ file. cond b (lead_in_before p row.header) (moved_to p (frame_of file s c.args.i row)) ∷ [])
-    (min (window_of s.class.version) (p.begin + area_of (class_of row.header) p.slot (cond b false row.header.protected) - cond b 0 need.bytes)) c.args.writer.now (files c.args.folder.now) (files c.frame.new.folder))
+    (λ b. LaysPart self.pass.input.now self.pass.output.now (λ file. cond b (lead_in_before p row.header) (moved_to p (frame_of file s c.args.i row)) ∷ [])
+    (min (window_of s.class.version) (p.begin + area_of (class_of row.header) p.slot (cond b false row.header.protected) - cond b 0 need.bytes)) (writing_in c.args.buffers.now) (files c.args.folder.now) (files c.frame.new.folder))
     (sym c.if-place.false) c.in_err-frame.ensures.part)
 
 pub returns-in_ok-lead_in-clause-lays : goal.returns-in_ok-lead_in-clause-lays
@@ -50,17 +51,29 @@ returns-in_ok-lead_in-clause-lays g c =
     let row = c.args.row.now in
     let p = c.args.place.now in
     let files = g.D.Folder.files in
-    lays_one self.input.now self.output.now (λ file. placed_as p (frame_of file s c.args.i row) ∷ []) (lead_in_before p row.header) c.args.writer.now c.lead_in.new.writer (files c.args.folder.now) (files c.lead_in.new.folder)
+    lays_one self.pass.input.now self.pass.output.now (λ file. placed_as p (frame_of file s c.args.i row) ∷ []) (lead_in_before p row.header) (writing_in c.args.buffers.now) (writing c.lead_in.new.writer c.lead_in.new.unsent) (files c.args.folder.now) (files c.lead_in.new.folder)
     (λ file holds. ap (λ b. cond b (lead_in_before p row.header) (moved_to p (frame_of file s c.args.i row)) ∷ []) (sym c.if-place.true)) c.in_ok-lead_in.ensures.written
 
 pub returns-in_ok-lead_in-clause-over : goal.returns-in_ok-lead_in-clause-over
 returns-in_ok-lead_in-clause-over g c =
     let self = c.args.self.now in
     let on = c.in_ok-lead_in.ensures.written in
-    over-later c.args.window.now self.input.now self.output.now (tells self.survey.now) c.args.i _ _ on.passed c.requires.ready.apart on.files c.requires.over
+    over-later c.args.buffers.now.window self.pass.input.now self.pass.output.now (tells self.survey.now) c.args.i _ _ on.passed c.requires.ready.pass.apart on.files c.requires.over
 
 pub returns-in_ok-lead_in-clause-ready : goal.returns-in_ok-lead_in-clause-ready
 returns-in_ok-lead_in-clause-ready g c =
     let self = c.args.self.now in
     let on = c.in_ok-lead_in.ensures.written in
-    ready-later self.input.now self.output.now (tells self.survey.now) _ _ c.args.feed.now on.passed on.files c.requires.ready
+    ready-later self _ _ c.args.buffers.now.feed on.passed on.files c.requires.ready
+
+pub returns-in_ok-frame-clause-lays : goal.returns-in_ok-frame-clause-lays
+returns-in_ok-frame-clause-lays g c =
+    let self = c.args.self.now in
+    let s = tells self.survey.now in
+    let row = c.args.row.now in
+    let p = c.args.place.now in
+    let files = g.D.Folder.files in
+    subst
+    (λ b. Lays self.pass.input.now self.pass.output.now (λ file. cond b (lead_in_before p row.header) (moved_to p (frame_of file s c.args.i row)) ∷ []) (writing_in c.args.buffers.now) (writing_in c.frame.new.buffers)
+    (files c.args.folder.now) (files c.frame.new.folder))
+    (sym c.if-place.false) c.in_ok-frame.ensures.lays

@@ -1,5 +1,5 @@
 -- One area more is read, up to frame i; then the last 2,048 bytes are there, or all.
-use Rattle.std.proofs.Common.{◌≡◌, ◌+◌, List, length, Option, sym, ◌∙◌, ap, subst, arith}
+use Rattle.std.proofs.Common.{◌≡◌, List, length, Option, sym, ◌∙◌, ap, subst, arith}
 use Rattle.std.specs.Prelude.{slice_get, Some}
 use Rattle.std.proofs.lemmas.Option.{slice_get-get_or}
 use Rattle.sync_survey.specs.declared.rows.Row.{Row}
@@ -25,8 +25,8 @@ loop-at-preserved g c =
     ∙ ap some (sym c.index-rows-at.is) in
     record {
       early = omega (arith, c.loop-at-test.true);
-      over = last-next c.loop-at.window c.read_area.new.window self.input.now (files c.read_area.new.folder) s first at row found
-          (subst (λ f. IsOverLast c.loop-at.window self.input.now f s first at) (sym c.read_area.ensures.files) c.loop-at.invariant.over) c.in_ok-read_area.ensures.area;
+      over = last-next c.loop-at.window c.read_area.new.window self.pass.input.now (files c.read_area.new.folder) s first at row found
+          (subst (λ f. IsOverLast c.loop-at.window self.pass.input.now f s first at) (sym c.read_area.ensures.files) c.loop-at.invariant.over) c.in_ok-read_area.ensures.area;
       ready = c.read_area.ensures.ready;
       files = c.read_area.ensures.files ∙ c.loop-at.invariant.files;
       counts = c.in_ok-read_area.ensures.done ∙ c.loop-at.invariant.counts;
@@ -37,5 +37,5 @@ returns-clause-over g c =
     let self = c.args.self.now in
     let s = tells self.survey.now in
     let files = g.D.Folder.files in
-    last-whole c.loop-at.window self.input.now (files c.loop-at.folder) s c.first_held-first.result c.args.i c.loop-at.invariant.ready.source c.first_held-first.ensures.held
-    (subst (IsOverLast c.loop-at.window self.input.now (files c.loop-at.folder) s c.first_held-first.result) (omega (arith, c.loop-at-test.false, c.loop-at.invariant.early)) c.loop-at.invariant.over)
+    last-whole c.loop-at.window self.pass.input.now (files c.loop-at.folder) s c.first_held-first.result c.args.i c.loop-at.invariant.ready.pass.source c.first_held-first.ensures.held
+    (subst (IsOverLast c.loop-at.window self.pass.input.now (files c.loop-at.folder) s c.first_held-first.result) (omega (arith, c.loop-at-test.false, c.loop-at.invariant.early)) c.loop-at.invariant.over)

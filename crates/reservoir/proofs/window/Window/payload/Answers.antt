@@ -1,23 +1,29 @@
--- The bits of the main data, with the low bits behind them cleared.
-use Rattle.std.proofs.Common.{◌≡◌, ◌+◌, ◌-◌, ◌*◌, ◌/◌, ◌++◌, take, drop, length, subst, ap, ap₂, ◌∙◌, arith}
-use Rattle.bit_fields.specs.Bits.{bits, bits_of}
-use Rattle.side_info.proofs.SideLaws.{div_ceil-eight}
-use Rattle.reservoir.proofs.WindowLaws.{packed_in}
+-- Whole bytes of the main data, and the bits behind them.
+use Rattle.std.proofs.Common.{◌≡◌, ◌+◌, ◌-◌, ◌/◌, ◌%◌, ◌++◌, ℕ, List, take, drop, length, sym, subst, ap, ap₂, ◌∙◌, arith, append_assoc}
+use Rattle.bit_fields.specs.Bits.{AreBytes}
+use Rattle.bit_fields.proofs.BitsLaws.{AreBytes-append}
+use Rattle.reservoir.specs.Window.{ArePacked, main_bits, byte_of}
+use Rattle.reservoir.proofs.WindowLaws.{packed}
 use Rattle.reservoir.proofs.window.Window.payload.Goals as goal
 
-pub returns : goal.returns
-returns c = record {
-  payload = λ main over.
-      let held = c.args.self.now in
-      let reach = c.args.area + c.args.begin in
-      let n = c.args.bits in
-      let m = c.div_ceil-count.result in
-      let bytes = c.append_part.new.into.items in
-      let few : m ≡ (n + 7) / 8 = c.div_ceil-count.ensures ∙ div_ceil-eight n in
-      let same : bytes ≡ take m (drop (length held - reach) held) =
-      c.append_part.ensures
-      ∙ ap₂ (λ xs ys. xs ++ take m (drop (c.len.result - reach) ys)) c.clear.ensures (c.as_slices.ensures ∙ c.self.view_is)
-      ∙ ap (λ k. take m (drop (k - reach) held)) (c.len.ensures.len ∙ ap length c.self.view_is) in
-      packed_in held main bytes c.put.new.bytes n m reach (length main - c.args.area - c.args.begin) over c.requires.held (omega arith) few (omega (arith, few, c.requires.within)) same
-      (subst (λ old. bits c.put.new.bytes ≡ (take n (bits old) ++ bits_of (8 * m - n) 0) ++ drop (n + (8 * m - n)) (bits old)) c.as_mut_slice.ensures.value c.put.ensures);
-}
+pub returns-clause-payload : goal.returns-clause-payload
+returns-clause-payload c = λ main over.
+    let held = c.args.self.now in
+    let reach = c.args.area + c.args.begin in
+    let n = c.args.bits in
+    let parts = c.part.result in
+    let last = byte_of c.last_byte-last.result in
+    let from : c.len.result - reach ≡ length held - reach = ap (λ k. k - reach) (c.len.ensures.len ∙ ap length c.self.view_is) in
+    let same : parts.0.now ++ parts.1.now ≡ take (n / 8) (drop (length held - reach) held) =
+    c.part.ensures.part ∙ ap₂ (λ k (xs : List ℕ). take (n / 8) (drop k xs)) from (c.as_slices.ensures ∙ c.self.view_is) in
+    let done : ArePacked ((parts.0.now ++ parts.1.now) ++ last) n (main_bits main (length main - reach) n) =
+    packed held main (parts.0.now ++ parts.1.now) last reach (n / 8) (n % 8) n over c.requires.held (omega arith) c.requires.within same
+    (subst (λ k. ArePacked last (n % 8) (main_bits held (k + n / 8) (n % 8))) from c.last_byte-last.ensures.packed) in
+    subst (λ k. ArePacked c.new.result n (main_bits main k n)) (omega arith)
+    (subst (λ (xs : List ℕ). ArePacked xs n (main_bits main (length main - reach) n)) (append_assoc parts.0.now parts.1.now last ∙ sym c.new.ensures) done)
+
+pub returns-clause-bytes : goal.returns-clause-bytes
+returns-clause-bytes c =
+    let parts = c.part.result in
+    subst AreBytes (sym c.new.ensures)
+    (AreBytes-append parts.0.now _ c.part.ensures.bytes.0 (AreBytes-append parts.1.now _ c.part.ensures.bytes.1 c.last_byte-last.ensures.bytes))

@@ -1,0 +1,76 @@
+-- There is room, and what is pushed keeps what the queues hold together.
+use Rattle.std.proofs.Common.{◌≡◌, ◌+◌, List, [], ◌∷◌, ◌++◌, length, sym, subst, ap, ◌∙◌, arith, length-append}
+use Rattle.circular_buffer.specs.Buffer.{buffer, keep_last}
+use Rattle.frame_header.specs.Fields.{IsHeader}
+use Rattle.frame_header.specs.Tables.{class_of}
+use Rattle.side_info.specs.Side.{SideFits}
+use Rattle.frame_writer.specs.declared.frames.Kept.{Kept}
+use Rattle.frame_writer.specs.Laid.{AreLaid}
+use Rattle.frame_writer.specs.Frames.{Held, Frame, area_in, areas_in, AreOf, IsNextSettled, AreWritten}
+use Rattle.frame_writer.specs.Laws.{HaveRoom}
+use Rattle.frame_writer.proofs.FrameLaws.{few-wait, pushed-kept, areas_in-pushed, AreOf-more, more-written}
+use Rattle.frame_writer.proofs.writer.Writer.push.Goals as goal
+
+pub push-requires-clause-room : goal.push-requires-clause-room
+push-requires-clause-room c =
+    let held : Held = record { class = c.self.inside.class; kept = c.self.inside.kept.items; waiting = c.self.inside.areas } in
+    let room : HaveRoom held =
+    few-wait held c.self.invariant.3 c.self.invariant.2 (subst (λ (h : Held). IsNextSettled h → ⊥) (sym c.self.view_is) c.requires.unsettled) in
+    omega (arith, room.room, c.area.ensures.most)
+
+pub invariant_of-self : goal.invariant_of-self
+invariant_of-self c =
+    let held : Held = record { class = c.self.inside.class; kept = c.self.inside.kept.items; waiting = c.self.inside.areas } in
+    let room : HaveRoom held =
+    few-wait held c.self.invariant.3 c.self.invariant.2 (subst (λ (h : Held). IsNextSettled h → ⊥) (sym c.self.view_is) c.requires.unsettled) in
+    let k : Kept = c.args.frame.now.kept in
+    let queue = c.self.inside.kept in
+    let push_is : c.push_back.new.self ≡ buffer (keep_last queue.capacity (queue.items ++ k ∷ [])) queue.capacity =
+    c.push_back.ensures.items
+    ∙ ap (λ (f : Frame). buffer (keep_last queue.capacity (queue.items ++ f.kept ∷ [])) queue.capacity) c.frame.view_is in
+    let pushed = pushed-kept queue c.push_back.new.self k c.self.invariant.0 room.few push_is in
+    let class : class_of c.args.frame.now.kept.header ≡ c.self.inside.class = c.requires.class ∙ sym (ap (λ (h : Held). h.class) c.self.view_is) in
+    let fits : SideFits c.self.inside.class c.args.frame.now.kept.side = subst (λ (h : Held). SideFits h.class c.args.frame.now.kept.side) (sym c.self.view_is) c.requires.fits in
+    let is : IsHeader c.args.frame.now.kept.header =
+    subst (λ (f : Frame). IsHeader f.kept.header) c.frame.view_is (subst IsHeader c.header.view_is c.header.invariant) in
+    let bytes = c.self.inside.areas.bytes in
+    let long : length c.push.new.self.bytes ≡ length bytes + area_in k = c.push.ensures.long ∙ ap (λ n. length bytes + n) (c.area.ensures.area ∙ ap (λ (f : Frame). area_in f.kept) c.frame.view_is) in (
+      pushed.0,
+      omega (arith, ap length pushed.1, length-append queue.items (k ∷ []), room.few),
+      ap (λ (ks : List Kept). areas_in ks) pushed.1
+          ∙ areas_in-pushed queue.items k bytes c.push.new.self.bytes c.self.invariant.2 long,
+      subst (AreOf c.self.inside.class) (sym pushed.1) (AreOf-more c.self.inside.class queue.items k c.self.invariant.3 is class fits),
+    )
+
+pub returns-clause-kept : goal.returns-clause-kept
+returns-clause-kept c =
+    let held : Held = record { class = c.self.inside.class; kept = c.self.inside.kept.items; waiting = c.self.inside.areas } in
+    let room : HaveRoom held =
+    few-wait held c.self.invariant.3 c.self.invariant.2 (subst (λ (h : Held). IsNextSettled h → ⊥) (sym c.self.view_is) c.requires.unsettled) in
+    let queue = c.self.inside.kept in
+    let pushed : c.push_back.new.self ≡ buffer (keep_last queue.capacity (queue.items ++ c.args.frame.now.kept ∷ [])) queue.capacity =
+    c.push_back.ensures.items
+    ∙ ap (λ (f : Frame). buffer (keep_last queue.capacity (queue.items ++ f.kept ∷ [])) queue.capacity) c.frame.view_is in
+    (pushed-kept queue c.push_back.new.self (c.args.frame.now.kept) c.self.invariant.0 room.few pushed).1
+    ∙ ap (λ (h : Held). h.kept ++ c.args.frame.now.kept ∷ []) c.self.view_is
+
+pub returns-clause-written : goal.returns-clause-written
+returns-clause-written c = λ taken fs are.
+    let held : Held = record { class = c.self.inside.class; kept = c.self.inside.kept.items; waiting = c.self.inside.areas } in
+    let room : HaveRoom held =
+    few-wait held c.self.invariant.3 c.self.invariant.2 (subst (λ (h : Held). IsNextSettled h → ⊥) (sym c.self.view_is) c.requires.unsettled) in
+    let k : Kept = c.args.frame.now.kept in
+    let queue = c.self.inside.kept in
+    let push_is : c.push_back.new.self ≡ buffer (keep_last queue.capacity (queue.items ++ k ∷ [])) queue.capacity =
+    c.push_back.ensures.items
+    ∙ ap (λ (f : Frame). buffer (keep_last queue.capacity (queue.items ++ f.kept ∷ [])) queue.capacity) c.frame.view_is in
+    let pushed = pushed-kept queue c.push_back.new.self k c.self.invariant.0 room.few push_is in
+    let f : Frame = record { kept = c.frame.inside.kept; payload = c.frame.inside.payload } in
+    subst (λ (ks : List Kept). AreWritten taken (record { class = c.self.inside.class; kept = ks; waiting = c.push.new.self }) (fs ++ c.args.frame.now ∷ [])) (sym pushed.1)
+    (subst (λ (f : Frame). AreWritten taken (record { class = c.self.inside.class; kept = queue.items ++ f.kept ∷ []; waiting = c.push.new.self }) (fs ++ f ∷ [])) c.frame.view_is
+    (more-written taken c.self.inside.class queue.items c.self.inside.areas c.push.new.self fs f
+    (λ given ps laid.
+    subst (λ n. AreLaid given c.push.new.self (ps ++ record { payload = f.payload; begin = n; area = area_in f.kept } ∷ [])) c.from.ensures
+    (subst (λ n. AreLaid given c.push.new.self (ps ++ record { payload = f.payload; begin = c.from.result; area = n } ∷ [])) c.area.ensures.area
+    (c.push.ensures.laid given ps laid)))
+    (subst (λ h. AreWritten taken h fs) (sym c.self.view_is) are)))

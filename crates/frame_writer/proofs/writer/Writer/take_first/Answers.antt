@@ -1,0 +1,51 @@
+-- The front of the first frame that waits, and behind it the first bytes of the areas.
+use Rattle.std.proofs.Common.{◌≡◌, ◌<◌, ℕ, List, ◌∷◌, ◌++◌, length, take, drop, sym, subst, ap, ◌∙◌, arith}
+use Rattle.circular_buffer.specs.Buffer.{Buffer}
+use Rattle.frame_writer.specs.declared.frames.Kept.{Kept}
+use Rattle.frame_writer.specs.Laid.{Piece, AreLaid}
+use Rattle.frame_writer.specs.Frames.{area_in, areas_in, Held, first_bytes, framed, held_bytes}
+use Rattle.frame_writer.proofs.FrameLaws.{first-kept, first-framed}
+use Rattle.frame_writer.proofs.WritingLaws.{err-map, prefix-piece, first-handed, first-part}
+use Rattle.frame_writer.proofs.writer.Writer.take_first.Goals as goal
+
+pub returns-clause-moved : goal.returns-clause-moved
+returns-clause-moved g c =
+    let k = c.unwrap-first.result in
+    let items = c.self.inside.kept.items in
+    let bytes = c.self.inside.areas.bytes in
+    let some : 0 < length items = subst (λ (h : Held). 0 < length h.kept) (sym c.self.view_is) c.requires.some in
+    let ks : items ≡ k ∷ drop 1 items = first-kept items k some (sym c.pop_front.ensures.value ∙ c.unwrap-first.ensures) in
+    let all : areas_in (k ∷ drop 1 items) ≡ length bytes = ap (λ (js : List Kept). areas_in js) (sym ks) ∙ c.self.invariant.2 in
+    first-handed c.args.self.now c.self.inside.class k items c.pop_front.new.self.items c.self.inside.areas c.drop_first.new.self c.self.view_is ks
+    (ap (λ (b : Buffer Kept). b.items) c.pop_front.ensures.items)
+    (c.drop_first.ensures.left ∙ ap (λ n. drop n bytes) c.area.ensures.area)
+    (subst (λ n. (given : List ℕ) (ps : List Piece) → AreLaid given c.self.inside.areas ps → AreLaid (given ++ take n bytes) c.drop_first.new.self ps) c.area.ensures.area c.drop_first.ensures.laid)
+    (omega (arith, all))
+
+pub returns-clause-part : goal.returns-clause-part
+returns-clause-part g c =
+    let k = c.unwrap-first.result in
+    let items = c.self.inside.kept.items in
+    let bytes = c.self.inside.areas.bytes in
+    let some : 0 < length items = subst (λ (h : Held). 0 < length h.kept) (sym c.self.view_is) c.requires.some in
+    let ks : items ≡ k ∷ drop 1 items = first-kept items k some (sym c.pop_front.ensures.value ∙ c.unwrap-first.ensures) in
+    let all : areas_in (k ∷ drop 1 items) ≡ length bytes = ap (λ (js : List Kept). areas_in js) (sym ks) ∙ c.self.invariant.2 in
+    err-map c.add_frame-added.result
+    (first-part c.args.name.now c.args.unsent.now c.args.self.now c.self.inside.class k items c.pop_front.new.self.items c.self.inside.areas c.drop_first.new.self _ _ c.self.view_is ks
+    (ap (λ (b : Buffer Kept). b.items) c.pop_front.ensures.items)
+    (c.drop_first.ensures.left ∙ ap (λ n. drop n bytes) c.area.ensures.area)
+    (subst (λ n. (given : List ℕ) (ps : List Piece) → AreLaid given c.self.inside.areas ps → AreLaid (given ++ take n bytes) c.drop_first.new.self ps) c.area.ensures.area c.drop_first.ensures.laid)
+    (omega (arith, all)))
+    c.add_frame-added.ensures.prefix
+
+pub returns-clause-prefix : goal.returns-clause-prefix
+returns-clause-prefix g c =
+    let k = c.unwrap-first.result in
+    let items = c.self.inside.kept.items in
+    let bytes = c.self.inside.areas.bytes in
+    let some : 0 < length items = subst (λ (h : Held). 0 < length h.kept) (sym c.self.view_is) c.requires.some in
+    let ks : items ≡ k ∷ drop 1 items = first-kept items k some (sym c.pop_front.ensures.value ∙ c.unwrap-first.ensures) in
+    err-map c.add_frame-added.result
+    (prefix-piece c.args.name.now c.args.unsent.now (first_bytes k bytes) _ (framed (drop 1 items) (drop (area_in k) bytes)) _ _
+    (first-framed k (drop 1 items) bytes ∙ ap (λ (js : List Kept). framed js bytes) (sym ks) ∙ ap held_bytes c.self.view_is))
+    c.add_frame-added.ensures.prefix

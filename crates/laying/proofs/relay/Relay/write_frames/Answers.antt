@@ -1,0 +1,32 @@
+-- What stands in front, and the frames behind it.
+use Rattle.std.proofs.Common.{refl}
+use Rattle.std.proofs.lemmas.Result.{on_ok_weaker, on_err_weaker}
+use Rattle.outside.proofs.PassedLaws.{on_err}
+use Rattle.outside.proofs.PassLaws.{prefix_as, writes_then, prefix_then, causes_behind}
+use Rattle.frame_writer.specs.Frames.{frame_bytes}
+use Rattle.sync_survey.specs.Faults.{tells}
+use Rattle.laying.specs.Passing.{section_frames, section_front}
+use Rattle.laying.proofs.relay.Relay.write_frames.Goals as goal
+
+pub returns-in_err-write_front-clause-prefix : goal.returns-in_err-write_front-clause-prefix
+returns-in_err-write_front-clause-prefix g c =
+    let s = tells c.args.self.now.survey.now in
+    let section = c.args.section.now in
+    on_err c.from_residual.result
+    (prefix_as c.args.self.now.pass (section_front s section) (λ file. frame_bytes (section_frames s section file)) (λ file holds. refl) c.in_err-write_front.ensures.prefix)
+
+pub returns-clause-written : goal.returns-clause-written
+returns-clause-written g c =
+    on_ok_weaker c.lay.result
+    (λ written. writes_then c.args.self.now.pass c.requires.ready.pass.apart c.in_ok-write_front.ensures.written written)
+    c.lay.ensures.written
+
+pub returns-clause-prefix : goal.returns-clause-prefix
+returns-clause-prefix g c =
+    on_err_weaker c.lay.result
+    (λ part. prefix_then c.args.self.now.pass c.requires.ready.pass.apart c.in_ok-write_front.ensures.written part)
+    c.lay.ensures.prefix
+
+pub returns-clause-cause : goal.returns-clause-cause
+returns-clause-cause g c =
+    causes_behind c.in_ok-write_front.ensures.written c.args.self.now.pass.length _ _ _ c.in_ok-write_front.ensures.done c.lay.result c.lay.ensures.cause

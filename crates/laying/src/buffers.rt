@@ -1,0 +1,36 @@
+//! All memory of a pass that lays frames anew.
+ghost use Rattle.std.specs.Prelude.{IfOk};
+ghost use Rattle.laying.specs.Passing.{IsFresh};
+
+use frame_header::Class;
+use frame_writer::Writer;
+use outside::{Feed, WriteBuffer};
+use reservoir::Window;
+use std::alloc::{AllocError, Global};
+
+/// All memory of a pass that lays frames anew: the bytes of the input that are read, the main data in reach, the frames
+/// that wait, and the bytes in front of the output. It is taken before the first output is created, and serves for all.
+#[derive(Drop)]
+pub struct Buffers {
+    pub feed: Feed,
+    pub window: Window,
+    pub writer: Writer,
+    pub waiting: WriteBuffer,
+}
+
+impl Buffers {
+    /// Buffers that hold nothing, for frames of this class.
+    ///
+    /// # Errors
+    /// Where there is no memory.
+    pub fn new(alloc: Global, class: Class) -> Result<Buffers, AllocError>
+        ensures { IfOk result (IsFresh class) }
+    {
+        Ok(Buffers {
+            feed: Feed::new(alloc)?,
+            window: Window::new(alloc)?,
+            writer: Writer::new(alloc, class)?,
+            waiting: WriteBuffer::new(alloc)?,
+        })
+    }
+}

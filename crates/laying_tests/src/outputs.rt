@@ -1,0 +1,37 @@
+//! What a test puts into a folder, and what stands in a file afterwards.
+//!
+//! A test owns its folder and ends in one place, and all else borrows it: at each end of the owner the folder is let go, which
+//! costs the check much.
+
+use outside::MemFolder;
+use std::alloc::{AllocError, AllocGlobal, Global};
+use std::process::Abort;
+use test_files::files::{Stretch, bytes_of};
+
+/// Puts these stretches as `a`, and room for so many bytes of `b`.
+pub fn put_input(
+    alloc: Global,
+    folder: &mut MemFolder,
+    input: &[Stretch],
+    room: u64,
+) -> Result<(), AllocError> {
+    let file = bytes_of(alloc, input)?;
+    folder.put("a", &file)?;
+    folder.put("b", &[])?;
+    folder.reserve("b", room)
+}
+
+fn expect_file(rt: &impl Abort, folder: &MemFolder, wanted: &[u8]) {
+    assert_eq!(rt; folder.get("b"), Some(wanted));
+}
+
+/// Asserts that `b` has these stretches.
+pub fn expect_output<R: Abort + AllocGlobal>(
+    rt: &R,
+    folder: &MemFolder,
+    output: &[Stretch],
+) -> Result<(), AllocError> {
+    let wanted = bytes_of(rt.alloc(), output)?;
+    expect_file(rt, folder, &wanted);
+    Ok(())
+}

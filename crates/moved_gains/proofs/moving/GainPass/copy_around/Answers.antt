@@ -1,0 +1,64 @@
+-- The bytes before the tag, the new tag, and the bytes behind it.
+use Rattle.std.proofs.Common.{◌++◌, List, ℕ, refl}
+use Rattle.std.proofs.lemmas.Result.{err_from_is_err_and, on_ok_weaker, on_err_weaker}
+use Rattle.outside.specs.Pass.{bytes_between}
+use Rattle.outside.proofs.PassedLaws.{on_err}
+use Rattle.outside.proofs.PassLaws.{passed_ready, writes_piece, prefix_piece, prefix_as, writes_then, prefix_then, cause_behind, causes_behind}
+use Rattle.moved_gains.specs.declared.moving.NewTag.{NewTag}
+use Rattle.moved_gains.specs.Moving.{bytes_around}
+use Rattle.moved_gains.proofs.moving.GainPass.copy_around.Goals as goal
+
+-- the new tag, and what stands behind what it replaces
+abbrev rest : NewTag → ℕ → List ℕ → List ℕ
+rest tag to file = tag.bytes.now ++ bytes_between file tag.end to
+
+pub returns-in_err-copy-clause-prefix : goal.returns-in_err-copy-clause-prefix
+returns-in_err-copy-clause-prefix g c =
+    let tag = c.args.tag.now in
+    on_err c.from_residual.result
+    (prefix_as c.args.self.now.pass (bytes_around tag c.args.from c.args.to) (rest tag c.args.to) (λ file holds. refl) c.in_err-copy.ensures.prefix)
+
+pub returns-in_err-push-clause-prefix : goal.returns-in_err-push-clause-prefix
+returns-in_err-push-clause-prefix g c =
+    let pass = c.args.self.now.pass in
+    let tag = c.args.tag.now in
+    on_err c.from_residual-in_err-push.result
+    (prefix_then pass c.requires.ready.apart c.in_ok-copy.ensures.written
+    (prefix_as pass (rest tag c.args.to) (λ file. bytes_between file tag.end c.args.to) (λ file holds. refl)
+    (prefix_piece pass (λ file. tag.bytes.now) (λ file holds. refl) c.in_err-push.ensures.prefix)))
+
+pub returns-in_err-push-clause-cause : goal.returns-in_err-push-clause-cause
+returns-in_err-push-clause-cause g c =
+    let p = err_from_is_err_and c.from_residual-in_err-push.result c.from_residual-in_err-push.ensures.1 in
+    rw (p.1, p.2) (cause_behind c.in_ok-copy.ensures.written c.args.self.now.pass.length _ _ _ c.in_ok-copy.ensures.done _ c.in_err-push.ensures.cause)
+
+pub copy-requires-2-clause-ready : goal.copy-requires-2-clause-ready
+copy-requires-2-clause-ready g c = passed_ready c.args.self.now.pass c.in_ok-push.ensures.passed c.in_ok-copy.ensures.ready
+
+pub returns-clause-written : goal.returns-clause-written
+returns-clause-written g c =
+    let pass = c.args.self.now.pass in
+    let tag = c.args.tag.now in
+    let apart = c.requires.ready.apart in
+    let second = writes_piece pass (λ file. tag.bytes.now) (λ file holds. refl) c.in_ok-push.ensures.passed in
+    on_ok_weaker c.copy-2.result
+    (λ third. writes_then pass apart c.in_ok-copy.ensures.written (writes_then pass apart second third))
+    c.copy-2.ensures.written
+
+pub returns-clause-prefix : goal.returns-clause-prefix
+returns-clause-prefix g c =
+    let pass = c.args.self.now.pass in
+    let tag = c.args.tag.now in
+    let apart = c.requires.ready.apart in
+    let second = writes_piece pass (λ file. tag.bytes.now) (λ file holds. refl) c.in_ok-push.ensures.passed in
+    on_err_weaker c.copy-2.result
+    (λ third. prefix_then pass apart c.in_ok-copy.ensures.written (prefix_then pass apart second third))
+    c.copy-2.ensures.prefix
+
+pub returns-clause-cause : goal.returns-clause-cause
+returns-clause-cause g c =
+    let pass = c.args.self.now.pass in
+    let tag = c.args.tag.now in
+    let second = writes_piece pass (λ file. tag.bytes.now) (λ file holds. refl) c.in_ok-push.ensures.passed in
+    causes_behind c.in_ok-copy.ensures.written pass.length _ _ _ c.in_ok-copy.ensures.done c.copy-2.result
+    (causes_behind second pass.length _ _ _ c.in_ok-push.ensures.done c.copy-2.result c.copy-2.ensures.cause)

@@ -1,0 +1,306 @@
+-- Steps of a pass, one behind the other.
+use Rattle.std.proofs.Common.{◌≡◌, ◌≢◌, ℕ, ◌+◌, ◌-◌, ◌≤◌, List, [], ◌++◌, length, take, drop, refl, sym, ◌∙◌, ap, subst, arith, append_assoc, append-nil, length-append, length-drop}
+use Rattle.std.specs.Prelude.{Result, Ok, Err, Some, None, IfErr}
+use Rattle.std.proofs.lemmas.List.{take_all, take-append-le, length-take, drop-drop}
+use Rattle.std.proofs.Math.Seq.{take-append-add, take-add}
+use Rattle.outside.specs.Files.{Files, appended, Holds, IsThere}
+use Rattle.outside.specs.Counts.{Counts}
+use Rattle.outside.specs.Feed.{Fed}
+use Rattle.outside.specs.Passed.{PassedOn, AppendedPrefix}
+use Rattle.outside.specs.declared.pass.Pass.{Pass}
+use Rattle.outside.specs.declared.pass.PassFault.{PassFault}
+use Rattle.outside.specs.declared.pass.PassFault.TheVariants.{Read, Shrunk, Write}
+use Rattle.outside.specs.Pass.{IsReady, AreMade, bytes_between, Writes, AppendsPart, WritesPrefix, Appends, AppendsPrefix, HasPassCause}
+use Rattle.outside.proofs.FilesLaws.{appended_twice, appended_nothing, appended_holds_other, appended_held_other, appended_keeps, there_holds}
+use Rattle.outside.proofs.PassedLaws.{passed_more}
+
+-- The first of the bytes went on, and the rest of them are to follow.
+pub record WritesUpTo (pass : Pass) (whole rest : List ℕ → List ℕ) (before after : List ℕ) (old new : Files) : Type 0 where
+  pub made : List ℕ → List ℕ
+  pub written : Writes pass made before after old new
+  pub left : (file : List ℕ) → Holds old pass.input.now file → whole file ≡ made file ++ rest file
+
+-- ---- files, where the output got more bytes
+
+-- the input stays
+pub input_holds : (old new : Files) (input output more file : List ℕ) → input ≢ output → new ≡ appended old output more → Holds old input file → Holds new input file
+input_holds old new input output more file apart is holds = subst (λ f. Holds f input file) (sym is) (appended_holds_other old output more input file apart holds)
+
+-- and it was so before
+pub input_held : (old new : Files) (input output more file : List ℕ) → input ≢ output → new ≡ appended old output more → Holds new input file → Holds old input file
+input_held old new input output more file apart is holds = appended_held_other old output more input file apart (subst (λ f. Holds f input file) is holds)
+
+-- no name goes
+pub still_there : (old new : Files) (output more name : List ℕ) → new ≡ appended old output more → IsThere old name → IsThere new name
+still_there old new output more name is there = subst (λ f. IsThere f name) (sym is) (appended_keeps old output more name there)
+
+-- all is ready for the next step
+pub ready_later : (pass : Pass) (old new : Files) (fed : Fed) (more : List ℕ) → new ≡ appended old pass.output.now more → IsReady pass old fed → IsReady pass new fed
+ready_later pass old new fed more is ready =
+    let held : (file : List ℕ) → Holds new pass.input.now file → Holds old pass.input.now file = λ file holds. input_held old new pass.input.now pass.output.now more file ready.apart is holds in
+    record {
+      apart = ready.apart;
+      source = still_there old new pass.output.now more pass.input.now is ready.source;
+      target = still_there old new pass.output.now more pass.output.now is ready.target;
+      length_is = λ file holds. ready.length_is file (held file holds);
+      few = ready.few;
+      fed_from = record { same = λ file holds. ready.fed_from.same file (held file holds) };
+    }
+
+pub passed_ready : (pass : Pass) {before after : List ℕ} {old new : Files} {fed : Fed} → PassedOn pass.output.now before after old new → IsReady pass old fed → IsReady pass new fed
+passed_ready pass {before} {after} {old} {new} {fed} passed ready = ready_later pass old new fed passed.passed passed.files ready
+
+-- ---- single steps
+
+module _ (pass : Pass) where
+  -- nothing more
+  pub writes_nothing : (made : List ℕ → List ℕ) (waiting : List ℕ) (files : Files) → IsThere files pass.output.now → AreMade files pass.input.now made [] → Writes pass made waiting waiting files files
+  writes_nothing made waiting files there none = record {
+    piece = [];
+    is = none;
+    passed = record { passed = []; split = append-nil waiting; files = sym (appended_nothing files pass.output.now there) };
+  }
+
+  -- a piece that was pushed
+  pub writes_piece : (made : List ℕ → List ℕ) {piece before after : List ℕ} {old new : Files} → AreMade old pass.input.now made piece → PassedOn pass.output.now (before ++ piece) after old new → Writes pass made before after old new
+  writes_piece made {piece} is passed = record { piece = piece; is = is; passed = passed }
+
+  -- a piece of which only a prefix was written
+  pub prefix_piece : (made : List ℕ → List ℕ) {piece before : List ℕ} {old new : Files} → AreMade old pass.input.now made piece → AppendedPrefix pass.output.now (before ++ piece) old new → WritesPrefix pass made before old new
+  prefix_piece made {piece} {before} is prefix =
+      let bytes = take prefix.count (before ++ piece) in
+      let long : length bytes ≡ prefix.count = omega (arith, length-take prefix.count (before ++ piece), prefix.within) in
+      record {
+        bytes = bytes;
+        prefix = λ file holds. ap (λ n. take n (before ++ piece)) (sym long) ∙ ap (λ (l : List ℕ). take (length bytes) (before ++ l)) (is file holds);
+        files = prefix.files;
+      }
+
+  -- nothing was appended yet
+  pub prefix_nothing : (made : List ℕ → List ℕ) (before : List ℕ) (old new : Files) → new ≡ old → IsThere old pass.output.now → WritesPrefix pass made before old new
+  prefix_nothing made before old new same there = record { bytes = []; prefix = λ file holds. refl; files = same ∙ sym (appended_nothing old pass.output.now there) }
+
+  -- the same, said otherwise
+  pub writes_as : {made : List ℕ → List ℕ} (other : List ℕ → List ℕ) {before after : List ℕ} {old new : Files} → ((file : List ℕ) → Holds old pass.input.now file → made file ≡ other file) → Writes pass made before after old new
+      → Writes pass other before after old new
+  writes_as other same step = record { piece = step.piece; is = λ file holds. step.is file holds ∙ same file holds; passed = step.passed }
+
+  -- a prefix of some is one of more
+  pub prefix_as : {made : List ℕ → List ℕ} (other rest : List ℕ → List ℕ) {before : List ℕ} {old new : Files} → ((file : List ℕ) → Holds old pass.input.now file → other file ≡ made file ++ rest file) → WritesPrefix pass made before old new
+      → WritesPrefix pass other before old new
+  prefix_as {made} other rest {before} more part = record {
+    bytes = part.bytes;
+    prefix = λ file holds.
+        let is = part.prefix file holds in
+        let short : length part.bytes ≤ length (before ++ made file) = omega (arith, ap length is, length-take (length part.bytes) (before ++ made file)) in
+        is
+        ∙ sym (take-append-le (length part.bytes) (before ++ made file) (rest file) short)
+        ∙ ap (take (length part.bytes)) (append_assoc before (made file) (rest file) ∙ ap (λ (l : List ℕ). before ++ l) (sym (more file holds)));
+    files = part.files;
+  }
+
+-- ---- a step behind a step
+
+module _ (pass : Pass) (apart : pass.input.now ≢ pass.output.now) {made : List ℕ → List ℕ} {before mid : List ℕ} {old now : Files} (step : Writes pass made before mid old now) where
+  pub writes_holds : (file : List ℕ) → Holds old pass.input.now file → Holds now pass.input.now file
+  writes_holds file holds = input_holds old now pass.input.now pass.output.now step.passed.passed file apart step.passed.files holds
+
+  pub writes_held : (file : List ℕ) → Holds now pass.input.now file → Holds old pass.input.now file
+  writes_held file holds = input_held old now pass.input.now pass.output.now step.passed.passed file apart step.passed.files holds
+
+  pub writes_there : (name : List ℕ) → IsThere old name → IsThere now name
+  writes_there name there = still_there old now pass.output.now step.passed.passed name step.passed.files there
+
+  pub writes_then : {next : List ℕ → List ℕ} {after : List ℕ} {new : Files} → Writes pass next mid after now new → Writes pass (λ file. made file ++ next file) before after old new
+  writes_then {next} {after} {new} more = record {
+    piece = step.piece ++ more.piece;
+    is = λ file holds. (λ i. step.is file holds i ++ more.is file (writes_holds file holds) i);
+    passed = subst (λ (l : List ℕ). PassedOn pass.output.now l after old new) (append_assoc before step.piece more.piece) (passed_more more.piece step.passed more.passed);
+  }
+
+  -- a step that ends early behind a step
+  pub prefix_then : {next : List ℕ → List ℕ} {new : Files} → WritesPrefix pass next mid now new → WritesPrefix pass (λ file. made file ++ next file) before old new
+  prefix_then {next} {new} more =
+      let first = step.passed in
+      let whole : (file : List ℕ) → Holds old pass.input.now file → before ++ (made file ++ next file) ≡ first.passed ++ (mid ++ next file) =
+      λ file holds.
+      sym (append_assoc before (made file) (next file))
+      ∙ ap (λ (l : List ℕ). (before ++ l) ++ next file) (sym (step.is file holds))
+      ∙ ap (λ (l : List ℕ). l ++ next file) first.split
+      ∙ append_assoc first.passed mid (next file) in
+      record {
+        bytes = first.passed ++ more.bytes;
+        prefix = λ file holds.
+            ap (λ (l : List ℕ). first.passed ++ l) (more.prefix file (writes_holds file holds))
+            ∙ sym (take-append-add first.passed (mid ++ next file) (length more.bytes))
+            ∙ ap (λ n. take n (first.passed ++ (mid ++ next file))) (sym (length-append first.passed more.bytes))
+            ∙ ap (take (length (first.passed ++ more.bytes))) (sym (whole file holds));
+        files = more.files ∙ ap (λ f. appended f pass.output.now more.bytes) first.files ∙ appended_twice old pass.output.now first.passed more.bytes;
+      }
+
+  -- only the first step, and nothing of the next
+  pub prefix_stopped : (next : List ℕ → List ℕ) (new : Files) → new ≡ now → IsThere old pass.output.now → WritesPrefix pass (λ file. made file ++ next file) before old new
+  prefix_stopped next new same there = prefix_then (prefix_nothing pass next mid now new same (writes_there pass.output.now there))
+
+-- ---- as far as the bytes went on
+
+module _ (pass : Pass) where
+  pub up_to_begun : (whole : List ℕ → List ℕ) (waiting : List ℕ) (files : Files) → IsThere files pass.output.now → WritesUpTo pass whole whole waiting waiting files files
+  up_to_begun whole waiting files there = record { made = λ file. []; written = writes_nothing pass (λ file. []) waiting files there (λ file holds. refl); left = λ file holds. refl }
+
+module _ (pass : Pass) (apart : pass.input.now ≢ pass.output.now) {whole rest : List ℕ → List ℕ} {before mid : List ℕ} {old now : Files} (sofar : WritesUpTo pass whole rest before mid old now) where
+  -- the input is as it was
+  pub up_to_held : (file : List ℕ) → Holds now pass.input.now file → Holds old pass.input.now file
+  up_to_held file holds = writes_held pass apart sofar.written file holds
+
+  module _ (next later : List ℕ → List ℕ) (is : (file : List ℕ) → Holds old pass.input.now file → rest file ≡ next file ++ later file) where
+    both : (file : List ℕ) → Holds old pass.input.now file → whole file ≡ (sofar.made file ++ next file) ++ later file
+    both file holds = sofar.left file holds ∙ ap (λ (l : List ℕ). sofar.made file ++ l) (is file holds) ∙ sym (append_assoc (sofar.made file) (next file) (later file))
+
+    pub up_to_more : {after : List ℕ} {new : Files} → Writes pass next mid after now new → WritesUpTo pass whole later before after old new
+    up_to_more step = record {
+      made = λ file. sofar.made file ++ next file;
+      written = writes_then pass apart sofar.written step;
+      left = both;
+    }
+
+    pub up_to_prefix : {new : Files} → WritesPrefix pass next mid now new → WritesPrefix pass whole before old new
+    up_to_prefix part = prefix_as pass whole later both (prefix_then pass apart sofar.written part)
+
+  -- all of them
+  pub up_to_end : ((file : List ℕ) → Holds old pass.input.now file → rest file ≡ []) → Writes pass whole before mid old now
+  up_to_end none =
+      writes_as pass whole
+      (λ file holds. sym (sofar.left file holds ∙ ap (λ (l : List ℕ). sofar.made file ++ l) (none file holds) ∙ append-nil (sofar.made file)))
+      sofar.written
+
+  -- the last of them
+  module _ (next : List ℕ → List ℕ) (is : (file : List ℕ) → Holds old pass.input.now file → rest file ≡ next file) where
+    pub up_to_last : {after : List ℕ} {new : Files} → Writes pass next mid after now new → Writes pass whole before after old new
+    up_to_last step =
+        writes_as pass whole
+        (λ file holds. sym (sofar.left file holds ∙ ap (λ (l : List ℕ). sofar.made file ++ l) (is file holds)))
+        (writes_then pass apart sofar.written step)
+
+    pub up_to_last_prefix : {new : Files} → WritesPrefix pass next mid now new → WritesPrefix pass whole before old new
+    up_to_last_prefix part = up_to_prefix next (λ file. []) (λ file holds. is file holds ∙ sym (append-nil (next file))) part
+
+  -- a read fails
+  pub up_to_stopped : (new : Files) → new ≡ now → IsThere old pass.output.now → WritesPrefix pass whole before old new
+  up_to_stopped new same there =
+      up_to_prefix (λ file. []) rest (λ file holds. refl) (prefix_nothing pass (λ file. []) mid now new same (writes_there pass apart sofar.written pass.output.now there))
+
+-- ---- what waits is handed on
+
+module _ (pass : Pass) (made : List ℕ → List ℕ) {waiting : List ℕ} {old now new : Files} (step : Writes pass made [] waiting old now) where
+  -- all of it
+  pub writes_all : new ≡ appended now pass.output.now waiting → Appends pass.input.now pass.output.now made old new
+  writes_all is = record {
+    bytes = step.piece;
+    is = step.is;
+    files = is
+        ∙ ap (λ f. appended f pass.output.now waiting) step.passed.files
+        ∙ appended_twice old pass.output.now step.passed.passed waiting
+        ∙ ap (appended old pass.output.now) (sym step.passed.split);
+  }
+
+  -- a prefix of it
+  pub writes_end : AppendedPrefix pass.output.now waiting now new → AppendsPrefix pass.input.now pass.output.now made old new
+  writes_end part =
+      let passed = step.passed.passed in
+      let bytes = passed ++ take part.count waiting in
+      let long : length bytes ≡ length passed + part.count = omega (arith, length-append passed (take part.count waiting), length-take part.count waiting, part.within) in
+      record {
+        bytes = bytes;
+        prefix = λ file holds.
+            sym (ap (λ n. take n (made file)) long ∙ ap (take (length passed + part.count)) (sym (step.is file holds) ∙ step.passed.split) ∙ take-append-add passed waiting part.count);
+        files = part.files ∙ ap (λ f. appended f pass.output.now (take part.count waiting)) step.passed.files ∙ appended_twice old pass.output.now passed (take part.count waiting);
+      }
+
+-- nothing waited before
+pub writes_behind_none : {pass : Pass} {made : List ℕ → List ℕ} {before after : List ℕ} {old new : Files} → before ≡ [] → Writes pass made before after old new → Writes pass made [] after old new
+writes_behind_none {pass} {made} {before} {after} {old} {new} none step = subst (λ (l : List ℕ). Writes pass made l after old new) none step
+
+pub part_behind_none : {input output : List ℕ} {made : List ℕ → List ℕ} {before : List ℕ} {old new : Files} → before ≡ [] → AppendsPart input output made before old new → AppendsPrefix input output made old new
+part_behind_none {input} {output} {made} {before} {old} {new} none part = subst (λ (l : List ℕ). AppendsPart input output made l old new) none part
+
+-- ---- bytes that were appended, and others behind them
+
+module _ {input output : List ℕ} (apart : input ≢ output) {made : List ℕ → List ℕ} {old now : Files} (first : Appends input output made old now) where
+  held_still : (file : List ℕ) → Holds old input file → Holds now input file
+  held_still file holds = input_holds old now input output first.bytes file apart first.files holds
+
+  module _ {next : List ℕ → List ℕ} (whole : List ℕ → List ℕ) (is : (file : List ℕ) → made file ++ next file ≡ whole file) where
+    pub appends_then : {new : Files} → Appends input output next now new → Appends input output whole old new
+    appends_then {new} second = record {
+      bytes = first.bytes ++ second.bytes;
+      is = λ file holds. (λ i. first.is file holds i ++ second.is file (held_still file holds) i) ∙ is file;
+      files = second.files ∙ ap (λ f. appended f output second.bytes) first.files ∙ appended_twice old output first.bytes second.bytes;
+    }
+
+    pub appends_then_part : {new : Files} → AppendsPrefix input output next now new → AppendsPrefix input output whole old new
+    appends_then_part {new} second = record {
+      bytes = first.bytes ++ second.bytes;
+      prefix = λ file holds.
+          let all : first.bytes ++ next file ≡ whole file = ap (λ (l : List ℕ). l ++ next file) (first.is file holds) ∙ is file in
+          ap (λ (l : List ℕ). first.bytes ++ l) (second.prefix file (held_still file holds))
+          ∙ sym (take-append-add first.bytes (next file) (length second.bytes))
+          ∙ ap (λ n. take n (first.bytes ++ next file)) (sym (length-append first.bytes second.bytes))
+          ∙ ap (take (length (first.bytes ++ second.bytes))) all;
+      files = second.files ∙ ap (λ f. appended f output second.bytes) first.files ∙ appended_twice old output first.bytes second.bytes;
+    }
+
+-- ---- counts and causes
+
+-- fewer bytes than the length lets expect come only where nothing is told
+pub only_untold : (files : Files) (name given : List ℕ) (at n size : ℕ) → IsThere files name → ((file : List ℕ) → Holds files name file → length file ≡ size) → at + n ≤ size → length given ≤ n → length given ≢ n
+    → ((file : List ℕ) → Holds files name file → given ≡ take n (drop at file)) → files ≡ None
+only_untold None name given at n size there long within few other is = refl
+only_untold (Some f) name given at n size there long within few other is =
+    let told = there_holds f name there in
+    let file = told.0 in
+    absurd (other (omega (arith, ap length (is file told.1), length-take n (drop at file), length-drop at file, long file told.1, within)))
+
+appended_untold : (files : Files) (output more : List ℕ) → appended files output more ≡ None → files ≡ None
+unfolding appended
+appended_untold None output more is = refl
+appended_untold (Some f) output more is = absurd cc
+
+-- a cause behind a step that succeeded
+pub cause_later : (size : ℕ) (old now : Files) (output more : List ℕ) (before mid after : Counts) (fault : PassFault) → now ≡ appended old output more → mid ≡ before
+    → HasPassCause size now mid after fault → HasPassCause size old before after fault
+cause_later size old now output more before mid after Read grown same cause = subst (λ counts. HasPassCause size old counts after Read) same cause
+cause_later size old now output more before mid after (Shrunk first second) grown same cause =
+    subst (λ counts. HasPassCause size old counts after (Shrunk first second)) same (appended_untold old output more (sym grown ∙ cause.0), cause.1, cause.2, cause.3, cause.4, cause.5)
+cause_later size old now output more before mid after Write grown same cause = subst (λ counts. HasPassCause size old counts after Write) same cause
+
+pub causes_later : {T : Type 0} (r : Result T PassFault) (size : ℕ) (old now : Files) (output more : List ℕ) (before mid after : Counts) → now ≡ appended old output more → mid ≡ before
+    → IfErr r (HasPassCause size now mid after) → IfErr r (HasPassCause size old before after)
+causes_later (Ok x) size old now output more before mid after grown same cause = tt
+causes_later (Err fault) size old now output more before mid after grown same cause = cause_later size old now output more before mid after fault grown same cause
+
+-- behind bytes that went on
+module _ {pass : Pass} {made : List ℕ → List ℕ} {before mid : List ℕ} {old now : Files} (step : Writes pass made before mid old now) (size : ℕ) (then between after : Counts) (same : between ≡ then) where
+  pub cause_behind : (fault : PassFault) → HasPassCause size now between after fault → HasPassCause size old then after fault
+  cause_behind fault cause = cause_later size old now pass.output.now step.passed.passed then between after fault step.passed.files same cause
+
+  pub causes_behind : {T : Type 0} (r : Result T PassFault) → IfErr r (HasPassCause size now between after) → IfErr r (HasPassCause size old then after)
+  causes_behind r cause = causes_later r size old now pass.output.now step.passed.passed then between after step.passed.files same cause
+
+-- ---- bytes from one offset to another
+
+pub between_none : (file : List ℕ) (at : ℕ) → bytes_between file at at ≡ []
+between_none file at = let none : at - at ≡ 0 = omega arith in ap (λ n. take n (drop at file)) none
+
+pub between_past : (file : List ℕ) (at to : ℕ) → to ≤ at → bytes_between file at to ≡ []
+between_past file at to past = let none : to - at ≡ 0 = omega (arith, past) in ap (λ n. take n (drop at file)) none
+
+pub between_split : (file : List ℕ) (at n to : ℕ) → at + n ≤ to → bytes_between file at to ≡ take n (drop at file) ++ bytes_between file (at + n) to
+between_split file at n to within =
+    let sum : to - at ≡ n + (to - (at + n)) = omega (arith, within) in
+    ap (λ k. take k (drop at file)) sum
+    ∙ take-add n (to - (at + n)) (drop at file)
+    ∙ ap (λ (l : List ℕ). take n (drop at file) ++ take (to - (at + n)) l) (drop-drop n at file)
+
+pub between_all : (file : List ℕ) (at to : ℕ) → length file ≡ to → bytes_between file at to ≡ drop at file
+between_all file at to is = take_all (to - at) (drop at file) (omega (arith, is, length-drop at file))

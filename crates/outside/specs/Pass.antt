@@ -1,0 +1,72 @@
+-- What a pass over an input makes of its output, and why it ends early.
+use Rattle.std.specs.Prelude.{◌≡◌, ◌≢◌, ℕ, ◌-◌, ◌^◌, ◌<◌, ◌≤◌, List, [], ◌++◌, length, take, drop}
+use Rattle.outside.specs.Files.{Files, untold, appended, Holds, IsThere}
+use Rattle.outside.specs.Counts.{Counts, Rose, OnlyReads, OnlyWrites, NothingFailed}
+use Rattle.outside.specs.Passed.{PassedOn}
+use Rattle.outside.specs.Feed.{Fed, IsFedFrom}
+use Rattle.outside.specs.declared.pass.Pass.{Pass}
+use Rattle.outside.specs.declared.pass.PassFault.{PassFault}
+use Rattle.outside.specs.declared.pass.PassFault.TheVariants.{Read, Shrunk, Write}
+
+-- an input may be so long
+abbrev pub longest_input : ℕ
+longest_input = 2 ^ 32
+
+-- Two files of other names are there, the input has this length, and what is held of it is of its bytes.
+pub record IsReady (pass : Pass) (files : Files) (fed : Fed) : Type 0 where
+  pub apart : pass.input.now ≢ pass.output.now
+  pub source : IsThere files pass.input.now
+  pub target : IsThere files pass.output.now
+  pub length_is : (file : List ℕ) → Holds files pass.input.now file → length file ≡ pass.length
+  pub few : pass.length ≤ longest_input
+  pub fed_from : IsFedFrom fed files pass.input.now
+
+-- where the input is told, the bytes are made of its bytes so
+abbrev pub AreMade : Files → List ℕ → (List ℕ → List ℕ) → List ℕ → Type 0
+AreMade files input made bytes = (file : List ℕ) → Holds files input file → bytes ≡ made file
+
+-- so many bytes of a file from an offset on, or as many as there are
+abbrev pub bytes_at : ℕ → ℕ → List ℕ → List ℕ
+bytes_at at n file = take n (drop at file)
+
+-- the bytes of a file from one offset to another
+abbrev pub bytes_between : List ℕ → ℕ → ℕ → List ℕ
+bytes_between file from to = take (to - from) (drop from file)
+
+-- Bytes for the output went on to what waited for it: where the input is told, they are made of its bytes so.
+pub record Writes (pass : Pass) (made : List ℕ → List ℕ) (before after : List ℕ) (old new : Files) : Type 0 where
+  pub piece : List ℕ
+  pub is : AreMade old pass.input.now made piece
+  pub passed : PassedOn pass.output.now (before ++ piece) after old new
+
+-- Only some bytes were appended to the output: where the input is told, a prefix of what waited and of what is made of its bytes so.
+pub record AppendsPart (input output : List ℕ) (made : List ℕ → List ℕ) (before : List ℕ) (old new : Files) : Type 0 where
+  pub bytes : List ℕ
+  pub prefix : (file : List ℕ) → Holds old input file → bytes ≡ take (length bytes) (before ++ made file)
+  pub files : new ≡ appended old output bytes
+
+abbrev pub WritesPrefix : Pass → (List ℕ → List ℕ) → List ℕ → Files → Files → Type 0
+WritesPrefix pass made before old new = AppendsPart pass.input.now pass.output.now made before old new
+
+-- The output has more bytes at its end: where the input is told, they are made of its bytes so.
+pub record Appends (input output : List ℕ) (made : List ℕ → List ℕ) (old new : Files) : Type 0 where
+  pub bytes : List ℕ
+  pub is : AreMade old input made bytes
+  pub files : new ≡ appended old output bytes
+
+-- only a prefix of them
+abbrev pub AppendsPrefix : List ℕ → List ℕ → (List ℕ → List ℕ) → Files → Files → Type 0
+AppendsPrefix input output made old new = AppendsPart input output made [] old new
+
+-- The cause of a fault: the count that is named rose, and no count of the other kind. An input of which nothing is told had the first
+-- length, and a read at the second gave no byte.
+abbrev pub HasPassCause : ℕ → Files → Counts → Counts → PassFault → Type 0
+HasPassCause size files before after Read = Rose before.read_faults after.read_faults × OnlyReads before after
+HasPassCause size files before after (Shrunk first second) =
+    (files ≡ untold)
+    × (first ≡ size)
+    × (second < first)
+    × Rose before.ends after.ends
+    × NothingFailed before after
+    × OnlyReads before after
+HasPassCause size files before after Write = Rose before.write_faults after.write_faults × OnlyWrites before after

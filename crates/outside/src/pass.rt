@@ -1,0 +1,205 @@
+//! A second pass over an input: it is read again, and written to an output.
+ghost use Rattle.std.specs.Prelude.{◌≡◌, ◌+◌, ◌≤◌, ◌++◌, [], length, IfErr, OnOk, OnErr};
+ghost use Rattle.outside.specs.Files.{appended, IsThere};
+ghost use Rattle.outside.specs.Passed.{PassedOn, AppendedPrefix};
+ghost use Rattle.outside.specs.Pass.{IsReady, AreMade, bytes_at, bytes_between, Writes, WritesPrefix, HasPassCause};
+
+use crate::feed::Feed;
+use crate::folder::Folder;
+use crate::write_buffer::WriteBuffer;
+
+/// As many bytes as are copied at once.
+const PIECE: u64 = 4096;
+
+/// Why a pass ended early.
+#[derive(Clone, Copy, Debug, PartialEq, Eq)]
+pub enum PassFault {
+    /// The input could not be read.
+    Read,
+    /// The input was of the first length when it was found, and ended at the second when it was read.
+    Shrunk(u64, u64),
+    /// The output could not be written.
+    Write,
+}
+
+/// What a pass reads, and what it writes.
+#[derive(Clone, Copy)]
+pub struct Pass<'a> {
+    pub input: &'a str,
+    pub output: &'a str,
+    /// The length in bytes that the input was found with.
+    pub length: u64,
+}
+
+impl<'a> Pass<'a> {
+    /// Gives these bytes of the input, which are within its length.
+    ///
+    /// # Errors
+    /// `Read` where a read failed; `Shrunk` where the input ends before the last of them, though its length
+    /// was another.
+    #[inline]
+    pub fn fill<D: Folder>(
+        &self,
+        folder: &mut D,
+        at: u64,
+        n: usize,
+        feed: &mut Feed,
+    ) -> Result<(), PassFault>
+        requires ready { IsReady self.now (D.files folder.old) feed.old }
+        requires few { n ≤ 4096 }
+        requires within { at + n ≤ self.now.length }
+        ensures given { OnOk result (length feed.new.given ≡ n) }
+        ensures bytes { OnOk result (AreMade (D.files folder.old) self.now.input.now (bytes_at at n)
+            feed.new.given) }
+        ensures done { OnOk result (D.counts folder.new ≡ D.counts folder.old) }
+        ensures cause { IfErr result (HasPassCause self.now.length (D.files folder.old)
+            (D.counts folder.old) (D.counts folder.new)) }
+        ensures files { D.files folder.new ≡ D.files folder.old }
+        ensures ready { IsReady self.now (D.files folder.new) feed.new }
+    {
+        match feed.fill(folder, self.input, at, n) {
+            Ok(got) if got < n => Err(PassFault::Shrunk(self.length, at + got as u64)),
+            Ok(_) => Ok(()),
+            Err(_) => Err(PassFault::Read),
+        }
+    }
+
+    /// Adds a piece to what waits for the output.
+    ///
+    /// # Errors
+    /// `Write` where a write failed.
+    #[inline]
+    pub fn push<D: Folder>(
+        &self,
+        folder: &mut D,
+        piece: &[u8],
+        waiting: &mut WriteBuffer,
+    ) -> Result<(), PassFault>
+        requires { IsThere (D.files folder.old) self.now.output.now }
+        ensures passed { OnOk result (PassedOn self.now.output.now (waiting.old ++ piece.now)
+            waiting.new (D.files folder.old) (D.files folder.new)) }
+        ensures prefix { OnErr result (AppendedPrefix self.now.output.now (waiting.old ++ piece.now)
+            (D.files folder.old) (D.files folder.new)) }
+        ensures none { OnErr result (waiting.new ≡ []) }
+        ensures done { OnOk result (D.counts folder.new ≡ D.counts folder.old) }
+        ensures cause { IfErr result (HasPassCause self.now.length (D.files folder.old)
+            (D.counts folder.old) (D.counts folder.new)) }
+    {
+        match waiting.push(folder, self.output, piece) {
+            Ok(()) => Ok(()),
+            Err(_) => Err(PassFault::Write),
+        }
+    }
+
+    /// Adds two pieces to what waits for the output, one behind the other.
+    ///
+    /// # Errors
+    /// `Write` where a write failed.
+    #[inline]
+    pub fn push_both<D: Folder>(
+        &self,
+        folder: &mut D,
+        front: &[u8],
+        rest: &[u8],
+        waiting: &mut WriteBuffer,
+    ) -> Result<(), PassFault>
+        requires { IsThere (D.files folder.old) self.now.output.now }
+        ensures passed { OnOk result (PassedOn self.now.output.now
+            (waiting.old ++ (front.now ++ rest.now))
+            waiting.new (D.files folder.old) (D.files folder.new)) }
+        ensures prefix { OnErr result (AppendedPrefix self.now.output.now
+            (waiting.old ++ (front.now ++ rest.now)) (D.files folder.old) (D.files folder.new)) }
+        ensures none { OnErr result (waiting.new ≡ []) }
+        ensures done { OnOk result (D.counts folder.new ≡ D.counts folder.old) }
+        ensures cause { IfErr result (HasPassCause self.now.length (D.files folder.old)
+            (D.counts folder.old) (D.counts folder.new)) }
+    {
+        self.push(folder, front, waiting)?;
+        self.push(folder, rest, waiting)
+    }
+
+    /// Copies the bytes of the input from one offset to another, which are within its length.
+    ///
+    /// # Errors
+    /// As `fill` and `push`.
+    #[inline]
+    pub fn copy<D: Folder>(
+        &self,
+        folder: &mut D,
+        from: u64,
+        to: u64,
+        feed: &mut Feed,
+        waiting: &mut WriteBuffer,
+    ) -> Result<(), PassFault>
+        requires ready { IsReady self.now (D.files folder.old) feed.old }
+        requires ordered { from ≤ to }
+        requires within { to ≤ self.now.length }
+        ensures written { OnOk result (Writes self.now (λ file. bytes_between file from to)
+            waiting.old waiting.new (D.files folder.old) (D.files folder.new)) }
+        ensures prefix { OnErr result (WritesPrefix self.now (λ file. bytes_between file from to)
+            waiting.old (D.files folder.old) (D.files folder.new)) }
+        ensures done { OnOk result (D.counts folder.new ≡ D.counts folder.old) }
+        ensures cause { IfErr result (HasPassCause self.now.length (D.files folder.old)
+            (D.counts folder.old) (D.counts folder.new)) }
+        ensures ready { OnOk result (IsReady self.now (D.files folder.new) feed.new) }
+    {
+        let mut at = from;
+        while at < to {
+            let n = (to - at).min(PIECE);
+            self.copy_piece(folder, at, n as usize, feed, waiting)?;
+            at += n;
+        }
+        Ok(())
+    }
+
+    // Copies at most 4,096 bytes.
+    #[inline(never)]
+    fn copy_piece<D: Folder>(
+        &self,
+        folder: &mut D,
+        at: u64,
+        n: usize,
+        feed: &mut Feed,
+        waiting: &mut WriteBuffer,
+    ) -> Result<(), PassFault>
+        requires ready { IsReady self.now (D.files folder.old) feed.old }
+        requires few { n ≤ 4096 }
+        requires within { at + n ≤ self.now.length }
+        ensures written { OnOk result (Writes self.now (bytes_at at n)
+            waiting.old waiting.new (D.files folder.old) (D.files folder.new)) }
+        ensures prefix { OnErr result (WritesPrefix self.now (bytes_at at n)
+            waiting.old (D.files folder.old) (D.files folder.new)) }
+        ensures done { OnOk result (D.counts folder.new ≡ D.counts folder.old) }
+        ensures cause { IfErr result (HasPassCause self.now.length (D.files folder.old)
+            (D.counts folder.old) (D.counts folder.new)) }
+        ensures ready { OnOk result (IsReady self.now (D.files folder.new) feed.new) }
+    {
+        self.fill(folder, at, n, feed)?;
+        self.push(folder, feed.bytes(), waiting)
+    }
+
+    /// Hands on what waits for the output.
+    ///
+    /// # Errors
+    /// `Write` where a write failed.
+    pub fn finish<D: Folder>(
+        &self,
+        folder: &mut D,
+        waiting: &mut WriteBuffer,
+    ) -> Result<(), PassFault>
+        requires { IsThere (D.files folder.old) self.now.output.now }
+        ensures appended { OnOk result (D.files folder.new ≡
+            appended (D.files folder.old) self.now.output.now waiting.old) }
+        ensures prefix { OnErr result (AppendedPrefix self.now.output.now waiting.old
+            (D.files folder.old) (D.files folder.new)) }
+        ensures none { waiting.new ≡ [] }
+        ensures done { OnOk result (D.counts folder.new ≡ D.counts folder.old) }
+        ensures cause { IfErr result (HasPassCause self.now.length (D.files folder.old)
+            (D.counts folder.old) (D.counts folder.new)) }
+    {
+        match waiting.finish(folder, self.output) {
+            Ok(()) => Ok(()),
+            Err(_) => Err(PassFault::Write),
+        }
+    }
+}

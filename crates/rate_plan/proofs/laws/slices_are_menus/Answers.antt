@@ -1,0 +1,6 @@
+-- Slots side by side.
+use Rattle.rate_plan.proofs.MenuLaws.{slices-menus}
+use Rattle.rate_plan.proofs.laws.slices_are_menus.Goals as goal
+
+pub returns : goal.returns
+returns c = slices-menus

@@ -1,0 +1,34 @@
+-- What holds of plans from a menu, whatever the code.
+use Rattle.std.specs.Prelude.{◌≡◌, ℕ, ◌<◌, ◌≤◌, ◌↔◌, List, map, length, slice_range, All, Contains, Ok, Err}
+use Rattle.frame_header.specs.Fields.{SlotFields, ClassFields, IsSlot, IsClass}
+use Rattle.frame_header.specs.Tables.{window_of}
+use Rattle.frame_header.specs.Slots.{all_slots, largest_slot}
+use Rattle.slot_plan.specs.declared.needs.Need.{Need}
+use Rattle.slot_plan.specs.declared.needs.Placed.{Placed}
+use Rattle.slot_plan.specs.Layouts.{IsFeasible}
+use Rattle.slot_plan.specs.Parts.{own_frame, AreOfClass}
+use Rattle.rate_plan.specs.Menus.{AreAscending, IsMenuPlan, IsUnfit}
+use Rattle.rate_plan.specs.MenuPlan.{menu_plan}
+
+-- Frames of one class that have a layout in their own slots behind a whole window are never unfit, where the largest slot is in the menu.
+abbrev pub LargestSlotFits : Type 0
+LargestSlotFits =
+    (class : ClassFields) (menu : List SlotFields) (needs : List Need) (i : ℕ)
+    → IsClass class → AreOfClass class needs → All (λ need. IsSlot need.header.slot) needs → Contains menu largest_slot
+    → IsFeasible (window_of class.version) (window_of class.version) (map own_frame needs)
+    → IsUnfit (window_of class.version) menu needs i → ⊥
+
+-- All slots from one on and before another, as those of the bit rates between two, are a menu, and up to the last they have the largest.
+abbrev pub SlicesAreMenus : Type 0
+SlicesAreMenus =
+    (class : ClassFields) (from to : ℕ) → IsClass class → from < to → to ≤ 28
+    → AreAscending class (slice_range all_slots from to) × (1 ≤ length (slice_range all_slots from to))
+    × (to ≡ 28 → Contains (slice_range all_slots from to) largest_slot)
+
+-- Frames of one class have one plan from a menu, or one first unfit frame, which is that of the function.
+abbrev pub MenuPlanIsThePlan : Type 0
+MenuPlanIsThePlan =
+    (window : ℕ) (class : ClassFields) (menu : List SlotFields) (needs : List Need)
+    → AreOfClass class needs → 1 ≤ length needs → AreAscending class menu → 1 ≤ length menu
+    → ((placed : List Placed) → IsMenuPlan window menu needs placed ↔ (menu_plan window menu needs ≡ Ok placed))
+    × ((i : ℕ) → IsUnfit window menu needs i ↔ (menu_plan window menu needs ≡ Err i))

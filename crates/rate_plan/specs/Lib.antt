@@ -1,0 +1,8 @@
+pub mod Laws
+pub mod MenuPlan
+pub mod Menus
+pub mod Placing
+pub use Rattle.slot_plan.specs.Layouts
+pub use Rattle.slot_plan.specs.Lists
+pub use Rattle.slot_plan.specs.Parts
+pub use Rattle.slot_plan.specs.Plans

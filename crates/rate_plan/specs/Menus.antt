@@ -1,0 +1,52 @@
+-- The plan of one part whose frames, and whose lead-in, have slots of one menu.
+use Rattle.std.specs.Prelude.{◌≡◌, ℕ, ◌+◌, ◌<◌, ◌↔◌, Bool, true, false, List, [], ◌∷◌, map, length, take, AllPairs}
+use Rattle.frame_header.specs.Fields.{SlotFields, ClassFields, HeaderFields}
+use Rattle.frame_header.specs.Tables.{class_of}
+use Rattle.slot_plan.specs.declared.needs.Need.{Need}
+use Rattle.slot_plan.specs.declared.needs.Placed.{Placed}
+use Rattle.slot_plan.specs.Lists.{CanBeLaid}
+use Rattle.slot_plan.specs.Parts.{Item, open_of, item_of, lead_in_of, areas_with}
+use Rattle.slot_plan.specs.Plans.{IsPlanFor}
+use Rattle.rate_plan.specs.declared.fault.RateFault.{RateFault}
+use Rattle.rate_plan.specs.declared.fault.RateFault.TheVariants.{Unfit, Memory}
+
+-- whatever its header, a frame has any slot of the menu
+abbrev pub from_menu : List SlotFields → HeaderFields → List SlotFields
+from_menu menu header = menu
+
+-- in this class the areas of the slots ascend, whether or not the frames have check words
+abbrev pub AreAscending : ClassFields → List SlotFields → Type 0
+AreAscending class menu = (protected : Bool) → AllPairs (λ m n. m < n) (areas_with class protected menu)
+
+-- they ascend in the class of the first frame
+abbrev pub IsMenu : List SlotFields → List Need → Type 0
+IsMenu menu [] = Unit {0}
+IsMenu menu (first ∷ needs) = AreAscending (class_of first.header) menu
+
+-- the frames of a part, where it has one behind a lead-in
+unfoldable pub items_from : Bool → List SlotFields → List Need → List Item
+items_from false menu needs = map (item_of (from_menu menu)) needs
+items_from true menu [] = []
+items_from true menu (first ∷ needs) = lead_in_of (class_of first.header) menu ∷ map (item_of (from_menu menu)) (first ∷ needs)
+
+-- some list of areas from the menu has a layout, behind a lead-in or without one
+abbrev pub CanBeLaidFrom : ℕ → Bool → List SlotFields → List Need → Type 0
+CanBeLaidFrom window lead_in menu needs = CanBeLaid window (map open_of (items_from lead_in menu needs))
+
+-- The plan: with a lead-in where no list has a layout without one, the lexicographically least list with so many lead-ins, laid as early as may be.
+pub record IsMenuPlan (window : ℕ) (menu : List SlotFields) (needs : List Need) (placed : List Placed) : Type 0 where
+  pub lead_in : Bool
+  pub without : (lead_in ≡ false) ↔ CanBeLaidFrom window false menu needs
+  pub whole : IsPlanFor window (items_from lead_in menu needs) placed
+
+-- No list has a layout, behind a lead-in or without one, and this is the first frame up to which none has behind one.
+pub record IsUnfit (window : ℕ) (menu : List SlotFields) (needs : List Need) (i : ℕ) : Type 0 where
+  pub never : (lead_in : Bool) → CanBeLaidFrom window lead_in menu needs → ⊥
+  pub within : i < length needs
+  pub here : CanBeLaidFrom window true menu (take (i + 1) needs) → ⊥
+  pub before : (k : ℕ) → k < i → CanBeLaidFrom window true menu (take (k + 1) needs)
+
+-- what a refusal says
+abbrev pub Refuses : ℕ → List SlotFields → List Need → RateFault → Type 0
+Refuses window menu needs (Unfit i) = IsUnfit window menu needs i
+Refuses window menu needs Memory = Unit {0}

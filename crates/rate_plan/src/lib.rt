@@ -1,0 +1,14 @@
+//! Plans from a menu: each frame and the lead-in have one of a few slots, as where the bit rate is fixed or bounded.
+#![tactic(auto)]
+
+mod fault;
+mod laws;
+mod menu;
+mod placing;
+mod planning;
+mod reserves;
+mod unfit;
+
+pub use fault::RateFault;
+pub use laws::{largest_slot_fits, menu_plan_is_the_plan, slices_are_menus};
+pub use planning::rate_plan;

@@ -1,0 +1,83 @@
+//! From the first frame to the last: the least slot that leaves what is needed behind it.
+ghost use Rattle.std.specs.Prelude.{◌≡◌, ◌+◌, ◌-◌, ◌≤◌, true, false, length, map, IfOk};
+ghost use Rattle.frame_header.specs.Tables.{window_of};
+ghost use Rattle.slot_plan.specs.Parts.{areas_with, item_of, AreOfClass};
+ghost use Rattle.slot_plan.specs.Reserve.{greatest, needed, needed_behind, opens_in, AllWithin, IsLeastSlot};
+ghost use Rattle.rate_plan.specs.Menus.{from_menu, AreAscending};
+ghost use Rattle.rate_plan.specs.Placing.{Places};
+
+use crate::menu::{free_behind, least_slot};
+use frame_header::{Class, Slot};
+use slot_plan::{Need, Placed};
+use std::alloc::AllocError;
+
+/// The lead-in of the least area that leaves so many bytes free behind it, at the front of a file.
+pub(crate) fn lead_in(class: Class, behind: u16, menu: &[Slot]) -> Placed
+    requires slots { 1 ≤ length menu.now }
+    requires ascending { AreAscending class menu.now }
+    requires enough { behind ≤ greatest (areas_with class false menu.now) }
+    ensures lead_in { result.lead_in ≡ true }
+    ensures begin { result.begin ≡ 0 }
+    ensures least { IsLeastSlot behind class false menu.now result.slot }
+{
+    let slot = least_slot(class, false, menu, u64::from(behind));
+    Placed {
+        lead_in: true,
+        slot,
+        begin: 0,
+    }
+}
+
+/// The frame in the least slot that leaves so many bytes free behind it.
+fn place_frame(class: Class, need: &Need, behind: u16, free: u32, menu: &[Slot]) -> Placed
+    requires slots { 1 ≤ length menu.now }
+    requires ascending { AreAscending class menu.now }
+    requires enough { (need.now.bytes + behind)
+        - greatest (areas_with class need.now.header.protected menu.now) ≤ free }
+    requires free { free ≤ 511 }
+    ensures frame { result.lead_in ≡ false }
+    ensures begin { result.begin ≡ free }
+    ensures least { IsLeastSlot ((need.now.bytes + behind) - free) class
+        need.now.header.protected menu.now result.slot }
+{
+    let wanted = (u64::from(need.bytes) + u64::from(behind)).saturating_sub(u64::from(free));
+    let slot = least_slot(class, need.header.protected, menu, wanted);
+    Placed {
+        lead_in: false,
+        slot,
+        begin: free as u16,
+    }
+}
+
+/// Places the frames behind so many free bytes. `behind` has what is needed behind each, the last frame's first.
+pub(crate) fn place_frames(
+    class: Class,
+    free: u32,
+    needs: &[Need],
+    menu: &[Slot],
+    behind: Vec<u16>,
+    placed: &mut Vec<Placed>,
+) -> Result<(), AllocError>
+    requires class { AreOfClass class needs.now }
+    requires slots { 1 ≤ length menu.now }
+    requires ascending { AreAscending class menu.now }
+    requires free { free ≤ window_of class.version }
+    requires enough { needed (opens_in (from_menu menu.now) needs.now) ≤ free }
+    requires within { AllWithin (window_of class.version)
+        (opens_in (from_menu menu.now) needs.now) }
+    requires behind { behind.items ≡ needed_behind (opens_in (from_menu menu.now) needs.now) }
+    ensures { IfOk result (λ _. Places (window_of class.version) free
+        (map (item_of (from_menu menu.now)) needs.now) placed.old.items placed.new.items) }
+{
+    let window = class.window();
+    let mut behind = behind;
+    let mut free = free;
+    for need in needs {
+        let wanted = behind.pop().unwrap_or(0);
+        let frame = place_frame(class, need, wanted, free, menu);
+        let area = class.area_of(frame.slot, need.header.protected);
+        free = free_behind(window, free, need.bytes, area);
+        placed.push(frame)?;
+    }
+    Ok(())
+}

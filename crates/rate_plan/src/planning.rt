@@ -1,0 +1,61 @@
+//! The plan from a menu.
+ghost use Rattle.std.specs.Prelude.{◌≤◌, true, length, IfOk, IfErr};
+ghost use Rattle.frame_header.specs.Tables.{window_of};
+ghost use Rattle.slot_plan.specs.Parts.{window_in, AreOfClass, AreOfOneClass};
+ghost use Rattle.slot_plan.specs.Plans.{entries};
+ghost use Rattle.rate_plan.specs.Menus.{AreAscending, IsMenu, CanBeLaidFrom, IsMenuPlan, Refuses};
+
+use crate::fault::RateFault;
+use crate::menu::free_behind;
+use crate::placing::{lead_in, place_frames};
+use crate::reserves::reserves_of;
+use crate::unfit::first_unfit;
+use frame_header::{Class, Slot};
+use slot_plan::{Need, Plan};
+use std::alloc::{AllocError, Global};
+
+/// The plan of frames that have a layout behind one lead-in.
+fn fit_plan(alloc: Global, class: Class, needs: &[Need], menu: &[Slot]) -> Result<Plan, AllocError>
+    requires class { AreOfClass class needs.now }
+    requires some { 1 ≤ length needs.now }
+    requires few { length needs.now ≤ 2900000 }
+    requires slots { 1 ≤ length menu.now }
+    requires ascending { AreAscending class menu.now }
+    requires fits { CanBeLaidFrom (window_of class.version) true menu.now needs.now }
+    ensures { IfOk result (λ plan.
+        IsMenuPlan (window_of class.version) menu.now needs.now (entries plan)) }
+{
+    // There is at most one lead-in.
+    let mut placed = Vec::with_capacity(alloc, needs.len() + 1)?;
+    let reserves = reserves_of(alloc, class, needs, menu)?;
+    if reserves.before == 0 {
+        place_frames(class, 0, needs, menu, reserves.behind, &mut placed)?;
+        return Ok(Plan::from_placed(placed));
+    }
+    let frame = lead_in(class, reserves.before, menu);
+    let area = class.area_of(frame.slot, false);
+    placed.push(frame)?;
+    let free = free_behind(class.window(), 0, 0, area);
+    place_frames(class, free, needs, menu, reserves.behind, &mut placed)?;
+    Ok(Plan::from_placed(placed))
+}
+
+/// The lexicographically least list of areas that has a layout, all slots being of the menu, behind one lead-in where
+/// none has a layout without one. Main data start as early as they may (ISO/IEC 11172-3, 2.4.2.7). `Unfit` exactly
+/// where no list has a layout, even behind a lead-in, with the first frame up to which none has.
+pub fn rate_plan(alloc: Global, needs: &[Need], menu: &[Slot]) -> Result<Plan, RateFault>
+    requires class { AreOfOneClass needs.now }
+    requires some { 1 ≤ length needs.now }
+    requires few { length needs.now ≤ 2900000 }
+    requires slots { 1 ≤ length menu.now }
+    requires ascending { IsMenu menu.now needs.now }
+    ensures plan { IfOk result (λ plan.
+        IsMenuPlan (window_in needs.now) menu.now needs.now (entries plan)) }
+    ensures refusal { IfErr result (Refuses (window_in needs.now) menu.now needs.now) }
+{
+    let class = needs[0].header.class();
+    if let Some(i) = first_unfit(class, needs, menu) {
+        return Err(RateFault::Unfit(i));
+    }
+    Ok(fit_plan(alloc, class, needs, menu)?)
+}

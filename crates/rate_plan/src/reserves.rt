@@ -1,0 +1,54 @@
+//! From the last frame back to the first: how many bytes have to be free before each.
+ghost use Rattle.std.specs.Prelude.{◌≡◌, ◌+◌, ◌-◌, ◌≤◌, length, IfOk};
+ghost use Rattle.frame_header.specs.Tables.{window_of};
+ghost use Rattle.slot_plan.specs.Parts.{areas_with, AreOfClass};
+ghost use Rattle.slot_plan.specs.Reserve.{greatest};
+ghost use Rattle.rate_plan.specs.Menus.{AreAscending};
+ghost use Rattle.rate_plan.specs.Placing.{NeedAtMost, HasReserves};
+
+use crate::menu::largest_area;
+use frame_header::{Class, Slot};
+use slot_plan::Need;
+use std::alloc::{AllocError, Global};
+
+/// The bytes that have to be free.
+#[derive(Drop)]
+pub(crate) struct Reserves {
+    /// Behind each frame, the last frame's first.
+    pub(crate) behind: Vec<u16>,
+    /// Before the first frame.
+    pub(crate) before: u16,
+}
+
+/// What has to be free before a frame, where so many bytes have to be free behind it.
+fn needed_before(class: Class, need: &Need, behind: u16, menu: &[Slot]) -> u64
+    requires slots { 1 ≤ length menu.now }
+    requires ascending { AreAscending class menu.now }
+    ensures { result ≡ (need.now.bytes + behind)
+        - greatest (areas_with class need.now.header.protected menu.now) }
+{
+    let largest = largest_area(class, need.header.protected, menu);
+    (u64::from(need.bytes) + u64::from(behind)).saturating_sub(u64::from(largest))
+}
+
+/// What each frame needs behind it. Want of memory is the one refusal.
+pub(crate) fn reserves_of(
+    alloc: Global,
+    class: Class,
+    needs: &[Need],
+    menu: &[Slot],
+) -> Result<Reserves, AllocError>
+    requires class { AreOfClass class needs.now }
+    requires slots { 1 ≤ length menu.now }
+    requires ascending { AreAscending class menu.now }
+    requires most { NeedAtMost (window_of class.version) menu.now needs.now }
+    ensures { IfOk result (λ r. HasReserves menu.now needs.now r.behind.items r.before) }
+{
+    let mut behind = Vec::with_capacity(alloc, needs.len())?;
+    let mut before: u16 = 0;
+    for i in (0..needs.len()).rev() {
+        behind.push(before)?;
+        before = needed_before(class, &needs[i], before, menu) as u16;
+    }
+    Ok(Reserves { behind, before })
+}

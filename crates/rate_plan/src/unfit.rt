@@ -1,0 +1,32 @@
+//! From the first frame to the last: whether all fit, each in the largest slot behind a lead-in of that slot.
+ghost use Rattle.std.specs.Prelude.{◌≤◌, true, length, MatchOption};
+ghost use Rattle.frame_header.specs.Tables.{window_of};
+ghost use Rattle.slot_plan.specs.Parts.{AreOfClass};
+ghost use Rattle.rate_plan.specs.Menus.{AreAscending, CanBeLaidFrom, IsUnfit};
+
+use crate::menu::{free_behind, largest_area};
+use frame_header::{Class, Slot};
+use slot_plan::Need;
+
+/// The first frame up to which the frames have no layout behind one lead-in; none where all have one.
+pub(crate) fn first_unfit(class: Class, needs: &[Need], menu: &[Slot]) -> Option<u32>
+    requires class { AreOfClass class needs.now }
+    requires some { 1 ≤ length needs.now }
+    requires few { length needs.now ≤ 2900000 }
+    requires slots { 1 ≤ length menu.now }
+    requires ascending { AreAscending class menu.now }
+    ensures { MatchOption result
+        (CanBeLaidFrom (window_of class.version) true menu.now needs.now)
+        (λ i. IsUnfit (window_of class.version) menu.now needs.now i) }
+{
+    let window = class.window();
+    let mut free = free_behind(window, 0, 0, largest_area(class, false, menu));
+    for (i, need) in needs.iter().enumerate() {
+        let area = largest_area(class, need.header.protected, menu);
+        if need.bytes > free + area {
+            return Some(i as u32);
+        }
+        free = free_behind(window, free, need.bytes, area);
+    }
+    None
+}

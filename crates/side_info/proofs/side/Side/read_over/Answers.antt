@@ -1,0 +1,27 @@
+-- The side information goes by version and channels alone.
+use Rattle.std.proofs.Common.{◌≡◌, subst, ap, sym, ◌∙◌}
+use Rattle.bit_fields.specs.Bits.{bits}
+use Rattle.bit_fields.proofs.BitsLaws.{AreBits-bits}
+use Rattle.frame_header.specs.Fields.{IsClass}
+use Rattle.frame_header.specs.Tables.{side_size_of}
+use Rattle.side_info.specs.Parts.{class_with}
+use Rattle.side_info.specs.Side.{side_at, SideFits}
+use Rattle.side_info.proofs.SideLaws.{SideFits-side_at}
+use Rattle.side_info.proofs.ReadLaws.{side_at-class, side_size-class}
+use Rattle.side_info.proofs.side.Side.read_over.Goals as goal
+
+pub read_shape-requires-clause-size : goal.read_shape-requires-clause-size
+read_shape-requires-clause-size c =
+    c.requires.size ∙ sym (ap side_size_of c.class.view_is) ∙ sym (side_size-class (class_with c.class.inside.version c.class.inside.frequency_index c.class.inside.channels))
+
+side : (c : goal.After-read_shape) → c.read_shape.new.side ≡ side_at c.args.class (bits c.args.bytes.now)
+side c =
+    c.read_shape.ensures
+    ∙ side_at-class (class_with c.class.inside.version c.class.inside.frequency_index c.class.inside.channels) (bits c.args.bytes.now)
+    ∙ ap (λ d. side_at d (bits c.args.bytes.now)) c.class.view_is
+
+pub returns-clause-side : goal.returns-clause-side
+returns-clause-side c = side c
+
+pub returns-clause-fits : goal.returns-clause-fits
+returns-clause-fits c = subst (SideFits c.args.class) (sym (side c)) (SideFits-side_at c.args.class (subst IsClass c.class.view_is c.class.invariant) (bits c.args.bytes.now) (AreBits-bits c.args.bytes.now))

@@ -1,0 +1,27 @@
+-- What is known of a file before its frames are judged.
+use Rattle.std.specs.Prelude.{◌≡◌, ℕ, ◌+◌, ◌≤◌, List, IfSome, Ok}
+use Rattle.outside.specs.Files.{Files, Holds}
+use Rattle.sync_survey.specs.declared.folders.Walk.{Walk}
+use Rattle.sync_survey.specs.declared.items.Item.TheVariants.{Frame}
+use Rattle.sync_survey.specs.declared.runs.Part.TheVariants.{Front}
+use Rattle.sync_survey.specs.Items.{size_of}
+use Rattle.sync_survey.specs.Runs.{run, blocks_of}
+use Rattle.sync_survey.specs.Start.{start_of}
+use Rattle.sync_survey.specs.Walk.{head_of, IsFrameOf}
+use Rattle.sync_survey.specs.Survey.{HasLength, BlocksAreLaid}
+
+-- these bytes begin so
+pub record BeginsSo (bytes : List ℕ) (w : Walk) : Type 0 where
+  pub start : start_of bytes ≡ Ok w.start
+  pub head : w.head ≡ head_of bytes w.start.first
+  pub kept : w.pieces.items ≡ blocks_of (run Front bytes 0).items
+
+-- The name's file begins so: its first frame is within its length, the blocks and the junk stand before it, and the head is that frame;
+-- where the file is told, so are its bytes.
+pub record IsWalk (files : Files) (name : List ℕ) (w : Walk) : Type 0 where
+  pub known : HasLength files name w.size
+  pub whole : w.start.first.offset + size_of (Frame w.start.first.header) ≤ w.size
+  pub junk : w.start.front_end ≤ w.start.first.offset
+  pub laid : BlocksAreLaid 0 w.pieces.items w.start.front_end
+  pub same : IfSome w.head (IsFrameOf w.start.first)
+  pub told : (bytes : List ℕ) → Holds files name bytes → BeginsSo bytes w

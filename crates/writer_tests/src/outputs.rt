@@ -1,0 +1,22 @@
+//! A file without bytes, and what stands in one afterwards.
+//!
+//! A test owns its folder and ends in one place, and all else borrows it: at each end of the owner the folder is let go, which
+//! costs the check much.
+
+use outside::MemFolder;
+use std::alloc::AllocError;
+use std::process::Abort;
+
+/// Puts a file without bytes, with room for so many.
+pub fn put_empty(folder: &mut MemFolder, name: &str, room: u64) -> Result<(), AllocError> {
+    folder.put(name, &[])?;
+    folder.reserve(name, room)
+}
+
+/// Asserts that these bytes stand at these places.
+pub fn expect_at(rt: &impl Abort, bytes: &[u8], places: &[usize], wanted: &[u8]) {
+    assert_eq!(rt; places.len(), wanted.len());
+    for (place, byte) in places.iter().zip(wanted) {
+        assert_eq!(rt; bytes.get(*place), Some(byte), "{place}");
+    }
+}
