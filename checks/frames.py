@@ -33,6 +33,7 @@ header, check word and side information) end to end; a frame's main data begin m
 A frame is lost where that is before the first area, and no frame before it has main data, but lost ones: a plain cutter left it.
 """
 import array
+import re
 import sys
 import wave
 from dataclasses import dataclass, field, replace
@@ -87,6 +88,10 @@ MPEG_2_5 = replace(MPEG_2, name="MPEG-2.5", frequencies=(11025, 12000, 8000))
 
 class Refused(Exception):
     """What the program's line says behind the name of the file."""
+
+
+class Unfit(Exception):
+    """What the program's line says where it names no file: the change can't be made."""
 
 
 def check_word(data):
@@ -207,6 +212,7 @@ def block_at(data, at):
 
 
 UNDO_KEY = b"MP3GAIN_UNDO"
+LONGEST_TAG = 1_048_576
 
 
 def number_of(data, at):
@@ -217,38 +223,71 @@ def four(number):
     return number.to_bytes(4, "little")
 
 
+def item_at(block, at, end):
+    """The item at a place, and where it ends; or nothing where none is whole before the end."""
+    end_of_key = block.find(b"\0", at + 8, end)
+    key = block[at + 8 : end_of_key]
+    if end_of_key < 0 or not re.fullmatch(rb"[ -~]{2,255}", key):
+        return None
+    size, flags = number_of(block, at), number_of(block, at + 4)
+    end_of_item = end_of_key + 1 + size
+    return ((key, flags, block[end_of_key + 1 : end_of_item]), end_of_item) if end_of_item <= end else None
+
+
+def bytes_of_items(items):
+    return b"".join(four(len(value)) + four(flags) + key + b"\0" + value for key, flags, value in items)
+
+
 class Tag:
     """An APEv2 block: a header of 32 bytes, items of value size, flags, key, zero byte and value, and a footer of 32 bytes."""
 
-    def __init__(self, block=None):
+    def __init__(self, block=None, offset=0):
+        self.offset = offset
         self.flags = 0xA0000000, 0x80000000
         self.items = []  # (key, flags, value)
         if block:
             self.read(block)
 
+    def judge(self, is_right, place):
+        if not is_right:
+            raise Unfit(f"bad tag at {self.offset + place}")
+
     def read(self, block):
-        self.flags = number_of(block, 20), number_of(block, len(block) - 12)
-        at = 32
+        end, at = len(block) - 32, 32
+        self.judge(block[24:32] == bytes(8), 24)
         for _ in range(number_of(block, 16)):
-            size, flags = number_of(block, at), number_of(block, at + 4)
-            end_of_key = block.index(b"\0", at + 8)
-            self.items.append((block[at + 8 : end_of_key], flags, block[end_of_key + 1 : end_of_key + 1 + size]))
-            at = end_of_key + 1 + size
-        if bytes(self) != block:
-            sys.exit("the tag isn't what is written of its items")
+            found = item_at(block, at, end)
+            self.judge(found and not (self.note() is not None and found[0][0].upper() == UNDO_KEY), at)
+            self.items.append(found[0])
+            at = found[1]
+        self.judge(at == end, at)
+        self.flags = number_of(block, 20), number_of(block, end + 20)
+        # The header is the one that is written of the items, so only the footer can differ.
+        self.judge(bytes(self) == block and not self.flags[1] >> 29 & 1, end)
 
     def __bytes__(self):
-        items = b"".join(four(len(value)) + four(flags) + key + b"\0" + value for key, flags, value in self.items)
+        items = bytes_of_items(self.items)
         ends = [b"APETAGEX" + four(2000) + four(len(items) + 32) + four(len(self.items)) + four(it) + bytes(8) for it in self.flags]
         return ends[0] + items + ends[1]
 
+    def place_of_note(self):
+        """How many items stand before the undo item, or None where there is none."""
+        return next((place for place, it in enumerate(self.items) if it[0].upper() == UNDO_KEY), None)
+
     def note(self):
         """The value of the undo item, or None."""
-        return next((value for key, _, value in self.items if key.upper() == UNDO_KEY), None)
+        place = self.place_of_note()
+        return None if place is None else self.items[place][2]
 
     def undo(self):
         """Steps of the left and of the right channel, and whether gains wrap."""
-        left, right, wraps = (self.note() or b"+000,+000,N").decode("ascii").split(",")
+        note = self.note()
+        if note is None:
+            return 0, 0, False
+        if not re.fullmatch(rb"[+-]\d{3},[+-]\d{3},[NW]", note):
+            before = bytes_of_items(self.items[: self.place_of_note()])
+            raise Unfit(f"bad undo item at {self.offset + 32 + len(before)}")
+        left, right, wraps = note.decode("ascii").split(",")
         return int(left), int(right), wraps == "W"
 
     def set_note(self, left, right, wraps):
@@ -433,8 +472,8 @@ def time_of(samples, frequency):
     return f"{seconds // 60}.{seconds % 60:02}.{hundredths:02}"
 
 
-def list_lines(name):
-    it = survey_of(bytes_of(name))
+def lines_of(it):
+    """The lines that list a survey."""
     lines = [(block.offset, f"block {block.kind} at {block.offset}: {block.end - block.offset} bytes") for block in it.blocks]
     if it.junk[0] < it.junk[1]:
         lines.append((it.junk[0], f"junk at {it.junk[0]}: {it.junk[1] - it.junk[0]} bytes"))
@@ -442,10 +481,13 @@ def list_lines(name):
         lines.append((it.head.offset, f"head at {it.head.offset}: {it.head.length} bytes"))
     lines += [(frame.offset, line_of(number, frame)) for number, frame in enumerate(it.frames)]
     first = it.frames[0]
-    for _, line in sorted(lines):
-        print(line)
     time = time_of(len(it.frames) * 576 * first.version.granules, first.frequency)
-    print(f"{len(it.frames)} frames, {first.version.name}, {first.frequency} Hz, {first.channels} channels, {time}")
+    summary = f"{len(it.frames)} frames, {first.version.name}, {first.frequency} Hz, {first.channels} channels, {time}"
+    return [line for _, line in sorted(lines)] + [summary]
+
+
+def list_lines(name):
+    print(*lines_of(survey_of(bytes_of(name))), sep="\n")
 
 
 def summary_of(listing):
@@ -480,12 +522,13 @@ def refusal(name):
 
 
 def past(name, steps):
-    for frame in survey_of(bytes_of(name)).frames:
-        for it in frame.moving():
-            if not 0 <= it.gain + int(steps) <= 255:
-                print(f"gain {it.gain} out of range at {frame.offset}, granule {it.granule}, channel {it.channel}")
-                return
-    sys.exit("no gain leaves the range")
+    try:
+        for frame in survey_of(bytes_of(name)).frames:
+            side_of(frame, steps_of("both", steps), False)
+    except Unfit as it:
+        print(it)
+    else:
+        sys.exit("no gain leaves the range")
 
 
 def ends(name):
@@ -502,7 +545,7 @@ def side_of(frame, steps, wraps):
         if wraps:
             new %= 256
         if not 0 <= new <= 255:
-            sys.exit(f"gain {it.gain} would become {new}")
+            raise Unfit(f"gain {it.gain} out of range at {frame.offset}, granule {it.granule}, channel {it.channel}")
         side += new - it.gain << it.behind
     return side
 
@@ -513,39 +556,73 @@ def steps_of(channel, steps):
 
 
 def moved(name, steps, output):
-    change(name, steps_of("both", steps), False, output)
+    change(name, output, gained, "both", steps, False, False)
 
 
 def wrapped(name, channel, steps, output):
-    change(name, steps_of(channel, steps), True, output)
+    change(name, output, gained, channel, steps, True, False)
+
+
+def noted(name, channel, steps, wraps, output):
+    change(name, output, gained, channel, steps, wraps == "W", True)
+
+
+def undone(name, output):
+    change(name, output, taken_back)
 
 
 def tag_of(data, found):
     """The tag, and where it stands or would stand."""
     for it in found.blocks:
         if it.kind == "APEv2":
-            return Tag(data[it.offset : it.end]), (it.offset, it.end)
+            if it.end - it.offset > LONGEST_TAG:
+                raise Unfit(f"tag too large, {it.end - it.offset}")
+            return Tag(data[it.offset : it.end], it.offset), (it.offset, it.end)
     end = found.frames[-1].end
     return Tag(), (end, end)
 
 
-def noted(name, channel, steps, wraps, output):
-    data = bytes_of(name)
-    tag, place = tag_of(data, survey_of(data))
-    steps = steps_of(channel, steps)
-    left, right, wrapped_before = tag.undo()
-    tag.set_note(left - steps[0], right - steps[1], wrapped_before or wraps == "W")
-    change(name, steps, wraps == "W", output, (place, bytes(tag)))
+def judge_channel(found, channel):
+    """Whether one channel may change alone."""
+    if channel != "both":
+        if found.frames[0].channels == 1:
+            raise Unfit("one channel only")
+        for frame in found.frames:
+            if frame.mode == "joint":
+                raise Unfit(f"joint stereo at {frame.offset}")
 
 
-def undone(name, output):
-    data = bytes_of(name)
-    tag, place = tag_of(data, survey_of(data))
+def add_to_note(tag, old, steps, wraps):
+    """Notes a change in the tag, whose note had the old numbers."""
+    sums = [number - step for number, step in zip(old, steps)]
+    for it in sums:
+        if not -999 <= it <= 999:
+            raise Unfit(f"undo sum {it} is out of range")
+    tag.set_note(*sums, old[2] or wraps)
+    if len(bytes(tag)) > LONGEST_TAG:
+        raise Unfit(f"tag too large, {len(bytes(tag))}")
+
+
+def gained(data, found, channel, steps, wraps, with_note):
+    """The file with the gains of a channel moved, or of 'both', and the change noted in the tag or not."""
+    steps, place, tag = steps_of(channel, steps), None, None
+    if with_note:
+        tag, place = tag_of(data, found)
+        old = tag.undo()
+    judge_channel(found, channel)
+    if with_note:
+        add_to_note(tag, old, steps, wraps)
+    return with_gains(data, found, steps, wraps, (place, bytes(tag)) if with_note else None)
+
+
+def taken_back(data, found):
+    """The file with all changes taken back that its tag has a note of."""
+    tag, place = tag_of(data, found)
     if tag.note() is None:
-        sys.exit("no undo item")
+        raise Unfit("no undo item")
     left, right, wraps = tag.undo()
     tag.drop_note()
-    change(name, (left, right), wraps, output, (place, bytes(tag) if tag.items else b""))
+    return with_gains(data, found, (left, right), wraps, (place, bytes(tag) if tag.items else b""))
 
 
 def items(name):
@@ -559,10 +636,8 @@ def note(name):
     print((tag_of(data, survey_of(data))[0].note() or b"").decode("ascii"))
 
 
-def change(name, steps, wraps, output, tag=None):
-    """Writes the file with moved gains, without junk, and with other bytes where the tag stands."""
-    data = bytes_of(name)
-    found = survey_of(data)
+def with_gains(data, found, steps, wraps, tag):
+    """The file with moved gains, without junk, and with other bytes where the tag stands."""
     new = bytearray(data)
     for frame in found.frames:
         side = side_of(frame, steps, wraps)
@@ -572,7 +647,14 @@ def change(name, steps, wraps, output, tag=None):
     # The last place first, so that the others stay where they are.
     for place, there in sorted([(found.junk, b"")] + ([tag] if tag else []), reverse=True):
         new[slice(*place)] = there
-    write(output, new)
+    return bytes(new)
+
+
+def change(name, output, how, *words):
+    """Writes the file as it is changed, and tells what stands in it."""
+    data = bytes_of(name)
+    found = survey_of(data)
+    write(output, how(data, found, *words))
     print(found.text(data))
 
 
@@ -706,5 +788,5 @@ if __name__ == "__main__":
         sys.exit(__doc__)
     try:
         call(*sys.argv[2:])
-    except Refused as it:
+    except (Refused, Unfit) as it:
         sys.exit(f"refused: {it}")

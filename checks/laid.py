@@ -145,32 +145,46 @@ def head_fields(data, head):
     return quality, (fields[place : place + 36] + extension)[:36]
 
 
-def write(name, output, first, end, least, keeps_head):
-    data = frames.bytes_of(name)
-    found = frames.survey_of(data)
+def front_blocks(found):
+    """The ID3v2 blocks before the head or the first frame."""
+    begin = (found.head or found.frames[0]).offset
+    return [it for it in found.blocks if it.kind == "ID3v2" and it.offset < begin]
+
+
+def laid_file(data, found, first, end, least, keeps_head=False):
+    """The bytes of the frames from one number on and before another, and how many frames are written."""
     quality, extension = head_fields(data, found.head if keeps_head else None)
     places = placed([main_data(data, found)[first:end]], least)
     written = laid(places)
-    begin = (found.head or found.frames[0]).offset
-    fronts = [it for it in found.blocks if it.kind == "ID3v2" and it.offset < begin]
+    fronts = front_blocks(found)
     backs = [it for it in found.blocks if it not in fronts]
     parts = [data[it.offset : it.end] for it in fronts]
     parts += [info_frame(places, written, quality, extension), *written]
     parts += [data[it.offset : it.end] for it in backs]
-    frames.write(output, b"".join(parts))
-    print(f"{len(data)} bytes, {sum(map(len, parts))} written, {len(written)} frames")
+    return b"".join(parts), len(written)
+
+
+def joined_file(files, surveys):
+    """The bytes of all frames of the files, and how many frames are written."""
+    places = placed([main_data(data, found) for data, found in zip(files, surveys)], False)
+    written = laid(places)
+    parts = [files[0][it.offset : it.end] for it in front_blocks(surveys[0])]
+    parts += [info_frame(places, written, bytes(4), bytes(36)), *written]
+    return b"".join(parts), len(written)
+
+
+def write(name, output, first, end, least, keeps_head):
+    data = frames.bytes_of(name)
+    new, count = laid_file(data, frames.survey_of(data), first, end, least, keeps_head)
+    frames.write(output, new)
+    print(f"{len(data)} bytes, {len(new)} written, {count} frames")
 
 
 def join(output, names):
     files = [frames.bytes_of(name) for name in names]
-    surveys = [frames.survey_of(data) for data in files]
-    places = placed([main_data(data, found) for data, found in zip(files, surveys)], False)
-    written = laid(places)
-    begin = (surveys[0].head or surveys[0].frames[0]).offset
-    parts = [files[0][it.offset : it.end] for it in surveys[0].blocks if it.kind == "ID3v2" and it.offset < begin]
-    parts += [info_frame(places, written, bytes(4), bytes(36)), *written]
-    frames.write(output, b"".join(parts))
-    print(f"{sum(map(len, parts))} written, {len(written)} frames")
+    new, count = joined_file(files, [frames.survey_of(data) for data in files])
+    frames.write(output, new)
+    print(f"{len(new)} written, {count} frames")
 
 
 def main(words):

@@ -1,0 +1,289 @@
+#!/usr/bin/env python3
+"""What mp3edit answers to its words, from the files that are there: apart from the program that it helps to check.
+
+  results.py WORD..      of the files that the words name: the files that are written, as NAME and length, the text, and the line and the
+                         status of the program
+
+The words are those of README's "Usage", the lines and their order those of its "Statuses and lines". Files are bytes by name.
+frames.py says what stands in a file and moves gains, laid.py lays main data.
+"""
+import re
+import sys
+from dataclasses import dataclass, field
+from functools import lru_cache
+from pathlib import Path
+
+sys.dont_write_bytecode = True
+import frames  # noqa: E402
+import laid  # noqa: E402
+
+LONGEST_SHEET = 65_536
+
+
+@dataclass
+class Result:
+    """Status, text, line, and the bytes of the files that are written; besides which frames of which inputs each of them has, and by
+    how many steps the gains of the left and of the right channel are moved in them."""
+
+    status: int = 0
+    text: str = ""
+    line: str = ""
+    outputs: dict = field(default_factory=dict)
+    chosen: dict = field(default_factory=dict)  # of an output: [(input, first frame, end)]
+    moved: tuple = (0, 0)
+
+
+class Answer(Exception):
+    """A status and the line that goes with it."""
+
+
+# ---- words
+
+
+def name(word):
+    return word != "" and not word.startswith("-")
+
+
+def steps(word):
+    return re.fullmatch(r"[+-]?[0-9]{1,3}", word) and abs(int(word)) <= 255
+
+
+def channel(word):
+    return word in ("0", "1")
+
+
+def place(word):
+    """A frame's number, a pair of a time and its parts of a second, or 'EOF'; or None."""
+    time = re.fullmatch(r"([0-9]{1,4})\.([0-9]{1,2})(?:\.([0-9]{1,2}))?", word)
+    if time and int(time[2]) < 60:
+        return (60 * int(time[1]) + int(time[2])) * 100 + int(time[3] or 0), 100
+    if re.fullmatch(r"[0-9]{1,7}", word):
+        return int(word)
+    return word if word == "EOF" else None
+
+
+def is_place(word):
+    return place(word) is not None
+
+
+# The kinds of the words of each form, a fixed word by itself, and how often the last of them may stand.
+FRONTS = [[], ["-s", "s"], ["-w"], ["-s", "s", "-w"], ["-w", "-s", "s"]]
+MODES = [["-g", steps], ["-l", channel, steps]]
+FORMS = [(["gain", *front, *mode, name, name], 1) for front in FRONTS for mode in MODES]
+FORMS += [
+    (["list", name], 1),
+    (["gain", "-u", name, name], 1),
+    (["cut", name, is_place, is_place, name], 1),
+    (["cut", "--least", name, is_place, is_place, name], 1),
+    (["pack", name, name], 1),
+    (["split", name, name, is_place, is_place], 99),
+    (["split", name, name, "-c", name], 1),
+    (["join", name, name], 64),
+]
+
+
+def judge_words(words):
+    """Refuses the first word that no form takes, or the place behind the last word where one is missing."""
+    longest = 0
+    for kinds, most in FORMS:
+        kinds_of_words = kinds + kinds[-1:] * (most - 1)
+        count = 0
+        for kind, word in zip(kinds_of_words, words):
+            if not (kind(word) if callable(kind) else kind == word):
+                break
+            count += 1
+        if len(kinds) <= len(words) == count:
+            return
+        longest = max(longest, count)
+    raise Answer(2, f"bad word {longest + 1}")
+
+
+# ---- places and sheets
+
+
+def frame_at(place, found):
+    first = found.frames[0]
+    if place == "EOF":
+        return len(found.frames)
+    if isinstance(place, int):
+        return place
+    time, parts = place
+    return time * first.frequency // (parts * 576 * first.version.granules)
+
+
+def ranges_of(places, found):
+    """The pairs of frames from place to place."""
+    at = [frame_at(it, found) for it in places]
+    count = len(found.frames)
+    for pair in zip(at, at[1:]):
+        if not pair[0] < pair[1] <= count:
+            raise Answer(1, f"range {pair[0]} to {pair[1]} of {count} frames")
+    return list(zip(at, at[1:]))
+
+
+class Sheet:
+    """A cue sheet, line by line."""
+
+    def __init__(self):
+        self.file, self.tracks, self.has_start, self.starts = False, 0, False, []
+
+    def take(self, words):
+        """What is at fault in the line of these words, or nothing."""
+        kind = words[0].upper() if words else b""
+        if kind == b"FILE":
+            again, self.file = self.file, True
+            return "bad line" if again else None
+        if kind == b"TRACK":
+            return self.take_track(words[1:])
+        return self.take_index(words[1:]) if kind == b"INDEX" else None
+
+    def take_track(self, words):
+        if len(words) != 2 or not re.fullmatch(rb"[0-9]{1,2}", words[0]) or int(words[0]) == 0 or words[1].upper() != b"AUDIO":
+            return "bad line"
+        self.tracks, self.has_start = self.tracks + 1, False
+        return "bad line" if self.tracks == 100 else None
+
+    def take_index(self, words):
+        time = re.fullmatch(rb"([0-9]{2,4}):([0-5][0-9]):([0-6][0-9]|7[0-4])", words[1]) if len(words) == 2 else None
+        if not time or not re.fullmatch(rb"[0-9]{1,2}", words[0]) or self.tracks == 0:
+            return "bad line"
+        if int(words[0]) != 1:
+            return None
+        if self.has_start:
+            return "bad line"
+        self.has_start = True
+        start = (60 * int(time[1]) + int(time[2])) * 75 + int(time[3])
+        if self.starts and start <= self.starts[-1]:
+            return "not rising at line"
+        self.starts.append(start)
+        return None
+
+
+def places_of(word, files):
+    """The places where the tracks of a sheet start, and the end."""
+    if word not in files:
+        raise Answer(3, f"{word}: absent")
+    data, sheet = files[word], Sheet()
+    if len(data) > LONGEST_SHEET:
+        raise Answer(1, f"{word}: sheet too large, {len(data)} bytes")
+    for number, line in enumerate(data.removeprefix(b"\xef\xbb\xbf").split(b"\n"), 1):
+        fault = sheet.take([it for it in re.split(rb"[ \t]+", line.removesuffix(b"\r")) if it])
+        if fault:
+            raise Answer(1, f"{word}: {fault} {number}")
+    if not sheet.starts:
+        raise Answer(1, f"{word}: no tracks")
+    return [(it, 75) for it in sheet.starts] + ["EOF"]
+
+
+# ---- commands
+
+
+@lru_cache(maxsize=8)
+def survey_or_fault(data):
+    try:
+        return frames.survey_of(data)
+    except frames.Refused as it:
+        return it
+
+
+def surveyed(word, files):
+    if word not in files:
+        raise Answer(3, f"{word}: absent")
+    found = survey_or_fault(files[word])
+    if isinstance(found, frames.Refused):
+        raise Answer(1, f"{word}: {found}")
+    return found
+
+
+def judge_names(inputs, outputs):
+    for it in inputs:
+        if it in outputs:
+            raise Answer(1, f"{it}: input is an output")
+
+
+def list_file(words, files):
+    return Result(text="".join(f"{it}\n" for it in frames.lines_of(surveyed(words[1], files))))
+
+
+def gain(words, files):
+    source, output = words[-2:]
+    judge_names([source], [output])
+    found, data = surveyed(source, files), files[source]
+    if words[1] == "-u":
+        new = frames.taken_back(data, found)
+        moved = frames.tag_of(data, found)[0].undo()[:2]
+    else:
+        mode = words[:-2]
+        which = mode[-2] if "-l" in mode else "both"
+        new = frames.gained(data, found, which, mode[-1], "-w" in mode, "-s" not in mode)
+        moved = frames.steps_of(which, mode[-1])
+    return Result(outputs={output: new}, chosen={output: [(source, 0, len(found.frames))]}, moved=moved)
+
+
+def cut(words, files):
+    source, first, end, output = words[-4:]
+    judge_names([source], [output])
+    found = surveyed(source, files)
+    [(first, end)] = ranges_of([place(first), place(end)], found)
+    new = laid.laid_file(files[source], found, first, end, words[1] == "--least")[0]
+    return Result(outputs={output: new}, chosen={output: [(source, first, end)]})
+
+
+def pack(words, files):
+    _, source, output = words
+    judge_names([source], [output])
+    found = surveyed(source, files)
+    new = laid.laid_file(files[source], found, 0, None, True, True)[0]
+    return Result(outputs={output: new}, chosen={output: [(source, 0, len(found.frames))]})
+
+
+def split(words, files):
+    _, source, prefix, *rest = words
+    sheets = rest[1:] if rest[0] == "-c" else []
+    judge_names([source, *sheets], [f"{prefix}{it:02}.mp3" for it in range(1, 100)])
+    found = surveyed(source, files)
+    ranges = ranges_of(places_of(sheets[0], files) if sheets else map(place, rest), found)
+    done = Result()
+    for number, (first, end) in enumerate(ranges, 1):
+        piece = f"{prefix}{number:02}.mp3"
+        done.outputs[piece] = laid.laid_file(files[source], found, first, end, False)[0]
+        done.chosen[piece] = [(source, first, end)]
+    return done
+
+
+def join(words, files):
+    _, output, *sources = words
+    judge_names(sources, [output])
+    surveys = []
+    for it in sources:
+        surveys.append(surveyed(it, files))
+        if surveys[-1].frames[0].kind != surveys[0].frames[0].kind:
+            raise Answer(1, f"{it}: other class than the first input")
+    new = laid.joined_file([files[it] for it in sources], surveys)[0]
+    return Result(outputs={output: new}, chosen={output: [(it, 0, len(found.frames)) for it, found in zip(sources, surveys)]})
+
+
+COMMANDS = {"list": list_file, "gain": gain, "cut": cut, "pack": pack, "split": split, "join": join}
+
+
+def result_of(words, files):
+    try:
+        judge_words(words)
+        return COMMANDS[words[0]](words, files)
+    except Answer as it:
+        return Result(it.args[0], line=f"{it.args[1]}\n")
+    except frames.Unfit as it:
+        return Result(1, line=f"{it}\n")
+
+
+def main(words):
+    result = result_of(words, {it: Path(it).read_bytes() for it in words if Path(it).is_file()})
+    for it, data in result.outputs.items():
+        print(f"{it}: {len(data)} bytes")
+    print(end=result.text)
+    print(end=result.line, file=sys.stderr)
+    sys.exit(result.status)
+
+
+if __name__ == "__main__":
+    main(sys.argv[1:])
