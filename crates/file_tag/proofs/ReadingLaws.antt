@@ -1,19 +1,21 @@
 -- The tag of a file, from the bytes of its block.
-use Rattle.std.proofs.Common.{◌≡◌, ℕ, ◌+◌, ◌-◌, ◌<◌, ◌≤◌, true, ltb, List, length, take, drop, Some, None, Result, Ok, Err, refl, sym, ◌∙◌, ap, subst, arith}
+use Rattle.std.proofs.Common.{◌≡◌, ℕ, ◌+◌, ◌<◌, ◌≤◌, true, ltb, List, length, take, drop, Some, None, Result, Ok, Err, refl, sym, ◌∙◌, ap, subst, arith}
 use Rattle.std.specs.Prelude.{IfOk, IfErr}
 use Rattle.std.proofs.lemmas.Bool.{lt-ltb}
 use Rattle.tag_blocks.specs.declared.block.Kind.TheVariants.{Ape}
 use Rattle.tag_blocks.specs.Blocks.{block_front}
 use Rattle.tag_blocks.specs.Tags.{TagFields}
-use Rattle.outside.specs.Files.{Files, untold, Holds, IsThere}
+use Rattle.outside.specs.Exact.{HasReadCause}
+use Rattle.outside.specs.declared.exact.ReadFault.{ReadFault}
+use Rattle.outside.specs.declared.exact.ReadFault.TheVariants.{Failed, Shrunk as ShrunkRead}
+use Rattle.outside.specs.Files.{Files, Holds}
 use Rattle.outside.specs.Counts.{Counts}
 use Rattle.sync_survey.specs.declared.places.Piece.{Piece}
 use Rattle.sync_survey.specs.Faults.{SurveyFields}
-use Rattle.sync_survey.proofs.FoldersLaws.{nothing_told}
 use Rattle.file_tag.specs.declared.fault.FileTagFault.{FileTagFault}
 use Rattle.file_tag.specs.declared.fault.FileTagFault.TheVariants.{TooLarge, Bad, Read, Shrunk, Memory}
 use Rattle.file_tag.specs.Places.{tag_block, tag_at, tag_length}
-use Rattle.file_tag.specs.Reading.{longest_tag, empty_tag, tag_of_block, file_tag, IsSurveyOf, RefusesTag, IsTagCause, IsBlockCause}
+use Rattle.file_tag.specs.Reading.{longest_tag, empty_tag, tag_of_block, file_tag, of_read, IsSurveyOf, RefusesTag, IsTagCause, IsBlockCause}
 use Rattle.file_tag.proofs.FoundTag.{IsTagThere, tag-there, survey_of-surveyed, surveyed-length}
 
 -- ---- the tag of a file
@@ -42,10 +44,10 @@ module _ (name : List ℕ) (files : Files) (s : SurveyFields) (surveyed : (bytes
       let is = surveyed bytes holds in
       surveyed-length bytes is.0 s (survey_of-surveyed bytes is.0 s is.1)
 
-  -- a read that gives fewer bytes than the tag has
-  pub short-untold : (got : ℕ) → IsThere files name → ((bytes : List ℕ) → Holds files name bytes → got ≡ length bytes - b.offset) → got < b.block.length → files ≡ untold
-  short-untold got there is less =
-      nothing_told files name there (λ bytes holds. let here = told-there bytes holds in omega (arith, is bytes holds, here.within, less))
+  -- bytes that aren't read
+  pub read-cause : (before after : Counts) (size : ℕ) → size ≡ s.length → (fault : ReadFault) → HasReadCause size files before after fault → IsTagCause name files s before after (of_read fault)
+  read-cause before after size is Failed cause = cause.0
+  read-cause before after size is (ShrunkRead first second) cause = (cause.0, cause.1 ∙ is, cause.2, cause.3, cause.4)
 
   -- a tag that is too long
   pub too_large-refused : longest_tag < b.block.length → RefusesTag name files s (TooLarge b.block.length)

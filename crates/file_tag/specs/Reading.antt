@@ -5,6 +5,8 @@ use Rattle.tag_blocks.specs.Blocks.{block_front}
 use Rattle.tag_blocks.specs.declared.tag_fault.TagFault.{TagFault}
 use Rattle.tag_blocks.specs.declared.tag_fault.TagFault.TheVariants.{BadTag, Memory as NoMemory}
 use Rattle.tag_blocks.specs.Tags.{TagFields, tag_of}
+use Rattle.outside.specs.declared.exact.ReadFault.{ReadFault}
+use Rattle.outside.specs.declared.exact.ReadFault.TheVariants.{Failed, Shrunk as ShrunkRead}
 use Rattle.outside.specs.Files.{Files, untold, Holds}
 use Rattle.outside.specs.Counts.{Counts, Rose, NothingFailed}
 use Rattle.sync_survey.specs.declared.places.Piece.{Piece}
@@ -39,6 +41,11 @@ file_tag file s = tag_in (tag_block s)
     tag_in : Option Piece → Result TagFields FileTagFault
     tag_in None = Ok empty_tag
     tag_in (Some b) = tag_of_block b.offset (take b.block.length (drop b.offset file))
+
+-- the fault of a file whose bytes aren't read
+abbrev pub of_read : ReadFault → FileTagFault
+of_read Failed = Read
+of_read (ShrunkRead first second) = Shrunk first second
 
 -- the survey is that of the file, whatever number of frames was allowed
 abbrev pub IsSurveyOf : List ℕ → SurveyFields → Type 0

@@ -2,6 +2,7 @@
 ghost use Rattle.std.specs.Prelude.{◌≡◌};
 ghost use Rattle.file_tag.specs.declared.fault.FileTagFault.TheVariants.{Memory};
 
+use outside::ReadFault;
 use std::alloc::AllocError;
 
 /// Why the tag of a file isn't read. Lengths and offsets are in bytes.
@@ -17,6 +18,19 @@ pub enum FileTagFault {
     Shrunk(u64, u64),
     /// There was no memory left.
     Memory,
+}
+
+impl From<ReadFault> for FileTagFault {
+    ghost use Rattle.file_tag.specs.Reading.{of_read};
+
+    ghost from_gives = { λ fault e. e ≡ of_read fault };
+
+    fn from(fault: ReadFault) -> FileTagFault {
+        match fault {
+            ReadFault::Failed => FileTagFault::Read,
+            ReadFault::Shrunk(first, second) => FileTagFault::Shrunk(first, second),
+        }
+    }
 }
 
 impl From<AllocError> for FileTagFault {

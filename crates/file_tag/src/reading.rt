@@ -11,7 +11,7 @@ ghost use Rattle.file_tag.specs.Reading.{empty_tag, longest_tag, tag_of_block, f
 
 use crate::fault::FileTagFault;
 use crate::places::first_tag;
-use outside::{Folder, read_full};
+use outside::{Folder, read_exact};
 use std::alloc::Global;
 use sync_survey::{Piece, Survey};
 use tag_blocks::{Kind, Tag, TagFault, block_at};
@@ -44,14 +44,8 @@ fn read_block<D: Folder>(
     ensures counts { OnlyReads (D.counts folder.old) (D.counts folder.new) }
 {
     let mut block = vec![in alloc; 0; piece.block.length as usize]?;
-    match read_full(folder, name, piece.offset, &mut block) {
-        Ok(got) if got < block.len() => Err(FileTagFault::Shrunk(
-            survey.length(),
-            piece.offset + got as u64,
-        )),
-        Ok(_) => Ok(block),
-        Err(_) => Err(FileTagFault::Read),
-    }
+    read_exact(folder, name, survey.length(), piece.offset, &mut block)?;
+    Ok(block)
 }
 
 /// The tag of a block at this offset of a file. Bytes that aren't an APEv2 block of exactly their length are refused too,

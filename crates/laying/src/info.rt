@@ -14,7 +14,7 @@ ghost use Rattle.laying.specs.Passing.{HasSurvey};
 
 use frame_header::Class;
 use info_header::{Info, info_over};
-use outside::{Folder, PassFault, read_full};
+use outside::{Folder, PassFault, read_exact};
 use slot_plan::Placed;
 use sync_survey::{Head, Survey};
 
@@ -85,35 +85,6 @@ pub fn info_of(class: Class, placed: &[Placed], kept: &Kept) -> Info
     info
 }
 
-/// Reads bytes of an input, which are within its length.
-fn read_bytes<D: Folder>(
-    folder: &mut D,
-    name: &str,
-    survey: &Survey,
-    at: u64,
-    bytes: &mut [u8],
-) -> Result<(), PassFault>
-    requires there { IsThere (D.files folder.old) name.now }
-    requires exact { (file : List ℕ) → Holds (D.files folder.old) name.now file
-        → HasSurvey file (tells survey.now) }
-    requires few { (tells survey.now).length ≤ longest_file }
-    requires within { at + length bytes.old ≤ (tells survey.now).length }
-    ensures bytes { OnOk result ((file : List ℕ) → Holds (D.files folder.old) name.now file
-        → bytes.new ≡ take (length bytes.old) (drop at file)) }
-    ensures done { OnOk result (D.counts folder.new ≡ D.counts folder.old) }
-    ensures cause { IfErr result (HasPassCause (tells survey.now).length (D.files folder.old)
-        (D.counts folder.old) (D.counts folder.new)) }
-    ensures reads { IsErrOf result PassFault.Write → ⊥ }
-    ensures files { D.files folder.new ≡ D.files folder.old }
-    ensures counts { OnlyReads (D.counts folder.old) (D.counts folder.new) }
-{
-    match read_full(folder, name, at, bytes) {
-        Ok(got) if got < bytes.len() => Err(PassFault::Shrunk(survey.length(), at + got as u64)),
-        Ok(_) => Ok(()),
-        Err(_) => Err(PassFault::Read),
-    }
-}
-
 /// What the head of an input says.
 fn kept_of<D: Folder>(
     folder: &mut D,
@@ -139,7 +110,7 @@ fn kept_of<D: Folder>(
     let length = head.header.length();
     let mut room = [0; 1441];
     let frame = &mut room[..length as usize];
-    read_bytes(folder, name, survey, head.offset, frame)?;
+    read_exact(folder, name, survey.length(), head.offset, frame)?;
     Ok(Kept::read(frame, head.text_at))
 }
 

@@ -6,7 +6,7 @@ use Rattle.std.proofs.lemmas.Map.{update_same, update_other, update-update}
 use Rattle.std.proofs.lemmas.Slice.Eq.{bytes_eq-Decides}
 use Rattle.std.specs.Prelude.{Bool, true, false, cond, Option, Some, None, unwrap_or, IsSome, is_some, bytes_eq}
 use Rattle.std.specs.Map.{update}
-use Rattle.outside.specs.Files.{Contents, Files, Sent, with_file, emptied, appended, sent_more, Holds, IsThere}
+use Rattle.outside.specs.Files.{Contents, Files, Sent, untold, with_file, emptied, appended, sent_more, Holds, IsThere}
 
 -- the name of a file is equal to itself, and to no other
 pub bytes_eq_same : (name : List ℕ) → bytes_eq name name ≡ true
@@ -169,6 +169,11 @@ there_holds f name there = held (f name) there
     held : (o : Option (List ℕ)) → IsSome o → (bytes : List ℕ) × (o ≡ Some bytes)
     held None there = cc
     held (Some bytes) there = (bytes, refl)
+
+-- where no bytes can be those of a file that is there, nothing is told
+pub nothing_told : (files : Files) (name : List ℕ) → IsThere files name → ((bytes : List ℕ) → Holds files name bytes → ⊥) → files ≡ untold
+nothing_told None name there none = refl
+nothing_told (Some f) name there none = let held = there_holds f name there in absurd (none held.0 held.1)
 
 pub holds_there : (files : Files) (name bytes : List ℕ) → Holds files name bytes → IsThere files name
 holds_there None name bytes holds = tt

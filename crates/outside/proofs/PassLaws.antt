@@ -1,17 +1,20 @@
 -- Steps of a pass, one behind the other.
-use Rattle.std.proofs.Common.{◌≡◌, ◌≢◌, ℕ, ◌+◌, ◌-◌, ◌≤◌, List, [], ◌++◌, length, take, drop, refl, sym, ◌∙◌, ap, subst, arith, append_assoc, append-nil, length-append, length-drop}
+use Rattle.std.proofs.Common.{◌≡◌, ◌≢◌, ℕ, ◌+◌, ◌-◌, ◌≤◌, List, [], ◌++◌, length, take, drop, refl, sym, ◌∙◌, ap, subst, arith, append_assoc, append-nil, length-append}
 use Rattle.std.specs.Prelude.{Result, Ok, Err, Some, None, IfErr}
-use Rattle.std.proofs.lemmas.List.{take_all, take-append-le, length-take, drop-drop}
+use Rattle.std.proofs.lemmas.List.{take-append-le, length-take, drop-drop}
 use Rattle.std.proofs.Math.Seq.{take-append-add, take-add}
 use Rattle.outside.specs.Files.{Files, appended, Holds, IsThere}
 use Rattle.outside.specs.Counts.{Counts}
 use Rattle.outside.specs.Feed.{Fed}
 use Rattle.outside.specs.Passed.{PassedOn, AppendedPrefix}
+use Rattle.outside.specs.Exact.{HasReadCause}
+use Rattle.outside.specs.declared.exact.ReadFault.{ReadFault}
+use Rattle.outside.specs.declared.exact.ReadFault.TheVariants.{Failed, Shrunk as ShrunkRead}
 use Rattle.outside.specs.declared.pass.Pass.{Pass}
 use Rattle.outside.specs.declared.pass.PassFault.{PassFault}
 use Rattle.outside.specs.declared.pass.PassFault.TheVariants.{Read, Shrunk, Write}
-use Rattle.outside.specs.Pass.{IsReady, AreMade, bytes_between, Writes, AppendsPart, WritesPrefix, Appends, AppendsPrefix, HasPassCause}
-use Rattle.outside.proofs.FilesLaws.{appended_twice, appended_nothing, appended_holds_other, appended_held_other, appended_keeps, there_holds}
+use Rattle.outside.specs.Pass.{IsReady, AreMade, bytes_between, Writes, AppendsPart, WritesPrefix, Appends, AppendsPrefix, of_read, HasPassCause}
+use Rattle.outside.proofs.FilesLaws.{appended_twice, appended_nothing, appended_holds_other, appended_held_other, appended_keeps}
 use Rattle.outside.proofs.PassedLaws.{passed_more}
 
 -- The first of the bytes went on, and the rest of them are to follow.
@@ -252,14 +255,10 @@ module _ {input output : List ℕ} (apart : input ≢ output) {made : List ℕ �
 
 -- ---- counts and causes
 
--- fewer bytes than the length lets expect come only where nothing is told
-pub only_untold : (files : Files) (name given : List ℕ) (at n size : ℕ) → IsThere files name → ((file : List ℕ) → Holds files name file → length file ≡ size) → at + n ≤ size → length given ≤ n → length given ≢ n
-    → ((file : List ℕ) → Holds files name file → given ≡ take n (drop at file)) → files ≡ None
-only_untold None name given at n size there long within few other is = refl
-only_untold (Some f) name given at n size there long within few other is =
-    let told = there_holds f name there in
-    let file = told.0 in
-    absurd (other (omega (arith, ap length (is file told.1), length-take n (drop at file), length-drop at file, long file told.1, within)))
+-- that of a read is a cause of the pass
+pub read_cause : (size : ℕ) (files : Files) (before after : Counts) (fault : ReadFault) → HasReadCause size files before after fault → HasPassCause size files before after (of_read fault)
+read_cause size files before after Failed cause = cause
+read_cause size files before after (ShrunkRead first second) cause = cause
 
 appended_untold : (files : Files) (output more : List ℕ) → appended files output more ≡ None → files ≡ None
 unfolding appended
@@ -289,18 +288,9 @@ module _ {pass : Pass} {made : List ℕ → List ℕ} {before mid : List ℕ} {o
 
 -- ---- bytes from one offset to another
 
-pub between_none : (file : List ℕ) (at : ℕ) → bytes_between file at at ≡ []
-between_none file at = let none : at - at ≡ 0 = omega arith in ap (λ n. take n (drop at file)) none
-
-pub between_past : (file : List ℕ) (at to : ℕ) → to ≤ at → bytes_between file at to ≡ []
-between_past file at to past = let none : to - at ≡ 0 = omega (arith, past) in ap (λ n. take n (drop at file)) none
-
 pub between_split : (file : List ℕ) (at n to : ℕ) → at + n ≤ to → bytes_between file at to ≡ take n (drop at file) ++ bytes_between file (at + n) to
 between_split file at n to within =
     let sum : to - at ≡ n + (to - (at + n)) = omega (arith, within) in
     ap (λ k. take k (drop at file)) sum
     ∙ take-add n (to - (at + n)) (drop at file)
     ∙ ap (λ (l : List ℕ). take n (drop at file) ++ take (to - (at + n)) l) (drop-drop n at file)
-
-pub between_all : (file : List ℕ) (at to : ℕ) → length file ≡ to → bytes_between file at to ≡ drop at file
-between_all file at to is = take_all (to - at) (drop at file) (omega (arith, is, length-drop at file))

@@ -9,4 +9,5 @@ pub mod Opening
 pub mod Faults
 pub mod Feed
 pub mod Passed
+pub mod Exact
 pub mod Pass

@@ -1,9 +1,12 @@
 -- What a pass over an input makes of its output, and why it ends early.
-use Rattle.std.specs.Prelude.{◌≡◌, ◌≢◌, ℕ, ◌-◌, ◌^◌, ◌<◌, ◌≤◌, List, [], ◌++◌, length, take, drop}
-use Rattle.outside.specs.Files.{Files, untold, appended, Holds, IsThere}
-use Rattle.outside.specs.Counts.{Counts, Rose, OnlyReads, OnlyWrites, NothingFailed}
+use Rattle.std.specs.Prelude.{◌≡◌, ◌≢◌, ℕ, ◌-◌, ◌^◌, ◌≤◌, List, [], ◌++◌, length, take, drop}
+use Rattle.outside.specs.Files.{Files, appended, Holds, IsThere}
+use Rattle.outside.specs.Counts.{Counts, Rose, OnlyWrites}
 use Rattle.outside.specs.Passed.{PassedOn}
 use Rattle.outside.specs.Feed.{Fed, IsFedFrom}
+use Rattle.outside.specs.Exact.{HasReadCause}
+use Rattle.outside.specs.declared.exact.ReadFault.{ReadFault}
+use Rattle.outside.specs.declared.exact.ReadFault.TheVariants.{Failed, Shrunk as ShrunkRead}
 use Rattle.outside.specs.declared.pass.Pass.{Pass}
 use Rattle.outside.specs.declared.pass.PassFault.{PassFault}
 use Rattle.outside.specs.declared.pass.PassFault.TheVariants.{Read, Shrunk, Write}
@@ -58,15 +61,13 @@ pub record Appends (input output : List ℕ) (made : List ℕ → List ℕ) (old
 abbrev pub AppendsPrefix : List ℕ → List ℕ → (List ℕ → List ℕ) → Files → Files → Type 0
 AppendsPrefix input output made old new = AppendsPart input output made [] old new
 
--- The cause of a fault: the count that is named rose, and no count of the other kind. An input of which nothing is told had the first
--- length, and a read at the second gave no byte.
+-- the fault of a pass whose input isn't read
+abbrev pub of_read : ReadFault → PassFault
+of_read Failed = Read
+of_read (ShrunkRead first second) = Shrunk first second
+
+-- The cause of a fault: that of the read, or the count of failed writes rose, and no count of a read.
 abbrev pub HasPassCause : ℕ → Files → Counts → Counts → PassFault → Type 0
-HasPassCause size files before after Read = Rose before.read_faults after.read_faults × OnlyReads before after
-HasPassCause size files before after (Shrunk first second) =
-    (files ≡ untold)
-    × (first ≡ size)
-    × (second < first)
-    × Rose before.ends after.ends
-    × NothingFailed before after
-    × OnlyReads before after
+HasPassCause size files before after Read = HasReadCause size files before after Failed
+HasPassCause size files before after (Shrunk first second) = HasReadCause size files before after (ShrunkRead first second)
 HasPassCause size files before after Write = Rose before.write_faults after.write_faults × OnlyWrites before after

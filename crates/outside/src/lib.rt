@@ -4,6 +4,7 @@
 
 mod buffer;
 mod disk;
+mod exact;
 mod feed;
 mod folder;
 mod helpers;
@@ -22,6 +23,7 @@ mod write_buffer;
 mod writing;
 
 pub use disk::DiskFolder;
+pub use exact::{ReadFault, read_exact};
 pub use feed::Feed;
 pub use folder::{Failed, FindFault, Folder};
 pub use helpers::{read_full, send_all, write_all};

@@ -4,6 +4,7 @@ ghost use Rattle.outside.specs.Files.{appended, IsThere};
 ghost use Rattle.outside.specs.Passed.{PassedOn, AppendedPrefix};
 ghost use Rattle.outside.specs.Pass.{IsReady, AreMade, bytes_at, bytes_between, Writes, WritesPrefix, HasPassCause};
 
+use crate::exact::ReadFault;
 use crate::feed::Feed;
 use crate::folder::Folder;
 use crate::write_buffer::WriteBuffer;
@@ -20,6 +21,20 @@ pub enum PassFault {
     Shrunk(u64, u64),
     /// The output could not be written.
     Write,
+}
+
+/// The input could not be read.
+impl From<ReadFault> for PassFault {
+    ghost use Rattle.outside.specs.Pass.{of_read};
+
+    ghost from_gives = { λ fault e. e ≡ of_read fault };
+
+    fn from(fault: ReadFault) -> PassFault {
+        match fault {
+            ReadFault::Failed => PassFault::Read,
+            ReadFault::Shrunk(first, second) => PassFault::Shrunk(first, second),
+        }
+    }
 }
 
 /// What a pass reads, and what it writes.
@@ -57,11 +72,8 @@ impl<'a> Pass<'a> {
         ensures files { D.files folder.new ≡ D.files folder.old }
         ensures ready { IsReady self.now (D.files folder.new) feed.new }
     {
-        match feed.fill(folder, self.input, at, n) {
-            Ok(got) if got < n => Err(PassFault::Shrunk(self.length, at + got as u64)),
-            Ok(_) => Ok(()),
-            Err(_) => Err(PassFault::Read),
-        }
+        feed.fill_exact(folder, self.input, self.length, at, n)?;
+        Ok(())
     }
 
     /// Adds a piece to what waits for the output.

@@ -1,20 +1,22 @@
 -- The refusals of a survey of a file of a folder.
-use Rattle.std.proofs.Common.{◌≡◌, ℕ, ◌+◌, ◌-◌, ◌<◌, ◌≤◌, min, Bool, true, false, cond, leb, ltb, List, length, take, drop, Some, None, Result, Ok, Err, refl, sym, ◌∙◌, ap, subst, arith, length-take, length-drop}
+use Rattle.std.proofs.Common.{◌≡◌, ℕ, ◌-◌, ◌<◌, ◌≤◌, min, Bool, true, false, cond, leb, ltb, List, length, take, drop, Result, Ok, Err, refl, sym, ◌∙◌, ap, subst, arith, length-drop}
 use Rattle.std.specs.Prelude.{IfOk, IfErr}
-use Rattle.std.proofs.lemmas.Bool.{ltb-true, ltb-false, leb-true, leb-false, lt-ltb, le-ltb}
+use Rattle.std.proofs.lemmas.Bool.{leb-true, leb-false, lt-ltb, le-ltb}
 use Rattle.std.proofs.lemmas.List.{take_all}
 use Rattle.bit_fields.specs.Bits.{AreBytes}
 use Rattle.bit_fields.proofs.BitsLaws.{AreBytes-from_slice}
-use Rattle.outside.specs.Files.{Files, untold, Holds, IsThere, IsMissing, AreOctets}
-use Rattle.outside.specs.Counts.{Counts, Rose, NothingFailed}
-use Rattle.outside.proofs.FilesLaws.{there_holds}
+use Rattle.outside.specs.Exact.{HasReadCause}
+use Rattle.outside.specs.declared.exact.ReadFault.{ReadFault}
+use Rattle.outside.specs.declared.exact.ReadFault.TheVariants.{Failed, Shrunk as ShrunkRead}
+use Rattle.outside.specs.Files.{Files, Holds, IsThere, IsMissing, AreOctets}
+use Rattle.outside.specs.Counts.{Counts, Rose}
 use Rattle.sync_survey.specs.declared.places.Start.{Start}
 use Rattle.sync_survey.specs.declared.survey_fault.SurveyFault.{SurveyFault}
-use Rattle.sync_survey.specs.declared.survey_fault.SurveyFault.TheVariants.{TooLong, Shrunk, Memory}
+use Rattle.sync_survey.specs.declared.survey_fault.SurveyFault.TheVariants.{TooLong, Memory}
 use Rattle.sync_survey.specs.Looks.{look_size, Shows}
 use Rattle.sync_survey.specs.Start.{start_of}
 use Rattle.sync_survey.specs.Faults.{survey_by, surveyed, longest_file}
-use Rattle.sync_survey.specs.Kinds.{by_kind, RefusesRightly}
+use Rattle.sync_survey.specs.Kinds.{of_read, by_kind, RefusesRightly}
 use Rattle.sync_survey.specs.Survey.{survey_of, RefusesBytes, HasShrunk, AsksForMemory, IsRefusal, HasLength}
 
 -- ---- by the length
@@ -39,37 +41,14 @@ octets_bytes bytes all = AreBytes-from_slice bytes (λ i. record { fits = all i 
 
 -- ---- by a read that ends early
 
--- where the files are told, no bytes being those of the file is a contradiction
-pub nothing_told : (files : Files) (name : List ℕ) → IsThere files name → ((bytes : List ℕ) → Holds files name bytes → ⊥) → files ≡ untold
-nothing_told None name there none = refl
-nothing_told (Some f) name there none = let held = there_holds f name there in absurd (none held.0 held.1)
-
-shrunk_by : (name : List ℕ) (files : Files) (allowed : ℕ) (before after : Counts) (size at wanted got : ℕ) (given : List ℕ) → HasLength files name size → wanted ≤ size - at
-    → ((bytes : List ℕ) → Holds files name bytes → given ≡ take wanted (drop at bytes)) → length given ≡ got → got < wanted → Rose before.ends after.ends → NothingFailed before after
-    → IsRefusal name files allowed before after (Shrunk size (at + got))
-shrunk_by name files allowed before after size at wanted got given known within is many less rose done = record {
-  cause = record {
-    nothing_told = nothing_told files name known.there (λ bytes holds. omega (arith, ap length (is bytes holds), length-take wanted (drop at bytes), length-drop at bytes, known.long bytes holds, many, less, within));
-    ended = rose;
-    counts = done;
-  };
-  numbers = omega (arith, less, within);
+pub read_refusal : (name : List ℕ) (files : Files) (allowed : ℕ) (before after : Counts) (size : ℕ) (fault : ReadFault) → HasReadCause size files before after fault → IsRefusal name files allowed before after (of_read fault)
+read_refusal name files allowed before after size Failed cause = record { cause = cause.0; numbers = tt }
+read_refusal name files allowed before after size (ShrunkRead first second) cause = record {
+  cause = record { nothing_told = cause.0; ended = cause.3; counts = cause.4 };
+  numbers = cause.2;
 }
 
-pub shrunk_refusal : (name : List ℕ) (files : Files) (allowed : ℕ) (before after : Counts) (size at wanted got : ℕ) (given : List ℕ) (fault : SurveyFault) → HasLength files name size → wanted ≤ size - at
-    → ((bytes : List ℕ) → Holds files name bytes → given ≡ take wanted (drop at bytes)) → length given ≡ got → (got < wanted → Rose before.ends after.ends) → NothingFailed before after
-    → (short : Bool) → ltb got wanted ≡ short → Some fault ≡ cond short (Some (Shrunk size (at + got))) None → IsRefusal name files allowed before after fault
-shrunk_refusal name files allowed before after size at wanted got given fault known within is many rose done true less e =
-    let same : Shrunk size (at + got) ≡ fault = cc in
-    let short = ltb-true got wanted less in
-    subst (IsRefusal name files allowed before after) same (shrunk_by name files allowed before after size at wanted got given known within is many short (rose short) done)
-shrunk_refusal name files allowed before after size at wanted got given fault known within is many rose done false less e = absurd cc
-
 -- ---- what a look shows
-
-pub not_short : (got wanted : ℕ) (fault : SurveyFault) (short : Bool) → ltb got wanted ≡ short → None ≡ cond short (Some fault) None → wanted ≤ got
-not_short got wanted fault true less e = absurd cc
-not_short got wanted fault false less e = ltb-false got wanted less
 
 take_fewer : (m n : ℕ) (xs : List ℕ) → n ≡ min (length xs) m → (short : Bool) → leb (length xs) m ≡ short → take n xs ≡ take m xs
 take_fewer m n xs is true e =

@@ -1,5 +1,7 @@
 -- The kinds of a survey's faults.
 use Rattle.std.specs.Prelude.{◌≡◌, ◌<◌}
+use Rattle.outside.specs.declared.exact.ReadFault.{ReadFault}
+use Rattle.outside.specs.declared.exact.ReadFault.TheVariants.{Failed, Shrunk as ShrunkRead}
 use Rattle.sync_survey.specs.declared.survey_fault.SurveyFault.{SurveyFault}
 use Rattle.sync_survey.specs.declared.survey_fault.SurveyFault.TheVariants.{Absent, TooLong, Shrunk, Read, Memory}
 use Rattle.sync_survey.specs.Faults.{longest_file}
@@ -49,3 +51,8 @@ by_kind k IsRefused = k.refused
 -- the file is refused, with the right numbers
 abbrev pub RefusesRightly : SurveyFault → Type 0
 RefusesRightly fault = (kind_of fault ≡ IsRefused) × HasRightNumbers fault
+
+-- the fault of a file whose bytes aren't read
+abbrev pub of_read : ReadFault → SurveyFault
+of_read Failed = Read
+of_read (ShrunkRead first second) = Shrunk first second

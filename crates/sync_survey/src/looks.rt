@@ -1,5 +1,5 @@
 //! Looks at a file of a folder.
-ghost use Rattle.std.specs.Prelude.{◌≡◌, ℕ, List, Some, None, ◌+◌, ◌-◌, ◌^◌, ◌<◌, ◌≤◌, min, length, nat_lt, if◌then◌else◌, IfOk, IfErr, OnOk};
+ghost use Rattle.std.specs.Prelude.{◌≡◌, ℕ, List, ◌-◌, ◌≤◌, min, length, IfOk, IfErr, OnOk};
 ghost use Rattle.bit_fields.specs.Bits.{AreBytes};
 ghost use Rattle.outside.specs.Files.{Holds};
 ghost use Rattle.outside.specs.Counts.{OnlyReads};
@@ -35,21 +35,7 @@ pub(crate) fn find_length<D: Folder>(folder: &mut D, name: &str) -> Result<u64, 
     }
 }
 
-/// The fault of a file that was found with so many bytes, where fewer came from an offset on than were asked
-/// for.
-fn cut_short(size: u64, at: u64, wanted: usize, got: usize) -> Option<SurveyFault>
-    requires { at + got < 2 ^ 64 }
-    ensures { result ≡ (if nat_lt got wanted then Some
-        (SurveyFault.Shrunk size (at + got)) else None) }
-{
-    if got < wanted {
-        Some(SurveyFault::Shrunk(size, at + got as u64))
-    } else {
-        None
-    }
-}
-
-/// Looks at the file, which was found with so many bytes, from an offset on, and answers how many are left
+/// Looks at the file, which was found with so many bytes, from an offset within them on, and answers how many are left
 /// there. The feed gives 4,096 of them, or all where there are fewer.
 pub(crate) fn look<D: Folder>(
     feed: &mut Feed,
@@ -59,7 +45,7 @@ pub(crate) fn look<D: Folder>(
     at: u64,
 ) -> Result<u64, SurveyFault>
     requires known { HasLength (D.files folder.old) name.now size }
-    requires early { at ≤ 2 ^ 31 }
+    requires within { at ≤ size }
     requires fed { IsFedFrom feed.old (D.files folder.old) name.now }
     ensures shows { IfOk result (λ left. (bytes : List ℕ)
         → Holds (D.files folder.old) name.now bytes → Shows bytes at feed.new.given left) }
@@ -72,13 +58,8 @@ pub(crate) fn look<D: Folder>(
     ensures files { D.files folder.new ≡ D.files folder.old }
     ensures counts { OnlyReads (D.counts folder.old) (D.counts folder.new) }
 {
-    let left = size.saturating_sub(at);
+    let left = size - at;
     let wanted = left.min(LOOK_SIZE) as usize;
-    let Ok(got) = feed.fill(folder, name, at, wanted) else {
-        return Err(SurveyFault::Read);
-    };
-    match cut_short(size, at, wanted, got) {
-        Some(fault) => Err(fault),
-        None => Ok(left),
-    }
+    feed.fill_exact(folder, name, size, at, wanted)?;
+    Ok(left)
 }

@@ -2,6 +2,7 @@
 ghost use Rattle.std.specs.Prelude.{◌≡◌};
 ghost use Rattle.sync_survey.specs.declared.survey_fault.SurveyFault.TheVariants.{Memory};
 
+use outside::ReadFault;
 use std::alloc::{AllocError, AllocFailed};
 
 /// Why there is no survey of a file.
@@ -41,6 +42,19 @@ pub enum SurveyFault {
     Read,
     /// There was no memory left.
     Memory,
+}
+
+impl From<ReadFault> for SurveyFault {
+    ghost use Rattle.sync_survey.specs.Kinds.{of_read};
+
+    ghost from_gives = { λ fault e. e ≡ of_read fault };
+
+    fn from(fault: ReadFault) -> SurveyFault {
+        match fault {
+            ReadFault::Failed => SurveyFault::Read,
+            ReadFault::Shrunk(first, second) => SurveyFault::Shrunk(first, second),
+        }
+    }
 }
 
 impl From<AllocError> for SurveyFault {

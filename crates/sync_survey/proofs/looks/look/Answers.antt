@@ -1,15 +1,18 @@
--- Fewer bytes come only where nothing is told.
-use Rattle.std.proofs.Common.{ltb, refl, sym, ◌∙◌, arith}
-use Rattle.sync_survey.proofs.FoldersLaws.{shrunk_refusal, shown}
+-- What is asked for is within the file.
+use Rattle.std.proofs.Common.{◌-◌, refl, sym, arith}
+use Rattle.std.proofs.lemmas.Result.{err_from_is_err_and}
+use Rattle.sync_survey.proofs.FoldersLaws.{read_refusal, shown}
 use Rattle.sync_survey.proofs.looks.look.Goals as goal
 
-pub returns-in-Some-clause-refused : goal.returns-in-Some-clause-refused
-returns-in-Some-clause-refused g c = λ allowed.
-    shrunk_refusal c.args.name.now (g.D.Folder.files c.args.folder.now) allowed (g.D.Folder.counts c.args.folder.now) (g.D.Folder.counts c.fill.new.folder) c.args.size c.args.at c.min-wanted.result c.in-Ok.got c.fill.new.self.given
-    c.in-Some.fault c.requires.known (omega (arith, c.min-wanted.ensures, c.saturating_sub-left.ensures)) c.in-Ok.ensures.bytes c.in-Ok.ensures.given c.in-Ok.ensures.ended c.in-Ok.ensures.done (ltb c.in-Ok.got c.min-wanted.result) refl
-    (sym c.in-Some.is ∙ c.cut_short.ensures)
+pub fill_exact-requires-clause-found : goal.fill_exact-requires-clause-found
+fill_exact-requires-clause-found g c = λ bytes holds. sym (c.requires.known.long bytes holds)
 
-pub returns-in-None-clause-shows : goal.returns-in-None-clause-shows
-returns-in-None-clause-shows g c = λ bytes holds.
-    shown bytes c.args.at c.saturating_sub-left.result c.min-wanted.result c.args.size c.fill.new.self.given (c.requires.known.long bytes holds) c.saturating_sub-left.ensures
-    (omega (arith, c.min-wanted.ensures)) (c.in-Ok.ensures.bytes bytes holds)
+pub returns-in_err-fill_exact-clause-refused : goal.returns-in_err-fill_exact-clause-refused
+returns-in_err-fill_exact-clause-refused g c =
+    let p = err_from_is_err_and c.from_residual.result c.from_residual.ensures.1 in
+    rw (p.1, p.2) (λ allowed. read_refusal c.args.name.now (g.D.Folder.files c.args.folder.now) allowed (g.D.Folder.counts c.args.folder.now) _ c.args.size c.in_err-fill_exact.field-0.0 c.in_err-fill_exact.ensures.cause)
+
+pub returns-clause-shows : goal.returns-clause-shows
+returns-clause-shows g c = λ bytes holds.
+    shown bytes c.args.at (c.args.size - c.args.at) c.min-wanted.result c.args.size c.fill_exact.new.self.given (c.requires.known.long bytes holds) refl
+    (omega (arith, c.min-wanted.ensures)) (c.in_ok-fill_exact.ensures.bytes bytes holds)

@@ -1,6 +1,4 @@
 -- A piece that fits waits, and nothing is sent.
-use Rattle.std.proofs.Common.{sym, subst}
-use Rattle.outside.specs.Passed.{SentOn}
 use Rattle.outside.proofs.SentLaws.{sent_none}
 use Rattle.outside.proofs.send_buffer.SendBuffer.push.Goals as goal
 

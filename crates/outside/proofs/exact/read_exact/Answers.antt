@@ -1,0 +1,16 @@
+-- Where the files are told, all bytes come.
+use Rattle.std.proofs.Common.{◌<◌, length, refl, arith}
+use Rattle.outside.proofs.FilesLaws.{nothing_told}
+use Rattle.outside.proofs.exact.read_exact.Goals as goal
+
+pub returns-in-Ok-clause-cause : goal.returns-in-Ok-clause-cause
+returns-in-Ok-clause-cause g c =
+    let few : c.in-Ok.got < length c.args.into.now = omega (arith, c.if-got-into.true) in (
+      nothing_told (g.D.Folder.files c.args.folder.now) c.args.name.now c.requires.there
+          (λ bytes holds. omega (arith, c.in-Ok.ensures.end bytes holds few, c.requires.found bytes holds, c.requires.within, few)),
+      refl,
+      omega (arith, few, c.requires.within),
+      c.in-Ok.ensures.ended few,
+      c.in-Ok.ensures.done,
+      c.read_full.ensures.counts,
+    )
