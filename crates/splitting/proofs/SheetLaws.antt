@@ -1,15 +1,20 @@
 -- What the bytes of a sheet say.
-use Rattle.std.proofs.Common.{◌≡◌, ℕ, ◌-◌, ◌<◌, ◌≤◌, cond, List, [], ◌∷◌, ◌++◌, length, Some, None, Ok, Err, refl, sym, ◌∙◌, ap, arith}
+use Rattle.std.proofs.Common.{◌≡◌, ℕ, ◌-◌, ◌<◌, ◌≤◌, cond, List, [], ◌∷◌, ◌++◌, length, Some, None, Ok, Err, refl, sym, ◌∙◌, ap, subst, arith}
 use Rattle.std.proofs.lemmas.Bool.{lt-ltb, le-ltb}
-use Rattle.outside.specs.Files.{Files, untold, Holds, IsThere}
-use Rattle.outside.proofs.FilesLaws.{there_holds}
+use Rattle.outside.specs.Files.{Files}
+use Rattle.outside.specs.Counts.{Counts, Rose, NothingFailed}
+use Rattle.outside.specs.Exact.{HasReadCause}
+use Rattle.outside.specs.declared.exact.ReadFault.{ReadFault}
+use Rattle.outside.specs.declared.exact.ReadFault.TheVariants.{Failed, Shrunk as ShrunkRead}
+use Rattle.sync_survey.specs.Kinds.{of_read}
 use Rattle.cue_sheet.specs.declared.cue_fault.CueFault.{CueFault}
 use Rattle.cue_sheet.specs.declared.place.Place.{Place}
 use Rattle.cue_sheet.specs.declared.place.Place.TheVariants.{End}
 use Rattle.cue_sheet.specs.Cues.{cue_of}
-use Rattle.edits.specs.declared.fault.EditFault.TheVariants.{SheetTooLarge, Sheet}
-use Rattle.edits.specs.Left.{longest_sheet}
+use Rattle.edits.specs.declared.fault.EditFault.TheVariants.{Input, SheetTooLarge, Sheet}
+use Rattle.edits.specs.Left.{seen, longest_sheet}
 use Rattle.splitting.specs.Split.{with_end, places_in}
+use Rattle.splitting.specs.Steps.{IsSheetFault, IsOfSheet}
 
 pub too-large : (bytes : List ℕ) (size : ℕ) → size ≡ length bytes → longest_sheet < size → places_in bytes ≡ Err (SheetTooLarge size)
 too-large bytes size is large =
@@ -25,9 +30,17 @@ sheet-starts bytes starts places most cue is = not-large bytes most ∙ ap with_
 pub sheet-fault : (bytes : List ℕ) (fault : CueFault) → length bytes ≤ longest_sheet → cue_of bytes ≡ Err fault → places_in bytes ≡ Err (Sheet fault)
 sheet-fault bytes fault most cue = not-large bytes most ∙ ap with_end cue
 
--- a file that ended before its length is none that is told
-pub ended-untold : (files : Files) (name : List ℕ) (found read : ℕ) → IsThere files name → ((bytes : List ℕ) → Holds files name bytes → found ≡ length bytes) → ((bytes : List ℕ) → Holds files name bytes → read ≡ length bytes - 0) → read < found → files ≡ untold
-ended-untold None name found read there length_is end less = refl
-ended-untold (Some f) name found read there length_is end less =
-    let held = there_holds f name there in
-    absurd (omega (arith, length_is held.0 held.1, end held.0 held.1, less))
+-- a sheet that was found, and whose bytes aren't read
+module _ (sheet : List ℕ) (files mid last : Files) (before between after : Counts) (size : ℕ) (found : mid ≡ files) (stays : last ≡ mid) (same : between ≡ before) where
+  pub read-fault : (fault : ReadFault) → HasReadCause size mid between after fault → IsSheetFault sheet (seen files before) (seen last after) (Input 1 (of_read fault))
+  read-fault Failed cause = record { rose = subst (λ k. Rose k.read_faults after.read_faults) same cause.0; files = stays ∙ found }
+  read-fault (ShrunkRead first second) cause = record {
+    rose = subst (λ k. Rose k.ends after.ends) same cause.3;
+    counts = subst (λ k. NothingFailed k after) same cause.4;
+    untold_before = sym found ∙ cause.0;
+    untold_after = stays ∙ cause.0;
+  }
+
+  pub read-number : (fault : ReadFault) → HasReadCause size mid between after fault → IsOfSheet (Input 1 (of_read fault))
+  read-number Failed cause = (refl, (λ e. cc), tt)
+  read-number (ShrunkRead first second) cause = (refl, (λ e. cc), cause.2)

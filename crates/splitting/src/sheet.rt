@@ -10,7 +10,7 @@ ghost use Rattle.splitting.specs.Steps.{IsSheetFault, IsOfSheet};
 
 use cue_sheet::{Cue, CueFault, Place};
 use edits::EditFault;
-use outside::{FindFault, Folder, read_full};
+use outside::{FindFault, Folder, read_exact};
 use std::alloc::Global;
 use sync_survey::SurveyFault;
 
@@ -58,13 +58,9 @@ fn sheet_bytes<D: Folder>(alloc: Global, folder: &mut D, sheet: &str) -> Result<
 {
     let length = sheet_length(folder, sheet)?;
     let mut bytes = vec![in alloc; 0; length as usize]?;
-    match read_full(folder, sheet, 0, bytes.as_mut_slice()) {
-        Ok(got) if (got as u64) < length => Err(EditFault::Input(
-            SHEET,
-            SurveyFault::Shrunk(length, got as u64),
-        )),
-        Ok(_) => Ok(bytes),
-        Err(_) => Err(EditFault::Input(SHEET, SurveyFault::Read)),
+    match read_exact(folder, sheet, length, 0, bytes.as_mut_slice()) {
+        Ok(()) => Ok(bytes),
+        Err(fault) => Err(EditFault::Input(SHEET, fault.into())),
     }
 }
 
