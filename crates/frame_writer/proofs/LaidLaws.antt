@@ -222,57 +222,21 @@ laid-later given waiting ps qs are within =
 pub kept : (n : ℕ) (xs : List ℕ) → length xs ≤ n → keep_last n xs ≡ xs
 kept n xs fits = let none : length xs - n ≡ 0 = omega (arith, fits) in ap (λ k. drop k xs) none
 
--- two pieces behind each other
-pub pushed : (old mid new : Buffer ℕ) (xs ys : List ℕ) → old.capacity ≡ 8192 → mid ≡ buffer (keep_last old.capacity (old.items ++ xs)) old.capacity →
-    new ≡ buffer (keep_last mid.capacity (mid.items ++ ys)) mid.capacity → length old.items + length xs + length ys ≤ 8192 → new.items ≡ old.items ++ (xs ++ ys)
-pushed old mid new xs ys many first second fits =
-    let first_is : mid.items ≡ old.items ++ xs =
-    ap (λ (b : Buffer ℕ). b.items) first ∙ kept old.capacity (old.items ++ xs) (omega (arith, length-append old.items xs, many, fits)) in
-    let same : mid.capacity ≡ old.capacity = ap (λ (b : Buffer ℕ). b.capacity) first in
-    ap (λ (b : Buffer ℕ). b.items) second
-    ∙ kept mid.capacity (mid.items ++ ys) (omega (arith, length-append mid.items ys, ap length first_is, length-append old.items xs, many, same, fits))
-    ∙ ap (λ (zs : List ℕ). zs ++ ys) first_is
-    ∙ append_assoc old.items xs ys
-
 -- ---- the first bytes of what waits
 
-minus_min : (n a : ℕ) → n - min n a ≡ n - a
-minus_min n a = by_cases (cases_lt n a)
-  where
-    by_cases : (n < a) ⊎ (a ≤ n) → n - min n a ≡ n - a
-    by_cases (inl less) = let is : min n a ≡ n = min-eq_left (omega (arith, less)) in omega (arith, is, less)
-    by_cases (inr more) = ap (λ k. n - k) (min-eq_right more)
-
--- a part of the one slice, a part of the other, and zeros
-pub first-parts : (n free first second : ℕ) (front back now : List ℕ) → (front ++ back) ++ zeros free ≡ now → n ≤ length now →
-    first ≡ min n (length front) → second ≡ min (n - first) (length back) → take first front ++ (take second back ++ zeros (n - first - second)) ≡ take n now
-first-parts n free first second front back now views within firsts seconds =
-    let one : n - first ≡ n - length front = ap (λ k. n - k) firsts ∙ minus_min n (length front) in
-    let two : n - first - second ≡ n - length front - length back =
-    ap (λ k. n - first - k) seconds ∙ minus_min (n - first) (length back) ∙ ap (λ k. k - length back) one in
-    let few : n - first - second ≤ free =
-    omega (arith, two, within, ap length views, length-append (front ++ back) (zeros free), length-append front back, length-zeros free) in
-    let last : take (n - first - second) (zeros free) ≡ zeros (n - first - second) = take-replicate (n - first - second) free 0 few in
-    let behind : take (n - first) (back ++ zeros free) ≡ take second back ++ zeros (n - first - second) =
-    take_two (n - first) back (zeros free)
-    ∙ ap (λ k. take k back ++ take (n - first - k) (zeros free)) (sym seconds)
-    ∙ ap (λ (xs : List ℕ). take second back ++ xs) last in
-    ap (λ (xs : List ℕ). take first front ++ xs) (sym behind)
-    ∙ ap (λ k. take k front ++ take (n - k) (back ++ zeros free)) firsts
-    ∙ sym (take_two n front (back ++ zeros free))
-    ∙ ap (take n) (sym (append_assoc front back (zeros free)) ∙ views)
+-- those that are stored, and zeros
+pub first-parts : (n free stored : ℕ) (items now : List ℕ) → items ++ zeros free ≡ now → n ≤ length now → stored ≡ min n (length items) → take stored items ++ zeros (n - stored) ≡ take n now
+first-parts n free stored items now views within stores =
+    let few : n - stored ≤ free = omega (arith, stores, within, ap length views, length-append items (zeros free), length-zeros free) in
+    ap (λ (xs : List ℕ). take stored items ++ xs) (sym (take-replicate (n - stored) free 0 few))
+    ∙ ap (λ k. take k items ++ take (n - k) (zeros free)) stores
+    ∙ sym (take_two n items (zeros free))
+    ∙ ap (take n) views
 
 -- what is left behind them
-pub left-is : (n free stored m : ℕ) (items left now : List ℕ) → stored ≡ min n (length items) → m ≡ length items - stored → left ≡ keep_last m items →
-    items ++ zeros free ≡ now → n ≤ length now → left ++ zeros (free - (n - stored)) ≡ drop n now
-left-is n free stored m items left now stores keeps leaves views within =
-    let few : stored ≤ length items = subst (λ k. k ≤ length items) (sym stores) (min-le (cases_lt n (length items))) in
-    let from : length items - m ≡ stored = omega (arith, keeps, few) in
-    ap (λ (xs : List ℕ). xs ++ zeros (free - (n - stored))) (leaves ∙ ap (λ k. drop k items) (from ∙ stores))
-    ∙ ap (λ k. drop (min n (length items)) items ++ zeros (free - (n - k))) stores
+pub left-is : (n free stored : ℕ) (items left now : List ℕ) → stored ≡ min n (length items) → left ≡ drop stored items → items ++ zeros free ≡ now → n ≤ length now → left ++ zeros (free - (n - stored)) ≡ drop n now
+left-is n free stored items left now stores leaves views within =
+    ap (λ (xs : List ℕ). xs ++ zeros (free - (n - stored))) leaves
+    ∙ ap (λ k. drop k items ++ zeros (free - (n - k))) stores
     ∙ first-left n free items (omega (arith, within, ap length views, length-append items (zeros free), length-zeros free))
     ∙ ap (drop n) views
-  where
-    min-le : (n < length items) ⊎ (length items ≤ n) → min n (length items) ≤ length items
-    min-le (inl less) = let is : min n (length items) ≡ n = min-eq_left (omega (arith, less)) in omega (arith, is, less)
-    min-le (inr more) = let is : min n (length items) ≡ length items = min-eq_right more in omega (arith, is)

@@ -6,9 +6,8 @@ ghost use Rattle.outside.specs.Counts.{OnlyWrites};
 ghost use Rattle.frame_writer.specs.Laid.{Piece, Waiting, zeros, laid_behind, AreLaid};
 ghost use Rattle.frame_writer.specs.Writing.{WriteFailed};
 
-use circular_buffer::HeapCircularBuffer;
 use outside::{Failed, Folder, WriteBuffer};
-use reservoir::Payload;
+use reservoir::{ByteQueue, Payload};
 use std::alloc::{AllocError, Global};
 use std::marker::Model;
 
@@ -23,19 +22,19 @@ static ZEROS: [u8; CAPACITY] = [0; CAPACITY];
 #[derive(Drop)]
 pub struct Areas {
     // The bytes up to the end of the main data laid last. Behind them only zeros wait.
-    queue: HeapCircularBuffer<u8>,
+    queue: ByteQueue,
     free: u32,
 }
 
 impl Model for Areas {
-    ghost use Rattle.std.specs.Prelude.{◌≡◌, ◌+◌, ◌≤◌, ◌++◌, length};
+    ghost use Rattle.std.specs.Prelude.{◌+◌, ◌≤◌, ◌++◌, length};
     ghost use Rattle.frame_writer.specs.Laid.{Waiting, zeros};
 
     ghost Value = { Waiting };
 
-    ghost view = { λ a. record { bytes = a.queue.items ++ zeros a.free; free = a.free } };
+    ghost view = { λ a. record { bytes = a.queue ++ zeros a.free; free = a.free } };
 
-    ghost invariant = { λ a. (a.queue.capacity ≡ 8192) × (length a.queue.items + a.free ≤ 8192) };
+    ghost invariant = { λ a. length a.queue + a.free ≤ 8192 };
 }
 
 impl Areas {
@@ -48,7 +47,7 @@ impl Areas {
         ensures laid { IfOk result (λ areas. AreLaid [] areas []) }
     {
         Ok(Areas {
-            queue: HeapCircularBuffer::with_capacity(alloc, CAPACITY)?,
+            queue: ByteQueue::new(alloc)?,
             free: 0,
         })
     }
@@ -72,6 +71,7 @@ impl Areas {
     /// How many of the bytes that wait no later main data can reach, where these begin at most `window` bytes before
     /// their frame's own area: 511 in MPEG-1, 255 in MPEG-2 and MPEG-2.5 (main_data_begin, ISO/IEC 11172-3 and
     /// 13818-3, 2.4.2.7).
+    #[inline]
     pub fn settled(&self, window: u32) -> usize
         ensures { result ≡ length self.now.bytes - min window self.now.free }
     {
@@ -80,6 +80,7 @@ impl Areas {
 
     /// Adds the area of a frame, `area` bytes, and lays the frame's main data: they begin `begin` bytes before that
     /// area, the frame's main_data_begin. All else in the area is 0.
+    #[inline]
     pub fn push(&mut self, begin: u32, area: u32, payload: &Payload<'_>)
         requires start { begin ≤ self.old.free }
         requires within { length payload.now ≤ begin + area }
@@ -92,7 +93,7 @@ impl Areas {
             AreLaid given self.new (ps ++ record { payload = payload.now; begin = begin; area = area } ∷ []) }
     {
         let gap = self.free - begin;
-        self.queue.extend_from_slice(zeros_of(gap as usize));
+        self.queue.push(zeros_of(gap as usize));
         payload.append_to(&mut self.queue);
         self.free = begin + area - payload.len() as u32;
     }
@@ -119,16 +120,15 @@ impl Areas {
         ensures done { OnOk result (D.counts folder.new ≡ D.counts folder.old) }
         ensures counts { OnlyWrites (D.counts folder.old) (D.counts folder.new) }
     {
-        let (front, back) = self.queue.as_slices();
-        let first = count.min(front.len());
-        let second = (count - first).min(back.len());
-        unsent.push(folder, name, &front[..first])?;
-        unsent.push(folder, name, &back[..second])?;
-        unsent.push(folder, name, zeros_of(count - first - second))
+        let bytes = self.queue.bytes();
+        let stored = count.min(bytes.len());
+        unsent.push(folder, name, &bytes[..stored])?;
+        unsent.push(folder, name, zeros_of(count - stored))
     }
 
     /// Drops the first bytes of what waits. Where these are no more than are settled, whatever main data could be laid
     /// before can be laid still.
+    #[inline]
     pub(crate) fn drop_first(&mut self, count: usize)
         requires { count ≤ length self.old.bytes }
         ensures left { self.new.bytes ≡ drop count self.old.bytes }
@@ -137,7 +137,7 @@ impl Areas {
             AreLaid (given ++ take count self.old.bytes) self.new ps }
     {
         let stored = count.min(self.queue.len());
-        self.queue.truncate_front(self.queue.len() - stored);
+        self.queue.drop_first(stored);
         self.free -= (count - stored) as u32;
     }
 

@@ -1,6 +1,5 @@
 //! Main data worked out by hand. Byte n of all areas is n modulo 251, so that bytes at two places less than 251 apart differ.
 
-use circular_buffer::HeapCircularBuffer;
 use reservoir::*;
 use std::alloc::AllocGlobal;
 use std::process::Abort;
@@ -125,9 +124,9 @@ static CASES: [Case; 7] = [
 
 /// The bytes of main data.
 fn bytes_of<R: AllocGlobal>(rt: &R, payload: &Payload) -> Result<Vec<u8>, Fail> {
-    let mut queue = HeapCircularBuffer::with_capacity(rt.alloc(), 2048)?;
+    let mut queue = ByteQueue::new(rt.alloc())?;
     payload.append_to(&mut queue);
-    Ok(queue.to_vec(rt.alloc())?)
+    Ok(queue.bytes().to_vec(rt.alloc())?)
 }
 
 fn expect_payload<R: AllocGlobal + Abort>(

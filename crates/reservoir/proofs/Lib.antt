@@ -1,3 +1,4 @@
 -- The lemmas of this crate.
 pub mod WindowLaws
+pub mod QueueLaws
 pub mod FrameLaws

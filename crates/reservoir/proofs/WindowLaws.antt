@@ -118,15 +118,7 @@ packed held main whole last reach count rest n is within all fits same last_is =
     ap (take n) (drop-bits from held ∙ ap bits (held_end held main reach is within) ∙ sym (drop-bits (length main - reach) main)) in
     subst (ArePacked (whole ++ last) n) end (packed_behind held whole last from count rest n all same long last_is)
 
--- a byte that is there
-pub found : (r : Option (Bor ℕ)) (xs : List ℕ) (i : ℕ) → option_copied r ≡ slice_get xs i → i < length xs → IsSome r
-found None xs i is within = let some = slice_get-some xs i within in absurd (none-some some.0 (is ∙ some.1))
-found (Some b) xs i is within = refl
-
-pub found-is : (r : Option (Bor ℕ)) (b : Bor ℕ) (xs : List ℕ) (i : ℕ) → option_copied r ≡ slice_get xs i → r ≡ Some b → b.now ≡ get_or xs i 0
-found-is r b xs i is some = sym (get_or_from_slice_get xs i b.now 0 (sym is ∙ ap option_copied some))
-
--- ---- a part of two slices, one behind the other
+-- ---- two lists, one behind the other
 
 drop_two_cases : (from : ℕ) (xs ys : List ℕ) → (from < length xs) ⊎ (length xs ≤ from) → drop from (xs ++ ys) ≡ drop (min from (length xs)) xs ++ drop (from - min from (length xs)) ys
 drop_two_cases from xs ys (inl within) =
@@ -154,19 +146,10 @@ take_two_cases count xs ys (inr past) =
 pub take_two : (count : ℕ) (xs ys : List ℕ) → take count (xs ++ ys) ≡ take (min count (length xs)) xs ++ take (count - min count (length xs)) ys
 take_two count xs ys = take_two_cases count xs ys (cases_lt count (length xs))
 
--- the first of a front from a place on, and then as much of the back
-pub part_of_two : (from count passed first : ℕ) (xs ys front back : List ℕ) → front ≡ drop passed xs → back ≡ drop (from - passed) ys →
-    passed ≡ min from (length xs) → first ≡ min count (length front) → take first front ++ take (count - first) back ≡ take count (drop from (xs ++ ys))
-part_of_two from count passed first xs ys front back fronts backs passes firsts =
-    rw (firsts, fronts, backs, passes) (sym (ap (take count) (drop_two from xs ys) ∙ take_two count (drop (min from (length xs)) xs) (drop (from - min from (length xs)) ys)))
-
--- ---- three pieces behind one another
-
--- what a queue keeps of two pieces
-pub kept_two : (old mid new : Buffer ℕ) (xs ys : List ℕ) → mid ≡ buffer (keep_last old.capacity (old.items ++ xs)) old.capacity →
-    new ≡ buffer (keep_last mid.capacity (mid.items ++ ys)) mid.capacity → new ≡ buffer (keep_last old.capacity (old.items ++ (xs ++ ys))) old.capacity
-kept_two old mid new xs ys first second =
-    second
-    ∙ ap (λ (b : Buffer ℕ). buffer (keep_last b.capacity (b.items ++ ys)) b.capacity) first
-    ∙ ap (λ (zs : List ℕ). buffer zs old.capacity)
-    (last_more old.capacity (old.items ++ xs) ys ∙ ap (keep_last old.capacity) (append_assoc old.items xs ys))
+-- the last of what is held, and of an area behind it
+pub last-pushed : (k over : ℕ) (held area new : List ℕ) → length held ≤ 2048 → k ≡ length area - 2048 → over ≡ length held + length (drop k area) - 2048 → new ≡ drop over held ++ drop k area → new ≡ keep_last 2048 (held ++ area)
+last-pushed k over held area new few passes overs is =
+    let from = length (held ++ area) - 2048 in
+    let front : over ≡ min from (length held) = omega (arith, few, passes, overs, length-append held area, length-drop k area) in
+    let rest : k ≡ from - min from (length held) = omega (arith, few, passes, length-append held area) in
+    is ∙ ap₂ (λ m n. drop m held ++ drop n area) front rest ∙ sym (drop_two from held area)

@@ -11,8 +11,10 @@
 
 mod laws;
 mod payload;
+mod queue;
 mod window;
 
 pub use laws::{areas_are_held, frames_are_held};
 pub use payload::Payload;
+pub use queue::ByteQueue;
 pub use window::Window;

@@ -1,16 +1,14 @@
 //! The main data of a frame, where they stand.
-ghost use Rattle.std.specs.Prelude.{◌≡◌, ◌≤◌, ◌++◌, [], length};
-ghost use Rattle.circular_buffer.specs.Buffer.{buffer, keep_last};
+ghost use Rattle.std.specs.Prelude.{◌≡◌, ◌+◌, ◌≤◌, ◌++◌, [], length};
+ghost use Rattle.bit_fields.specs.Bits.{AreBytes};
 
-use circular_buffer::HeapCircularBuffer;
+use crate::queue::ByteQueue;
 use std::marker::Model;
 
-/// The main data of a frame, in as few bytes as hold their bits. Contracts see these bytes. The whole ones are in two
-/// slices, one behind the other.
+/// The main data of a frame, in as few bytes as hold their bits. Contracts see these bytes.
 #[derive(Drop)]
 pub struct Payload<'a> {
-    front: &'a [u8],
-    back: &'a [u8],
+    whole: &'a [u8],
     // The bits behind the whole bytes, and zeros behind them.
     last: Option<u8>,
 }
@@ -21,7 +19,7 @@ impl<'a> Model for Payload<'a> {
 
     ghost Value = { List ℕ };
 
-    ghost view = { λ p. p.front.now ++ (p.back.now ++ byte_of p.last) };
+    ghost view = { λ p. p.whole.now ++ byte_of p.last };
 }
 
 impl<'a> Payload<'a> {
@@ -32,37 +30,38 @@ impl<'a> Payload<'a> {
         ensures { result ≡ [] }
     {
         Payload {
-            front: &[],
-            back: &[],
+            whole: &[],
             last: None,
         }
     }
 
     /// These bytes, and one behind them where it is there.
-    pub(crate) fn new(front: &'a [u8], back: &'a [u8], last: Option<u8>) -> Payload<'a>
-        ensures { result ≡ front.now ++ (back.now ++ byte_of last) }
+    #[inline]
+    pub(crate) fn new(whole: &'a [u8], last: Option<u8>) -> Payload<'a>
+        ensures payload { result ≡ whole.now ++ byte_of last }
+        ensures bytes { AreBytes whole.now }
     {
-        Payload { front, back, last }
+        Payload { whole, last }
     }
 
     /// How many bytes these are.
+    #[inline]
     pub fn len(&self) -> usize
         requires { length self.now ≤ 2048 }
         ensures { result ≡ length self.now }
     {
-        self.front.len() + self.back.len() + usize::from(self.last.is_some())
+        self.whole.len() + usize::from(self.last.is_some())
     }
 
-    /// Appends them to a queue, which drops its first bytes where they do not fit.
+    /// Adds them to a queue.
     #[inline]
-    pub fn append_to(&self, queue: &mut HeapCircularBuffer<u8>)
-        ensures { queue.new ≡ buffer (keep_last queue.old.capacity (queue.old.items ++ self.now))
-            queue.old.capacity }
+    pub fn append_to(&self, queue: &mut ByteQueue)
+        requires { length queue.old + length self.now ≤ 8192 }
+        ensures { queue.new ≡ queue.old ++ self.now }
     {
-        queue.extend_from_slice(self.front);
-        queue.extend_from_slice(self.back);
+        queue.push(self.whole);
         if let Some(last) = self.last {
-            queue.extend_from_slice(&[last]);
+            queue.push(&[last]);
         }
     }
 }

@@ -1,11 +1,11 @@
-//! The window, over a queue that drops its oldest bytes.
+//! The window, over a queue whose oldest bytes are dropped.
 ghost use Rattle.std.specs.Prelude.{◌≡◌, ℕ, ◌+◌, ◌-◌, ◌*◌, ◌/◌, ◌<◌, ◌≤◌, List, [], ◌++◌, length, take, drop, IfOk};
 ghost use Rattle.circular_buffer.specs.Buffer.{keep_last};
 ghost use Rattle.bit_fields.specs.Bits.{AreBytes};
 ghost use Rattle.reservoir.specs.Window.{IsWindowOver, main_bits, ArePacked, byte_of};
 
 use crate::payload::Payload;
-use circular_buffer::HeapCircularBuffer;
+use crate::queue::ByteQueue;
 use std::alloc::{AllocError, Global};
 use std::marker::Model;
 
@@ -17,17 +17,17 @@ const CAPACITY: usize = 2048;
 /// oldest first.
 #[derive(Drop)]
 pub struct Window {
-    queue: HeapCircularBuffer<u8>,
+    queue: ByteQueue,
 }
 
 impl Model for Window {
-    ghost use Rattle.std.specs.Prelude.{◌≡◌, ◌≤◌, ℕ, List, length};
+    ghost use Rattle.std.specs.Prelude.{◌≤◌, ℕ, List, length};
 
     ghost Value = { List ℕ };
 
-    ghost view = { λ w. w.queue.items };
+    ghost view = { λ w. w.queue };
 
-    ghost invariant = { λ w. (w.queue.capacity ≡ 2048) × (length w.queue.items ≤ 2048) };
+    ghost invariant = { λ w. length w.queue ≤ 2048 };
 }
 
 impl Window {
@@ -40,7 +40,7 @@ impl Window {
         ensures main { IfOk result (λ window. IsWindowOver window []) }
     {
         Ok(Window {
-            queue: HeapCircularBuffer::with_capacity(alloc, CAPACITY)?,
+            queue: ByteQueue::new(alloc)?,
         })
     }
 
@@ -62,18 +62,23 @@ impl Window {
 
     /// Adds an area: the bytes of a frame behind its header, check word and side information. Of what was held and
     /// the area the last 2,048 bytes stay.
+    #[inline]
     pub fn push_area(&mut self, area: &[u8])
         ensures held { self.new ≡ keep_last 2048 (self.old ++ area.now) }
         ensures main { (main : List ℕ) → IsWindowOver self.old main
             → IsWindowOver self.new (main ++ area.now) }
     {
-        self.queue.extend_from_slice(area);
+        let area = &area[area.len().saturating_sub(CAPACITY)..];
+        let over = (self.queue.len() + area.len()).saturating_sub(CAPACITY);
+        self.queue.drop_first(over);
+        self.queue.push(area);
     }
 
     /// The main data of a frame whose own area was pushed last: `bits` bits from the place on that is `begin` bytes
     /// before the `area` bytes of its area, in as few bytes as hold them, with the unused low bits of the last byte
     /// 0. `begin` is the frame's main_data_begin (ISO/IEC 11172-3 and 13818-3, 2.4.2.7), and `bits` the sum of its
     /// part2_3_length.
+    #[inline]
     pub fn payload(&self, area: u32, begin: u32, bits: u32) -> Payload<'_>
         requires held { area + begin ≤ length self.now }
         requires within { bits ≤ 8 * (area + begin) }
@@ -81,15 +86,15 @@ impl Window {
             → ArePacked result bits (main_bits main (length main - area - begin) bits) }
         ensures bytes { AreBytes result }
     {
-        let (front, back) = self.queue.as_slices();
-        let from = self.queue.len() - (area + begin) as usize;
-        let whole = (bits / 8) as usize;
-        let last = self.last_byte(from + whole, bits % 8);
-        let (front, back) = part(front, back, from, whole);
-        Payload::new(front, back, last)
+        let bytes = self.queue.bytes();
+        let from = bytes.len() - (area + begin) as usize;
+        let end = from + (bits / 8) as usize;
+        let last = self.last_byte(end, bits % 8);
+        Payload::new(&bytes[from..end], last)
     }
 
     /// The first bits of the byte at a place, fewer than 8, and zeros behind them; of no bits none.
+    #[inline]
     fn last_byte(&self, at: usize, bits: u32) -> Option<u8>
         requires few { bits < 8 }
         requires within { 8 * at + bits ≤ 8 * length self.now }
@@ -99,22 +104,8 @@ impl Window {
         if bits == 0 {
             return None;
         }
-        let byte = *self.queue.get(at).unwrap();
+        let byte = self.queue.bytes()[at];
         let unused = 8 - bits;
         Some(byte >> unused << unused)
     }
-}
-
-/// So many bytes from a place on of two slices, one behind the other, as two slices again.
-fn part<'a>(front: &'a [u8], back: &'a [u8], from: usize, count: usize) -> (&'a [u8], &'a [u8])
-    requires within { from + count ≤ length front.now + length back.now }
-    requires short { length front.now + length back.now ≤ 2048 }
-    ensures part { result.0.now ++ result.1.now ≡ take count (drop from (front.now ++ back.now)) }
-    ensures bytes { AreBytes result.0.now × AreBytes result.1.now }
-{
-    let passed = from.min(front.len());
-    let front = &front[passed..];
-    let back = &back[from - passed..];
-    let first = count.min(front.len());
-    (&front[..first], &back[..count - first])
 }
