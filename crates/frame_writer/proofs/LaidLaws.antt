@@ -1,10 +1,10 @@
 -- Laws of main data laid into areas.
-use Rattle.std.proofs.Common.{◌≡◌, ℕ, ◌⊎◌, inl, inr, ◌+◌, ◌-◌, ◌≤◌, ◌<◌, min, List, [], ◌∷◌, ◌++◌, length, take, drop, refl, sym, subst, ap, ap₂, ◌∙◌, append_assoc, append-nil, arith, length-append}
+use Rattle.std.proofs.Common.{◌≡◌, ℕ, ◌⊎◌, inl, inr, ◌+◌, ◌-◌, ◌≤◌, ◌<◌, min, List, [], ◌∷◌, ◌++◌, length, take, drop, refl, sym, ap, ap₂, ◌∙◌, append_assoc, append-nil, arith, length-append}
 use Rattle.std.proofs.lemmas.List.{length-replicate, take-append-le, drop-append-le, take-append-drop, take-replicate, drop-replicate, replicate-append-replicate, append_cancel_right}
 use Rattle.std.proofs.Math.Seq.{drop-append-add, take-append-add, drop-length, take-length}
 use Rattle.std.proofs.Math.Nat.{min-eq_left, min-eq_right}
 use Rattle.std.proofs.lemmas.Bool.{cases_lt}
-use Rattle.circular_buffer.specs.Buffer.{Buffer, buffer, keep_last}
+use Rattle.circular_buffer.specs.Buffer.{keep_last}
 use Rattle.reservoir.proofs.WindowLaws.{take_two}
 use Rattle.frame_writer.specs.Laid.{Piece, zeros, start_of, end_of, areas_end, data_end, CanBeLaidFrom, laid_from, laid, Waiting, put_at, AreLaid, BeginsWithin}
 

@@ -90,10 +90,11 @@ impl Areas {
         ensures free { self.new.free + length payload.now ≡ begin + area }
         ensures long { length self.new.bytes ≡ length self.old.bytes + area }
         ensures laid { (given : List ℕ) (ps : List Piece) → AreLaid given self.old ps →
-            AreLaid given self.new (ps ++ record { payload = payload.now; begin = begin; area = area } ∷ []) }
+            AreLaid given self.new
+            (ps ++ record { payload = payload.now; begin = begin; area = area } ∷ []) }
     {
         let gap = self.free - begin;
-        self.queue.push(zeros_of(gap as usize));
+        push_zeros(&mut self.queue, gap as usize);
         payload.append_to(&mut self.queue);
         self.free = begin + area - payload.len() as u32;
     }
@@ -114,8 +115,8 @@ impl Areas {
         requires within { count ≤ length self.now.bytes }
         ensures passed { OnOk result (PassedOn name.now (unsent.old ++ take count self.now.bytes)
             unsent.new (D.files folder.old) (D.files folder.new)) }
-        ensures prefix { OnErr result (AppendedPrefix name.now (unsent.old ++ take count self.now.bytes)
-            (D.files folder.old) (D.files folder.new)) }
+        ensures prefix { OnErr result (AppendedPrefix name.now
+            (unsent.old ++ take count self.now.bytes) (D.files folder.old) (D.files folder.new)) }
         ensures failed { OnErr result (WriteFailed (D.counts folder.old) (D.counts folder.new)) }
         ensures done { OnOk result (D.counts folder.new ≡ D.counts folder.old) }
         ensures counts { OnlyWrites (D.counts folder.old) (D.counts folder.new) }
@@ -123,7 +124,7 @@ impl Areas {
         let bytes = self.queue.bytes();
         let stored = count.min(bytes.len());
         unsent.push(folder, name, &bytes[..stored])?;
-        unsent.push(folder, name, zeros_of(count - stored))
+        add_zeros(count - stored, folder, name, unsent)
     }
 
     /// Drops the first bytes of what waits. Where these are no more than are settled, whatever main data could be laid
@@ -157,4 +158,42 @@ fn zeros_of(count: usize) -> &'static [u8]
     ensures { result.now ≡ zeros count }
 {
     &ZEROS[..count]
+}
+
+/// Adds so many zeros to a queue.
+#[inline]
+fn push_zeros(queue: &mut ByteQueue, count: usize)
+    requires { length queue.old + count ≤ 8192 }
+    ensures { queue.new ≡ queue.old ++ zeros count }
+{
+    if count > 0 {
+        queue.push(zeros_of(count));
+    }
+}
+
+/// Adds so many zeros to what waits for the file.
+///
+/// # Errors
+/// Where a write failed. Then a prefix of both was appended.
+#[inline]
+fn add_zeros<D: Folder>(
+    count: usize,
+    folder: &mut D,
+    name: &str,
+    unsent: &mut WriteBuffer,
+) -> Result<(), Failed>
+    requires there { IsThere (D.files folder.old) name.now }
+    requires few { count ≤ 8192 }
+    ensures passed { OnOk result (PassedOn name.now (unsent.old ++ zeros count)
+        unsent.new (D.files folder.old) (D.files folder.new)) }
+    ensures prefix { OnErr result (AppendedPrefix name.now (unsent.old ++ zeros count)
+        (D.files folder.old) (D.files folder.new)) }
+    ensures failed { OnErr result (WriteFailed (D.counts folder.old) (D.counts folder.new)) }
+    ensures done { OnOk result (D.counts folder.new ≡ D.counts folder.old) }
+    ensures counts { OnlyWrites (D.counts folder.old) (D.counts folder.new) }
+{
+    if count == 0 {
+        return Ok(());
+    }
+    unsent.push(folder, name, zeros_of(count))
 }

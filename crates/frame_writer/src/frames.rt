@@ -71,10 +71,12 @@ pub(crate) fn add_frame<D: Folder>(
     requires there { IsThere (D.files folder.old) name.now }
     requires fits { SideFits (class_of kept.now.header) kept.now.side }
     requires within { area_in kept.now ≤ length areas.now.bytes }
-    ensures passed { OnOk result (PassedOn name.now (unsent.old ++ first_bytes kept.now areas.now.bytes)
+    ensures passed { OnOk result (PassedOn name.now
+        (unsent.old ++ first_bytes kept.now areas.now.bytes)
         unsent.new (D.files folder.old) (D.files folder.new)) }
     ensures prefix { OnErr result (AppendedPrefix name.now
-        (unsent.old ++ first_bytes kept.now areas.now.bytes) (D.files folder.old) (D.files folder.new)) }
+        (unsent.old ++ first_bytes kept.now areas.now.bytes)
+        (D.files folder.old) (D.files folder.new)) }
     ensures failed { OnErr result (WriteFailed (D.counts folder.old) (D.counts folder.new)) }
     ensures done { OnOk result (D.counts folder.new ≡ D.counts folder.old) }
     ensures counts { OnlyWrites (D.counts folder.old) (D.counts folder.new) }

@@ -37,7 +37,8 @@ impl Model for Writer {
 
     ghost view = { λ w. record { class = w.class; kept = w.kept.items; waiting = w.areas } };
 
-    ghost invariant = { λ w. (w.kept.capacity ≡ 256) × (length w.kept.items ≤ 256) × (areas_in w.kept.items ≡ length w.areas.bytes) × AreOf w.class w.kept.items };
+    ghost invariant = { λ w. (w.kept.capacity ≡ 256) × (length w.kept.items ≤ 256)
+        × (areas_in w.kept.items ≡ length w.areas.bytes) × AreOf w.class w.kept.items };
 }
 
 impl Writer {
@@ -98,6 +99,7 @@ impl Writer {
     /// # Errors
     /// Where a write failed. Then a prefix of what waited, with the frame behind it, was appended, of bytes that no later
     /// main data can reach.
+    #[inline]
     pub fn frame<D: Folder>(
         &mut self,
         frame: &Frame<'_>,
@@ -117,7 +119,8 @@ impl Writer {
         ensures part { OnErr result (WritesPart name.now frame.now (writing self.old unsent.old)
             self.new (D.files folder.old) (D.files folder.new)) }
         ensures prefix { OnErr result (AppendedPrefix name.now
-            (bytes_with (writing self.old unsent.old) frame.now) (D.files folder.old) (D.files folder.new)) }
+            (bytes_with (writing self.old unsent.old) frame.now)
+            (D.files folder.old) (D.files folder.new)) }
         ensures class { self.new.class ≡ self.old.class }
         ensures reach { reach_of self.new ≡ reach_with self.old.class frame.now }
         ensures unsettled { OnOk result (IsNextSettled self.new → ⊥) }
@@ -156,6 +159,7 @@ impl Writer {
     }
 
     /// Hands on frames for as long as the first is settled.
+    #[inline]
     fn hand_on<D: Folder>(
         &mut self,
         folder: &mut D,
@@ -186,6 +190,7 @@ impl Writer {
     /// Adds a frame, and lays its main data into the areas that wait and its own: they begin main_data_begin bytes
     /// before its own area (ISO/IEC 11172-3 and 13818-3, 2.4.2.7). There is always room for it where the first frame
     /// that waits isn't settled: at most 255 frames wait then (`few_frames_wait`).
+    #[inline]
     fn push(&mut self, frame: &Frame<'_>)
         requires class { class_of frame.now.kept.header ≡ self.old.class }
         requires fits { SideFits self.old.class frame.now.kept.side }
@@ -251,6 +256,7 @@ impl Writer {
 
     /// Whether a frame waits whose area no later main data can reach: these begin at most 511 bytes before their frame's
     /// own area in MPEG-1, 255 in MPEG-2 and MPEG-2.5, and not before the end of the last main data.
+    #[inline]
     fn is_next_settled(&self) -> bool
         ensures { IsTrue result ↔ IsNextSettled self.now }
     {

@@ -11,28 +11,6 @@ use Rattle.laid_files.specs.LaidFiles.{block_bytes}
 use Rattle.laying.specs.Written.{goes_in_front}
 use Rattle.laying.specs.Copying.{is_chosen, chosen_bytes}
 
--- the bytes of a chosen block
-pub chosen-block : (in_front : Bool) (s : SurveyFields) (p : Piece) (file : List ℕ) → beq (goes_in_front s p) in_front ≡ true → bytes_between file p.offset (p.offset + p.block.length) ≡ chosen_bytes in_front s (p ∷ []) file
-chosen-block in_front s p file is =
-    let size : p.offset + p.block.length - p.offset ≡ p.block.length = omega arith in
-    ap (λ n. take n (drop p.offset file)) size ∙ sym (one-by (is_chosen in_front s p) file p (chosen-is in_front s p is))
-  where
-    one-by : (b : Bool) (file : List ℕ) (p : Piece) → b ≡ true → concat (map (block_bytes file) (cond b (p ∷ []) [])) ≡ block_bytes file p
-    one-by true file p is = append-nil (block_bytes file p)
-    one-by false file p is = absurd cc
-
-    by-true : (b : Bool) → beq b true ≡ true → b ≡ true
-    by-true true same = refl
-    by-true false same = absurd cc
-
-    by-false : (b : Bool) → beq b false ≡ true → not b ≡ true
-    by-false true same = absurd cc
-    by-false false same = refl
-
-    chosen-is : (in_front : Bool) (s : SurveyFields) (p : Piece) → beq (goes_in_front s p) in_front ≡ true → is_chosen in_front s p ≡ true
-    chosen-is true s p same = by-true (goes_in_front s p) same
-    chosen-is false s p same = by-false (goes_in_front s p) same
-
 -- ---- blocks that are chosen
 
 chosen-by : (b : Bool) (file : List ℕ) (p : Piece) (ps : List Piece) → concat (map (block_bytes file) (cond b (p ∷ ps) ps)) ≡ concat (map (block_bytes file) (cond b (p ∷ []) [])) ++ concat (map (block_bytes file) ps)

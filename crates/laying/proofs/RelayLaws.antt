@@ -114,19 +114,6 @@ fits-some window reach s i to p placed fits = by_cases (cases_lt i to)
     by_cases (inl within) = within
     by_cases (inr past) = absurd (none-fits (map need_of (slice_range s.frames i to)) (ap (map need_of) (range-none s.frames i to past)) fits)
 
--- where no place is left, no frame is
-pub fits-end : (window reach : ℕ) (s : SurveyFields) (i to : ℕ) → to ≤ length s.frames → FitsFrom window reach (map need_of (slice_range s.frames i to)) [] → to ≤ i
-unfolding FitsFrom
-fits-end window reach s i to within fits = by_cases (cases_lt i to)
-  where
-    some-fits : (rows : List Row) → FitsFrom window reach (map need_of rows) [] → length rows ≡ 0
-    some-fits [] fits = refl
-    some-fits (row ∷ rows) fits = absurd fits
-
-    by_cases : (i < to) ⊎ (to ≤ i) → to ≤ i
-    by_cases (inl some) = omega (arith, some-fits (slice_range s.frames i to) fits, length-take-le (to - i) (drop i s.frames) (omega (arith, within, length-drop i s.frames)), some)
-    by_cases (inr past) = past
-
 -- the item at a place of a list
 pub found-at : {X : Type 0} (xs : List X) (i : ℕ) (x : X) → i < length xs → x ≡ get_or xs i x → slice_get xs i ≡ Some x
 found-at [] i x within is = absurd (omega (arith, within))

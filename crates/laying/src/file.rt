@@ -90,8 +90,8 @@ impl<'a> Relay<'a> {
         ensures written { OnOk result (Appends self.now.pass.input.now self.now.pass.output.now
             (section_file (tells self.now.survey.now) section.now)
             (D.files folder.old) (D.files folder.new)) }
-        ensures prefix { OnErr result (AppendsPrefix self.now.pass.input.now self.now.pass.output.now
-            (section_file (tells self.now.survey.now) section.now)
+        ensures prefix { OnErr result (AppendsPrefix self.now.pass.input.now
+            self.now.pass.output.now (section_file (tells self.now.survey.now) section.now)
             (D.files folder.old) (D.files folder.new)) }
         ensures none { OnOk result (buffers.new.waiting ≡ []) }
         ensures done { OnOk result (D.counts folder.new ≡ D.counts folder.old) }

@@ -45,6 +45,7 @@ fn overhead(header: &Header) -> u32
 
 impl<'a> Relay<'a> {
     /// Gives a frame to the writer.
+    #[inline(always)]
     fn write_frame<D: Folder>(
         &self,
         folder: &mut D,
@@ -117,6 +118,7 @@ impl<'a> Relay<'a> {
     }
 
     /// Reads the area of frame `i` into the window.
+    #[inline(always)]
     fn read_area<D: Folder>(
         &self,
         folder: &mut D,
@@ -174,7 +176,8 @@ impl<'a> Relay<'a> {
     fn first_held(&self, i: usize) -> usize
         requires within { i ≤ length (tells self.now.survey.now).frames }
         ensures before { result ≤ i }
-        ensures held { (result ≡ 0) ⊎ (place (tells self.now.survey.now).head (tells self.now.survey.now).frames result + 2048
+        ensures held { (result ≡ 0) ⊎ (place (tells self.now.survey.now).head
+            (tells self.now.survey.now).frames result + 2048
             ≤ place (tells self.now.survey.now).head (tells self.now.survey.now).frames i) }
     {
         let rows = self.survey.frames();
@@ -197,8 +200,8 @@ impl<'a> Relay<'a> {
     ) -> Result<(), PassFault>
         requires ready { IsReady self.now (D.files folder.old) feed.old }
         requires none { IsWindowOver window.old [] }
-        ensures over { OnOk result (IsOverLast window.new self.now.pass.input.now (D.files folder.new)
-            (tells self.now.survey.now) first first) }
+        ensures over { OnOk result (IsOverLast window.new self.now.pass.input.now
+            (D.files folder.new) (tells self.now.survey.now) first first) }
         ensures done { OnOk result (D.counts folder.new ≡ D.counts folder.old) }
         ensures cause { IfErr result (HasPassCause self.now.pass.length (D.files folder.old)
             (D.counts folder.old) (D.counts folder.new)) }
@@ -259,7 +262,8 @@ impl<'a> Relay<'a> {
         requires class { buffers.old.writer.class ≡ (tells self.now.survey.now).class }
         requires begin { place.now.begin ≤ reach_of buffers.old.writer }
         requires within { (need_of row.now).bytes ≤
-            place.now.begin + area_of (class_of row.now.header) place.now.slot row.now.header.protected }
+            place.now.begin
+            + area_of (class_of row.now.header) place.now.slot row.now.header.protected }
         requires unsettled { IsNextSettled buffers.old.writer → ⊥ }
         ensures lays { OnOk result (GivesFrames self.now (moved_frame self.now i row.now place.now)
             buffers.old buffers.new (D.files folder.old) (D.files folder.new)) }
@@ -270,8 +274,8 @@ impl<'a> Relay<'a> {
             ≡ own_reach self.now row.now place.now) }
         ensures class { OnOk result (buffers.new.writer.class ≡ (tells self.now.survey.now).class) }
         ensures unsettled { OnOk result (IsNextSettled buffers.new.writer → ⊥) }
-        ensures over { OnOk result (IsOver buffers.new.window self.now.pass.input.now (D.files folder.new)
-            (tells self.now.survey.now) (i + 1)) }
+        ensures over { OnOk result (IsOver buffers.new.window self.now.pass.input.now
+            (D.files folder.new) (tells self.now.survey.now) (i + 1)) }
         ensures ready { OnOk result (IsReady self.now (D.files folder.new) buffers.new.feed) }
         ensures done { OnOk result (D.counts folder.new ≡ D.counts folder.old) }
         ensures cause { IfErr result (HasPassCause self.now.pass.length (D.files folder.old)
@@ -357,8 +361,9 @@ impl<'a> Relay<'a> {
         requires class { buffers.old.writer.class ≡ (tells self.now.survey.now).class }
         requires fits { FitsBehind (reach_of buffers.old.writer) self.now from to placed.now }
         requires unsettled { IsNextSettled buffers.old.writer → ⊥ }
-        ensures lays { OnOk result (GivesFrames self.now (planned_frames self.now from to placed.now)
-            buffers.old buffers.new (D.files folder.old) (D.files folder.new)) }
+        ensures lays { OnOk result (GivesFrames self.now
+            (planned_frames self.now from to placed.now) buffers.old buffers.new
+            (D.files folder.old) (D.files folder.new)) }
         ensures part { OnErr result (GivesPart self.now (planned_frames self.now from to placed.now)
             (reach_behind_all (reach_of buffers.old.writer) self.now from to placed.now)
             buffers.old (D.files folder.old) (D.files folder.new)) }
@@ -390,8 +395,9 @@ impl<'a> Relay<'a> {
         unsent: &mut WriteBuffer,
     ) -> Result<(), PassFault>
         requires { IsThere (D.files folder.old) self.now.pass.output.now }
-        ensures passed { OnOk result (PassedOn self.now.pass.output.now (unsent.old ++ held_bytes writer.old)
-            unsent.new (D.files folder.old) (D.files folder.new)) }
+        ensures passed { OnOk result (PassedOn self.now.pass.output.now
+            (unsent.old ++ held_bytes writer.old) unsent.new
+            (D.files folder.old) (D.files folder.new)) }
         ensures prefix { OnErr result (AppendedPrefix self.now.pass.output.now
             (unsent.old ++ held_bytes writer.old) (D.files folder.old) (D.files folder.new)) }
         ensures done { OnOk result (D.counts folder.new ≡ D.counts folder.old) }

@@ -37,17 +37,6 @@ halved-begun class protected menu wanted high some ascend enough is =
       enough = omega (arith, enough, here, most, ap (λ k. get_or (areas_with class protected menu) k 0) is);
     }
 
-pub halved-low : (class : ClassFields) (protected : Bool) (menu : List SlotFields) (wanted low high middle : ℕ) (slot : SlotFields) → middle < high → slot ≡ get_or menu middle slot → wanted ≤ area_of class slot protected → low ≤ middle
-    → IsHalved class protected menu wanted low high → IsHalved class protected menu wanted low middle
-halved-low class protected menu wanted low high middle slot before is enough from halved =
-    let here = area-here class protected menu middle slot (omega (arith, before, halved.within)) in
-    record {
-      ordered = from;
-      within = omega (arith, before, halved.within);
-      small = halved.small;
-      enough = omega (arith, enough, here, ap (λ s. area_of class s protected) is);
-    }
-
 pub halved-high : (class : ClassFields) (protected : Bool) (menu : List SlotFields) (wanted low high middle : ℕ) (slot : SlotFields) → Ascend (areas_with class protected menu) → middle < high → slot ≡ get_or menu middle slot
     → area_of class slot protected < wanted → IsHalved class protected menu wanted low high → IsHalved class protected menu wanted (middle + 1) high
 halved-high class protected menu wanted low high middle slot ascend before is less halved =

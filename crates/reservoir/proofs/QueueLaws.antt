@@ -1,5 +1,5 @@
 -- Laws of the queue.
-use Rattle.std.proofs.Common.{◌≡◌, ℕ, ◌+◌, ◌-◌, ◌≤◌, List, ◌++◌, length, take, drop, refl, sym, ap, ap₂, ◌∙◌, arith, length-drop, length-append}
+use Rattle.std.proofs.Common.{◌≡◌, ℕ, ◌+◌, ◌-◌, ◌≤◌, List, ◌++◌, length, take, drop, sym, ap, ap₂, ◌∙◌, arith, length-drop}
 use Rattle.std.proofs.lemmas.List.{drop-take, drop-drop, drop-append-le, length-take-le}
 use Rattle.std.proofs.Math.Seq.{take-append-add, take-append_seam}
 

@@ -23,7 +23,8 @@ impl Model for ByteQueue {
 
     ghost view = { λ q. take (q.to - q.from) (drop q.from q.room.items) };
 
-    ghost invariant = { λ q. (length q.room.items ≡ 16384) × (q.from ≤ q.to) × (q.to ≤ 16384) × (q.to - q.from ≤ 8192) };
+    ghost invariant = { λ q. (length q.room.items ≡ 16384) × (q.from ≤ q.to) × (q.to ≤ 16384)
+        × (q.to - q.from ≤ 8192) };
 }
 
 impl ByteQueue {

@@ -1,5 +1,5 @@
 -- What is stored of them, and zeros where it ends.
-use Rattle.std.proofs.Common.{◌≡◌, ℕ, List, ◌++◌, ◌-◌, take, length, ap, min, ◌∙◌}
+use Rattle.std.proofs.Common.{ℕ, List, ◌++◌, ◌-◌, take, ap, ◌∙◌}
 use Rattle.outside.proofs.PassedLaws.{on_err, passed_there}
 use Rattle.frame_writer.specs.Laid.{Waiting, zeros}
 use Rattle.frame_writer.proofs.LaidLaws.{first-parts}
@@ -13,8 +13,8 @@ returns-in_err-push-clause-prefix g c =
     (ap (λ (xs : List ℕ). xs ++ zeros c.self.inside.free) c.bytes-bytes.ensures ∙ ap (λ (w : Waiting). w.bytes) c.self.view_is) c.requires.within c.min-stored.ensures in
     on_err c.from_residual.result (prefix-piece c.args.name.now c.args.unsent.now _ _ _ _ _ all c.in_err-push.ensures.prefix)
 
-pub push-requires-2 : goal.push-requires-2
-push-requires-2 g c = passed_there c.in_ok-push.ensures.passed
+pub add_zeros-requires-clause-there : goal.add_zeros-requires-clause-there
+add_zeros-requires-clause-there g c = passed_there c.in_ok-push.ensures.passed
 
 pub returns-clause-passed : goal.returns-clause-passed
 returns-clause-passed g c =
@@ -22,9 +22,9 @@ returns-clause-passed g c =
     let a = take c.min-stored.result bytes in
     let all = first-parts c.args.count c.self.inside.free c.min-stored.result bytes c.args.self.now.bytes
     (ap (λ (xs : List ℕ). xs ++ zeros c.self.inside.free) c.bytes-bytes.ensures ∙ ap (λ (w : Waiting). w.bytes) c.self.view_is) c.requires.within c.min-stored.ensures in
-    ok-map c.push-2.result
-    (passed-two c.args.unsent.now a c.zeros_of.result.now _ (ap (λ (xs : List ℕ). a ++ xs) c.zeros_of.ensures ∙ all) c.in_ok-push.ensures.passed)
-    c.push-2.ensures.passed
+    ok-map c.add_zeros.result
+    (passed-two c.args.unsent.now a (zeros (c.args.count - c.min-stored.result)) _ all c.in_ok-push.ensures.passed)
+    c.add_zeros.ensures.passed
 
 pub returns-clause-prefix : goal.returns-clause-prefix
 returns-clause-prefix g c =
@@ -32,6 +32,6 @@ returns-clause-prefix g c =
     let a = take c.min-stored.result bytes in
     let all = first-parts c.args.count c.self.inside.free c.min-stored.result bytes c.args.self.now.bytes
     (ap (λ (xs : List ℕ). xs ++ zeros c.self.inside.free) c.bytes-bytes.ensures ∙ ap (λ (w : Waiting). w.bytes) c.self.view_is) c.requires.within c.min-stored.ensures in
-    err-map c.push-2.result
-    (prefix-two c.args.unsent.now a c.zeros_of.result.now _ (ap (λ (xs : List ℕ). a ++ xs) c.zeros_of.ensures ∙ all) c.in_ok-push.ensures.passed)
-    c.push-2.ensures.prefix
+    err-map c.add_zeros.result
+    (prefix-two c.args.unsent.now a (zeros (c.args.count - c.min-stored.result)) _ all c.in_ok-push.ensures.passed)
+    c.add_zeros.ensures.prefix

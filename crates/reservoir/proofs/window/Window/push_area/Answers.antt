@@ -1,5 +1,5 @@
 -- The last bytes of all, with an area more.
-use Rattle.std.proofs.Common.{◌≡◌, ◌++◌, ◌+◌, ◌-◌, drop, length, subst, sym, ap, ap₂, ◌∙◌, arith, List, ℕ}
+use Rattle.std.proofs.Common.{◌++◌, drop, length, subst, sym, ap, ap₂, ◌∙◌, arith, List, ℕ}
 use Rattle.std.proofs.lemmas.List.{take_rest}
 use Rattle.reservoir.specs.Window.{IsWindowOver}
 use Rattle.reservoir.proofs.WindowLaws.{last-pushed, window-more}
