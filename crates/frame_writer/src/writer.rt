@@ -208,12 +208,10 @@ impl Writer {
     {
         let Kept { header, side } = frame.kept;
         let _ = &header.slot;
+        let area = header.area();
         self.kept.push_back(frame.kept);
-        self.areas.push(
-            u32::from(side.main_data_begin),
-            header.area(),
-            &frame.payload,
-        );
+        self.areas
+            .push(u32::from(side.main_data_begin), area, &frame.payload);
     }
 
     /// Takes the first frame that waits, and adds its bytes to what waits for the file: its header, its check word where
@@ -249,8 +247,9 @@ impl Writer {
         ensures counts { OnlyWrites (D.counts folder.old) (D.counts folder.new) }
     {
         let first = self.kept.pop_front().unwrap();
+        let area = first.header.area() as usize;
         let added = add_frame(&first, &self.areas, folder, name, unsent);
-        self.areas.drop_first(first.header.area() as usize);
+        self.areas.drop_first(area);
         added
     }
 

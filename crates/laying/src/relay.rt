@@ -281,12 +281,13 @@ impl<'a> Relay<'a> {
         ensures cause { IfErr result (HasPassCause self.now.pass.length (D.files folder.old)
             (D.counts folder.old) (D.counts folder.new)) }
     {
+        let area = row.header.area();
         self.read_area(folder, i, row, &mut buffers.feed, &mut buffers.window)?;
         let kept = Kept {
             header: row.header.with_slot(place.slot),
             side: side_of(row).with_begin(place.begin),
         };
-        let payload = cut_payload(self.survey, i, row, &buffers.window);
+        let payload = cut_payload(self.survey, i, row, area, &buffers.window);
         let frame = Frame { kept, payload };
         self.write_frame(folder, &frame, &mut buffers.writer, &mut buffers.waiting)
     }
@@ -450,11 +451,21 @@ fn side_of(row: &Row) -> Side
     if row.lost { Side::empty() } else { row.side }
 }
 
-/// The main data of frame `i` in the window, in as few bytes as hold them. A lost frame has none.
-fn cut_payload<'w>(survey: &Survey, i: usize, row: &Row, window: &'w Window) -> Payload<'w>
+/// The main data of frame `i`, whose area has so many bytes, in the window, in as few bytes as hold them. A lost frame has
+/// none.
+fn cut_payload<'w>(
+    survey: &Survey,
+    i: usize,
+    row: &Row,
+    area: u32,
+    window: &'w Window,
+) -> Payload<'w>
     requires placed { AreWellPlaced (tells survey.now).head (tells survey.now).class
         (tells survey.now).frames }
     requires found { slice_get (tells survey.now).frames i ≡ Some row.now }
+    requires area { area ≡ area_of (class_of row.now.header) row.now.header.slot
+        row.now.header.protected }
+    requires most { area ≤ 1441 }
     requires over { Reaches window.now (place (tells survey.now).head (tells survey.now).frames
         (i + 1)) }
     ensures size { length result ≡ (need_of row.now).bytes }
@@ -468,6 +479,6 @@ fn cut_payload<'w>(survey: &Survey, i: usize, row: &Row, window: &'w Window) -> 
         Payload::empty()
     } else {
         let begin = u32::from(row.side.main_data_begin);
-        window.payload(row.header.area(), begin, row.side.bits())
+        window.payload(area, begin, row.side.bits())
     }
 }

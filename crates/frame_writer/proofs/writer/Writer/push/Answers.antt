@@ -16,7 +16,7 @@ push-requires-clause-room c =
     let held : Held = record { class = c.self.inside.class; kept = c.self.inside.kept.items; waiting = c.self.inside.areas } in
     let room : HaveRoom held =
     few-wait held c.self.invariant.3 c.self.invariant.2 (subst (λ (h : Held). IsNextSettled h → ⊥) (sym c.self.view_is) c.requires.unsettled) in
-    omega (arith, room.room, c.area.ensures.most)
+    omega (arith, room.room, c.area-area.ensures.most)
 
 pub invariant_of-self : goal.invariant_of-self
 invariant_of-self c =
@@ -34,7 +34,7 @@ invariant_of-self c =
     let is : IsHeader c.args.frame.now.kept.header =
     subst (λ (f : Frame). IsHeader f.kept.header) c.frame.view_is (subst IsHeader c.header.view_is c.header.invariant) in
     let bytes = c.self.inside.areas.bytes in
-    let long : length c.push.new.self.bytes ≡ length bytes + area_in k = c.push.ensures.long ∙ ap (λ n. length bytes + n) (c.area.ensures.area ∙ ap (λ (f : Frame). area_in f.kept) c.frame.view_is) in (
+    let long : length c.push.new.self.bytes ≡ length bytes + area_in k = c.push.ensures.long ∙ ap (λ n. length bytes + n) (c.area-area.ensures.area ∙ ap (λ (f : Frame). area_in f.kept) c.frame.view_is) in (
       pushed.0,
       omega (arith, ap length pushed.1, length-append queue.items (k ∷ []), room.few),
       ap (λ (ks : List Kept). areas_in ks) pushed.1
@@ -71,6 +71,6 @@ returns-clause-written c = λ taken fs are.
     (more-written taken c.self.inside.class queue.items c.self.inside.areas c.push.new.self fs f
     (λ given ps laid.
     subst (λ n. AreLaid given c.push.new.self (ps ++ record { payload = f.payload; begin = n; area = area_in f.kept } ∷ [])) c.from.ensures
-    (subst (λ n. AreLaid given c.push.new.self (ps ++ record { payload = f.payload; begin = c.from.result; area = n } ∷ [])) c.area.ensures.area
+    (subst (λ n. AreLaid given c.push.new.self (ps ++ record { payload = f.payload; begin = c.from.result; area = n } ∷ [])) c.area-area.ensures.area
     (c.push.ensures.laid given ps laid)))
     (subst (λ h. AreWritten taken h fs) (sym c.self.view_is) are)))

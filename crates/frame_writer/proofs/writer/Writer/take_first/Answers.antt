@@ -18,8 +18,8 @@ returns-clause-moved g c =
     let all : areas_in (k ∷ drop 1 items) ≡ length bytes = ap (λ (js : List Kept). areas_in js) (sym ks) ∙ c.self.invariant.2 in
     first-handed c.args.self.now c.self.inside.class k items c.pop_front.new.self.items c.self.inside.areas c.drop_first.new.self c.self.view_is ks
     (ap (λ (b : Buffer Kept). b.items) c.pop_front.ensures.items)
-    (c.drop_first.ensures.left ∙ ap (λ n. drop n bytes) c.area.ensures.area)
-    (subst (λ n. (given : List ℕ) (ps : List Piece) → AreLaid given c.self.inside.areas ps → AreLaid (given ++ take n bytes) c.drop_first.new.self ps) c.area.ensures.area c.drop_first.ensures.laid)
+    (c.drop_first.ensures.left ∙ ap (λ n. drop n bytes) c.area-area.ensures.area)
+    (subst (λ n. (given : List ℕ) (ps : List Piece) → AreLaid given c.self.inside.areas ps → AreLaid (given ++ take n bytes) c.drop_first.new.self ps) c.area-area.ensures.area c.drop_first.ensures.laid)
     (omega (arith, all))
 
 pub returns-clause-part : goal.returns-clause-part
@@ -33,8 +33,8 @@ returns-clause-part g c =
     err-map c.add_frame-added.result
     (first-part c.args.name.now c.args.unsent.now c.args.self.now c.self.inside.class k items c.pop_front.new.self.items c.self.inside.areas c.drop_first.new.self _ _ c.self.view_is ks
     (ap (λ (b : Buffer Kept). b.items) c.pop_front.ensures.items)
-    (c.drop_first.ensures.left ∙ ap (λ n. drop n bytes) c.area.ensures.area)
-    (subst (λ n. (given : List ℕ) (ps : List Piece) → AreLaid given c.self.inside.areas ps → AreLaid (given ++ take n bytes) c.drop_first.new.self ps) c.area.ensures.area c.drop_first.ensures.laid)
+    (c.drop_first.ensures.left ∙ ap (λ n. drop n bytes) c.area-area.ensures.area)
+    (subst (λ n. (given : List ℕ) (ps : List Piece) → AreLaid given c.self.inside.areas ps → AreLaid (given ++ take n bytes) c.drop_first.new.self ps) c.area-area.ensures.area c.drop_first.ensures.laid)
     (omega (arith, all)))
     c.add_frame-added.ensures.prefix
 
