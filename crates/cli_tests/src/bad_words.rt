@@ -1,6 +1,6 @@
 //! Words that no form takes, and the place of the first bad one.
 
-use crate::reading::{read, read_join, read_split};
+use crate::reading::{bad_word, join_words, owned, split_words};
 use std::alloc::{AllocError, AllocGlobal};
 use std::process::Abort;
 use std::test::Fail;
@@ -20,13 +20,17 @@ static NO_STEPS: [&str; 11] = [
 fn no_steps(rt: HostRuntime) -> Result<(), Fail> {
     for word in &NO_STEPS {
         let words = ["gain", "-s", "s", "-g", *word, "a", "b"];
-        assert_eq!(rt; read(rt.alloc(), &words)?, Err(5), "steps {word}");
+        assert_eq!(rt;
+            bad_word(&owned(rt.alloc(), &words)?),
+            Some(5),
+            "steps {word}"
+        );
     }
     Ok(())
 }
 
 /// Words of gains and of undoing them.
-static GAINS: [Bad; 17] = [
+static GAINS: [Bad; 19] = [
     Bad {
         words: &["gain"],
         place: 2,
@@ -74,6 +78,14 @@ static GAINS: [Bad; 17] = [
     Bad {
         words: &["gain", "-s", "s", "-l", "2", "1", "a", "b"],
         place: 5,
+    },
+    Bad {
+        words: &["gain", "-w", "-s"],
+        place: 4,
+    },
+    Bad {
+        words: &["gain", "-s", "-w", "-g", "1", "a", "b"],
+        place: 3,
     },
     Bad {
         words: &["gain", "-w", "-u", "a", "b"],
@@ -150,7 +162,7 @@ static SEVERAL: [Bad; 12] = [
 ];
 
 /// Words of the other forms, and of none.
-static OTHERS: [Bad; 11] = [
+static OTHERS: [Bad; 13] = [
     Bad {
         words: &[],
         place: 1,
@@ -192,6 +204,14 @@ static OTHERS: [Bad; 11] = [
         place: 5,
     },
     Bad {
+        words: &["cut", "--least", "--least", "a", "0", "1", "b"],
+        place: 3,
+    },
+    Bad {
+        words: &["pack", "--least", "a", "b"],
+        place: 2,
+    },
+    Bad {
         words: &["pack", "a"],
         place: 3,
     },
@@ -200,8 +220,8 @@ static OTHERS: [Bad; 11] = [
 /// Each of these is refused at its first bad word.
 fn expect<R: Abort + AllocGlobal>(rt: &R, table: &[Bad]) -> Result<(), AllocError> {
     for bad in table {
-        let read = read(rt.alloc(), bad.words)?;
-        assert_eq!(rt; read, Err(bad.place), "{:?}", bad.words);
+        let words = owned(rt.alloc(), bad.words)?;
+        assert_eq!(rt; bad_word(&words), Some(bad.place), "{:?}", bad.words);
     }
     Ok(())
 }
@@ -227,7 +247,7 @@ fn other_forms(rt: HostRuntime) -> Result<(), Fail> {
 /// A split has at most 100 places, and a join at most 64 inputs.
 #[test]
 fn one_word_too_many(rt: HostRuntime) -> Result<(), Fail> {
-    assert_eq!(rt; read_split(rt.alloc(), 101)?, Err(104));
-    assert_eq!(rt; read_join(rt.alloc(), 65)?, Err(67));
+    assert_eq!(rt; bad_word(&split_words(rt.alloc(), 101)?), Some(104));
+    assert_eq!(rt; bad_word(&join_words(rt.alloc(), 65)?), Some(67));
     Ok(())
 }

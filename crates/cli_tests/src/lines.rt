@@ -1,8 +1,6 @@
 //! Lines of faults as they are sent.
-ghost use Rattle.mp3_cli.specs.Texts.{HasLine};
-
 use cue_sheet::CueFault;
-use edits::EditFault;
+use edits::{EditFault, Refusal};
 use mp3_cli::{Outputs, send_bad_word, send_fault, status};
 use outside::MemSink;
 use std::alloc::{AllocError, AllocGlobal, Global};
@@ -99,47 +97,47 @@ static LINES: [Line; 15] = [
         line: b"a.mp3: input is an output\n",
     },
     Line {
-        fault: EditFault::Mono,
+        fault: EditFault::Refused(Refusal::Mono),
         status: 1,
         line: b"one channel only\n",
     },
     Line {
-        fault: EditFault::Joint(30417),
+        fault: EditFault::Refused(Refusal::Joint(30417)),
         status: 1,
         line: b"joint stereo at 30417\n",
     },
     Line {
-        fault: EditFault::TagTooLarge(1_048_577),
+        fault: EditFault::Refused(Refusal::TagTooLarge(1_048_577)),
         status: 1,
         line: b"tag too large, 1048577\n",
     },
     Line {
-        fault: EditFault::BadTag(441),
+        fault: EditFault::Refused(Refusal::BadTag(441)),
         status: 1,
         line: b"bad tag at 441\n",
     },
     Line {
-        fault: EditFault::NoUndo,
+        fault: EditFault::Refused(Refusal::NoUndo),
         status: 1,
         line: b"no undo item\n",
     },
     Line {
-        fault: EditFault::BadUndo(449),
+        fault: EditFault::Refused(Refusal::BadUndo(449)),
         status: 1,
         line: b"bad undo item at 449\n",
     },
     Line {
-        fault: EditFault::UndoRange(-1020),
+        fault: EditFault::Refused(Refusal::UndoRange(-1020)),
         status: 1,
         line: b"undo sum -1020 is out of range\n",
     },
     Line {
-        fault: EditFault::UndoRange(1254),
+        fault: EditFault::Refused(Refusal::UndoRange(1254)),
         status: 1,
         line: b"undo sum 1254 is out of range\n",
     },
     Line {
-        fault: EditFault::OutputTooLong(1_073_741_920),
+        fault: EditFault::Refused(Refusal::OutputTooLong(1_073_741_920)),
         status: 1,
         line: b"output too long, 1073741920 bytes\n",
     },
@@ -149,12 +147,12 @@ static LINES: [Line; 15] = [
         line: b"standard output: write fault\n",
     },
     Line {
-        fault: EditFault::GainRange(417, 1, 0, 255),
+        fault: EditFault::Refused(Refusal::GainRange(417, 1, 0, 255)),
         status: 1,
         line: b"gain 255 out of range at 417, granule 1, channel 0\n",
     },
     Line {
-        fault: EditFault::Range(2, 2, 2),
+        fault: EditFault::Refused(Refusal::Range(2, 2, 2)),
         status: 1,
         line: b"range 2 to 2 of 2 frames\n",
     },
@@ -173,27 +171,27 @@ static LINES: [Line; 15] = [
 /// Those of commands with several files.
 static SEVERAL_LINES: [Line; 6] = [
     Line {
-        fault: EditFault::Differ(1),
+        fault: EditFault::Refused(Refusal::Differ(1)),
         status: 1,
         line: b"c.mp3: other class than the first input\n",
     },
     Line {
-        fault: EditFault::SheetTooLarge(65_537),
+        fault: EditFault::Refused(Refusal::SheetTooLarge(65_537)),
         status: 1,
         line: b"c.mp3: sheet too large, 65537 bytes\n",
     },
     Line {
-        fault: EditFault::Sheet(CueFault::Line(12)),
+        fault: EditFault::Refused(Refusal::Sheet(CueFault::Line(12))),
         status: 1,
         line: b"c.mp3: bad line 12\n",
     },
     Line {
-        fault: EditFault::Sheet(CueFault::NotRising(9)),
+        fault: EditFault::Refused(Refusal::Sheet(CueFault::NotRising(9))),
         status: 1,
         line: b"c.mp3: not rising at line 9\n",
     },
     Line {
-        fault: EditFault::Sheet(CueFault::NoTracks),
+        fault: EditFault::Refused(Refusal::Sheet(CueFault::NoTracks)),
         status: 1,
         line: b"c.mp3: no tracks\n",
     },
@@ -212,9 +210,7 @@ fn new_sink(alloc: Global) -> Result<MemSink, AllocError> {
 }
 
 /// The line of the fault, as it is sent.
-fn line_of(alloc: Global, fault: &EditFault) -> Result<MemSink, AllocError>
-    requires { HasLine fault.now }
-{
+fn line_of(alloc: Global, fault: &EditFault) -> Result<MemSink, AllocError> {
     let mut err = new_sink(alloc)?;
     let inputs = ["a.mp3", "c.mp3"];
     send_fault(&mut err, fault, &inputs, &Outputs::One("b.mp3"));
@@ -222,9 +218,7 @@ fn line_of(alloc: Global, fault: &EditFault) -> Result<MemSink, AllocError>
 }
 
 /// The status of the fault, and its line.
-fn expect_line<R: Abort + AllocGlobal>(rt: &R, case: &Line) -> Result<(), AllocError>
-    requires { HasLine case.now.fault }
-{
+fn expect_line<R: Abort + AllocGlobal>(rt: &R, case: &Line) -> Result<(), AllocError> {
     assert_eq!(rt; status(&case.fault), case.status);
     assert_eq!(rt; line_of(rt.alloc(), &case.fault)?.sent(), case.line);
     Ok(())

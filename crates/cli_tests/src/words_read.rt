@@ -1,17 +1,18 @@
 //! Words that have a form, and what they ask for.
 
-use crate::reading::{read, read_join, read_split};
+use crate::reading::{join_words, owned, split_words};
 use arrayvec::ArrayVec;
 use cue_sheet::Place;
 use edits::{Channels, Shift};
-use mp3_cli::Job;
+use mp3_cli::{Job, job};
 use std::alloc::{AllocError, AllocGlobal};
 use std::process::Abort;
 use std::test::Fail;
 
 /// The words ask for this.
 fn expect<R: Abort + AllocGlobal>(rt: &R, words: &[&str], wanted: Job) -> Result<(), AllocError> {
-    assert_eq!(rt; read(rt.alloc(), words)?, Ok(wanted), "{words:?}");
+    let owned = owned(rt.alloc(), words)?;
+    assert_eq!(rt; job(&owned), Ok(wanted), "{words:?}");
     Ok(())
 }
 
@@ -59,8 +60,8 @@ fn words_of_steps(rt: HostRuntime) -> Result<(), Fail> {
         let wanted = Job::Gain {
             shift,
             tags: false,
-            input: 6,
-            output: 7,
+            input: "a",
+            output: "./-b",
         };
         let words = ["gain", "-s", "s", "-g", case.word, "a", "./-b"];
         expect(&rt, &words, wanted)?;
@@ -68,14 +69,12 @@ fn words_of_steps(rt: HostRuntime) -> Result<(), Fail> {
     Ok(())
 }
 
-/// The words of a gain, the channels that change, whether gains wrap and a note is kept in the tag, and the place of
-/// the input's name.
+/// The words of a gain, the channels that change, whether gains wrap, and whether a note is kept in the tag.
 struct GainWords {
     words: &'static [&'static str],
     channels: Channels,
     wrap: bool,
     tags: bool,
-    input: u32,
 }
 
 static GAINS: [GainWords; 10] = [
@@ -84,70 +83,60 @@ static GAINS: [GainWords; 10] = [
         channels: Channels::Both,
         wrap: false,
         tags: true,
-        input: 4,
     },
     GainWords {
         words: &["gain", "-s", "s", "-g", "-7", "a", "b"],
         channels: Channels::Both,
         wrap: false,
         tags: false,
-        input: 6,
     },
     GainWords {
         words: &["gain", "-w", "-g", "-7", "a", "b"],
         channels: Channels::Both,
         wrap: true,
         tags: true,
-        input: 5,
     },
     GainWords {
         words: &["gain", "-s", "s", "-w", "-g", "-7", "a", "b"],
         channels: Channels::Both,
         wrap: true,
         tags: false,
-        input: 7,
     },
     GainWords {
         words: &["gain", "-w", "-s", "s", "-g", "-7", "a", "b"],
         channels: Channels::Both,
         wrap: true,
         tags: false,
-        input: 7,
     },
     GainWords {
         words: &["gain", "-l", "0", "-7", "a", "b"],
         channels: Channels::Left,
         wrap: false,
         tags: true,
-        input: 5,
     },
     GainWords {
         words: &["gain", "-s", "s", "-l", "0", "-7", "a", "b"],
         channels: Channels::Left,
         wrap: false,
         tags: false,
-        input: 7,
     },
     GainWords {
         words: &["gain", "-w", "-l", "0", "-7", "a", "b"],
         channels: Channels::Left,
         wrap: true,
         tags: true,
-        input: 6,
     },
     GainWords {
         words: &["gain", "-s", "s", "-w", "-l", "1", "-7", "a", "b"],
         channels: Channels::Right,
         wrap: true,
         tags: false,
-        input: 8,
     },
     GainWords {
         words: &["gain", "-w", "-s", "s", "-l", "1", "-7", "a", "b"],
         channels: Channels::Right,
         wrap: true,
         tags: false,
-        input: 8,
     },
 ];
 
@@ -162,8 +151,8 @@ fn gains(rt: HostRuntime) -> Result<(), Fail> {
         let wanted = Job::Gain {
             shift,
             tags: gain.tags,
-            input: gain.input,
-            output: gain.input + 1,
+            input: "a",
+            output: "b",
         };
         expect(&rt, gain.words, wanted)?;
     }
@@ -173,8 +162,8 @@ fn gains(rt: HostRuntime) -> Result<(), Fail> {
 #[test]
 fn an_undo(rt: HostRuntime) -> Result<(), Fail> {
     let undo = Job::Undo {
-        input: 3,
-        output: 4,
+        input: "a",
+        output: "b",
     };
     expect(&rt, &["gain", "-u", "a", "b"], undo)?;
     Ok(())
@@ -182,10 +171,10 @@ fn an_undo(rt: HostRuntime) -> Result<(), Fail> {
 
 #[test]
 fn files_to_list_and_pack(rt: HostRuntime) -> Result<(), Fail> {
-    expect(&rt, &["list", "a"], Job::List { input: 2 })?;
+    expect(&rt, &["list", "a"], Job::List { input: "a" })?;
     let pack = Job::Pack {
-        input: 2,
-        output: 3,
+        input: "a",
+        output: "b",
     };
     expect(&rt, &["pack", "a", "b"], pack)?;
     Ok(())
@@ -205,16 +194,16 @@ fn cuts(rt: HostRuntime) -> Result<(), Fail> {
         from: Place::Frame(1),
         to: Place::End,
         least: false,
-        input: 2,
-        output: 5,
+        input: "a",
+        output: "b",
     };
     expect(&rt, &["cut", "a", "1", "EOF", "b"], kept)?;
     let least = Job::Cut {
         from: Place::Time(0, 100),
         to: Place::Time(6205, 100),
         least: true,
-        input: 3,
-        output: 6,
+        input: "a",
+        output: "b",
     };
     expect(&rt, &["cut", "--least", "a", "0.0", "1.02.5", "b"], least)?;
     Ok(())
@@ -223,9 +212,9 @@ fn cuts(rt: HostRuntime) -> Result<(), Fail> {
 #[test]
 fn a_split_by_a_sheet(rt: HostRuntime) -> Result<(), Fail> {
     let split = Job::SplitBy {
-        input: 2,
-        prefix: 3,
-        sheet: 5,
+        input: "a",
+        prefix: "p",
+        sheet: "s",
     };
     expect(&rt, &["split", "a", "p", "-c", "s"], split)?;
     Ok(())
@@ -238,8 +227,8 @@ fn places_of_a_split(rt: HostRuntime) -> Result<(), Fail> {
     places.push(Place::Frame(7));
     places.push(Place::End);
     let wanted = Job::SplitAt {
-        input: 2,
-        prefix: 3,
+        input: "a",
+        prefix: "p",
         places,
     };
     expect(&rt, &["split", "a", "p", "0.0", "7", "EOF"], wanted)?;
@@ -253,11 +242,11 @@ fn the_most_places(rt: HostRuntime) -> Result<(), Fail> {
         assert!(rt; places.try_push(Place::Frame(number)).is_ok());
     }
     let wanted = Job::SplitAt {
-        input: 2,
-        prefix: 3,
+        input: "a",
+        prefix: "p",
         places,
     };
-    assert_eq!(rt; read_split(rt.alloc(), 100)?, Ok(wanted));
+    assert_eq!(rt; job(&split_words(rt.alloc(), 100)?), Ok(wanted));
     Ok(())
 }
 
@@ -267,12 +256,12 @@ static COUNTS: [u32; 3] = [1, 2, 64];
 #[test]
 fn joins(rt: HostRuntime) -> Result<(), Fail> {
     for count in &COUNTS {
+        let words = join_words(rt.alloc(), *count)?;
         let wanted = Job::Join {
-            output: 2,
-            first: 3,
-            count: *count,
+            output: "o",
+            inputs: &words[2..],
         };
-        assert_eq!(rt; read_join(rt.alloc(), *count)?, Ok(wanted));
+        assert_eq!(rt; job(&words), Ok(wanted));
     }
     Ok(())
 }

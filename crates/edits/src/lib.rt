@@ -1,30 +1,22 @@
 //! The commands: from the files of a folder they make new ones, or are refused.
-#![tactic(auto)]
+//!
+//! Each takes the memory's allocator, a folder and names in it. It is refused with an `EditFault` that says why, and its
+//! contract says what the files hold then and where it is done. This crate only gathers them:
+//!
+//! | call | crate | what it does |
+//! |---|---|---|
+//! | `list` | `listing` | sends what a file holds, a line for each frame and block, to a sink |
+//! | `gain`, `undo` | `gain_edits` | moves the gains of a file, and takes back what the file's tag says of that |
+//! | `cut`, `pack` | `frame_edits` | lays chosen frames, or all, anew in one file |
+//! | `split` | `splitting` | lays the frames between places anew, a file for each piece |
+//! | `join` | `joining` | lays the frames of several files anew in one |
+//!
+//! What they share, the faults and the one body of those that make one file, is in `commands`.
 
-mod change_file;
-mod choice;
-mod chosen;
-mod chosen_file;
-mod cut_file;
-mod edit;
-mod fault;
-mod gain_file;
-mod limits;
-mod noted;
-mod pack_file;
-mod planned;
-mod undo_file;
-mod undoing;
-
-pub use change_file::survey_at;
-pub use chosen::{Chosen, choose};
-pub use chosen_file::write_selection;
-pub use cut_file::cut;
-pub use fault::EditFault;
-pub use gain_file::gain;
-pub use limits::MOST_FRAMES;
+pub use commands::{EditFault, MOST_FRAMES, Refusal};
+pub use frame_edits::{cut, pack};
+pub use gain_edits::{gain, opposite_gives_back, undo, undo_gives_back};
+pub use joining::join;
+pub use listing::list;
 pub use moved_gains::{Channels, Shift, Steps, Stuck};
-pub use pack_file::pack;
-pub use planned::{Planned, Selection, plan_file};
-pub use undo_file::undo;
-pub use undoing::{opposite_gives_back, undo_gives_back};
+pub use splitting::{Points, split};

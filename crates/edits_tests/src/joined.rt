@@ -3,8 +3,7 @@
 use crate::files::{are_same, expect_file, expect_part, length_of, put_file};
 use crate::two::TWO;
 use cue_sheet::Place;
-use edits::{EditFault, cut};
-use joining::join;
+use edits::{EditFault, Refusal, cut, join};
 use outside::{Call, MemFolder};
 use std::alloc::{AllocError, AllocGlobal, Global};
 use std::process::Abort;
@@ -214,7 +213,7 @@ static CASES: [Case; 4] = [
         output: "o",
         first: "a",
         second: "f",
-        fault: EditFault::Differ(1),
+        fault: EditFault::Refused(Refusal::Differ(1)),
     },
     Case {
         output: "a",

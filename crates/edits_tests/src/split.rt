@@ -6,9 +6,8 @@ ghost use Rattle.cue_sheet.specs.Places.{IsPlace};
 
 use crate::files::{are_same, length_of, put_file};
 use cue_sheet::{CueFault, Place};
-use edits::{EditFault, cut};
+use edits::{EditFault, Points, Refusal, cut, split};
 use outside::{Call, MemFolder};
-use splitting::{split_at, split_by};
 use std::alloc::{AllocError, AllocGlobal, Global};
 use std::process::Abort;
 use std::test::Fail;
@@ -68,7 +67,7 @@ fn split(
     requires some { 2 ≤ length places.now }
     requires most { length places.now ≤ 100 }
 {
-    split_at(alloc, folder, input, places, "p")
+    split(alloc, folder, input, &Points::Places(places), "p")
 }
 
 fn split_tracks(
@@ -77,7 +76,7 @@ fn split_tracks(
     input: &str,
     sheet: &str,
 ) -> Result<(), EditFault> {
-    split_by(alloc, folder, input, sheet, "p")
+    split(alloc, folder, input, &Points::Sheet(sheet), "p")
 }
 
 /// Whether a piece is what `cut` writes of the frames from one on and before another.
@@ -139,10 +138,10 @@ fn expect_order<R: Abort + AllocGlobal>(rt: &R, folder: &mut MemFolder) -> Resul
     put_four(alloc, folder)?;
     let places = [Place::Frame(0), Place::Frame(2), Place::Frame(2)];
     let equal = split(alloc, folder, "a", &places);
-    assert_eq!(rt; equal, Err(EditFault::Range(2, 2, 4)));
+    assert_eq!(rt; equal, Err(EditFault::Refused(Refusal::Range(2, 2, 4))));
     let places = [Place::Frame(0), Place::Frame(5), Place::Frame(2)];
     let behind = split(alloc, folder, "a", &places);
-    assert_eq!(rt; behind, Err(EditFault::Range(0, 5, 4)));
+    assert_eq!(rt; behind, Err(EditFault::Refused(Refusal::Range(0, 5, 4))));
     assert_eq!(rt; length_of(folder, "p01.mp3"), None);
     Ok(())
 }
@@ -180,15 +179,15 @@ struct Sheet {
 static SHEETS: [Sheet; 3] = [
     Sheet {
         stretches: &[Stretch::Fill(b' ', 65_536)],
-        fault: EditFault::Sheet(CueFault::NoTracks),
+        fault: EditFault::Refused(Refusal::Sheet(CueFault::NoTracks)),
     },
     Sheet {
         stretches: &[Stretch::Fill(b' ', 65_537)],
-        fault: EditFault::SheetTooLarge(65_537),
+        fault: EditFault::Refused(Refusal::SheetTooLarge(65_537)),
     },
     Sheet {
         stretches: &[Stretch::Bytes(b"\nTRACK 1")],
-        fault: EditFault::Sheet(CueFault::Line(2)),
+        fault: EditFault::Refused(Refusal::Sheet(CueFault::Line(2))),
     },
 ];
 

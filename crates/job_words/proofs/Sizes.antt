@@ -6,7 +6,7 @@ use Rattle.std.specs.Str.Parse.{AllDigits, digits_value}
 use Rattle.std.proofs.lemmas.Bool.{le-leb, lt-leb}
 use Rattle.std.proofs.lemmas.Str.Parse.{IsNumeralModel, numerals_by_value, tells_all_ascii_digits, digit_at, digits_value_short}
 use Rattle.std.proofs.lemmas.List.{length-take-le}
-use Rattle.job_words.specs.Words.{step_count}
+use Rattle.job_words.specs.Kinds.{step_count}
 
 pub digits_model : IsNumeralModel (λ ds. all_ascii_digits ds ≡ true) (digits_value 10)
 digits_model = numerals_by_value _ tells_all_ascii_digits

@@ -1,23 +1,32 @@
--- What a job names and asks for is in range.
-use Rattle.std.proofs.Common.{◌≡◌, ℕ, zero, suc, ◌<◌, ◌≤◌, ◌&&◌, ◌==◌, Bool, true, false, cond, ◌+◌, ◌-◌, List, [], ◌∷◌, ◌++◌, length, get_or, map, replicate, min, Option, Some, None, Ok, refl, sym, ◌∙◌, subst, leb, pos, neg_ℤ, arith, rules}
-use Rattle.std.specs.Prelude.{IfSome, unwrap_or, option_map, option_and_then, codes, bytes_eq}
-use Rattle.std.specs.List.{before_first, after_first, position_or_len}
+-- What is asked for is in range.
+use Rattle.std.proofs.Common.{◌≡◌, ℕ, zero, suc, ◌<◌, ◌≤◌, ◌&&◌, ◌==◌, Bool, true, false, cond, ◌+◌, ◌-◌, List, [], ◌∷◌, ◌++◌, length, get_or, drop, map, replicate, min, Option, Some, None, refl, sym, subst, leb, ℤ, pos, neg_ℤ, arith, rules, length-append, append-nil}
+use Rattle.std.specs.Prelude.{Contains, IfSome, option_map, option_and_then, codes, bytes_eq, is_some}
+use Rattle.std.specs.List.{All, before_first, after_first, position_or_len}
 use Rattle.std.specs.Str.{all_ascii_digits}
 use Rattle.std.specs.Str.Parse.{digits_value}
 use Rattle.std.proofs.lemmas.Int.{ints}
 use Rattle.std.proofs.lemmas.Bool.{leb-true}
-use Rattle.std.proofs.lemmas.List.{append-nil, get_or-map, length-map, length-drop}
+use Rattle.std.proofs.lemmas.List.{length-map, length-drop, length-replicate}
+use Rattle.std.proofs.lemmas.List.Elements.{All-nil, All-cons, All-contains, All-from_recursion, All-map, All-drop, All-weaker}
+use Rattle.cue_sheet.specs.declared.place.Place.{Place as StreamPlace}
 use Rattle.cue_sheet.specs.declared.place.Place.TheVariants.{Frame, End}
 use Rattle.cue_sheet.specs.Digits.{number_in}
 use Rattle.cue_sheet.specs.Places.{is_dot, frame_number, time_in, seconds_in, hundredths_in, time_of, place_of, IsPlace}
-use Rattle.job_words.specs.declared.jobs.Job.{Job}
-use Rattle.job_words.specs.Words.{Kind, Name, Form, kinds_for, kinds_in, fits_kind, Options, Plain, Tagless, Wrapping, TaglessWrapping, WrappingTagless, forms, help, short_help, version, list_file, gain_form, channel_form, undo_form, cut_form, least_cut_form, pack_form, split_form, sheet_form, join_form, have_kinds, job_of, step_count, steps_of, word_at, words_behind, is_name, place_said, IsNamePlace, AreNamePlaces, AreSplitPlaces, IsStepCount, IsSound}
-use Rattle.job_words.proofs.Places.{reading_ok}
-use Rattle.job_words.proofs.Reading.{length-kinds_for}
+use Rattle.job_words.specs.declared.flags.Flag.{Flag}
+use Rattle.job_words.specs.Kinds.{Kind, Fixed, Name, Steps, Channel, Place, Said, Itself, NameSaid, StepsSaid, ChannelSaid, PlaceSaid, is_name, step_count, steps_of, channel_of, said, said_first, fits_kind, steps_said, place_said, name_at, said_at, values_of}
+use Rattle.job_words.specs.Forms.{Form, Shape, forms, help, short_help, version, list_form, gain_form, channel_form, undo_form, cut_form, pack_form, split_form, sheet_form, join_form, kinds_behind, front_of, reads_of, asked_of}
+use Rattle.job_words.specs.Words.{have_kinds, kinds_in, IsName, IsStepCount, IsSound}
+use Rattle.job_words.proofs.Lists.{rest_agrees}
 
 and_last : (x d : Bool) → (x && d) ≡ true → d ≡ true
 and_last true d h = h
 and_last false d h = absurd cc
+
+and_first : (x d : Bool) → (x && d) ≡ true → x ≡ true
+and_first true d h = refl
+and_first false d h = absurd cc
+
+-- ---- steps and places
 
 size_small : (digits : List ℕ) → IfSome (step_count digits) (λ size. size ≤ 255)
 size_small digits =
@@ -28,205 +37,267 @@ size_small digits =
       | false ↦ λ other. tt
     ] refl
 
-sized : (o : Option ℕ) → IfSome o (λ size. size ≤ 255) → IsStepCount (unwrap_or (option_map pos o) (pos 0))
-sized None h = record { low = search rules; high = search rules }
+sized : (o : Option ℕ) → IfSome o (λ size. size ≤ 255) → IfSome (option_map pos o) IsStepCount
+sized None h = tt
 sized (Some size) h = record { low = omega (arith, ints); high = omega (arith, ints) }
 
-sized_down : (o : Option ℕ) → IfSome o (λ size. size ≤ 255) → IsStepCount (unwrap_or (option_map (λ size. neg_ℤ (pos size)) o) (pos 0))
-sized_down None h = record { low = search rules; high = search rules }
+sized_down : (o : Option ℕ) → IfSome o (λ size. size ≤ 255) → IfSome (option_map (λ size. neg_ℤ (pos size)) o) IsStepCount
+sized_down None h = tt
 sized_down (Some size) h = record { low = omega (arith, ints); high = omega (arith, ints) }
 
-pub steps_in_range : (word : List ℕ) → IsStepCount (unwrap_or (steps_of word) (pos 0))
-steps_in_range [] = sized None tt
+steps_in_range : (word : List ℕ) → IfSome (steps_of word) IsStepCount
+steps_in_range [] = tt
 steps_in_range (first ∷ rest) =
-    elim (first == 43) as (λ b. IsStepCount (unwrap_or (cond b (option_map pos (step_count rest)) (cond (first == 45) (option_map (λ size. neg_ℤ (pos size)) (step_count rest)) (option_map pos (step_count (first ∷ rest))))) (pos 0))) [
+    elim (first == 43) as (λ b. IfSome (cond b (option_map pos (step_count rest)) (cond (first == 45) (option_map (λ size. neg_ℤ (pos size)) (step_count rest)) (option_map pos (step_count (first ∷ rest))))) IsStepCount) [
       | true ↦ sized (step_count rest) (size_small rest)
-      | false ↦ elim (first == 45) as (λ b. IsStepCount (unwrap_or (cond b (option_map (λ size. neg_ℤ (pos size)) (step_count rest)) (option_map pos (step_count (first ∷ rest)))) (pos 0))) [
+      | false ↦ elim (first == 45) as (λ b. IfSome (cond b (option_map (λ size. neg_ℤ (pos size)) (step_count rest)) (option_map pos (step_count (first ∷ rest)))) IsStepCount) [
         | true ↦ sized_down (step_count rest) (size_small rest)
         | false ↦ sized (step_count (first ∷ rest)) (size_small (first ∷ rest))
       ]
     ]
 
--- words that have kinds are as many, and each has its own
-pub as_many : (kinds : List Kind) (words : List (List ℕ)) → have_kinds kinds words ≡ true → length words ≡ length kinds
-as_many [] [] h = refl
-as_many [] (word ∷ words) h = absurd cc
-as_many (kind ∷ kinds) [] h = absurd cc
-as_many (kind ∷ kinds) (word ∷ words) h = omega (arith, as_many kinds words (and_last (fits_kind kind word) (have_kinds kinds words) h))
-
-and_first : (x d : Bool) → (x && d) ≡ true → x ≡ true
-and_first true d h = refl
-and_first false d h = absurd cc
-
-pub each_fits : (kinds : List Kind) (words : List (List ℕ)) (k : ℕ) (c : Kind) → have_kinds kinds words ≡ true → k < length kinds → fits_kind (get_or kinds k c) (get_or words k []) ≡ true
-each_fits [] words k c h lt = absurd (omega (arith, lt))
-each_fits (kind ∷ kinds) [] k c h lt = absurd cc
-each_fits (kind ∷ kinds) (word ∷ words) zero c h lt = and_first (fits_kind kind word) (have_kinds kinds words) h
-each_fits (kind ∷ kinds) (word ∷ words) (suc k) c h lt = each_fits kinds words k c (and_last (fits_kind kind word) (have_kinds kinds words) h) (omega (arith, lt))
-
--- ---- each form
-
--- the last two words, at k and behind it, counted from 0, are names
-two_names : (kinds : List Kind) (words : List (List ℕ)) (k : ℕ) → have_kinds kinds words ≡ true → length kinds ≡ k + 2 → get_or kinds k Name ≡ Name → get_or kinds (k + 1) Name ≡ Name
-    → IsNamePlace words (k + 1) × IsNamePlace words (k + 2)
-two_names kinds words k h many first second =
-    let all : length words ≡ k + 2 = as_many kinds words h ∙ many in
-    let fits_first : fits_kind Name (get_or words k []) ≡ true = subst (λ kind. fits_kind kind (get_or words k []) ≡ true) first (each_fits kinds words k Name h (omega (arith, many))) in
-    let fits_second : fits_kind Name (get_or words (k + 1) []) ≡ true = subst (λ kind. fits_kind kind (get_or words (k + 1) []) ≡ true) second (each_fits kinds words (k + 1) Name h (omega (arith, many))) in
-    let at_first : k + 1 - 1 ≡ k = omega arith in
-    let at_second : k + 2 - 1 ≡ k + 1 = omega arith in
-    (record { counted = omega arith; in_range = omega (arith, all); name = rw at_first fits_first }, record { counted = omega arith; in_range = omega (arith, all); name = rw at_second fits_second })
-
--- what words of a form ask for is sound
-abbrev AreSound : Form → Type 0
-AreSound f = (words : List (List ℕ)) → have_kinds (kinds_in words f) words ≡ true → IsSound words (f.reads words)
-
--- where the last kind doesn't stand again
-abbrev AreSoundOnce : Form → Type 0
-AreSoundOnce f = (words : List (List ℕ)) → have_kinds f.kinds words ≡ true → IsSound words (f.reads words)
-
-kinds_once : (f : Form) (count : ℕ) → f.more ≡ 0 → kinds_for f count ≡ f.kinds
-kinds_once f count none =
-    let no_more : min f.more (count - length f.kinds) ≡ 0 = omega (arith, none) in
-    rw no_more (append-nil f.kinds)
-
-once : (f : Form) → f.more ≡ 0 → AreSoundOnce f → AreSound f
-once f none sound words h = sound words (subst (λ kinds. have_kinds kinds words ≡ true) (kinds_once f (length words) none) h)
-
-list_is_sound : AreSoundOnce list_file
-list_is_sound words h =
-    let two : length words ≡ 2 = as_many list_file.kinds words h in
-    record { counted = omega arith; in_range = omega arith; name = each_fits list_file.kinds words 1 Name h (omega arith) }
-
-undo_is_sound : AreSoundOnce undo_form
-undo_is_sound words h = two_names undo_form.kinds words 2 h refl refl refl
-
--- the word at k, counted from 0, is a name
-one_name : (kinds : List Kind) (words : List (List ℕ)) (k : ℕ) → have_kinds kinds words ≡ true → k < length kinds → get_or kinds k Name ≡ Name → IsNamePlace words (k + 1)
-one_name kinds words k h lt is =
-    let fits : fits_kind Name (get_or words k []) ≡ true = subst (λ kind. fits_kind kind (get_or words k []) ≡ true) is (each_fits kinds words k Name h lt) in
-    let at : k + 1 - 1 ≡ k = omega arith in
-    record { counted = omega arith; in_range = omega (arith, as_many kinds words h, lt); name = rw at fits }
-
--- a place that a word says
-numbered : (o : Option ℕ) → IsPlace (unwrap_or (option_map Frame o) End)
+numbered : (o : Option ℕ) → IfSome (option_map Frame o) IsPlace
 numbered None = tt
 numbered (Some n) = tt
 
-timed : (minutes seconds hundredths : Option ℕ) → IsPlace (unwrap_or (option_and_then (λ m. option_and_then (λ s. option_map (time_in m s) hundredths) seconds) minutes) End)
+timed : (minutes seconds hundredths : Option ℕ) → IfSome (option_and_then (λ m. option_and_then (λ s. option_map (time_in m s) hundredths) seconds) minutes) IsPlace
 timed None seconds hundredths = tt
 timed (Some m) None hundredths = tt
 timed (Some m) (Some s) None = tt
 timed (Some m) (Some s) (Some h) = (omega arith, omega arith)
 
-place_is_sound : (word : List ℕ) → IsPlace (unwrap_or (place_of word) End)
+place_in_range : (word : List ℕ) → IfSome (place_of word) IsPlace
 unfolding place_of time_of
-place_is_sound word =
+place_in_range word =
     let rest = after_first is_dot word in
     let time = timed (number_in 1 4 9999 (before_first is_dot word)) (seconds_in rest) (hundredths_in rest) in
-    elim (bytes_eq word (codes "EOF")) as (λ b. IsPlace (unwrap_or (cond b (Some End) (cond (position_or_len is_dot word == length word) (frame_number word) (time_of (before_first is_dot word) rest))) End)) [
+    elim (bytes_eq word (codes "EOF")) as (λ b. IfSome (cond b (Some End) (cond (position_or_len is_dot word == length word) (frame_number word) (time_of (before_first is_dot word) rest))) IsPlace) [
       | true ↦ tt
-      | false ↦ elim (position_or_len is_dot word == length word) as (λ b. IsPlace (unwrap_or (cond b (frame_number word) (time_of (before_first is_dot word) rest)) End)) [ true ↦ numbered (number_in 1 7 9999999 word) | false ↦ time ]
+      | false ↦ elim (position_or_len is_dot word == length word) as (λ b. IfSome (cond b (frame_number word) (time_of (before_first is_dot word) rest)) IsPlace) [ true ↦ numbered (number_in 1 7 9999999 word) | false ↦ time ]
     ]
 
-cut_is_sound : AreSoundOnce cut_form
-cut_is_sound words h =
-    (one_name cut_form.kinds words 1 h (omega arith) refl, one_name cut_form.kinds words 4 h (omega arith) refl, place_is_sound (word_at words 3), place_is_sound (word_at words 4))
+-- ---- what words say
 
-least_cut_is_sound : AreSoundOnce least_cut_form
-least_cut_is_sound words h =
-    (one_name least_cut_form.kinds words 2 h (omega arith) refl, one_name least_cut_form.kinds words 5 h (omega arith) refl, place_is_sound (word_at words 4), place_is_sound (word_at words 5))
+-- the steps and the place of a value
+record IsInRange (value : Said) : Type 0 where
+  steps : IsStepCount (steps_said value)
+  place : IsPlace (place_said value)
 
-pack_is_sound : AreSoundOnce pack_form
-pack_is_sound words h = two_names pack_form.kinds words 1 h refl refl refl
+no_steps : IsStepCount (pos 0)
+no_steps = record { low = search rules; high = search rules }
 
-gain_is_sound : (options : Options) → AreSoundOnce (gain_form options)
-gain_is_sound Plain words h = let names = two_names (gain_form Plain).kinds words 3 h refl refl refl in (names.0, names.1, steps_in_range (word_at words 3))
-gain_is_sound Tagless words h = let names = two_names (gain_form Tagless).kinds words 5 h refl refl refl in (names.0, names.1, steps_in_range (word_at words 5))
-gain_is_sound Wrapping words h = let names = two_names (gain_form Wrapping).kinds words 4 h refl refl refl in (names.0, names.1, steps_in_range (word_at words 4))
-gain_is_sound TaglessWrapping words h = let names = two_names (gain_form TaglessWrapping).kinds words 6 h refl refl refl in (names.0, names.1, steps_in_range (word_at words 6))
-gain_is_sound WrappingTagless words h = let names = two_names (gain_form WrappingTagless).kinds words 6 h refl refl refl in (names.0, names.1, steps_in_range (word_at words 6))
+steps_said_in_range : (o : Option ℤ) → IfSome o IsStepCount → IfSome (option_map StepsSaid o) IsInRange
+steps_said_in_range None h = tt
+steps_said_in_range (Some steps) h = record { steps = h; place = tt }
 
-channel_is_sound : (options : Options) → AreSoundOnce (channel_form options)
-channel_is_sound Plain words h = let names = two_names (channel_form Plain).kinds words 4 h refl refl refl in (names.0, names.1, steps_in_range (word_at words 4))
-channel_is_sound Tagless words h = let names = two_names (channel_form Tagless).kinds words 6 h refl refl refl in (names.0, names.1, steps_in_range (word_at words 6))
-channel_is_sound Wrapping words h = let names = two_names (channel_form Wrapping).kinds words 5 h refl refl refl in (names.0, names.1, steps_in_range (word_at words 5))
-channel_is_sound TaglessWrapping words h = let names = two_names (channel_form TaglessWrapping).kinds words 7 h refl refl refl in (names.0, names.1, steps_in_range (word_at words 7))
-channel_is_sound WrappingTagless words h = let names = two_names (channel_form WrappingTagless).kinds words 7 h refl refl refl in (names.0, names.1, steps_in_range (word_at words 7))
+place_said_in_range : (o : Option StreamPlace) → IfSome o IsPlace → IfSome (option_map PlaceSaid o) IsInRange
+place_said_in_range None h = tt
+place_said_in_range (Some place) h = record { steps = no_steps; place = h }
+
+said_in_range : (kind : Kind) (word : List ℕ) → IfSome (said kind word) IsInRange
+said_in_range (Fixed text) word = elim (bytes_eq word text) as (λ b. IfSome (cond b (Some Itself) None) IsInRange) [ true ↦ record { steps = no_steps; place = tt } | false ↦ tt ]
+said_in_range Name word = elim (is_name word) as (λ b. IfSome (cond b (Some (NameSaid word)) None) IsInRange) [ true ↦ record { steps = no_steps; place = tt } | false ↦ tt ]
+said_in_range Steps word = steps_said_in_range (steps_of word) (steps_in_range word)
+said_in_range Channel word = elim (channel_of word) as (λ o. IfSome (option_map ChannelSaid o) IsInRange) [ Some channel ↦ record { steps = no_steps; place = tt } | None ↦ tt ]
+said_in_range Place word = place_said_in_range (place_of word) (place_in_range word)
+
+values_in_range : (kinds : List Kind) (words : List (List ℕ)) → All IsInRange (values_of kinds words)
+values_in_range [] words = All-nil IsInRange
+values_in_range (kind ∷ kinds) [] = All-nil IsInRange
+values_in_range (kind ∷ kinds) (word ∷ words) =
+    elim (said kind word) as (λ o. IfSome o IsInRange → All IsInRange (said_first o (values_of kinds words))) [
+      | Some value ↦ λ here. All-cons IsInRange value (values_of kinds words) here (values_in_range kinds words)
+      | None ↦ λ here. All-nil IsInRange
+    ] (said_in_range kind word)
+
+at_in_range : (values : List Said) → All IsInRange values → (k : ℕ) → IsInRange (said_at values k)
+at_in_range [] all k = record { steps = no_steps; place = tt }
+at_in_range (value ∷ values) all zero = all 0 Itself (omega arith)
+at_in_range (value ∷ values) all (suc k) = at_in_range values (λ j d lt. all (suc j) d (omega (arith, lt))) k
+
+-- ---- words that have kinds
+
+-- they are as many, and each has its own
+as_many : (kinds : List Kind) (words : List (List ℕ)) → have_kinds kinds words ≡ true → length words ≡ length kinds
+as_many [] [] h = refl
+as_many [] (word ∷ words) h = absurd cc
+as_many (kind ∷ kinds) [] h = absurd cc
+as_many (kind ∷ kinds) (word ∷ words) h = omega (arith, as_many kinds words (and_last (fits_kind kind word) (have_kinds kinds words) h))
+
+name_fits : (word : List ℕ) → fits_kind Name word ≡ true → (said Name word ≡ Some (NameSaid word)) × (is_name word ≡ true)
+name_fits word h = elim (is_name word) as (λ b. is_some (cond b (Some (NameSaid word)) None) ≡ true → (cond b (Some (NameSaid word)) None ≡ Some (NameSaid word)) × (b ≡ true)) [ true ↦ λ h'. (refl, refl) | false ↦ λ h'. absurd cc ] h
+
+-- the word at k, counted from 0, is a name, and says it
+pub one_name : (kinds : List Kind) (words : List (List ℕ)) (k : ℕ) → have_kinds kinds words ≡ true → k < length kinds → get_or kinds k Name ≡ Name
+    → (name_at (values_of kinds words) k ≡ get_or words k []) × (is_name (get_or words k []) ≡ true)
+one_name [] words k h lt is = absurd (omega (arith, lt))
+one_name (kind ∷ kinds) [] k h lt is = absurd cc
+one_name (kind ∷ kinds) (word ∷ words) zero h lt is =
+    let here : fits_kind Name word ≡ true = subst (λ kind. fits_kind kind word ≡ true) is (and_first (fits_kind kind word) (have_kinds kinds words) h) in
+    let fits = name_fits word here in
+    (subst (λ kind. name_at (said_first (said kind word) (values_of kinds words)) 0 ≡ word) (sym is) (rw fits.0 refl), fits.1)
+one_name (kind ∷ kinds) (word ∷ words) (suc k) h lt is =
+    let rest = one_name kinds words k (and_last (fits_kind kind word) (have_kinds kinds words) h) (omega (arith, lt)) is in
+    elim (said kind word) as (λ o. is_some o ≡ true → (name_at (said_first o (values_of kinds words)) (suc k) ≡ get_or words k []) × (is_name (get_or words k []) ≡ true)) [
+      | Some value ↦ λ fits. rest
+      | None ↦ λ fits. absurd cc
+    ] (and_first (fits_kind kind word) (have_kinds kinds words) h)
+
+name_there : (kinds : List Kind) (words : List (List ℕ)) (k : ℕ) → have_kinds kinds words ≡ true → k < length kinds → get_or kinds k Name ≡ Name → IsName (name_at (values_of kinds words) k)
+name_there kinds words k h lt is = let one = one_name kinds words k h lt is in rw one.0 one.1
+
+-- all values there are
+all_values : (kinds : List Kind) (words : List (List ℕ)) → have_kinds kinds words ≡ true → length (values_of kinds words) ≡ length kinds
+all_values [] words h = refl
+all_values (kind ∷ kinds) [] h = absurd cc
+all_values (kind ∷ kinds) (word ∷ words) h =
+    let rest = all_values kinds words (and_last (fits_kind kind word) (have_kinds kinds words) h) in
+    elim (said kind word) as (λ o. is_some o ≡ true → length (said_first o (values_of kinds words)) ≡ suc (length kinds)) [
+      | Some value ↦ λ fits. omega (arith, rest)
+      | None ↦ λ fits. absurd cc
+    ] (and_first (fits_kind kind word) (have_kinds kinds words) h)
+
+-- those behind some kinds
+rest_values : (front kinds : List Kind) (words : List (List ℕ)) → have_kinds (front ++ kinds) words ≡ true → drop (length front) (values_of (front ++ kinds) words) ≡ values_of kinds (drop (length front) words)
+rest_values [] kinds words h = refl
+rest_values (kind ∷ front) kinds [] h = absurd cc
+rest_values (kind ∷ front) kinds (word ∷ words) h =
+    let rest = rest_values front kinds words (and_last (fits_kind kind word) (have_kinds (front ++ kinds) words) h) in
+    elim (said kind word) as (λ o. is_some o ≡ true → drop (suc (length front)) (said_first o (values_of (front ++ kinds) words)) ≡ values_of kinds (drop (length front) words)) [
+      | Some value ↦ λ fits. rest
+      | None ↦ λ fits. absurd cc
+    ] (and_first (fits_kind kind word) (have_kinds (front ++ kinds) words) h)
+
+-- ---- each form
+
+-- what words of these kinds, behind any flags, ask for is sound
+abbrev AreSoundOf : Form → List Kind → Type 0
+AreSoundOf form kinds = (given : List Flag) (words : List (List ℕ)) → have_kinds kinds words ≡ true → IsSound (reads_of form.asks given (values_of kinds words) words)
+
+abbrev AreSound : Form → Type 0
+AreSound form = (count : ℕ) → AreSoundOf form (kinds_behind form count)
+
+-- where the last kind doesn't stand again
+once : (form : Form) → form.more ≡ 0 → AreSoundOf form form.kinds → AreSound form
+once form none sound count =
+    let no_more : min form.more (count - length form.kinds) ≡ 0 = omega (arith, none) in
+    let kinds-are : kinds_behind form count ≡ form.kinds = rw no_more (append-nil form.kinds) in
+    subst (AreSoundOf form) (sym kinds-are) sound
+
+-- the value at a place is in range
+ranged : (kinds : List Kind) (words : List (List ℕ)) (k : ℕ) → IsInRange (said_at (values_of kinds words) k)
+ranged kinds words k = at_in_range (values_of kinds words) (values_in_range kinds words) k
+
+list_is_sound : AreSoundOf list_form list_form.kinds
+list_is_sound given words h = name_there list_form.kinds words 0 h (omega arith) refl
+
+gain_is_sound : AreSoundOf gain_form gain_form.kinds
+gain_is_sound given words h = (name_there gain_form.kinds words 2 h (omega arith) refl, name_there gain_form.kinds words 3 h (omega arith) refl, (ranged gain_form.kinds words 1).steps)
+
+channel_is_sound : AreSoundOf channel_form channel_form.kinds
+channel_is_sound given words h = (name_there channel_form.kinds words 3 h (omega arith) refl, name_there channel_form.kinds words 4 h (omega arith) refl, (ranged channel_form.kinds words 2).steps)
+
+undo_is_sound : AreSoundOf undo_form undo_form.kinds
+undo_is_sound given words h = (name_there undo_form.kinds words 1 h (omega arith) refl, name_there undo_form.kinds words 2 h (omega arith) refl)
+
+cut_is_sound : AreSoundOf cut_form cut_form.kinds
+cut_is_sound given words h =
+    (name_there cut_form.kinds words 0 h (omega arith) refl, name_there cut_form.kinds words 3 h (omega arith) refl, (ranged cut_form.kinds words 1).place, (ranged cut_form.kinds words 2).place)
+
+pack_is_sound : AreSoundOf pack_form pack_form.kinds
+pack_is_sound given words h = (name_there pack_form.kinds words 0 h (omega arith) refl, name_there pack_form.kinds words 1 h (omega arith) refl)
+
+sheet_is_sound : AreSoundOf sheet_form sheet_form.kinds
+sheet_is_sound given words h =
+    (name_there sheet_form.kinds words 0 h (omega arith) refl, name_there sheet_form.kinds words 1 h (omega arith) refl, name_there sheet_form.kinds words 3 h (omega arith) refl)
+
+-- so many kinds a form has behind its flags
+length-kinds_behind : (form : Form) (count : ℕ) → length (kinds_behind form count) ≡ length form.kinds + min form.more (count - length form.kinds)
+length-kinds_behind form count = rw (length-append, length-replicate) refl
 
 split_is_sound : AreSound split_form
-split_is_sound words h =
-    let kinds = kinds_in words split_form in
-    let many = as_many kinds words h in
-    let count = length-kinds_for split_form (length words) in
-    let said = words_behind words 4 in
-    let so_many : length (map place_said said) ≡ length words - 3 = rw (length-map, length-drop) refl in (
-      one_name kinds words 1 h (omega (arith, count)) refl,
-      one_name kinds words 2 h (omega (arith, count)) refl,
+split_is_sound count given words h =
+    let kinds = kinds_behind split_form count in
+    let values = values_of kinds words in
+    let many = length-kinds_behind split_form count in
+    let so_many : length (map place_said (drop 2 values)) ≡ length kinds - 2 = rw (length-map, length-drop, all_values kinds words h) refl in (
+      name_there kinds words 0 h (omega (arith, many)) refl,
+      name_there kinds words 1 h (omega (arith, many)) refl,
       record {
-        some = omega (arith, so_many, many, count);
-        few = omega (arith, so_many, many, count);
-        each = λ k d lt. rw (get_or-map place_said said k [] d (omega (arith, lt, length-map said place_said))) (place_is_sound (get_or said k []));
+        some = omega (arith, so_many, many);
+        few = omega (arith, so_many, many);
+        each = All-map IsPlace place_said (drop 2 values) (All-drop (λ (value : Said). IsPlace (place_said value)) 2 values (All-weaker IsInRange (λ (value : Said). IsPlace (place_said value)) (λ value h. h.place) values (values_in_range kinds words)));
       },
     )
 
-sheet_is_sound : AreSoundOnce sheet_form
-sheet_is_sound words h =
-    (one_name sheet_form.kinds words 1 h (omega arith) refl, one_name sheet_form.kinds words 2 h (omega arith) refl, one_name sheet_form.kinds words 4 h (omega arith) refl)
-
-all_names : (m k : ℕ) → get_or (replicate m Name) k Name ≡ Name
-all_names zero k = refl
-all_names (suc m) zero = refl
-all_names (suc m) (suc k) = all_names m k
-
-names_behind : (m k : ℕ) → get_or (join_form.kinds ++ replicate m Name) (2 + k) Name ≡ Name
-names_behind m k =
-    let at : 2 + k ≡ suc (suc k) = omega arith in
-    rw at (all_names (suc m) k)
+all_names : (m : ℕ) (words : List (List ℕ)) → have_kinds (replicate m Name) words ≡ true → All IsName words
+all_names zero [] h = All-nil IsName
+all_names zero (word ∷ words) h = absurd cc
+all_names (suc m) [] h = absurd cc
+all_names (suc m) (word ∷ words) h =
+    All-cons IsName word words (name_fits word (and_first (fits_kind Name word) (have_kinds (replicate m Name) words) h)).1 (all_names m words (and_last (fits_kind Name word) (have_kinds (replicate m Name) words) h))
 
 join_is_sound : AreSound join_form
-join_is_sound words h =
-    let kinds = kinds_in words join_form in
-    let many = as_many kinds words h in
-    let count = length-kinds_for join_form (length words) in (
-      one_name kinds words 1 h (omega (arith, count)) refl,
+join_is_sound count given words h =
+    let kinds = kinds_behind join_form count in
+    let many = length-kinds_behind join_form count in
+    let so_many : length (drop 1 words) ≡ length kinds - 1 = rw (length-drop, as_many kinds words h) refl in (
+      name_there kinds words 0 h (omega (arith, many)) refl,
       record {
-        counted = omega arith;
-        in_range = omega (arith, many, count);
-        some = omega (arith, many, count);
-        few = omega (arith, many, count);
-        names = λ k lt.
-            let at : 3 + k - 1 ≡ 2 + k = omega arith in
-            rw at (subst (λ kind. fits_kind kind (get_or words (2 + k) []) ≡ true) (names_behind (min 63 (length words - 3)) k) (each_fits kinds words (2 + k) Name h (omega (arith, many, count, lt))));
+        some = omega (arith, so_many, many);
+        few = omega (arith, so_many, many);
+        names = all_names (suc (min 63 (count - 2))) (drop 1 words) (rest_agrees fits_kind (Name ∷ []) (replicate (suc (min 63 (count - 2))) Name) words h);
       },
     )
 
-form_is_sound : (k : ℕ) (form : Form) → k < length forms → get_or forms k form ≡ form → AreSound form
-form_is_sound zero form lt here = subst AreSound here (once help refl (λ words h. tt))
-form_is_sound (suc zero) form lt here = subst AreSound here (once short_help refl (λ words h. tt))
-form_is_sound (suc (suc zero)) form lt here = subst AreSound here (once version refl (λ words h. tt))
-form_is_sound (suc (suc (suc zero))) form lt here = subst AreSound here (once list_file refl list_is_sound)
-form_is_sound (suc (suc (suc (suc zero)))) form lt here = subst AreSound here (once (gain_form Plain) refl (gain_is_sound Plain))
-form_is_sound (suc (suc (suc (suc (suc zero))))) form lt here = subst AreSound here (once (gain_form Tagless) refl (gain_is_sound Tagless))
-form_is_sound (suc (suc (suc (suc (suc (suc zero)))))) form lt here = subst AreSound here (once (gain_form Wrapping) refl (gain_is_sound Wrapping))
-form_is_sound (suc (suc (suc (suc (suc (suc (suc zero))))))) form lt here = subst AreSound here (once (gain_form TaglessWrapping) refl (gain_is_sound TaglessWrapping))
-form_is_sound (suc (suc (suc (suc (suc (suc (suc (suc zero)))))))) form lt here = subst AreSound here (once (gain_form WrappingTagless) refl (gain_is_sound WrappingTagless))
-form_is_sound (suc (suc (suc (suc (suc (suc (suc (suc (suc zero))))))))) form lt here = subst AreSound here (once (channel_form Plain) refl (channel_is_sound Plain))
-form_is_sound (suc (suc (suc (suc (suc (suc (suc (suc (suc (suc zero)))))))))) form lt here = subst AreSound here (once (channel_form Tagless) refl (channel_is_sound Tagless))
-form_is_sound (suc (suc (suc (suc (suc (suc (suc (suc (suc (suc (suc zero))))))))))) form lt here = subst AreSound here (once (channel_form Wrapping) refl (channel_is_sound Wrapping))
-form_is_sound (suc (suc (suc (suc (suc (suc (suc (suc (suc (suc (suc (suc zero)))))))))))) form lt here = subst AreSound here (once (channel_form TaglessWrapping) refl (channel_is_sound TaglessWrapping))
-form_is_sound (suc (suc (suc (suc (suc (suc (suc (suc (suc (suc (suc (suc (suc zero))))))))))))) form lt here = subst AreSound here (once (channel_form WrappingTagless) refl (channel_is_sound WrappingTagless))
-form_is_sound (suc (suc (suc (suc (suc (suc (suc (suc (suc (suc (suc (suc (suc (suc zero)))))))))))))) form lt here = subst AreSound here (once undo_form refl undo_is_sound)
-form_is_sound (suc (suc (suc (suc (suc (suc (suc (suc (suc (suc (suc (suc (suc (suc (suc zero))))))))))))))) form lt here = subst AreSound here (once cut_form refl cut_is_sound)
-form_is_sound (suc (suc (suc (suc (suc (suc (suc (suc (suc (suc (suc (suc (suc (suc (suc (suc zero)))))))))))))))) form lt here = subst AreSound here (once least_cut_form refl least_cut_is_sound)
-form_is_sound (suc (suc (suc (suc (suc (suc (suc (suc (suc (suc (suc (suc (suc (suc (suc (suc (suc zero))))))))))))))))) form lt here = subst AreSound here (once pack_form refl pack_is_sound)
-form_is_sound (suc (suc (suc (suc (suc (suc (suc (suc (suc (suc (suc (suc (suc (suc (suc (suc (suc (suc zero)))))))))))))))))) form lt here = subst AreSound here split_is_sound
-form_is_sound (suc (suc (suc (suc (suc (suc (suc (suc (suc (suc (suc (suc (suc (suc (suc (suc (suc (suc (suc zero))))))))))))))))))) form lt here = subst AreSound here (once sheet_form refl sheet_is_sound)
-form_is_sound (suc (suc (suc (suc (suc (suc (suc (suc (suc (suc (suc (suc (suc (suc (suc (suc (suc (suc (suc (suc zero)))))))))))))))))))) form lt here = subst AreSound here join_is_sound
-form_is_sound (suc (suc (suc (suc (suc (suc (suc (suc (suc (suc (suc (suc (suc (suc (suc (suc (suc (suc (suc (suc (suc k))))))))))))))))))))) form lt here = absurd (omega (arith, lt))
+forms_are_sound : All AreSound forms
+forms_are_sound =
+    All-from_recursion AreSound forms (
+      once help refl (λ given words h. tt),
+      (
+        once short_help refl (λ given words h. tt),
+        (
+          once version refl (λ given words h. tt),
+          (
+            once list_form refl list_is_sound,
+            (
+              once gain_form refl gain_is_sound,
+              (
+                once channel_form refl channel_is_sound,
+                (
+                  once undo_form refl undo_is_sound,
+                  (
+                    once cut_form refl cut_is_sound,
+                    (
+                      once pack_form refl pack_is_sound,
+                      (
+                        split_is_sound,
+                        (
+                          once sheet_form refl sheet_is_sound,
+                          (
+                            join_is_sound,
+                            tt,
+                          ),
+                        ),
+                      ),
+                    ),
+                  ),
+                ),
+              ),
+            ),
+          ),
+        ),
+      ),
+    )
 
-pub is_sound : (words : List (List ℕ)) (job : Job) → Ok job ≡ job_of words → IsSound words job
-unfolding job_of
-is_sound words job e =
-    let r = reading_ok forms words job e in
-    subst (λ (j : Job). IsSound words j) (sym r.3) (form_is_sound r.1.0 r.0 r.1.1 r.1.2 words r.2)
+-- ---- a shape of a form
+
+shape_sound : (shape : Shape) (words : List (List ℕ)) → AreSound shape.form → have_kinds (kinds_in words shape) words ≡ true → IsSound (asked_of shape words)
+shape_sound shape words sound h =
+    let behind = kinds_behind shape.form (length words - length (front_of shape)) in
+    let rest = rest_agrees fits_kind (front_of shape) behind words h in
+    let values-are = rest_values (front_of shape) behind words h in
+    rw values-are (sound (length words - length (front_of shape)) shape.given (drop (length (front_of shape)) words) rest)
+
+pub shape_is_sound : (shape : Shape) (words : List (List ℕ)) → Contains forms shape.form → have_kinds (kinds_in words shape) words ≡ true → IsSound (asked_of shape words)
+shape_is_sound shape words member h = shape_sound shape words (All-contains AreSound forms shape.form forms_are_sound member) h

@@ -1,3 +1,7 @@
 -- What the contracts of this crate cite.
+pub mod Asked
+pub mod Code
+pub mod Flags
+pub mod Forms
+pub mod Kinds
 pub mod Words
-pub mod Table

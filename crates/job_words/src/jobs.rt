@@ -4,17 +4,17 @@ use arrayvec::ArrayVec;
 use cue_sheet::Place;
 use moved_gains::Shift;
 
-/// What a list of words asks for. Names are places of words, counted from 1.
+/// What a list of words asks for. Names are the words themselves.
 #[derive(Debug, PartialEq, Eq, Drop)]
-pub enum Job {
+pub enum Job<'a> {
     /// Say what the program does.
     Help,
     /// Say which program it is.
     Version,
     /// Say what stands in the file `input`.
     List {
-        /// The place of the word that names the file to read.
-        input: u32,
+        /// The name of the file to read.
+        input: &'a str,
     },
     /// Change the loudness of the file `input`, and write the result to `output`.
     Gain {
@@ -22,17 +22,17 @@ pub enum Job {
         shift: Shift,
         /// Whether a note of the change is kept in the tag.
         tags: bool,
-        /// The place of the word that names the file to read.
-        input: u32,
-        /// The place of the word that names the file to write.
-        output: u32,
+        /// The name of the file to read.
+        input: &'a str,
+        /// The name of the file to write.
+        output: &'a str,
     },
     /// Take back all changes that the tag of the file `input` keeps a note of, and write the result to `output`.
     Undo {
-        /// The place of the word that names the file to read.
-        input: u32,
-        /// The place of the word that names the file to write.
-        output: u32,
+        /// The name of the file to read.
+        input: &'a str,
+        /// The name of the file to write.
+        output: &'a str,
     },
     /// Write the frames of the file `input` from one place on and before another to `output`.
     Cut {
@@ -42,43 +42,41 @@ pub enum Job {
         to: Place,
         /// Whether each frame has the least bit rate and padding with room for it, and doesn't keep its own.
         least: bool,
-        /// The place of the word that names the file to read.
-        input: u32,
-        /// The place of the word that names the file to write.
-        output: u32,
+        /// The name of the file to read.
+        input: &'a str,
+        /// The name of the file to write.
+        output: &'a str,
     },
     /// Write all frames of the file `input` to `output`, each with the least bit rate and padding with room for it.
     Pack {
-        /// The place of the word that names the file to read.
-        input: u32,
-        /// The place of the word that names the file to write.
-        output: u32,
+        /// The name of the file to read.
+        input: &'a str,
+        /// The name of the file to write.
+        output: &'a str,
     },
     /// Write the frames of the file `input` between each two neighbouring places to a file of their own.
     SplitAt {
-        /// The place of the word that names the file to read.
-        input: u32,
-        /// The place of the word with which the names of the files to write begin.
-        prefix: u32,
+        /// The name of the file to read.
+        input: &'a str,
+        /// What the names of the files to write begin with.
+        prefix: &'a str,
         /// The places in the stream, 2 to 100.
         places: ArrayVec<Place, 100>,
     },
     /// Write each track of the file `input` to a file of its own, as a cue sheet has them.
     SplitBy {
-        /// The place of the word that names the file to read.
-        input: u32,
-        /// The place of the word with which the names of the files to write begin.
-        prefix: u32,
-        /// The place of the word that names the cue sheet.
-        sheet: u32,
+        /// The name of the file to read.
+        input: &'a str,
+        /// What the names of the files to write begin with.
+        prefix: &'a str,
+        /// The name of the cue sheet.
+        sheet: &'a str,
     },
     /// Write the frames of all inputs, one after another, to the file `output`.
     Join {
-        /// The place of the word that names the file to write.
-        output: u32,
-        /// The place of the word that names the first file to read; those of the others follow it.
-        first: u32,
-        /// How many files are read, 1 to 64.
-        count: u32,
+        /// The name of the file to write.
+        output: &'a str,
+        /// The names of the files to read, 1 to 64.
+        inputs: &'a [String],
     },
 }

@@ -6,13 +6,13 @@ use Rattle.outside.proofs.FilesLaws.{there_holds}
 use Rattle.frame_header.specs.Fields.{ClassFields}
 use Rattle.sync_survey.specs.Faults.{SurveyFields, HoldsStream}
 use Rattle.laying.specs.Relaid.{Part}
-use Rattle.edits.specs.declared.fault.EditFault.{EditFault}
-use Rattle.edits.specs.declared.fault.EditFault.TheVariants.{EqualNames, Input, GainRange, Mono, Joint, TagTooLarge, BadTag, NoUndo, BadUndo, UndoRange, OutputTooLong, Range, Differ, SheetTooLarge, Sheet, Write, Sent, Memory}
-use Rattle.edits.specs.Command.{Made, Command, clash_from, Gives, written, written_to, AreSound, MakesStreams, HoldsStreams}
-use Rattle.edits.specs.One.{most_frames, holding, HoldsPrefix, IsPassFaultBy, IsPassFault}
-use Rattle.edits.specs.Left.{Why, Refused, Missing, Unread, Shorter, Unwritten, Unsent, NoMemory, why_of, Seen, IsDone, IsWrittenTo, TakesMemory, LeavesBy, Leaves, HasNumbers}
-use Rattle.moved_gains.proofs.SurveyedFiles.{survey_of-sound}
-use Rattle.edits.proofs.OneLaws.{ok_made}
+use Rattle.commands.specs.declared.fault.EditFault.{EditFault}
+use Rattle.commands.specs.declared.fault.EditFault.TheVariants.{EqualNames, Input, Refused, Write, Sent, Memory}
+use Rattle.commands.proofs.MakeLaws.{made-same}
+use Rattle.commands.specs.Command.{Made, Command, clash_from, Gives, written, written_to, AreSound, MakesStreams, HoldsStreams}
+use Rattle.commands.specs.One.{most_frames, holding, HoldsPrefix, IsPassFaultBy, IsPassFault}
+use Rattle.commands.specs.Left.{Why, Rejected, Missing, Unread, Shorter, Unwritten, Unsent, NoMemory, why_of, Seen, IsDone, IsWrittenTo, TakesMemory, LeavesBy, Leaves, HasNumbers}
+use Rattle.sync_survey.proofs.SurveyedFiles.{survey_of-sound}
 use Rattle.joining.specs.Join.{parts_of, joined_file, joined_stream, join_made, join_stream, join_command}
 use Rattle.joining.specs.Inputs.{IsOfJoin, AreInputs, CanBeJoined, parts_in, told_parts}
 use Rattle.joining.proofs.InputLaws.{parts-all}
@@ -40,19 +40,7 @@ names-differ count clash (Err fault) none of_join place = ((λ is. absurd (not_e
 pub join-numbers : (output : List ℕ) (names : List (List ℕ)) (fault : EditFault) → IsOfJoin (length names) fault → HasNumbers (join_command output names) fault
 join-numbers output names (EqualNames place) h = absurd h
 join-numbers output names (Input place fault) h = h
-join-numbers output names (GainRange offset granule channel gain) h = absurd h
-join-numbers output names Mono h = absurd h
-join-numbers output names (Joint offset) h = absurd h
-join-numbers output names (TagTooLarge size) h = absurd h
-join-numbers output names (BadTag at) h = absurd h
-join-numbers output names NoUndo h = absurd h
-join-numbers output names (BadUndo at) h = absurd h
-join-numbers output names (UndoRange number) h = absurd h
-join-numbers output names (OutputTooLong size) h = absurd h
-join-numbers output names (Range from to frames) h = absurd h
-join-numbers output names (Differ place) h = h
-join-numbers output names (SheetTooLarge size) h = absurd h
-join-numbers output names (Sheet fault) h = absurd h
+join-numbers output names (Refused refusal) h = h
 join-numbers output names (Write place) h = omega (arith, h)
 join-numbers output names Sent h = absurd h
 join-numbers output names Memory h = tt
@@ -104,7 +92,7 @@ module _ (output : List ℕ) (names : List (List ℕ)) (ss : List SurveyFields) 
 
   module _ (old new : Seen) (fault : EditFault) (name : List ℕ) (there : IsThere old.files name) (some : 1 ≤ length names) (are : AreInputs None most_frames old.files names ss) (told : is_some new.files ≡ is_some old.files) where
     pass-left_by : (why : Why) → IsPassFaultBy (λ _. joined_file (told_parts old.files names ss)) name output old new why → LeavesBy command old new fault why
-    pass-left_by Refused h = absurd h
+    pass-left_by Rejected h = absurd h
     pass-left_by Missing h = absurd h
     pass-left_by Unread h = record { rose = h.rose; files = inr (0, part-left old.files new.files name there are h.files told) }
     pass-left_by Shorter h = record { rose = h.rose; counts = h.counts; before = h.untold_before; after = h.untold_after }
@@ -132,13 +120,10 @@ module _ (output : List ℕ) (names : List (List ℕ)) (ss : List SurveyFields) 
   holds-at f (n ∷ ns) [] apart can are = absurd are
   holds-at f (n ∷ ns) (t ∷ ts) apart can are = joined-holds output f n ns t ts can (sources-inputs t.class output 0 None most_frames (Some f) (n ∷ ns) (t ∷ ts) apart can.0 are)
 
-  same-made : (a b : Made) → ok_made a ≡ ok_made b → a ≡ b
-  same-made a b e = cc
-
   pub streams-held : (files : Files) → CanBeJoined ss → AreInputs None most_frames files names ss → HoldsStreams command files
   streams-held None can are = tt
   streams-held (Some f) can are = λ made is.
-      subst (MakesStreams command f) (same-made (made_with output (joined_file (parts_in f names ss))) made (sym (gives-made f are) ∙ is))
+      subst (MakesStreams command f) (made-same (made_with output (joined_file (parts_in f names ss))) made (sym (gives-made f are) ∙ is))
       (record {
         sources = sound None most_frames f names ss are;
         streams = (subst (λ (r : Result (List Part) EditFault). HoldsStream (joined_file (parts_in f names ss)) (join_stream r)) (sym (parts-all f names ss are)) (holds-at f names ss none can are), tt);

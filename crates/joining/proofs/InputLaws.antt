@@ -12,16 +12,16 @@ use Rattle.sync_survey.specs.Faults.{longest_file, SurveyFields, surveyed}
 use Rattle.sync_survey.specs.Survey.{survey_of}
 use Rattle.sync_survey.proofs.BytesFaults.{surveyed_of_bytes}
 use Rattle.sync_survey.proofs.FoldersLaws.{survey_of-short}
-use Rattle.edits.specs.declared.fault.EditFault.{EditFault}
-use Rattle.edits.specs.declared.fault.EditFault.TheVariants.{Input, Differ, Memory}
-use Rattle.edits.specs.Choice.{then_made}
-use Rattle.edits.specs.Command.{clash_from, Gives}
-use Rattle.edits.specs.One.{most_frames, NeedsMemory}
-use Rattle.edits.specs.Left.{Why, Refused, Missing, Unread, Shorter, Unwritten, Unsent, NoMemory, why_of, Seen, TakesMemory, LeavesBy, Leaves}
-use Rattle.moved_gains.proofs.SurveyedFiles.{survey_of-parts}
-use Rattle.moved_gains.proofs.TagPlaces.{stands_somewhere}
-use Rattle.edits.proofs.OneLaws.{of_bytes_behind}
-use Rattle.edits.proofs.Refusals.{IsLate, then_late}
+use Rattle.commands.specs.declared.fault.EditFault.{EditFault}
+use Rattle.commands.specs.declared.fault.EditFault.TheVariants.{Input, Refused, Memory}
+use Rattle.commands.specs.declared.fault.Refusal.TheVariants.{Differ}
+use Rattle.commands.specs.Refusing.{then_made}
+use Rattle.commands.specs.Command.{clash_from, Gives}
+use Rattle.commands.specs.One.{most_frames, NeedsMemory}
+use Rattle.commands.specs.Left.{Why, Rejected, Missing, Unread, Shorter, Unwritten, Unsent, NoMemory, why_of, Seen, IsLate, TakesMemory, LeavesBy, Leaves}
+use Rattle.sync_survey.proofs.SurveyedFiles.{survey_of-parts}
+use Rattle.commands.proofs.InputLaws.{of_bytes_behind}
+use Rattle.commands.proofs.RefusingLaws.{then_late}
 use Rattle.joining.specs.Join.{whole_part, may_follow, part_by, part_of, parts_from, parts_of, join_made, join_command}
 use Rattle.joining.specs.Inputs.{IsInput, IsPartFaultBy, IsPartFault, Follows, AreInputs, class_in, frames_of, parts_in}
 
@@ -76,7 +76,7 @@ follows-may None class follows = refl
 follows-may (Some first) class follows = ap (λ c. same_class c first) follows ∙ same-class first
 
 part-survey : (place : ℕ) (first : Option ClassFields) (file : List ℕ) (allowed : ℕ) (s : SurveyFields) → survey_of file allowed ≡ Ok s → Follows first s.class → part_of place first allowed (Some file) ≡ Ok (whole_part file s)
-part-survey place first file allowed s is follows = ap (part_by place first file) is ∙ by_follows (may_follow first s.class) (whole_part file s) (Differ place) (follows-may first s.class follows)
+part-survey place first file allowed s is follows = ap (part_by place first file) is ∙ by_follows (may_follow first s.class) (whole_part file s) (Refused (Differ place)) (follows-may first s.class follows)
 
 part-ok : (place : ℕ) (first : Option ClassFields) (allowed : ℕ) (f : Contents) (name : List ℕ) (s : SurveyFields) → IsInput allowed (Some f) name s → Follows first s.class
     → part_of place first allowed (f name) ≡ Ok (whole_part (unwrap_or (f name) []) s)
@@ -157,7 +157,7 @@ input-late place Absent behind = behind
 input-late place (TooLong size) behind = behind
 input-late place _ behind = refl
 
-class-late : (b : Bool) (place : ℕ) (p : Part) → IfErr (cond b (Ok p) (Err (Differ place))) IsLate
+class-late : (b : Bool) (place : ℕ) (p : Part) → IfErr (cond b (Ok p) (Err (Refused (Differ place)))) IsLate
 class-late true place p = tt
 class-late false place p = refl
 
@@ -243,7 +243,7 @@ module _ (output : List ℕ) (before : List (List ℕ)) (name : List ℕ) (after
 
   module _ (old new : Seen) (fault : EditFault) (are : AreInputs None most_frames old.files before ss) where
     part-left_by : (why : Why) → IsPartFaultBy (length before) (class_after None ss) (most_frames - frames_of ss) name old new fault why → LeavesBy (join_command output (before ++ name ∷ after)) old new fault why
-    part-left_by Refused h = record { defined = gives-fault old.files fault are h.0; stays = h.1 }
+    part-left_by Rejected h = record { defined = gives-fault old.files fault are h.0; stays = h.1 }
     part-left_by Missing h = record { defined = gives-fault old.files fault are h.0; rose = h.1; files = h.2 }
     part-left_by Unread h = record { rose = h.rose; files = inl h.files }
     part-left_by Shorter h = record { rose = h.rose; counts = h.counts; before = h.untold_before; after = h.untold_after }

@@ -17,12 +17,12 @@ use Rattle.laying.specs.Relaid.{Part, frames_in, relaid}
 use Rattle.laying.specs.Written.{front_blocks, plain_info}
 use Rattle.outside.proofs.PassLaws.{input_held, still_there, cause_later, appends_then, appends_then_part}
 use Rattle.sync_survey.specs.Faults.{SurveyFields}
-use Rattle.edits.specs.declared.fault.EditFault.{EditFault}
-use Rattle.edits.specs.One.{holding, IsPassFault}
-use Rattle.edits.specs.Left.{seen}
+use Rattle.commands.specs.declared.fault.EditFault.{EditFault}
+use Rattle.commands.specs.One.{holding, IsPassFault}
+use Rattle.commands.specs.Left.{seen}
 use Rattle.outside.specs.Pass.{Appends, AppendsPrefix, HasPassCause}
-use Rattle.edits.proofs.LaidPass.{appends-as, appends-as_prefix}
-use Rattle.edits.proofs.OutputLaws.{emptied_held, output_whole, output_prefix, told_whole, cause_counts}
+use Rattle.frame_edits.proofs.LaidPass.{appends-as, appends-as_prefix}
+use Rattle.commands.proofs.OutputLaws.{emptied_held, output_whole, output_prefix, told_whole, cause_counts}
 use Rattle.joining.specs.Join.{whole_part, plan_of, joined_frames, joined_file}
 use Rattle.joining.specs.Inputs.{IsOfJoin, CanBeJoined, parts_in, told_parts}
 use Rattle.joining.specs.Laying.{the_plan_of, IsJoinedInfo, AreSources, of_pass, HasJoinCause}
@@ -211,10 +211,10 @@ module _ (output : List ℕ) (old mid new : Files) (created : mid ≡ emptied ol
   written-all name apart there done = at old refl there
     where
       at : (files : Files) → files ≡ old → IsThere files name → new ≡ holding files output bytes
-      at None is there = not_told new (told_whole (λ _. bytes) 0 name output apart old mid new created done ∙ ap is_some (sym is))
+      at None is there = not_told new (told_whole (λ _. bytes) name output apart old mid new created done ∙ ap is_some (sym is))
       at (Some f) is there =
           let held = there_holds f name there in
-          output_whole (λ _. bytes) 0 name output apart old mid new created done held.0 (subst (λ g. Holds g name held.0) is held.1)
+          output_whole (λ _. bytes) name output apart old mid new created done held.0 (subst (λ g. Holds g name held.0) is held.1)
           ∙ ap (λ g. holding g output bytes) (sym is)
 
   pub pass-fault : (count : ℕ) (name : List ℕ) (apart : name ≢ output) (fault : EditFault) (before between after : Counts) → between ≡ before → AppendsPrefix name output (λ _. bytes) mid new → HasJoinCause count mid between after fault
@@ -222,14 +222,14 @@ module _ (output : List ℕ) (old mid new : Files) (created : mid ≡ emptied ol
   pass-fault count name apart fault before between after same part h = subst (IsPassFault (λ _. bytes) name output (seen old before) (seen new after)) (sym h.is) (at h.pass h.cause)
     where
       at : (pass : PassFault) → HasPassCause h.size mid between after pass → IsPassFault (λ _. bytes) name output (seen old before) (seen new after) (of_pass h.place pass)
-      at Read c = record { rose = subst (λ n. Rose n.read_faults after.read_faults) same c.0; files = output_prefix (λ _. bytes) 0 name output apart old mid new created part }
+      at Read c = record { rose = subst (λ n. Rose n.read_faults after.read_faults) same c.0; files = output_prefix (λ _. bytes) name output apart old mid new created part }
       at (Shrunk first second) c = record {
         rose = subst (λ n. Rose n.ends after.ends) same c.3;
         counts = subst (λ n. NothingFailed n after) same c.4;
         untold_before = untold_before old output (sym created ∙ c.0);
         untold_after = part.files ∙ untold_after mid output part.bytes c.0;
       }
-      at Write c = (refl, record { rose = subst (λ n. Rose n.write_faults after.write_faults) same c.0; files = output_prefix (λ _. bytes) 0 name output apart old mid new created part })
+      at Write c = (refl, record { rose = subst (λ n. Rose n.write_faults after.write_faults) same c.0; files = output_prefix (λ _. bytes) name output apart old mid new created part })
 
 -- ---- the same of lists that are known by their first items
 

@@ -23,7 +23,7 @@ use Rattle.laying.proofs.FitLaws.{plans-fit, asked-plans}
 use Rattle.sync_survey.specs.declared.rows.Row.{Row}
 use Rattle.sync_survey.specs.Faults.{SurveyFields}
 use Rattle.outside.specs.Files.{Files}
-use Rattle.edits.specs.One.{most_frames}
+use Rattle.commands.specs.One.{most_frames}
 use Rattle.joining.specs.Inputs.{AreInputs, frames_of, rows_of, AreAlike, CanBeJoined}
 use Rattle.joining.specs.Laying.{the_plan_of, FitsAll, IsJoinedInfo}
 use Rattle.joining.proofs.InputLaws.{inputs-length, inputs-few}

@@ -26,7 +26,7 @@ use Rattle.laying.proofs.ReadLaws.{survey-surveyed}
 use Rattle.sync_survey.specs.declared.rows.Row.{Row}
 use Rattle.sync_survey.specs.MainData.{StreamFrame}
 use Rattle.sync_survey.specs.Faults.{SurveyFields, HoldsStream}
-use Rattle.edits.specs.Command.{clash_from}
+use Rattle.commands.specs.Command.{clash_from}
 use Rattle.joining.specs.Join.{whole_part, plan_of, joined_frames, joined_from, joined_file, joined_stream}
 use Rattle.joining.specs.Inputs.{AreInputs, rows_of, AreAlike, CanBeJoined, parts_in}
 use Rattle.joining.specs.Laying.{the_plan_of, AreSources}

@@ -1,5 +1,5 @@
 -- The surveys of the inputs, as they are made one after the other.
-use Rattle.std.specs.Prelude.{◌≡◌, ◌≢◌, ℕ, ◌+◌, ◌-◌, ◌<◌, ◌≤◌, List, [], ◌∷◌, length, map, unwrap_or, IfSome, Option, Some, None, Ok, Err}
+use Rattle.std.specs.Prelude.{◌≡◌, ◌≢◌, true, ℕ, ◌+◌, ◌-◌, ◌<◌, ◌≤◌, List, [], ◌∷◌, length, map, unwrap_or, IfSome, Option, Some, None, Ok, Err}
 use Rattle.outside.specs.Files.{Contents, Files, Holds, IsThere}
 use Rattle.outside.specs.Counts.{Rose}
 use Rattle.frame_header.specs.Fields.{ClassFields}
@@ -8,12 +8,12 @@ use Rattle.sync_survey.specs.declared.survey_fault.SurveyFault.TheVariants.{Memo
 use Rattle.sync_survey.specs.Faults.{SurveyFields}
 use Rattle.sync_survey.specs.Survey.{survey_of, IsLaidOut}
 use Rattle.laying.specs.Relaid.{Part}
-use Rattle.edits.specs.declared.fault.EditFault.{EditFault}
-use Rattle.edits.specs.declared.fault.EditFault.TheVariants.{Input, Differ, Write, Memory}
-use Rattle.edits.specs.Kinds.{HasRightNumbers}
-use Rattle.edits.specs.Left.{Why, Refused, Missing, Unread, Shorter, Unwritten, Unsent, NoMemory, why_of, Seen}
-use Rattle.edits.specs.One.{ReadsNothing, LosesInput, NeedsMemory}
-use Rattle.joining.specs.Join.{whole_part, part_of}
+use Rattle.commands.specs.declared.fault.EditFault.{EditFault}
+use Rattle.commands.specs.declared.fault.EditFault.TheVariants.{Input, Refused, Write, Memory}
+use Rattle.commands.specs.Kinds.{HasRightNumbers}
+use Rattle.commands.specs.Left.{Why, Rejected, Missing, Unread, Shorter, Unwritten, Unsent, NoMemory, why_of, Seen}
+use Rattle.commands.specs.One.{ReadsNothing, LosesInput, NeedsMemory}
+use Rattle.joining.specs.Join.{whole_part, part_of, join_refuses}
 
 -- ---- one input
 
@@ -30,7 +30,7 @@ abbrev pub GivesFault : ℕ → Option ClassFields → ℕ → List ℕ → File
 GivesFault place first allowed name files fault = IfSome files (λ f. part_of place first allowed (f name) ≡ Err fault)
 
 abbrev pub IsPartFaultBy : ℕ → Option ClassFields → ℕ → List ℕ → Seen → Seen → EditFault → Why → Type 0
-IsPartFaultBy place first allowed name old new fault Refused = GivesFault place first allowed name old.files fault × (new ≡ old)
+IsPartFaultBy place first allowed name old new fault Rejected = GivesFault place first allowed name old.files fault × (new ≡ old)
 IsPartFaultBy place first allowed name old new fault Missing = GivesFault place first allowed name old.files fault × Rose old.counts.misses new.counts.misses × (new.files ≡ old.files)
 IsPartFaultBy place first allowed name old new fault Unread = ReadsNothing old new
 IsPartFaultBy place first allowed name old new fault Shorter = LosesInput old new
@@ -45,7 +45,7 @@ IsPartFault place first allowed name old new fault = IsPartFaultBy place first a
 -- the fault is one of so many inputs, of the output, or want of memory; the class of the first input can't differ
 abbrev pub IsOfJoin : ℕ → EditFault → Type 0
 IsOfJoin count (Input place fault) = (place < count) × (fault ≢ NoRoom) × HasRightNumbers fault
-IsOfJoin count (Differ place) = (0 < place) × (place < count)
+IsOfJoin count (Refused refusal) = join_refuses count refusal ≡ true
 IsOfJoin count (Write place) = place ≡ 0
 IsOfJoin count Memory = Unit {0}
 IsOfJoin count _ = ⊥

@@ -1,5 +1,5 @@
 -- One file of all frames of several.
-use Rattle.std.specs.Prelude.{ℕ, ◌+◌, ◌-◌, if◌then◌else◌, Bool, true, List, [], ◌∷◌, length, map, flat_map, slice_get, unwrap_or, Option, Some, None, Result, Ok, Err}
+use Rattle.std.specs.Prelude.{ℕ, ◌+◌, ◌-◌, if◌then◌else◌, Bool, true, List, [], ◌∷◌, length, map, flat_map, slice_get, unwrap_or, Option, Some, None, Result, Ok, Err, false, nat_lt, ◌&&◌}
 use Rattle.outside.specs.Files.{Contents}
 use Rattle.frame_header.specs.Fields.{ClassFields, same_class}
 use Rattle.frame_header.specs.Tables.{window_of}
@@ -16,11 +16,13 @@ use Rattle.sync_survey.specs.declared.survey_fault.SurveyFault.TheVariants.{Abse
 use Rattle.sync_survey.specs.MainData.{StreamFrame}
 use Rattle.sync_survey.specs.Faults.{SurveyFields}
 use Rattle.sync_survey.specs.Survey.{survey_of}
-use Rattle.edits.specs.declared.fault.EditFault.{EditFault}
-use Rattle.edits.specs.declared.fault.EditFault.TheVariants.{EqualNames, Input, Differ}
-use Rattle.edits.specs.Choice.{then_made}
-use Rattle.edits.specs.Command.{Made, Command, clash_from}
-use Rattle.edits.specs.One.{most_frames}
+use Rattle.commands.specs.declared.fault.EditFault.{EditFault}
+use Rattle.commands.specs.declared.fault.EditFault.TheVariants.{EqualNames, Input, Refused}
+use Rattle.commands.specs.declared.fault.Refusal.{Refusal}
+use Rattle.commands.specs.declared.fault.Refusal.TheVariants.{Differ}
+use Rattle.commands.specs.Refusing.{then_made}
+use Rattle.commands.specs.Command.{Made, Command, clash_from}
+use Rattle.commands.specs.One.{most_frames}
 
 -- ---- the inputs
 
@@ -35,7 +37,7 @@ may_follow (Some first) class = same_class class first
 
 abbrev pub part_by : ℕ → Option ClassFields → List ℕ → Result SurveyFields SurveyFault → Result Part EditFault
 part_by place first file (Err fault) = Err (Input place fault)
-part_by place first file (Ok s) = if may_follow first s.class then Ok (whole_part file s) else Err (Differ place)
+part_by place first file (Ok s) = if may_follow first s.class then Ok (whole_part file s) else Err (Refused (Differ place))
 
 -- What an input gives, counted from 0, of which so many frames are allowed: it isn't there, or it is at fault itself, or else its frames
 -- are of another class than those of the first.
@@ -91,6 +93,11 @@ abbrev pub join_stream : Result (List Part) EditFault → List StreamFrame
 join_stream (Err fault) = []
 join_stream (Ok parts) = joined_stream parts
 
+-- one of so many inputs may differ from the first
+abbrev pub join_refuses : ℕ → Refusal → Bool
+join_refuses count (Differ place) = nat_lt 0 place && nat_lt place count
+join_refuses count _ = false
+
 abbrev pub join_command : List ℕ → List (List ℕ) → Command
 join_command output inputs = record {
   inputs = inputs;
@@ -99,4 +106,5 @@ join_command output inputs = record {
   always = Some [];
   makes = λ files. join_made output (clash_from (output ∷ []) 0 inputs) (parts_of files inputs);
   streams = λ files. join_stream (parts_of files inputs) ∷ [];
+  refuses = join_refuses (length inputs);
 }

@@ -21,8 +21,8 @@ use Rattle.sync_survey.specs.declared.rows.Row.{Row}
 use Rattle.sync_survey.specs.declared.survey_fault.SurveyFault.TheVariants.{Read as Unread, Shrunk as Shorter}
 use Rattle.sync_survey.specs.Faults.{SurveyFields}
 use Rattle.sync_survey.specs.Survey.{IsLaidOut}
-use Rattle.edits.specs.declared.fault.EditFault.{EditFault}
-use Rattle.edits.specs.declared.fault.EditFault.TheVariants.{Input, Write as Unwritten}
+use Rattle.commands.specs.declared.fault.EditFault.{EditFault}
+use Rattle.commands.specs.declared.fault.EditFault.TheVariants.{Input, Write as Unwritten}
 use Rattle.joining.specs.Inputs.{rows_of, told_parts}
 
 -- ---- the plan

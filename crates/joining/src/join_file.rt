@@ -1,14 +1,14 @@
 //! The join command over a folder.
 ghost use Rattle.std.specs.Prelude.{◌≡◌, ◌↔◌, ◌≤◌, ℕ, [], ◌∷◌, length, map, string_bytes, Some, IfErr, OnOk, IsErrOf};
 ghost use Rattle.outside.specs.Counts.{NoneFell};
-ghost use Rattle.edits.specs.Command.{HoldsStreams, clash_of, clash_from};
-ghost use Rattle.edits.specs.Left.{seen, IsDone, Leaves, HasNumbers};
+ghost use Rattle.commands.specs.Command.{HoldsStreams, clash_of, clash_from};
+ghost use Rattle.commands.specs.Left.{seen, IsDone, Leaves, HasNumbers};
 ghost use Rattle.joining.specs.Join.{join_command};
 
 use crate::planned::plan_join;
 use crate::surveys::survey_all;
 use crate::written::write_joined;
-use edits::EditFault;
+use commands::EditFault;
 use outside::Folder;
 use std::alloc::Global;
 

@@ -12,7 +12,7 @@ ghost use Rattle.laying.specs.Passing.{Lays, GivesFrames, GivesPart, writing_in}
 ghost use Rattle.joining.specs.Inputs.{rows_of};
 ghost use Rattle.joining.specs.Laying.{places_for as places_for_lem, input_frames, input_reach, all_laid, IsSource, AreSources, of_pass as of_pass_lem, HasJoinCause};
 
-use edits::EditFault;
+use commands::EditFault;
 use laying::{Buffers, Relay};
 use outside::{Folder, Pass, PassFault};
 use slot_plan::Placed;
@@ -66,9 +66,11 @@ fn lay_input<D: Folder>(
     requires fits { FitsFrom (window_of (tells relay.now.survey.now).class.version)
         (reach_of buffers.old.writer) (map need_of (tells relay.now.survey.now).frames) placed.now }
     requires unsettled { IsNextSettled buffers.old.writer → ⊥ }
-    ensures lays { OnOk result (GivesFrames relay.now (input_frames (tells relay.now.survey.now) placed.now)
+    ensures lays { OnOk result (GivesFrames relay.now (input_frames
+        (tells relay.now.survey.now) placed.now)
         buffers.old buffers.new (D.files folder.old) (D.files folder.new)) }
-    ensures part { OnErr result (GivesPart relay.now (input_frames (tells relay.now.survey.now) placed.now)
+    ensures part { OnErr result (GivesPart relay.now (input_frames
+        (tells relay.now.survey.now) placed.now)
         (input_reach (reach_of buffers.old.writer) (tells relay.now.survey.now) placed.now)
         buffers.old (D.files folder.old) (D.files folder.new)) }
     ensures reach { OnOk result (reach_of buffers.new.writer ≡

@@ -7,7 +7,7 @@ ghost use Rattle.joining.specs.Inputs.{rows_of, CanBeJoined};
 ghost use Rattle.joining.specs.Laying.{the_plan_of, FitsAll, IsJoinedInfo};
 
 use arrayvec::ArrayVec;
-use edits::Planned;
+use frame_edits::Planned;
 use info_header::write_info;
 use laying::{Kept, info_of};
 use part_needs::Parts;

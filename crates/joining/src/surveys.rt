@@ -2,13 +2,13 @@
 ghost use Rattle.std.specs.Prelude.{◌≡◌, ◌≢◌, ◌≤◌, ◌<◌, ◌+◌, true, None, List, ℕ, [], ◌∷◌, length, map, string_bytes, is_some, IfOk, IfErr, OnOk};
 ghost use Rattle.outside.specs.Counts.{OnlyReads};
 ghost use Rattle.sync_survey.specs.Faults.{tells};
-ghost use Rattle.edits.specs.Command.{clash_from};
-ghost use Rattle.edits.specs.One.{most_frames};
-ghost use Rattle.edits.specs.Left.{seen, Leaves};
+ghost use Rattle.commands.specs.Command.{clash_from};
+ghost use Rattle.commands.specs.One.{most_frames};
+ghost use Rattle.commands.specs.Left.{seen, Leaves};
 ghost use Rattle.joining.specs.Join.{may_follow as may_follow_lem, join_command};
 ghost use Rattle.joining.specs.Inputs.{IsInput, IsPartFault, IsOfJoin, Follows, AreInputs, class_in};
 
-use edits::{EditFault, MOST_FRAMES, survey_at};
+use commands::{EditFault, MOST_FRAMES, Refusal, survey_at};
 use frame_header::Class;
 use outside::Folder;
 use std::alloc::Global;
@@ -54,7 +54,7 @@ fn survey_part<D: Folder>(
     if may_follow(first, survey.class()) {
         Ok(survey)
     } else {
-        Err(EditFault::Differ(place))
+        Err(Refusal::Differ(place).into())
     }
 }
 

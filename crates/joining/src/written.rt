@@ -9,16 +9,17 @@ ghost use Rattle.laying.specs.Written.{front_blocks};
 ghost use Rattle.laying.specs.Passing.{IsReady, writing_in};
 ghost use Rattle.slot_plan.specs.Plans.{entries};
 ghost use Rattle.sync_survey.specs.Faults.{tells};
-ghost use Rattle.edits.specs.One.{most_frames, holding, IsPassFault};
-ghost use Rattle.edits.specs.Command.{clash_from};
-ghost use Rattle.edits.specs.Left.{seen};
+ghost use Rattle.commands.specs.One.{most_frames, holding, IsPassFault};
+ghost use Rattle.commands.specs.Command.{clash_from};
+ghost use Rattle.commands.specs.Left.{seen};
 ghost use Rattle.outside.specs.Pass.{Appends, AppendsPrefix, HasPassCause};
 ghost use Rattle.joining.specs.Join.{joined_file};
 ghost use Rattle.joining.specs.Inputs.{IsOfJoin, AreInputs, CanBeJoined, told_parts};
 ghost use Rattle.joining.specs.Laying.{the_plan_of, FitsAll, IsJoinedInfo, AreSources, HasJoinCause};
 
 use crate::laid::{lay_all, of_pass};
-use edits::{EditFault, Planned};
+use commands::EditFault;
+use frame_edits::Planned;
 use laying::{Buffers, Relay};
 use outside::{Folder, Pass, PassFault};
 use std::alloc::Global;
@@ -94,10 +95,12 @@ fn append_joined<'a, D: Folder>(
     requires unsent { buffers.old.waiting ≡ [] }
     // Any name but the output's stands for the files that are told.
     ensures written { OnOk result ((name : List ℕ) → name ≢ output.now → Appends name output.now
-        (λ _. joined_file (told_parts (D.files folder.old) (map string_bytes inputs.now) (map tells surveys.now)))
+        (λ _. joined_file (told_parts (D.files folder.old) (map string_bytes inputs.now)
+        (map tells surveys.now)))
         (D.files folder.old) (D.files folder.new)) }
     ensures prefix { OnErr result ((name : List ℕ) → name ≢ output.now → AppendsPrefix name output.now
-        (λ _. joined_file (told_parts (D.files folder.old) (map string_bytes inputs.now) (map tells surveys.now)))
+        (λ _. joined_file (told_parts (D.files folder.old) (map string_bytes inputs.now)
+        (map tells surveys.now)))
         (D.files folder.old) (D.files folder.new)) }
     ensures done { OnOk result (D.counts folder.new ≡ D.counts folder.old) }
     ensures cause { IfErr result (HasJoinCause (length inputs.now) (D.files folder.old)

@@ -11,19 +11,17 @@ use Rattle.sync_survey.specs.Survey.{survey_of, RefusesBytes, IsSurveyFault}
 use Rattle.sync_survey.proofs.BytesFaults.{IsOfBytes, surveyed_of_bytes}
 use Rattle.sync_survey.proofs.FoldersLaws.{survey_of-short}
 use Rattle.sync_survey.proofs.SurveyParts.{surveyed-allowed}
-use Rattle.edits.specs.declared.fault.EditFault.{EditFault}
-use Rattle.edits.specs.declared.fault.EditFault.TheVariants.{Input, Sent as NotSent, Memory}
-use Rattle.edits.specs.Kinds.{of_input}
-use Rattle.edits.specs.One.{most_frames}
-use Rattle.edits.specs.Command.{Made, Gives, written, MakesStreams, HoldsStreams}
-use Rattle.edits.specs.Left.{seen, IsDone, IsRefused, TakesMemory, Leaves}
-use Rattle.edits.specs.Said.{IsText}
+use Rattle.commands.specs.declared.fault.EditFault.{EditFault}
+use Rattle.commands.specs.declared.fault.EditFault.TheVariants.{Input, Sent as NotSent, Memory}
+use Rattle.commands.specs.Kinds.{of_input}
+use Rattle.commands.specs.One.{most_frames}
+use Rattle.commands.specs.Command.{Made, Gives, written, MakesStreams, HoldsStreams}
+use Rattle.commands.specs.Left.{seen, IsDone, IsRefused, TakesMemory, Leaves}
+use Rattle.commands.specs.Said.{IsText}
 use Rattle.listing.specs.Listing.{listed_by, listed_where, listing, list_command}
-use Rattle.edits.proofs.OneLaws.{of_bytes_behind, ok_made}
-use Rattle.moved_gains.proofs.SurveyedFiles.{survey_of-parts}
-
-made_is : (a b : Made) → ok_made a ≡ ok_made b → a ≡ b
-made_is a b e = cc
+use Rattle.commands.proofs.InputLaws.{of_bytes_behind}
+use Rattle.commands.proofs.MakeLaws.{ok_made, made-same}
+use Rattle.sync_survey.proofs.SurveyedFiles.{survey_of-parts}
 
 abbrev text_in : Result Made EditFault → List ℕ
 text_in (Ok made) = made.text
@@ -125,7 +123,7 @@ module _ (input : List ℕ) where
     holds_streams = at files there is
       where
         none_written : (f : Contents) (bytes : List ℕ) → f input ≡ Some bytes → IsWellFormed bytes → (made : Made) → ok_made made_of ≡ ok_made made → MakesStreams (list_command input) f made
-        none_written f bytes holds sound made e = subst (MakesStreams (list_command input) f) (made_is made_of made e) (record { sources = ((bytes, holds, sound), tt); streams = tt })
+        none_written f bytes holds sound made e = subst (MakesStreams (list_command input) f) (made-same made_of made e) (record { sources = ((bytes, holds, sound), tt); streams = tt })
 
         at : (fs : Files) → IsThere fs input → ((bytes : List ℕ) → Holds fs input bytes → survey_of bytes most_frames ≡ Ok s) → HoldsStreams (list_command input) fs
         at None there is = tt

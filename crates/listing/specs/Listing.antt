@@ -1,5 +1,5 @@
 -- The list command: a line for each thing of a file, in order of the offsets, and a summary.
-use Rattle.std.specs.Prelude.{ℕ, ◌+◌, ◌*◌, ◌/◌, ◌%◌, Bool, if◌then◌else◌, List, [], ◌∷◌, ◌++◌, length, flat_map, codes, decimal, Option, Some, None, Result, Ok, Err}
+use Rattle.std.specs.Prelude.{ℕ, ◌+◌, ◌*◌, ◌/◌, ◌%◌, Bool, if◌then◌else◌, List, [], ◌∷◌, ◌++◌, length, flat_map, codes, decimal, Option, Some, None, Result, Ok, Err, false}
 use Rattle.frame_header.specs.declared.version.Version.{Version}
 use Rattle.frame_header.specs.declared.version.Version.TheVariants.{One, Two, TwoFive}
 use Rattle.frame_header.specs.Fields.{ClassFields}
@@ -12,12 +12,12 @@ use Rattle.sync_survey.specs.declared.survey_fault.SurveyFault.{SurveyFault}
 use Rattle.sync_survey.specs.declared.survey_fault.SurveyFault.TheVariants.{Absent}
 use Rattle.sync_survey.specs.Faults.{SurveyFields}
 use Rattle.sync_survey.specs.Survey.{survey_of}
-use Rattle.edits.specs.declared.fault.EditFault.{EditFault}
-use Rattle.edits.specs.declared.fault.EditFault.TheVariants.{Input}
+use Rattle.commands.specs.declared.fault.EditFault.{EditFault}
+use Rattle.commands.specs.declared.fault.EditFault.TheVariants.{Input}
 use Rattle.listing.specs.declared.things.Thing.{Thing}
 use Rattle.listing.specs.declared.things.Thing.TheVariants.{Block, Junk, FirstHead, Frame}
-use Rattle.edits.specs.One.{most_frames}
-use Rattle.edits.specs.Command.{Made, Command}
+use Rattle.commands.specs.One.{most_frames}
+use Rattle.commands.specs.Command.{Made, Command}
 use Rattle.listing.specs.Things.{things_of, in_order}
 
 -- ---- the line of each thing
@@ -101,4 +101,5 @@ list_command input = record {
   always = None;
   makes = λ files. listed_where (files input);
   streams = λ files. [];
+  refuses = λ refusal. false;
 }

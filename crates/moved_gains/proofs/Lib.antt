@@ -14,6 +14,5 @@ pub mod WrittenTag
 pub mod FramesThere
 pub mod MovedAgain
 pub mod TaggedAgain
-pub mod SurveyedFiles
 pub mod Rows
 pub mod TagEnds

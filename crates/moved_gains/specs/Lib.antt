@@ -1,5 +1,4 @@
 -- What the contracts of this crate cite.
-pub mod Limits
 pub mod Gains
 pub mod Edited
 pub mod Streams

@@ -9,7 +9,7 @@ ghost use Rattle.outside.specs.Pass.{IsReady, Writes, WritesPrefix, Appends, App
 ghost use Rattle.sync_survey.specs.Faults.{tells};
 ghost use Rattle.sync_survey.specs.Survey.{survey_of, AreLaid, IsLaidOut};
 ghost use Rattle.moved_gains.specs.Buffers.{AreFresh};
-ghost use Rattle.moved_gains.specs.Limits.{most_frames};
+ghost use Rattle.sync_survey.specs.Limits.{most_frames};
 ghost use Rattle.moved_gains.specs.Change.{changed, change_in};
 ghost use Rattle.moved_gains.specs.Moving.{row_length, row_end, row_bytes, IsRowOf, AreRowsOf, moved_bytes, moved_row_bytes, bytes_around, copied, written_from, IsNewTag};
 

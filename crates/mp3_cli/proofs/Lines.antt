@@ -1,5 +1,5 @@
 -- A line that is sent piece by piece.
-use Rattle.std.proofs.Common.{◌≡◌, ℕ, ◌+◌, ◌<◌, ◌≤◌, List, [], ◌∷◌, ◌++◌, length, get_or, take, drop, flat_map, ap, sym, ◌∙◌, subst, inl, inr, arith, length-append}
+use Rattle.std.proofs.Common.{◌≡◌, ℕ, ◌+◌, ◌<◌, ◌≤◌, List, [], ◌∷◌, ◌++◌, length, get_or, take, drop, flat_map, map, refl, ap, sym, ◌∙◌, subst, inl, inr, arith, length-append}
 use Rattle.std.proofs.lemmas.List.{take_more, take-append-drop, take-append-le, append-nil}
 use Rattle.std.proofs.lemmas.Grind.{flat_map-append}
 use Rattle.std.proofs.lemmas.List.Folds.{length-flat_map-take}
@@ -9,6 +9,8 @@ use Rattle.outside.specs.Files.{Sent, sent_more}
 use Rattle.outside.specs.Counts.{Rose}
 use Rattle.outside.proofs.FilesLaws.{sent_twice}
 use Rattle.outside.proofs.CountsLaws.{later_rose}
+use Rattle.mp3_cli.specs.declared.parts.Part.{Part as CodePart}
+use Rattle.mp3_cli.specs.Lines.{spelled_part, spelled, part_of}
 use Rattle.mp3_cli.specs.Texts.{GotWhole, GotFront, GotLine}
 
 -- the pieces with one more
@@ -80,3 +82,8 @@ line_is sent_before sent_after faults_before faults_after line other same got = 
 pub on_error : {T E P : Type 0} (r : Result T E) → P → OnErr r P
 on_error (Ok x) p = tt
 on_error (Err e) p = p
+
+-- the parts of the code, one after another
+pub spelled_parts : (parts : List CodePart) → flat_map (λ part. spelled_part (part_of part)) parts ≡ spelled (map part_of parts)
+spelled_parts [] = refl
+spelled_parts (part ∷ parts) = ap (λ (rest : List ℕ). spelled_part (part_of part) ++ rest) (spelled_parts parts)

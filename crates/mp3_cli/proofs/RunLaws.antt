@@ -1,36 +1,34 @@
 -- What `run` promises, from the answer of a command.
-use Rattle.std.proofs.Common.{◌≡◌, ◌≢◌, ◌↔◌, ◌⊎◌, ℕ, ◌≤◌, Bool, true, false, List, [], ◌∷◌, length, Option, Some, None, Result, Ok, Err, refl, sym, ◌∙◌, ap, subst, inl, inr, arith}
+use Rattle.std.proofs.Common.{◌≡◌, ◌≢◌, ◌↔◌, ◌⊎◌, ℕ, ◌≤◌, List, [], ◌∷◌, length, Option, Some, None, Result, Ok, Err, refl, sym, ◌∙◌, ap, subst, inl, inr, arith}
 use Rattle.std.proofs.Math.Seq.{take-nil}
-use Rattle.std.proofs.lemmas.Slice.Eq.{bytes_eq-Decides}
-use Rattle.std.specs.Prelude.{IfSome, IfErr, IsErrOf, OnOk, bytes_eq}
+use Rattle.std.specs.Prelude.{IfSome, IfErr, IsErrOf, OnOk}
 use Rattle.outside.specs.Files.{Contents, Files, untold, Sent, sent_more}
 use Rattle.outside.specs.Counts.{Rose}
 use Rattle.outside.proofs.FilesLaws.{sent_nothing}
-use Rattle.edits.specs.declared.fault.EditFault.{EditFault}
-use Rattle.edits.specs.declared.fault.EditFault.TheVariants.{EqualNames, Input, GainRange, Mono, Joint, TagTooLarge, BadTag, NoUndo, BadUndo, UndoRange, OutputTooLong, Range, Differ, SheetTooLarge, Sheet, Write, Sent as NotSent, Memory}
-use Rattle.edits.specs.Kinds.{InputKind, IsAbsent, IsUnread as NotRead, IsShorter as Shrank, IsTooMuch, IsRefused as AtFault, kind_of, by_kind}
-use Rattle.edits.specs.One.{Making, most_frames, made_result, made_of, one_command}
-use Rattle.edits.specs.Command.{Made, Command, clash_from, clash_of, written, Gives, MakesStreams, HoldsStreams}
-use Rattle.edits.specs.Choice.{then_made}
-use Rattle.edits.specs.Chosen.{Chosen}
+use Rattle.commands.specs.declared.fault.EditFault.{EditFault}
+use Rattle.commands.specs.declared.fault.EditFault.TheVariants.{EqualNames, Input, Refused, Write, Sent as NotSent, Memory}
+use Rattle.commands.specs.Kinds.{InputKind, IsAbsent, IsUnread as NotRead, IsShorter as Shrank, IsTooMuch, IsRefused as AtFault, kind_of, by_kind}
+use Rattle.commands.specs.One.{Task, most_frames, made_result, made_of, one_command}
+use Rattle.commands.specs.Command.{Made, Command, clash_from, clash_of, written, Gives, MakesStreams, HoldsStreams}
+use Rattle.commands.specs.Refusing.{then_made}
+use Rattle.frame_edits.specs.Chosen.{Chosen}
 use Rattle.cue_sheet.specs.declared.place.Place.{Place}
 use Rattle.sync_survey.specs.declared.survey_fault.SurveyFault.{SurveyFault}
 use Rattle.sync_survey.specs.Faults.{SurveyFields}
 use Rattle.sync_survey.specs.Survey.{survey_of}
 use Rattle.splitting.specs.Split.{piece_names, chosen_at, made_of as split_made, made_at, made_by, made_where, unless_equal, made_result as made_result_split, Placing, split_command}
 use Rattle.joining.specs.Join.{parts_of, join_made, join_command}
-use Rattle.sync_survey.specs.MainData.{StreamFrame}
-use Rattle.edits.specs.Said.{Heard, IsText, SaysAll, Says, fault_of}
-use Rattle.edits.specs.Left.{Why, Refused, Missing, Unread, Shorter, Unwritten, Unsent, NoMemory, why_of, Seen, IsDone, IsRefused, LeavesBy, Leaves, HasNumbers}
-use Rattle.job_words.specs.declared.jobs.Job.{Job}
+use Rattle.commands.specs.Said.{Heard, IsText, SaysAll, Says, fault_of}
+use Rattle.commands.specs.Left.{Why, Rejected, Missing, Unread, Shorter, Unwritten, Unsent, NoMemory, why_of, Seen, IsDone, IsRefused, LeavesBy, Leaves, HasNumbers}
+use Rattle.job_words.specs.Asked.{Asked}
 use Rattle.job_words.specs.Words.{job_of}
 use Rattle.mp3_cli.specs.Texts.{status_by, bad_word_line, GotWhole, GotFront, GotLine}
-use Rattle.mp3_cli.specs.Run.{said_command, command_of, always_of, fault_status, line_of, GetsLine, Answers, made_outcome, command_outcome, job_outcome, outcome, IsOutcome, IsAcceptedBy, IsAccepted}
+use Rattle.mp3_cli.specs.Run.{said_command, command_of, always_of, fault_status, line_of, GetsLine, world, Answers, made_outcome, command_outcome, job_outcome, outcome, IsOutcome, IsAcceptedBy, IsAccepted}
 
 -- ---- statuses
 
 by_status : (why : Why) → (1 ≤ status_by why) × (status_by why ≤ 4) × (status_by why ≢ 2)
-by_status Refused = (omega arith, omega arith, λ e. absurd (omega (arith, e)))
+by_status Rejected = (omega arith, omega arith, λ e. absurd (omega (arith, e)))
 by_status NoMemory = (omega arith, omega arith, λ e. absurd (omega (arith, e)))
 by_status Missing = (omega arith, omega arith, λ e. absurd (omega (arith, e)))
 by_status Unread = (omega arith, omega arith, λ e. absurd (omega (arith, e)))
@@ -40,7 +38,7 @@ by_status Unsent = (omega arith, omega arith, λ e. absurd (omega (arith, e)))
 
 -- ---- a failed write to standard output
 
-input_sent : (kind : InputKind) → by_kind (record { absent = Missing; unread = Unread; shorter = Shorter; too_much = NoMemory; refused = Refused }) kind ≡ Unsent → ⊥
+input_sent : (kind : InputKind) → by_kind (record { absent = Missing; unread = Unread; shorter = Shorter; too_much = NoMemory; refused = Rejected }) kind ≡ Unsent → ⊥
 input_sent IsAbsent e = absurd cc
 input_sent NotRead e = absurd cc
 input_sent Shrank e = absurd cc
@@ -52,19 +50,7 @@ module _ (command : Command) (files : Files) (old new : Heard) where
   pub sent_rose : (fault : EditFault) → why_of fault ≡ Unsent → Says command files old new (Some fault) → Rose old.faults new.faults
   sent_rose (EqualNames place) is says = absurd cc
   sent_rose (Input place fault) is says = absurd (input_sent (kind_of fault) is)
-  sent_rose (GainRange offset granule channel gain) is says = absurd cc
-  sent_rose Mono is says = absurd cc
-  sent_rose (Joint offset) is says = absurd cc
-  sent_rose (TagTooLarge length) is says = absurd cc
-  sent_rose (BadTag offset) is says = absurd cc
-  sent_rose NoUndo is says = absurd cc
-  sent_rose (BadUndo offset) is says = absurd cc
-  sent_rose (UndoRange sum) is says = absurd cc
-  sent_rose (OutputTooLong length) is says = absurd cc
-  sent_rose (Range from to frames) is says = absurd cc
-  sent_rose (Differ place) is says = absurd cc
-  sent_rose (SheetTooLarge size) is says = absurd cc
-  sent_rose (Sheet fault) is says = absurd cc
+  sent_rose (Refused refusal) is says = absurd cc
   sent_rose (Write place) is says = absurd cc
   sent_rose NotSent is says = says.rose
   sent_rose Memory is says = absurd cc
@@ -72,19 +58,7 @@ module _ (command : Command) (files : Files) (old new : Heard) where
   pub sent_none : (fault : EditFault) → (why_of fault ≡ Unsent → ⊥) → Says command files old new (Some fault) → new ≡ old
   sent_none (EqualNames place) other says = says
   sent_none (Input place fault) other says = says
-  sent_none (GainRange offset granule channel gain) other says = says
-  sent_none Mono other says = says
-  sent_none (Joint offset) other says = says
-  sent_none (TagTooLarge length) other says = says
-  sent_none (BadTag offset) other says = says
-  sent_none NoUndo other says = says
-  sent_none (BadUndo offset) other says = says
-  sent_none (UndoRange sum) other says = says
-  sent_none (OutputTooLong length) other says = says
-  sent_none (Range from to frames) other says = says
-  sent_none (Differ place) other says = says
-  sent_none (SheetTooLarge size) other says = says
-  sent_none (Sheet fault) other says = says
+  sent_none (Refused refusal) other says = says
   sent_none (Write place) other says = says
   sent_none NotSent other says = absurd (other refl)
   sent_none Memory other says = says
@@ -103,7 +77,7 @@ got_nothing old new line = at line.got
 
 -- ---- of one answer
 
-module _ (command : Command) (old new : Seen) (out_old out_new err_old err_new : Heard) (status : ℕ) (all : Answers command old new out_old out_new err_old err_new status) where
+module _ (command : Command) (old new : Seen) (out_old out_new err_old err_new : Heard) (status : ℕ) (all : Answers command (world old out_old err_old) (world new out_new err_new) status) where
   -- it was done, or there is a fault of this kind
   pub data Case : Type 0 where
     Done : status ≡ 0 → all.fault ≡ None → Case
@@ -132,7 +106,7 @@ module _ (command : Command) (old new : Seen) (out_old out_new err_old err_new :
 
   -- a refusal and want of memory leave all as it was
   stays_by : (fault : EditFault) (why : Why) → status ≡ status_by why → status ≢ 3 → LeavesBy command old new fault why → new ≡ old
-  stays_by fault Refused is other left = left.stays
+  stays_by fault Rejected is other left = left.stays
   stays_by fault NoMemory is other left = left.stays
   stays_by fault Missing is other left = absurd (other is)
   stays_by fault Unread is other left = absurd (other is)
@@ -198,21 +172,21 @@ module _ (command : Command) (old new : Seen) (out_old out_new err_old err_new :
     line_here o e = subst (λ o. GetsLine err_old err_new (line_of command o)) e all.line
 
     abbrev IsAsDefinedBy : Result Made EditFault → Type 0
-    IsAsDefinedBy r = IsOutcome (made_outcome command f r) status new.files out_old out_new err_old err_new
+    IsAsDefinedBy r = IsOutcome (made_outcome command f r) (world old out_old err_old) (world new out_new err_new) status
 
     -- with status 0, 1 or 2 all is as defined
-    refused_here : (fault : EditFault) → all.fault ≡ Some fault → status ≡ 1 → why_of fault ≡ Refused → IsRefused command old new fault → IsAsDefinedBy (command.makes f)
+    refused_here : (fault : EditFault) → all.fault ≡ Some fault → status ≡ 1 → why_of fault ≡ Rejected → IsRefused command old new fault → IsAsDefinedBy (command.makes f)
     refused_here fault e is w left =
         subst IsAsDefinedBy (sym (gives (Err fault) left.defined))
         (record {
           status_is = is ∙ sym (ap status_by w);
           files_are = ap (λ (s : Seen). s.files) left.stays ∙ told;
-          text_is = ap (λ (h : Heard). h.sent) (nothing_by fault Refused e is (λ three. absurd (omega (arith, is, three))) w) ∙ sym (sent_nothing out_old.sent);
+          text_is = ap (λ (h : Heard). h.sent) (nothing_by fault Rejected e is (λ three. absurd (omega (arith, is, three))) w) ∙ sym (sent_nothing out_old.sent);
           line_is = line_here (Some fault) e;
         })
 
     failed_here : (fault : EditFault) (why : Why) → all.fault ≡ Some fault → status ≡ status_by why → status ≤ 2 → why_of fault ≡ why → LeavesBy command old new fault why → IsAsDefinedBy (command.makes f)
-    failed_here fault Refused e is low w left = refused_here fault e is w left
+    failed_here fault Rejected e is low w left = refused_here fault e is w left
     failed_here fault NoMemory e is low w left = absurd (omega (arith, is, low))
     failed_here fault Missing e is low w left = absurd (omega (arith, is, low))
     failed_here fault Unread e is low w left = absurd (omega (arith, is, low))
@@ -220,7 +194,7 @@ module _ (command : Command) (old new : Seen) (out_old out_new err_old err_new :
     failed_here fault (Unwritten k) e is low w left = absurd (omega (arith, is, low))
     failed_here fault Unsent e is low w left = absurd (omega (arith, is, low))
 
-    pub as_defined : status ≤ 2 → IsOutcome (command_outcome command f) status new.files out_old out_new err_old err_new
+    pub as_defined : status ≤ 2 → IsOutcome (command_outcome command f) (world old out_old err_old) (world new out_new err_new) status
     as_defined low = at case_of
       where
         at : Case → IsAsDefinedBy (command.makes f)
@@ -239,7 +213,7 @@ module _ (command : Command) (old new : Seen) (out_old out_new err_old err_new :
 
     not_failed : (made : Made) (fault : EditFault) (why : Why) → command.makes f ≡ Ok made → (Rose old.counts.read_faults new.counts.read_faults → ⊥) → (Rose old.counts.write_faults new.counts.write_faults → ⊥) → (Rose out_old.faults out_new.faults → ⊥) → status ≢ 4
         → all.fault ≡ Some fault → why_of fault ≡ why → status ≡ status_by why → LeavesBy command old new fault why → ⊥
-    not_failed made fault Refused ok reads writes sends found e w is left = not_made made fault ok (gives (Err fault) left.defined)
+    not_failed made fault Rejected ok reads writes sends found e w is left = not_made made fault ok (gives (Err fault) left.defined)
     not_failed made fault Missing ok reads writes sends found e w is left = not_made made fault ok (gives (Err fault) left.defined)
     not_failed made fault Unread ok reads writes sends found e w is left = reads left.rose
     not_failed made fault Shorter ok reads writes sends found e w is left = told_twice left.before
@@ -263,38 +237,41 @@ module _ (command : Command) (old new : Seen) (out_old out_new err_old err_new :
 
 -- ---- of words
 
-outcome-words : (words : List (List ℕ)) (f : Contents) (r : Result Job ℕ) → job_of words ≡ r → outcome words f ≡ job_outcome words f r
+outcome-words : (words : List (List ℕ)) (f : Contents) (r : Result Asked ℕ) → job_of words ≡ r → outcome words f ≡ job_outcome f r
 unfolding outcome
-outcome-words words f r is = ap (job_outcome words f) is
+outcome-words words f r is = ap (job_outcome f) is
 
-pub bad_word_defined : (words : List (List ℕ)) (old : Files) (place : ℕ) (out err_old err_new : Heard) → job_of words ≡ Err place → GetsLine err_old err_new (bad_word_line place)
-    → IfSome old (λ f. IsOutcome (outcome words f) 2 old out out err_old err_new)
-bad_word_defined words None place out err_old err_new is line = tt
-bad_word_defined words (Some f) place out err_old err_new is line =
-    subst (λ o. IsOutcome o 2 (Some f) out out err_old err_new) (sym (outcome-words words f (Err place) is))
-    (record { status_is = refl; files_are = refl; text_is = sym (sent_nothing out.sent); line_is = line })
+pub bad_word_defined : (words : List (List ℕ)) (old : Seen) (place : ℕ) (out err_old err_new : Heard) → job_of words ≡ Err place → GetsLine err_old err_new (bad_word_line place)
+    → IfSome old.files (λ f. IsOutcome (outcome words f) (world old out err_old) (world old out err_new) 2)
+bad_word_defined words old place out err_old err_new is line = at old.files refl
+  where
+    at : (files : Files) → old.files ≡ files → IfSome files (λ f. IsOutcome (outcome words f) (world old out err_old) (world old out err_new) 2)
+    at None told = tt
+    at (Some f) told =
+        subst (λ o. IsOutcome o (world old out err_old) (world old out err_new) 2) (sym (outcome-words words f (Err place) is))
+        (record { status_is = refl; files_are = told; text_is = sym (sent_nothing out.sent); line_is = line })
 
-module _ (words : List (List ℕ)) (job : Job) (is : job_of words ≡ Ok job) (old new : Seen) (out_old out_new err_old err_new : Heard) (status : ℕ)
-    (all : Answers (command_of words job) old new out_old out_new err_old err_new status) where
-  pub is_defined : status ≤ 2 → IfSome old.files (λ f. IsOutcome (outcome words f) status new.files out_old out_new err_old err_new)
+module _ (words : List (List ℕ)) (asked : Asked) (is : job_of words ≡ Ok asked) (old new : Seen) (out_old out_new err_old err_new : Heard) (status : ℕ)
+    (all : Answers (command_of asked) (world old out_old err_old) (world new out_new err_new) status) where
+  pub is_defined : status ≤ 2 → IfSome old.files (λ f. IsOutcome (outcome words f) (world old out_old err_old) (world new out_new err_new) status)
   is_defined low = at old.files refl
     where
-      at : (files : Files) → old.files ≡ files → IfSome files (λ f. IsOutcome (outcome words f) status new.files out_old out_new err_old err_new)
+      at : (files : Files) → old.files ≡ files → IfSome files (λ f. IsOutcome (outcome words f) (world old out_old err_old) (world new out_new err_new) status)
       at None told = tt
       at (Some f) told =
-          subst (λ o. IsOutcome o status new.files out_old out_new err_old err_new) (sym (outcome-words words f (Ok job) is))
-          (as_defined (command_of words job) old new out_old out_new err_old err_new status all f told low)
+          subst (λ o. IsOutcome o (world old out_old err_old) (world new out_new err_new) status) (sym (outcome-words words f (Ok asked) is))
+          (as_defined (command_of asked) old new out_old out_new err_old err_new status all f told low)
 
   pub is_accepted : (f : Contents) → old.files ≡ Some f → (Rose old.counts.read_faults new.counts.read_faults → ⊥) → (Rose old.counts.write_faults new.counts.write_faults → ⊥) → (Rose out_old.faults out_new.faults → ⊥)
       → status ≢ 4 → (status ≡ 0) ↔ IsAccepted words f
   is_accepted f told reads writes sends found = (
-    (λ zero_is. subst (IsAcceptedBy words f) (sym is) (made_where_done (command_of words job) old new out_old out_new err_old err_new status all f told zero_is)),
-    (λ accepted. done_where_made (command_of words job) old new out_old out_new err_old err_new status all f told reads writes sends found (subst (IsAcceptedBy words f) is accepted)),
+    (λ zero_is. subst (IsAcceptedBy f) (sym is) (made_where_done (command_of asked) old new out_old out_new err_old err_new status all f told zero_is)),
+    (λ accepted. done_where_made (command_of asked) old new out_old out_new err_old err_new status all f told reads writes sends found (subst (IsAcceptedBy f) is accepted)),
   )
 
   -- the text that is the same of all files
-  pub text_said : status ≡ 0 → IfSome (always_of words (job_of words)) (λ text. out_new.sent ≡ sent_more out_old.sent text)
-  text_said zero_is = subst (λ r. IfSome (always_of words r) (λ text. out_new.sent ≡ sent_more out_old.sent text)) (sym is) (always_said (command_of words job) old new out_old out_new err_old err_new status all zero_is)
+  pub text_said : status ≡ 0 → IfSome (always_of (job_of words)) (λ text. out_new.sent ≡ sent_more out_old.sent text)
+  text_said zero_is = subst (λ r. IfSome (always_of r) (λ text. out_new.sent ≡ sent_more out_old.sent text)) (sym is) (always_said (command_of asked) old new out_old out_new err_old err_new status all zero_is)
 
 -- ---- a command without a text
 
@@ -328,19 +305,7 @@ module _ (command : Command) (no_text : IsSilent command) (files : Files) (out :
   says_fault : (fault : EditFault) → HasNumbers command fault → Says command files out out (Some fault)
   says_fault (EqualNames place) numbers = refl
   says_fault (Input place fault) numbers = refl
-  says_fault (GainRange offset granule channel gain) numbers = refl
-  says_fault Mono numbers = refl
-  says_fault (Joint offset) numbers = refl
-  says_fault (TagTooLarge length) numbers = refl
-  says_fault (BadTag offset) numbers = refl
-  says_fault NoUndo numbers = refl
-  says_fault (BadUndo offset) numbers = refl
-  says_fault (UndoRange sum) numbers = refl
-  says_fault (OutputTooLong length) numbers = refl
-  says_fault (Range from to frames) numbers = refl
-  says_fault (Differ place) numbers = refl
-  says_fault (SheetTooLarge size) numbers = refl
-  says_fault (Sheet fault) numbers = refl
+  says_fault (Refused refusal) numbers = refl
   says_fault (Write place) numbers = refl
   says_fault NotSent numbers = absurd (numbers no_text.always)
   says_fault Memory numbers = refl
@@ -349,7 +314,7 @@ module _ (command : Command) (no_text : IsSilent command) (files : Files) (out :
 pub silent_answers : {T : Type 0} (command : Command) → IsSilent command → (r : Result T EditFault) (old new : Seen) (out err_old err_new : Heard) (status : ℕ)
     → OnOk r (IsDone command old new) → IfErr r (Leaves command old new) → IfErr r (HasNumbers command)
     → ((place : ℕ) → clash_of command ≡ Some place → fault_of r ≡ Some (EqualNames place)) → status ≡ fault_status (fault_of r) → GetsLine err_old err_new (line_of command (fault_of r))
-    → Answers command old new out out err_old err_new status
+    → Answers command (world old out err_old) (world new out err_new) status
 silent_answers command no_text (Ok x) old new out err_old err_new status done left numbers names status_is line = record {
   fault = None;
   status_is = status_is;
@@ -371,46 +336,22 @@ silent_answers command no_text (Err fault) old new out err_old err_new status do
   names = names;
 }
 
--- the same of a command of several files
-pub several_answers : {T : Type 0} (command : Command) → IsSilent command → (r : Result T EditFault) (old new : Seen) (out err_old err_new : Heard) (status : ℕ)
+-- the same where the names are told apart
+pub command_answers : {T : Type 0} (command : Command) → IsSilent command → (r : Result T EditFault) (old new : Seen) (out err_old err_new : Heard) (status : ℕ)
     → OnOk r (IsDone command old new) → IfErr r (Leaves command old new) → IfErr r (HasNumbers command)
     → ((place : ℕ) → IsErrOf r (EqualNames place) ↔ (clash_of command ≡ Some place)) → status ≡ fault_status (fault_of r) → GetsLine err_old err_new (line_of command (fault_of r))
-    → Answers command old new out out err_old err_new status
-several_answers command no_text r old new out err_old err_new status done left numbers names status_is line =
+    → Answers command (world old out err_old) (world new out err_new) status
+command_answers command no_text r old new out err_old err_new status done left numbers names status_is line =
     silent_answers command no_text r old new out err_old err_new status done left numbers (λ place clash. ap fault_of ((names place).1 clash)) status_is line
 
--- ---- a command that makes one file of one
+-- ---- a command that makes one file
 
-none_some : (place : ℕ) → None ≡ Some place → ⊥
-none_some place e = absurd cc
+silent_made : (output : List ℕ) (r : Result (List ℕ) EditFault) (made : Made) → made_of output r ≡ Ok made → made.text ≡ []
+silent_made output (Ok bytes) made is = sym (ap text_in is)
+silent_made output (Err fault) made is = absurd cc
 
-module _ (make : Making) (stream : List ℕ → List StreamFrame) (input output : List ℕ) where
-  silent_made : (r : Result (List ℕ) EditFault) (made : Made) → made_of output r ≡ Ok made → made.text ≡ []
-  silent_made (Ok bytes) made is = sym (ap text_in is)
-  silent_made (Err fault) made is = absurd cc
-
-  one_silent : IsSilent (one_command make stream input output)
-  one_silent = record { always = refl; silent = λ f made is. silent_made (made_result make input output f) made is }
-
-  -- the fault is that of equal names where they are
-  names_told : {T : Type 0} (r : Result T EditFault) → (IsErrOf r (EqualNames 0) ↔ (input ≡ output)) → (place : ℕ) → clash_of (one_command make stream input output) ≡ Some place → fault_of r ≡ Some (EqualNames place)
-  names_told r both place clash =
-      elim (bytes_eq input output) as (λ b. bytes_eq input output ≡ b → fault_of r ≡ Some (EqualNames place)) [
-        | true ↦ λ same.
-            let here : clash_of (one_command make stream input output) ≡ Some 0 = rw same refl in
-            let first : 0 ≡ place = some_is 0 place (sym here ∙ clash) in
-            ap fault_of (both.1 ((bytes_eq-Decides input output).0 same)) ∙ ap (λ (k : ℕ). Some (EqualNames k)) first
-        | false ↦ λ differ.
-            let none : clash_of (one_command make stream input output) ≡ None = rw differ refl in
-            absurd (none_some place (sym none ∙ clash))
-      ] refl
-
-  pub one_answers : {T : Type 0} (r : Result T EditFault) (old new : Seen) (out err_old err_new : Heard) (status : ℕ)
-      → OnOk r (IsDone (one_command make stream input output) old new) → IfErr r (Leaves (one_command make stream input output) old new) → IfErr r (HasNumbers (one_command make stream input output))
-      → (IsErrOf r (EqualNames 0) ↔ (input ≡ output)) → status ≡ fault_status (fault_of r) → GetsLine err_old err_new (line_of (one_command make stream input output) (fault_of r))
-      → Answers (one_command make stream input output) old new out out err_old err_new status
-  one_answers r old new out err_old err_new status done left numbers both status_is line =
-      silent_answers (one_command make stream input output) one_silent r old new out err_old err_new status done left numbers (names_told r both) status_is line
+pub one_silent : (task : Task) (output : List ℕ) → IsSilent (one_command task output)
+one_silent task output = record { always = refl; silent = λ f made is. silent_made output (made_result task output f) made is }
 
 -- ---- a command that cuts a file, and one that joins files
 
@@ -439,7 +380,7 @@ module _ (prefix : List ℕ) where
   unfolding made_result_split
   split_silent placing more input = record {
     always = refl;
-    silent = λ f made is. named_silent (clash_from (piece_names prefix) 0 (input ∷ more)) (placing f) (f input) made is;
+    silent = λ f made is. named_silent (clash_from (piece_names prefix) 0 (input ∷ more)) (placing.places f) (f input) made is;
   }
 
 pub join_silent : (output : List ℕ) (inputs : List (List ℕ)) → IsSilent (join_command output inputs)
@@ -481,7 +422,7 @@ module _ (text : List ℕ) (some : Some text ≢ Some []) (now : Seen) where
 
   module _ (out_old out_new err_old err_new : Heard) (status : ℕ) where
     said_fault : (fault : EditFault) → NotSent ≡ fault → Says (said_command text) now.files out_old out_new (Some fault) → status ≡ fault_status (Some fault) → GetsLine err_old err_new (line_of (said_command text) (Some fault))
-        → Answers (said_command text) now now out_old out_new err_old err_new status
+        → Answers (said_command text) (world now out_old err_old) (world now out_new err_new) status
     said_fault fault is says status_is line = record {
       fault = Some fault;
       status_is = status_is;
@@ -494,7 +435,7 @@ module _ (text : List ℕ) (some : Some text ≢ Some []) (now : Seen) where
     }
 
     pub said_answers : {T : Type 0} (r : Result T EditFault) → Says (said_command text) now.files out_old out_new (fault_of r) → IfErr r (λ fault. fault ≡ NotSent) → status ≡ fault_status (fault_of r)
-        → GetsLine err_old err_new (line_of (said_command text) (fault_of r)) → Answers (said_command text) now now out_old out_new err_old err_new status
+        → GetsLine err_old err_new (line_of (said_command text) (fault_of r)) → Answers (said_command text) (world now out_old err_old) (world now out_new err_new) status
     said_answers (Ok x) says is status_is line = record {
       fault = None;
       status_is = status_is;

@@ -1,4 +1,5 @@
 -- What the contracts of this crate cite.
+pub mod Lines
 pub mod Names
 pub mod Texts
 pub mod Run

@@ -1,20 +1,19 @@
 -- What the program does, from its words and the files that are there.
-use Rattle.std.specs.Prelude.{◌≡◌, ℕ, List, [], Option, Some, None, Result, Ok, Err, IfOk, IfSome}
+use Rattle.std.specs.Prelude.{◌≡◌, ℕ, List, [], Option, Some, None, Result, Ok, Err, IfOk, IfSome, false}
 use Rattle.outside.specs.Files.{Contents, Files, sent_more}
-use Rattle.edits.specs.declared.fault.EditFault.{EditFault}
-use Rattle.edits.specs.declared.fault.EditFault.TheVariants.{EqualNames}
-use Rattle.edits.specs.Command.{Made, Command, clash_of, written, HoldsStreams}
-use Rattle.edits.specs.Left.{Seen, IsDone, Leaves, HasNumbers}
-use Rattle.edits.specs.Said.{Heard, Says}
-use Rattle.edits.specs.Gain.{gain_command}
-use Rattle.edits.specs.Undo.{undo_command}
-use Rattle.edits.specs.Chosen.{cut_command, pack_command}
+use Rattle.commands.specs.declared.fault.EditFault.{EditFault}
+use Rattle.commands.specs.declared.fault.EditFault.TheVariants.{EqualNames}
+use Rattle.commands.specs.Command.{Made, Command, clash_of, written, HoldsStreams}
+use Rattle.commands.specs.Left.{Seen, IsDone, Leaves, HasNumbers}
+use Rattle.commands.specs.Said.{Heard, Says}
+use Rattle.gain_edits.specs.Gain.{gain_command}
+use Rattle.gain_edits.specs.Undo.{undo_command}
+use Rattle.frame_edits.specs.Chosen.{cut_command, pack_command}
 use Rattle.listing.specs.Listing.{list_command}
 use Rattle.splitting.specs.Split.{split_at_command, split_by_command}
 use Rattle.joining.specs.Join.{join_command}
-use Rattle.job_words.specs.declared.jobs.Job.{Job}
-use Rattle.job_words.specs.declared.jobs.Job.TheVariants.{Help, Version, List as ListFile, Gain, Undo, Cut, Pack, SplitAt, SplitBy, Join}
-use Rattle.job_words.specs.Words.{word_at, words_from, job_of}
+use Rattle.job_words.specs.Asked.{Asked, Help, Version, ListFile, Gain, Undo, Cut, Pack, SplitAt, SplitBy, Join}
+use Rattle.job_words.specs.Words.{job_of}
 use Rattle.mp3_cli.specs.Texts.{status_of, fault_line, bad_word_line, help_text, version_text, GotLine}
 
 -- a text, whatever the files are
@@ -26,20 +25,21 @@ said_command text = record {
   always = Some text;
   makes = λ files. Ok (record { outputs = []; text = text });
   streams = λ files. [];
+  refuses = λ refusal. false;
 }
 
--- what a job is for the outside; the names in a job are places of words
-abbrev pub command_of : List (List ℕ) → Job → Command
-command_of words Help = said_command help_text
-command_of words Version = said_command version_text
-command_of words (ListFile input) = list_command (word_at words input)
-command_of words (Gain shift tags input output) = gain_command shift tags (word_at words input) (word_at words output)
-command_of words (Undo input output) = undo_command (word_at words input) (word_at words output)
-command_of words (Cut from to least input output) = cut_command from to least (word_at words input) (word_at words output)
-command_of words (Pack input output) = pack_command (word_at words input) (word_at words output)
-command_of words (SplitAt input prefix places) = split_at_command places.items (word_at words input) (word_at words prefix)
-command_of words (SplitBy input prefix sheet) = split_by_command (word_at words input) (word_at words sheet) (word_at words prefix)
-command_of words (Join output first count) = join_command (word_at words output) (words_from words first count)
+-- what is asked for, as a command
+abbrev pub command_of : Asked → Command
+command_of Help = said_command help_text
+command_of Version = said_command version_text
+command_of (ListFile input) = list_command input
+command_of (Gain shift tags input output) = gain_command shift tags input output
+command_of (Undo input output) = undo_command input output
+command_of (Cut from to least input output) = cut_command from to least input output
+command_of (Pack input output) = pack_command input output
+command_of (SplitAt input prefix places) = split_at_command places input prefix
+command_of (SplitBy input prefix sheet) = split_by_command input sheet prefix
+command_of (Join output inputs) = join_command output inputs
 
 -- ---- the answer of a command, whatever its folder tells
 
@@ -59,33 +59,42 @@ line_of command fault = result_line command.inputs command.outputs fault
 abbrev pub GetsLine : Heard → Heard → List ℕ → Type 0
 GetsLine old new line = GotLine old.sent new.sent old.faults new.faults line
 
+-- what can be seen of the outside at a moment: the folder, standard output and standard error
+pub record World : Type 0 where
+  pub folder : Seen
+  pub out : Heard
+  pub err : Heard
+
+abbrev pub world : Seen → Heard → Heard → World
+world folder out err = record { folder = folder; out = out; err = err }
+
 -- The command was done, or there is a fault with its status, its line, its cause and what it leaves. The line is there whole, or a
 -- prefix of it where a write failed; the text of the command is there where it was done. Equal names are found whatever else is at fault.
-pub record Answers (command : Command) (old new : Seen) (out_old out_new err_old err_new : Heard) (status : ℕ) : Type 0 where
+pub record Answers (command : Command) (old new : World) (status : ℕ) : Type 0 where
   pub fault : Option EditFault
   pub status_is : status ≡ fault_status fault
-  pub line : GetsLine err_old err_new (line_of command fault)
-  pub says : Says command old.files out_old out_new fault
-  pub done : fault ≡ None → IsDone command old new
-  pub left : IfSome fault (Leaves command old new)
+  pub line : GetsLine old.err new.err (line_of command fault)
+  pub says : Says command old.folder.files old.out new.out fault
+  pub done : fault ≡ None → IsDone command old.folder new.folder
+  pub left : IfSome fault (Leaves command old.folder new.folder)
   pub numbers : IfSome fault (HasNumbers command)
   pub names : (place : ℕ) → clash_of command ≡ Some place → fault ≡ Some (EqualNames place)
 
 -- bad words: their line is sent, and all else stays
-pub record AnswersBadWord (place : ℕ) (old new : Seen) (out_old out_new err_old err_new : Heard) (status : ℕ) : Type 0 where
+pub record AnswersBadWord (place : ℕ) (old new : World) (status : ℕ) : Type 0 where
   pub status_is : status ≡ 2
-  pub line : GetsLine err_old err_new (bad_word_line place)
-  pub silent : out_new ≡ out_old
-  pub stays : new ≡ old
+  pub line : GetsLine old.err new.err (bad_word_line place)
+  pub silent : new.out ≡ old.out
+  pub stays : new.folder ≡ old.folder
 
-abbrev pub AnswersWords : List (List ℕ) → Seen → Seen → Heard → Heard → Heard → Heard → ℕ → Result Job ℕ → Type 0
-AnswersWords words old new out_old out_new err_old err_new status (Ok job) = Answers (command_of words job) old new out_old out_new err_old err_new status
-AnswersWords words old new out_old out_new err_old err_new status (Err place) = AnswersBadWord place old new out_old out_new err_old err_new status
+abbrev pub AnswersWords : World → World → ℕ → Result Asked ℕ → Type 0
+AnswersWords old new status (Ok asked) = Answers (command_of asked) old new status
+AnswersWords old new status (Err place) = AnswersBadWord place old new status
 
 -- the text that the words ask for whatever the files are, where there is one
-abbrev pub always_of : List (List ℕ) → Result Job ℕ → Option (List ℕ)
-always_of words (Ok job) = (command_of words job).always
-always_of words (Err place) = None
+abbrev pub always_of : Result Asked ℕ → Option (List ℕ)
+always_of (Ok asked) = (command_of asked).always
+always_of (Err place) = None
 
 -- ---- the result, where the files are told
 
@@ -103,32 +112,32 @@ made_outcome command files (Err fault) = record { status = status_of fault; text
 abbrev pub command_outcome : Command → Contents → Outcome
 command_outcome command files = made_outcome command files (command.makes files)
 
-abbrev pub job_outcome : List (List ℕ) → Contents → Result Job ℕ → Outcome
-job_outcome words files (Ok job) = command_outcome (command_of words job) files
-job_outcome words files (Err place) = record { status = 2; text = []; line = bad_word_line place; files = files }
+abbrev pub job_outcome : Contents → Result Asked ℕ → Outcome
+job_outcome files (Ok asked) = command_outcome (command_of asked) files
+job_outcome files (Err place) = record { status = 2; text = []; line = bad_word_line place; files = files }
 
 -- what these words make of these files
 unfoldable pub outcome : List (List ℕ) → Contents → Outcome
-outcome words files = job_outcome words files (job_of words)
+outcome words files = job_outcome files (job_of words)
 
 -- all is as defined: the status, the files, what standard output got, and the line that standard error got, or a prefix of it where a
 -- write failed there
-pub record IsOutcome (o : Outcome) (status : ℕ) (files : Files) (out_old out_new err_old err_new : Heard) : Type 0 where
+pub record IsOutcome (o : Outcome) (old new : World) (status : ℕ) : Type 0 where
   pub status_is : status ≡ o.status
-  pub files_are : files ≡ Some o.files
-  pub text_is : out_new.sent ≡ sent_more out_old.sent o.text
-  pub line_is : GetsLine err_old err_new o.line
+  pub files_are : new.folder.files ≡ Some o.files
+  pub text_is : new.out.sent ≡ sent_more old.out.sent o.text
+  pub line_is : GetsLine old.err new.err o.line
 
-abbrev pub IsAcceptedBy : List (List ℕ) → Contents → Result Job ℕ → Type 0
-IsAcceptedBy words files (Ok job) = (made : Made) × ((command_of words job).makes files ≡ Ok made)
-IsAcceptedBy words files (Err place) = ⊥
+abbrev pub IsAcceptedBy : Contents → Result Asked ℕ → Type 0
+IsAcceptedBy files (Ok asked) = (made : Made) × ((command_of asked).makes files ≡ Ok made)
+IsAcceptedBy files (Err place) = ⊥
 
 -- the words ask for a command, and it isn't refused
 abbrev pub IsAccepted : List (List ℕ) → Contents → Type 0
-IsAccepted words files = IsAcceptedBy words files (job_of words)
+IsAccepted words files = IsAcceptedBy files (job_of words)
 
 -- ---- the streams
 
 -- the streams of what the words ask for
 abbrev pub HoldsAllStreams : List (List ℕ) → Files → Type 0
-HoldsAllStreams words files = IfOk (job_of words) (λ job. HoldsStreams (command_of words job) files)
+HoldsAllStreams words files = IfOk (job_of words) (λ asked. HoldsStreams (command_of asked) files)

@@ -1,19 +1,21 @@
 -- The status and the line of each fault, and what a sink got of a line.
-use Rattle.std.specs.Prelude.{◌≡◌, ◌≢◌, ◌⊎◌, ℕ, ◌/◌, ◌%◌, ◌≤◌, List, [], ◌∷◌, ◌++◌, length, take, slice_index, codes, decimal}
-use Rattle.std.specs.Fmt.{signed_decimal}
+use Rattle.std.specs.Prelude.{◌≡◌, ◌⊎◌, ℕ, ◌≤◌, List, [], ◌∷◌, ◌++◌, length, take, codes}
 use Rattle.outside.specs.Files.{Sent, sent_more}
 use Rattle.outside.specs.Counts.{Rose}
 use Rattle.mp3_cli.specs.Names.{name_in}
-use Rattle.edits.specs.Left.{Why, Refused, NoMemory, why_of}
+use Rattle.mp3_cli.specs.Lines.{Part, Text, Number, Signed, Hexadecimal, Name, spelled}
+use Rattle.commands.specs.Left.{Why, Rejected, NoMemory, why_of}
 use Rattle.sync_survey.specs.declared.survey_fault.SurveyFault.{SurveyFault}
 use Rattle.sync_survey.specs.declared.survey_fault.SurveyFault.TheVariants.{Absent, TooLong, NoFrame, LostSync, Truncated, FreeFormat, Mixed, CheckWord, BackPointer, Overlap, Overrun, TooManyFrames, Shrunk, Read, Memory}
 use Rattle.cue_sheet.specs.declared.cue_fault.CueFault.{CueFault}
 use Rattle.cue_sheet.specs.declared.cue_fault.CueFault.TheVariants.{Line, NotRising, NoTracks, Memory as NoSheetMemory}
-use Rattle.edits.specs.declared.fault.EditFault.{EditFault}
-use Rattle.edits.specs.declared.fault.EditFault.TheVariants.{EqualNames, Input, GainRange, Mono, Joint, TagTooLarge, BadTag, NoUndo, BadUndo, UndoRange, OutputTooLong, Range, Differ, SheetTooLarge, Sheet, Write, Sent as NotSent, Memory as OutOfMemory}
+use Rattle.commands.specs.declared.fault.EditFault.{EditFault}
+use Rattle.commands.specs.declared.fault.EditFault.TheVariants.{EqualNames, Input, Refused, Write, Sent as NotSent, Memory as OutOfMemory}
+use Rattle.commands.specs.declared.fault.Refusal.{Refusal}
+use Rattle.commands.specs.declared.fault.Refusal.TheVariants.{GainRange, Mono, Joint, TagTooLarge, BadTag, NoUndo, BadUndo, UndoRange, OutputTooLong, Range, Differ, SheetTooLarge, Sheet}
 
 abbrev pub status_by : Why → ℕ
-status_by Refused = 1
+status_by Rejected = 1
 status_by NoMemory = 4
 status_by _ = 3
 
@@ -21,70 +23,76 @@ status_by _ = 3
 abbrev pub status_of : EditFault → ℕ
 status_of fault = status_by (why_of fault)
 
--- a number below 16 as a hexadecimal digit, and a word as four of them
-abbrev pub hex_digit : ℕ → ℕ
-hex_digit n = slice_index (codes "0123456789abcdef") n
+-- the parts of the line of a fault of the input, behind its name
+abbrev pub input_parts : SurveyFault → List Part
+input_parts Absent = Text (codes ": absent\n") ∷ []
+input_parts (TooLong size) = Text (codes ": too long, ") ∷ Number size ∷ Text (codes " bytes\n") ∷ []
+input_parts (NoFrame at) = Text (codes ": no frame at ") ∷ Number at ∷ Text (codes "\n") ∷ []
+input_parts (LostSync at) = Text (codes ": lost synchronisation at ") ∷ Number at ∷ Text (codes "\n") ∷ []
+input_parts (Truncated at) = Text (codes ": truncated at ") ∷ Number at ∷ Text (codes "\n") ∷ []
+input_parts (FreeFormat at) = Text (codes ": free format at ") ∷ Number at ∷ Text (codes "\n") ∷ []
+input_parts (Mixed at) = Text (codes ": mixed class at ") ∷ Number at ∷ Text (codes "\n") ∷ []
+input_parts (CheckWord at said right) =
+    Text (codes ": check word at ") ∷ Number at ∷ Text (codes " is ") ∷ Hexadecimal said ∷ Text (codes ", right is ") ∷ Hexadecimal right
+    ∷ Text (codes "\n") ∷ []
+input_parts (BackPointer at begin present) =
+    Text (codes ": back pointer at ") ∷ Number at ∷ Text (codes " is ") ∷ Number begin ∷ Text (codes ", present ") ∷ Number present
+    ∷ Text (codes "\n") ∷ []
+input_parts (Overlap at) = Text (codes ": overlap at ") ∷ Number at ∷ Text (codes "\n") ∷ []
+input_parts (Overrun at bits room) =
+    Text (codes ": overrun at ") ∷ Number at ∷ Text (codes ", bits ") ∷ Number bits ∷ Text (codes ", room ") ∷ Number room ∷ Text (codes "\n") ∷ []
+input_parts (TooManyFrames at) = Text (codes ": too many frames at ") ∷ Number at ∷ Text (codes "\n") ∷ []
+input_parts (Shrunk first second) = Text (codes ": shrunk from ") ∷ Number first ∷ Text (codes " to ") ∷ Number second ∷ Text (codes "\n") ∷ []
+input_parts Read = Text (codes ": read fault\n") ∷ []
+-- want of memory is a fault of its own, and none of an input
+input_parts Memory = []
 
-abbrev pub hex_word : ℕ → List ℕ
-hex_word word = hex_digit (word / 4096 % 16) ∷ hex_digit (word / 256 % 16) ∷ hex_digit (word / 16 % 16) ∷ hex_digit (word % 16) ∷ []
+-- those of a fault of a cue sheet, behind its name
+abbrev pub sheet_parts : CueFault → List Part
+sheet_parts (Line number) = Text (codes ": bad line ") ∷ Number number ∷ Text (codes "\n") ∷ []
+sheet_parts (NotRising number) = Text (codes ": not rising at line ") ∷ Number number ∷ Text (codes "\n") ∷ []
+sheet_parts NoTracks = Text (codes ": no tracks\n") ∷ []
+-- nor of a cue sheet
+sheet_parts NoSheetMemory = []
 
--- the line of a fault of the input, behind its name
-abbrev pub input_text : SurveyFault → List ℕ
-input_text Absent = codes ": absent\n"
-input_text (TooLong size) = codes ": too long, " ++ decimal size ++ codes " bytes\n"
-input_text (NoFrame at) = codes ": no frame at " ++ decimal at ++ codes "\n"
-input_text (LostSync at) = codes ": lost synchronisation at " ++ decimal at ++ codes "\n"
-input_text (Truncated at) = codes ": truncated at " ++ decimal at ++ codes "\n"
-input_text (FreeFormat at) = codes ": free format at " ++ decimal at ++ codes "\n"
-input_text (Mixed at) = codes ": mixed class at " ++ decimal at ++ codes "\n"
-input_text (CheckWord at said right) = codes ": check word at " ++ decimal at ++ codes " is " ++ hex_word said ++ codes ", right is " ++ hex_word right ++ codes "\n"
-input_text (BackPointer at begin present) = codes ": back pointer at " ++ decimal at ++ codes " is " ++ decimal begin ++ codes ", present " ++ decimal present ++ codes "\n"
-input_text (Overlap at) = codes ": overlap at " ++ decimal at ++ codes "\n"
-input_text (Overrun at bits room) = codes ": overrun at " ++ decimal at ++ codes ", bits " ++ decimal bits ++ codes ", room " ++ decimal room ++ codes "\n"
-input_text (TooManyFrames at) = codes ": too many frames at " ++ decimal at ++ codes "\n"
-input_text (Shrunk first second) = codes ": shrunk from " ++ decimal first ++ codes " to " ++ decimal second ++ codes "\n"
-input_text Read = codes ": read fault\n"
-input_text Memory = []
+-- those of a refusal, by the names of the inputs; a cue sheet is input 1
+abbrev pub refusal_parts : Refusal → List (List ℕ) → List Part
+refusal_parts (GainRange offset granule channel gain) inputs =
+    Text (codes "gain ") ∷ Number gain ∷ Text (codes " out of range at ") ∷ Number offset ∷ Text (codes ", granule ") ∷ Number granule
+    ∷ Text (codes ", channel ") ∷ Number channel ∷ Text (codes "\n") ∷ []
+refusal_parts Mono inputs = Text (codes "one channel only\n") ∷ []
+refusal_parts (Joint offset) inputs = Text (codes "joint stereo at ") ∷ Number offset ∷ Text (codes "\n") ∷ []
+refusal_parts (TagTooLarge length) inputs = Text (codes "tag too large, ") ∷ Number length ∷ Text (codes "\n") ∷ []
+refusal_parts (BadTag offset) inputs = Text (codes "bad tag at ") ∷ Number offset ∷ Text (codes "\n") ∷ []
+refusal_parts NoUndo inputs = Text (codes "no undo item\n") ∷ []
+refusal_parts (BadUndo offset) inputs = Text (codes "bad undo item at ") ∷ Number offset ∷ Text (codes "\n") ∷ []
+refusal_parts (UndoRange sum) inputs = Text (codes "undo sum ") ∷ Signed sum ∷ Text (codes " is out of range\n") ∷ []
+refusal_parts (OutputTooLong length) inputs = Text (codes "output too long, ") ∷ Number length ∷ Text (codes " bytes\n") ∷ []
+refusal_parts (Range from to frames) inputs =
+    Text (codes "range ") ∷ Number from ∷ Text (codes " to ") ∷ Number to ∷ Text (codes " of ") ∷ Number frames ∷ Text (codes " frames\n") ∷ []
+refusal_parts (Differ place) inputs = Name (name_in inputs place) ∷ Text (codes ": other class than the first input\n") ∷ []
+refusal_parts (SheetTooLarge size) inputs = Name (name_in inputs 1) ∷ Text (codes ": sheet too large, ") ∷ Number size ∷ Text (codes " bytes\n") ∷ []
+refusal_parts (Sheet fault) inputs = Name (name_in inputs 1) ∷ sheet_parts fault
 
--- the line of a fault of a cue sheet, behind its name
-abbrev pub sheet_text : CueFault → List ℕ
-sheet_text (Line number) = codes ": bad line " ++ decimal number ++ codes "\n"
-sheet_text (NotRising number) = codes ": not rising at line " ++ decimal number ++ codes "\n"
-sheet_text NoTracks = codes ": no tracks\n"
-sheet_text NoSheetMemory = []
+-- those of a fault, by the names of the inputs and of the outputs
+abbrev pub fault_parts : EditFault → List (List ℕ) → List (List ℕ) → List Part
+fault_parts (EqualNames place) inputs outputs = Name (name_in inputs place) ∷ Text (codes ": input is an output\n") ∷ []
+fault_parts (Input place fault) inputs outputs = Name (name_in inputs place) ∷ input_parts fault
+fault_parts (Refused refusal) inputs outputs = refusal_parts refusal inputs
+fault_parts (Write place) inputs outputs = Name (name_in outputs place) ∷ Text (codes ": write fault\n") ∷ []
+fault_parts NotSent inputs outputs = Text (codes "standard output: write fault\n") ∷ []
+fault_parts OutOfMemory inputs outputs = Text (codes "out of memory\n") ∷ []
 
--- the line of a fault, by the names of the inputs and of the outputs; a cue sheet is input 1
-unfoldable pub fault_line : EditFault → List (List ℕ) → List (List ℕ) → List ℕ
-fault_line (EqualNames place) inputs outputs = name_in inputs place ++ codes ": input is an output\n"
-fault_line (Input place fault) inputs outputs = name_in inputs place ++ input_text fault
-fault_line (GainRange offset granule channel gain) inputs outputs =
-    codes "gain " ++ decimal gain ++ codes " out of range at " ++ decimal offset
-    ++ codes ", granule " ++ decimal granule ++ codes ", channel " ++ decimal channel ++ codes "\n"
-fault_line Mono inputs outputs = codes "one channel only\n"
-fault_line (Joint offset) inputs outputs = codes "joint stereo at " ++ decimal offset ++ codes "\n"
-fault_line (TagTooLarge length) inputs outputs = codes "tag too large, " ++ decimal length ++ codes "\n"
-fault_line (BadTag offset) inputs outputs = codes "bad tag at " ++ decimal offset ++ codes "\n"
-fault_line NoUndo inputs outputs = codes "no undo item\n"
-fault_line (BadUndo offset) inputs outputs = codes "bad undo item at " ++ decimal offset ++ codes "\n"
-fault_line (UndoRange sum) inputs outputs = codes "undo sum " ++ signed_decimal sum ++ codes " is out of range\n"
-fault_line (OutputTooLong length) inputs outputs = codes "output too long, " ++ decimal length ++ codes " bytes\n"
-fault_line (Range from to frames) inputs outputs = codes "range " ++ decimal from ++ codes " to " ++ decimal to ++ codes " of " ++ decimal frames ++ codes " frames\n"
-fault_line (Differ place) inputs outputs = name_in inputs place ++ codes ": other class than the first input\n"
-fault_line (SheetTooLarge size) inputs outputs = name_in inputs 1 ++ (codes ": sheet too large, " ++ decimal size ++ codes " bytes\n")
-fault_line (Sheet fault) inputs outputs = name_in inputs 1 ++ sheet_text fault
-fault_line (Write place) inputs outputs = name_in outputs place ++ codes ": write fault\n"
-fault_line NotSent inputs outputs = codes "standard output: write fault\n"
-fault_line OutOfMemory inputs outputs = codes "out of memory\n"
-
--- want of memory is a fault of its own, and none of an input or a cue sheet
-abbrev pub HasLine : EditFault → Type 0
-HasLine (Input place fault) = fault ≢ Memory
-HasLine (Sheet fault) = fault ≢ NoSheetMemory
-HasLine _ = Unit {0}
+-- the line of a fault
+abbrev pub fault_line : EditFault → List (List ℕ) → List (List ℕ) → List ℕ
+fault_line fault inputs outputs = spelled (fault_parts fault inputs outputs)
 
 -- the line of a bad word, by its place counted from 1
-unfoldable pub bad_word_line : ℕ → List ℕ
-bad_word_line place = codes "bad word " ++ decimal place ++ codes "\n"
+abbrev pub bad_word_parts : ℕ → List Part
+bad_word_parts place = Text (codes "bad word ") ∷ Number place ∷ Text (codes "\n") ∷ []
+
+abbrev pub bad_word_line : ℕ → List ℕ
+bad_word_line place = spelled (bad_word_parts place)
 
 -- what the program does, form by form, and the statuses
 unfoldable pub help_text : List ℕ

@@ -2,6 +2,7 @@
 #![tactic(auto)]
 
 mod output_names;
+mod parts;
 mod program;
 mod texts;
 

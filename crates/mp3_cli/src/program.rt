@@ -1,23 +1,22 @@
 //! All that the program does.
-ghost use Rattle.std.specs.Prelude.{◌≡◌, ◌≢◌, ◌↔◌, ◌≤◌, ℕ, [], ◌∷◌, Some, Ok, length, map, string_bytes, IfSome, IfErr, IsErr};
+ghost use Rattle.std.specs.Prelude.{◌≡◌, ◌≢◌, ◌↔◌, ◌≤◌, ℕ, [], ◌∷◌, Some, Ok, length, map, string_bytes, IfSome, IsErr};
 ghost use Rattle.outside.specs.Files.{Contents, sent_more};
 ghost use Rattle.outside.specs.Counts.{Rose, NoneFell};
-ghost use Rattle.edits.specs.Command.{HoldsStreams};
-ghost use Rattle.edits.specs.Left.{seen};
-ghost use Rattle.edits.specs.Said.{heard, fault_of};
+ghost use Rattle.commands.specs.Command.{HoldsStreams};
+ghost use Rattle.commands.specs.Left.{seen};
+ghost use Rattle.commands.specs.Said.{heard, fault_of};
 ghost use Rattle.job_words.specs.Words.{job_of, IsSound};
+ghost use Rattle.job_words.specs.Code.{asked};
 ghost use Rattle.mp3_cli.specs.Names.{names_in};
-ghost use Rattle.mp3_cli.specs.Texts.{GotLine, HasLine};
-ghost use Rattle.mp3_cli.specs.Run.{command_of, always_of, fault_status, result_line, Answers, AnswersWords, outcome, IsOutcome, IsAccepted, HoldsAllStreams};
+ghost use Rattle.mp3_cli.specs.Texts.{GotLine};
+ghost use Rattle.mp3_cli.specs.Run.{command_of, always_of, fault_status, result_line, world, Answers, AnswersWords, outcome, IsOutcome, IsAccepted, HoldsAllStreams};
 
 use crate::output_names::Outputs;
 use crate::texts::{say_help, say_version, send_bad_word, send_fault, status};
-use edits::{EditFault, cut, gain, pack, undo};
-use job_words::{Job, job, names_of, word_at, words_from};
-use joining::join;
-use listing::list;
+use arrayvec::ArrayVec;
+use edits::{EditFault, Points, cut, gain, join, list, pack, split, undo};
+use job_words::{Job, job};
 use outside::{Folder, Sink};
-use splitting::{split_at, split_by};
 use std::alloc::Global;
 
 /// Reports how a command ended, and answers its status.
@@ -27,7 +26,6 @@ fn report<E: Sink>(
     inputs: &[&str],
     outputs: &Outputs,
 ) -> u8
-    requires { IfErr done HasLine }
     ensures status { result ≡ fault_status (fault_of done) }
     ensures line { GotLine (E.sent err.old) (E.sent err.new) (E.faults err.old) (E.faults err.new)
         (result_line (map (λ name. name.now) inputs.now) (names_in outputs.now) (fault_of done)) }
@@ -41,20 +39,34 @@ fn report<E: Sink>(
     }
 }
 
+// The words as names.
+fn names_of(words: &[String]) -> ArrayVec<&str, 64>
+    requires { length words.now ≤ 64 }
+    ensures { map (λ name. name.now) result.items ≡ map string_bytes words.now }
+{
+    let mut names = ArrayVec::new();
+    for word in words {
+        names.push(word.as_str());
+    }
+    names
+}
+
 /// Does what the job asks for, and answers the status.
 fn run_job<D: Folder, T: Sink, E: Sink>(
     alloc: Global,
-    words: &[String],
     job: Job,
     folder: &mut D,
     out: &mut T,
     err: &mut E,
 ) -> u8
-    requires sound { IsSound (map string_bytes words.now) job }
-    ensures answers { Answers (command_of (map string_bytes words.now) job) (seen (D.files folder.old) (D.counts folder.old)) (seen (D.files folder.new) (D.counts folder.new))
-        (heard (T.sent out.old) (T.faults out.old)) (heard (T.sent out.new) (T.faults out.new)) (heard (E.sent err.old) (E.faults err.old)) (heard (E.sent err.new) (E.faults err.new)) result }
-    ensures streams { result ≡ 0 → HoldsStreams (command_of (map string_bytes words.now) job)
-        (D.files folder.old) }
+    requires sound { IsSound (asked job) }
+    ensures answers { Answers (command_of (asked job.entry))
+        (world (seen (D.files folder.old) (D.counts folder.old))
+        (heard (T.sent out.old) (T.faults out.old)) (heard (E.sent err.old) (E.faults err.old)))
+        (world (seen (D.files folder.new) (D.counts folder.new))
+        (heard (T.sent out.new) (T.faults out.new)) (heard (E.sent err.new) (E.faults err.new)))
+        result }
+    ensures streams { result ≡ 0 → HoldsStreams (command_of (asked job.entry)) (D.files folder.old) }
     ensures counts { NoneFell (D.counts folder.old) (D.counts folder.new) }
 {
     match job {
@@ -67,7 +79,6 @@ fn run_job<D: Folder, T: Sink, E: Sink>(
             report(err, done, &[], &Outputs::None)
         }
         Job::List { input } => {
-            let input = word_at(words, input);
             let done = list(alloc, folder, input, out);
             report(err, done, &[input], &Outputs::None)
         }
@@ -77,14 +88,10 @@ fn run_job<D: Folder, T: Sink, E: Sink>(
             input,
             output,
         } => {
-            let input = word_at(words, input);
-            let output = word_at(words, output);
             let done = gain(alloc, folder, input, output, &shift, tags);
             report(err, done, &[input], &Outputs::One(output))
         }
         Job::Undo { input, output } => {
-            let input = word_at(words, input);
-            let output = word_at(words, output);
             let done = undo(alloc, folder, input, output);
             report(err, done, &[input], &Outputs::One(output))
         }
@@ -95,14 +102,10 @@ fn run_job<D: Folder, T: Sink, E: Sink>(
             input,
             output,
         } => {
-            let input = word_at(words, input);
-            let output = word_at(words, output);
             let done = cut(alloc, folder, input, &from, &to, least, output);
             report(err, done, &[input], &Outputs::One(output))
         }
         Job::Pack { input, output } => {
-            let input = word_at(words, input);
-            let output = word_at(words, output);
             let done = pack(alloc, folder, input, output);
             report(err, done, &[input], &Outputs::One(output))
         }
@@ -111,9 +114,8 @@ fn run_job<D: Folder, T: Sink, E: Sink>(
             prefix,
             places,
         } => {
-            let input = word_at(words, input);
-            let prefix = word_at(words, prefix);
-            let done = split_at(alloc, folder, input, places.as_slice(), prefix);
+            let points = Points::Places(places.as_slice());
+            let done = split(alloc, folder, input, &points, prefix);
             report(err, done, &[input], &Outputs::Pieces(prefix))
         }
         Job::SplitBy {
@@ -121,19 +123,10 @@ fn run_job<D: Folder, T: Sink, E: Sink>(
             prefix,
             sheet,
         } => {
-            let input = word_at(words, input);
-            let prefix = word_at(words, prefix);
-            let sheet = word_at(words, sheet);
-            let done = split_by(alloc, folder, input, sheet, prefix);
+            let done = split(alloc, folder, input, &Points::Sheet(sheet), prefix);
             report(err, done, &[input, sheet], &Outputs::Pieces(prefix))
         }
-        Job::Join {
-            output,
-            first,
-            count,
-        } => {
-            let output = word_at(words, output);
-            let inputs = words_from(words, first, count);
+        Job::Join { output, inputs } => {
             let done = join(alloc, folder, output, inputs);
             let names = names_of(inputs);
             report(err, done, names.as_slice(), &Outputs::One(output))
@@ -161,16 +154,27 @@ pub fn run<D: Folder, T: Sink, E: Sink>(
 
     // Over every folder, told or not: the command was done, or a fault has its status, its line with its
     // numbers, its cause and what it leaves.
-    ensures answers { AnswersWords (map string_bytes words.now) (seen (D.files folder.old) (D.counts folder.old)) (seen (D.files folder.new) (D.counts folder.new))
-        (heard (T.sent out.old) (T.faults out.old)) (heard (T.sent out.new) (T.faults out.new)) (heard (E.sent err.old) (E.faults err.old)) (heard (E.sent err.new) (E.faults err.new)) result (job_of (map string_bytes words.now)) }
+    ensures answers { AnswersWords
+        (world (seen (D.files folder.old) (D.counts folder.old))
+        (heard (T.sent out.old) (T.faults out.old)) (heard (E.sent err.old) (E.faults err.old)))
+        (world (seen (D.files folder.new) (D.counts folder.new))
+        (heard (T.sent out.new) (T.faults out.new)) (heard (E.sent err.new) (E.faults err.new)))
+        result (job_of (map string_bytes words.now)) }
 
     // With status 0, 1 or 2 all is as defined, whether or not a call failed.
-    ensures defined { result ≤ 2 → IfSome (D.files folder.old) (λ files. IsOutcome (outcome (map string_bytes words.now) files) result (D.files folder.new)
-        (heard (T.sent out.old) (T.faults out.old)) (heard (T.sent out.new) (T.faults out.new)) (heard (E.sent err.old) (E.faults err.old)) (heard (E.sent err.new) (E.faults err.new))) }
+    ensures defined { result ≤ 2 → IfSome (D.files folder.old) (λ files.
+        IsOutcome (outcome (map string_bytes words.now) files)
+        (world (seen (D.files folder.old) (D.counts folder.old))
+        (heard (T.sent out.old) (T.faults out.old)) (heard (E.sent err.old) (E.faults err.old)))
+        (world (seen (D.files folder.new) (D.counts folder.new))
+        (heard (T.sent out.new) (T.faults out.new)) (heard (E.sent err.new) (E.faults err.new)))
+        result) }
 
     // Where no call of the folder failed, nor a write to `out`, and memory was found, exactly the legal commands are done.
-    ensures accepted { (files : Contents) → D.files folder.old ≡ Some files → (Rose (D.counts folder.old).read_faults (D.counts folder.new).read_faults → ⊥)
-        → (Rose (D.counts folder.old).write_faults (D.counts folder.new).write_faults → ⊥) → (Rose (T.faults out.old) (T.faults out.new) → ⊥) → result ≢ 4
+    ensures accepted { (files : Contents) → D.files folder.old ≡ Some files
+        → (Rose (D.counts folder.old).read_faults (D.counts folder.new).read_faults → ⊥)
+        → (Rose (D.counts folder.old).write_faults (D.counts folder.new).write_faults → ⊥)
+        → (Rose (T.faults out.old) (T.faults out.new) → ⊥) → result ≢ 4
         → ((result ≡ 0) ↔ IsAccepted (map string_bytes words.now) files) }
 
     // What is written is well-formed, and holds exactly the streams that the command has to make of well-formed files.
@@ -188,8 +192,7 @@ pub fn run<D: Folder, T: Sink, E: Sink>(
     // Standard output gets a text only where the command was done, or a write there failed. Where the text is the same whatever the
     // files are, it gets it over every folder: that of `--help` and `--version`, and none of the commands that write a file.
     ensures silent { result ≢ 0 → result ≢ 3 → T.sent out.new ≡ T.sent out.old }
-    ensures text { result ≡ 0 → IfSome (always_of (map string_bytes words.now)
-        (job_of (map string_bytes words.now)))
+    ensures text { result ≡ 0 → IfSome (always_of (job_of (map string_bytes words.now)))
         (λ text. T.sent out.new ≡ sent_more (T.sent out.old) text) }
     ensures counts { NoneFell (D.counts folder.old) (D.counts folder.new) }
 {
@@ -198,6 +201,6 @@ pub fn run<D: Folder, T: Sink, E: Sink>(
             send_bad_word(err, word);
             2
         }
-        Ok(job) => run_job(alloc, words, job, folder, out, err),
+        Ok(job) => run_job(alloc, job, folder, out, err),
     }
 }

@@ -1,16 +1,17 @@
-//! The statuses that the program ends with, and the lines that it writes of faults.
-ghost use Rattle.std.specs.Prelude.{◌≡◌, ◌≢◌, ◌≤◌, OnOk, OnErr, IfErr, map, ◌%◌, [], ◌∷◌, ◌++◌, decimal, flat_map};
-ghost use Rattle.mp3_cli.specs.Texts.{status_of, hex_digit as hex_digit_lem, input_text, sheet_text, fault_line, bad_word_line, help_text, version_text, HasLine, GotWhole, GotFront, GotLine};
+//! The statuses that the program ends with, and the texts and lines that it writes.
+ghost use Rattle.std.specs.Prelude.{◌≡◌, ◌∷◌, IfErr, map, flat_map};
+ghost use Rattle.mp3_cli.specs.Lines.{Name, part_of};
+ghost use Rattle.mp3_cli.specs.Texts.{status_of, input_parts as input_parts_lem, sheet_parts as sheet_parts_lem, refusal_parts as refusal_parts_lem, fault_parts as fault_parts_lem, fault_line, bad_word_line, help_text, version_text, GotLine};
 ghost use Rattle.mp3_cli.specs.Names.{name_in as name_in_lem, names_in};
 ghost use Rattle.mp3_cli.specs.Run.{said_command};
 ghost use Rattle.outside.specs.Files.{Files};
-ghost use Rattle.edits.specs.Said.{heard, Says, fault_of};
+ghost use Rattle.commands.specs.Said.{heard, Says, fault_of};
 
 use crate::output_names::Outputs;
+use crate::parts::{Line, Part, line, send_line, send_text, text_line};
 use cue_sheet::CueFault;
-use edits::EditFault;
-use itoa::Buffer;
-use outside::{Failed, Sink, send_all};
+use edits::{EditFault, Refusal};
+use outside::{Failed, Sink};
 use sync_survey::SurveyFault;
 
 /// The status of a fault of an input: 3 where it isn't there, can't be read or became shorter, else 1.
@@ -30,46 +31,11 @@ pub fn status(fault: &EditFault) -> u8
     ensures { result ≡ status_of fault.now }
 {
     match fault {
-        EditFault::EqualNames(_)
-        | EditFault::GainRange(..)
-        | EditFault::Mono
-        | EditFault::Joint(_)
-        | EditFault::TagTooLarge(_)
-        | EditFault::BadTag(_)
-        | EditFault::NoUndo
-        | EditFault::BadUndo(_)
-        | EditFault::UndoRange(_)
-        | EditFault::OutputTooLong(_)
-        | EditFault::Range(..)
-        | EditFault::Differ(_)
-        | EditFault::SheetTooLarge(_)
-        | EditFault::Sheet(_) => 1,
+        EditFault::EqualNames(_) | EditFault::Refused(_) => 1,
         EditFault::Input(_, fault) => input_status(fault),
         EditFault::Write(_) | EditFault::Sent => 3,
         EditFault::Memory => 4,
     }
-}
-
-// Sends the pieces one after another, and stops at the first that fails.
-fn send_text<T: Sink>(sink: &mut T, pieces: &[&str]) -> Result<(), Failed>
-    ensures whole { OnOk result (GotWhole (T.sent sink.old) (T.sent sink.new) (T.faults sink.old)
-        (T.faults sink.new) (flat_map (λ piece. piece.now) pieces.now)) }
-    ensures front { OnErr result (GotFront (T.sent sink.old) (T.sent sink.new) (T.faults sink.old)
-        (T.faults sink.new) (flat_map (λ piece. piece.now) pieces.now)) }
-    ensures later { T.faults sink.old ≤ T.faults sink.new }
-{
-    for piece in pieces {
-        send_all(sink, piece.as_bytes())?;
-    }
-    Ok(())
-}
-
-// Sends the pieces of a line. A write that fails is not answered.
-fn send_pieces<E: Sink>(err: &mut E, pieces: &[&str])
-    ensures { GotLine (E.sent err.old) (E.sent err.new) (E.faults err.old) (E.faults err.new)
-        (flat_map (λ piece. piece.now) pieces.now) }
-{
-    let _ = send_text(err, pieces);
 }
 
 /// What the program does, form by form, and the statuses.
@@ -140,228 +106,224 @@ pub fn say_version<T: Sink>(out: &mut T) -> Result<(), EditFault>
     say(out, &["mp3edit 0.1.0\n"])
 }
 
-fn send_gain_range<E: Sink>(err: &mut E, offset: u64, granule: u8, channel: u8, gain: u8)
-    ensures { GotLine (E.sent err.old) (E.sent err.new) (E.faults err.old) (E.faults err.new)
-        (fault_line (EditFault.GainRange offset granule channel gain) [] []) }
-{
-    send_pieces(
-        err,
-        &[
-            "gain ",
-            Buffer::new().format(gain),
-            " out of range at ",
-            Buffer::new().format(offset),
-            ", granule ",
-            Buffer::new().format(granule),
-            ", channel ",
-            Buffer::new().format(channel),
-            "\n",
-        ],
-    );
-}
-
-fn send_range<E: Sink>(err: &mut E, from: u64, to: u64, frames: u64)
-    ensures { GotLine (E.sent err.old) (E.sent err.new) (E.faults err.old) (E.faults err.new)
-        (fault_line (EditFault.Range from to frames) [] []) }
-{
-    send_pieces(
-        err,
-        &[
-            "range ",
-            Buffer::new().format(from),
-            " to ",
-            Buffer::new().format(to),
-            " of ",
-            Buffer::new().format(frames),
-            " frames\n",
-        ],
-    );
-}
-
-fn send_undo_range<E: Sink>(err: &mut E, sum: i32)
-    ensures { GotLine (E.sent err.old) (E.sent err.new) (E.faults err.old) (E.faults err.new)
-        (fault_line (EditFault.UndoRange sum) [] []) }
-{
-    send_pieces(
-        err,
-        &["undo sum ", Buffer::new().format(sum), " is out of range\n"],
-    );
-}
-
-/// The digits of hexadecimal numbers.
-static HEX_DIGITS: [&str; 16] = [
-    "0", "1", "2", "3", "4", "5", "6", "7", "8", "9", "a", "b", "c", "d", "e", "f",
-];
-
-/// The last hexadecimal digit of a number.
-fn hex_digit<'a>(number: u16) -> &'a str
-    ensures { result.now ≡ hex_digit_lem (number % 16) ∷ [] }
-{
-    HEX_DIGITS[usize::from(number % 16)]
-}
-
-fn send_check_word<E: Sink>(err: &mut E, input: &str, at: u64, said: u16, right: u16)
-    ensures { GotLine (E.sent err.old) (E.sent err.new) (E.faults err.old) (E.faults err.new)
-        (input.now ++ input_text (SurveyFault.CheckWord at said right)) }
-{
-    send_pieces(
-        err,
-        &[
-            input,
-            ": check word at ",
-            Buffer::new().format(at),
-            " is ",
-            hex_digit(said >> 12),
-            hex_digit(said >> 8),
-            hex_digit(said >> 4),
-            hex_digit(said),
-            ", right is ",
-            hex_digit(right >> 12),
-            hex_digit(right >> 8),
-            hex_digit(right >> 4),
-            hex_digit(right),
-            "\n",
-        ],
-    );
-}
-
-/// Sends a line with one number.
-fn send_number<'a, E: Sink>(
-    err: &mut E,
-    input: &'a str,
-    before: &'a str,
-    number: u64,
-    behind: &'a str,
-)
-    ensures { GotLine (E.sent err.old) (E.sent err.new) (E.faults err.old) (E.faults err.new)
-        (input.now ++ (before.now ++ (decimal number ++ behind.now))) }
-{
-    send_pieces(err, &[input, before, Buffer::new().format(number), behind]);
-}
-
-fn send_back_pointer<E: Sink>(err: &mut E, input: &str, at: u64, begin: u32, present: u64)
-    ensures { GotLine (E.sent err.old) (E.sent err.new) (E.faults err.old) (E.faults err.new)
-        (input.now ++ input_text (SurveyFault.BackPointer at begin present)) }
-{
-    send_pieces(
-        err,
-        &[
-            input,
-            ": back pointer at ",
-            Buffer::new().format(at),
-            " is ",
-            Buffer::new().format(begin),
-            ", present ",
-            Buffer::new().format(present),
-            "\n",
-        ],
-    );
-}
-
-fn send_overrun<E: Sink>(err: &mut E, input: &str, at: u64, bits: u32, room: u32)
-    ensures { GotLine (E.sent err.old) (E.sent err.new) (E.faults err.old) (E.faults err.new)
-        (input.now ++ input_text (SurveyFault.Overrun at bits room)) }
-{
-    send_pieces(
-        err,
-        &[
-            input,
-            ": overrun at ",
-            Buffer::new().format(at),
-            ", bits ",
-            Buffer::new().format(bits),
-            ", room ",
-            Buffer::new().format(room),
-            "\n",
-        ],
-    );
-}
-
-fn send_shrunk<E: Sink>(err: &mut E, input: &str, first: u64, second: u64)
-    ensures { GotLine (E.sent err.old) (E.sent err.new) (E.faults err.old) (E.faults err.new)
-        (input.now ++ input_text (SurveyFault.Shrunk first second)) }
-{
-    send_pieces(
-        err,
-        &[
-            input,
-            ": shrunk from ",
-            Buffer::new().format(first),
-            " to ",
-            Buffer::new().format(second),
-            "\n",
-        ],
-    );
-}
-
-/// Sends the line of a fault of the input.
-fn send_input_fault<E: Sink>(err: &mut E, fault: &SurveyFault, input: &str)
-    requires { fault.now ≢ SurveyFault.Memory }
-    ensures { GotLine (E.sent err.old) (E.sent err.new) (E.faults err.old) (E.faults err.new)
-        (input.now ++ input_text fault.now) }
+// The parts of the line of a fault of the input with this name.
+fn input_parts<'a>(name: &'a str, fault: &SurveyFault) -> Line<'a>
+    ensures { map part_of result.items ≡ Name name.now ∷ input_parts_lem fault.now }
 {
     match *fault {
-        // Not an input's fault, so it never comes here.
-        SurveyFault::Memory => {}
-        SurveyFault::Absent => send_pieces(err, &[input, ": absent\n"]),
-        SurveyFault::Read => send_pieces(err, &[input, ": read fault\n"]),
-        SurveyFault::TooLong(size) => send_number(err, input, ": too long, ", size, " bytes\n"),
-        SurveyFault::NoFrame(at) => send_number(err, input, ": no frame at ", at, "\n"),
-        SurveyFault::LostSync(at) => {
-            send_number(err, input, ": lost synchronisation at ", at, "\n");
-        }
-        SurveyFault::Truncated(at) => send_number(err, input, ": truncated at ", at, "\n"),
-        SurveyFault::FreeFormat(at) => send_number(err, input, ": free format at ", at, "\n"),
-        SurveyFault::Mixed(at) => send_number(err, input, ": mixed class at ", at, "\n"),
-        SurveyFault::Overlap(at) => send_number(err, input, ": overlap at ", at, "\n"),
-        SurveyFault::TooManyFrames(at) => {
-            send_number(err, input, ": too many frames at ", at, "\n");
-        }
-        SurveyFault::CheckWord(at, said, right) => send_check_word(err, input, at, said, right),
-        SurveyFault::BackPointer(at, begin, present) => {
-            send_back_pointer(err, input, at, begin, present);
-        }
-        SurveyFault::Overrun(at, bits, room) => send_overrun(err, input, at, bits, room),
-        SurveyFault::Shrunk(first, second) => send_shrunk(err, input, first, second),
+        SurveyFault::Absent => line(&[Part::Name(name), Part::Text(": absent\n")]),
+        SurveyFault::TooLong(size) => line(&[
+            Part::Name(name),
+            Part::Text(": too long, "),
+            Part::Number(size),
+            Part::Text(" bytes\n"),
+        ]),
+        SurveyFault::NoFrame(at) => line(&[
+            Part::Name(name),
+            Part::Text(": no frame at "),
+            Part::Number(at),
+            Part::Text("\n"),
+        ]),
+        SurveyFault::LostSync(at) => line(&[
+            Part::Name(name),
+            Part::Text(": lost synchronisation at "),
+            Part::Number(at),
+            Part::Text("\n"),
+        ]),
+        SurveyFault::Truncated(at) => line(&[
+            Part::Name(name),
+            Part::Text(": truncated at "),
+            Part::Number(at),
+            Part::Text("\n"),
+        ]),
+        SurveyFault::FreeFormat(at) => line(&[
+            Part::Name(name),
+            Part::Text(": free format at "),
+            Part::Number(at),
+            Part::Text("\n"),
+        ]),
+        SurveyFault::Mixed(at) => line(&[
+            Part::Name(name),
+            Part::Text(": mixed class at "),
+            Part::Number(at),
+            Part::Text("\n"),
+        ]),
+        SurveyFault::CheckWord(at, said, right) => line(&[
+            Part::Name(name),
+            Part::Text(": check word at "),
+            Part::Number(at),
+            Part::Text(" is "),
+            Part::Hexadecimal(said),
+            Part::Text(", right is "),
+            Part::Hexadecimal(right),
+            Part::Text("\n"),
+        ]),
+        SurveyFault::BackPointer(at, begin, present) => line(&[
+            Part::Name(name),
+            Part::Text(": back pointer at "),
+            Part::Number(at),
+            Part::Text(" is "),
+            Part::Number(u64::from(begin)),
+            Part::Text(", present "),
+            Part::Number(present),
+            Part::Text("\n"),
+        ]),
+        SurveyFault::Overlap(at) => line(&[
+            Part::Name(name),
+            Part::Text(": overlap at "),
+            Part::Number(at),
+            Part::Text("\n"),
+        ]),
+        SurveyFault::Overrun(at, bits, room) => line(&[
+            Part::Name(name),
+            Part::Text(": overrun at "),
+            Part::Number(at),
+            Part::Text(", bits "),
+            Part::Number(u64::from(bits)),
+            Part::Text(", room "),
+            Part::Number(u64::from(room)),
+            Part::Text("\n"),
+        ]),
+        SurveyFault::TooManyFrames(at) => line(&[
+            Part::Name(name),
+            Part::Text(": too many frames at "),
+            Part::Number(at),
+            Part::Text("\n"),
+        ]),
+        SurveyFault::Shrunk(first, second) => line(&[
+            Part::Name(name),
+            Part::Text(": shrunk from "),
+            Part::Number(first),
+            Part::Text(" to "),
+            Part::Number(second),
+            Part::Text("\n"),
+        ]),
+        SurveyFault::Read => line(&[Part::Name(name), Part::Text(": read fault\n")]),
+        SurveyFault::Memory => line(&[Part::Name(name)]),
     }
 }
 
-/// Sends the line of a fault of a cue sheet.
-fn send_sheet_fault<E: Sink>(err: &mut E, fault: &CueFault, sheet: &str)
-    requires { fault.now ≢ CueFault.Memory }
-    ensures { GotLine (E.sent err.old) (E.sent err.new) (E.faults err.old) (E.faults err.new)
-        (sheet.now ++ sheet_text fault.now) }
+// The parts of the line of a fault of the cue sheet with this name.
+fn sheet_parts<'a>(name: &'a str, fault: &CueFault) -> Line<'a>
+    ensures { map part_of result.items ≡ Name name.now ∷ sheet_parts_lem fault.now }
 {
     match *fault {
-        // Not a sheet's fault, so it never comes here.
-        CueFault::Memory => {}
-        CueFault::NoTracks => send_pieces(err, &[sheet, ": no tracks\n"]),
-        CueFault::Line(number) => {
-            send_number(err, sheet, ": bad line ", u64::from(number), "\n");
-        }
-        CueFault::NotRising(number) => {
-            send_number(err, sheet, ": not rising at line ", u64::from(number), "\n");
-        }
+        CueFault::Line(number) => line(&[
+            Part::Name(name),
+            Part::Text(": bad line "),
+            Part::Number(u64::from(number)),
+            Part::Text("\n"),
+        ]),
+        CueFault::NotRising(number) => line(&[
+            Part::Name(name),
+            Part::Text(": not rising at line "),
+            Part::Number(u64::from(number)),
+            Part::Text("\n"),
+        ]),
+        CueFault::NoTracks => line(&[Part::Name(name), Part::Text(": no tracks\n")]),
+        CueFault::Memory => line(&[Part::Name(name)]),
     }
 }
 
-/// The name at a place, counted from 0.
+// The name at a place, counted from 0.
 fn name_in<'a>(names: &[&'a str], place: u32) -> &'a str
     ensures { result.now ≡ name_in_lem (map (λ name. name.now) names.now) place }
 {
     names.get(place as usize).copied().unwrap_or("")
 }
 
-/// Sends the line of a failed write to the output at a place, counted from 0.
-fn send_write_fault<E: Sink>(err: &mut E, outputs: &Outputs, place: u32)
-    ensures { GotLine (E.sent err.old) (E.sent err.new) (E.faults err.old) (E.faults err.new)
-        (fault_line (EditFault.Write place) [] (names_in outputs.now)) }
-{
-    send_pieces(err, &outputs.named(place, ": write fault\n"));
-}
-
 /// The place of the cue sheet among the inputs.
 const SHEET: u32 = 1;
+
+// The parts of the line of a refusal, by the names of the inputs.
+fn refusal_parts<'a>(refusal: &Refusal, inputs: &[&'a str]) -> Line<'a>
+    ensures { map part_of result.items ≡ refusal_parts_lem refusal.now
+        (map (λ name. name.now) inputs.now) }
+{
+    match *refusal {
+        Refusal::GainRange(offset, granule, channel, gain) => line(&[
+            Part::Text("gain "),
+            Part::Number(u64::from(gain)),
+            Part::Text(" out of range at "),
+            Part::Number(offset),
+            Part::Text(", granule "),
+            Part::Number(u64::from(granule)),
+            Part::Text(", channel "),
+            Part::Number(u64::from(channel)),
+            Part::Text("\n"),
+        ]),
+        Refusal::Mono => text_line("one channel only\n"),
+        Refusal::Joint(offset) => line(&[
+            Part::Text("joint stereo at "),
+            Part::Number(offset),
+            Part::Text("\n"),
+        ]),
+        Refusal::TagTooLarge(length) => line(&[
+            Part::Text("tag too large, "),
+            Part::Number(length),
+            Part::Text("\n"),
+        ]),
+        Refusal::BadTag(offset) => line(&[
+            Part::Text("bad tag at "),
+            Part::Number(offset),
+            Part::Text("\n"),
+        ]),
+        Refusal::NoUndo => text_line("no undo item\n"),
+        Refusal::BadUndo(offset) => line(&[
+            Part::Text("bad undo item at "),
+            Part::Number(offset),
+            Part::Text("\n"),
+        ]),
+        Refusal::UndoRange(sum) => line(&[
+            Part::Text("undo sum "),
+            Part::Signed(sum),
+            Part::Text(" is out of range\n"),
+        ]),
+        Refusal::OutputTooLong(length) => line(&[
+            Part::Text("output too long, "),
+            Part::Number(length),
+            Part::Text(" bytes\n"),
+        ]),
+        Refusal::Range(from, to, frames) => line(&[
+            Part::Text("range "),
+            Part::Number(from),
+            Part::Text(" to "),
+            Part::Number(to),
+            Part::Text(" of "),
+            Part::Number(frames),
+            Part::Text(" frames\n"),
+        ]),
+        Refusal::Differ(place) => line(&[
+            Part::Name(name_in(inputs, place)),
+            Part::Text(": other class than the first input\n"),
+        ]),
+        Refusal::SheetTooLarge(size) => line(&[
+            Part::Name(name_in(inputs, SHEET)),
+            Part::Text(": sheet too large, "),
+            Part::Number(size),
+            Part::Text(" bytes\n"),
+        ]),
+        Refusal::Sheet(fault) => sheet_parts(name_in(inputs, SHEET), &fault),
+    }
+}
+
+// The parts of the line of a fault, by the names of the inputs and of the outputs.
+fn fault_parts<'a>(fault: &EditFault, inputs: &[&'a str], outputs: Outputs<'a>) -> Line<'a>
+    ensures { map part_of result.items ≡ fault_parts_lem fault.now
+        (map (λ name. name.now) inputs.now) (names_in outputs.entry) }
+{
+    match *fault {
+        EditFault::EqualNames(place) => line(&[
+            Part::Name(name_in(inputs, place)),
+            Part::Text(": input is an output\n"),
+        ]),
+        EditFault::Input(place, fault) => input_parts(name_in(inputs, place), &fault),
+        EditFault::Refused(refusal) => refusal_parts(&refusal, inputs),
+        EditFault::Write(place) => line(&[outputs.named(place), Part::Text(": write fault\n")]),
+        EditFault::Sent => text_line("standard output: write fault\n"),
+        EditFault::Memory => text_line("out of memory\n"),
+    }
+}
 
 /// Sends the line of a fault, by the names of the inputs and of the outputs, without taking memory.
 /// It stops at the first write that fails, and such a failure is not answered.
@@ -406,42 +368,10 @@ const SHEET: u32 = 1;
 /// | Sent | `standard output: write fault` |
 /// | Memory | `out of memory` |
 pub fn send_fault<E: Sink>(err: &mut E, fault: &EditFault, inputs: &[&str], outputs: &Outputs)
-    requires { HasLine fault.now }
     ensures { GotLine (E.sent err.old) (E.sent err.new) (E.faults err.old) (E.faults err.new)
         (fault_line fault.now (map (λ name. name.now) inputs.now) (names_in outputs.now)) }
 {
-    match *fault {
-        EditFault::EqualNames(place) => {
-            send_pieces(err, &[name_in(inputs, place), ": input is an output\n"]);
-        }
-        EditFault::Input(place, fault) => send_input_fault(err, &fault, name_in(inputs, place)),
-        EditFault::GainRange(offset, granule, channel, gain) => {
-            send_gain_range(err, offset, granule, channel, gain);
-        }
-        EditFault::Mono => send_pieces(err, &["one channel only\n"]),
-        EditFault::Joint(offset) => send_number(err, "", "joint stereo at ", offset, "\n"),
-        EditFault::TagTooLarge(length) => send_number(err, "", "tag too large, ", length, "\n"),
-        EditFault::BadTag(offset) => send_number(err, "", "bad tag at ", offset, "\n"),
-        EditFault::NoUndo => send_pieces(err, &["no undo item\n"]),
-        EditFault::BadUndo(offset) => send_number(err, "", "bad undo item at ", offset, "\n"),
-        EditFault::UndoRange(sum) => send_undo_range(err, sum),
-        EditFault::OutputTooLong(length) => {
-            send_number(err, "", "output too long, ", length, " bytes\n");
-        }
-        EditFault::Range(from, to, frames) => send_range(err, from, to, frames),
-        EditFault::Differ(place) => {
-            let name = name_in(inputs, place);
-            send_pieces(err, &[name, ": other class than the first input\n"]);
-        }
-        EditFault::SheetTooLarge(size) => {
-            let name = name_in(inputs, SHEET);
-            send_number(err, name, ": sheet too large, ", size, " bytes\n");
-        }
-        EditFault::Sheet(fault) => send_sheet_fault(err, &fault, name_in(inputs, SHEET)),
-        EditFault::Write(place) => send_write_fault(err, outputs, place),
-        EditFault::Sent => send_pieces(err, &["standard output: write fault\n"]),
-        EditFault::Memory => send_pieces(err, &["out of memory\n"]),
-    }
+    send_line(err, fault_parts(fault, inputs, *outputs).as_slice());
 }
 
 /// Sends the line `bad word K`, K the place of the word counted from 1, without taking memory.
@@ -450,5 +380,12 @@ pub fn send_bad_word<E: Sink>(err: &mut E, word: u32)
     ensures { GotLine (E.sent err.old) (E.sent err.new) (E.faults err.old) (E.faults err.new)
         (bad_word_line word) }
 {
-    send_pieces(err, &["bad word ", Buffer::new().format(word), "\n"]);
+    send_line(
+        err,
+        &[
+            Part::Text("bad word "),
+            Part::Number(u64::from(word)),
+            Part::Text("\n"),
+        ],
+    );
 }

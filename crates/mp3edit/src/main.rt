@@ -6,10 +6,10 @@ ghost use Rattle.std.specs.IoError.{error_kind};
 ghost use Rattle.std.specs.declared.io.ErrorKind.TheVariants.{OutOfMemory};
 ghost use Rattle.outside.specs.Counts.{Rose};
 ghost use Rattle.outside.specs.Files.{Contents, sent_more};
-ghost use Rattle.edits.specs.Left.{seen};
-ghost use Rattle.edits.specs.Said.{heard};
+ghost use Rattle.commands.specs.Left.{seen};
+ghost use Rattle.commands.specs.Said.{heard};
 ghost use Rattle.job_words.specs.Words.{job_of};
-ghost use Rattle.mp3_cli.specs.Run.{always_of, AnswersWords, IsAccepted, HoldsAllStreams};
+ghost use Rattle.mp3_cli.specs.Run.{always_of, world, AnswersWords, IsAccepted, HoldsAllStreams};
 
 use mp3_cli::run;
 use outside::{DiskFolder, Folder, Sink, StdSink};
@@ -45,15 +45,21 @@ fn answer<D: Folder, T: Sink, E: Sink>(
     err: &mut E,
 ) -> u8
     // The clauses of `run`.
-    ensures answers { IfOk words (λ v. AnswersWords (map string_bytes v.items) (seen (D.files folder.old) (D.counts folder.old)) (seen (D.files folder.new) (D.counts folder.new))
-        (heard (T.sent out.old) (T.faults out.old)) (heard (T.sent out.new) (T.faults out.new)) (heard (E.sent err.old) (E.faults err.old)) (heard (E.sent err.new) (E.faults err.new)) result (job_of (map string_bytes v.items))) }
-    ensures accepted { IfOk words (λ v. (files : Contents) → D.files folder.old ≡ Some files → (Rose (D.counts folder.old).read_faults (D.counts folder.new).read_faults → ⊥)
-        → (Rose (D.counts folder.old).write_faults (D.counts folder.new).write_faults → ⊥) → (Rose (T.faults out.old) (T.faults out.new) → ⊥) → result ≢ 4
+    ensures answers { IfOk words (λ v. AnswersWords
+        (world (seen (D.files folder.old) (D.counts folder.old))
+        (heard (T.sent out.old) (T.faults out.old)) (heard (E.sent err.old) (E.faults err.old)))
+        (world (seen (D.files folder.new) (D.counts folder.new))
+        (heard (T.sent out.new) (T.faults out.new)) (heard (E.sent err.new) (E.faults err.new)))
+        result (job_of (map string_bytes v.items))) }
+    ensures accepted { IfOk words (λ v. (files : Contents) → D.files folder.old ≡ Some files
+        → (Rose (D.counts folder.old).read_faults (D.counts folder.new).read_faults → ⊥)
+        → (Rose (D.counts folder.old).write_faults (D.counts folder.new).write_faults → ⊥)
+        → (Rose (T.faults out.old) (T.faults out.new) → ⊥) → result ≢ 4
         → ((result ≡ 0) ↔ IsAccepted (map string_bytes v.items) files)) }
     ensures streams { IfOk words (λ v. result ≡ 0
         → HoldsAllStreams (map string_bytes v.items) (D.files folder.old)) }
     ensures text { IfOk words (λ v. result ≡ 0
-        → IfSome (always_of (map string_bytes v.items) (job_of (map string_bytes v.items)))
+        → IfSome (always_of (job_of (map string_bytes v.items)))
         (λ text. T.sent out.new ≡ sent_more (T.sent out.old) text)) }
 
     // The clauses of `status_without_words`.

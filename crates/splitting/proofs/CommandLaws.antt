@@ -1,6 +1,6 @@
 -- What the command leaves, by its steps.
-use Rattle.std.proofs.Common.{◌≡◌, ℕ, ◌+◌, ◌<◌, ◌≤◌, ◌&&◌, true, false, cond, List, [], ◌∷◌, length, map, Option, Some, None, Result, Ok, Err, refl, sym, ◌∙◌, ap, subst, inl, inr, is_some}
-use Rattle.std.specs.Prelude.{nat_lt, nat_le, IfSome, IfErr, OnOk}
+use Rattle.std.proofs.Common.{◌≡◌, ℕ, ◌+◌, ◌<◌, ◌≤◌, true, false, cond, List, [], ◌∷◌, length, map, Option, Some, None, Result, Ok, Err, refl, sym, ◌∙◌, ap, subst, inl, inr, is_some}
+use Rattle.std.specs.Prelude.{nat_lt, IfSome, IfErr, OnOk}
 use Rattle.bit_fields.specs.Bits.{AreBytes}
 use Rattle.outside.specs.Files.{Contents, Files, Holds, IsThere}
 use Rattle.outside.proofs.FilesLaws.{there_holds}
@@ -16,29 +16,22 @@ use Rattle.sync_survey.specs.Faults.{longest_file, SurveyFields, surveyed, Holds
 use Rattle.sync_survey.specs.Survey.{survey_of}
 use Rattle.sync_survey.proofs.BytesFaults.{IsOfBytes, surveyed_of_bytes}
 use Rattle.sync_survey.proofs.FoldersLaws.{survey_of-short}
-use Rattle.edits.specs.declared.fault.EditFault.{EditFault}
-use Rattle.edits.specs.declared.fault.EditFault.TheVariants.{EqualNames, Input, Range, SheetTooLarge}
-use Rattle.edits.specs.Choice.{then_made, unless}
-use Rattle.edits.specs.Chosen.{Chosen, outside_fault, chosen_file, chosen_stream, stream_with, stream_chosen_by, cut_choice, laid_with}
-use Rattle.edits.specs.Command.{Made, Command, clash_of, Gives, written, written_to, AreStreams, HoldsStreams}
-use Rattle.edits.specs.Left.{Why, Refused, Missing, Unread, Shorter, Unwritten, Unsent, NoMemory, why_of, Seen, longest_sheet, IsDone, IsWrittenTo, TakesMemory, is_before_memory, LeavesBy, Leaves}
-use Rattle.edits.specs.One.{most_frames, IsFileFaultBy, IsFileFault}
-use Rattle.moved_gains.proofs.SurveyedFiles.{survey_of-sound}
-use Rattle.edits.proofs.ChosenLaws.{cut_proper}
-use Rattle.splitting.specs.Split.{frames_between, with_first, chosen_from, chosen_at, pieces_from, made_of, made_at, made_by, made_where, unless_equal, made_result, streams_of, streams_at, streams_by, streams_where, Placing, split_command, given, with_end, places_in, places_where, told_by}
+use Rattle.commands.specs.declared.fault.EditFault.{EditFault}
+use Rattle.commands.specs.declared.fault.EditFault.TheVariants.{EqualNames, Input, Refused}
+use Rattle.commands.specs.declared.fault.Refusal.TheVariants.{SheetTooLarge}
+use Rattle.frame_edits.specs.declared.chosen.Slots.TheVariants.{Own}
+use Rattle.commands.proofs.RefusingLaws.{unless_late, then_late, then_ok}
+use Rattle.commands.specs.Refusing.{then_made}
+use Rattle.frame_edits.specs.Chosen.{Chosen, chosen_file, chosen_stream, stream_with, stream_chosen_by, cut_choice, laid_with}
+use Rattle.commands.specs.Command.{Made, Command, clash_of, Gives, written, written_to, AreStreams, HoldsStreams}
+use Rattle.commands.specs.Left.{Why, Rejected, Missing, Unread, Shorter, Unwritten, Unsent, NoMemory, why_of, Seen, IsLate, IsDone, IsWrittenTo, TakesMemory, LeavesBy, Leaves}
+use Rattle.commands.specs.One.{most_frames, IsFileFaultBy, IsFileFault}
+use Rattle.sync_survey.proofs.SurveyedFiles.{survey_of-sound}
+use Rattle.frame_edits.proofs.ChosenLaws.{cut_proper}
+use Rattle.splitting.specs.Split.{longest_sheet, frames_between, with_first, chosen_from, chosen_at, pieces_from, made_of, made_at, made_by, made_where, unless_equal, made_result, streams_of, streams_at, streams_by, streams_where, Placing, split_command, given, with_end, places_in, places_where, told_by}
 use Rattle.splitting.specs.Steps.{IsSheetFaultBy, IsSheetFault, with_outputs, with_part, IsWrittenPart, IsMadeOf, IsSplitFaultBy, IsSplitFault}
 
 -- ---- want of memory is no refusal that is found before any is taken
-
-abbrev IsLate : EditFault → Type 0
-IsLate fault = is_before_memory fault ≡ false
-
-outside-late : (from to frames : ℕ) (chosen : Chosen) → IfErr (unless (outside_fault from to frames) chosen) IsLate
-outside-late from to frames chosen = elim (nat_lt from to && nat_le to frames) as (λ b. IfErr (unless (cond b None (Some (Range from to frames))) chosen) IsLate) [ true ↦ tt | false ↦ refl ]
-
-then-late : {A B : Type 0} (r : Result A EditFault) (make : A → Result B EditFault) → IfErr r IsLate → ((a : A) → IfErr (make a) IsLate) → IfErr (then_made r make) IsLate
-then-late (Ok a) make first rest = rest a
-then-late (Err fault) make first rest = first
 
 first-late : (first : Chosen) (r : Result (List Chosen) EditFault) → IfErr r IsLate → IfErr (with_first first r) IsLate
 first-late first (Ok more) late = tt
@@ -47,14 +40,14 @@ first-late first (Err fault) late = late
 chosen-late : (frames from : ℕ) (tos : List ℕ) → IfErr (chosen_from frames from tos) IsLate
 chosen-late frames from [] = tt
 chosen-late frames from (to ∷ more) =
-    then-late (frames_between frames from to) (λ first. with_first first (chosen_from frames to more)) (outside-late from to frames _) (λ first. first-late first (chosen_from frames to more) (chosen-late frames to more))
+    then_late (frames_between frames from to) (λ first. with_first first (chosen_from frames to more)) (unless_late _ _) (λ first. first-late first (chosen_from frames to more) (chosen-late frames to more))
 
 at-late : (class : ClassFields) (frames : ℕ) (places : List Place) → IfErr (chosen_at class frames places) IsLate
 at-late class frames [] = tt
 at-late class frames (place ∷ places) = chosen-late frames (frame_at class frames place) (map (frame_at class frames) places)
 
 made-late : (prefix file : List ℕ) (s : SurveyFields) (places : Result (List Place) EditFault) → IfErr places IsLate → IfErr (then_made places (made_at prefix file s)) IsLate
-made-late prefix file s places late = then-late places (made_at prefix file s) late (λ ps. then-late (chosen_at s.class (length s.frames) ps) (made_of prefix file s) (at-late s.class (length s.frames) ps) (λ cs. tt))
+made-late prefix file s places late = then_late places (made_at prefix file s) late (λ ps. then_late (chosen_at s.class (length s.frames) ps) (made_of prefix file s) (at-late s.class (length s.frames) ps) (λ cs. tt))
 
 takes : (r : Result Made EditFault) → IfErr r IsLate → TakesMemory r
 takes (Ok made) late = tt
@@ -76,7 +69,7 @@ short-late prefix file places late few =
 
 -- the faults of a sheet, and none where the places are given
 abbrev pub AreLate : Placing → Type 0
-AreLate placing = (f : Contents) → IfErr (placing f) IsLate
+AreLate placing = (f : Contents) → IfErr (placing.places f) IsLate
 
 pub given-late : (places : List Place) → AreLate (given places)
 given-late places f = tt
@@ -86,7 +79,7 @@ end-late (Ok starts) = tt
 end-late (Err fault) = refl
 
 in-late : (sheet : List ℕ) → IfErr (places_in sheet) IsLate
-in-late sheet = elim (nat_lt longest_sheet (length sheet)) as (λ b. IfErr (cond b (Err (SheetTooLarge (length sheet))) (with_end (cue_of sheet))) IsLate) [ true ↦ refl | false ↦ end-late (cue_of sheet) ]
+in-late sheet = elim (nat_lt longest_sheet (length sheet)) as (λ b. IfErr (cond b (Err (Refused (SheetTooLarge (length sheet)))) (with_end (cue_of sheet))) IsLate) [ true ↦ refl | false ↦ end-late (cue_of sheet) ]
 
 where-late : (o : Option (List ℕ)) → IfErr (places_where o) IsLate
 where-late None = refl
@@ -97,24 +90,19 @@ told-late sheet f = where-late (f sheet)
 
 -- ---- the streams of the pieces
 
-cut-is : (file : List ℕ) (s : SurveyFields) (from to : ℕ) → frames_between (length s.frames) from to ≡ cut_choice (Frame from) (Frame to) false file s
+cut-is : (file : List ℕ) (s : SurveyFields) (from to : ℕ) → frames_between (length s.frames) from to ≡ cut_choice (Frame from) (Frame to) Own file s
 unfolding cut_choice frame_at
 cut-is file s from to = refl
 
-stream-is : (file : List ℕ) (s : SurveyFields) (from to : ℕ) (chosen : Chosen) (r : Result SurveyFields SurveyFault) → r ≡ Ok s → cut_choice (Frame from) (Frame to) false file s ≡ Ok chosen
-    → stream_chosen_by (cut_choice (Frame from) (Frame to) false) file r ≡ chosen_stream chosen file s
-stream-is file s from to chosen r surveyed is = ap (stream_chosen_by (cut_choice (Frame from) (Frame to) false) file) surveyed ∙ ap (stream_with file s) is
+stream-is : (file : List ℕ) (s : SurveyFields) (from to : ℕ) (chosen : Chosen) (r : Result SurveyFields SurveyFault) → r ≡ Ok s → cut_choice (Frame from) (Frame to) Own file s ≡ Ok chosen
+    → stream_chosen_by (cut_choice (Frame from) (Frame to) Own) file r ≡ chosen_stream chosen file s
+stream-is file s from to chosen r surveyed is = ap (stream_chosen_by (cut_choice (Frame from) (Frame to) Own) file) surveyed ∙ ap (stream_with file s) is
 
 between-holds : (file : List ℕ) (s : SurveyFields) (from to : ℕ) (chosen : Chosen) → AreBytes file → survey_of file most_frames ≡ Ok s → frames_between (length s.frames) from to ≡ Ok chosen → HoldsStream (chosen_file chosen file s) (chosen_stream chosen file s)
 between-holds file s from to chosen octets surveyed is =
     let cut = sym (cut-is file s from to) ∙ is in
     subst (HoldsStream (chosen_file chosen file s)) (stream-is file s from to chosen (survey_of file most_frames) surveyed cut)
-    ((cut_proper (Frame from) (Frame to) false).streams file s (chosen_file chosen file s) octets surveyed (ap (laid_with file s) cut))
-
--- both parts of a choice that was made
-then-parts : {A B : Type 0} (r : Result A EditFault) (make : A → Result B EditFault) (b : B) → then_made r make ≡ Ok b → (a : A) × (r ≡ Ok a) × (make a ≡ Ok b)
-then-parts (Ok a) make b e = (a, refl, e)
-then-parts (Err fault) make b e = absurd cc
+    ((cut_proper (Frame from) (Frame to) Own).streams file s (chosen_file chosen file s) octets surveyed (ap (laid_with file s) cut))
 
 first-parts : (first : Chosen) (r : Result (List Chosen) EditFault) (cs : List Chosen) → with_first first r ≡ Ok cs → (more : List Chosen) × (r ≡ Ok more) × (first ∷ more ≡ cs)
 first-parts first (Ok more) cs e = (more, refl, cc)
@@ -127,7 +115,7 @@ module _ (prefix file : List ℕ) (s : SurveyFields) (octets : AreBytes file) (s
   from-hold : (k from : ℕ) (tos : List ℕ) (cs : List Chosen) → chosen_from (length s.frames) from tos ≡ Ok cs → Hold k cs
   from-hold k from [] cs e = let none : [] ≡ cs = cc in subst (Hold k) none tt
   from-hold k from (to ∷ tos) cs e =
-      let parts = then-parts (frames_between (length s.frames) from to) (λ first. with_first first (chosen_from (length s.frames) to tos)) cs e in
+      let parts = then_ok (frames_between (length s.frames) from to) (λ first. with_first first (chosen_from (length s.frames) to tos)) cs e in
       let more = first-parts parts.0 (chosen_from (length s.frames) to tos) cs parts.2 in
       subst (Hold k) more.2 (between-holds file s from to parts.0 octets surveyed parts.1, from-hold (k + 1) to tos more.0 more.1)
 
@@ -147,7 +135,7 @@ module _ (placing : Placing) (late : AreLate placing) (more : List (List ℕ)) (
 
   equal-made : (f : Contents) (place : ℕ) → clash_of command ≡ Some place → command.makes f ≡ Err (EqualNames place)
   unfolding made_result
-  equal-made f place e = ap (λ o. unless_equal o (made_where prefix (placing f) (f input))) e
+  equal-made f place e = ap (λ o. unless_equal o (made_where prefix (placing.places f) (f input))) e
 
   gives-equal : (files : Files) (place : ℕ) → clash_of command ≡ Some place → Gives command files (Err (EqualNames place))
   gives-equal None place e = tt
@@ -158,9 +146,9 @@ module _ (placing : Placing) (late : AreLate placing) (more : List (List ℕ)) (
   equal-left place now e = record { defined = gives-equal now.files place e; stays = refl }
 
   module _ (apart : clash_of command ≡ None) where
-    makes-where : (f : Contents) (o : Option (List ℕ)) → f input ≡ o → command.makes f ≡ made_where prefix (placing f) o
+    makes-where : (f : Contents) (o : Option (List ℕ)) → f input ≡ o → command.makes f ≡ made_where prefix (placing.places f) o
     unfolding made_result
-    makes-where f o is = none-equal (clash_of command) (made_where prefix (placing f) (f input)) apart ∙ ap (made_where prefix (placing f)) is
+    makes-where f o is = none-equal (clash_of command) (made_where prefix (placing.places f) (f input)) apart ∙ ap (made_where prefix (placing.places f)) is
 
     -- ---- the survey of the input
 
@@ -168,7 +156,7 @@ module _ (placing : Placing) (late : AreLate placing) (more : List (List ℕ)) (
     input-refused None fault there refused = tt
     input-refused (Some f) fault there refused =
         let held = there_holds f input there in
-        makes-where f (Some held.0) held.1 ∙ ap (made_by prefix (placing f) held.0) (refused held.0 held.1)
+        makes-where f (Some held.0) held.1 ∙ ap (made_by prefix (placing.places f) held.0) (refused held.0 held.1)
 
     input-missing : (files : Files) → IfSome files (λ f. f input ≡ None) → Gives command files (Err (Input 0 Absent))
     input-missing None missing = tt
@@ -178,11 +166,11 @@ module _ (placing : Placing) (late : AreLate placing) (more : List (List ℕ)) (
     input-takes None there few = tt
     input-takes (Some f) there few =
         let held = there_holds f input there in
-        subst TakesMemory (sym (makes-where f (Some held.0) held.1)) (takes (made_where prefix (placing f) (Some held.0)) (short-late prefix held.0 (placing f) (late f) (few held.0 held.1)))
+        subst TakesMemory (sym (makes-where f (Some held.0) held.1)) (takes (made_where prefix (placing.places f) (Some held.0)) (short-late prefix held.0 (placing.places f) (late f) (few held.0 held.1)))
 
     module _ (old new : Seen) (fault : EditFault) where
       input-left-by : (why : Why) → IsFileFaultBy 0 most_frames input old new fault why → LeavesBy command old new fault why
-      input-left-by Refused h =
+      input-left-by Rejected h =
           record { defined = subst (λ e. Gives command old.files (Err e)) (sym h.1) (input-refused old.files h.0 h.2.there h.2.bytes); stays = h.2.stays }
       input-left-by Missing h =
           record { defined = subst (λ e. Gives command old.files (Err e)) (sym h.0) (input-missing old.files h.1); rose = h.2; files = h.3 }
@@ -198,9 +186,9 @@ module _ (placing : Placing) (late : AreLate placing) (more : List (List ℕ)) (
     -- ---- a surveyed input
 
     module _ (s : SurveyFields) (files : Files) (there : IsThere files input) (surveyed : (bytes : List ℕ) → Holds files input bytes → survey_of bytes most_frames ≡ Ok s) where
-      makes-then : (f : Contents) (bytes : List ℕ) → files ≡ Some f → f input ≡ Some bytes → command.makes f ≡ then_made (placing f) (made_at prefix bytes s)
+      makes-then : (f : Contents) (bytes : List ℕ) → files ≡ Some f → f input ≡ Some bytes → command.makes f ≡ then_made (placing.places f) (made_at prefix bytes s)
       makes-then f bytes told holds =
-          makes-where f (Some bytes) holds ∙ ap (made_by prefix (placing f) bytes) (surveyed bytes (subst (λ fs. Holds fs input bytes) (sym told) holds))
+          makes-where f (Some bytes) holds ∙ ap (made_by prefix (placing.places f) bytes) (surveyed bytes (subst (λ fs. Holds fs input bytes) (sym told) holds))
 
       held-of : (f : Contents) → files ≡ Some f → (bytes : List ℕ) × (f input ≡ Some bytes)
       held-of f told = there_holds f input (subst (λ fs. IsThere fs input) told there)
@@ -212,13 +200,13 @@ module _ (placing : Placing) (late : AreLate placing) (more : List (List ℕ)) (
           at None told = tt
           at (Some f) told =
               let held = held-of f told in
-              subst TakesMemory (sym (makes-then f held.0 told held.1)) (takes (then_made (placing f) (made_at prefix held.0 s)) (made-late prefix held.0 s (placing f) (late f)))
+              subst TakesMemory (sym (makes-then f held.0 told held.1)) (takes (then_made (placing.places f) (made_at prefix held.0 s)) (made-late prefix held.0 s (placing.places f) (late f)))
 
       -- no places
-      pub places-refused : (fault : EditFault) → IfSome files (λ f. placing f ≡ Err fault) → Gives command files (Err fault)
+      pub places-refused : (fault : EditFault) → IfSome files (λ f. placing.places f ≡ Err fault) → Gives command files (Err fault)
       places-refused fault none = at files refl none
         where
-          at : (fs : Files) → files ≡ fs → IfSome fs (λ f. placing f ≡ Err fault) → Gives command fs (Err fault)
+          at : (fs : Files) → files ≡ fs → IfSome fs (λ f. placing.places f ≡ Err fault) → Gives command fs (Err fault)
           at None told none = tt
           at (Some f) told none =
               let held = held-of f told in
@@ -226,10 +214,10 @@ module _ (placing : Placing) (late : AreLate placing) (more : List (List ℕ)) (
 
       -- ---- these places
 
-      module _ (places : List Place) (are : IfSome files (λ f. placing f ≡ Ok places)) where
+      module _ (places : List Place) (are : IfSome files (λ f. placing.places f ≡ Ok places)) where
         makes-at : (f : Contents) (bytes : List ℕ) → files ≡ Some f → f input ≡ Some bytes → command.makes f ≡ made_at prefix bytes s places
         makes-at f bytes told holds =
-            let here : placing f ≡ Ok places = subst (λ fs. IfSome fs (λ g. placing g ≡ Ok places)) told are in
+            let here : placing.places f ≡ Ok places = subst (λ fs. IfSome fs (λ g. placing.places g ≡ Ok places)) told are in
             makes-then f bytes told holds ∙ ap (λ p. then_made p (made_at prefix bytes s)) here
 
         range-refused : (fault : EditFault) → chosen_at s.class (length s.frames) places ≡ Err fault → Gives command files (Err fault)
@@ -273,12 +261,12 @@ module _ (placing : Placing) (late : AreLate placing) (more : List (List ℕ)) (
 
     -- ---- what is left of a surveyed input
 
-    module _ (s : SurveyFields) (places : List Place) (old new : Seen) (there : IsThere old.files input) (surveyed : (bytes : List ℕ) → Holds old.files input bytes → survey_of bytes most_frames ≡ Ok s) (are : IfSome old.files (λ f. placing f ≡ Ok places)) where
+    module _ (s : SurveyFields) (places : List Place) (old new : Seen) (there : IsThere old.files input) (surveyed : (bytes : List ℕ) → Holds old.files input bytes → survey_of bytes most_frames ≡ Ok s) (are : IfSome old.files (λ f. placing.places f ≡ Ok places)) where
       pub split-done : IsMadeOf input s places prefix old.files new.files → is_some new.files ≡ is_some old.files → new.counts ≡ old.counts → IsDone command old new
       split-done h told counts = record { made = whole s old.files there surveyed places are h.chosen h.are new.files h.written; told = told; counts = counts }
 
       split-left-by : (fault : EditFault) (why : Why) → IsSplitFaultBy input s places prefix old new fault why → LeavesBy command old new fault why
-      split-left-by fault Refused h = record { defined = range-refused s old.files there surveyed places are fault h.0; stays = h.1 }
+      split-left-by fault Rejected h = record { defined = range-refused s old.files there surveyed places are fault h.0; stays = h.1 }
       split-left-by fault Missing h = absurd h
       split-left-by fault Unread h =
           record { rose = h.rose; files = inr (h.place, part s old.files there surveyed places are h.part.chosen h.part.are h.place new.files h.part.written) }
@@ -291,7 +279,7 @@ module _ (placing : Placing) (late : AreLate placing) (more : List (List ℕ)) (
       split-left fault h = split-left-by fault (why_of fault) h
 
     module _ {T : Type 0} (s : SurveyFields) (places : List Place) (old mid new : Seen) (stays : mid ≡ old) (there : IsThere old.files input) (surveyed : (bytes : List ℕ) → Holds old.files input bytes → survey_of bytes most_frames ≡ Ok s)
-        (are : IfSome old.files (λ f. placing f ≡ Ok places)) where
+        (are : IfSome old.files (λ f. placing.places f ≡ Ok places)) where
       pub done-by : (r : Result T EditFault) → OnOk r (IsMadeOf input s places prefix mid.files new.files) → is_some new.files ≡ is_some mid.files → OnOk r (new.counts ≡ mid.counts) → OnOk r (IsDone command old new)
       done-by (Ok x) h told counts =
           split-done s places old new there surveyed are
@@ -306,20 +294,20 @@ module _ (placing : Placing) (late : AreLate placing) (more : List (List ℕ)) (
 
     -- ---- the streams
 
-    streams-are : (f : Contents) (bytes : List ℕ) (s : SurveyFields) (places : List Place) (cs : List Chosen) → f input ≡ Some bytes → survey_of bytes most_frames ≡ Ok s → placing f ≡ Ok places → chosen_at s.class (length s.frames) places ≡ Ok cs
+    streams-are : (f : Contents) (bytes : List ℕ) (s : SurveyFields) (places : List Place) (cs : List Chosen) → f input ≡ Some bytes → survey_of bytes most_frames ≡ Ok s → placing.places f ≡ Ok places → chosen_at s.class (length s.frames) places ≡ Ok cs
         → command.streams f ≡ map (λ c. chosen_stream c bytes s) cs
     unfolding streams_where
     streams-are f bytes s places cs holds surveyed placed chosen =
-        ap (streams_where (placing f)) holds ∙ ap (streams_by (placing f) bytes) surveyed ∙ ap (streams_at bytes s) placed ∙ ap (streams_of bytes s) chosen
+        ap (streams_where (placing.places f)) holds ∙ ap (streams_by (placing.places f) bytes) surveyed ∙ ap (streams_at bytes s) placed ∙ ap (streams_of bytes s) chosen
 
     pub split-streams : (s : SurveyFields) (places : List Place) (files : Files) → IsThere files input → ((bytes : List ℕ) → Holds files input bytes → survey_of bytes most_frames ≡ Ok s)
-        → ((bytes : List ℕ) → Holds files input bytes → AreBytes bytes) → IfSome files (λ f. placing f ≡ Ok places) → HoldsStreams command files
+        → ((bytes : List ℕ) → Holds files input bytes → AreBytes bytes) → IfSome files (λ f. placing.places f ≡ Ok places) → HoldsStreams command files
     split-streams s places None there surveyed octets are = tt
     split-streams s places (Some f) there surveyed octets are = λ whole is.
         let held = there_holds f input there in
         let bytes = held.0 in
         let sound = surveyed bytes held.1 in
-        let parts = then-parts (chosen_at s.class (length s.frames) places) (made_of prefix bytes s) whole (sym (makes-at s (Some f) there surveyed places are f bytes refl held.1) ∙ is) in
+        let parts = then_ok (chosen_at s.class (length s.frames) places) (made_of prefix bytes s) whole (sym (makes-at s (Some f) there surveyed places are f bytes refl held.1) ∙ is) in
         let same : record { outputs = pieces_from prefix 1 bytes s parts.0; text = [] } ≡ whole = cc in
         record {
           sources = ((bytes, held.1, survey_of-sound bytes most_frames s sound), tt);
@@ -330,36 +318,36 @@ module _ (placing : Placing) (late : AreLate placing) (more : List (List ℕ)) (
         }
 
     pub streams-by_result : {T E : Type 0} (s : SurveyFields) (places : List Place) (files : Files) → IsThere files input → ((bytes : List ℕ) → Holds files input bytes → survey_of bytes most_frames ≡ Ok s)
-        → ((bytes : List ℕ) → Holds files input bytes → AreBytes bytes) → IfSome files (λ f. placing f ≡ Ok places) → (r : Result T E) → OnOk r (HoldsStreams command files)
+        → ((bytes : List ℕ) → Holds files input bytes → AreBytes bytes) → IfSome files (λ f. placing.places f ≡ Ok places) → (r : Result T E) → OnOk r (HoldsStreams command files)
     streams-by_result s places files there surveyed octets are (Ok x) = split-streams s places files there surveyed octets are
     streams-by_result s places files there surveyed octets are (Err e) = tt
 
 -- places that are given, whatever is told
-pub given-are : (places : List Place) (files : Files) → IfSome files (λ f. given places f ≡ Ok places)
+pub given-are : (places : List Place) (files : Files) → IfSome files (λ f. (given places).places f ≡ Ok places)
 given-are places None = tt
 given-are places (Some f) = refl
 
 -- ---- the sheet
 
-no-places : (sheet : List ℕ) (files : Files) (fault : EditFault) → IsThere files sheet → ((bytes : List ℕ) → Holds files sheet bytes → places_where (Some bytes) ≡ Err fault) → IfSome files (λ f. told_by sheet f ≡ Err fault)
+no-places : (sheet : List ℕ) (files : Files) (fault : EditFault) → IsThere files sheet → ((bytes : List ℕ) → Holds files sheet bytes → places_where (Some bytes) ≡ Err fault) → IfSome files (λ f. (told_by sheet).places f ≡ Err fault)
 no-places sheet None fault there none = tt
 no-places sheet (Some f) fault there none = let held = there_holds f sheet there in ap places_where held.1 ∙ none held.0 held.1
 
-no-sheet : (sheet : List ℕ) (files : Files) → IfSome files (λ f. f sheet ≡ None) → IfSome files (λ f. told_by sheet f ≡ Err (Input 1 Absent))
+no-sheet : (sheet : List ℕ) (files : Files) → IfSome files (λ f. f sheet ≡ None) → IfSome files (λ f. (told_by sheet).places f ≡ Err (Input 1 Absent))
 no-sheet sheet None missing = tt
 no-sheet sheet (Some f) missing = ap places_where missing
 
-pub sheet-places : (sheet : List ℕ) (files : Files) (places : List Place) → IsThere files sheet → ((bytes : List ℕ) → Holds files sheet bytes → places_where (Some bytes) ≡ Ok places) → IfSome files (λ f. told_by sheet f ≡ Ok places)
+pub sheet-places : (sheet : List ℕ) (files : Files) (places : List Place) → IsThere files sheet → ((bytes : List ℕ) → Holds files sheet bytes → places_where (Some bytes) ≡ Ok places) → IfSome files (λ f. (told_by sheet).places f ≡ Ok places)
 sheet-places sheet None places there are = tt
 sheet-places sheet (Some f) places there are = let held = there_holds f sheet there in ap places_where held.1 ∙ are held.0 held.1
 
 module _ (sheet input prefix : List ℕ) (apart : clash_of (split_command (told_by sheet) (sheet ∷ []) input prefix) ≡ None) (s : SurveyFields) (old new : Seen) (fault : EditFault) (there : IsThere old.files input)
     (surveyed : (bytes : List ℕ) → Holds old.files input bytes → survey_of bytes most_frames ≡ Ok s) where
-  gives-none : (e : EditFault) → IfSome old.files (λ f. told_by sheet f ≡ Err e) → Gives (split_command (told_by sheet) (sheet ∷ []) input prefix) old.files (Err e)
+  gives-none : (e : EditFault) → IfSome old.files (λ f. (told_by sheet).places f ≡ Err e) → Gives (split_command (told_by sheet) (sheet ∷ []) input prefix) old.files (Err e)
   gives-none e none = places-refused (told_by sheet) (told-late sheet) (sheet ∷ []) input prefix apart s old.files there surveyed e none
 
   sheet-left-by : (why : Why) → IsSheetFaultBy sheet old new fault why → LeavesBy (split_command (told_by sheet) (sheet ∷ []) input prefix) old new fault why
-  sheet-left-by Refused h = record { defined = gives-none fault (no-places sheet old.files fault h.there h.bytes); stays = h.stays }
+  sheet-left-by Rejected h = record { defined = gives-none fault (no-places sheet old.files fault h.there h.bytes); stays = h.stays }
   sheet-left-by Missing h = record {
     defined = subst (λ e. Gives (split_command (told_by sheet) (sheet ∷ []) input prefix) old.files (Err e)) (sym h.is) (gives-none (Input 1 Absent) (no-sheet sheet old.files h.missing));
     rose = h.rose;

@@ -10,13 +10,13 @@ use Rattle.outside.proofs.FilesLaws.{there_holds, with_file_other}
 use Rattle.sync_survey.specs.Faults.{SurveyFields}
 use Rattle.outside.specs.declared.pass.PassFault.{PassFault}
 use Rattle.outside.specs.declared.pass.PassFault.TheVariants.{Read, Shrunk, Write}
-use Rattle.edits.specs.Command.{Output, begun, written}
-use Rattle.edits.specs.Chosen.{chosen_in, chosen_file}
-use Rattle.edits.specs.One.{holding, HoldsPrefix, IsPassFault}
-use Rattle.edits.specs.Left.{seen}
+use Rattle.commands.specs.Command.{Output, begun, written}
+use Rattle.frame_edits.specs.Chosen.{chosen_in, chosen_file}
+use Rattle.commands.specs.One.{holding, HoldsPrefix, IsPassFault}
+use Rattle.commands.specs.Left.{seen}
 use Rattle.outside.specs.Pass.{Appends, AppendsPrefix, HasPassCause}
-use Rattle.edits.specs.PassFaults.{of_pass}
-use Rattle.edits.proofs.OutputLaws.{emptied_held, output_whole, told_whole, told_prefix, pass_fault, cause_counts}
+use Rattle.commands.specs.PassFaults.{of_pass}
+use Rattle.commands.proofs.OutputLaws.{emptied_held, output_whole, told_whole, told_prefix, pass_fault, cause_counts}
 use Rattle.splitting.specs.declared.piece.Piece.{Piece}
 use Rattle.splitting.specs.Steps.{output_of, outputs_of, with_outputs, with_part, IsWrittenPart, IsPiecesFault, of_piece, IsOfCopy}
 
@@ -88,15 +88,15 @@ module _ {T : Type 0} (made : List ℕ → List ℕ) (size : ℕ) (input output 
   piece-whole h = at r h
     where
       at : (r : Result T PassFault) → OnOk r (Appends input output made mid new) → OnOk r ((file : List ℕ) → Holds old input file → new ≡ holding old name (made file))
-      at (Ok x) h = λ file holds. output_whole made size input output apart-from old mid new created h file holds ∙ ap (λ n. holding old n (made file)) is
+      at (Ok x) h = λ file holds. output_whole made input output apart-from old mid new created h file holds ∙ ap (λ n. holding old n (made file)) is
       at (Err fault) h = tt
 
   pub piece-told : OnOk r (Appends input output made mid new) → OnErr r (AppendsPrefix input output made mid new) → is_some new ≡ is_some old
   piece-told h k = at r h k
     where
       at : (r : Result T PassFault) → OnOk r (Appends input output made mid new) → OnErr r (AppendsPrefix input output made mid new) → is_some new ≡ is_some old
-      at (Ok x) h k = told_whole made size input output apart-from old mid new created h
-      at (Err fault) h k = told_prefix made size input output apart-from old mid new created k
+      at (Ok x) h k = told_whole made input output apart-from old mid new created h
+      at (Err fault) h k = told_prefix made input output apart-from old mid new created k
 
   pub piece-left : (before between after : Counts) → between ≡ before → OnErr r (AppendsPrefix input output made mid new) → IfErr r (HasPassCause size mid between after)
       → IfErr r (λ fault. IsPassFault made input name (seen old before) (seen new after) (of_pass fault))
@@ -106,7 +106,7 @@ module _ {T : Type 0} (made : List ℕ → List ℕ) (size : ℕ) (input output 
       at (Ok x) h k = tt
       at (Err fault) h k =
           subst (λ n. IsPassFault made input n (seen old before) (seen new after) (of_pass fault)) is
-          (pass_fault made size input output apart-from old mid new created fault before between after same h k)
+          (pass_fault made input output apart-from old mid new created fault size before between after same h k)
 
 pub copy-counts : {T : Type 0} (r : Result T PassFault) (size : ℕ) (files : Files) (before after : Counts) → OnOk r (after ≡ before) → IfErr r (HasPassCause size files before after) → NoneFell before after
 copy-counts (Ok x) size files before after same cause = subst (λ c. NoneFell before c) (sym same) (record { misses = omega arith; ends = omega arith; read_faults = omega arith; write_faults = omega arith })

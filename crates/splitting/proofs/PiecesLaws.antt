@@ -9,9 +9,9 @@ use Rattle.frame_header.specs.Fields.{ClassFields}
 use Rattle.cue_sheet.specs.declared.place.Place.{Place}
 use Rattle.cue_sheet.specs.Places.{frame_at}
 use Rattle.sync_survey.specs.Faults.{SurveyFields}
-use Rattle.edits.specs.declared.fault.EditFault.{EditFault}
-use Rattle.edits.specs.Choice.{then_made}
-use Rattle.edits.specs.Chosen.{Chosen, chosen_in, chosen_file}
+use Rattle.commands.specs.declared.fault.EditFault.{EditFault}
+use Rattle.commands.specs.Refusing.{then_made}
+use Rattle.frame_edits.specs.Chosen.{Chosen, chosen_in, chosen_file}
 use Rattle.splitting.specs.declared.piece.Piece.{Piece}
 use Rattle.splitting.specs.Split.{piece_name, piece_names, frames_between, with_first, chosen_from, pieces_from}
 use Rattle.splitting.specs.Steps.{IsReady, ArePieces, CanBeWritten, chosen_of, outputs_of}

@@ -11,23 +11,24 @@ use Rattle.cue_sheet.specs.declared.cue_fault.CueFault.{CueFault}
 use Rattle.cue_sheet.specs.declared.place.Place.{Place}
 use Rattle.cue_sheet.specs.declared.place.Place.TheVariants.{End}
 use Rattle.cue_sheet.specs.Cues.{cue_of}
-use Rattle.edits.specs.declared.fault.EditFault.TheVariants.{Input, SheetTooLarge, Sheet}
-use Rattle.edits.specs.Left.{seen, longest_sheet}
-use Rattle.splitting.specs.Split.{with_end, places_in}
+use Rattle.commands.specs.declared.fault.EditFault.TheVariants.{Input, Refused}
+use Rattle.commands.specs.declared.fault.Refusal.TheVariants.{SheetTooLarge, Sheet}
+use Rattle.commands.specs.Left.{seen}
+use Rattle.splitting.specs.Split.{longest_sheet, with_end, places_in}
 use Rattle.splitting.specs.Steps.{IsSheetFault, IsOfSheet}
 
-pub too-large : (bytes : List ℕ) (size : ℕ) → size ≡ length bytes → longest_sheet < size → places_in bytes ≡ Err (SheetTooLarge size)
+pub too-large : (bytes : List ℕ) (size : ℕ) → size ≡ length bytes → longest_sheet < size → places_in bytes ≡ Err (Refused (SheetTooLarge size))
 too-large bytes size is large =
-    ap (λ b. cond b (Err (SheetTooLarge (length bytes))) (with_end (cue_of bytes))) (lt-ltb longest_sheet (length bytes) (omega (arith, is, large)))
-    ∙ ap (λ n. Err (SheetTooLarge n)) (sym is)
+    ap (λ b. cond b (Err (Refused (SheetTooLarge (length bytes)))) (with_end (cue_of bytes))) (lt-ltb longest_sheet (length bytes) (omega (arith, is, large)))
+    ∙ ap (λ n. Err (Refused (SheetTooLarge n))) (sym is)
 
 not-large : (bytes : List ℕ) → length bytes ≤ longest_sheet → places_in bytes ≡ with_end (cue_of bytes)
-not-large bytes most = ap (λ b. cond b (Err (SheetTooLarge (length bytes))) (with_end (cue_of bytes))) (le-ltb longest_sheet (length bytes) most)
+not-large bytes most = ap (λ b. cond b (Err (Refused (SheetTooLarge (length bytes)))) (with_end (cue_of bytes))) (le-ltb longest_sheet (length bytes) most)
 
 pub sheet-starts : (bytes : List ℕ) (starts places : List Place) → length bytes ≤ longest_sheet → cue_of bytes ≡ Ok starts → places ≡ starts ++ End ∷ [] → places_in bytes ≡ Ok places
 sheet-starts bytes starts places most cue is = not-large bytes most ∙ ap with_end cue ∙ ap Ok (sym is)
 
-pub sheet-fault : (bytes : List ℕ) (fault : CueFault) → length bytes ≤ longest_sheet → cue_of bytes ≡ Err fault → places_in bytes ≡ Err (Sheet fault)
+pub sheet-fault : (bytes : List ℕ) (fault : CueFault) → length bytes ≤ longest_sheet → cue_of bytes ≡ Err fault → places_in bytes ≡ Err (Refused (Sheet fault))
 sheet-fault bytes fault most cue = not-large bytes most ∙ ap with_end cue
 
 -- a sheet that was found, and whose bytes aren't read

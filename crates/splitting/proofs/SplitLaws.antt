@@ -4,9 +4,9 @@ use Rattle.std.specs.Prelude.{IfErr, OnOk}
 use Rattle.outside.specs.Files.{Holds}
 use Rattle.cue_sheet.specs.declared.place.Place.{Place}
 use Rattle.sync_survey.specs.Faults.{SurveyFields}
-use Rattle.edits.specs.declared.fault.EditFault.{EditFault}
-use Rattle.edits.specs.Command.{Output}
-use Rattle.edits.specs.Left.{Why, Refused, Missing, Unread, Shorter, Unwritten, Unsent, NoMemory, why_of, Seen}
+use Rattle.commands.specs.declared.fault.EditFault.{EditFault}
+use Rattle.commands.specs.Command.{Output}
+use Rattle.commands.specs.Left.{Why, Rejected, Missing, Unread, Shorter, Unwritten, Unsent, NoMemory, why_of, Seen}
 use Rattle.splitting.specs.declared.piece.Piece.{Piece}
 use Rattle.splitting.specs.Split.{chosen_at}
 use Rattle.splitting.specs.Steps.{ArePieces, chosen_of, outputs_of, with_outputs, with_part, IsWrittenPart, IsPiecesFaultBy, IsPiecesFault, IsOfPieces, IsMadeOf, IsMadePart, IsSplitFaultBy, IsSplitFault, IsOfSplit}
@@ -26,7 +26,7 @@ module _ (input : List ℕ) (s : SurveyFields) (places : List Place) (prefix : L
   }
 
   fault-by : (fault : EditFault) (why : Why) → IsPiecesFaultBy (outputs_of s pieces) input old new why → IsSplitFaultBy input s places prefix old new fault why
-  fault-by fault Refused h = absurd h
+  fault-by fault Rejected h = absurd h
   fault-by fault Missing h = absurd h
   fault-by fault Unread h = record { rose = h.rose; place = h.place; part = part-made h.place h.files }
   fault-by fault Shorter h = h

@@ -1,25 +1,30 @@
 -- One file cut at places: the frames between two neighbouring places are a piece, a file of its own.
-use Rattle.std.specs.Prelude.{ℕ, ◌+◌, ◌/◌, ◌%◌, nat_lt, if◌then◌else◌, false, List, [], ◌∷◌, ◌++◌, length, map, replicate, codes, Option, Some, None, Result, Ok, Err}
-use Rattle.std.specs.List.{range_with_len}
+use Rattle.std.specs.Prelude.{ℕ, ◌≤◌, ◌+◌, ◌/◌, ◌%◌, ◌||◌, nat_lt, if◌then◌else◌, Bool, true, false, List, [], ◌∷◌, ◌++◌, length, map, replicate, codes, Option, Some, None, Result, Ok, Err}
+use Rattle.std.specs.List.{All, range_with_len}
 use Rattle.frame_header.specs.Fields.{ClassFields}
 use Rattle.outside.specs.Files.{Contents}
 use Rattle.cue_sheet.specs.declared.cue_fault.CueFault.{CueFault}
+use Rattle.cue_sheet.specs.declared.cue_fault.CueFault.TheVariants.{Memory as NoRoom}
 use Rattle.cue_sheet.specs.declared.place.Place.{Place}
 use Rattle.cue_sheet.specs.declared.place.Place.TheVariants.{End}
-use Rattle.cue_sheet.specs.Places.{frame_at}
+use Rattle.cue_sheet.specs.Places.{frame_at, IsPlace}
 use Rattle.cue_sheet.specs.Cues.{cue_of}
 use Rattle.sync_survey.specs.declared.survey_fault.SurveyFault.{SurveyFault}
 use Rattle.sync_survey.specs.declared.survey_fault.SurveyFault.TheVariants.{Absent}
 use Rattle.sync_survey.specs.MainData.{StreamFrame}
 use Rattle.sync_survey.specs.Faults.{SurveyFields}
 use Rattle.sync_survey.specs.Survey.{survey_of}
-use Rattle.edits.specs.declared.fault.EditFault.{EditFault}
-use Rattle.edits.specs.declared.fault.EditFault.TheVariants.{EqualNames, Input, SheetTooLarge, Sheet}
-use Rattle.edits.specs.Choice.{then_made}
-use Rattle.edits.specs.Command.{Output, Made, Command, clash_from}
-use Rattle.edits.specs.Left.{longest_sheet}
-use Rattle.edits.specs.One.{most_frames}
-use Rattle.edits.specs.Chosen.{Chosen, chosen_with, chosen_file, chosen_stream}
+use Rattle.commands.specs.declared.fault.EditFault.{EditFault}
+use Rattle.commands.specs.declared.fault.EditFault.TheVariants.{EqualNames, Input, Refused}
+use Rattle.commands.specs.declared.fault.Refusal.{Refusal}
+use Rattle.commands.specs.declared.fault.Refusal.TheVariants.{SheetTooLarge, Sheet}
+use Rattle.commands.specs.Refusing.{then_made}
+use Rattle.commands.specs.Command.{Output, Made, Command, clash_from}
+use Rattle.commands.specs.One.{most_frames}
+use Rattle.frame_edits.specs.declared.chosen.Slots.TheVariants.{Own}
+use Rattle.splitting.specs.declared.split_file.Points.{Points}
+use Rattle.splitting.specs.declared.split_file.Points.TheVariants.{Places, Sheet as InSheet}
+use Rattle.frame_edits.specs.Chosen.{Chosen, cut_refuses, chosen_with, chosen_file, chosen_stream}
 
 -- ---- names
 
@@ -35,7 +40,7 @@ piece_names prefix = map (piece_name prefix) (range_with_len 1 99)
 
 -- the frames from one on and before another, in their own slots
 abbrev pub frames_between : ℕ → ℕ → ℕ → Result Chosen EditFault
-frames_between frames from to = chosen_with None (replicate 36 0) from to false frames
+frames_between frames from to = chosen_with None (replicate 36 0) from to Own frames
 
 abbrev pub with_first : Chosen → Result (List Chosen) EditFault → Result (List Chosen) EditFault
 with_first first (Ok more) = Ok (first ∷ more)
@@ -99,9 +104,10 @@ unfoldable pub streams_where : Result (List Place) EditFault → Option (List �
 streams_where places None = []
 streams_where places (Some file) = streams_by places file (survey_of file most_frames)
 
--- the places, or why there are none, by what the folder holds
-abbrev pub Placing : Type 0
-Placing = Contents → Result (List Place) EditFault
+-- the places, or why there are none, by what the folder holds; and which refusals there can be
+pub record Placing : Type 0 where
+  pub places : Contents → Result (List Place) EditFault
+  pub refuses : Refusal → Bool
 
 -- The input is cut at places that further inputs may say. It may write a file of each of the 99 names.
 abbrev pub split_command : Placing → List (List ℕ) → List ℕ → List ℕ → Command
@@ -110,33 +116,65 @@ split_command placing more input prefix = record {
   outputs = piece_names prefix;
   sources = input ∷ [];
   always = Some [];
-  makes = λ files. made_result prefix (input ∷ more) (placing files) (files input);
-  streams = λ files. streams_where (placing files) (files input);
+  makes = λ files. made_result prefix (input ∷ more) (placing.places files) (files input);
+  streams = λ files. streams_where (placing.places files) (files input);
+  refuses = placing.refuses;
 }
 
 abbrev pub given : List Place → Placing
-given places files = Ok places
+given places = record { places = λ files. Ok places; refuses = cut_refuses }
 
 -- the input is cut at these places
 abbrev pub split_at_command : List Place → List ℕ → List ℕ → Command
 split_at_command places input prefix = split_command (given places) [] input prefix
 
+-- ---- a cue sheet
+
+-- it may have so many bytes
+abbrev pub longest_sheet : ℕ
+longest_sheet = 65536
+
 -- from each start on, and up to the end
 abbrev pub with_end : Result (List Place) CueFault → Result (List Place) EditFault
 with_end (Ok starts) = Ok (starts ++ End ∷ [])
-with_end (Err fault) = Err (Sheet fault)
+with_end (Err fault) = Err (Refused (Sheet fault))
 
 -- the places that the bytes of a cue sheet say
 abbrev pub places_in : List ℕ → Result (List Place) EditFault
-places_in sheet = if nat_lt longest_sheet (length sheet) then Err (SheetTooLarge (length sheet)) else with_end (cue_of sheet)
+places_in sheet = if nat_lt longest_sheet (length sheet) then Err (Refused (SheetTooLarge (length sheet))) else with_end (cue_of sheet)
 
 abbrev pub places_where : Option (List ℕ) → Result (List Place) EditFault
 places_where None = Err (Input 1 Absent)
 places_where (Some sheet) = places_in sheet
 
+abbrev pub is_of_sheet : CueFault → Bool
+is_of_sheet NoRoom = false
+is_of_sheet _ = true
+
+-- what may be refused of a sheet
+abbrev pub sheet_refuses : Refusal → Bool
+sheet_refuses (SheetTooLarge size) = nat_lt longest_sheet size
+sheet_refuses (Sheet fault) = is_of_sheet fault
+sheet_refuses _ = false
+
+-- and of the places that it says
+abbrev pub told_refuses : Refusal → Bool
+told_refuses refusal = cut_refuses refusal || sheet_refuses refusal
+
 abbrev pub told_by : List ℕ → Placing
-told_by sheet files = places_where (files sheet)
+told_by sheet = record { places = λ files. places_where (files sheet); refuses = told_refuses }
 
 -- the input is cut at the starts that the sheet says
 abbrev pub split_by_command : List ℕ → List ℕ → List ℕ → Command
 split_by_command input sheet prefix = split_command (told_by sheet) (sheet ∷ []) input prefix
+
+-- ---- both as one
+
+abbrev pub split_command_of : Points → List ℕ → List ℕ → Command
+split_command_of (Places places) input prefix = split_at_command places.now input prefix
+split_command_of (InSheet sheet) input prefix = split_by_command input sheet.now prefix
+
+-- there are so many places, and each can be one
+abbrev pub ArePoints : Points → Type 0
+ArePoints (Places places) = All IsPlace places.now × (2 ≤ length places.now) × (length places.now ≤ 100)
+ArePoints (InSheet sheet) = Unit {0}

@@ -1,23 +1,22 @@
 -- The steps of a command that cuts a file.
-use Rattle.std.specs.Prelude.{◌≡◌, ◌≢◌, ℕ, ◌+◌, ◌<◌, List, [], ◌∷◌, length, map, string_bytes, Option, Some, Ok, Err, is_some, option_map}
+use Rattle.std.specs.Prelude.{◌≡◌, ◌≢◌, ℕ, ◌+◌, ◌<◌, true, List, [], ◌∷◌, length, map, string_bytes, Option, Some, Ok, Err, is_some, option_map}
 use Rattle.outside.specs.Files.{Files, Holds, IsThere, IsMissing}
 use Rattle.outside.specs.Counts.{Rose}
 use Rattle.sync_survey.specs.declared.survey_fault.SurveyFault.TheVariants.{Absent, Read, Shrunk, Memory as NoRoom}
 use Rattle.sync_survey.specs.Faults.{SurveyFields}
-use Rattle.edits.specs.declared.fault.EditFault.{EditFault}
-use Rattle.edits.specs.declared.fault.EditFault.TheVariants.{EqualNames, Input, Write as Unwritable, Differ, SheetTooLarge, Sheet, Sent, Memory}
+use Rattle.commands.specs.declared.fault.EditFault.{EditFault}
+use Rattle.commands.specs.declared.fault.EditFault.TheVariants.{Input, Refused, Write as Unwritable, Memory}
 use Rattle.cue_sheet.specs.declared.place.Place.{Place}
-use Rattle.cue_sheet.specs.declared.cue_fault.CueFault.TheVariants.{Memory as NoSheetRoom}
 use Rattle.outside.specs.declared.pass.PassFault.{PassFault}
 use Rattle.outside.specs.declared.pass.PassFault.TheVariants.{Read as CopyRead, Shrunk as CopyShrunk, Write as CopyWrite}
-use Rattle.edits.specs.Kinds.{HasRightNumbers}
-use Rattle.edits.specs.Command.{Output, written, written_to}
-use Rattle.edits.specs.Left.{Why, Refused, Missing, Unread, Shorter, Unwritten, Unsent, NoMemory, why_of, Seen, longest_sheet}
-use Rattle.edits.specs.One.{ReadsNothing, LosesInput}
-use Rattle.edits.specs.Chosen.{Chosen, chosen_in, chosen_file}
-use Rattle.edits.specs.Selected.{IsSelected}
+use Rattle.commands.specs.Kinds.{HasRightNumbers}
+use Rattle.commands.specs.Command.{Output, written, written_to}
+use Rattle.commands.specs.Left.{Why, Rejected, Missing, Unread, Shorter, Unwritten, Unsent, NoMemory, why_of, Seen}
+use Rattle.commands.specs.One.{ReadsNothing, LosesInput}
+use Rattle.frame_edits.specs.Chosen.{Chosen, chosen_in, chosen_file, cut_refuses}
+use Rattle.frame_edits.specs.Selected.{IsSelected}
 use Rattle.splitting.specs.declared.piece.Piece.{Piece}
-use Rattle.splitting.specs.Split.{piece_name, chosen_at, pieces_from, places_where}
+use Rattle.splitting.specs.Split.{piece_name, chosen_at, pieces_from, places_where, sheet_refuses}
 
 -- ---- the sheet
 
@@ -34,7 +33,7 @@ pub record MissesSheet (name : List ℕ) (old new : Seen) (fault : EditFault) : 
   pub files : new.files ≡ old.files
 
 abbrev pub IsSheetFaultBy : List ℕ → Seen → Seen → EditFault → Why → Type 0
-IsSheetFaultBy name old new fault Refused = RefusesSheet name old new fault
+IsSheetFaultBy name old new fault Rejected = RefusesSheet name old new fault
 IsSheetFaultBy name old new fault Missing = MissesSheet name old new fault
 IsSheetFaultBy name old new fault Unread = ReadsNothing old new
 IsSheetFaultBy name old new fault Shorter = LosesInput old new
@@ -127,8 +126,7 @@ IsOfCopy CopyWrite = Unit {0}
 -- the fault is one of the sheet, or want of memory
 abbrev pub IsOfSheet : EditFault → Type 0
 IsOfSheet (Input place fault) = (place ≡ 1) × (fault ≢ NoRoom) × HasRightNumbers fault
-IsOfSheet (SheetTooLarge size) = longest_sheet < size
-IsOfSheet (Sheet fault) = fault ≢ NoSheetRoom
+IsOfSheet (Refused refusal) = sheet_refuses refusal ≡ true
 IsOfSheet Memory = Unit {0}
 IsOfSheet _ = ⊥
 
@@ -156,7 +154,7 @@ pub record IsUnwritten (input : List ℕ) (s : SurveyFields) (places : List Plac
   pub part : IsMadePart input s places prefix place old.files new.files
 
 abbrev pub IsSplitFaultBy : List ℕ → SurveyFields → List Place → List ℕ → Seen → Seen → EditFault → Why → Type 0
-IsSplitFaultBy input s places prefix old new fault Refused = (chosen_at s.class (length s.frames) places ≡ Err fault) × (new ≡ old)
+IsSplitFaultBy input s places prefix old new fault Rejected = (chosen_at s.class (length s.frames) places ≡ Err fault) × (new ≡ old)
 IsSplitFaultBy input s places prefix old new fault Unread = IsUnread input s places prefix old new
 IsSplitFaultBy input s places prefix old new fault Shorter = LosesInput old new
 IsSplitFaultBy input s places prefix old new fault (Unwritten k) = IsUnwritten input s places prefix k old new
@@ -169,11 +167,8 @@ IsSplitFault input s places prefix old new fault = IsSplitFaultBy input s places
 
 -- the numbers of such a fault
 abbrev pub IsOfSplit : EditFault → Type 0
-IsOfSplit (EqualNames place) = ⊥
 IsOfSplit (Input place fault) = (place ≡ 0) × (fault ≢ NoRoom) × HasRightNumbers fault
+IsOfSplit (Refused refusal) = cut_refuses refusal ≡ true
 IsOfSplit (Unwritable place) = place < 99
-IsOfSplit (Differ place) = ⊥
-IsOfSplit (SheetTooLarge size) = ⊥
-IsOfSplit (Sheet fault) = ⊥
-IsOfSplit Sent = ⊥
-IsOfSplit _ = Unit {0}
+IsOfSplit Memory = Unit {0}
+IsOfSplit _ = ⊥

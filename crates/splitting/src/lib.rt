@@ -7,4 +7,4 @@ mod sheet;
 mod split_file;
 mod writing;
 
-pub use split_file::{split_at, split_by};
+pub use split_file::{Points, split};

@@ -4,14 +4,15 @@ ghost use Rattle.std.specs.List.{All};
 ghost use Rattle.cue_sheet.specs.Places.{IsPlace};
 ghost use Rattle.sync_survey.specs.Faults.{tells};
 ghost use Rattle.sync_survey.specs.Survey.{IsLaidOut};
-ghost use Rattle.edits.specs.Chosen.{chosen_in};
-ghost use Rattle.edits.specs.Left.{IsRefusal};
+ghost use Rattle.frame_edits.specs.Chosen.{chosen_in, cut_refuses};
+ghost use Rattle.commands.specs.Left.{IsRefusal};
 ghost use Rattle.splitting.specs.Split.{piece_name as piece_name_lem, frames_between, chosen_at};
 ghost use Rattle.splitting.specs.Steps.{IsReady, ArePieces, chosen_of};
 
 use crate::names::piece_name;
+use commands::EditFault;
 use cue_sheet::Place;
-use edits::{EditFault, Selection, choose, plan_file};
+use frame_edits::{Selection, Slots, choose, plan_file};
 use laying::Kept;
 use std::alloc::Global;
 use sync_survey::Survey;
@@ -39,10 +40,12 @@ fn make_piece(
     ensures name { IfOk result (λ piece. string_bytes piece.name ≡ piece_name_lem prefix.now number) }
     ensures ready { IfOk result (IsReady (tells survey.now)) }
     ensures chosen { MatchResult result
-        (λ piece. frames_between (length (tells survey.now).frames) from to ≡ Ok (chosen_in piece.selection.chosen))
-        (λ fault. (fault ≡ EditFault.Memory) ⊎ (IsRefusal fault × (frames_between (length (tells survey.now).frames) from to ≡ Err fault))) }
+        (λ piece. frames_between (length (tells survey.now).frames) from to
+        ≡ Ok (chosen_in piece.selection.chosen))
+        (λ fault. (fault ≡ EditFault.Memory) ⊎ (IsRefusal cut_refuses fault
+        × (frames_between (length (tells survey.now).frames) from to ≡ Err fault))) }
 {
-    let chosen = choose(from, to, survey.frames().len(), false, Kept::none())?;
+    let chosen = choose(from, to, survey.frames().len(), Slots::Own, Kept::none())?;
     let planned = plan_file(alloc, survey, &chosen)?;
     Ok(Piece {
         name: piece_name(alloc, prefix, number)?,
@@ -66,8 +69,11 @@ pub(crate) fn make_pieces(
     ensures pieces { IfOk result (λ pieces. ArePieces prefix.now (tells survey.now) 1 pieces.items) }
     ensures count { IfOk result (λ pieces. length pieces.items + 1 ≡ length places.now) }
     ensures chosen { MatchResult result
-        (λ pieces. chosen_at (tells survey.now).class (length (tells survey.now).frames) places.now ≡ Ok (map chosen_of pieces.items))
-        (λ fault. (fault ≡ EditFault.Memory) ⊎ (IsRefusal fault × (chosen_at (tells survey.now).class (length (tells survey.now).frames) places.now ≡ Err fault))) }
+        (λ pieces. chosen_at (tells survey.now).class (length
+        (tells survey.now).frames) places.now ≡ Ok (map chosen_of pieces.items))
+        (λ fault. (fault ≡ EditFault.Memory) ⊎ (IsRefusal cut_refuses fault
+        × (chosen_at (tells survey.now).class (length (tells survey.now).frames) places.now
+        ≡ Err fault))) }
 {
     let class = survey.class();
     let frames = survey.frames().len() as u32;

@@ -4,12 +4,12 @@ ghost use Rattle.std.specs.List.{All};
 ghost use Rattle.outside.specs.Files.{Holds, IsThere};
 ghost use Rattle.outside.specs.Counts.{OnlyReads};
 ghost use Rattle.cue_sheet.specs.Places.{IsPlace};
-ghost use Rattle.edits.specs.Left.{seen, longest_sheet};
-ghost use Rattle.splitting.specs.Split.{places_in as places_in_lem, places_where};
+ghost use Rattle.commands.specs.Left.{seen};
+ghost use Rattle.splitting.specs.Split.{longest_sheet, places_in as places_in_lem, places_where};
 ghost use Rattle.splitting.specs.Steps.{IsSheetFault, IsOfSheet};
 
+use commands::{EditFault, Refusal};
 use cue_sheet::{Cue, CueFault, Place};
-use edits::EditFault;
 use outside::{FindFault, Folder, read_exact};
 use std::alloc::Global;
 use sync_survey::SurveyFault;
@@ -35,7 +35,7 @@ fn sheet_length<D: Folder>(folder: &mut D, sheet: &str) -> Result<u64, EditFault
     ensures counts { OnlyReads (D.counts folder.old) (D.counts folder.new) }
 {
     match folder.find(sheet) {
-        Ok(length) if length > LONGEST_SHEET => Err(EditFault::SheetTooLarge(length)),
+        Ok(length) if length > LONGEST_SHEET => Err(Refusal::SheetTooLarge(length).into()),
         Ok(length) => Ok(length),
         Err(FindFault::Absent) => Err(EditFault::Input(SHEET, SurveyFault::Absent)),
         Err(FindFault::Failed) => Err(EditFault::Input(SHEET, SurveyFault::Read)),
@@ -69,7 +69,8 @@ fn places_in(alloc: Global, bytes: &[u8]) -> Result<Vec<Place>, EditFault>
     requires { length bytes.now ≤ longest_sheet }
     ensures places { MatchResult result
         (λ places. places_in_lem bytes.now ≡ Ok places.items)
-        (λ fault. (fault ≡ EditFault.Memory) ⊎ (IsOfSheet fault × (places_in_lem bytes.now ≡ Err fault))) }
+        (λ fault. (fault ≡ EditFault.Memory) ⊎ (IsOfSheet fault
+        × (places_in_lem bytes.now ≡ Err fault))) }
     ensures sound { IfOk result (λ places. All IsPlace places.items) }
     ensures some { IfOk result (λ places. 2 ≤ length places.items) }
     ensures most { IfOk result (λ places. length places.items ≤ 100) }
@@ -77,7 +78,7 @@ fn places_in(alloc: Global, bytes: &[u8]) -> Result<Vec<Place>, EditFault>
     let cue = match Cue::read(alloc, bytes) {
         Ok(cue) => cue,
         Err(CueFault::Memory) => return Err(EditFault::Memory),
-        Err(fault) => return Err(EditFault::Sheet(fault)),
+        Err(fault) => return Err(Refusal::Sheet(fault).into()),
     };
     let mut places = cue.starts().to_vec(alloc)?;
     places.push(Place::End)?;

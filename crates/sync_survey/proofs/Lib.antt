@@ -19,3 +19,4 @@ pub mod ItemLists
 pub mod SurveyParts
 pub mod HeadSame
 pub mod PlacedRows
+pub mod SurveyedFiles

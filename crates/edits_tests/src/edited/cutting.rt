@@ -3,7 +3,7 @@
 use crate::files::{expect_file, expect_part, put_file};
 use crate::two::TWO;
 use cue_sheet::Place;
-use edits::{EditFault, cut, pack};
+use edits::{EditFault, Refusal, cut, pack};
 use outside::MemFolder;
 use std::alloc::{AllocError, AllocGlobal, Global};
 use std::process::Abort;
@@ -55,7 +55,7 @@ fn expect_second<R: Abort + AllocGlobal>(rt: &R, folder: &mut MemFolder) -> Resu
     assert_eq!(rt; cut_from(rt.alloc(), folder, Some(1)), Ok(()));
     expect_file(rt, folder, "b", &[&SECOND], 729)?;
     let none = cut_from(rt.alloc(), folder, None);
-    assert_eq!(rt; none, Err(EditFault::Range(2, 2, 2)));
+    assert_eq!(rt; none, Err(EditFault::Refused(Refusal::Range(2, 2, 2))));
     expect_file(rt, folder, "b", &[&SECOND], 729)?;
     Ok(())
 }

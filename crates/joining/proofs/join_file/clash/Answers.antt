@@ -1,6 +1,6 @@
 -- One name after another.
 use Rattle.std.proofs.Common.{◌≡◌, ◌+◌, ℕ, List, [], ◌∷◌, Some, true, false, string_bytes, bytes_eq, refl, sym, ◌∙◌, ap, arith, rules}
-use Rattle.edits.specs.Command.{clash_from}
+use Rattle.commands.specs.Command.{clash_from}
 use Rattle.joining.proofs.LayLaws.{map-next}
 use Rattle.joining.proofs.join_file.clash.Goals as goal
 

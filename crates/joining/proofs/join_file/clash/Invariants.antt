@@ -1,6 +1,6 @@
 -- No name before is the output's.
 use Rattle.std.proofs.Common.{◌≡◌, [], ◌∷◌, map, drop, string_bytes}
-use Rattle.edits.specs.Command.{clash_from}
+use Rattle.commands.specs.Command.{clash_from}
 use Rattle.joining.proofs.join_file.clash.Given as goal
 
 abbrev pub invariant-loop-place : goal.invariant-loop-place

@@ -4,8 +4,8 @@ use Rattle.std.proofs.lemmas.List.{length-map}
 use Rattle.std.proofs.lemmas.Result.{err_from_is_err_and}
 use Rattle.frame_writer.proofs.WritingLaws.{ok-both}
 use Rattle.sync_survey.specs.Faults.{SurveyFields, tells}
-use Rattle.edits.specs.One.{most_frames, holding, IsPassFault}
-use Rattle.edits.specs.Left.{Seen, seen}
+use Rattle.commands.specs.One.{most_frames, holding, IsPassFault}
+use Rattle.commands.specs.Left.{Seen, seen}
 use Rattle.joining.specs.Join.{joined_file}
 use Rattle.joining.specs.Inputs.{CanBeJoined, told_parts}
 use Rattle.joining.proofs.PlanLaws.{inputs-join, can-some}

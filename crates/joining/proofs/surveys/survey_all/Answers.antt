@@ -4,8 +4,8 @@ use Rattle.std.proofs.lemmas.List.{length-map, length-take, map-append, take-app
 use Rattle.std.proofs.lemmas.Result.{err_from_is_err_and}
 use Rattle.frame_header.specs.Fields.{ClassFields}
 use Rattle.sync_survey.specs.Faults.{SurveyFields, tells}
-use Rattle.edits.specs.One.{most_frames}
-use Rattle.edits.specs.Left.{seen}
+use Rattle.commands.specs.One.{most_frames}
+use Rattle.commands.specs.Left.{seen}
 use Rattle.joining.specs.Inputs.{IsInput, Follows, AreInputs, class_in, frames_of}
 use Rattle.joining.proofs.InputLaws.{IsFound, after-none, inputs-more, take-next, frames-more, found-input, memory-leaves, part-left_at}
 use Rattle.joining.proofs.LayLaws.{map-next}

@@ -1,7 +1,7 @@
 -- The inputs so far have their surveys, and no file and no count changed.
 use Rattle.std.proofs.Common.{◌≡◌, ◌+◌, None, map, take, string_bytes}
 use Rattle.sync_survey.specs.Faults.{tells}
-use Rattle.edits.specs.One.{most_frames}
+use Rattle.commands.specs.One.{most_frames}
 use Rattle.joining.specs.Inputs.{AreInputs, frames_of}
 use Rattle.joining.proofs.surveys.survey_all.Given as goal
 

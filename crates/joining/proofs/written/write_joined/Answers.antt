@@ -7,9 +7,9 @@ use Rattle.frame_header.specs.Fields.{ClassFields}
 use Rattle.frame_writer.specs.Writing.{IsNew}
 use Rattle.frame_writer.proofs.WritingLaws.{ok-map}
 use Rattle.sync_survey.specs.Faults.{tells}
-use Rattle.edits.specs.One.{most_frames}
+use Rattle.commands.specs.One.{most_frames}
 use Rattle.outside.specs.Pass.{Appends, AppendsPrefix}
-use Rattle.edits.proofs.OutputLaws.{told_whole, told_prefix}
+use Rattle.commands.proofs.OutputLaws.{told_whole, told_prefix}
 use Rattle.joining.specs.Join.{joined_file}
 use Rattle.joining.specs.Inputs.{CanBeJoined, AreAlike, told_parts}
 use Rattle.joining.specs.Laying.{AreSources}
@@ -76,8 +76,8 @@ returns-clause-told g c =
     let same : joined_file (told_parts mid names ss) ≡ whole = ap joined_file (told-emptied alike.0 output old mid names ss created are) in
     let bytes = λ (_ : List ℕ). joined_file (told_parts mid names ss) in
     either c.append_joined.result c.append_joined.ensures.written c.append_joined.ensures.prefix
-    (λ written. told_whole bytes 0 source.0 output source.1 old mid new created (written source.0 source.1))
-    (λ prefix. told_prefix bytes 0 source.0 output source.1 old mid new created (prefix source.0 source.1))
+    (λ written. told_whole bytes source.0 output source.1 old mid new created (written source.0 source.1))
+    (λ prefix. told_prefix bytes source.0 output source.1 old mid new created (prefix source.0 source.1))
 
 pub returns-clause-left : goal.returns-clause-left
 returns-clause-left g c =

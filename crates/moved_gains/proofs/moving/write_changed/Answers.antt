@@ -10,11 +10,11 @@ use Rattle.sync_survey.specs.Faults.{SurveyFields, tells}
 use Rattle.sync_survey.specs.Survey.{survey_of}
 use Rattle.moved_gains.specs.declared.shift.Steps.{Steps}
 use Rattle.moved_gains.specs.declared.moving.NewTag.{NewTag}
-use Rattle.moved_gains.specs.Limits.{most_frames}
+use Rattle.sync_survey.specs.Limits.{most_frames}
 use Rattle.moved_gains.specs.Change.{Change, changed, change_in}
 use Rattle.moved_gains.specs.Moving.{AreRowsOf, copied, written_from, IsNewTag}
 use Rattle.moved_gains.proofs.MovingLaws.{laid_end, survey_of-length, survey_of-rows}
-use Rattle.moved_gains.proofs.SurveyedFiles.{survey_of-parts}
+use Rattle.sync_survey.proofs.SurveyedFiles.{survey_of-parts}
 use Rattle.moved_gains.proofs.WrittenTag.{written-changed}
 use Rattle.moved_gains.proofs.moving.write_changed.Goals as goal
 

@@ -1,17 +1,18 @@
 -- A bad word is refused as it is defined, and each clause follows from the answer of the command.
-use Rattle.std.proofs.Common.{sym, ◌∙◌, map, string_bytes}
-use Rattle.edits.specs.Left.{seen}
-use Rattle.edits.specs.Said.{heard}
+use Rattle.std.proofs.Common.{sym, ap, ◌∙◌, map, string_bytes}
+use Rattle.job_words.specs.Code.{asked, answer}
+use Rattle.commands.specs.Left.{seen}
+use Rattle.commands.specs.Said.{heard}
 use Rattle.mp3_cli.proofs.RunLaws.{bad_word_defined, is_defined, is_accepted, quiet}
 use Rattle.mp3_cli.proofs.program.run.Goals as goal
 
 pub returns-in-Err-clause-defined : goal.returns-in-Err-clause-defined
 returns-in-Err-clause-defined g c low =
-    bad_word_defined _ (g.D.Folder.files c.args.folder.now) c.in-Err.word (heard (g.T.Sink.sent c.args.out.now) (g.T.Sink.faults c.args.out.now)) _ _ (sym c.job.ensures.exact ∙ c.in-Err.is) c.send_bad_word.ensures
+    bad_word_defined _ (seen (g.D.Folder.files c.args.folder.now) (g.D.Folder.counts c.args.folder.now)) c.in-Err.word (heard (g.T.Sink.sent c.args.out.now) (g.T.Sink.faults c.args.out.now)) _ _ (sym c.job.ensures.exact ∙ ap answer c.in-Err.is) c.send_bad_word.ensures
 
 pub returns-in-Ok-clause-defined : goal.returns-in-Ok-clause-defined
 returns-in-Ok-clause-defined g c =
-    is_defined (map string_bytes c.args.words.now) c.in-Ok.job (sym c.job.ensures.exact ∙ c.in-Ok.is)
+    is_defined (map string_bytes c.args.words.now) (asked c.in-Ok.job) (sym c.job.ensures.exact ∙ ap answer c.in-Ok.is)
     (seen (g.D.Folder.files c.args.folder.now) (g.D.Folder.counts c.args.folder.now)) (seen (g.D.Folder.files c.run_job.new.folder) (g.D.Folder.counts c.run_job.new.folder))
     _ _ _ _ _ c.run_job.ensures.answers
 
@@ -20,6 +21,6 @@ returns-in-Ok-clause-quiet g c = quiet _ _ _ _ _ _ _ _ c.run_job.ensures.answers
 
 pub returns-in-Ok-clause-accepted : goal.returns-in-Ok-clause-accepted
 returns-in-Ok-clause-accepted g c f told =
-    is_accepted (map string_bytes c.args.words.now) c.in-Ok.job (sym c.job.ensures.exact ∙ c.in-Ok.is)
+    is_accepted (map string_bytes c.args.words.now) (asked c.in-Ok.job) (sym c.job.ensures.exact ∙ ap answer c.in-Ok.is)
     (seen (g.D.Folder.files c.args.folder.now) (g.D.Folder.counts c.args.folder.now)) (seen (g.D.Folder.files c.run_job.new.folder) (g.D.Folder.counts c.run_job.new.folder))
     _ _ _ _ _ c.run_job.ensures.answers f told

@@ -1,6 +1,6 @@
 -- The lines are the text.
 use Rattle.std.proofs.Common.{refl, subst}
-use Rattle.edits.specs.Said.{heard, Says, fault_of}
+use Rattle.commands.specs.Said.{heard, Says, fault_of}
 use Rattle.mp3_cli.specs.Texts.{version_text}
 use Rattle.mp3_cli.specs.Run.{said_command}
 use Rattle.mp3_cli.proofs.texts.say_version.Goals as goal

@@ -5,7 +5,7 @@ use Rattle.cue_sheet.specs.declared.place.Place.{Place}
 use Rattle.cue_sheet.specs.declared.place.Place.TheVariants.{Frame}
 use Rattle.cue_sheet.specs.Places.{frame_at}
 use Rattle.sync_survey.specs.Faults.{tells}
-use Rattle.edits.specs.Chosen.{Chosen}
+use Rattle.frame_edits.specs.Chosen.{Chosen}
 use Rattle.splitting.specs.Split.{frames_between, chosen_from}
 use Rattle.splitting.specs.Steps.{ArePieces, chosen_of}
 use Rattle.splitting.proofs.PiecesLaws.{chosen_before, pieces-push, place-chosen}

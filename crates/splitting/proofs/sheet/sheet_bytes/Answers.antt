@@ -1,8 +1,8 @@
 -- All bytes of the sheet come, or the cause is that of the read.
 use Rattle.std.proofs.Common.{sym, subst}
 use Rattle.outside.specs.Files.{Holds}
-use Rattle.edits.specs.Left.{seen}
-use Rattle.edits.specs.declared.fault.EditFault.TheVariants.{Input}
+use Rattle.commands.specs.Left.{seen}
+use Rattle.commands.specs.declared.fault.EditFault.TheVariants.{Input}
 use Rattle.splitting.specs.Steps.{IsSheetFault, IsOfSheet}
 use Rattle.splitting.proofs.SheetLaws.{read-fault, read-number}
 use Rattle.splitting.proofs.sheet.sheet_bytes.Goals as goal

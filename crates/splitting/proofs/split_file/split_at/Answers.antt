@@ -2,11 +2,11 @@
 use Rattle.std.proofs.Common.{◌≡◌, None, [], sym, ◌∙◌, ap₂, refl}
 use Rattle.std.proofs.lemmas.Result.{err_from_is_err_and}
 use Rattle.sync_survey.specs.Faults.{tells}
-use Rattle.edits.specs.Command.{clash_of}
-use Rattle.edits.specs.Left.{seen}
+use Rattle.commands.specs.Command.{clash_of}
+use Rattle.commands.specs.Left.{seen}
 use Rattle.splitting.specs.Split.{piece_names, given, split_at_command}
 use Rattle.splitting.proofs.CommandLaws.{given-late, given-are, equal-left, input-left, done-by, left-by, streams-by_result}
-use Rattle.splitting.proofs.NumbersLaws.{clash-at, clash-behind, survey-numbers, split-numbers_by, names-by, names-equal}
+use Rattle.splitting.proofs.NumbersLaws.{clash-at, clash-behind, survey-numbers, split-numbers_by, given-refuses, names-by, names-equal}
 use Rattle.splitting.proofs.split_file.split_at.Goals as goal
 
 pub returns-then-is_piece_name-clause-left : goal.returns-then-is_piece_name-clause-left
@@ -55,7 +55,7 @@ returns-clause-left g c =
     c.split_surveyed.result c.split_surveyed.ensures.left
 
 pub returns-clause-numbers : goal.returns-clause-numbers
-returns-clause-numbers g c = split-numbers_by (given c.args.places.now) [] c.args.input.now c.args.prefix.now c.split_surveyed.result c.split_surveyed.ensures.numbers
+returns-clause-numbers g c = split-numbers_by (given c.args.places.now) [] c.args.input.now c.args.prefix.now (given-refuses c.args.places.now) c.split_surveyed.result c.split_surveyed.ensures.numbers
 
 pub returns-clause-names : goal.returns-clause-names
 returns-clause-names g c =

@@ -4,11 +4,11 @@ use Rattle.std.specs.List.{list_any}
 use Rattle.std.proofs.lemmas.Result.{err_from_is_err_and}
 use Rattle.outside.specs.Files.{Holds, IsThere}
 use Rattle.sync_survey.specs.Faults.{tells}
-use Rattle.edits.specs.Command.{clash_of}
-use Rattle.edits.specs.Left.{seen}
+use Rattle.commands.specs.Command.{clash_of}
+use Rattle.commands.specs.Left.{seen}
 use Rattle.splitting.specs.Split.{piece_names, told_by, split_by_command}
 use Rattle.splitting.proofs.CommandLaws.{told-late, equal-left, input-left, sheet-left-behind, sheet-places, done-by, left-by, streams-by_result}
-use Rattle.splitting.proofs.NumbersLaws.{clash-at, clash-behind, split-numbers_by}
+use Rattle.splitting.proofs.NumbersLaws.{clash-at, clash-behind, split-numbers_by, told-refuses}
 use Rattle.splitting.proofs.split_file.split_by.Goals as goal
 
 no-clash : (input sheet prefix : List ℕ) → list_any (bytes_eq input) (piece_names prefix) ≡ false → list_any (bytes_eq sheet) (piece_names prefix) ≡ false → clash_of (split_by_command input sheet prefix) ≡ None
@@ -70,7 +70,7 @@ returns-clause-left g c =
     (ap₂ seen (c.sheet_places.ensures.files ∙ surveyed) (c.in_ok-places.ensures.done ∙ c.in_ok-survey.ensures.done)) c.in_ok-survey.ensures.there c.in_ok-survey.ensures.surveyed are c.split_surveyed.result c.split_surveyed.ensures.left
 
 pub returns-clause-numbers : goal.returns-clause-numbers
-returns-clause-numbers g c = split-numbers_by (told_by c.args.sheet.now) (c.args.sheet.now ∷ []) c.args.input.now c.args.prefix.now c.split_surveyed.result c.split_surveyed.ensures.numbers
+returns-clause-numbers g c = split-numbers_by (told_by c.args.sheet.now) (c.args.sheet.now ∷ []) c.args.input.now c.args.prefix.now (told-refuses c.args.sheet.now) c.split_surveyed.result c.split_surveyed.ensures.numbers
 
 pub returns-clause-streams : goal.returns-clause-streams
 returns-clause-streams g c =

@@ -1,7 +1,7 @@
 -- The pieces are made, and then written.
 use Rattle.std.proofs.Common.{length, arith}
 use Rattle.sync_survey.specs.Faults.{tells}
-use Rattle.edits.specs.Left.{seen}
+use Rattle.commands.specs.Left.{seen}
 use Rattle.splitting.proofs.PiecesLaws.{can-be-written}
 use Rattle.splitting.proofs.SplitLaws.{split-fault, split-made, split-numbers_of}
 use Rattle.splitting.proofs.split_file.split_surveyed.Goals as goal

@@ -1,8 +1,8 @@
 -- The output is created, and then written by a pass over the input, which stays.
 use Rattle.std.proofs.Common.{◌≢◌, ◌∙◌}
 use Rattle.sync_survey.specs.Faults.{tells}
-use Rattle.edits.specs.Selected.{selected_file}
-use Rattle.edits.proofs.LaidPass.{relay-ready, survey-still}
+use Rattle.frame_edits.specs.Selected.{selected_file}
+use Rattle.frame_edits.proofs.LaidPass.{relay-ready, survey-still}
 use Rattle.splitting.proofs.OutputsLaws.{fed-beside, piece-whole, piece-told, piece-left}
 use Rattle.splitting.proofs.writing.write_piece.Goals as goal
 

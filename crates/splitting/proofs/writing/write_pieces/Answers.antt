@@ -2,7 +2,7 @@
 use Rattle.std.proofs.Common.{◌≡◌, ◌∷◌, [], ◌++◌, length, refl, sym, ◌∙◌, ap, subst, append_assoc, length-append, arith}
 use Rattle.std.specs.Vec.Iter.{into_iter_items}
 use Rattle.sync_survey.specs.Faults.{tells}
-use Rattle.edits.specs.Left.{seen}
+use Rattle.commands.specs.Left.{seen}
 use Rattle.splitting.specs.Steps.{CanBeWritten, outputs_of, IsPiecesFault}
 use Rattle.splitting.proofs.OutputsLaws.{none-wrote, more-wrote, pieces-fault}
 use Rattle.splitting.proofs.writing.write_pieces.Goals as goal

@@ -1,18 +1,23 @@
 -- Which name stands at the place.
-use Rattle.std.proofs.Common.{refl, arith}
-use Rattle.mp3_cli.specs.Names.{names_in}
-use Rattle.mp3_cli.proofs.Names.{piece_at, no_piece_at, none_behind_one, no_name}
+use Rattle.std.proofs.Common.{◌≡◌, ◌+◌, ◌%◌, [], ℕ, refl, ap, sym, arith}
+use Rattle.splitting.specs.Split.{piece_name}
+use Rattle.mp3_cli.specs.Lines.{Name}
+use Rattle.mp3_cli.specs.Names.{name_in, names_in}
+use Rattle.mp3_cli.proofs.Names.{piece_at, no_piece_at, none_behind_one}
 use Rattle.mp3_cli.proofs.output_names.Outputs.named.Goals as goal
 use Rattle.mp3_cli.proofs.output_names.Outputs.named.Goals.{in_default-via-in-One+else-place-eq0, in_default-via-in-Pieces+else-place-lt99, in_default-via-in_default}
 
 pub returns-in-Pieces : goal.returns-in-Pieces
-returns-in-Pieces c = rw (c.in-Pieces.is, piece_at c.in-Pieces.prefix.now c.args.place c.if-place-lt99.true) c.piece_parts.ensures
+returns-in-Pieces c =
+    let two : (c.args.place + 1) % 100 ≡ c.args.place + 1 = omega (arith, c.if-place-lt99.true) in
+    rw (c.in-Pieces.is, piece_at c.in-Pieces.prefix.now c.args.place c.if-place-lt99.true) (ap (λ (number : ℕ). Name (piece_name c.in-Pieces.prefix.now number)) two)
 
 pub returns-in_default : goal.returns-in_default
 returns-in_default c =
-    no_name (names_in c.args.self) c.args.place c.args.behind.now
-    (elim c.in_default.branch [
+    let none : name_in (names_in c.args.self) c.args.place ≡ [] =
+    elim c.in_default.branch [
       | in_default-via-in-One+else-place-eq0 w ↦ rw w.in-One.is (none_behind_one w.in-One.name.now c.args.place w.if-place-eq0.false)
       | in_default-via-in-Pieces+else-place-lt99 w ↦ rw w.in-Pieces.is (no_piece_at w.in-Pieces.prefix.now c.args.place (omega (arith, w.if-place-lt99.false)))
       | in_default-via-in_default w ↦ rw w.in_default.is refl
-    ])
+    ] in
+    ap Name (sym none)

@@ -1,0 +1,206 @@
+-- A command that reads one file: the faults of its input, and what it makes of it.
+use Rattle.std.proofs.Common.{◌≡◌, ℕ, ◌≤◌, true, false, List, [], ◌∷◌, length, Option, Some, None, refl, sym, ◌∙◌, ap, ap₂, subst, Result, Ok, Err, arith}
+use Rattle.std.specs.Prelude.{Bool, IfSome, IfErr, unwrap_or}
+use Rattle.bit_fields.specs.Bits.{AreBytes}
+use Rattle.outside.specs.Files.{Contents, Files, Holds, IsThere}
+use Rattle.outside.specs.Counts.{Counts}
+use Rattle.outside.proofs.FilesLaws.{there_holds}
+use Rattle.sync_survey.specs.declared.survey_fault.SurveyFault.{SurveyFault}
+use Rattle.sync_survey.specs.declared.survey_fault.SurveyFault.TheVariants.{Absent, TooLong, NoFrame, LostSync, Truncated, FreeFormat, Mixed, CheckWord, BackPointer, Overlap, Overrun, TooManyFrames, Shrunk, Read, Memory as NoRoom}
+use Rattle.sync_survey.specs.MainData.{StreamFrame}
+use Rattle.sync_survey.specs.Faults.{longest_file, SurveyFields, surveyed, HoldsStream}
+use Rattle.sync_survey.specs.Survey.{survey_of, RefusesBytes as SurveyRefuses, IsSurveyFault}
+use Rattle.sync_survey.proofs.BytesFaults.{IsOfBytes, surveyed_of_bytes}
+use Rattle.sync_survey.proofs.FoldersLaws.{survey_of-short}
+use Rattle.commands.specs.declared.fault.EditFault.{EditFault}
+use Rattle.commands.specs.declared.fault.EditFault.TheVariants.{EqualNames, Input, Refused, Write, Sent, Memory}
+use Rattle.commands.specs.declared.fault.Refusal.{Refusal}
+use Rattle.commands.specs.Kinds.{of_survey, HasRightNumbers}
+use Rattle.commands.specs.One.{Making, most_frames, made_by, made_file, made_where, file_task, Refuses, RefusesFile, RefusesInput, IsFileFaultBy, IsFileFault, IsInputFaultBy, IsInputFault, IsEarlyFaultBy, IsEarlyFault, IsOfInputs, IsMaking, IsProper}
+use Rattle.commands.specs.Command.{AreSound}
+use Rattle.commands.specs.Left.{Why, Rejected, Missing, Unread, Shorter, Unwritten, Unsent, NoMemory, why_of, Seen, seen, is_before_memory, IsLate, IsOfSurvey, IsOfInput, IsRefusal}
+use Rattle.sync_survey.proofs.SurveyedFiles.{survey_of-parts, survey_of-sound}
+
+-- ---- the survey of the input
+
+made-fault : (make : Making) (bytes : List ℕ) (fault : SurveyFault) → survey_of bytes most_frames ≡ Err fault → made_file make bytes ≡ Err (Input 0 fault)
+unfolding made_file
+made-fault make bytes fault is = ap (made_by make bytes) is
+
+pub made-survey : (make : Making) (bytes : List ℕ) (s : SurveyFields) → survey_of bytes most_frames ≡ Ok s → made_file make bytes ≡ make bytes s
+unfolding made_file
+made-survey make bytes s is = ap (made_by make bytes) is
+
+module _ (place allowed : ℕ) (name : List ℕ) (files new : Files) (before after : Counts) (same : new ≡ files) where
+  refused : (fault : SurveyFault) → SurveyRefuses name files allowed before after fault → (f : SurveyFault) × (Input place fault ≡ Input place f) × RefusesFile allowed name (seen files before) (seen new after) f
+  refused fault h = (fault, refl, record { there = h.there; bytes = h.bytes; stays = ap₂ seen same h.counts })
+
+  -- a fault of the survey is one of this input
+  pub survey_is_fault : (fault : SurveyFault) → IsSurveyFault name files allowed before after fault → IsFileFault place allowed name (seen files before) (seen new after) (of_survey place fault)
+  survey_is_fault Absent h = (refl, h.0, h.1, same)
+  survey_is_fault (TooLong size) h = refused (TooLong size) h
+  survey_is_fault (NoFrame at) h = refused (NoFrame at) h
+  survey_is_fault (LostSync at) h = refused (LostSync at) h
+  survey_is_fault (Truncated at) h = refused (Truncated at) h
+  survey_is_fault (FreeFormat at) h = refused (FreeFormat at) h
+  survey_is_fault (Mixed at) h = refused (Mixed at) h
+  survey_is_fault (CheckWord at said right) h = refused (CheckWord at said right) h
+  survey_is_fault (BackPointer at begin present) h = refused (BackPointer at begin present) h
+  survey_is_fault (Overlap at) h = refused (Overlap at) h
+  survey_is_fault (Overrun at bits room) h = refused (Overrun at bits room) h
+  survey_is_fault (TooManyFrames at) h = refused (TooManyFrames at) h
+  survey_is_fault (Shrunk first second) h = record { rose = h.ended; counts = h.counts; untold_before = h.nothing_told; untold_after = same ∙ h.nothing_told }
+  survey_is_fault Read h = record { rose = h; files = same }
+  survey_is_fault NoRoom h = record { there = h.there; few = h.few; stays = ap₂ seen same h.counts }
+
+pub survey_numbers : (place : ℕ) (fault : SurveyFault) → HasRightNumbers fault → IsOfSurvey place (of_survey place fault)
+survey_numbers place Absent right = (refl, (λ e. cc), right)
+survey_numbers place (TooLong size) right = (refl, (λ e. cc), right)
+survey_numbers place (NoFrame at) right = (refl, (λ e. cc), right)
+survey_numbers place (LostSync at) right = (refl, (λ e. cc), right)
+survey_numbers place (Truncated at) right = (refl, (λ e. cc), right)
+survey_numbers place (FreeFormat at) right = (refl, (λ e. cc), right)
+survey_numbers place (Mixed at) right = (refl, (λ e. cc), right)
+survey_numbers place (CheckWord at said word) right = (refl, (λ e. cc), right)
+survey_numbers place (BackPointer at begin present) right = (refl, (λ e. cc), right)
+survey_numbers place (Overlap at) right = (refl, (λ e. cc), right)
+survey_numbers place (Overrun at bits room) right = (refl, (λ e. cc), right)
+survey_numbers place (TooManyFrames at) right = (refl, (λ e. cc), right)
+survey_numbers place (Shrunk first second) right = (refl, (λ e. cc), right)
+survey_numbers place Read right = (refl, (λ e. cc), right)
+survey_numbers place NoRoom right = tt
+
+-- and so one of the only input, whatever the command makes of it
+module _ (make : Making) (name : List ℕ) (old new : Seen) (fault : EditFault) where
+  fault_is_input_by : (why : Why) → IsFileFaultBy 0 most_frames name old new fault why → IsInputFaultBy make name old new fault why
+  fault_is_input_by Rejected h =
+      subst (RefusesInput make name old new) (sym h.1) (record { there = h.2.there; bytes = λ bytes holds. made-fault make bytes h.0 (h.2.bytes bytes holds); stays = h.2.stays })
+  fault_is_input_by Missing h = record { is = h.0; missing = h.1; rose = h.2; files = h.3 }
+  fault_is_input_by Unread h = h
+  fault_is_input_by Shorter h = h
+  fault_is_input_by (Unwritten k) h = absurd h
+  fault_is_input_by Unsent h = absurd h
+  fault_is_input_by NoMemory h = h
+
+  pub fault_is_input : IsFileFault 0 most_frames name old new fault → IsInputFault make name old new fault
+  fault_is_input h = fault_is_input_by (why_of fault) h
+
+pub of_survey_input : (refuses : Refusal → Bool) (fault : EditFault) → IsOfSurvey 0 fault → IsOfInput refuses fault
+of_survey_input refuses (EqualNames place) is = absurd is
+of_survey_input refuses (Input place fault) is = is
+of_survey_input refuses (Refused refusal) is = absurd is
+of_survey_input refuses (Write place) is = absurd is
+of_survey_input refuses Sent is = absurd is
+of_survey_input refuses Memory is = tt
+
+-- ---- what the command decides of it
+
+pub refusal_numbers : (refuses : Refusal → Bool) (fault : EditFault) → IsRefusal refuses fault → IsOfInput refuses fault
+refusal_numbers refuses (EqualNames place) is = absurd is
+refusal_numbers refuses (Input place fault) is = absurd is
+refusal_numbers refuses (Refused refusal) is = is
+refusal_numbers refuses (Write place) is = absurd is
+refusal_numbers refuses Sent is = absurd is
+refusal_numbers refuses Memory is = absurd is
+
+-- it is one of the enum's
+pub refusal-of : (refuses : Refusal → Bool) (fault : EditFault) → IsRefusal refuses fault → (refusal : Refusal) × (fault ≡ Refused refusal) × (refuses refusal ≡ true)
+refusal-of refuses (EqualNames place) is = absurd is
+refusal-of refuses (Input place fault) is = absurd is
+refusal-of refuses (Refused refusal) is = (refusal, refl, is)
+refusal-of refuses (Write place) is = absurd is
+refusal-of refuses Sent is = absurd is
+refusal-of refuses Memory is = absurd is
+
+pub refusal_is_input : (make : Making) (name : List ℕ) (old new : Seen) (s : SurveyFields) (refusal : Refusal) → IsThere old.files name → ((bytes : List ℕ) → Holds old.files name bytes → survey_of bytes most_frames ≡ Ok s)
+    → ((bytes : List ℕ) → Holds old.files name bytes → make bytes s ≡ Err (Refused refusal)) → new ≡ old → IsInputFault make name old new (Refused refusal)
+refusal_is_input make name old new s refusal there is refused stays = record { there = there; bytes = λ bytes holds. made-survey make bytes s (is bytes holds) ∙ refused bytes holds; stays = stays }
+
+-- want of memory, once the input was surveyed
+pub memory_is_input : (make : Making) (name : List ℕ) (old new : Seen) (s : SurveyFields) → IsThere old.files name → ((bytes : List ℕ) → Holds old.files name bytes → survey_of bytes most_frames ≡ Ok s)
+    → new ≡ old → IsInputFault make name old new Memory
+memory_is_input make name old new s there is stays = record { there = there; few = λ bytes holds. (survey_of-parts bytes most_frames s (is bytes holds)).0; stays = stays }
+
+-- ---- as a command that makes one file
+
+module _ (make : Making) (stream : List ℕ → List StreamFrame) (refuses : Refusal → Bool) (input : List ℕ) where
+  refuses_where : (files : Files) (fault : EditFault) (r : Option (List ℕ)) → IfSome files (λ f. f input ≡ r) → made_where make r ≡ Err fault → Refuses (file_task make stream refuses input) files fault
+  refuses_where None fault r held is = tt
+  refuses_where (Some f) fault r held is = ap (made_where make) held ∙ is
+
+  refuses_held : (files : Files) (fault : EditFault) → IsThere files input → ((bytes : List ℕ) → Holds files input bytes → made_file make bytes ≡ Err fault) → Refuses (file_task make stream refuses input) files fault
+  refuses_held None fault there is = tt
+  refuses_held (Some f) fault there is = let held = there_holds f input there in ap (made_where make) held.1 ∙ is held.0 held.1
+
+  module _ (old new : Seen) (fault : EditFault) where
+    input_is_early_by : (why : Why) → IsInputFaultBy make input old new fault why → IsEarlyFaultBy (file_task make stream refuses input) old new fault why
+    input_is_early_by Rejected h = record { defined = refuses_held old.files fault h.there h.bytes; stays = h.stays }
+    input_is_early_by Missing h = record { defined = refuses_where old.files fault None h.missing (ap (λ f. Err f) (sym h.is)); rose = h.rose; files = h.files }
+    input_is_early_by Unread h = h
+    input_is_early_by Shorter h = h
+    input_is_early_by (Unwritten k) h = absurd h
+    input_is_early_by Unsent h = absurd h
+    input_is_early_by NoMemory h = h
+
+    pub input_is_early : IsInputFault make input old new fault → IsEarlyFault (file_task make stream refuses input) old new fault
+    input_is_early h = input_is_early_by (why_of fault) h
+
+  pub input_numbers : (fault : EditFault) → IsOfInput refuses fault → IsOfInputs (file_task make stream refuses input) fault
+  input_numbers (EqualNames place) h = absurd h
+  input_numbers (Input place fault) h = (omega (arith, h.0), h.1, h.2)
+  input_numbers (Refused refusal) h = h
+  input_numbers (Write place) h = absurd h
+  input_numbers Sent h = absurd h
+  input_numbers Memory h = tt
+
+  -- the file was surveyed, and the command accepts it
+  pub file_makes : (files : Files) (made : List ℕ → List ℕ) (s : SurveyFields) → IsThere files input → ((bytes : List ℕ) → Holds files input bytes → survey_of bytes most_frames ≡ Ok s) → ((bytes : List ℕ) → Holds files input bytes → AreBytes bytes)
+      → ((bytes : List ℕ) → Holds files input bytes → make bytes s ≡ Ok (made bytes)) → IsMaking (file_task make stream refuses input) made files
+  file_makes files made s there is octets makes = record { there = there; makes = at files is octets makes }
+    where
+      at : (files : Files) → ((bytes : List ℕ) → Holds files input bytes → survey_of bytes most_frames ≡ Ok s) → ((bytes : List ℕ) → Holds files input bytes → AreBytes bytes) → ((bytes : List ℕ) → Holds files input bytes → make bytes s ≡ Ok (made bytes))
+          → IfSome files (λ f. (bytes : List ℕ) → f input ≡ Some bytes → AreBytes bytes × (made_where make (f input) ≡ Ok (made bytes)))
+      at None is octets makes = tt
+      at (Some f) is octets makes = λ bytes holds. (octets bytes holds, ap (made_where make) holds ∙ made-survey make bytes s (is bytes holds) ∙ makes bytes holds)
+
+-- ---- what has to hold of such a command
+
+pub record IsProperMaking (make : Making) (stream : List ℕ → List StreamFrame) : Type 0 where
+  -- its refusals are none of those that are found before any memory is taken
+  pub late : (file : List ℕ) (s : SurveyFields) → IfErr (make file s) IsLate
+  -- what it makes of well-formed files holds the stream that it says
+  pub streams : (file : List ℕ) (s : SurveyFields) (new : List ℕ) → AreBytes file → survey_of file most_frames ≡ Ok s → make file s ≡ Ok new → HoldsStream new (stream file)
+
+pub of_bytes_behind : (fault : SurveyFault) → IsOfBytes fault → is_before_memory (Input 0 fault) ≡ false
+of_bytes_behind Absent is = absurd is
+of_bytes_behind (TooLong size) is = absurd is
+of_bytes_behind _ is = refl
+
+module _ (make : Making) (stream : List ℕ → List StreamFrame) (proper : IsProperMaking make stream) where
+  survey_late : (bytes : List ℕ) (r : Result SurveyFields SurveyFault) → ((fault : SurveyFault) → r ≡ Err fault → IsOfBytes fault) → IfErr (made_by make bytes r) IsLate
+  survey_late bytes (Err fault) of_bytes = of_bytes_behind fault (of_bytes fault refl)
+  survey_late bytes (Ok s) of_bytes = proper.late bytes s
+
+  short_late : (bytes : List ℕ) → length bytes ≤ longest_file → IfErr (made_file make bytes) IsLate
+  unfolding made_file
+  short_late bytes few =
+      subst (λ r. IfErr (made_by make bytes r) IsLate) (sym (survey_of-short bytes most_frames few)) (survey_late bytes (surveyed bytes most_frames) (surveyed_of_bytes bytes most_frames))
+
+  file_late : (o : Option (List ℕ)) (bytes : List ℕ) → o ≡ Some bytes → length bytes ≤ longest_file → IfErr (made_where make o) IsLate
+  file_late o bytes held few = subst (λ o. IfErr (made_where make o) IsLate) (sym held) (short_late bytes few)
+
+  made_parts : (file new : List ℕ) → made_file make file ≡ Ok new → (s : SurveyFields) × (survey_of file most_frames ≡ Ok s) × (make file s ≡ Ok new)
+  unfolding made_file
+  made_parts file new e = at (survey_of file most_frames) refl e
+    where
+      at : (r : Result SurveyFields SurveyFault) → survey_of file most_frames ≡ r → made_by make file r ≡ Ok new → (s : SurveyFields) × (survey_of file most_frames ≡ Ok s) × (make file s ≡ Ok new)
+      at (Err fault) is e = absurd cc
+      at (Ok s) is e = (s, is, e)
+
+  file_streams : (f : Contents) (input bytes new : List ℕ) → f input ≡ Some bytes → AreBytes bytes → made_where make (f input) ≡ Ok new → AreSound f (input ∷ []) × HoldsStream new (stream (unwrap_or (f input) []))
+  file_streams f input bytes new held octets is =
+      let parts = made_parts bytes new (ap (made_where make) (sym held) ∙ is) in
+      (((bytes, held, survey_of-sound bytes most_frames parts.0 parts.1), tt), subst (λ o. HoldsStream new (stream (unwrap_or o []))) (sym held) (proper.streams bytes parts.0 new octets parts.1 parts.2))
+
+  pub file_proper : (refuses : Refusal → Bool) (input : List ℕ) → IsProper (file_task make stream refuses input)
+  file_proper refuses input = record { late = λ f bytes held few. file_late (f input) bytes held few; streams = λ f bytes new held octets is. file_streams f input bytes new held octets is }

@@ -1,0 +1,5 @@
+-- The lemmas of this crate.
+pub mod OutputLaws
+pub mod RefusingLaws
+pub mod InputLaws
+pub mod MakeLaws

@@ -1,0 +1,28 @@
+-- What stands in front of what is made: what its refusals are, and when it isn't refused.
+use Rattle.std.proofs.Common.{◌≡◌, Option, Some, None, Result, Ok, Err, refl, subst}
+use Rattle.std.specs.Prelude.{IfErr}
+use Rattle.commands.specs.declared.fault.EditFault.{EditFault}
+use Rattle.commands.specs.declared.fault.Refusal.{Refusal}
+use Rattle.commands.specs.Refusing.{unless, then_made}
+use Rattle.commands.specs.Left.{IsLate}
+
+-- no refusal is found before
+pub unless_late : {A : Type 0} (o : Option Refusal) (a : A) → IfErr (unless o a) IsLate
+unless_late None a = tt
+unless_late (Some refusal) a = refl
+
+pub then_late : {A B : Type 0} (r : Result A EditFault) (make : A → Result B EditFault) → IfErr r IsLate → ((a : A) → IfErr (make a) IsLate) → IfErr (then_made r make) IsLate
+then_late (Ok a) make first rest = rest a
+then_late (Err fault) make first rest = first
+
+pub of_err : {A : Type 0} (P : EditFault → Type 0) (r : Result A EditFault) (fault : EditFault) → IfErr r P → r ≡ Err fault → P fault
+of_err P (Ok a) fault is e = absurd cc
+of_err P (Err first) fault is e = let same : first ≡ fault = cc in subst P same is
+
+pub unless_ok : {A : Type 0} (o : Option Refusal) (a b : A) → unless o a ≡ Ok b → (o ≡ None) × (a ≡ b)
+unless_ok (Some refusal) a b e = absurd cc
+unless_ok None a b e = (refl, cc)
+
+pub then_ok : {A B : Type 0} (r : Result A EditFault) (make : A → Result B EditFault) (b : B) → then_made r make ≡ Ok b → (a : A) × (r ≡ Ok a) × (make a ≡ Ok b)
+then_ok (Ok a) make b e = (a, refl, e)
+then_ok (Err fault) make b e = absurd cc

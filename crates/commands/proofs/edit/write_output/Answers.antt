@@ -1,0 +1,28 @@
+-- The output is created, and then written by a pass over the source, which stays.
+use Rattle.std.proofs.Common.{sym, subst}
+use Rattle.commands.specs.Left.{seen}
+use Rattle.commands.specs.One.{IsPassFault}
+use Rattle.commands.proofs.OutputLaws.{output_whole, told_whole, told_prefix, pass_fault}
+use Rattle.commands.proofs.edit.write_output.Goals as goal
+
+pub returns-in-Ok-write-clause-written : goal.returns-in-Ok-write-clause-written
+returns-in-Ok-write-clause-written g c =
+    output_whole (g.E.Edit.file_of c.args.work) (g.E.Edit.task c.args.edit.now).source c.args.output.now c.requires.apart (g.D.Folder.files c.args.folder.now) _ _ c.in-Ok.ensures.created c.in-Ok-write.ensures.written
+
+pub returns-in-Ok-write-clause-told : goal.returns-in-Ok-write-clause-told
+returns-in-Ok-write-clause-told g c =
+    told_whole (g.E.Edit.file_of c.args.work) (g.E.Edit.task c.args.edit.now).source c.args.output.now c.requires.apart (g.D.Folder.files c.args.folder.now) _ _ c.in-Ok.ensures.created c.in-Ok-write.ensures.written
+
+pub returns-clause-told : goal.returns-clause-told
+returns-clause-told g c =
+    told_prefix (g.E.Edit.file_of c.args.work) (g.E.Edit.task c.args.edit.now).source c.args.output.now c.requires.apart (g.D.Folder.files c.args.folder.now) _ _ c.in-Ok.ensures.created c.in-Err.ensures.prefix
+
+pub returns-clause-left : goal.returns-clause-left
+returns-clause-left g c =
+    let files = g.D.Folder.files in
+    let counts = g.D.Folder.counts in
+    subst
+    (IsPassFault (g.E.Edit.file_of c.args.work) (g.E.Edit.task c.args.edit.now).source c.args.output.now (seen (files c.args.folder.now) (counts c.args.folder.now)) (seen (files c.write.new.folder) (counts c.write.new.folder)))
+    (sym c.into.ensures)
+    (pass_fault (g.E.Edit.file_of c.args.work) (g.E.Edit.task c.args.edit.now).source c.args.output.now c.requires.apart (files c.args.folder.now) _ _ c.in-Ok.ensures.created c.in-Err.fault
+    c.in-Err.ensures.cause.0 (counts c.args.folder.now) _ _ c.in-Ok.ensures.done c.in-Err.ensures.prefix c.in-Err.ensures.cause.1)

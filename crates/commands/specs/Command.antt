@@ -1,0 +1,86 @@
+-- What a command is for the outside: of the files that are there it makes files and a text, or it is refused.
+use Rattle.std.specs.Prelude.{◌≡◌, ℕ, ◌+◌, Bool, List, [], ◌∷◌, ◌++◌, take, drop, if◌then◌else◌, bytes_eq, Option, Some, None, Result, Ok, IfSome}
+use Rattle.std.specs.List.{list_any}
+use Rattle.outside.specs.Files.{Contents, Files, with_file}
+use Rattle.sync_survey.specs.MainData.{StreamFrame}
+use Rattle.commands.specs.declared.fault.EditFault.{EditFault}
+use Rattle.commands.specs.declared.fault.Refusal.{Refusal}
+use Rattle.sync_survey.specs.Faults.{IsWellFormed, HoldsStream}
+
+-- a file that a command writes
+pub record Output : Type 0 where
+  pub name : List ℕ
+  pub bytes : List ℕ
+
+-- what a command makes: files in the order of writing, and a text for standard output
+pub record Made : Type 0 where
+  pub outputs : List Output
+  pub text : List ℕ
+
+pub record Command : Type 0 where
+  -- the names of the files that it reads, and of those that it may write
+  pub inputs : List (List ℕ)
+  pub outputs : List (List ℕ)
+  -- those that it reads as streams of frames
+  pub sources : List (List ℕ)
+  -- the text that it makes of all files, where it is the same of all
+  pub always : Option (List ℕ)
+  -- what it makes of these files, or why it is refused
+  pub makes : Contents → Result Made EditFault
+  -- the stream that each file it writes has to hold
+  pub streams : Contents → List (List StreamFrame)
+  -- which refusals it can give
+  pub refuses : Refusal → Bool
+
+-- ---- names
+
+-- the place of the first name that is among the outputs, counted from this place on
+abbrev pub clash_from : List (List ℕ) → ℕ → List (List ℕ) → Option ℕ
+clash_from outputs place [] = None
+clash_from outputs place (name ∷ names) = if list_any (bytes_eq name) outputs then Some place else clash_from outputs (place + 1) names
+
+-- the first input whose name is an output's, byte for byte
+abbrev pub clash_of : Command → Option ℕ
+clash_of command = clash_from command.outputs 0 command.inputs
+
+-- ---- files
+
+-- the same files with these outputs
+abbrev pub written : List Output → Contents → Contents
+written [] files = files
+written (output ∷ outputs) files = written outputs (with_file files output.name output.bytes)
+
+-- the next output's first bytes, where it was created
+abbrev pub begun : Option ℕ → List Output → List Output
+begun (Some count) (output ∷ outputs) = record output { bytes = take count output.bytes } ∷ []
+begun _ _ = []
+
+-- the first k outputs are whole, and the next one holds its first bytes, or wasn't created
+abbrev pub written_to : ℕ → Option ℕ → List Output → Contents → Contents
+written_to k count outputs files = written (take k outputs ++ begun count (drop k outputs)) files
+
+-- the files that are told make the command give this
+abbrev pub Gives : Command → Files → Result Made EditFault → Type 0
+Gives command files answer = IfSome files (λ f. command.makes f ≡ answer)
+
+-- ---- streams
+
+-- each of these files is well-formed and holds the stream at its place
+abbrev pub AreStreams : List Output → List (List StreamFrame) → Type 0
+AreStreams [] [] = Unit {0}
+AreStreams (output ∷ outputs) (stream ∷ streams) = HoldsStream output.bytes stream × AreStreams outputs streams
+AreStreams _ _ = ⊥
+
+-- the files of these names are there and well-formed
+abbrev pub AreSound : Contents → List (List ℕ) → Type 0
+AreSound files [] = Unit {0}
+AreSound files (name ∷ names) = ((bytes : List ℕ) × (files name ≡ Some bytes) × IsWellFormed bytes) × AreSound files names
+
+-- the command is done with well-formed sources alone, and what it makes of them holds the streams that it has to hold
+pub record MakesStreams (command : Command) (files : Contents) (made : Made) : Type 0 where
+  pub sources : AreSound files command.sources
+  pub streams : AreStreams made.outputs (command.streams files)
+
+-- what the command makes of the files that are told, by well-formed sources, holds the streams that it has to hold
+abbrev pub HoldsStreams : Command → Files → Type 0
+HoldsStreams command files = IfSome files (λ f. (made : Made) → command.makes f ≡ Ok made → MakesStreams command f made)

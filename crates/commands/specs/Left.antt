@@ -1,0 +1,156 @@
+-- What a command leaves of the files, by its answer, and the cause of each refusal.
+use Rattle.std.specs.Prelude.{◌≡◌, ◌≢◌, ◌⊎◌, ℕ, ◌<◌, ◌==◌, length, Bool, true, false, Option, Some, None, [], Result, Ok, Err, IfSome, is_some}
+use Rattle.outside.specs.Files.{Files, untold}
+use Rattle.outside.specs.Counts.{Counts, Rose, NothingFailed}
+use Rattle.sync_survey.specs.declared.survey_fault.SurveyFault.TheVariants.{Absent, TooLong, Memory as NoRoom}
+use Rattle.commands.specs.Kinds.{kind_of, by_kind, HasRightNumbers}
+use Rattle.commands.specs.declared.fault.EditFault.{EditFault}
+use Rattle.commands.specs.declared.fault.Refusal.{Refusal}
+use Rattle.commands.specs.declared.fault.EditFault.TheVariants.{EqualNames, Input, Refused, Write, Sent, Memory}
+use Rattle.commands.specs.Command.{Made, Command, clash_of, written, written_to, Gives}
+
+-- what can be seen of a folder at a moment: the files, where they are told, and the counts
+pub record Seen : Type 0 where
+  pub files : Files
+  pub counts : Counts
+
+abbrev pub seen : Files → Counts → Seen
+seen files counts = record { files = files; counts = counts }
+
+-- ---- what a refusal comes from
+
+pub data Why : Type 0 where
+  -- the names or the files are refused
+  Rejected : Why
+  -- an input isn't there
+  Missing : Why
+  -- a call that reads failed
+  Unread : Why
+  -- an input became shorter while it was read
+  Shorter : Why
+  -- a call failed that writes this output
+  Unwritten : ℕ → Why
+  -- a write to standard output failed
+  Unsent : Why
+  -- want of memory
+  NoMemory : Why
+
+abbrev pub why_of : EditFault → Why
+why_of (Input place fault) = by_kind (record { absent = Missing; unread = Unread; shorter = Shorter; too_much = NoMemory; refused = Rejected }) (kind_of fault)
+why_of (Write place) = Unwritten place
+why_of Sent = Unsent
+why_of Memory = NoMemory
+why_of (EqualNames place) = Rejected
+why_of (Refused refusal) = Rejected
+
+-- ---- what is left
+
+-- the command was done: all that it makes was written, and no count changed
+pub record IsDone (command : Command) (old new : Seen) : Type 0 where
+  pub made : IfSome old.files (λ f. (made : Made) × (command.makes f ≡ Ok made) × (new.files ≡ Some (written made.outputs f)))
+  pub told : is_some new.files ≡ is_some old.files
+  pub counts : new.counts ≡ old.counts
+
+-- nothing is refused, and of what the command makes the first k outputs are whole; the next one holds a prefix, or wasn't created
+pub record IsWrittenTo (command : Command) (k : ℕ) (old new : Files) : Type 0 where
+  pub made : IfSome old (λ f. (made : Made) × (command.makes f ≡ Ok made) × (k < length made.outputs) × (count : Option ℕ) × (new ≡ Some (written_to k count made.outputs f)))
+  pub told : is_some new ≡ is_some old
+
+-- the command is refused so; all is as it was
+pub record IsRefused (command : Command) (old new : Seen) (fault : EditFault) : Type 0 where
+  pub defined : Gives command old.files (Err fault)
+  pub stays : new ≡ old
+
+pub record IsMissing (command : Command) (old new : Seen) (fault : EditFault) : Type 0 where
+  pub defined : Gives command old.files (Err fault)
+  pub rose : Rose old.counts.misses new.counts.misses
+  pub files : new.files ≡ old.files
+
+pub record IsUnread (command : Command) (old new : Seen) : Type 0 where
+  pub rose : Rose old.counts.read_faults new.counts.read_faults
+  pub files : (new.files ≡ old.files) ⊎ ((k : ℕ) × IsWrittenTo command k old.files new.files)
+
+-- only a folder that tells nothing can have such a file
+pub record IsShorter (old new : Seen) : Type 0 where
+  pub rose : Rose old.counts.ends new.counts.ends
+  pub counts : NothingFailed old.counts new.counts
+  pub before : old.files ≡ untold
+  pub after : new.files ≡ untold
+
+pub record IsUnwritten (command : Command) (k : ℕ) (old new : Seen) : Type 0 where
+  pub rose : Rose old.counts.write_faults new.counts.write_faults
+  pub files : IsWrittenTo command k old.files new.files
+
+-- nothing is refused, and all is as it was
+pub record IsUnsent (command : Command) (old new : Seen) : Type 0 where
+  pub made : IfSome old.files (λ f. (made : Made) × (command.makes f ≡ Ok made))
+  pub stays : new ≡ old
+
+-- equal names, an absent first input and one that is too long are found before any memory is taken
+abbrev pub is_before_memory : EditFault → Bool
+is_before_memory (EqualNames place) = true
+is_before_memory (Input place Absent) = place == 0
+is_before_memory (Input place (TooLong size)) = place == 0
+is_before_memory _ = false
+
+-- the fault is found once memory was taken
+abbrev pub IsLate : EditFault → Type 0
+IsLate fault = is_before_memory fault ≡ false
+
+abbrev pub TakesMemory : Result Made EditFault → Type 0
+TakesMemory (Ok made) = Unit {0}
+TakesMemory (Err fault) = is_before_memory fault ≡ false
+
+-- all is as it was, and it is a command for which memory is taken
+pub record IsOutOfMemory (command : Command) (old new : Seen) : Type 0 where
+  pub names : clash_of command ≡ None
+  pub takes : IfSome old.files (λ f. TakesMemory (command.makes f))
+  pub stays : new ≡ old
+
+abbrev pub LeavesBy : Command → Seen → Seen → EditFault → Why → Type 0
+LeavesBy command old new fault Rejected = IsRefused command old new fault
+LeavesBy command old new fault Missing = IsMissing command old new fault
+LeavesBy command old new fault Unread = IsUnread command old new
+LeavesBy command old new fault Shorter = IsShorter old new
+LeavesBy command old new fault (Unwritten k) = IsUnwritten command k old new
+LeavesBy command old new fault Unsent = IsUnsent command old new
+LeavesBy command old new fault NoMemory = IsOutOfMemory command old new
+
+-- what a fault of the command leaves, and its cause
+abbrev pub Leaves : Command → Seen → Seen → EditFault → Type 0
+Leaves command old new fault = LeavesBy command old new fault (why_of fault)
+
+-- ---- what the numbers of a fault say over every folder, told or not
+
+abbrev pub HasNumbers : Command → EditFault → Type 0
+HasNumbers command (EqualNames place) = clash_of command ≡ Some place
+HasNumbers command (Input place fault) = (place < length command.inputs) × (fault ≢ NoRoom) × HasRightNumbers fault
+HasNumbers command (Refused refusal) = command.refuses refusal ≡ true
+HasNumbers command (Write place) = place < length command.outputs
+HasNumbers command Sent = command.always ≢ Some []
+HasNumbers command Memory = Unit {0}
+
+-- the fault is one of this input, or want of memory
+abbrev pub IsOfSurvey : ℕ → EditFault → Type 0
+IsOfSurvey at (Input place fault) = (place ≡ at) × (fault ≢ NoRoom) × HasRightNumbers fault
+IsOfSurvey at Memory = Unit {0}
+IsOfSurvey at _ = ⊥
+
+-- the fault is one of the only input, such a refusal, or want of memory
+abbrev pub IsOfInput : (Refusal → Bool) → EditFault → Type 0
+IsOfInput refuses (Input place fault) = (place ≡ 0) × (fault ≢ NoRoom) × HasRightNumbers fault
+IsOfInput refuses (Refused refusal) = refuses refusal ≡ true
+IsOfInput refuses Memory = Unit {0}
+IsOfInput refuses _ = ⊥
+
+-- the fault is one of the second pass over the only input, or want of memory
+abbrev pub IsOfPass : EditFault → Type 0
+IsOfPass (Input place fault) = (place ≡ 0) × (fault ≢ NoRoom) × HasRightNumbers fault
+IsOfPass (Write place) = place ≡ 0
+IsOfPass Memory = Unit {0}
+IsOfPass _ = ⊥
+
+-- the fault is such a refusal
+abbrev pub IsRefusal : (Refusal → Bool) → EditFault → Type 0
+IsRefusal refuses (Refused refusal) = refuses refusal ≡ true
+IsRefusal refuses _ = ⊥

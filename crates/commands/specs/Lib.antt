@@ -1,0 +1,8 @@
+-- What the contracts of this crate cite, and those of the commands.
+pub mod Kinds
+pub mod PassFaults
+pub mod Refusing
+pub mod Command
+pub mod Left
+pub mod One
+pub mod Said

@@ -1,0 +1,230 @@
+-- A command that makes one file.
+pub use Rattle.sync_survey.specs.Limits.{most_frames}
+use Rattle.std.specs.Prelude.{◌≡◌, ◌≢◌, ◌⊎◌, ℕ, ◌<◌, ◌≤◌, Bool, true, take, List, [], ◌∷◌, length, unwrap_or, Option, Some, None, Result, Ok, Err, IfSome, IfErr, option_map}
+use Rattle.bit_fields.specs.Bits.{AreBytes}
+use Rattle.outside.specs.Files.{Contents, Files, untold, with_file, Holds, IsThere, IsMissing}
+use Rattle.outside.specs.Counts.{Rose, NothingFailed}
+use Rattle.sync_survey.specs.declared.survey_fault.SurveyFault.{SurveyFault}
+use Rattle.sync_survey.specs.declared.survey_fault.SurveyFault.TheVariants.{Absent, Memory as NoRoom}
+use Rattle.sync_survey.specs.MainData.{StreamFrame}
+use Rattle.sync_survey.specs.Faults.{SurveyFields, longest_file, HoldsStream}
+use Rattle.sync_survey.specs.Survey.{survey_of}
+use Rattle.commands.specs.declared.fault.EditFault.{EditFault}
+use Rattle.commands.specs.declared.fault.EditFault.TheVariants.{EqualNames, Input, Refused, Memory}
+use Rattle.commands.specs.declared.fault.Refusal.{Refusal}
+use Rattle.commands.specs.Kinds.{HasRightNumbers}
+use Rattle.commands.specs.Command.{Made, Command, clash_from, AreSound}
+use Rattle.commands.specs.Left.{Why, Rejected, Missing, Unread, Shorter, Unwritten, Unsent, NoMemory, why_of, Seen, IsLate}
+
+-- what it makes of a file with this survey, or why it refuses it
+abbrev pub Making : Type 0
+Making = List ℕ → SurveyFields → Result (List ℕ) EditFault
+
+abbrev pub made_by : Making → List ℕ → Result SurveyFields SurveyFault → Result (List ℕ) EditFault
+made_by make file (Err fault) = Err (Input 0 fault)
+made_by make file (Ok s) = make file s
+
+-- what a file becomes, or why it is refused: it is at fault, or else the command refuses it
+unfoldable pub made_file : Making → List ℕ → Result (List ℕ) EditFault
+made_file make file = made_by make file (survey_of file most_frames)
+
+abbrev pub made_where : Making → Option (List ℕ) → Result (List ℕ) EditFault
+made_where make None = Err (Input 0 Absent)
+made_where make (Some file) = made_file make file
+
+-- ---- the command
+
+-- What a command reads, what it makes of the files that are there, where no name is another's, the stream that this has to hold, and which
+-- refusals it can give.
+pub record Task : Type 0 where
+  -- the input that is read again while the output is written, and the others
+  pub source : List ℕ
+  pub others : List (List ℕ)
+  -- those that it reads as streams of frames
+  pub sources : List (List ℕ)
+  pub makes : Contents → Result (List ℕ) EditFault
+  pub stream : Contents → List StreamFrame
+  pub refuses : Refusal → Bool
+
+-- that of a command that reads one file
+abbrev pub file_task : Making → (List ℕ → List StreamFrame) → (Refusal → Bool) → List ℕ → Task
+file_task make stream refuses input = record {
+  source = input;
+  others = [];
+  sources = input ∷ [];
+  makes = λ files. made_where make (files input);
+  stream = λ files. stream (unwrap_or (files input) []);
+  refuses = refuses;
+}
+
+abbrev pub inputs_of : Task → List (List ℕ)
+inputs_of task = task.source ∷ task.others
+
+-- the first of them that has the output's name
+abbrev pub clash_in : Task → List ℕ → Option ℕ
+clash_in task output = clash_from (output ∷ []) 0 (inputs_of task)
+
+-- What has to hold of it: no file that may be read is refused before memory is taken for it, and what is made of sources that are bytes
+-- holds the stream that it has to hold, and the sources are well-formed.
+pub record IsProper (task : Task) : Type 0 where
+  pub late : (f : Contents) (bytes : List ℕ) → f task.source ≡ Some bytes → length bytes ≤ longest_file → IfErr (task.makes f) IsLate
+  pub streams : (f : Contents) (bytes new : List ℕ) → f task.source ≡ Some bytes → AreBytes bytes → task.makes f ≡ Ok new → AreSound f task.sources × HoldsStream new (task.stream f)
+
+abbrev pub unless_clash : Option ℕ → Result (List ℕ) EditFault → Result (List ℕ) EditFault
+unless_clash (Some place) answer = Err (EqualNames place)
+unless_clash None answer = answer
+
+-- what is written, or why nothing is: an input has the output's name, or else the files are refused
+unfoldable pub made_result : Task → List ℕ → Contents → Result (List ℕ) EditFault
+made_result task output files = unless_clash (clash_in task output) (task.makes files)
+
+abbrev pub made_of : List ℕ → Result (List ℕ) EditFault → Result Made EditFault
+made_of output (Ok bytes) = Ok (record { outputs = record { name = output; bytes = bytes } ∷ []; text = [] })
+made_of output (Err fault) = Err fault
+
+-- one file is made, and no text
+abbrev pub one_command : Task → List ℕ → Command
+one_command task output = record {
+  inputs = inputs_of task;
+  outputs = output ∷ [];
+  sources = task.sources;
+  always = Some [];
+  makes = λ files. made_of output (made_result task output files);
+  streams = λ files. task.stream files ∷ [];
+  refuses = task.refuses;
+}
+
+-- ---- its steps
+
+-- the same files, where they are told, but that the name holds these bytes
+unfoldable pub holding : Files → List ℕ → List ℕ → Files
+holding files name bytes = option_map (λ f. with_file f name bytes) files
+
+-- the file is there, and the survey of it is refused, where so many frames are allowed
+pub record RefusesFile (allowed : ℕ) (name : List ℕ) (old new : Seen) (fault : SurveyFault) : Type 0 where
+  pub there : IsThere old.files name
+  pub bytes : (bytes : List ℕ) → Holds old.files name bytes → survey_of bytes allowed ≡ Err fault
+  pub stays : new ≡ old
+
+-- the input is there, and its bytes are refused
+pub record RefusesInput (make : Making) (name : List ℕ) (old new : Seen) (fault : EditFault) : Type 0 where
+  pub there : IsThere old.files name
+  pub bytes : (bytes : List ℕ) → Holds old.files name bytes → made_file make bytes ≡ Err fault
+  pub stays : new ≡ old
+
+pub record MissesInput (name : List ℕ) (old new : Seen) (fault : EditFault) : Type 0 where
+  pub is : fault ≡ Input 0 Absent
+  pub missing : IsMissing old.files name
+  pub rose : Rose old.counts.misses new.counts.misses
+  pub files : new.files ≡ old.files
+
+pub record ReadsNothing (old new : Seen) : Type 0 where
+  pub rose : Rose old.counts.read_faults new.counts.read_faults
+  pub files : new.files ≡ old.files
+
+pub record LosesInput (old new : Seen) : Type 0 where
+  pub rose : Rose old.counts.ends new.counts.ends
+  pub counts : NothingFailed old.counts new.counts
+  pub untold_before : old.files ≡ untold
+  pub untold_after : new.files ≡ untold
+
+-- the input is there with a length that it may have, so that memory is taken for it
+pub record NeedsMemory (name : List ℕ) (old new : Seen) : Type 0 where
+  pub there : IsThere old.files name
+  pub few : (bytes : List ℕ) → Holds old.files name bytes → length bytes ≤ longest_file
+  pub stays : new ≡ old
+
+abbrev pub IsFileFaultBy : ℕ → ℕ → List ℕ → Seen → Seen → EditFault → Why → Type 0
+IsFileFaultBy place allowed name old new fault Rejected = (f : SurveyFault) × (fault ≡ Input place f) × RefusesFile allowed name old new f
+IsFileFaultBy place allowed name old new fault Missing = (fault ≡ Input place Absent) × IsMissing old.files name × Rose old.counts.misses new.counts.misses × (new.files ≡ old.files)
+IsFileFaultBy place allowed name old new fault Unread = ReadsNothing old new
+IsFileFaultBy place allowed name old new fault Shorter = LosesInput old new
+IsFileFaultBy place allowed name old new fault (Unwritten k) = ⊥
+IsFileFaultBy place allowed name old new fault Unsent = ⊥
+IsFileFaultBy place allowed name old new fault NoMemory = NeedsMemory name old new
+
+-- what a fault of the survey of an input says of it: the input is counted from 0, and so many frames are allowed
+abbrev pub IsFileFault : ℕ → ℕ → List ℕ → Seen → Seen → EditFault → Type 0
+IsFileFault place allowed name old new fault = IsFileFaultBy place allowed name old new fault (why_of fault)
+
+abbrev pub IsInputFaultBy : Making → List ℕ → Seen → Seen → EditFault → Why → Type 0
+IsInputFaultBy make name old new fault Rejected = RefusesInput make name old new fault
+IsInputFaultBy make name old new fault Missing = MissesInput name old new fault
+IsInputFaultBy make name old new fault Unread = ReadsNothing old new
+IsInputFaultBy make name old new fault Shorter = LosesInput old new
+IsInputFaultBy make name old new fault (Unwritten k) = ⊥
+IsInputFaultBy make name old new fault Unsent = ⊥
+IsInputFaultBy make name old new fault NoMemory = NeedsMemory name old new
+
+-- what a fault that was met before the output is created says of the input
+abbrev pub IsInputFault : Making → List ℕ → Seen → Seen → EditFault → Type 0
+IsInputFault make name old new fault = IsInputFaultBy make name old new fault (why_of fault)
+
+-- ---- before the output is created
+
+-- the files are refused so
+abbrev pub Refuses : Task → Files → EditFault → Type 0
+Refuses task files fault = IfSome files (λ f. task.makes f ≡ Err fault)
+
+pub record RefusesFiles (task : Task) (old new : Seen) (fault : EditFault) : Type 0 where
+  pub defined : Refuses task old.files fault
+  pub stays : new ≡ old
+
+pub record MissesFile (task : Task) (old new : Seen) (fault : EditFault) : Type 0 where
+  pub defined : Refuses task old.files fault
+  pub rose : Rose old.counts.misses new.counts.misses
+  pub files : new.files ≡ old.files
+
+abbrev pub IsEarlyFaultBy : Task → Seen → Seen → EditFault → Why → Type 0
+IsEarlyFaultBy task old new fault Rejected = RefusesFiles task old new fault
+IsEarlyFaultBy task old new fault Missing = MissesFile task old new fault
+IsEarlyFaultBy task old new fault Unread = ReadsNothing old new
+IsEarlyFaultBy task old new fault Shorter = LosesInput old new
+IsEarlyFaultBy task old new fault (Unwritten k) = ⊥
+IsEarlyFaultBy task old new fault Unsent = ⊥
+IsEarlyFaultBy task old new fault NoMemory = NeedsMemory task.source old new
+
+-- what a fault says that was met before the output was created
+abbrev pub IsEarlyFault : Task → Seen → Seen → EditFault → Type 0
+IsEarlyFault task old new fault = IsEarlyFaultBy task old new fault (why_of fault)
+
+-- the fault is one of the inputs, a refusal that the command can give, or want of memory
+abbrev pub IsOfInputs : Task → EditFault → Type 0
+IsOfInputs task (Input place fault) = (place < length (inputs_of task)) × (fault ≢ NoRoom) × HasRightNumbers fault
+IsOfInputs task (Refused refusal) = task.refuses refusal ≡ true
+IsOfInputs task Memory = Unit {0}
+IsOfInputs task _ = ⊥
+
+-- ---- the second pass
+
+-- The source is there, and where it is told, the command makes this of it.
+pub record IsMaking (task : Task) (made : List ℕ → List ℕ) (files : Files) : Type 0 where
+  pub there : IsThere files task.source
+  pub makes : IfSome files (λ f. (bytes : List ℕ) → f task.source ≡ Some bytes → AreBytes bytes × (task.makes f ≡ Ok (made bytes)))
+
+-- the output wasn't created, or holds a prefix of these bytes
+abbrev pub HoldsPrefix : List ℕ → List ℕ → Files → Files → Type 0
+HoldsPrefix name bytes old new = (new ≡ old) ⊎ ((count : ℕ) × (new ≡ holding old name (take count bytes)))
+
+-- the output wasn't created, or holds a prefix of what it is to hold, where the input is told
+abbrev pub IsBegun : (List ℕ → List ℕ) → List ℕ → List ℕ → Files → Files → Type 0
+IsBegun made input output old new = (bytes : List ℕ) → Holds old input bytes → HoldsPrefix output (made bytes) old new
+
+pub record StopsReading (made : List ℕ → List ℕ) (input output : List ℕ) (old new : Seen) : Type 0 where
+  pub rose : Rose old.counts.read_faults new.counts.read_faults
+  pub files : IsBegun made input output old.files new.files
+
+pub record StopsWriting (made : List ℕ → List ℕ) (input output : List ℕ) (old new : Seen) : Type 0 where
+  pub rose : Rose old.counts.write_faults new.counts.write_faults
+  pub files : IsBegun made input output old.files new.files
+
+abbrev pub IsPassFaultBy : (List ℕ → List ℕ) → List ℕ → List ℕ → Seen → Seen → Why → Type 0
+IsPassFaultBy made input output old new Unread = StopsReading made input output old new
+IsPassFaultBy made input output old new Shorter = LosesInput old new
+IsPassFaultBy made input output old new (Unwritten k) = (k ≡ 0) × StopsWriting made input output old new
+IsPassFaultBy made input output old new NoMemory = new ≡ old
+IsPassFaultBy made input output old new _ = ⊥
+
+-- what a fault leaves that was met while the output was written
+abbrev pub IsPassFault : (List ℕ → List ℕ) → List ℕ → List ℕ → Seen → Seen → EditFault → Type 0
+IsPassFault made input output old new fault = IsPassFaultBy made input output old new (why_of fault)

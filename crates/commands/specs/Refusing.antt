@@ -1,0 +1,18 @@
+-- The first of several refusals, and what is made where there is none.
+use Rattle.std.specs.Prelude.{Option, Some, None, Result, Ok, Err}
+use Rattle.commands.specs.declared.fault.EditFault.{EditFault}
+use Rattle.commands.specs.declared.fault.EditFault.TheVariants.{Refused}
+use Rattle.commands.specs.declared.fault.Refusal.{Refusal}
+
+abbrev pub or_else : Option Refusal → Option Refusal → Option Refusal
+or_else (Some refusal) later = Some refusal
+or_else None later = later
+
+abbrev pub unless : {A : Type 0} → Option Refusal → A → Result A EditFault
+unless (Some refusal) a = Err (Refused refusal)
+unless None a = Ok a
+
+-- what is made of this, where it isn't refused
+abbrev pub then_made : {A B : Type 0} → Result A EditFault → (A → Result B EditFault) → Result B EditFault
+then_made (Ok a) make = make a
+then_made (Err fault) make = Err fault

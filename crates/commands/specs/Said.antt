@@ -1,0 +1,39 @@
+-- What a command sends to standard output.
+use Rattle.std.specs.Prelude.{◌≡◌, ◌⊎◌, ℕ, ◌≤◌, List, length, take, Option, Some, None, Result, Ok, Err}
+use Rattle.outside.specs.Files.{Contents, Files, Sent, sent_more}
+use Rattle.outside.specs.Counts.{Rose}
+use Rattle.commands.specs.declared.fault.EditFault.{EditFault}
+use Rattle.commands.specs.declared.fault.EditFault.TheVariants.{Sent as NotSent}
+use Rattle.commands.specs.Command.{Made, Command}
+
+-- what can be seen of a sink at a moment: what it got, where that is told, and how often a write failed
+pub record Heard : Type 0 where
+  pub sent : Sent
+  pub faults : ℕ
+
+abbrev pub heard : Sent → ℕ → Heard
+heard sent faults = record { sent = sent; faults = faults }
+
+-- the text that the command makes of these files; over files that aren't told one that it makes of all
+abbrev pub IsText : Command → Files → List ℕ → Type 0
+IsText command files text = (command.always ≡ Some text) ⊎ ((f : Contents) × (made : Made) × (files ≡ Some f) × (command.makes f ≡ Ok made) × (made.text ≡ text))
+
+-- all of it was sent, and no write failed
+pub record SaysAll (command : Command) (files : Files) (old new : Heard) : Type 0 where
+  pub text : (text : List ℕ) → IsText command files text → new.sent ≡ sent_more old.sent text
+  pub faults : new.faults ≡ old.faults
+
+-- a prefix of it was sent, and a write failed
+pub record SaysPrefix (command : Command) (files : Files) (old new : Heard) : Type 0 where
+  pub text : (text : List ℕ) → IsText command files text → (count : ℕ) × (count ≤ length text) × (new.sent ≡ sent_more old.sent (take count text))
+  pub rose : Rose old.faults new.faults
+
+-- the sink's part of the answer of a command: the whole text where it was done, a prefix where a write failed, and else nothing
+abbrev pub Says : Command → Files → Heard → Heard → Option EditFault → Type 0
+Says command files old new None = SaysAll command files old new
+Says command files old new (Some NotSent) = SaysPrefix command files old new
+Says command files old new (Some _) = new ≡ old
+
+abbrev pub fault_of : {T : Type 0} → Result T EditFault → Option EditFault
+fault_of (Ok x) = None
+fault_of (Err fault) = Some fault

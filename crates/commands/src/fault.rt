@@ -1,0 +1,111 @@
+//! Why a job was not done.
+
+ghost use Rattle.std.specs.Prelude.{◌≡◌};
+ghost use Rattle.commands.specs.declared.fault.EditFault.TheVariants.{Refused, Memory};
+ghost use Rattle.commands.specs.Kinds.{of_input};
+ghost use Rattle.commands.specs.PassFaults.{of_pass};
+
+use cue_sheet::CueFault;
+use outside::PassFault;
+use std::alloc::{AllocError, AllocFailed};
+use sync_survey::SurveyFault;
+
+/// What a command finds wrong with files that are there and well-formed, or with a sheet.
+#[derive(Clone, Copy, Debug, PartialEq, Eq)]
+pub enum Refusal {
+    /// A gain would leave the range from 0 to 255: the offset of its frame in bytes, its granule, its
+    /// channel, and the gain that stands there.
+    GainRange(u64, u8, u8, u8),
+    /// One channel is to change, and the file has only one.
+    Mono,
+    /// One channel is to change, and the two of the frame at this offset in bytes are coded jointly.
+    Joint(u64),
+    /// The tag of the file, or the one that is to be written, has so many bytes, more than 1,048,576.
+    TagTooLarge(u64),
+    /// The tag of the file is at fault at this offset in bytes.
+    BadTag(u64),
+    /// The tag of the file has no undo item.
+    NoUndo,
+    /// The undo item at this offset in bytes has no value of its form.
+    BadUndo(u64),
+    /// The undo item would have to hold this number of steps, which isn't from -999 to 999.
+    UndoRange(i32),
+    /// The file that is to be written would have so many bytes, more than 1,073,741,824.
+    OutputTooLong(u64),
+    /// The frames from the first number on and before the second aren't in a file of so many frames, or are none.
+    Range(u64, u64, u64),
+    /// The frames of this input, counted from 0, are of another class than those of the first.
+    Differ(u32),
+    /// The cue sheet has so many bytes, more than 65,536.
+    SheetTooLarge(u64),
+    /// The cue sheet is at fault. Never `Memory`.
+    Sheet(CueFault),
+}
+
+/// Why a job was not done.
+#[derive(Clone, Copy, Debug, PartialEq, Eq)]
+pub enum EditFault {
+    /// An output's name is that of this input, counted from 0.
+    EqualNames(u32),
+    /// This input, counted from 0, isn't there, can't be read, or is at fault. Never `Memory`.
+    Input(u32, SurveyFault),
+    /// The command refuses what it was given.
+    Refused(Refusal),
+    /// This output, counted from 0, could not be written.
+    Write(u32),
+    /// Standard output could not be written.
+    Sent,
+    /// There was no memory left.
+    Memory,
+}
+
+impl From<Refusal> for EditFault {
+    ghost from_gives = { λ refusal e. e ≡ Refused refusal };
+
+    fn from(refusal: Refusal) -> EditFault {
+        EditFault::Refused(refusal)
+    }
+}
+
+impl From<AllocError> for EditFault {
+    ghost from_gives = { λ _ e. e ≡ Memory };
+
+    fn from(_: AllocError) -> EditFault {
+        EditFault::Memory
+    }
+}
+
+impl<T: Drop> From<AllocFailed<T>> for EditFault {
+    ghost from_gives = { λ _ e. e ≡ Memory };
+
+    fn from(_: AllocFailed<T>) -> EditFault {
+        EditFault::Memory
+    }
+}
+
+/// The fault of the one input of a command; want of memory stands alone.
+impl From<SurveyFault> for EditFault {
+    ghost from_gives = { λ fault e. e ≡ of_input fault };
+
+    fn from(fault: SurveyFault) -> EditFault {
+        match fault {
+            SurveyFault::Memory => EditFault::Memory,
+            _ => EditFault::Input(0, fault),
+        }
+    }
+}
+
+/// The fault of a pass over the one input of a command, which writes its one output.
+impl From<PassFault> for EditFault {
+    ghost from_gives = { λ fault e. e ≡ of_pass fault };
+
+    fn from(fault: PassFault) -> EditFault {
+        match fault {
+            PassFault::Read => EditFault::Input(0, SurveyFault::Read),
+            PassFault::Shrunk(first, second) => {
+                EditFault::Input(0, SurveyFault::Shrunk(first, second))
+            }
+            PassFault::Write => EditFault::Write(0),
+        }
+    }
+}

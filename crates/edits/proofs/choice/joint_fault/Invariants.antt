@@ -1,7 +1,0 @@
--- None of the frames before is coded jointly.
-use Rattle.std.proofs.Common.{◌≡◌, drop}
-use Rattle.edits.specs.Choice.{joint_fault}
-use Rattle.edits.proofs.choice.joint_fault.Given as goal
-
-abbrev pub invariant-loop-row : goal.invariant-loop-row
-invariant-loop-row l = joint_fault l.rows ≡ joint_fault (drop l.row-index l.rows)

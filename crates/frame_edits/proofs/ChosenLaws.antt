@@ -1,0 +1,264 @@
+-- Frames that a command chooses of a surveyed file: they have a plan, and the file of them holds the stream that the command says.
+use Rattle.std.proofs.Common.{◌≡◌, ℕ, suc, ◌+◌, ◌-◌, ◌&&◌, Bool, true, false, cond, List, [], ◌∷◌, ◌++◌, length, get_or, map, drop, take, Option, Some, None, Result, Ok, Err, refl, sym, ◌∙◌, ap, subst, inl, inr, arith, rules, append-nil, length-append}
+use Rattle.std.specs.Prelude.{◌⊎◌, ◌↔◌, ◌<◌, ◌≤◌, nat_lt, nat_le, IfErr, slice_get, slice_range, Contains, All, replicate}
+use Rattle.std.specs.List.{range_with_len}
+use Rattle.std.proofs.lemmas.Option.{slice_get_cases, slice_get-get_or}
+use Rattle.std.proofs.lemmas.List.{length-map, length-take}
+use Rattle.std.proofs.lemmas.List.FromFn.{length-range_with_len}
+use Rattle.frame_header.specs.Fields.{SlotFields, HeaderFields, ClassFields, IsSlot, IsHeader}
+use Rattle.frame_header.specs.Tables.{class_of, length_of, window_of}
+use Rattle.frame_header.specs.Slots.{slot_of, all_slots}
+use Rattle.frame_header.proofs.SlotLaws.{length-all_slots, IsSlot-nth_slot}
+use Rattle.cue_sheet.specs.declared.place.Place.{Place}
+use Rattle.cue_sheet.specs.Places.{frame_at}
+use Rattle.info_header.specs.Info.{info_in, flags_in, field_place}
+use Rattle.slot_plan.specs.declared.needs.Need.{Need}
+use Rattle.slot_plan.specs.declared.needs.Placed.{Placed}
+use Rattle.slot_plan.specs.Reserve.{needed, free_behind}
+use Rattle.slot_plan.specs.ThePlan.{first_with, lead_in_for, placed_from, the_plan}
+use Rattle.slot_plan.specs.Parts.{Item, area_in, open_of, item_of, items_of, whole_of, parts_of, window_in, ArePartsFeasible, AreOfClass}
+use Rattle.slot_plan.specs.Plans.{IsPlan}
+use Rattle.slot_plan.specs.Laws.{ChooseInOrder}
+use Rattle.slot_plan.proofs.ThePlan.{plan-the_plan}
+use Rattle.part_needs.specs.Needs.{Asked, need_of, needs_of, asked_of}
+use Rattle.part_needs.specs.Fit.{IsPlaced, AreFit}
+use Rattle.part_needs.proofs.FitLaws.{AreKnown, part-fits, part-known}
+use Rattle.part_needs.proofs.PartsLaws.{one-part-fits, parts_are}
+use Rattle.frame_writer.specs.Frames.{Frame}
+use Rattle.laying.specs.Relaid.{Part, AreParts, AreSlots, frames_in, stream_in, relaid, with_lead_ins}
+use Rattle.laying.specs.Fits.{FitsFrom}
+use Rattle.laying.specs.Written.{front_blocks, back_blocks, slot_in, table_entry, head_info}
+use Rattle.laying.proofs.HoldLaws.{files-hold, blocks-kept}
+use Rattle.laying.proofs.RelayLaws.{range-next}
+use Rattle.laying.proofs.FitLaws.{plans-fit}
+use Rattle.laying.proofs.SlotLaws.{slots-planned}
+use Rattle.laid_files.specs.LaidFiles.{HasInfoSizes, laid_file}
+use Rattle.sync_survey.specs.declared.rows.Row.{Row}
+use Rattle.sync_survey.specs.declared.places.Head.{Head}
+use Rattle.sync_survey.specs.declared.survey_fault.SurveyFault.{SurveyFault}
+use Rattle.sync_survey.specs.MainData.{StreamFrame}
+use Rattle.sync_survey.specs.Faults.{SurveyFields, surveyed, HoldsStream}
+use Rattle.sync_survey.specs.Survey.{survey_of}
+use Rattle.sync_survey.proofs.PlacedRows.{surveyed-placed}
+use Rattle.commands.specs.declared.fault.EditFault.{EditFault}
+use Rattle.commands.specs.declared.fault.Refusal.{Refusal}
+use Rattle.commands.specs.declared.fault.Refusal.TheVariants.{Range}
+use Rattle.frame_edits.specs.declared.chosen.Slots.{Slots}
+use Rattle.frame_edits.specs.declared.chosen.Slots.TheVariants.{Own, Least}
+use Rattle.frame_edits.specs.Chosen.{Chosen, outside_fault, choices_by, part_of, chosen_rows, plan_of, laid_frames, chosen_info, laid_from, chosen_file, chosen_stream, Choosing, laid_with, choosing, stream_with, stream_chosen_by, stream_chosen, chosen_with, cut_choice, all_choice}
+use Rattle.commands.specs.One.{most_frames}
+use Rattle.sync_survey.proofs.SurveyedFiles.{survey_of-parts}
+use Rattle.commands.specs.Left.{IsLate}
+use Rattle.commands.proofs.InputLaws.{IsProperMaking}
+use Rattle.commands.proofs.RefusingLaws.{unless_ok}
+use Rattle.commands.proofs.RefusingLaws.{unless_late}
+
+-- ---- how many places a plan of them has
+
+placed-length : (window : ℕ) (items : List Item) (free : ℕ) → length (placed_from window free items) ≡ length items
+unfolding placed_from
+placed-length window [] free = refl
+placed-length window (item ∷ items) free =
+    ap suc (placed-length window items (free_behind window free item.bytes (area_in item (first_with ((item.bytes + needed (map open_of items)) - free) item.class item.protected item.choices))))
+
+items-length : (choices : HeaderFields → List SlotFields) (part : List Need) (lead_in : Option SlotFields) → length (items_of choices part lead_in) ≤ length part + 1
+unfolding items_of
+items-length choices part None = omega (arith, length-map part (item_of choices))
+items-length choices [] (Some slot) = omega arith
+items-length choices (first ∷ part) (Some slot) = omega (arith, length-map part (item_of choices))
+
+pub plan-few : (window : ℕ) (choices : HeaderFields → List SlotFields) (part : List Need) → length (the_plan window choices (part ∷ [])) ≤ length part + 1
+unfolding the_plan whole_of
+plan-few window choices part =
+    omega (arith, placed-length window (whole_of choices (part ∷ []) (map (lead_in_for choices) (part ∷ []))) 0, items-length choices part (lead_in_for choices part), length-append (items_of choices part (lead_in_for choices part)) [])
+
+-- ---- the choice
+
+-- it has a frame, all its frames are there, and the extension has 36 bytes
+pub record IsRight (chosen : Chosen) (s : SurveyFields) : Type 0 where
+  pub some : chosen.from < chosen.to
+  pub within : chosen.to ≤ length s.frames
+  pub extension : length chosen.extension ≡ 36
+
+other_default : {X : Type 0} (xs : List X) (i : ℕ) (d e : X) → i < length xs → get_or xs i d ≡ get_or xs i e
+other_default xs i d e lt = let both : Some (get_or xs i d) ≡ Some (get_or xs i e) = sym (slice_get-get_or xs i d lt) ∙ slice_get-get_or xs i e lt in cc
+
+same_slot : (s slot : SlotFields) → Contains (s ∷ []) slot → s ≡ slot
+same_slot s slot has = let first : has.0 ≡ 0 = omega (arith, has.1) in sym (ap (λ n. get_or (s ∷ []) n slot) first) ∙ has.2
+
+choice_slots : (slots : Slots) → AreSlots (choices_by slots)
+choice_slots Least h slot is has =
+    subst IsSlot (other_default all_slots has.0 (slot_of 1 false) slot has.1 ∙ has.2) (IsSlot-nth_slot has.0 (omega (arith, has.1, length-all_slots)))
+choice_slots Own h slot is has = subst IsSlot (same_slot h.slot slot has) is.slot
+
+chosen_kind : (slots : Slots) (c : ClassFields) (rows : List Row) → AreFit c (asked_of (rows ∷ [])) → ChooseInOrder (choices_by slots) (parts_of (asked_of (rows ∷ [])).needs (asked_of (rows ∷ [])).places)
+chosen_kind Least c rows fit = fit.least
+chosen_kind Own c rows fit = fit.kept
+
+-- frames of a survey that a command chooses
+module _ (chosen : Chosen) (s : SurveyFields) (placed : IsPlaced s) (some : chosen.from < chosen.to) (within : chosen.to ≤ length s.frames) where
+  abbrev part_rows : List Row
+  part_rows = chosen_rows chosen s
+
+  abbrev asked : Asked
+  asked = asked_of (part_rows ∷ [])
+
+  pub rows-fit : AreFit s.class asked
+  rows-fit = one-part-fits s chosen.from chosen.to placed some within
+
+  part_is : parts_of asked.needs asked.places ≡ map need_of part_rows ∷ []
+  part_is = parts_are [] 0 (part_rows ∷ []) refl
+
+  one_plan : (ps : List Placed) → IsPlan (window_of s.class.version) (choices_by chosen.slots) (map need_of part_rows ∷ []) ps ↔ (ps ≡ plan_of chosen s)
+  one_plan ps =
+      plan-the_plan s.class (choices_by chosen.slots) (map need_of part_rows ∷ []) ps
+      (subst (λ (parts : List (List Need)). All (λ p. AreOfClass s.class p) parts) part_is rows-fit.each)
+      (subst (ChooseInOrder (choices_by chosen.slots)) part_is (chosen_kind chosen.slots s.class part_rows rows-fit))
+      (subst (λ (n : ℕ). ArePartsFeasible n (map need_of part_rows ∷ [])) rows-fit.window (subst (ArePartsFeasible (window_in asked.needs)) part_is rows-fit.planned.feasible))
+
+  pub the-plan : IsPlan (window_of s.class.version) (choices_by chosen.slots) (map need_of part_rows ∷ []) (plan_of chosen s)
+  the-plan = (one_plan (plan_of chosen s)).1 refl
+
+  -- what the planner answers
+  of_part : (ps : List Placed) → IsPlan (window_in asked.needs) (choices_by chosen.slots) (parts_of asked.needs asked.places) ps → IsPlan (window_of s.class.version) (choices_by chosen.slots) (map need_of part_rows ∷ []) ps
+  of_part ps plan =
+      subst (λ (n : ℕ). IsPlan n (choices_by chosen.slots) (map need_of part_rows ∷ []) ps) rows-fit.window
+      (subst (λ (parts : List (List Need)). IsPlan (window_in asked.needs) (choices_by chosen.slots) parts ps) part_is plan)
+
+  pub plan_same : (ps : List Placed) → IsPlan (window_in asked.needs) (choices_by chosen.slots) (parts_of asked.needs asked.places) ps → ps ≡ plan_of chosen s
+  plan_same ps plan = (one_plan ps).0 (of_part ps plan)
+
+  pub plan_fits : (ps : List Placed) → IsPlan (window_in asked.needs) (choices_by chosen.slots) (parts_of asked.needs asked.places) ps → FitsFrom (window_of s.class.version) 0 (map need_of part_rows) ps
+  unfolding needs_of
+  plan_fits ps plan =
+      subst (λ (needs : List Need). FitsFrom (window_of s.class.version) 0 needs ps) (append-nil (map need_of part_rows))
+      (plans-fit (window_of s.class.version) (choices_by chosen.slots) (part_rows ∷ []) ps (of_part ps plan))
+
+module _ (chosen : Chosen) (file : List ℕ) (s : SurveyFields) (is : survey_of file most_frames ≡ Ok s) (some : chosen.from < chosen.to) (within : chosen.to ≤ length s.frames) where
+  whole : surveyed file most_frames ≡ Ok s
+  whole = (survey_of-parts file most_frames s is).1
+
+  abbrev part : Part
+  part = part_of chosen file s
+
+  are : AreParts s.class (part ∷ [])
+  are = (record { allowed = most_frames; is = whole; class = refl; some = some; within = within }, tt)
+
+  abbrev rows : List Row
+  rows = chosen_rows chosen s
+
+  plan : IsPlan (window_of s.class.version) (choices_by chosen.slots) (map need_of rows ∷ []) (plan_of chosen s)
+  plan = the-plan chosen s (surveyed-placed file most_frames s whole) some within
+
+  -- the frames are in the slots of the plan
+  pub frame-slots : map slot_in (laid_frames chosen file s) ≡ map (λ (p : Placed). p.slot) (plan_of chosen s)
+  frame-slots =
+      subst (λ (fs : List Frame). map slot_in (relaid fs (plan_of chosen s)) ≡ map (λ (p : Placed). p.slot) (plan_of chosen s)) (append-nil (frames_in part))
+      (slots-planned s.class (choices_by chosen.slots) (part ∷ []) (plan_of chosen s) are (choice_slots chosen.slots) plan)
+
+  sizes : length chosen.extension ≡ 36 → HasInfoSizes (chosen_info chosen file s)
+  sizes extension = record {
+    table = length-map (range_with_len 0 100) (table_entry s.class (laid_frames chosen file s)) ∙ length-range_with_len 0 100;
+    extension = extension;
+  }
+
+  module _ (first : Row) (found : slice_get s.frames chosen.from ≡ Some first) where
+    rows_are : rows ≡ first ∷ slice_range s.frames (chosen.from + 1) chosen.to
+    rows_are = range-next s.frames chosen.from chosen.to first found some
+
+    pub first-header : IsHeader first.header
+    first-header = (subst AreKnown rows_are (part-known s chosen.from chosen.to (surveyed-placed file most_frames s whole))).0
+
+    pub first-class : class_of first.header ≡ s.class
+    unfolding AreOfClass
+    first-class =
+        (subst (λ (l : List Row). AreOfClass s.class (map need_of l)) rows_are (part-fits s chosen.from chosen.to (surveyed-placed file most_frames s whole)).0).0
+
+    laid-holds : length chosen.extension ≡ 36 → HoldsStream (laid_from (Some first) chosen file s) (with_lead_ins (plan_of chosen s) (stream_in part))
+    laid-holds extension =
+        let kept = blocks-kept file most_frames s whole in
+        let holds = files-hold s.class (choices_by chosen.slots) (part ∷ []) (plan_of chosen s) (omega arith) are (choice_slots chosen.slots) plan
+        (front_blocks file s) first.header (chosen_info chosen file s) (back_blocks file s) kept.0 first-header first-class (sizes extension) kept.1 in
+        subst (λ (fs : List Frame). HoldsStream (laid_file (front_blocks file s) first.header (chosen_info chosen file s) (relaid fs (plan_of chosen s)) (back_blocks file s)) (with_lead_ins (plan_of chosen s) (stream_in part)))
+        (append-nil (frames_in part))
+        (subst (λ (ss : List StreamFrame). HoldsStream (laid_file (front_blocks file s) first.header (chosen_info chosen file s) (relaid (frames_in part ++ []) (plan_of chosen s)) (back_blocks file s)) (with_lead_ins (plan_of chosen s) ss))
+        (append-nil (stream_in part)) holds)
+
+  pub chosen-holds : length chosen.extension ≡ 36 → HoldsStream (chosen_file chosen file s) (chosen_stream chosen file s)
+  unfolding chosen_file chosen_stream
+  chosen-holds extension = at (slice_get_cases s.frames chosen.from).1
+    where
+      at : ((x : Row) × (chosen.from < length s.frames) × (slice_get s.frames chosen.from ≡ Some x) × (get_or s.frames chosen.from x ≡ x)) ⊎ ((length s.frames ≤ chosen.from) × (slice_get s.frames chosen.from ≡ None))
+          → HoldsStream (laid_from (slice_get s.frames chosen.from) chosen file s) (with_lead_ins (plan_of chosen s) (stream_in part))
+      at (inl found) = subst (λ (o : Option Row). HoldsStream (laid_from o chosen file s) (with_lead_ins (plan_of chosen s) (stream_in part))) (sym found.2) (laid-holds found.0 found.2 extension)
+      at (inr past) = absurd (omega (arith, past.0, some, within))
+
+-- ---- a command that lays chosen frames
+
+laid_late : (file : List ℕ) (s : SurveyFields) (r : Result Chosen EditFault) → IfErr r IsLate → IfErr (laid_with file s r) IsLate
+laid_late file s (Err fault) late = late
+laid_late file s (Ok chosen) late = tt
+
+module _ (choose : Choosing) (late : (file : List ℕ) (s : SurveyFields) → IfErr (choose file s) IsLate)
+    (right : (file : List ℕ) (s : SurveyFields) (chosen : Chosen) → choose file s ≡ Ok chosen → IsRight chosen s) where
+  made_stream : (file : List ℕ) (s : SurveyFields) (new : List ℕ) → survey_of file most_frames ≡ Ok s → (r : Result Chosen EditFault) → choose file s ≡ r → laid_with file s r ≡ Ok new → HoldsStream new (stream_with file s r)
+  made_stream file s new is (Err fault) chose made = absurd cc
+  made_stream file s new is (Ok chosen) chose made =
+      let same : chosen_file chosen file s ≡ new = cc in
+      subst (λ (n : List ℕ). HoldsStream n (chosen_stream chosen file s)) same (let r = right file s chosen chose in chosen-holds chosen file s is r.some r.within r.extension)
+
+  pub choosing_proper : IsProperMaking (choosing choose) (stream_chosen choose)
+  choosing_proper = record {
+    late = λ file s. laid_late file s (choose file s) (late file s);
+    streams = λ file s new all is made.
+        subst (λ (r : Result SurveyFields SurveyFault). HoldsStream new (stream_chosen_by choose file r)) (sym is) (made_stream file s new is (choose file s) refl made);
+  }
+
+-- ---- cut and pack
+
+abbrev no_fault : Option Refusal
+no_fault = None
+
+outside-none : (from to frames : ℕ) (b : Bool) → (nat_lt from to && nat_le to frames) ≡ b → cond b None (Some (Range from to frames)) ≡ no_fault → (from < to) × (to ≤ frames)
+outside-none from to frames true is e = search rules
+outside-none from to frames false is e = absurd cc
+
+with_right : (quality : Option ℕ) (extension : List ℕ) (from to : ℕ) (slots : Slots) (s : SurveyFields) (chosen : Chosen) → length extension ≡ 36
+    → chosen_with quality extension from to slots (length s.frames) ≡ Ok chosen → IsRight chosen s
+with_right quality extension from to slots s chosen size e =
+    let ok = unless_ok (outside_fault from to (length s.frames)) _ chosen e in
+    let there = outside-none from to (length s.frames) (nat_lt from to && nat_le to (length s.frames)) refl ok.0 in
+    subst (λ (c : Chosen). IsRight c s) ok.1 (record { some = there.0; within = there.1; extension = size })
+
+cut_late : (from to : Place) (slots : Slots) (file : List ℕ) (s : SurveyFields) → IfErr (cut_choice from to slots file s) IsLate
+unfolding cut_choice
+cut_late from to slots file s = unless_late _ _
+
+cut_right : (from to : Place) (slots : Slots) (file : List ℕ) (s : SurveyFields) (chosen : Chosen) → cut_choice from to slots file s ≡ Ok chosen → IsRight chosen s
+unfolding cut_choice
+cut_right from to slots file s chosen e = with_right None (replicate 36 0) (frame_at s.class (length s.frames) from) (frame_at s.class (length s.frames) to) slots s chosen refl e
+
+pub cut_proper : (from to : Place) (slots : Slots) → IsProperMaking (choosing (cut_choice from to slots)) (stream_chosen (cut_choice from to slots))
+cut_proper from to slots = choosing_proper (cut_choice from to slots) (cut_late from to slots) (cut_right from to slots)
+
+info-extension : (bytes : List ℕ) → length (info_in bytes).extension ≡ 36
+unfolding info_in
+info-extension bytes =
+    let rest = drop (field_place (flags_in bytes) 4) bytes in
+    omega (arith, length-take 36 (rest ++ replicate 36 0), length-append rest (replicate 36 0))
+
+head-extension : (file : List ℕ) (head : Option Head) → length (head_info file head).extension ≡ 36
+unfolding head_info
+head-extension file None = info-extension []
+head-extension file (Some head) = info-extension (drop head.text_at (take (length_of (class_of head.header) head.header.slot) (drop head.offset file)))
+
+all_late : (slots : Slots) (file : List ℕ) (s : SurveyFields) → IfErr (all_choice slots file s) IsLate
+unfolding all_choice
+all_late slots file s = unless_late _ _
+
+all_right : (slots : Slots) (file : List ℕ) (s : SurveyFields) (chosen : Chosen) → all_choice slots file s ≡ Ok chosen → IsRight chosen s
+unfolding all_choice
+all_right slots file s chosen e = with_right (head_info file s.head).quality (head_info file s.head).extension 0 (length s.frames) slots s chosen (head-extension file s.head) e
+
+pub all_proper : (slots : Slots) → IsProperMaking (choosing (all_choice slots)) (stream_chosen (all_choice slots))
+all_proper slots = choosing_proper (all_choice slots) (all_late slots) (all_right slots)

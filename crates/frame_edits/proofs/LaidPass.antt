@@ -1,0 +1,81 @@
+-- The pass that lays chosen frames anew.
+use Rattle.std.proofs.Common.{◌≡◌, ◌≢◌, ℕ, List, ◌++◌, take, Some, None, refl, sym, subst, ◌∙◌, ap, inl, inr, arith, get_or, length}
+use Rattle.std.specs.Prelude.{◌⊎◌, ◌<◌, ◌≤◌, slice_get, slice_range}
+use Rattle.std.specs.List.{concat}
+use Rattle.std.proofs.lemmas.Option.{slice_get_cases}
+use Rattle.outside.specs.Files.{Files, Holds, IsThere, emptied}
+use Rattle.outside.specs.Counts.{Counts}
+use Rattle.outside.specs.Feed.{Fed, IsFedFrom}
+use Rattle.outside.specs.declared.pass.PassFault.{PassFault}
+use Rattle.outside.specs.declared.pass.PassFault.TheVariants.{Read, Shrunk, Write}
+use Rattle.outside.specs.Pass.{Appends, AppendsPrefix, HasPassCause}
+use Rattle.outside.proofs.FilesLaws.{emptied_there, emptied_keeps}
+use Rattle.frame_writer.specs.Frames.{frame_bytes}
+use Rattle.slot_plan.specs.declared.needs.Placed.{Placed}
+use Rattle.laid_files.specs.LaidFiles.{laid_file}
+use Rattle.laying.specs.declared.relay.Relay.{Relay}
+use Rattle.laying.specs.Relaid.{all_frames, relaid}
+use Rattle.laying.specs.Written.{front_blocks, back_blocks}
+use Rattle.laying.specs.Passing.{IsReady}
+use Rattle.laying.proofs.ReadLaws.{survey-length}
+use Rattle.sync_survey.specs.declared.rows.Row.{Row}
+use Rattle.sync_survey.specs.Faults.{SurveyFields, tells}
+use Rattle.sync_survey.specs.Survey.{IsLaidOut}
+use Rattle.commands.specs.PassFaults.{of_pass}
+use Rattle.frame_edits.specs.Chosen.{Chosen, plan_of, laid_from, chosen_file, IsChosenInfo}
+use Rattle.frame_edits.specs.Selected.{IsSurveyOf}
+use Rattle.commands.specs.One.{Making, IsInputFault, most_frames}
+use Rattle.commands.specs.Left.{seen}
+use Rattle.commands.proofs.OutputLaws.{emptied_held}
+
+-- the same, said otherwise
+pub appends-as : {input output : List ℕ} (made other : List ℕ → List ℕ) {old new : Files} → ((file : List ℕ) → Holds old input file → made file ≡ other file) → Appends input output made old new → Appends input output other old new
+appends-as made other same h = record { bytes = h.bytes; is = λ file holds. h.is file holds ∙ same file holds; files = h.files }
+
+pub appends-as_prefix : {input output : List ℕ} (made other : List ℕ → List ℕ) {old new : Files} → ((file : List ℕ) → Holds old input file → made file ≡ other file) → AppendsPrefix input output made old new
+    → AppendsPrefix input output other old new
+appends-as_prefix made other same h = record { bytes = h.bytes; prefix = λ file holds. h.prefix file holds ∙ ap (take (length h.bytes)) (same file holds); files = h.files }
+
+-- once the output was created, all is ready for the pass
+pub relay-ready : (relay : Relay) (old mid : Files) (fed : Fed) → relay.pass.input.now ≢ relay.pass.output.now → IsThere old relay.pass.input.now → IsLaidOut (tells relay.survey.now) → IsSurveyOf relay.pass.input.now (tells relay.survey.now) old
+    → relay.pass.length ≡ (tells relay.survey.now).length → mid ≡ emptied old relay.pass.output.now → IsFedFrom fed mid relay.pass.input.now → IsReady relay mid fed
+relay-ready relay old mid fed apart there laid surveyed long created fed_from =
+    let input = relay.pass.input.now in
+    let output = relay.pass.output.now in
+    let s = tells relay.survey.now in
+    let held : (file : List ℕ) → Holds mid input file → Holds old input file = λ file holds. emptied_held old input output file apart (subst (λ f. Holds f input file) created holds) in
+    record {
+      pass = record {
+        apart = apart;
+        source = subst (λ f. IsThere f input) (sym created) (emptied_keeps old output input there);
+        target = subst (λ f. IsThere f output) (sym created) (emptied_there old output);
+        length_is = λ file holds. survey-length file s (most_frames, surveyed file (held file holds)) ∙ sym long;
+        few = omega (arith, long, laid.few);
+        fed_from = fed_from;
+      };
+      length_is = long;
+      exact = λ file holds. (most_frames, surveyed file (held file holds));
+      laid = laid;
+    }
+
+-- and the survey is that of the input still
+pub survey-still : (input output : List ℕ) (s : SurveyFields) (old mid : Files) → input ≢ output → mid ≡ emptied old output → IsSurveyOf input s old → IsSurveyOf input s mid
+survey-still input output s old mid apart created surveyed = λ file holds. surveyed file (emptied_held old input output file apart (subst (λ f. Holds f input file) created holds))
+
+-- a fault of reading before the output is created
+pub read_is_input : (make : Making) (name : List ℕ) (files new : Files) (before after : Counts) (same : new ≡ files) (fault : PassFault) (size : ℕ) → (fault ≡ Write → ⊥) → HasPassCause size files before after fault
+    → IsInputFault make name (seen files before) (seen new after) (of_pass fault)
+read_is_input make name files new before after same Read size reads h = record { rose = h.0; files = same }
+read_is_input make name files new before after same (Shrunk first second) size reads h = record { rose = h.3; counts = h.4; untold_before = h.0; untold_after = same ∙ h.0 }
+read_is_input make name files new before after same Write size reads h = absurd (reads refl)
+
+-- what is written is the file of the chosen frames
+pub written-is : (chosen : Chosen) (file : List ℕ) (s : SurveyFields) (info : List ℕ) (placed : List Placed) → chosen.from < length s.frames → placed ≡ plan_of chosen s → IsChosenInfo chosen file s info
+    → concat (front_blocks file s) ++ (info ++ (frame_bytes (relaid (slice_range (all_frames file s) chosen.from chosen.to) placed) ++ concat (back_blocks file s))) ≡ chosen_file chosen file s
+unfolding chosen_file laid_file
+written-is chosen file s info placed within plan is = at (slice_get_cases s.frames chosen.from).1
+  where
+    at : ((x : Row) × (chosen.from < length s.frames) × (slice_get s.frames chosen.from ≡ Some x) × (get_or s.frames chosen.from x ≡ x)) ⊎ ((length s.frames ≤ chosen.from) × (slice_get s.frames chosen.from ≡ None))
+        → concat (front_blocks file s) ++ (info ++ (frame_bytes (relaid (slice_range (all_frames file s) chosen.from chosen.to) placed) ++ concat (back_blocks file s))) ≡ laid_from (slice_get s.frames chosen.from) chosen file s
+    at (inl found) = rw (is found.0 found.2, plan, found.2) refl
+    at (inr past) = absurd (omega (arith, past.0, within))

@@ -1,0 +1,4 @@
+-- The lemmas of this crate.
+pub mod ChosenLaws
+pub mod LaidPass
+pub mod EditLaws

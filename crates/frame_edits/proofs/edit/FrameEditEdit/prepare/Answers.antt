@@ -1,0 +1,59 @@
+-- The survey, the chosen frames with their plan, and the memory, each with its faults.
+use Rattle.std.proofs.Common.{ap₂, sym, ◌∙◌, subst}
+use Rattle.std.proofs.lemmas.Result.{err_from_is_err_and}
+use Rattle.outside.specs.Files.{Holds}
+use Rattle.sync_survey.specs.Faults.{tells}
+use Rattle.commands.specs.declared.fault.EditFault.TheVariants.{Memory}
+use Rattle.commands.specs.Left.{seen}
+use Rattle.commands.proofs.InputLaws.{input_is_early, input_numbers, memory_is_input}
+use Rattle.frame_edits.specs.Chosen.{choosing, stream_chosen}
+use Rattle.frame_edits.specs.Choices.{choosing_by, refused_by}
+use Rattle.frame_edits.proofs.EditLaws.{edit_makes}
+use Rattle.frame_edits.proofs.edit.FrameEditEdit.prepare.Goals as goal
+
+pub returns-in_err-survey-clause-refused : goal.returns-in_err-survey-clause-refused
+returns-in_err-survey-clause-refused g c =
+    let edit = c.args.self.now in
+    let p = err_from_is_err_and c.from_residual.result c.from_residual.ensures.1 in
+    rw (p.1, p.2) (input_is_early (choosing (choosing_by edit.choice)) (stream_chosen (choosing_by edit.choice)) (refused_by edit.choice) edit.input.now _ _ _ (c.in_err-survey.ensures.refused (choosing (choosing_by edit.choice))))
+
+pub returns-in_err-survey-clause-numbers : goal.returns-in_err-survey-clause-numbers
+returns-in_err-survey-clause-numbers g c =
+    let edit = c.args.self.now in
+    let p = err_from_is_err_and c.from_residual.result c.from_residual.ensures.1 in
+    rw (p.1, p.2) (input_numbers (choosing (choosing_by edit.choice)) (stream_chosen (choosing_by edit.choice)) (refused_by edit.choice) edit.input.now _ (c.in_err-survey.ensures.numbers (refused_by edit.choice)))
+
+pub returns-in_err-planned-clause-refused : goal.returns-in_err-planned-clause-refused
+returns-in_err-planned-clause-refused g c =
+    let edit = c.args.self.now in
+    let old = seen (g.D.Folder.files c.args.folder.now) (g.D.Folder.counts c.args.folder.now) in
+    let p = err_from_is_err_and c.from_residual-in_err-planned.result c.from_residual-in_err-planned.ensures.1 in
+    rw (p.1, p.2)
+    (input_is_early (choosing (choosing_by edit.choice)) (stream_chosen (choosing_by edit.choice)) (refused_by edit.choice) edit.input.now old _ Memory
+    (memory_is_input (choosing (choosing_by edit.choice)) edit.input.now old _ (tells c.in_ok-survey.survey) c.in_ok-survey.ensures.there c.in_ok-survey.ensures.surveyed
+    (ap₂ seen (c.find.ensures.files ∙ c.survey_input.ensures.files) (c.in_ok-chosen.ensures.done ∙ c.in_ok-survey.ensures.done))))
+
+pub returns-in_err-buffers-clause-refused : goal.returns-in_err-buffers-clause-refused
+returns-in_err-buffers-clause-refused g c =
+    let edit = c.args.self.now in
+    let old = seen (g.D.Folder.files c.args.folder.now) (g.D.Folder.counts c.args.folder.now) in
+    let p = err_from_is_err_and c.from_residual-in_err-buffers.result c.from_residual-in_err-buffers.ensures.1 in
+    rw (p.1, p.2)
+    (input_is_early (choosing (choosing_by edit.choice)) (stream_chosen (choosing_by edit.choice)) (refused_by edit.choice) edit.input.now old _ Memory
+    (memory_is_input (choosing (choosing_by edit.choice)) edit.input.now old _ (tells c.in_ok-survey.survey) c.in_ok-survey.ensures.there c.in_ok-survey.ensures.surveyed
+    (ap₂ seen (c.find.ensures.files ∙ c.survey_input.ensures.files) (c.in_ok-chosen.ensures.done ∙ c.in_ok-survey.ensures.done))))
+
+pub returns-clause-making : goal.returns-clause-making
+returns-clause-making g c =
+    let edit = c.args.self.now in
+    let chosen = c.in_ok-chosen.chosen in
+    edit_makes edit.choice edit.input.now (record { survey = c.in_ok-survey.survey; selection = record { chosen = chosen; planned = c.in_ok-planned.planned }; buffers = c.in_ok-buffers.buffers }) (g.D.Folder.files c.args.folder.now) (record {
+      there = c.in_ok-survey.ensures.there;
+      laid = c.in_ok-survey.ensures.laid;
+      surveyed = c.in_ok-survey.ensures.surveyed;
+      octets = c.in_ok-survey.ensures.octets;
+      chosen = λ bytes holds. c.in_ok-chosen.ensures.chosen bytes (subst (λ f. Holds f edit.input.now bytes) (sym c.survey_input.ensures.files) holds);
+      selected = record { some = c.in_ok-chosen.ensures.some; within = c.in_ok-chosen.ensures.within; plan = c.in_ok-planned.ensures.plan; fits = c.in_ok-planned.ensures.fits; info = c.in_ok-planned.ensures.info };
+      fed = c.in_ok-buffers.ensures.fed;
+      unsent = c.in_ok-buffers.ensures.none;
+    })

@@ -1,0 +1,42 @@
+-- Both commands as one: what they choose, and what is made ready for that.
+use Rattle.std.specs.Prelude.{◌≡◌, ℕ, Bool, List, [], Ok}
+use Rattle.bit_fields.specs.Bits.{AreBytes}
+use Rattle.outside.specs.Files.{Files, Holds, IsThere}
+use Rattle.outside.specs.Feed.{IsFedFrom}
+use Rattle.cue_sheet.specs.Places.{IsPlace}
+use Rattle.sync_survey.specs.Faults.{tells}
+use Rattle.sync_survey.specs.Survey.{survey_of, IsLaidOut}
+use Rattle.commands.specs.declared.fault.Refusal.{Refusal}
+use Rattle.commands.specs.One.{most_frames, Task}
+use Rattle.frame_edits.specs.declared.choice.Choice.{Choice}
+use Rattle.frame_edits.specs.declared.choice.Choice.TheVariants.{Between, All}
+use Rattle.frame_edits.specs.declared.edit.Work.{Work}
+use Rattle.frame_edits.specs.Chosen.{Choosing, chosen_in, cut_choice, all_choice, cut_refuses, pack_refuses, chosen_task}
+use Rattle.frame_edits.specs.Selected.{IsSelected}
+
+abbrev pub choosing_by : Choice → Choosing
+choosing_by (Between from to slots) = cut_choice from.now to.now slots
+choosing_by (All slots) = all_choice slots
+
+abbrev pub refused_by : Choice → Refusal → Bool
+refused_by (Between from to slots) = cut_refuses
+refused_by (All slots) = pack_refuses
+
+abbrev pub task_of : Choice → List ℕ → Task
+task_of choice input = chosen_task (choosing_by choice) (refused_by choice) input
+
+-- the places can be ones
+abbrev pub IsChoice : Choice → Type 0
+IsChoice (Between from to slots) = IsPlace from.now × IsPlace to.now
+IsChoice (All slots) = Unit {0}
+
+-- The input is there and was surveyed, these frames are chosen and have their plan, nothing is held of any file, and nothing waits.
+pub record IsReady (input : List ℕ) (choose : Choosing) (work : Work) (files : Files) : Type 0 where
+  pub there : IsThere files input
+  pub laid : IsLaidOut (tells work.survey)
+  pub surveyed : (bytes : List ℕ) → Holds files input bytes → survey_of bytes most_frames ≡ Ok (tells work.survey)
+  pub octets : (bytes : List ℕ) → Holds files input bytes → AreBytes bytes
+  pub chosen : (bytes : List ℕ) → Holds files input bytes → choose bytes (tells work.survey) ≡ Ok (chosen_in work.selection.chosen)
+  pub selected : IsSelected (tells work.survey) work.selection
+  pub fed : (others : Files) (name : List ℕ) → IsFedFrom work.buffers.feed others name
+  pub unsent : work.buffers.waiting ≡ []

@@ -1,0 +1,149 @@
+-- A file of frames chosen of another, laid anew into slots: what is cut out, and what is packed.
+use Rattle.std.specs.Prelude.{◌≡◌, ℕ, nat_lt, nat_le, ◌&&◌, if◌then◌else◌, Bool, true, false, List, [], ◌∷◌, length, map, slice_get, slice_range, replicate, Option, Some, None, Result, Ok, Err}
+use Rattle.frame_header.specs.Fields.{SlotFields, HeaderFields}
+use Rattle.frame_header.specs.Tables.{window_of}
+use Rattle.cue_sheet.specs.declared.place.Place.{Place}
+use Rattle.cue_sheet.specs.Places.{frame_at}
+use Rattle.slot_plan.specs.declared.needs.Placed.{Placed}
+use Rattle.slot_plan.specs.ThePlan.{the_plan}
+use Rattle.part_needs.specs.Needs.{need_of}
+use Rattle.part_needs.specs.Fit.{own_choice, any_choice}
+use Rattle.frame_writer.specs.Frames.{Frame}
+use Rattle.laid_files.specs.LaidFiles.{laid_file}
+use Rattle.info_header.specs.declared.fields.Info.{Info}
+use Rattle.info_header.specs.InfoFrame.{info_frame}
+use Rattle.laying.specs.Relaid.{Part, frames_in, stream_in, relaid, with_lead_ins}
+use Rattle.laying.specs.Written.{front_blocks, back_blocks, info_for, head_info}
+use Rattle.sync_survey.specs.declared.rows.Row.{Row}
+use Rattle.sync_survey.specs.declared.survey_fault.SurveyFault.{SurveyFault}
+use Rattle.sync_survey.specs.MainData.{StreamFrame}
+use Rattle.sync_survey.specs.Faults.{SurveyFields}
+use Rattle.sync_survey.specs.Survey.{survey_of}
+use Rattle.frame_edits.specs.declared.chosen.Chosen.{Chosen as CodeChosen}
+use Rattle.frame_edits.specs.declared.chosen.Slots.{Slots}
+use Rattle.frame_edits.specs.declared.chosen.Slots.TheVariants.{Own, Least}
+use Rattle.commands.specs.declared.fault.EditFault.{EditFault}
+use Rattle.commands.specs.declared.fault.Refusal.{Refusal}
+use Rattle.commands.specs.declared.fault.Refusal.TheVariants.{Range}
+use Rattle.commands.specs.Refusing.{unless}
+use Rattle.commands.specs.Command.{Command}
+use Rattle.commands.specs.One.{Making, most_frames, Task, file_task, one_command}
+
+-- ---- what is chosen
+
+-- The frames from one on and before another, the slots that they may have, and what the Info frame tells of quality and extension.
+pub record Chosen : Type 0 where
+  pub from : ℕ
+  pub to : ℕ
+  pub slots : Slots
+  pub quality : Option ℕ
+  pub extension : List ℕ
+
+-- that of the code
+abbrev pub chosen_in : CodeChosen → Chosen
+chosen_in chosen = record { from = chosen.from; to = chosen.to; slots = chosen.slots; quality = chosen.kept.quality; extension = chosen.kept.extension }
+
+-- there is no frame between them, or not all of these frames are there
+abbrev pub outside_fault : ℕ → ℕ → ℕ → Option Refusal
+outside_fault from to frames = if nat_lt from to && nat_le to frames then None else Some (Range from to frames)
+
+-- ---- the file of them
+
+abbrev pub choices_by : Slots → HeaderFields → List SlotFields
+choices_by Least = any_choice
+choices_by Own = own_choice
+
+abbrev pub part_of : Chosen → List ℕ → SurveyFields → Part
+part_of chosen file s = record { file = file; survey = s; from = chosen.from; to = chosen.to }
+
+-- the frames that are chosen, as the survey tells of them
+abbrev pub chosen_rows : Chosen → SurveyFields → List Row
+chosen_rows chosen s = slice_range s.frames chosen.from chosen.to
+
+-- the slots of their plan, with a lead-in where their main data need one
+abbrev pub plan_of : Chosen → SurveyFields → List Placed
+plan_of chosen s = the_plan (window_of s.class.version) (choices_by chosen.slots) (map need_of (chosen_rows chosen s) ∷ [])
+
+-- the frames with all main data, in these slots
+abbrev pub laid_frames : Chosen → List ℕ → SurveyFields → List Frame
+laid_frames chosen file s = relaid (frames_in (part_of chosen file s)) (plan_of chosen s)
+
+-- what the Info frame in front of them tells
+abbrev pub chosen_info : Chosen → List ℕ → SurveyFields → Info
+chosen_info chosen file s = info_for s.class (laid_frames chosen file s) chosen.quality chosen.extension
+
+-- The ID3v2 blocks that stand in front of the first frame, an Info frame like this first one that is chosen, the frames, and all other
+-- blocks; of no frames there is no file.
+abbrev pub laid_from : Option Row → Chosen → List ℕ → SurveyFields → List ℕ
+laid_from None chosen file s = []
+laid_from (Some first) chosen file s = laid_file (front_blocks file s) first.header (chosen_info chosen file s) (laid_frames chosen file s) (back_blocks file s)
+
+unfoldable pub chosen_file : Chosen → List ℕ → SurveyFields → List ℕ
+chosen_file chosen file s = laid_from (slice_get s.frames chosen.from) chosen file s
+
+-- these are the bytes of the Info frame
+abbrev pub IsChosenInfo : Chosen → List ℕ → SurveyFields → List ℕ → Type 0
+IsChosenInfo chosen file s bytes = (first : Row) → slice_get s.frames chosen.from ≡ Some first → bytes ≡ info_frame first.header (chosen_info chosen file s)
+
+-- its stream: at most one lead-in, and the frames as they are in the stream of the file
+unfoldable pub chosen_stream : Chosen → List ℕ → SurveyFields → List StreamFrame
+chosen_stream chosen file s = with_lead_ins (plan_of chosen s) (stream_in (part_of chosen file s))
+
+-- ---- the commands
+
+-- what a command chooses of a file with this survey, or why it refuses it
+abbrev pub Choosing : Type 0
+Choosing = List ℕ → SurveyFields → Result Chosen EditFault
+
+abbrev pub laid_with : List ℕ → SurveyFields → Result Chosen EditFault → Result (List ℕ) EditFault
+laid_with file s (Err fault) = Err fault
+laid_with file s (Ok chosen) = Ok (chosen_file chosen file s)
+
+-- what comes of a file with this survey
+abbrev pub choosing : Choosing → Making
+choosing choose file s = laid_with file s (choose file s)
+
+abbrev pub stream_with : List ℕ → SurveyFields → Result Chosen EditFault → List StreamFrame
+stream_with file s (Err fault) = []
+stream_with file s (Ok chosen) = chosen_stream chosen file s
+
+abbrev pub stream_chosen_by : Choosing → List ℕ → Result SurveyFields SurveyFault → List StreamFrame
+stream_chosen_by choose file (Err fault) = []
+stream_chosen_by choose file (Ok s) = stream_with file s (choose file s)
+
+-- the stream of what is written; where nothing is, none
+abbrev pub stream_chosen : Choosing → List ℕ → List StreamFrame
+stream_chosen choose file = stream_chosen_by choose file (survey_of file most_frames)
+
+-- the frames between two places, if there is one and all are there
+abbrev pub chosen_with : Option ℕ → List ℕ → ℕ → ℕ → Slots → ℕ → Result Chosen EditFault
+chosen_with quality extension from to slots frames = unless (outside_fault from to frames) (record { from = from; to = to; slots = slots; quality = quality; extension = extension })
+
+unfoldable pub cut_choice : Place → Place → Slots → Choosing
+cut_choice from to slots file s = chosen_with None (replicate 36 0) (frame_at s.class (length s.frames) from) (frame_at s.class (length s.frames) to) slots (length s.frames)
+
+-- all frames, with the quality and extension that the head told
+unfoldable pub all_choice : Slots → Choosing
+all_choice slots file s = chosen_with (head_info file s.head).quality (head_info file s.head).extension 0 (length s.frames) slots (length s.frames)
+
+-- what is made is the file of the chosen frames
+abbrev pub chosen_task : Choosing → (Refusal → Bool) → List ℕ → Task
+chosen_task choose refuses input = file_task (choosing choose) (stream_chosen choose) refuses input
+
+-- a cut may refuse its places, and a packing nothing
+abbrev pub cut_refuses : Refusal → Bool
+cut_refuses (Range from to frames) = true
+cut_refuses _ = false
+
+abbrev pub pack_refuses : Refusal → Bool
+pack_refuses refusal = false
+
+abbrev pub slots_of : Bool → Slots
+slots_of true = Least
+slots_of false = Own
+
+abbrev pub cut_command : Place → Place → Bool → List ℕ → List ℕ → Command
+cut_command from to least input output = one_command (chosen_task (cut_choice from to (slots_of least)) cut_refuses input) output
+
+abbrev pub pack_command : List ℕ → List ℕ → Command
+pack_command input output = one_command (chosen_task (all_choice Least) pack_refuses input) output

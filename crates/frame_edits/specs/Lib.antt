@@ -1,0 +1,4 @@
+-- What the contracts of this crate cite.
+pub mod Chosen
+pub mod Selected
+pub mod Choices

@@ -1,0 +1,101 @@
+//! The commands `cut` and `pack` over a folder.
+ghost use Rattle.std.specs.Prelude.{◌≡◌, ◌↔◌, ℕ, Some, IfErr, OnOk, IsErrOf};
+ghost use Rattle.outside.specs.Counts.{NoneFell};
+ghost use Rattle.cue_sheet.specs.Places.{IsPlace};
+ghost use Rattle.commands.specs.Command.{HoldsStreams, clash_of};
+ghost use Rattle.commands.specs.Left.{seen, IsDone, Leaves, HasNumbers};
+ghost use Rattle.frame_edits.specs.Chosen.{slots_of as slots_of_lem, cut_command, pack_command};
+
+use crate::choice::Choice;
+use crate::chosen::Slots;
+use crate::edit::FrameEdit;
+use commands::{EditFault, make_one};
+use cue_sheet::Place;
+use outside::Folder;
+use std::alloc::Global;
+
+fn slots_of(least: bool) -> Slots
+    ensures { result ≡ slots_of_lem least }
+{
+    if least { Slots::Least } else { Slots::Own }
+}
+
+/// Writes the output, which is the frames of the input from one place on and before another, with all main data: its ID3v2
+/// blocks that stand in front of the first frame, an Info frame, these frames in the slots of their plan, and all other
+/// blocks. Each frame keeps its own bit rate and padding; with `least` each has the least with which all main data have
+/// room (ISO/IEC 11172-3, 2.4.2.7). A lead-in, one empty frame, stands in front where the first frames' main data need room.
+///
+/// Refuses, in this order: `EqualNames(0)` where the names are equal, byte for byte; `Input(0, ..)` with the fault of the
+/// survey of the input, of which 2,900,000 frames are allowed; `Range` with the numbers of the two frames and that of all
+/// frames where there is no frame between the places, or where the second is behind all frames. Then nothing was created.
+///
+/// `Input` with `Read` and `Write(0)` come only where a call of that kind failed, `Input` with `Absent` only where the input
+/// isn't there, and every other answer only where none failed; after `Write(0)` the output is as it was or
+/// holds a prefix of its bytes. `Memory` may come once the input was found with a length that it may have,
+/// before the output is created, and not from then on.
+pub fn cut<D: Folder>(
+    alloc: Global,
+    folder: &mut D,
+    input: &str,
+    from: &Place,
+    to: &Place,
+    least: bool,
+    output: &str,
+) -> Result<(), EditFault>
+    requires from { IsPlace from.now }
+    requires to { IsPlace to.now }
+    ensures done { OnOk result (IsDone (cut_command from.now to.now least input.now output.now)
+        (seen (D.files folder.old) (D.counts folder.old))
+        (seen (D.files folder.new) (D.counts folder.new))) }
+    ensures left { IfErr result (Leaves (cut_command from.now to.now least input.now output.now)
+        (seen (D.files folder.old) (D.counts folder.old))
+        (seen (D.files folder.new) (D.counts folder.new))) }
+    // Over a folder that tells nothing too.
+    ensures numbers { IfErr result (HasNumbers
+        (cut_command from.now to.now least input.now output.now)) }
+    ensures names { (place : ℕ) → IsErrOf result (EditFault.EqualNames place)
+        ↔ (clash_of (cut_command from.now to.now least input.now output.now) ≡ Some place) }
+    // The input is well-formed, and the output holds at most one lead-in and then exactly the chosen frames of its stream.
+    ensures streams { OnOk result (HoldsStreams
+        (cut_command from.now to.now least input.now output.now) (D.files folder.old)) }
+    ensures counts { NoneFell (D.counts folder.old) (D.counts folder.new) }
+{
+    let choice = Choice::Between(from, to, slots_of(least));
+    make_one(alloc, folder, &FrameEdit { input, choice }, output)
+}
+
+/// Writes the output, which is all frames of the input, each with the least bit rate and padding with which all main data
+/// have room (ISO/IEC 11172-3, 2.4.2.7): its ID3v2 blocks that stand in front of the first frame, an Info frame with the
+/// quality and extension of the input's, the frames, and all other blocks.
+///
+/// Refuses, in this order: `EqualNames(0)` where the names are equal, byte for byte; `Input(0, ..)` with the fault of the
+/// survey of the input, of which 2,900,000 frames are allowed. Then nothing was created.
+///
+/// `Input` with `Read` and `Write(0)` come only where a call of that kind failed, `Input` with `Absent` only where the input
+/// isn't there, and every other answer only where none failed; after `Write(0)` the output is as it was or
+/// holds a prefix of its bytes. `Memory` may come once the input was found with a length that it may have,
+/// before the output is created, and not from then on.
+pub fn pack<D: Folder>(
+    alloc: Global,
+    folder: &mut D,
+    input: &str,
+    output: &str,
+) -> Result<(), EditFault>
+    ensures done { OnOk result (IsDone (pack_command input.now output.now)
+        (seen (D.files folder.old) (D.counts folder.old))
+        (seen (D.files folder.new) (D.counts folder.new))) }
+    ensures left { IfErr result (Leaves (pack_command input.now output.now)
+        (seen (D.files folder.old) (D.counts folder.old))
+        (seen (D.files folder.new) (D.counts folder.new))) }
+    // Over a folder that tells nothing too.
+    ensures numbers { IfErr result (HasNumbers (pack_command input.now output.now)) }
+    ensures names { (place : ℕ) → IsErrOf result (EditFault.EqualNames place)
+        ↔ (clash_of (pack_command input.now output.now) ≡ Some place) }
+    // The input is well-formed, and the output holds its stream.
+    ensures streams { OnOk result (HoldsStreams (pack_command input.now output.now)
+        (D.files folder.old)) }
+    ensures counts { NoneFell (D.counts folder.old) (D.counts folder.new) }
+{
+    let choice = Choice::All(Slots::Least);
+    make_one(alloc, folder, &FrameEdit { input, choice }, output)
+}

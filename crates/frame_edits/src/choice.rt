@@ -1,0 +1,120 @@
+//! Which frames of a file the commands of this crate choose.
+ghost use Rattle.std.specs.Prelude.{◌≡◌, ◌<◌, ◌≤◌, ℕ, List, length, Ok, Err, MatchResult, IfOk, IfErr, OnOk};
+ghost use Rattle.outside.specs.Files.{Holds, IsThere};
+ghost use Rattle.outside.specs.Counts.{OnlyReads};
+ghost use Rattle.cue_sheet.specs.Places.{IsPlace};
+ghost use Rattle.sync_survey.specs.Faults.{tells};
+ghost use Rattle.sync_survey.specs.Survey.{survey_of, IsLaidOut};
+ghost use Rattle.commands.specs.Left.{seen, IsOfInput, IsRefusal};
+ghost use Rattle.commands.specs.One.{most_frames, IsInputFault};
+ghost use Rattle.frame_edits.specs.Chosen.{chosen_in, choosing, cut_choice as cut_choice_lem, all_choice as all_choice_lem, cut_refuses, pack_refuses};
+ghost use Rattle.frame_edits.specs.Choices.{choosing_by, refused_by, IsChoice};
+
+use crate::chosen::{Chosen, Slots, choose};
+use commands::EditFault;
+use cue_sheet::Place;
+use laying::{Kept, kept_fields};
+use outside::Folder;
+use sync_survey::Survey;
+
+/// Which frames are chosen, and which slots they may have.
+#[derive(Clone, Copy)]
+pub enum Choice<'a> {
+    /// Those from one place on and before another.
+    Between(&'a Place, &'a Place, Slots),
+    /// All, with the quality and extension that the head of the input tells.
+    All(Slots),
+}
+
+/// The frames between two places: `Range` where there is none, or where not all are there.
+#[tactic(auto, unfolding(crate::specs::Chosen::cut_choice))]
+fn cut_choice(survey: &Survey, from: &Place, to: &Place, slots: Slots) -> Result<Chosen, EditFault>
+    requires from { IsPlace from.now }
+    requires to { IsPlace to.now }
+    requires few { length (tells survey.now).frames ≤ 2900000 }
+    ensures chosen { MatchResult result
+        (λ chosen. (file : List ℕ)
+        → cut_choice_lem from.now to.now slots file (tells survey.now) ≡ Ok (chosen_in chosen))
+        (λ fault. (file : List ℕ)
+        → cut_choice_lem from.now to.now slots file (tells survey.now) ≡ Err fault) }
+    ensures some { IfOk result (λ chosen. chosen.from < chosen.to) }
+    ensures within { IfOk result (λ chosen. chosen.to ≤ length (tells survey.now).frames) }
+    ensures refusal { IfErr result (IsRefusal cut_refuses) }
+{
+    let frames = survey.frames().len();
+    let class = survey.class();
+    let from = from.frame_of(class, frames as u32);
+    let to = to.frame_of(class, frames as u32);
+    choose(from, to, frames, slots, Kept::none())
+}
+
+/// All frames, with the quality and extension that the head of the input tells.
+fn all_choice<D: Folder>(
+    folder: &mut D,
+    name: &str,
+    survey: &Survey,
+    slots: Slots,
+) -> Result<Chosen, EditFault>
+    requires there { IsThere (D.files folder.old) name.now }
+    requires laid { IsLaidOut (tells survey.now) }
+    requires few { length (tells survey.now).frames ≤ 2900000 }
+    requires surveyed { (bytes : List ℕ) → Holds (D.files folder.old) name.now bytes
+        → survey_of bytes most_frames ≡ Ok (tells survey.now) }
+    ensures chosen { IfOk result (λ chosen. (bytes : List ℕ)
+        → Holds (D.files folder.old) name.now bytes
+        → all_choice_lem slots bytes (tells survey.now) ≡ Ok (chosen_in chosen)) }
+    ensures some { IfOk result (λ chosen. chosen.from < chosen.to) }
+    ensures within { IfOk result (λ chosen. chosen.to ≤ length (tells survey.now).frames) }
+    ensures refused { IfErr result (IsInputFault (choosing (all_choice_lem slots)) name.now
+        (seen (D.files folder.old) (D.counts folder.old))
+        (seen (D.files folder.new) (D.counts folder.new))) }
+    ensures numbers { IfErr result (IsOfInput pack_refuses) }
+    ensures done { OnOk result (D.counts folder.new ≡ D.counts folder.old) }
+    ensures files { D.files folder.new ≡ D.files folder.old }
+    ensures counts { OnlyReads (D.counts folder.old) (D.counts folder.new) }
+{
+    let kept = match kept_fields(folder, name, survey) {
+        Ok(kept) => kept,
+        Err(fault) => return Err(fault.into()),
+    };
+    Ok(Chosen {
+        from: 0,
+        to: survey.frames().len(),
+        slots,
+        kept,
+    })
+}
+
+impl<'a> Choice<'a> {
+    /// The frames of a surveyed input: `Range` where there is none between the places, or where not all are there.
+    pub(crate) fn find<D: Folder>(
+        &self,
+        folder: &mut D,
+        name: &str,
+        survey: &Survey,
+    ) -> Result<Chosen, EditFault>
+        requires choice { IsChoice self.now }
+        requires there { IsThere (D.files folder.old) name.now }
+        requires laid { IsLaidOut (tells survey.now) }
+        requires few { length (tells survey.now).frames ≤ 2900000 }
+        requires surveyed { (bytes : List ℕ) → Holds (D.files folder.old) name.now bytes
+            → survey_of bytes most_frames ≡ Ok (tells survey.now) }
+        ensures chosen { IfOk result (λ chosen. (bytes : List ℕ)
+            → Holds (D.files folder.old) name.now bytes
+            → choosing_by self.now bytes (tells survey.now) ≡ Ok (chosen_in chosen)) }
+        ensures some { IfOk result (λ chosen. chosen.from < chosen.to) }
+        ensures within { IfOk result (λ chosen. chosen.to ≤ length (tells survey.now).frames) }
+        ensures refused { IfErr result (IsInputFault (choosing (choosing_by self.now)) name.now
+            (seen (D.files folder.old) (D.counts folder.old))
+            (seen (D.files folder.new) (D.counts folder.new))) }
+        ensures numbers { IfErr result (IsOfInput (refused_by self.now)) }
+        ensures done { OnOk result (D.counts folder.new ≡ D.counts folder.old) }
+        ensures files { D.files folder.new ≡ D.files folder.old }
+        ensures counts { OnlyReads (D.counts folder.old) (D.counts folder.new) }
+    {
+        match *self {
+            Choice::Between(from, to, slots) => cut_choice(survey, from, to, slots),
+            Choice::All(slots) => all_choice(folder, name, survey, slots),
+        }
+    }
+}

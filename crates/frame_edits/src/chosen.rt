@@ -1,0 +1,54 @@
+//! Which frames of a file are chosen, and how they are laid.
+ghost use Rattle.std.specs.Prelude.{◌≡◌, ◌<◌, ◌≤◌, Ok, Err, MatchResult, IfOk, IfErr};
+ghost use Rattle.frame_edits.specs.Chosen.{chosen_in, chosen_with, cut_refuses};
+ghost use Rattle.commands.specs.Left.{IsRefusal};
+
+use commands::{EditFault, Refusal};
+use laying::Kept;
+
+/// Which bit rate and padding a frame may have.
+#[derive(Clone, Copy, Debug, PartialEq, Eq)]
+pub enum Slots {
+    /// Its own.
+    Own,
+    /// The least with which all main data have room.
+    Least,
+}
+
+/// The frames from one on and before another, counted from 0, the slots that they may have, and what the Info frame in
+/// front of them tells of quality and extension.
+#[derive(Drop)]
+pub struct Chosen {
+    pub from: usize,
+    pub to: usize,
+    pub slots: Slots,
+    pub kept: Kept,
+}
+
+/// The frames from one on and before another of so many: `Range` where there is none between them, or not all are there.
+pub fn choose(
+    from: u64,
+    to: u64,
+    frames: usize,
+    slots: Slots,
+    kept: Kept,
+) -> Result<Chosen, EditFault>
+    ensures chosen { MatchResult result
+        (λ chosen. chosen_with kept.quality kept.extension from to slots frames ≡ Ok (chosen_in chosen))
+        (λ fault. chosen_with kept.quality kept.extension from to slots frames ≡ Err fault) }
+    ensures some { IfOk result (λ chosen. chosen.from < chosen.to) }
+    ensures within { IfOk result (λ chosen. chosen.to ≤ frames) }
+    ensures refusal { IfErr result (IsRefusal cut_refuses) }
+{
+    let all = frames as u64;
+    if from < to && to <= all {
+        Ok(Chosen {
+            from: from as usize,
+            to: to as usize,
+            slots,
+            kept,
+        })
+    } else {
+        Err(Refusal::Range(from, to, all).into())
+    }
+}

@@ -1,0 +1,16 @@
+//! The commands that lay chosen frames anew in one file: `cut` and `pack`.
+#![tactic(auto)]
+
+mod calls;
+mod choice;
+mod chosen;
+mod edit;
+mod plans;
+mod writing;
+
+pub use calls::{cut, pack};
+pub use choice::Choice;
+pub use chosen::{Chosen, Slots, choose};
+pub use edit::{FrameEdit, Work};
+pub use plans::{Planned, Selection, plan_file};
+pub use writing::write_selection;

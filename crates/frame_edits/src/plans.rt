@@ -1,0 +1,90 @@
+//! The plan of chosen frames, and the Info frame in front of them.
+ghost use Rattle.std.specs.Prelude.{◌≡◌, ◌<◌, ◌≤◌, ℕ, List, [], ◌∷◌, length, map, slice_range, Ok, IfOk};
+ghost use Rattle.frame_header.specs.Tables.{window_of};
+ghost use Rattle.part_needs.specs.Needs.{need_of, asked_of};
+ghost use Rattle.part_needs.specs.Fit.{CanBePlanned};
+ghost use Rattle.slot_plan.specs.Parts.{window_in, parts_of};
+ghost use Rattle.slot_plan.specs.Plans.{IsPlan, entries};
+ghost use Rattle.laying.specs.Fits.{FitsFrom};
+ghost use Rattle.sync_survey.specs.Faults.{tells};
+ghost use Rattle.sync_survey.specs.Survey.{survey_of, IsLaidOut};
+ghost use Rattle.commands.specs.One.{most_frames};
+ghost use Rattle.frame_edits.specs.Chosen.{chosen_in, plan_of, IsChosenInfo};
+
+use crate::chosen::{Chosen, Slots};
+use arrayvec::ArrayVec;
+use info_header::write_info;
+use laying::info_of;
+use part_needs::Parts;
+use slot_plan::{Keep, Least, Plan, Policy};
+use std::alloc::{AllocError, Global};
+use sync_survey::{Row, Survey};
+
+/// The slots of chosen frames and of their lead-in, and the bytes of the Info frame in front of them.
+#[derive(Drop)]
+pub struct Planned {
+    pub plan: Plan,
+    pub info: ArrayVec<u8, 1441>,
+}
+
+/// Chosen frames with their plan.
+#[derive(Drop)]
+pub struct Selection {
+    pub chosen: Chosen,
+    pub planned: Planned,
+}
+
+/// The plan of one part by a policy.
+fn plan_part<P: Policy>(alloc: Global, rows: &[Row], policy: &P) -> Result<Plan, AllocError>
+    requires planned { CanBePlanned (asked_of (rows.now ∷ [])) }
+    requires few { length rows.now ≤ 2900000 }
+    ensures { IfOk result (λ plan. IsPlan (window_in (asked_of (rows.now ∷ [])).needs)
+        (P.choices_of policy.now) (parts_of (asked_of (rows.now ∷ [])).needs
+        (asked_of (rows.now ∷ [])).places) (entries plan)) }
+{
+    let mut parts = Parts::new(alloc);
+    parts.push(rows)?;
+    parts.plan(alloc, policy)
+}
+
+/// The plan of chosen frames.
+fn plan_chosen(alloc: Global, survey: &Survey, chosen: &Chosen) -> Result<Plan, AllocError>
+    requires laid { IsLaidOut (tells survey.now) }
+    requires few { length (tells survey.now).frames ≤ 2900000 }
+    requires some { chosen.now.from < chosen.now.to }
+    requires within { chosen.now.to ≤ length (tells survey.now).frames }
+    ensures plan { IfOk result (λ plan. entries plan ≡ plan_of (chosen_in chosen.now)
+        (tells survey.now)) }
+    ensures fits { IfOk result (λ plan. FitsFrom (window_of (tells survey.now).class.version) 0
+        (map need_of (slice_range (tells survey.now).frames chosen.now.from chosen.now.to))
+        (entries plan)) }
+{
+    let rows = &survey.frames()[chosen.from..chosen.to];
+    match chosen.slots {
+        Slots::Own => plan_part(alloc, rows, &Keep),
+        Slots::Least => plan_part(alloc, rows, &Least),
+    }
+}
+
+/// The plan of chosen frames, and their Info frame.
+pub fn plan_file(alloc: Global, survey: &Survey, chosen: &Chosen) -> Result<Planned, AllocError>
+    requires laid { IsLaidOut (tells survey.now) }
+    requires few { length (tells survey.now).frames ≤ 2900000 }
+    requires some { chosen.now.from < chosen.now.to }
+    requires within { chosen.now.to ≤ length (tells survey.now).frames }
+    ensures plan { IfOk result (λ p. entries p.plan ≡ plan_of (chosen_in chosen.now)
+        (tells survey.now)) }
+    ensures fits { IfOk result (λ p. FitsFrom (window_of (tells survey.now).class.version) 0
+        (map need_of (slice_range (tells survey.now).frames chosen.now.from chosen.now.to))
+        (entries p.plan)) }
+    ensures info { IfOk result (λ p. (file : List ℕ)
+        → survey_of file most_frames ≡ Ok (tells survey.now)
+        → IsChosenInfo (chosen_in chosen.now) file (tells survey.now) p.info.items) }
+{
+    let plan = plan_chosen(alloc, survey, chosen)?;
+    let fields = info_of(survey.class(), plan.placed(), &chosen.kept);
+    let first = &survey.frames()[chosen.from].header;
+    let mut info = ArrayVec::new();
+    write_info(first, &fields, &mut info);
+    Ok(Planned { plan, info })
+}

@@ -1,0 +1,55 @@
+//! The pass that lays chosen frames anew.
+ghost use Rattle.std.specs.Prelude.{◌≡◌, ◌≢◌, List, ℕ, [], is_some, IfErr, OnOk, OnErr};
+ghost use Rattle.outside.specs.Files.{Holds, IsThere};
+ghost use Rattle.outside.specs.Counts.{NoneFell};
+ghost use Rattle.outside.specs.Pass.{Appends, AppendsPrefix, HasPassCause};
+ghost use Rattle.laying.specs.Passing.{IsReady};
+ghost use Rattle.sync_survey.specs.Faults.{tells};
+ghost use Rattle.sync_survey.specs.Survey.{IsLaidOut};
+ghost use Rattle.commands.specs.One.{holding, IsPassFault};
+ghost use Rattle.commands.specs.Left.{seen, IsOfPass};
+ghost use Rattle.frame_edits.specs.Selected.{IsSelected, IsSurveyOf, selected_file};
+
+use crate::plans::Selection;
+use laying::{Buffers, Relay, Section};
+use outside::{Folder, PassFault};
+
+/// Appends the file of the chosen frames to the output. Nothing waits in front of it, and what else the buffers hold may be
+/// of whatever was written before. It takes no memory.
+///
+/// # Errors
+/// `Read` and `Shrunk` where a read failed, or gave no byte before the length that the input was found with; `Write` where a
+/// write failed. Then a prefix of the file was appended.
+pub fn write_selection<D: Folder>(
+    folder: &mut D,
+    relay: &Relay<'_>,
+    selection: &Selection,
+    buffers: &mut Buffers,
+) -> Result<(), PassFault>
+    requires ready { IsReady relay.now (D.files folder.old) buffers.old.feed }
+    requires exact { IsSurveyOf relay.now.pass.input.now (tells relay.now.survey.now)
+        (D.files folder.old) }
+    requires selected { IsSelected (tells relay.now.survey.now) selection.now }
+    requires unsent { buffers.old.waiting ≡ [] }
+    ensures written { OnOk result (Appends relay.now.pass.input.now relay.now.pass.output.now
+        (selected_file (tells relay.now.survey.now) selection.now)
+        (D.files folder.old) (D.files folder.new)) }
+    ensures prefix { OnErr result (AppendsPrefix relay.now.pass.input.now relay.now.pass.output.now
+        (selected_file (tells relay.now.survey.now) selection.now)
+        (D.files folder.old) (D.files folder.new)) }
+    ensures done { OnOk result (D.counts folder.new ≡ D.counts folder.old) }
+    ensures cause { IfErr result (HasPassCause relay.now.pass.length (D.files folder.old)
+        (D.counts folder.old) (D.counts folder.new)) }
+    // What another file of chosen frames may be written with.
+    ensures ready { OnOk result (IsReady relay.now (D.files folder.new) buffers.new.feed) }
+    ensures unsent { OnOk result (buffers.new.waiting ≡ []) }
+{
+    let chosen = &selection.chosen;
+    let section = Section {
+        from: chosen.from,
+        to: chosen.to,
+        placed: selection.planned.plan.placed(),
+        info: selection.planned.info.as_slice(),
+    };
+    relay.write(folder, &section, buffers)
+}

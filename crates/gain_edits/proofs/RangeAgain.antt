@@ -1,0 +1,150 @@
+-- Two changes of gains, one after the other: where no gain leaves its range by either, none does by both together, nor by what takes the first back.
+use Rattle.std.proofs.Common.{◌≡◌, ℕ, ◌<◌, Bool, true, false, cond, ◌&&◌, ◌||◌, not, List, [], ◌∷◌, map, Option, Some, None, refl, sym, ◌∙◌, ap, ap₂, subst, arith, ℤ, pos, ◌+ℤ◌}
+use Rattle.std.specs.Option.{option_or}
+use Rattle.std.proofs.lemmas.Bool.{le-ltb}
+use Rattle.std.proofs.Math.IntN.{+ℤ_assoc, +ℤ_idr}
+use Rattle.side_info.specs.declared.granule.Granule.{Granule}
+use Rattle.side_info.specs.declared.side.Side.{Side}
+use Rattle.side_info.proofs.FrameLaws.{fits-side_in}
+use Rattle.side_info.proofs.SideLaws.{IsShaped, side_with, each_shaped}
+use Rattle.sync_survey.specs.declared.rows.Row.{Row}
+use Rattle.frame_header.specs.Tables.{class_of}
+use Rattle.commands.specs.declared.fault.Refusal.{Refusal}
+use Rattle.moved_gains.specs.declared.gains.Stuck.{Stuck}
+use Rattle.moved_gains.specs.declared.shift.Steps.{Steps}
+use Rattle.moved_gains.specs.Gains.{is_silent_granule, is_outside, moved_gain, moved, moved_side, moved_unless, stuck_at, stuck_in}
+use Rattle.moved_gains.specs.Edited.{stuck_of}
+use Rattle.gain_edits.specs.GainRange.{stuck_fault, range_fault}
+use Rattle.moved_gains.proofs.MovedGains.{rem, within, gain_as_is, moved-loud, is_stuck, GainsFit, IsNoStep, none_of, none_then, AreFree, free-parts, wrapped-free, side_then}
+use Rattle.moved_gains.proofs.MovedFrame.{whole_class, gains_fit}
+use Rattle.gain_edits.proofs.RangeLaws.{range-cons, range-nil}
+use Rattle.moved_gains.proofs.FramesThere.{frame_of, IsFrameOf, AreFramesOf, row_shaped}
+use Rattle.moved_gains.proofs.MovedAgain.{AreTogether, stood}
+
+-- ---- two changes together
+
+gain_both : (a b : ℤ) (gain : ℕ) → is_outside (pos gain +ℤ a) ≡ false → is_outside (pos (moved_gain a gain) +ℤ b) ≡ false → is_outside (pos gain +ℤ (a +ℤ b)) ≡ false
+gain_both a b gain inside then =
+    let sum = within (pos gain +ℤ a) inside in
+    let to : pos (moved_gain a gain) ≡ pos gain +ℤ a = ap (λ z. pos (rem z)) sum.is ∙ ap pos (gain_as_is sum.gain sum.small) ∙ sym sum.is in
+    sym (ap (λ z. is_outside (z +ℤ b)) to ∙ ap is_outside (+ℤ_assoc (pos gain) a b)) ∙ then
+
+granule_both : (a b : ℤ) (g : Granule) → is_stuck a g ≡ false → is_stuck b (moved a g) ≡ false → is_stuck (a +ℤ b) g ≡ false
+granule_both a b g first second = by_silence (is_silent_granule g) refl
+  where
+    by_silence : (silent : Bool) → is_silent_granule g ≡ silent → is_stuck (a +ℤ b) g ≡ false
+    by_silence true silent = ap (λ s. not s && is_outside (pos g.global_gain +ℤ (a +ℤ b))) silent
+    by_silence false loud =
+        let h : Granule = record g { global_gain = moved_gain a g.global_gain } in
+        let then : is_outside (pos h.global_gain +ℤ b) ≡ false =
+        sym (ap (λ s. not s && is_outside (pos h.global_gain +ℤ b)) loud) ∙ sym (ap (is_stuck b) (moved-loud a g loud)) ∙ second in
+        ap (λ s. not s && is_outside (pos g.global_gain +ℤ (a +ℤ b))) loud
+        ∙ gain_both a b g.global_gain (sym (ap (λ s. not s && is_outside (pos g.global_gain +ℤ a)) loud) ∙ first) then
+
+free-all : (steps : Steps) (m p a b : ℕ) (g h k l : Granule) → AreFree steps.left steps.right g h k l → steps.wrap ≡ false → stuck_in steps (side_with m p a b g h k l) ≡ None
+unfolding stuck_in
+free-all steps m p a b g h k l free strict =
+    let s = side_with m p a b g h k l in
+    ap (λ w. cond w None (option_or (stuck_at steps.left s 0 0) (option_or (stuck_at steps.right s 0 1) (option_or (stuck_at steps.left s 1 0) (stuck_at steps.right s 1 1))))) strict
+    ∙ none_then _ _ _ _ (none_of _ _ free.first) (none_of _ _ free.second) (none_of _ _ free.third) (none_of _ _ free.fourth)
+
+moved_with : (steps : Steps) (m p a b : ℕ) (g h k l : Granule) → moved_side steps (side_with m p a b g h k l) ≡ side_with m p a b (moved steps.left g) (moved steps.right h) (moved steps.left k) (moved steps.right l)
+unfolding moved_side
+moved_with steps m p a b g h k l = refl
+
+abbrev BothGoal : Steps → Steps → Steps → Side → Type 0
+BothGoal one two all s = stuck_in one s ≡ None → stuck_in two (moved_side one s) ≡ None → stuck_in all s ≡ None
+
+both-with : (one two all : Steps) → one.wrap ≡ false → two.wrap ≡ false → all.wrap ≡ false → AreTogether one two all → (m p a b : ℕ) (g h k l : Granule) → BothGoal one two all (side_with m p a b g h k l)
+both-with one two all strict_one strict_two strict_all sum m p a b g h k l first second =
+    let f = free-parts one m p a b g h k l strict_one first in
+    let w =
+    free-parts two m p a b (moved one.left g) (moved one.right h) (moved one.left k) (moved one.right l) strict_two
+    (sym (ap (stuck_in two) (moved_with one m p a b g h k l)) ∙ second) in
+    let on_left : (x : Granule) → is_stuck one.left x ≡ false → is_stuck two.left (moved one.left x) ≡ false → is_stuck all.left x ≡ false =
+    λ x e d. ap (λ z. is_stuck z x) sum.left ∙ granule_both one.left two.left x e d in
+    let on_right : (x : Granule) → is_stuck one.right x ≡ false → is_stuck two.right (moved one.right x) ≡ false → is_stuck all.right x ≡ false =
+    λ x e d. ap (λ z. is_stuck z x) sum.right ∙ granule_both one.right two.right x e d in
+    free-all all m p a b g h k l
+    (record { first = on_left g f.first w.first; second = on_right h f.second w.second; third = on_left k f.third w.third; fourth = on_right l f.fourth w.fourth })
+    strict_all
+
+pub side_both : (one two all : Steps) (s : Side) → IsShaped s → all.wrap ≡ one.wrap || two.wrap → AreTogether one two all → stuck_in one s ≡ None → stuck_in two (moved_side one s) ≡ None → stuck_in all s ≡ None
+side_both one two all s shaped wraps sum first second = by_wrap one.wrap two.wrap refl refl
+  where
+    by_wrap : (v w : Bool) → one.wrap ≡ v → two.wrap ≡ w → stuck_in all s ≡ None
+    by_wrap false false e d =
+        each_shaped (BothGoal one two all) (both-with one two all e d (wraps ∙ ap₂ (λ (x y : Bool). x || y) e d) sum) s shaped first second
+    by_wrap false true e d = wrapped-free all s (wraps ∙ ap₂ (λ (x y : Bool). x || y) e d)
+    by_wrap true w e d = wrapped-free all s (wraps ∙ ap₂ (λ (x y : Bool). x || y) e d)
+
+-- ---- no step
+
+still_granule : (g : Granule) → g.global_gain < 256 → is_stuck (pos 0) g ≡ false
+still_granule g small =
+    let inside : is_outside (pos g.global_gain +ℤ pos 0) ≡ false = ap is_outside (+ℤ_idr (pos g.global_gain)) ∙ le-ltb 255 g.global_gain (omega (arith, small)) in
+    elim (is_silent_granule g) as (λ b. (not b && is_outside (pos g.global_gain +ℤ pos 0)) ≡ false) [ true ↦ refl | false ↦ inside ]
+
+abbrev StillGoal : Steps → Side → Type 0
+StillGoal steps s = GainsFit s → stuck_in steps s ≡ None
+
+still-with : (steps : Steps) → IsNoStep steps → steps.wrap ≡ false → (m p a b : ℕ) (g h k l : Granule) → StillGoal steps (side_with m p a b g h k l)
+still-with steps none strict m p a b g h k l fits =
+    let left : (x : Granule) → x.global_gain < 256 → is_stuck steps.left x ≡ false = λ x small. ap (λ z. is_stuck z x) none.0 ∙ still_granule x small in
+    let right : (x : Granule) → x.global_gain < 256 → is_stuck steps.right x ≡ false = λ x small. ap (λ z. is_stuck z x) none.1 ∙ still_granule x small in
+    free-all steps m p a b g h k l (record { first = left g fits.first; second = right h fits.second; third = left k fits.third; fourth = right l fits.fourth }) strict
+
+pub side_still : (steps : Steps) → IsNoStep steps → steps.wrap ≡ false → (s : Side) → IsShaped s → GainsFit s → stuck_in steps s ≡ None
+side_still steps none strict s shaped = each_shaped (StillGoal steps) (still-with steps none strict) s shaped
+
+pub row_fits : (file : List ℕ) (row : Row) → IsFrameOf file row → GainsFit row.side
+row_fits file row here =
+    subst GainsFit (sym here.side) (gains_fit (class_of row.header) _ (fits-side_in row.header (frame_of file row) (whole_class row.header (frame_of file row) here.whole)))
+
+-- ---- all frames
+
+stuck_none : (at : ℕ) (s : Option Stuck) (later : Option Refusal) → stuck_fault at s later ≡ None → (s ≡ None) × (later ≡ None)
+stuck_none at (Some s) later e = absurd cc
+stuck_none at None later e = (refl, e)
+
+none_stuck : (at : ℕ) (s : Option Stuck) (later : Option Refusal) → s ≡ None → later ≡ None → stuck_fault at s later ≡ None
+none_stuck at s later e rest = ap (λ x. stuck_fault at x later) e ∙ rest
+
+-- where each of two facts of a frame's gains gives a third, it does so where a lost frame has none
+unless_both : (lost : Bool) (a b c : Option Stuck) → (a ≡ None → b ≡ None → c ≡ None) → cond lost None a ≡ None → cond lost None b ≡ None → cond lost None c ≡ None
+unless_both true a b c three first second = refl
+unless_both false a b c three first second = three first second
+
+moved_or_lost : (lost : Bool) (two one : Steps) (s : Side) → cond lost None (stuck_in two (moved_unless lost one s)) ≡ cond lost None (stuck_in two (moved_side one s))
+moved_or_lost true two one s = refl
+moved_or_lost false two one s = refl
+
+-- none leaves its range by both together
+pub range_both : (one two all : Steps) → all.wrap ≡ one.wrap || two.wrap → AreTogether one two all → (file : List ℕ) (to : ℕ → ℕ) (rows : List Row) → AreFramesOf file rows
+    → range_fault one rows ≡ None → range_fault two (map (stood to one) rows) ≡ None → range_fault all rows ≡ None
+range_both one two all wraps sum file to [] frames first second = range-nil all
+range_both one two all wraps sum file to (row ∷ rows) frames first second =
+    let f = stuck_none row.offset (stuck_of one row) (range_fault one rows) (sym (range-cons one row rows) ∙ first) in
+    let t = stuck_none (to row.offset) (stuck_of two (stood to one row)) (range_fault two (map (stood to one) rows)) (sym (range-cons two (stood to one row) (map (stood to one) rows)) ∙ second) in
+    range-cons all row rows
+    ∙ none_stuck row.offset (stuck_of all row) (range_fault all rows)
+    (unless_both row.lost (stuck_in one row.side) (stuck_in two (moved_side one row.side)) (stuck_in all row.side) (side_both one two all row.side (row_shaped file row frames.0) wraps sum)
+    f.0 (sym (moved_or_lost row.lost two one row.side) ∙ t.0))
+    (range_both one two all wraps sum file to rows frames.1 f.1 t.1)
+
+-- none leaves it behind the one by the other, where both together are no step
+pub range_back : (one two : Steps) → two.wrap ≡ one.wrap → one.left +ℤ two.left ≡ pos 0 → one.right +ℤ two.right ≡ pos 0 → (file : List ℕ) (to : ℕ → ℕ) (rows : List Row) → AreFramesOf file rows
+    → range_fault one rows ≡ None → range_fault two (map (stood to one) rows) ≡ None
+range_back one two wraps left right file to [] frames free = range-nil two
+range_back one two wraps left right file to (row ∷ rows) frames free =
+    let still : Steps = record { left = pos 0; right = pos 0; wrap = false } in
+    let or_none : (b : Bool) → b ≡ b || false = λ b. elim b as (λ c. c ≡ c || false) [ true ↦ refl | false ↦ refl ] in
+    let f = stuck_none row.offset (stuck_of one row) (range_fault one rows) (sym (range-cons one row rows) ∙ free) in
+    let shaped = row_shaped file row frames.0 in
+    range-cons two (stood to one row) (map (stood to one) rows)
+    ∙ none_stuck (to row.offset) (stuck_of two (stood to one row)) (range_fault two (map (stood to one) rows))
+    (moved_or_lost row.lost two one row.side
+    ∙ unless_both row.lost (stuck_in one row.side) (stuck_in one row.side) (stuck_in two (moved_side one row.side))
+    (λ first again. side_then one two still row.side shaped (wraps ∙ or_none one.wrap) (sym left) (sym right) first (side_still still (refl, refl) refl row.side shaped (row_fits file row frames.0)))
+    f.0 f.0)
+    (range_back one two wraps left right file to rows frames.1 f.1)

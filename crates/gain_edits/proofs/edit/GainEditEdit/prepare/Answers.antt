@@ -1,0 +1,46 @@
+-- The survey, the change and the memory, each with its faults.
+use Rattle.std.proofs.Common.{ap₂, sym, ◌∙◌, subst}
+use Rattle.std.proofs.lemmas.Result.{err_from_is_err_and}
+use Rattle.outside.specs.Files.{Holds}
+use Rattle.sync_survey.specs.Faults.{tells}
+use Rattle.commands.specs.declared.fault.EditFault.TheVariants.{Memory}
+use Rattle.commands.specs.Left.{seen}
+use Rattle.commands.proofs.InputLaws.{input_is_early, input_numbers, memory_is_input}
+use Rattle.gain_edits.specs.Change.{changing, stream_moved_by}
+use Rattle.gain_edits.specs.Changes.{changing_by, steps_by, refused_by}
+use Rattle.gain_edits.proofs.EditLaws.{edit_makes}
+use Rattle.gain_edits.proofs.edit.GainEditEdit.prepare.Goals as goal
+
+pub returns-in_err-survey-clause-refused : goal.returns-in_err-survey-clause-refused
+returns-in_err-survey-clause-refused g c =
+    let edit = c.args.self.now in
+    let p = err_from_is_err_and c.from_residual.result c.from_residual.ensures.1 in
+    rw (p.1, p.2) (input_is_early (changing (changing_by edit.changes)) (stream_moved_by (steps_by edit.changes)) (refused_by edit.changes) edit.input.now _ _ _ (c.in_err-survey.ensures.refused (changing (changing_by edit.changes))))
+
+pub returns-in_err-survey-clause-numbers : goal.returns-in_err-survey-clause-numbers
+returns-in_err-survey-clause-numbers g c =
+    let edit = c.args.self.now in
+    let p = err_from_is_err_and c.from_residual.result c.from_residual.ensures.1 in
+    rw (p.1, p.2) (input_numbers (changing (changing_by edit.changes)) (stream_moved_by (steps_by edit.changes)) (refused_by edit.changes) edit.input.now _ (c.in_err-survey.ensures.numbers (refused_by edit.changes)))
+
+pub returns-in_err-buffers-clause-refused : goal.returns-in_err-buffers-clause-refused
+returns-in_err-buffers-clause-refused g c =
+    let edit = c.args.self.now in
+    let p = err_from_is_err_and c.from_residual-in_err-buffers.result c.from_residual-in_err-buffers.ensures.1 in
+    rw (p.1, p.2)
+    (input_is_early (changing (changing_by edit.changes)) (stream_moved_by (steps_by edit.changes)) (refused_by edit.changes) edit.input.now (seen (g.D.Folder.files c.args.folder.now) (g.D.Folder.counts c.args.folder.now)) _ Memory
+    (memory_is_input (changing (changing_by edit.changes)) edit.input.now (seen (g.D.Folder.files c.args.folder.now) (g.D.Folder.counts c.args.folder.now)) _ (tells c.in_ok-survey.survey) c.in_ok-survey.ensures.there c.in_ok-survey.ensures.surveyed
+    (ap₂ seen (c.find.ensures.files ∙ c.survey_input.ensures.files) (c.in_ok-change.ensures.done ∙ c.in_ok-survey.ensures.done))))
+
+pub returns-clause-making : goal.returns-clause-making
+returns-clause-making g c =
+    let edit = c.args.self.now in
+    let same = c.survey_input.ensures.files in
+    edit_makes edit.changes edit.input.now (record { survey = c.in_ok-survey.survey; change = c.in_ok-change.change; buffers = c.in_ok-buffers.buffers }) (g.D.Folder.files c.args.folder.now) (record {
+      there = c.in_ok-survey.ensures.there;
+      laid = c.in_ok-survey.ensures.laid;
+      surveyed = c.in_ok-survey.ensures.surveyed;
+      octets = c.in_ok-survey.ensures.octets;
+      change = λ bytes holds. c.in_ok-change.ensures.change bytes (subst (λ f. Holds f edit.input.now bytes) (sym same) holds);
+      fresh = c.in_ok-buffers.ensures.fresh;
+    })

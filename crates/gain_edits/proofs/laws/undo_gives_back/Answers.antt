@@ -1,0 +1,6 @@
+-- The law, by what the file is after each gain.
+use Rattle.gain_edits.proofs.UndoneGains.{gains_undone}
+use Rattle.gain_edits.proofs.laws.undo_gives_back.Goals as goal
+
+pub returns : goal.returns
+returns c = gains_undone

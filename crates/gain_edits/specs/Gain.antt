@@ -1,0 +1,57 @@
+-- The gain command: how it changes a file, and when it refuses it.
+use Rattle.std.specs.Prelude.{ℕ, if◌then◌else◌, Bool, true, false, List, Some, None, Result}
+use Rattle.tag_blocks.specs.declared.undo.Undo.{Undo}
+use Rattle.tag_blocks.specs.Tags.{TagFields, tag_bytes}
+use Rattle.tag_blocks.specs.UndoItems.{undo_from}
+use Rattle.file_tag.specs.Places.{tag_at}
+use Rattle.file_tag.specs.Reading.{file_tag}
+use Rattle.sync_survey.specs.Faults.{SurveyFields}
+use Rattle.commands.specs.declared.fault.EditFault.{EditFault}
+use Rattle.moved_gains.specs.declared.shift.Shift.{Shift}
+use Rattle.moved_gains.specs.Gains.{steps_of}
+use Rattle.gain_edits.specs.GainRange.{range_fault}
+use Rattle.commands.specs.Refusing.{or_else, unless, then_made}
+use Rattle.gain_edits.specs.Channels.{channel_fault}
+use Rattle.gain_edits.specs.UndoItem.{tag_read, noted_undo, next_undo, undo_fault, tag_with, size_fault, output_fault}
+use Rattle.moved_gains.specs.Change.{Change}
+use Rattle.commands.specs.declared.fault.Refusal.{Refusal}
+use Rattle.commands.specs.declared.fault.Refusal.TheVariants.{GainRange, Mono, Joint, TagTooLarge, BadTag, BadUndo, UndoRange, OutputTooLong}
+use Rattle.commands.specs.One.{one_command}
+use Rattle.gain_edits.specs.Change.{Changing, change_task}
+use Rattle.commands.specs.Command.{Command}
+
+-- Tags are neither read nor written: one channel can't change alone, or else a gain would leave the range.
+abbrev pub plain_change : Shift → SurveyFields → Result Change EditFault
+plain_change shift s = unless (or_else (channel_fault shift s) (range_fault (steps_of shift) s.frames)) (record { steps = steps_of shift; tag = None })
+
+-- The change is noted in this tag, which says this undo: one channel can't change alone, or else a number of the next undo is too large, or else the
+-- new tag, or else the file with it, or else a gain would leave the range.
+abbrev pub noted_change : Shift → SurveyFields → TagFields → Undo → Result Change EditFault
+noted_change shift s tag undo =
+    let next = next_undo shift undo in
+    let bytes = tag_bytes (tag_with next tag) in
+    unless (or_else (channel_fault shift s) (or_else (undo_fault next) (or_else (size_fault bytes) (or_else (output_fault s bytes) (range_fault (steps_of shift) s.frames)))))
+    (record { steps = steps_of shift; tag = Some bytes })
+
+-- the tag is at fault, or else its undo item, or else the change is noted
+abbrev pub tagged_change : Shift → List ℕ → SurveyFields → Result Change EditFault
+tagged_change shift file s = then_made (tag_read (file_tag file s)) (λ tag. then_made (noted_undo (tag_at s) (undo_from 32 tag.items)) (noted_change shift s tag))
+
+unfoldable pub gain_change : Shift → Bool → Changing
+gain_change shift tags file s = if tags then tagged_change shift file s else plain_change shift s
+
+-- what it may refuse: with tags it may be the tag and its undo item too
+abbrev pub gain_refuses : Bool → Refusal → Bool
+gain_refuses tags (GainRange offset granule channel gain) = true
+gain_refuses tags Mono = true
+gain_refuses tags (Joint offset) = true
+gain_refuses tags (TagTooLarge size) = tags
+gain_refuses tags (BadTag at) = tags
+gain_refuses tags (BadUndo at) = tags
+gain_refuses tags (UndoRange number) = tags
+gain_refuses tags (OutputTooLong size) = tags
+gain_refuses tags _ = false
+
+-- the output is the input with its gains moved, and so is its stream
+abbrev pub gain_command : Shift → Bool → List ℕ → List ℕ → Command
+gain_command shift tags input output = one_command (change_task (gain_change shift tags) (λ file. steps_of shift) (gain_refuses tags) input) output

@@ -1,0 +1,18 @@
+-- The first gain of a file that would leave the range.
+use Rattle.std.specs.Prelude.{ℕ, List, [], ◌∷◌, Option, Some, None}
+use Rattle.sync_survey.specs.declared.rows.Row.{Row}
+use Rattle.commands.specs.declared.fault.Refusal.{Refusal}
+use Rattle.commands.specs.declared.fault.Refusal.TheVariants.{GainRange}
+use Rattle.moved_gains.specs.declared.gains.Stuck.{Stuck}
+use Rattle.moved_gains.specs.declared.shift.Steps.{Steps}
+use Rattle.moved_gains.specs.Edited.{stuck_of}
+
+-- where the gain stands in the file
+abbrev pub stuck_fault : ℕ → Option Stuck → Option Refusal → Option Refusal
+stuck_fault offset (Some stuck) later = Some (GainRange offset stuck.granule stuck.channel stuck.gain)
+stuck_fault offset None later = later
+
+-- the first gain of these frames that would leave the range
+unfoldable pub range_fault : Steps → List Row → Option Refusal
+range_fault steps [] = None
+range_fault steps (row ∷ rows) = stuck_fault row.offset (stuck_of steps row) (range_fault steps rows)

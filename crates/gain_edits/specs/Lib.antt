@@ -1,0 +1,9 @@
+-- What the contracts of this crate cite.
+pub mod Channels
+pub mod GainRange
+pub mod UndoItem
+pub mod Change
+pub mod Gain
+pub mod Undo
+pub mod Changes
+pub mod GivenBack

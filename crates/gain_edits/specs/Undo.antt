@@ -1,0 +1,56 @@
+-- The undo command: it takes back the changes that the undo item of the tag tells of, and then the item.
+use Rattle.std.specs.Prelude.{ℕ, Bool, true, false, List, Some, Result, Ok, Err}
+use Rattle.tag_blocks.specs.declared.undo.Undo.{Undo}
+use Rattle.tag_blocks.specs.Tags.{TagFields}
+use Rattle.tag_blocks.specs.UndoItems.{undo_from}
+use Rattle.file_tag.specs.Places.{tag_at}
+use Rattle.file_tag.specs.Reading.{file_tag}
+use Rattle.sync_survey.specs.declared.survey_fault.SurveyFault.{SurveyFault}
+use Rattle.sync_survey.specs.Faults.{SurveyFields}
+use Rattle.sync_survey.specs.Survey.{survey_of}
+use Rattle.commands.specs.declared.fault.EditFault.{EditFault}
+use Rattle.moved_gains.specs.declared.shift.Steps.{Steps}
+use Rattle.gain_edits.specs.GainRange.{range_fault}
+use Rattle.commands.specs.Refusing.{unless, then_made}
+use Rattle.gain_edits.specs.UndoItem.{tag_read, no_undo, found_undo, undo_steps, tag_without, bytes_unless_empty}
+use Rattle.commands.specs.One.{most_frames}
+use Rattle.moved_gains.specs.Change.{Change}
+use Rattle.commands.specs.declared.fault.Refusal.{Refusal}
+use Rattle.commands.specs.declared.fault.Refusal.TheVariants.{GainRange, TagTooLarge, BadTag, NoUndo, BadUndo}
+use Rattle.commands.specs.One.{one_command}
+use Rattle.gain_edits.specs.Change.{Changing, change_task}
+use Rattle.commands.specs.Command.{Command}
+
+-- by the steps of this undo: a gain would leave the range, or else the item goes, and with it a tag that has no other
+abbrev pub undone_change : SurveyFields → TagFields → Undo → Result Change EditFault
+undone_change s tag undo = unless (range_fault (undo_steps undo) s.frames) (record { steps = undo_steps undo; tag = Some (bytes_unless_empty (tag_without tag)) })
+
+-- the tag is at fault, or else there is no undo item, or else its value is none, or else the steps that it says are taken
+unfoldable pub undo_change : Changing
+undo_change file s = then_made (tag_read (file_tag file s)) (λ tag. then_made (found_undo (tag_at s) (undo_from 32 tag.items)) (undone_change s tag))
+
+-- ---- the steps that it takes
+
+abbrev pub steps_when : Result Change EditFault → Steps
+steps_when (Ok change) = change.steps
+steps_when (Err fault) = undo_steps no_undo
+
+abbrev pub steps_by : List ℕ → Result SurveyFields SurveyFault → Steps
+steps_by file (Ok s) = steps_when (undo_change file s)
+steps_by file (Err fault) = undo_steps no_undo
+
+-- those that the undo item of the file says; none where the file is refused
+abbrev pub steps_back : List ℕ → Steps
+steps_back file = steps_by file (survey_of file most_frames)
+
+abbrev pub undo_refuses : Refusal → Bool
+undo_refuses (GainRange offset granule channel gain) = true
+undo_refuses (TagTooLarge size) = true
+undo_refuses (BadTag at) = true
+undo_refuses NoUndo = true
+undo_refuses (BadUndo at) = true
+undo_refuses _ = false
+
+-- the output is the input with these changes taken back, and so is its stream
+abbrev pub undo_command : List ℕ → List ℕ → Command
+undo_command input output = one_command (change_task undo_change steps_back undo_refuses input) output

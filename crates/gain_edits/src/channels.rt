@@ -1,0 +1,57 @@
+//! Why one channel of a file can't change alone.
+ghost use Rattle.std.specs.Prelude.{◌≡◌, ◌==◌};
+ghost use Rattle.sync_survey.specs.Faults.{tells};
+ghost use Rattle.gain_edits.specs.Channels.{are_both, joint_at as joint_at_lem, joint_fault as joint_fault_lem, channel_fault as channel_fault_lem};
+
+use commands::Refusal;
+use moved_gains::{Channels, Shift};
+use sync_survey::{Row, Survey};
+
+/// The mode of joint stereo (ISO/IEC 11172-3, 2.4.2.3).
+const JOINT: u8 = 1;
+
+fn are_both(channels: Channels) -> bool
+    ensures { result ≡ are_both channels }
+{
+    match channels {
+        Channels::Both => true,
+        Channels::Left | Channels::Right => false,
+    }
+}
+
+/// The fault of a frame whose two channels are coded jointly.
+fn joint_at(row: &Row) -> Option<Refusal>
+    ensures { result ≡ joint_at_lem row.now }
+{
+    if row.header.mode == JOINT {
+        Some(Refusal::Joint(row.offset))
+    } else {
+        None
+    }
+}
+
+/// The first frame whose two channels are coded jointly.
+fn joint_fault(rows: &[Row]) -> Option<Refusal>
+    ensures { result ≡ joint_fault_lem rows.now }
+{
+    for row in rows {
+        if let Some(fault) = joint_at(row) {
+            return Some(fault);
+        }
+    }
+    None
+}
+
+/// Why one channel alone can't change, where one is to: `Mono` where there is only one, else `Joint` with the offset of the
+/// first frame whose two are coded jointly.
+pub(crate) fn channel_fault(shift: &Shift, survey: &Survey) -> Option<Refusal>
+    ensures { result ≡ channel_fault_lem shift.now (tells survey.now) }
+{
+    if are_both(shift.channels) {
+        return None;
+    }
+    if survey.class().channels == 1 {
+        return Some(Refusal::Mono);
+    }
+    joint_fault(survey.frames())
+}

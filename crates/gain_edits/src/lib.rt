@@ -1,0 +1,17 @@
+//! The commands that change gains: `gain` and `undo`.
+#![tactic(auto)]
+
+mod calls;
+mod changes;
+mod channels;
+mod edit;
+mod gain_change;
+mod gain_range;
+mod laws;
+mod undo_change;
+mod undo_item;
+
+pub use calls::{gain, undo};
+pub use changes::Changes;
+pub use edit::{GainEdit, Work};
+pub use laws::{opposite_gives_back, undo_gives_back};

@@ -1,0 +1,111 @@
+//! How a change of gains is noted in the undo item of the tag.
+ghost use Rattle.std.specs.Prelude.{◌≡◌, ◌≤◌, ◌-ℤ◌, None, Some, unsigned_abs, MatchResult, IfOk, IfErr};
+ghost use Rattle.tag_blocks.specs.UndoText.{FitsText};
+ghost use Rattle.tag_blocks.specs.UndoItems.{undo_from};
+ghost use Rattle.sync_survey.specs.Faults.{longest_file};
+ghost use Rattle.gain_edits.specs.UndoItem.{of_tag as of_tag_lem, noted_undo as noted_undo_lem, found_undo as found_undo_lem, undo_steps as undo_steps_lem, next_undo as next_undo_lem, number_fault, undo_fault};
+
+use commands::{EditFault, Refusal};
+use file_tag::FileTagFault;
+use moved_gains::{Shift, Steps};
+use sync_survey::SurveyFault;
+use tag_blocks::{Tag, Undo, UndoItem};
+
+/// The undo item holds numbers of at most three digits.
+const LARGEST_NUMBER: u32 = 999;
+
+/// Why the tag of the one input isn't read, as a fault of the command.
+pub(crate) fn of_tag(fault: FileTagFault) -> EditFault
+    ensures { result ≡ of_tag_lem fault }
+{
+    match fault {
+        FileTagFault::TooLarge(size) => Refusal::TagTooLarge(size).into(),
+        FileTagFault::Bad(at) => Refusal::BadTag(at).into(),
+        FileTagFault::Read => EditFault::Input(0, SurveyFault::Read),
+        FileTagFault::Shrunk(first, second) => {
+            EditFault::Input(0, SurveyFault::Shrunk(first, second))
+        }
+        FileTagFault::Memory => EditFault::Memory,
+    }
+}
+
+/// What the undo item of a tag at this offset says: nothing is to be taken back where there is none. `BadUndo` with the
+/// offset of the item where its value isn't one.
+pub(crate) fn noted_undo(at: u64, tag: &Tag) -> Result<Undo, EditFault>
+    requires { at ≤ longest_file }
+    ensures { result ≡ noted_undo_lem at (undo_from 32 tag.now.items) }
+{
+    // No place in the tag is behind its end.
+    let _ = tag.length();
+    match tag.undo() {
+        UndoItem::Missing => Ok(Undo {
+            left: 0,
+            right: 0,
+            wrap: false,
+        }),
+        UndoItem::Bad(place) => Err(Refusal::BadUndo(at + place).into()),
+        UndoItem::Found(undo) => Ok(undo),
+    }
+}
+
+/// The same where there has to be one: `NoUndo` where there is none.
+pub(crate) fn found_undo(at: u64, tag: &Tag) -> Result<Undo, EditFault>
+    requires { at ≤ longest_file }
+    ensures { result ≡ found_undo_lem at (undo_from 32 tag.now.items) }
+{
+    // No place in the tag is behind its end.
+    let _ = tag.length();
+    match tag.undo() {
+        UndoItem::Missing => Err(Refusal::NoUndo.into()),
+        UndoItem::Bad(place) => Err(Refusal::BadUndo(at + place).into()),
+        UndoItem::Found(undo) => Ok(undo),
+    }
+}
+
+/// The steps that take back what the item says.
+pub(crate) fn undo_steps(undo: &Undo) -> Steps
+    ensures { result ≡ undo_steps_lem undo.now }
+{
+    Steps {
+        left: undo.left,
+        right: undo.right,
+        wrap: undo.wrap,
+    }
+}
+
+fn difference(steps: i16, taken: i16) -> i32
+    ensures { result ≡ steps -ℤ taken }
+{
+    i32::from(steps) - i32::from(taken)
+}
+
+/// A number of the item less the steps that are taken: `UndoRange` where it isn't from -999 to 999.
+fn number(steps: i16, taken: i16) -> Result<i16, Refusal>
+    ensures number { MatchResult result
+        (λ number. (number ≡ steps -ℤ taken) × (unsigned_abs number ≤ 999)
+        × (number_fault (steps -ℤ taken) ≡ None))
+        (λ fault. number_fault (steps -ℤ taken) ≡ Some fault) }
+{
+    let number = difference(steps, taken);
+    if number.unsigned_abs() <= LARGEST_NUMBER {
+        Ok(number as i16)
+    } else {
+        Err(Refusal::UndoRange(number))
+    }
+}
+
+/// The item behind a further change: its steps are subtracted, and wrap stands once it was asked for. `UndoRange` for
+/// the first number, the left one first, that isn't from -999 to 999.
+pub(crate) fn next_undo(shift: &Shift, undo: &Undo) -> Result<Undo, Refusal>
+    ensures undo { MatchResult result
+        (λ next. (next ≡ next_undo_lem shift.now undo.now) × (undo_fault next ≡ None))
+        (λ fault. undo_fault (next_undo_lem shift.now undo.now) ≡ Some fault) }
+    ensures fits { IfOk result FitsText }
+{
+    let steps = shift.each();
+    Ok(Undo {
+        left: number(undo.left, steps.left)?,
+        right: number(undo.right, steps.right)?,
+        wrap: undo.wrap || shift.wrap,
+    })
+}

@@ -1,0 +1,24 @@
+-- What the program is asked to do. Names are bytes.
+use Rattle.std.specs.Prelude.{ℕ, Bool, List}
+use Rattle.cue_sheet.specs.declared.place.Place.{Place}
+use Rattle.moved_gains.specs.declared.shift.Shift.{Shift}
+
+pub data Asked : Type 0 where
+  Help : Asked
+  Version : Asked
+  -- the file's name
+  ListFile : List ℕ → Asked
+  -- the change, whether a note of it is kept in the tag, the names of the input and of the output
+  Gain : Shift → Bool → List ℕ → List ℕ → Asked
+  -- the names of the input and of the output
+  Undo : List ℕ → List ℕ → Asked
+  -- the place of the first frame and that of the first behind them, whether each has the least slot, the names of the input and of the output
+  Cut : Place → Place → Bool → List ℕ → List ℕ → Asked
+  -- the names of the input and of the output
+  Pack : List ℕ → List ℕ → Asked
+  -- the name of the input, what the names of the outputs begin with, and the places
+  SplitAt : List ℕ → List ℕ → List Place → Asked
+  -- the name of the input, what the names of the outputs begin with, and the name of the cue sheet
+  SplitBy : List ℕ → List ℕ → List ℕ → Asked
+  -- the name of the output, and those of the inputs
+  Join : List ℕ → List (List ℕ) → Asked

@@ -1,0 +1,46 @@
+-- The values of the code, as those of the definitions.
+use Rattle.std.specs.Prelude.{ℕ, map, string_bytes, Result, Ok, Err}
+use Rattle.job_words.specs.declared.kinds.WordKind.{WordKind}
+use Rattle.job_words.specs.declared.kinds.WordKind.TheVariants as code
+use Rattle.job_words.specs.declared.kinds.Value.{Value}
+use Rattle.job_words.specs.declared.kinds.Value.TheVariants as value
+use Rattle.job_words.specs.declared.forms.Form.{Form as CodeForm}
+use Rattle.job_words.specs.declared.jobs.Job.{Job}
+use Rattle.job_words.specs.declared.jobs.Job.TheVariants as job
+use Rattle.job_words.specs.Kinds.{Kind, Fixed, Name, Steps, Channel, Place, Said, Itself, NameSaid, StepsSaid, ChannelSaid, PlaceSaid}
+use Rattle.job_words.specs.Forms.{Form}
+use Rattle.job_words.specs.Asked.{Asked, Help, Version, ListFile, Gain, Undo, Cut, Pack, SplitAt, SplitBy, Join}
+
+abbrev pub word_kind : WordKind → Kind
+word_kind (code.Fixed text) = Fixed text.now
+word_kind code.Name = Name
+word_kind code.Steps = Steps
+word_kind code.Channel = Channel
+word_kind code.Place = Place
+
+abbrev pub value_said : Value → Said
+value_said value.Fixed = Itself
+value_said (value.Name name) = NameSaid name.now
+value_said (value.Steps steps) = StepsSaid steps
+value_said (value.Channel channel) = ChannelSaid channel
+value_said (value.Place place) = PlaceSaid place
+
+abbrev pub form_given : CodeForm → Form
+form_given form = record { command = form.command.now; flags = form.flags.now; kinds = map word_kind form.kinds.now; more = form.more; asks = form.asks }
+
+abbrev pub asked : Job → Asked
+asked job.Help = Help
+asked job.Version = Version
+asked (job.List input) = ListFile input.now
+asked (job.Gain shift tags input output) = Gain shift tags input.now output.now
+asked (job.Undo input output) = Undo input.now output.now
+asked (job.Cut from to least input output) = Cut from to least input.now output.now
+asked (job.Pack input output) = Pack input.now output.now
+asked (job.SplitAt input prefix places) = SplitAt input.now prefix.now places.items
+asked (job.SplitBy input prefix sheet) = SplitBy input.now prefix.now sheet.now
+asked (job.Join output inputs) = Join output.now (map string_bytes inputs.now)
+
+-- what is asked for, or the place of the bad word
+abbrev pub answer : Result Job ℕ → Result Asked ℕ
+answer (Ok job) = Ok (asked job)
+answer (Err place) = Err place

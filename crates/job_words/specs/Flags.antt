@@ -1,0 +1,65 @@
+-- The flags of a form, and the orders in which they can be given.
+use Rattle.std.specs.Prelude.{ℕ, zero, suc, Bool, not, List, [], ◌∷◌, drop, length, map, find, slice_index_or, Option, Some, None, codes, bytes_eq}
+use Rattle.std.specs.List.{filter, flat_map, list_any}
+use Rattle.job_words.specs.declared.flags.Flag.{Flag}
+use Rattle.job_words.specs.declared.flags.Flag.TheVariants.{Tagless, Wrapping, Least}
+use Rattle.job_words.specs.Kinds.{Kind, Fixed}
+
+-- the words of a flag
+abbrev pub flag_words : Flag → List (List ℕ)
+-- tags aren't touched
+flag_words Tagless = codes "-s" ∷ codes "s" ∷ []
+-- gains that leave their range come in again at its other end
+flag_words Wrapping = codes "-w" ∷ []
+-- each frame has the least slot
+flag_words Least = codes "--least" ∷ []
+
+abbrev pub flag_kinds : Flag → List Kind
+flag_kinds flag = map Fixed (flag_words flag)
+
+-- those of flags one after another
+abbrev pub given_kinds : List Flag → List Kind
+given_kinds given = flat_map flag_kinds given
+
+abbrev pub first_word : Flag → List ℕ
+first_word flag = slice_index_or (flag_words flag) 0 []
+
+-- the word is the first of the flag's; no two flags have the same
+abbrev pub begins_flag : List ℕ → Flag → Bool
+begins_flag word flag = bytes_eq word (first_word flag)
+
+-- the flag is among those
+abbrev pub is_given : List Flag → Flag → Bool
+is_given given flag = list_any (begins_flag (first_word flag)) given
+
+-- those that aren't this flag
+abbrev pub without : Flag → List Flag → List Flag
+without flag flags = filter (λ other. not (begins_flag (first_word flag) other)) flags
+
+-- all lists of at most so many of the flags, each at most once
+abbrev pub orders_up_to : ℕ → List Flag → List (List Flag)
+orders_up_to zero flags = [] ∷ []
+orders_up_to (suc n) flags = [] ∷ flat_map (λ flag. map (λ rest. flag ∷ rest) (orders_up_to n (without flag flags))) flags
+
+-- all lists of flags, each at most once and in any order
+abbrev pub orders : List Flag → List (List Flag)
+orders flags = orders_up_to (length flags) flags
+
+-- ---- those that words begin with
+
+-- the flag whose first word is the first of these
+abbrev pub next_flag : List Flag → List (List ℕ) → Option Flag
+next_flag flags [] = None
+next_flag flags (word ∷ words) = find (begins_flag word) flags
+
+abbrev pub flag_first : Option Flag → (Flag → List Flag) → List Flag
+flag_first None rest = []
+flag_first (Some flag) rest = flag ∷ rest flag
+
+abbrev pub given_up_to : ℕ → List Flag → List (List ℕ) → List Flag
+given_up_to zero flags words = []
+given_up_to (suc n) flags words = flag_first (next_flag flags words) (λ flag. given_up_to n (without flag flags) (drop (length (flag_words flag)) words))
+
+-- the flags by whose first words these can go on, each at most once
+abbrev pub given_in : List Flag → List (List ℕ) → List Flag
+given_in flags words = given_up_to (length flags) flags words

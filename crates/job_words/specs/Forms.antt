@@ -1,0 +1,155 @@
+-- The forms that the program's words have, and what words of a form ask for.
+use Rattle.std.specs.Prelude.{◌≡◌, ◌≤◌, ℕ, ◌+◌, ◌-◌, min, Bool, true, not, List, [], ◌∷◌, ◌++◌, length, map, drop, replicate, slice_index_or, codes}
+use Rattle.std.specs.List.{flat_map, list_all}
+use Rattle.moved_gains.specs.declared.shift.Channels.{Channels}
+use Rattle.moved_gains.specs.declared.shift.Channels.TheVariants.{Both}
+use Rattle.job_words.specs.declared.flags.Flag.{Flag}
+use Rattle.job_words.specs.declared.flags.Flag.TheVariants.{Tagless, Wrapping, Least}
+use Rattle.job_words.specs.declared.forms.Asks.{Asks}
+use Rattle.job_words.specs.declared.forms.Asks.TheVariants as asks
+use Rattle.job_words.specs.Kinds.{Kind, Fixed, Name, Steps, Channel, Place, Said, fits_kind, name_at, said_at, steps_said, channels_said, place_said, values_of}
+use Rattle.job_words.specs.Flags.{given_kinds, first_word, is_given, orders}
+use Rattle.job_words.specs.Asked.{Asked, Help, Version, ListFile, Gain, Undo, Cut, Pack, SplitAt, SplitBy, Join}
+
+-- the command's word, the flags that may stand behind it, the kinds of the words behind those, how often the last of them may stand again,
+-- and what is asked for
+pub record Form : Type 0 where
+  pub command : List ℕ
+  pub flags : List Flag
+  pub kinds : List Kind
+  pub more : ℕ
+  pub asks : Asks
+
+-- `--help`, and `-h`
+abbrev pub help : Form
+help = record { command = codes "--help"; flags = []; kinds = []; more = 0; asks = asks.Help }
+
+abbrev pub short_help : Form
+short_help = record { command = codes "-h"; flags = []; kinds = []; more = 0; asks = asks.Help }
+
+-- `--version`
+abbrev pub version : Form
+version = record { command = codes "--version"; flags = []; kinds = []; more = 0; asks = asks.Version }
+
+-- `list IN`
+abbrev pub list_form : Form
+list_form = record { command = codes "list"; flags = []; kinds = Name ∷ []; more = 0; asks = asks.List }
+
+-- `gain [-s s] [-w] -g N IN OUT`
+abbrev pub gain_form : Form
+gain_form = record { command = codes "gain"; flags = Tagless ∷ Wrapping ∷ []; kinds = Fixed (codes "-g") ∷ Steps ∷ Name ∷ Name ∷ []; more = 0; asks = asks.Gain }
+
+-- `gain [-s s] [-w] -l C N IN OUT`
+abbrev pub channel_form : Form
+channel_form =
+    record { command = codes "gain"; flags = Tagless ∷ Wrapping ∷ []; kinds = Fixed (codes "-l") ∷ Channel ∷ Steps ∷ Name ∷ Name ∷ []; more = 0; asks = asks.ChannelGain }
+
+-- `gain -u IN OUT`
+abbrev pub undo_form : Form
+undo_form = record { command = codes "gain"; flags = []; kinds = Fixed (codes "-u") ∷ Name ∷ Name ∷ []; more = 0; asks = asks.Undo }
+
+-- `cut [--least] IN FROM TO OUT`
+abbrev pub cut_form : Form
+cut_form = record { command = codes "cut"; flags = Least ∷ []; kinds = Name ∷ Place ∷ Place ∷ Name ∷ []; more = 0; asks = asks.Cut }
+
+-- `pack IN OUT`
+abbrev pub pack_form : Form
+pack_form = record { command = codes "pack"; flags = []; kinds = Name ∷ Name ∷ []; more = 0; asks = asks.Pack }
+
+-- `split IN PREFIX P1 P2 [P3 to P100]`
+abbrev pub split_form : Form
+split_form = record { command = codes "split"; flags = []; kinds = Name ∷ Name ∷ Place ∷ Place ∷ []; more = 98; asks = asks.SplitAt }
+
+-- `split IN PREFIX -c CUE`
+abbrev pub sheet_form : Form
+sheet_form = record { command = codes "split"; flags = []; kinds = Name ∷ Name ∷ Fixed (codes "-c") ∷ Name ∷ []; more = 0; asks = asks.SplitBy }
+
+-- `join OUT IN1 [IN2 to IN64]`
+abbrev pub join_form : Form
+join_form = record { command = codes "join"; flags = []; kinds = Name ∷ Name ∷ []; more = 63; asks = asks.Join }
+
+-- all of them
+abbrev pub forms : List Form
+forms =
+    help ∷ short_help ∷ version ∷ list_form ∷ gain_form ∷ channel_form ∷ undo_form ∷ cut_form ∷ pack_form ∷ split_form ∷ sheet_form
+    ∷ join_form ∷ []
+
+-- ---- the kinds of a form's words
+
+-- a form with flags that are given, in the order of their words
+pub record Shape : Type 0 where
+  pub form : Form
+  pub given : List Flag
+
+abbrev pub shape_with : Form → List Flag → Shape
+shape_with form given = record { form = form; given = given }
+
+-- the form with each list of its flags
+abbrev pub shapes_of : Form → List Shape
+shapes_of form = map (shape_with form) (orders form.flags)
+
+-- the shapes of all forms of a table
+abbrev pub shapes : List Form → List Shape
+shapes table = flat_map shapes_of table
+
+-- the last of some kinds
+abbrev pub last_kind : List Kind → Kind
+last_kind kinds = slice_index_or kinds (length kinds - 1) Name
+
+-- the kinds of so many words behind the flags: the last stands again as often as words are left for it, and as it may
+abbrev pub kinds_behind : Form → ℕ → List Kind
+kinds_behind form count = form.kinds ++ replicate (min form.more (count - length form.kinds)) (last_kind form.kinds)
+
+-- the command's word and those of the flags
+abbrev pub front_kinds : List ℕ → List Flag → List Kind
+front_kinds command given = Fixed command ∷ given_kinds given
+
+abbrev pub front_of : Shape → List Kind
+front_of shape = front_kinds shape.form.command shape.given
+
+-- the kinds of so many words
+abbrev pub kinds_for : Shape → ℕ → List Kind
+kinds_for shape count = front_of shape ++ kinds_behind shape.form (count - length (front_of shape))
+
+-- ---- what is asked for
+
+-- a change of the channels, by the steps and of the files that stand from this place on
+abbrev pub gain_asked : Channels → List Flag → List Said → ℕ → Asked
+gain_asked channels given values place =
+    Gain (record { channels = channels; steps = steps_said (said_at values place); wrap = is_given given Wrapping })
+    (not (is_given given Tagless)) (name_at values (place + 1)) (name_at values (place + 2))
+
+-- by the flags that are given, by what the words behind them say, and by these words themselves
+abbrev pub reads_of : Asks → List Flag → List Said → List (List ℕ) → Asked
+reads_of asks.Help given values words = Help
+reads_of asks.Version given values words = Version
+reads_of asks.List given values words = ListFile (name_at values 0)
+reads_of asks.Gain given values words = gain_asked Both given values 1
+reads_of asks.ChannelGain given values words = gain_asked (channels_said (said_at values 1)) given values 2
+reads_of asks.Undo given values words = Undo (name_at values 1) (name_at values 2)
+reads_of asks.Cut given values words =
+    Cut (place_said (said_at values 1)) (place_said (said_at values 2)) (is_given given Least) (name_at values 0) (name_at values 3)
+reads_of asks.Pack given values words = Pack (name_at values 0) (name_at values 1)
+reads_of asks.SplitAt given values words = SplitAt (name_at values 0) (name_at values 1) (map place_said (drop 2 values))
+reads_of asks.SplitBy given values words = SplitBy (name_at values 0) (name_at values 1) (name_at values 3)
+reads_of asks.Join given values words = Join (name_at values 0) (drop 1 words)
+
+-- what words of a shape ask for
+abbrev pub asked_of : Shape → List (List ℕ) → Asked
+asked_of shape words =
+    reads_of shape.form.asks shape.given (drop (length (front_of shape)) (values_of (kinds_for shape (length words)) words))
+    (drop (length (front_of shape)) words)
+
+-- ---- what holds of each form
+
+-- no flag's first word can be the first word behind the flags
+abbrev pub is_clear : Form → Bool
+is_clear form = list_all (λ flag. not (fits_kind (slice_index_or form.kinds 0 Name) (first_word flag))) form.flags
+
+-- the form is small, and its flags can't be taken for its other words
+pub record IsReadable (form : Form) : Type 0 where
+  pub flags : length form.flags ≤ 4
+  pub kinds : length form.kinds ≤ 5
+  pub more : form.more ≤ 98
+  pub words : length form.kinds + form.more ≤ 102
+  pub clear : is_clear form ≡ true

@@ -1,0 +1,102 @@
+-- What a single word can be, and what it says.
+use Rattle.std.specs.Prelude.{ℕ, ◌==◌, Bool, false, not, ◌&&◌, nat_le, if◌then◌else◌, List, [], ◌∷◌, length, slice_index_or, Option, Some, None, option_map, is_some, ℤ, pos, neg_ℤ, codes, bytes_eq}
+use Rattle.std.specs.Str.{all_ascii_digits}
+use Rattle.std.specs.Str.Parse.{digits_value}
+use Rattle.cue_sheet.specs.declared.place.Place.{Place as StreamPlace}
+use Rattle.cue_sheet.specs.declared.place.Place.TheVariants.{End}
+use Rattle.cue_sheet.specs.Places.{place_of}
+use Rattle.moved_gains.specs.declared.shift.Channels.{Channels}
+use Rattle.moved_gains.specs.declared.shift.Channels.TheVariants.{Both, Left, Right}
+
+-- what a word of a form is
+pub data Kind : Type 0 where
+  -- this word
+  Fixed : List ℕ → Kind
+  -- the name of a file
+  Name : Kind
+  -- a number of steps
+  Steps : Kind
+  -- a channel: `0` is the left one, `1` the right one
+  Channel : Kind
+  -- a place in a stream
+  Place : Kind
+
+-- a name isn't empty, and doesn't begin with `-`
+abbrev pub is_name : List ℕ → Bool
+is_name [] = false
+is_name (first ∷ rest) = not (first == 45)
+
+-- one to three digits, of a number up to 255
+abbrev pub step_count : List ℕ → Option ℕ
+step_count digits =
+    if nat_le 1 (length digits) && nat_le (length digits) 3 && all_ascii_digits digits && nat_le (digits_value 10 digits) 255
+    then Some (digits_value 10 digits) else None
+
+-- such digits behind `+` or `-` or alone
+abbrev pub steps_of : List ℕ → Option ℤ
+steps_of [] = None
+steps_of (first ∷ rest) =
+    if first == 43 then option_map pos (step_count rest)
+    else if first == 45 then option_map (λ size. neg_ℤ (pos size)) (step_count rest)
+    else option_map pos (step_count (first ∷ rest))
+
+abbrev pub channel_of : List ℕ → Option Channels
+channel_of word = if bytes_eq word (codes "0") then Some Left else if bytes_eq word (codes "1") then Some Right else None
+
+-- what a word says
+pub data Said : Type 0 where
+  -- nothing but itself
+  Itself : Said
+  -- a name
+  NameSaid : List ℕ → Said
+  -- so many steps
+  StepsSaid : ℤ → Said
+  -- a channel
+  ChannelSaid : Channels → Said
+  -- a place in a stream
+  PlaceSaid : StreamPlace → Said
+
+-- what a word of the kind says; none for a word that isn't of the kind
+abbrev pub said : Kind → List ℕ → Option Said
+said (Fixed text) word = if bytes_eq word text then Some Itself else None
+said Name word = if is_name word then Some (NameSaid word) else None
+said Steps word = option_map StepsSaid (steps_of word)
+said Channel word = option_map ChannelSaid (channel_of word)
+said Place word = option_map PlaceSaid (place_of word)
+
+-- the word is of the kind
+abbrev pub fits_kind : Kind → List ℕ → Bool
+fits_kind kind word = is_some (said kind word)
+
+abbrev pub name_said : Said → List ℕ
+name_said (NameSaid name) = name
+name_said _ = []
+
+abbrev pub steps_said : Said → ℤ
+steps_said (StepsSaid steps) = steps
+steps_said _ = pos 0
+
+abbrev pub channels_said : Said → Channels
+channels_said (ChannelSaid channel) = channel
+channels_said _ = Both
+
+abbrev pub place_said : Said → StreamPlace
+place_said (PlaceSaid place) = place
+place_said _ = End
+
+-- one value before those that follow it, where there is one
+abbrev pub said_first : Option Said → List Said → List Said
+said_first None rest = []
+said_first (Some value) rest = value ∷ rest
+
+-- what the words in front say that have the first of the kinds
+abbrev pub values_of : List Kind → List (List ℕ) → List Said
+values_of (kind ∷ kinds) (word ∷ words) = said_first (said kind word) (values_of kinds words)
+values_of kinds words = []
+
+-- the value at a place, counted from 0, and what it says
+abbrev pub said_at : List Said → ℕ → Said
+said_at values place = slice_index_or values place Itself
+
+abbrev pub name_at : List Said → ℕ → List ℕ
+name_at values place = name_said (said_at values place)

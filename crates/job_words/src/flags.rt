@@ -1,0 +1,139 @@
+//! The flags of a form: words in front of its other words that may be left out, each at most once and in any order.
+ghost use Rattle.std.specs.Prelude.{◌≡◌, ◌≤◌, ◌+◌, length, map, drop, string_bytes, find};
+ghost use Rattle.job_words.specs.Flags.{flag_words, given_kinds, begins_flag, is_given as is_given_lem, without as without_lem, next_flag as next_flag_lem, given_in as given_in_lem};
+
+use arrayvec::ArrayVec;
+
+/// A flag of a form.
+#[derive(Clone, Copy)]
+pub(crate) enum Flag {
+    /// `-s s`: the tag is untouched.
+    Tagless,
+    /// `-w`: gains that leave their range come in again at its other end.
+    Wrapping,
+    /// `--least`: each frame has the least bit rate and padding with room for it.
+    Least,
+}
+
+impl Default for Flag {
+    /// The first.
+    fn default() -> Self {
+        Flag::Tagless
+    }
+}
+
+/// The most flags that a form has.
+const MOST_FLAGS: usize = 4;
+
+/// Flags of a form.
+pub(crate) type Flags = ArrayVec<Flag, MOST_FLAGS>;
+
+impl Flag {
+    /// The flag's words, one or two.
+    pub(crate) fn words(self) -> &'static [&'static str]
+        ensures words { map (λ word. word.now) result.now ≡ flag_words self }
+        ensures some { 1 ≤ length result.now }
+        ensures few { length result.now ≤ 2 }
+    {
+        match self {
+            Flag::Tagless => &["-s", "s"],
+            Flag::Wrapping => &["-w"],
+            Flag::Least => &["--least"],
+        }
+    }
+
+    // The word is the first of the flag's.
+    fn begins(self, word: &str) -> bool
+        ensures { result ≡ begins_flag word.now self }
+    {
+        self.words()[0] == word
+    }
+}
+
+/// Whether the flag is among those.
+pub(crate) fn is_given(given: &[Flag], flag: Flag) -> bool
+    ensures { result ≡ is_given_lem given.now flag }
+{
+    for other in given {
+        if other.begins(flag.words()[0]) {
+            return true;
+        }
+    }
+    false
+}
+
+/// How many words a command's word and these flags are.
+pub(crate) fn front_count(given: &[Flag]) -> usize
+    requires { length given.now ≤ 4 }
+    ensures { result ≡ 1 + length (given_kinds given.now) }
+{
+    let mut count = 1;
+    for flag in given {
+        count += flag.words().len();
+    }
+    count
+}
+
+// Those that aren't this flag.
+fn without(flags: &[Flag], flag: Flag) -> Flags
+    requires { length flags.now ≤ 4 }
+    ensures { result.items ≡ without_lem flag flags.now }
+{
+    let mut others = Flags::new();
+    for other in flags {
+        if !other.begins(flag.words()[0]) {
+            others.push(*other);
+        }
+    }
+    others
+}
+
+// The flag whose first word this is.
+fn flag_with(flags: &[Flag], word: &str) -> Option<Flag>
+    ensures { result ≡ find (begins_flag word.now) flags.now }
+{
+    for flag in flags {
+        if flag.begins(word) {
+            return Some(*flag);
+        }
+    }
+    None
+}
+
+// The flag whose first word is the first of these.
+fn next_flag(flags: &[Flag], words: &[String]) -> Option<Flag>
+    ensures { result ≡ next_flag_lem flags.now (map string_bytes words.now) }
+{
+    match words {
+        [] => None,
+        [word, ..] => flag_with(flags, word.as_str()),
+    }
+}
+
+/// The items behind so many.
+pub(crate) fn behind<T>(items: &[T], count: usize) -> &[T]
+    ensures { result.now ≡ drop count items.now }
+{
+    &items[count.min(items.len())..]
+}
+
+/// The flags that stand behind the first word, each at most once.
+pub(crate) fn given_in(flags: &[Flag], words: &[String]) -> Flags
+    requires { length flags.now ≤ 4 }
+    ensures given { result.items ≡ given_in_lem flags.now (drop 1 (map string_bytes words.now)) }
+    ensures few { length result.items ≤ 4 }
+{
+    let mut given = Flags::new();
+    let mut left = Flags::new();
+    left.try_extend_from_slice(flags).unwrap();
+    let mut rest = behind(words, 1);
+    for _ in 0..flags.len() {
+        let Some(flag) = next_flag(left.as_slice(), rest) else {
+            break;
+        };
+        given.push(flag);
+        left = without(left.as_slice(), flag);
+        rest = behind(rest, flag.words().len());
+    }
+    given
+}

@@ -1,0 +1,392 @@
+//! The forms that the program's words have.
+ghost use Rattle.std.specs.Prelude.{◌≡◌, ◌≤◌, ◌+◌, ◌++◌, length, map, replicate, string_bytes, IfErr};
+ghost use Rattle.job_words.specs.Kinds.{said_at, name_at as name_at_lem, place_said, values_of};
+ghost use Rattle.job_words.specs.Flags.{flag_kinds};
+ghost use Rattle.job_words.specs.Forms.{shape_with, shapes_of, last_kind, kinds_behind, kinds_for, front_kinds as front_kinds_lem, gain_asked, reads_of, IsReadable};
+ghost use Rattle.job_words.specs.Words.{reading};
+ghost use Rattle.job_words.specs.Code.{word_kind, value_said, form_given, asked, answer};
+
+use crate::flags::{Flag, behind, front_count, given_in, is_given};
+use crate::jobs::Job;
+use crate::kinds::{Value, WordKind};
+use arrayvec::ArrayVec;
+use cue_sheet::Place;
+use moved_gains::{Channels, Shift};
+
+/// What words of a form ask for.
+#[derive(Clone, Copy)]
+pub(crate) enum Asks {
+    Help,
+    Version,
+    List,
+    Gain,
+    ChannelGain,
+    Undo,
+    Cut,
+    Pack,
+    SplitAt,
+    SplitBy,
+    Join,
+}
+
+/// A form: the command's word, then flags, then words of these kinds, of which the last may stand again so often.
+pub(crate) struct Form {
+    pub(crate) command: &'static str,
+    pub(crate) flags: &'static [Flag],
+    pub(crate) kinds: &'static [WordKind],
+    pub(crate) more: usize,
+    pub(crate) asks: Asks,
+}
+
+/// The forms. C is a channel, N a number of steps, P1 to P100, FROM and TO are places; all others are names.
+pub(crate) static FORMS: [Form; 12] = [
+    // `--help`
+    Form {
+        command: "--help",
+        flags: &[],
+        kinds: &[],
+        more: 0,
+        asks: Asks::Help,
+    },
+    // `-h`
+    Form {
+        command: "-h",
+        flags: &[],
+        kinds: &[],
+        more: 0,
+        asks: Asks::Help,
+    },
+    // `--version`
+    Form {
+        command: "--version",
+        flags: &[],
+        kinds: &[],
+        more: 0,
+        asks: Asks::Version,
+    },
+    // `list IN`
+    Form {
+        command: "list",
+        flags: &[],
+        kinds: &[WordKind::Name],
+        more: 0,
+        asks: Asks::List,
+    },
+    // `gain [-s s] [-w] -g N IN OUT`
+    Form {
+        command: "gain",
+        flags: &[Flag::Tagless, Flag::Wrapping],
+        kinds: &[
+            WordKind::Fixed("-g"),
+            WordKind::Steps,
+            WordKind::Name,
+            WordKind::Name,
+        ],
+        more: 0,
+        asks: Asks::Gain,
+    },
+    // `gain [-s s] [-w] -l C N IN OUT`
+    Form {
+        command: "gain",
+        flags: &[Flag::Tagless, Flag::Wrapping],
+        kinds: &[
+            WordKind::Fixed("-l"),
+            WordKind::Channel,
+            WordKind::Steps,
+            WordKind::Name,
+            WordKind::Name,
+        ],
+        more: 0,
+        asks: Asks::ChannelGain,
+    },
+    // `gain -u IN OUT`
+    Form {
+        command: "gain",
+        flags: &[],
+        kinds: &[WordKind::Fixed("-u"), WordKind::Name, WordKind::Name],
+        more: 0,
+        asks: Asks::Undo,
+    },
+    // `cut [--least] IN FROM TO OUT`
+    Form {
+        command: "cut",
+        flags: &[Flag::Least],
+        kinds: &[
+            WordKind::Name,
+            WordKind::Place,
+            WordKind::Place,
+            WordKind::Name,
+        ],
+        more: 0,
+        asks: Asks::Cut,
+    },
+    // `pack IN OUT`
+    Form {
+        command: "pack",
+        flags: &[],
+        kinds: &[WordKind::Name, WordKind::Name],
+        more: 0,
+        asks: Asks::Pack,
+    },
+    // `split IN PREFIX P1 P2 [P3 to P100]`
+    Form {
+        command: "split",
+        flags: &[],
+        kinds: &[
+            WordKind::Name,
+            WordKind::Name,
+            WordKind::Place,
+            WordKind::Place,
+        ],
+        more: 98,
+        asks: Asks::SplitAt,
+    },
+    // `split IN PREFIX -c CUE`
+    Form {
+        command: "split",
+        flags: &[],
+        kinds: &[
+            WordKind::Name,
+            WordKind::Name,
+            WordKind::Fixed("-c"),
+            WordKind::Name,
+        ],
+        more: 0,
+        asks: Asks::SplitBy,
+    },
+    // `join OUT IN1 [IN2 to IN64]`
+    Form {
+        command: "join",
+        flags: &[],
+        kinds: &[WordKind::Name, WordKind::Name],
+        more: 63,
+        asks: Asks::Join,
+    },
+];
+
+/// The most kinds that a form has for its words: the command, four flags of two words, five kinds, and the last 98 times again.
+pub(crate) const MOST_KINDS: usize = 112;
+
+/// The kinds of a form's words.
+pub(crate) type Kinds = ArrayVec<WordKind, MOST_KINDS>;
+
+// The places that the values are.
+fn places_of(values: &[Value]) -> ArrayVec<Place, 100>
+    requires { length values.now ≤ 100 }
+    ensures { result.items ≡ map place_said (map value_said values.now) }
+{
+    let mut places = ArrayVec::new();
+    for value in values {
+        places.push(value.place());
+    }
+    places
+}
+
+// The value at a place, counted from 0; nothing where there is none.
+fn value_at<'a>(values: &[Value<'a>], place: usize) -> Value<'a>
+    ensures { value_said result ≡ said_at (map value_said values.now) place }
+{
+    match values.get(place) {
+        Some(value) => *value,
+        None => Value::Fixed,
+    }
+}
+
+// The name at a place, counted from 0.
+fn name_at<'a>(values: &[Value<'a>], place: usize) -> &'a str
+    ensures { result.now ≡ name_at_lem (map value_said values.now) place }
+{
+    value_at(values, place).name()
+}
+
+// A change of these channels by the steps and of the files that stand from a place on, counted from 0.
+fn gain<'a>(channels: Channels, given: &[Flag], values: &[Value<'a>], place: usize) -> Job<'a>
+    requires { place ≤ 2 }
+    ensures { asked result ≡ gain_asked channels given.now (map value_said values.now) place }
+{
+    Job::Gain {
+        shift: Shift {
+            channels,
+            steps: value_at(values, place).steps(),
+            wrap: is_given(given, Flag::Wrapping),
+        },
+        tags: !is_given(given, Flag::Tagless),
+        input: name_at(values, place + 1),
+        output: name_at(values, place + 2),
+    }
+}
+
+impl Asks {
+    /// What is asked for by these flags, by what the words behind them say, and by these words themselves.
+    pub(crate) fn job<'a>(
+        self,
+        given: &[Flag],
+        values: &[Value<'a>],
+        words: &'a [String],
+    ) -> Job<'a>
+        requires { length values.now ≤ 102 }
+        ensures { asked result ≡ reads_of self given.now (map value_said values.now)
+            (map string_bytes words.now) }
+    {
+        match self {
+            Asks::Help => Job::Help,
+            Asks::Version => Job::Version,
+            Asks::List => Job::List {
+                input: name_at(values, 0),
+            },
+            Asks::Gain => gain(Channels::Both, given, values, 1),
+            Asks::ChannelGain => gain(value_at(values, 1).channels(), given, values, 2),
+            Asks::Undo => Job::Undo {
+                input: name_at(values, 1),
+                output: name_at(values, 2),
+            },
+            Asks::Cut => Job::Cut {
+                from: value_at(values, 1).place(),
+                to: value_at(values, 2).place(),
+                least: is_given(given, Flag::Least),
+                input: name_at(values, 0),
+                output: name_at(values, 3),
+            },
+            Asks::Pack => Job::Pack {
+                input: name_at(values, 0),
+                output: name_at(values, 1),
+            },
+            Asks::SplitAt => Job::SplitAt {
+                input: name_at(values, 0),
+                prefix: name_at(values, 1),
+                places: places_of(behind(values, 2)),
+            },
+            Asks::SplitBy => Job::SplitBy {
+                input: name_at(values, 0),
+                prefix: name_at(values, 1),
+                sheet: name_at(values, 3),
+            },
+            Asks::Join => Job::Join {
+                output: name_at(values, 0),
+                inputs: behind(words, 1),
+            },
+        }
+    }
+}
+
+// Appends these kinds.
+fn append(kinds: &mut Kinds, more: &[WordKind])
+    requires { length kinds.old.items + length more.now ≤ 112 }
+    ensures items { kinds.new.items ≡ kinds.old.items ++ more.now }
+    ensures count { length kinds.new.items ≡ length kinds.old.items + length more.now }
+{
+    kinds.try_extend_from_slice(more).unwrap();
+}
+
+// The last of some kinds; a name where there is none.
+fn last_of(kinds: &[WordKind]) -> WordKind
+    ensures { word_kind result ≡ last_kind (map word_kind kinds.now) }
+{
+    match kinds.last() {
+        Some(kind) => *kind,
+        None => WordKind::Name,
+    }
+}
+
+// Appends this kind so many times.
+fn repeat(kinds: &mut Kinds, kind: WordKind, count: usize)
+    requires { length kinds.old.items + count ≤ 112 }
+    ensures { kinds.new.items ≡ kinds.old.items ++ replicate count kind }
+{
+    for _ in 0..count {
+        kinds.push(kind);
+    }
+}
+
+// Appends the words of a flag.
+fn append_flag(kinds: &mut Kinds, flag: Flag)
+    requires { length kinds.old.items ≤ 110 }
+    ensures items { map word_kind kinds.new.items ≡ map word_kind kinds.old.items ++ flag_kinds flag }
+    ensures count { length kinds.new.items ≤ length kinds.old.items + 2 }
+{
+    for word in flag.words() {
+        kinds.push(WordKind::Fixed(word));
+    }
+}
+
+// The command's word, and those of the flags.
+fn front_kinds(command: &'static str, given: &[Flag]) -> Kinds
+    requires { length given.now ≤ 4 }
+    ensures items { map word_kind result.items ≡ front_kinds_lem command.now given.now }
+    ensures few { length result.items ≤ 9 }
+{
+    let mut kinds = Kinds::new();
+    kinds.push(WordKind::Fixed(command));
+    for flag in given {
+        append_flag(&mut kinds, *flag);
+    }
+    kinds
+}
+
+impl Form {
+    // Appends the kinds of so many words behind the flags.
+    fn append_behind(&self, kinds: &mut Kinds, count: usize)
+        requires front { length kinds.old.items ≤ 9 }
+        requires readable { IsReadable (form_given self.now) }
+        ensures { map word_kind kinds.new.items ≡ map word_kind kinds.old.items
+            ++ kinds_behind (form_given self.now) count }
+    {
+        let more = self.more.min(count.saturating_sub(self.kinds.len()));
+        append(kinds, self.kinds);
+        repeat(kinds, last_of(self.kinds), more);
+    }
+
+    // The kinds of so many words, with these flags.
+    fn kinds_for(&self, given: &[Flag], count: usize) -> Kinds
+        requires few { length given.now ≤ 4 }
+        requires readable { IsReadable (form_given self.now) }
+        ensures { map word_kind result.items ≡ kinds_for
+            (shape_with (form_given self.now) given.now) count }
+    {
+        let mut kinds = front_kinds(self.command, given);
+        let front = kinds.len();
+        self.append_behind(&mut kinds, count.saturating_sub(front));
+        kinds
+    }
+
+    /// What the words ask for by this form, or the place of the first word, counted from 1, that it doesn't take.
+    pub(crate) fn read<'a>(&self, words: &'a [String]) -> Result<Job<'a>, usize>
+        requires { IsReadable (form_given self.now) }
+        ensures answer { answer result ≡ reading (shapes_of (form_given self.now))
+            (map string_bytes words.now) }
+        ensures few { IfErr result (λ place. place ≤ 113) }
+    {
+        let given = given_in(self.flags, words);
+        let kinds = self.kinds_for(given.as_slice(), words.len());
+        let values = follow(words, kinds.as_slice());
+        let count = values.len();
+        if count < words.len() || count < kinds.len() {
+            return Err(count + 1);
+        }
+        let front = front_count(given.as_slice());
+        Ok(
+            self.asks.job(
+                given.as_slice(),
+                behind(values.as_slice(), front),
+                behind(words, front),
+            ),
+        )
+    }
+}
+
+// What the words in front say that have the first of these kinds.
+fn follow<'a>(words: &'a [String], kinds: &[WordKind]) -> ArrayVec<Value<'a>, MOST_KINDS>
+    requires { length kinds.now ≤ 112 }
+    ensures { map value_said result.items ≡ values_of (map word_kind kinds.now)
+        (map string_bytes words.now) }
+{
+    let mut values = ArrayVec::new();
+    while values.len() < kinds.len() && values.len() < words.len() {
+        let place = values.len();
+        let Some(value) = kinds[place].read(words[place].as_str()) else {
+            break;
+        };
+        values.push(value);
+    }
+    values
+}

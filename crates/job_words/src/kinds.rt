@@ -1,0 +1,155 @@
+//! What a single word can be, and what it says.
+ghost use Rattle.std.specs.Prelude.{◌≡◌, option_map, pos};
+ghost use Rattle.job_words.specs.Kinds.{is_name, step_count, steps_of, channel_of, said, name_said, steps_said, channels_said, place_said};
+ghost use Rattle.job_words.specs.Code.{word_kind, value_said};
+
+use cue_sheet::Place;
+use moved_gains::Channels;
+
+/// What a word of a form is.
+#[derive(Clone, Copy)]
+pub(crate) enum WordKind {
+    /// This word.
+    Fixed(&'static str),
+    /// The name of a file.
+    Name,
+    /// A number of steps.
+    Steps,
+    /// A channel.
+    Channel,
+    /// A place in a stream.
+    Place,
+}
+
+impl Default for WordKind {
+    /// A name.
+    fn default() -> Self {
+        WordKind::Name
+    }
+}
+
+/// What a word says.
+#[derive(Clone, Copy)]
+pub(crate) enum Value<'a> {
+    /// Nothing but itself.
+    Fixed,
+    /// This name.
+    Name(&'a str),
+    /// So many steps of 1.5 dB, -255 to 255.
+    Steps(i16),
+    /// This channel.
+    Channel(Channels),
+    /// This place.
+    Place(Place),
+}
+
+impl Default for Value<'_> {
+    /// Nothing.
+    fn default() -> Self {
+        Value::Fixed
+    }
+}
+
+// A name isn't empty, and doesn't begin with `-`.
+fn is_name(word: &str) -> bool
+    ensures { result ≡ is_name word.now }
+{
+    !matches!(word.as_bytes(), [] | [b'-', ..])
+}
+
+// One to three digits, of a number up to 255.
+fn read_size(digits: &[u8]) -> Option<i16>
+    ensures { result ≡ option_map pos (step_count digits.now) }
+{
+    if digits.is_empty() || digits.len() > 3 {
+        return None;
+    }
+    let mut size: u16 = 0;
+    for digit in digits {
+        if !digit.is_ascii_digit() {
+            return None;
+        }
+        size = size * 10 + u16::from(*digit - b'0');
+    }
+    if size <= 255 { Some(size as i16) } else { None }
+}
+
+// Such digits behind `+` or `-` or alone.
+fn read_steps(word: &str) -> Option<i16>
+    ensures { result ≡ steps_of word.now }
+{
+    match word.as_bytes() {
+        [b'+', digits @ ..] => read_size(digits),
+        [b'-', digits @ ..] => read_size(digits).map(|size| -size),
+        digits => read_size(digits),
+    }
+}
+
+// `0` is the left channel, `1` the right one.
+fn read_channel(word: &str) -> Option<Channels>
+    ensures { result ≡ channel_of word.now }
+{
+    match word {
+        "0" => Some(Channels::Left),
+        "1" => Some(Channels::Right),
+        _ => None,
+    }
+}
+
+impl WordKind {
+    /// What a word of this kind says. `None` for a word that isn't of the kind.
+    pub(crate) fn read<'a>(&self, word: &'a str) -> Option<Value<'a>>
+        ensures { option_map value_said result ≡ said (word_kind self.now) word.now }
+    {
+        match self {
+            WordKind::Fixed(text) if word == *text => Some(Value::Fixed),
+            WordKind::Name if is_name(word) => Some(Value::Name(word)),
+            WordKind::Steps => Some(Value::Steps(read_steps(word)?)),
+            WordKind::Channel => Some(Value::Channel(read_channel(word)?)),
+            WordKind::Place => Some(Value::Place(Place::read(word)?)),
+            _ => None,
+        }
+    }
+}
+
+impl<'a> Value<'a> {
+    /// The name; an empty one for any other value.
+    pub(crate) fn name(self) -> &'a str
+        ensures { result.now ≡ name_said (value_said self.entry) }
+    {
+        match self {
+            Value::Name(name) => name,
+            _ => "",
+        }
+    }
+
+    /// The number of steps; 0 for any other value.
+    pub(crate) fn steps(self) -> i16
+        ensures { result ≡ steps_said (value_said self.entry) }
+    {
+        match self {
+            Value::Steps(steps) => steps,
+            _ => 0,
+        }
+    }
+
+    /// The channel; both for any other value.
+    pub(crate) fn channels(self) -> Channels
+        ensures { result ≡ channels_said (value_said self.entry) }
+    {
+        match self {
+            Value::Channel(channel) => channel,
+            _ => Channels::Both,
+        }
+    }
+
+    /// The place; the end for any other value.
+    pub(crate) fn place(self) -> Place
+        ensures { result ≡ place_said (value_said self.entry) }
+    {
+        match self {
+            Value::Place(place) => place,
+            _ => Place::End,
+        }
+    }
+}

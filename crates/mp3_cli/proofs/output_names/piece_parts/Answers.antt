@@ -1,9 +1,0 @@
--- The parts are the name and what stands behind it.
-use Rattle.std.proofs.Common.{refl, append_assoc}
-use Rattle.std.proofs.lemmas.List.{append-nil}
-use Rattle.splitting.specs.Split.{piece_name}
-use Rattle.mp3_cli.proofs.output_names.piece_parts.Goals as goal
-
-pub returns : goal.returns
-unfolding piece_name
-returns c = simp (append_assoc, append-nil) (rw (c.digit.ensures, c.digit-2.ensures) refl)

@@ -1,0 +1,8 @@
+-- The line was sent, or a prefix of it.
+use Rattle.mp3_cli.proofs.Lines.{got_either, line_is, spelled_parts}
+use Rattle.mp3_cli.proofs.parts.send_line.Goals as goal
+
+pub returns : goal.returns
+returns g c =
+    line_is _ _ _ _ _ _ (spelled_parts c.args.parts.now)
+    (got_either c.send_parts.result _ _ _ _ _ c.send_parts.ensures.later c.send_parts.ensures.whole c.send_parts.ensures.front)

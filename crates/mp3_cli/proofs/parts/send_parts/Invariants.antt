@@ -1,0 +1,12 @@
+-- The parts so far were sent.
+use Rattle.std.proofs.Common.{◌≡◌, ◌≤◌, take, flat_map}
+use Rattle.outside.specs.Files.{sent_more}
+use Rattle.mp3_cli.specs.Lines.{spelled_part, part_of}
+use Rattle.mp3_cli.proofs.parts.send_parts.Given as goal
+
+abbrev pub invariant-loop-part : goal.invariant-loop-part
+invariant-loop-part g l = record {
+  later : g.T.Sink.faults l.initial.sink ≤ g.T.Sink.faults l.sink;
+  done : g.T.Sink.faults l.sink ≡ g.T.Sink.faults l.initial.sink;
+  sent : g.T.Sink.sent l.sink ≡ sent_more (g.T.Sink.sent l.initial.sink) (flat_map (λ part. spelled_part (part_of part)) (take l.part-index l.parts));
+}

@@ -1,0 +1,150 @@
+//! Lines as lists of parts, and how they are sent.
+ghost use Rattle.std.specs.Prelude.{◌≡◌, ◌≤◌, ◌<◌, ◌+◌, ◌%◌, ◌++◌, ◌∷◌, [], OnOk, OnErr, length, map, flat_map};
+ghost use Rattle.splitting.specs.Split.{piece_name as piece_name_lem};
+ghost use Rattle.mp3_cli.specs.Lines.{hex_digit as hex_digit_lem, hex_word, Text, spelled_part, spelled, part_of};
+ghost use Rattle.mp3_cli.specs.Texts.{GotWhole, GotFront, GotLine};
+
+use arrayvec::ArrayVec;
+use itoa::Buffer;
+use outside::{Failed, Sink, send_all};
+
+/// A part of a line.
+#[derive(Clone, Copy)]
+pub(crate) enum Part<'a> {
+    /// This text.
+    Text(&'a str),
+    /// A number, as decimal digits.
+    Number(u64),
+    /// The same with `-` before it where it is negative.
+    Signed(i32),
+    /// A word, as four hexadecimal digits.
+    Hexadecimal(u16),
+    /// The name of a file.
+    Name(&'a str),
+    /// The name of a split's piece: this prefix, the last two digits of the piece's number, and `.mp3`.
+    PieceName(&'a str, u32),
+}
+
+impl Default for Part<'_> {
+    /// An empty text.
+    fn default() -> Self {
+        Part::Text("")
+    }
+}
+
+/// The parts of a line, nine at most.
+pub(crate) type Line<'a> = ArrayVec<Part<'a>, 9>;
+
+/// A line of these parts.
+pub(crate) fn line<'a>(parts: &[Part<'a>]) -> Line<'a>
+    requires { length parts.now ≤ 9 }
+    ensures { result.items ≡ parts.now }
+{
+    let mut line = Line::new();
+    line.try_extend_from_slice(parts).unwrap();
+    line
+}
+
+/// A line of this text.
+pub(crate) fn text_line(text: &str) -> Line<'_>
+    ensures { map part_of result.items ≡ Text text.now ∷ [] }
+{
+    line(&[Part::Text(text)])
+}
+
+/// Sends the pieces one after another, and stops at the first that fails.
+pub(crate) fn send_text<T: Sink>(sink: &mut T, pieces: &[&str]) -> Result<(), Failed>
+    ensures whole { OnOk result (GotWhole (T.sent sink.old) (T.sent sink.new) (T.faults sink.old)
+        (T.faults sink.new) (flat_map (λ piece. piece.now) pieces.now)) }
+    ensures front { OnErr result (GotFront (T.sent sink.old) (T.sent sink.new) (T.faults sink.old)
+        (T.faults sink.new) (flat_map (λ piece. piece.now) pieces.now)) }
+    ensures later { T.faults sink.old ≤ T.faults sink.new }
+{
+    for piece in pieces {
+        send_all(sink, piece.as_bytes())?;
+    }
+    Ok(())
+}
+
+/// The digits of hexadecimal numbers.
+static HEX_DIGITS: [&str; 16] = [
+    "0", "1", "2", "3", "4", "5", "6", "7", "8", "9", "a", "b", "c", "d", "e", "f",
+];
+
+// The last hexadecimal digit of a number.
+fn hex_digit<'a>(number: u16) -> &'a str
+    ensures { result.now ≡ hex_digit_lem (number % 16) ∷ [] }
+{
+    HEX_DIGITS[usize::from(number % 16)]
+}
+
+// A word as four hexadecimal digits.
+fn hex_digits<'a>(word: u16) -> [&'a str; 4]
+    ensures { flat_map (λ digit. digit.now) result ≡ hex_word word }
+{
+    [
+        hex_digit(word >> 12),
+        hex_digit(word >> 8),
+        hex_digit(word >> 4),
+        hex_digit(word),
+    ]
+}
+
+// A number below 10 as a digit.
+fn digit<'a>(number: u32) -> &'a str
+    requires { number < 10 }
+    ensures { result.now ≡ (48 + number) ∷ [] }
+{
+    HEX_DIGITS[number as usize]
+}
+
+// The name of a piece, in pieces, by the last two digits of its number.
+fn piece_name<'a>(prefix: &'a str, number: u32) -> [&'a str; 4]
+    ensures { flat_map (λ part. part.now) result ≡ piece_name_lem prefix.now (number % 100) }
+{
+    [
+        prefix,
+        digit(number % 100 / 10),
+        digit(number % 100 % 10),
+        ".mp3",
+    ]
+}
+
+// Sends a part.
+fn send_part<T: Sink>(sink: &mut T, part: &Part) -> Result<(), Failed>
+    ensures whole { OnOk result (GotWhole (T.sent sink.old) (T.sent sink.new) (T.faults sink.old)
+        (T.faults sink.new) (spelled_part (part_of part.now))) }
+    ensures front { OnErr result (GotFront (T.sent sink.old) (T.sent sink.new) (T.faults sink.old)
+        (T.faults sink.new) (spelled_part (part_of part.now))) }
+    ensures later { T.faults sink.old ≤ T.faults sink.new }
+{
+    match *part {
+        Part::Text(text) | Part::Name(text) => send_text(sink, &[text]),
+        Part::Number(number) => send_text(sink, &[Buffer::new().format(number)]),
+        Part::Signed(number) => send_text(sink, &[Buffer::new().format(number)]),
+        Part::Hexadecimal(word) => send_text(sink, &hex_digits(word)),
+        Part::PieceName(prefix, number) => send_text(sink, &piece_name(prefix, number)),
+    }
+}
+
+// Sends the parts one after another, and stops at the first that fails.
+fn send_parts<T: Sink>(sink: &mut T, parts: &[Part]) -> Result<(), Failed>
+    ensures whole { OnOk result (GotWhole (T.sent sink.old) (T.sent sink.new) (T.faults sink.old)
+        (T.faults sink.new) (flat_map (λ part. spelled_part (part_of part)) parts.now)) }
+    ensures front { OnErr result (GotFront (T.sent sink.old) (T.sent sink.new) (T.faults sink.old)
+        (T.faults sink.new) (flat_map (λ part. spelled_part (part_of part)) parts.now)) }
+    ensures later { T.faults sink.old ≤ T.faults sink.new }
+{
+    for part in parts {
+        send_part(sink, part)?;
+    }
+    Ok(())
+}
+
+/// Sends the parts of a line. It stops at the first write that fails, and such a failure is not answered.
+pub(crate) fn send_line<E: Sink>(err: &mut E, parts: &[Part])
+    ensures { GotLine (E.sent err.old) (E.sent err.new) (E.faults err.old) (E.faults err.new)
+        (spelled (map part_of parts.now)) }
+{
+    let _ = send_parts(err, parts);
+}
