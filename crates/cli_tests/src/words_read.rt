@@ -257,6 +257,7 @@ static COUNTS: [u32; 3] = [1, 2, 64];
 fn joins(rt: HostRuntime) -> Result<(), Fail> {
     for count in &COUNTS {
         let words = join_words(rt.alloc(), *count)?;
+        assert_eq!(rt; words.len(), *count as usize + 2);
         let wanted = Job::Join {
             output: "o",
             inputs: &words[2..],
