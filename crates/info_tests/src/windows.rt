@@ -1,4 +1,5 @@
 //! Main data worked out by hand. Byte n of all areas is n modulo 251, so that bytes at two places less than 251 apart differ.
+ghost use Rattle.std.specs.Prelude.{◌≤◌, length};
 
 use reservoir::*;
 use std::alloc::AllocGlobal;
@@ -123,7 +124,9 @@ static CASES: [Case; 7] = [
 ];
 
 /// The bytes of main data.
-fn bytes_of<R: AllocGlobal>(rt: &R, payload: &Payload) -> Result<Vec<u8>, Fail> {
+fn bytes_of<R: AllocGlobal>(rt: &R, payload: &Payload) -> Result<Vec<u8>, Fail>
+    requires { length payload.now ≤ 2048 }
+{
     let mut queue = ByteQueue::new(rt.alloc())?;
     payload.append_to(&mut queue);
     Ok(queue.bytes().to_vec(rt.alloc())?)
