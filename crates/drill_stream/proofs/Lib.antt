@@ -1,0 +1,4 @@
+-- The lemmas of this crate.
+pub mod DrawsLaws
+pub mod DrawnSide
+pub mod MakingLaws

@@ -1,0 +1,32 @@
+-- What a survey tells of such a stream.
+use Rattle.std.specs.Prelude.{◌≡◌, ℕ, ◌*◌, ◌<◌, ◌≤◌, None, [], length, map, Ok, List}
+use Rattle.frame_header.specs.Tables.{class_of}
+use Rattle.sync_survey.specs.Faults.{SurveyFields, HoldsStream}
+use Rattle.sync_survey.specs.Survey.{survey_of}
+use Rattle.laid_files.specs.LaidFiles.{entry_of, rows_from}
+use Rattle.drill_stream.specs.Drill.{drill_header, drill_frames, drill_stream}
+
+-- there is no head, no block and no junk, and the frames stand one behind the other from the first byte on; none is lost
+abbrev pub drill_fields : ℕ → ℕ → SurveyFields
+drill_fields seed count = record {
+  frames = rows_from 0 (drill_frames seed count);
+  blocks = [];
+  head = None;
+  junk = 0;
+  first = 0;
+  class = class_of drill_header;
+  length = length (drill_stream seed count);
+}
+
+-- Whatever the number, a stream of one frame or more is well-formed, and holds the frames and the main data that were drawn.
+abbrev pub StreamsHold : Type 0
+StreamsHold = (seed count : ℕ) → 0 < count → HoldsStream (drill_stream seed count) (map entry_of (drill_frames seed count))
+
+-- A survey that allows as many frames finds them where they were put. A stream of 20,000 frames isn't too long.
+abbrev pub StreamsAreSurveyed : Type 0
+StreamsAreSurveyed =
+    (seed count allowed : ℕ) → 0 < count → count ≤ 20000 → count ≤ allowed → survey_of (drill_stream seed count) allowed ≡ Ok (drill_fields seed count)
+
+-- each frame of it has 417 bytes
+abbrev pub StreamsAreLong : Type 0
+StreamsAreLong = (seed count : ℕ) → length (drill_stream seed count) ≡ 417 * count

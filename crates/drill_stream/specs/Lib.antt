@@ -1,0 +1,4 @@
+pub mod Draws
+pub mod Drill
+pub mod Making
+pub mod Laws

@@ -1,0 +1,47 @@
+//! A stream, written to a file of a folder.
+ghost use Rattle.std.specs.Prelude.{◌≡◌, ◌⊎◌, OnOk, IsErrOf};
+ghost use Rattle.outside.specs.Files.{emptied, appended};
+ghost use Rattle.outside.specs.Passed.{AppendedPrefix};
+ghost use Rattle.outside.specs.Counts.{OnlyWrites};
+ghost use Rattle.frame_writer.specs.Writing.{WriteFailed};
+ghost use Rattle.drill_stream.specs.Drill.{drill_stream};
+
+use crate::fault::StreamFault;
+use crate::making::Making;
+use outside::Folder;
+use std::alloc::Global;
+
+/// Makes the name hold the stream of this number, of so many frames of 417 bytes. All memory is taken before the file is
+/// created, and doesn't grow with the stream.
+///
+/// # Errors
+/// `Memory` where there is no memory; then the files stay. `Write` where `create` or a write failed; then they stay, or the
+/// name holds a prefix of the stream.
+pub fn write_stream<D: Folder>(
+    alloc: Global,
+    seed: u32,
+    count: u32,
+    folder: &mut D,
+    name: &str,
+) -> Result<(), StreamFault>
+    ensures written { OnOk result (D.files folder.new ≡
+        appended (emptied (D.files folder.old) name.now) name.now (drill_stream seed count)) }
+    ensures part { IsErrOf result StreamFault.Write → (D.files folder.new ≡ D.files folder.old) ⊎
+        AppendedPrefix name.now (drill_stream seed count)
+            (emptied (D.files folder.old) name.now) (D.files folder.new) }
+    ensures failed { IsErrOf result StreamFault.Write →
+        WriteFailed (D.counts folder.old) (D.counts folder.new) }
+    ensures kept { IsErrOf result StreamFault.Memory → D.files folder.new ≡ D.files folder.old }
+    ensures none { IsErrOf result StreamFault.Memory → D.counts folder.new ≡ D.counts folder.old }
+    ensures done { OnOk result (D.counts folder.new ≡ D.counts folder.old) }
+    ensures counts { OnlyWrites (D.counts folder.old) (D.counts folder.new) }
+{
+    let mut making = Making::new(alloc, seed)?;
+    let Ok(()) = folder.create(name) else {
+        return Err(StreamFault::Write);
+    };
+    match making.write(count, folder, name) {
+        Ok(()) => Ok(()),
+        Err(_) => Err(StreamFault::Write),
+    }
+}
