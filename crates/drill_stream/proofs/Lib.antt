@@ -2,3 +2,5 @@
 pub mod DrawsLaws
 pub mod DrawnSide
 pub mod MakingLaws
+pub mod BareStream
+pub mod DrillLaws

@@ -4,7 +4,7 @@ use Rattle.frame_header.specs.Tables.{class_of}
 use Rattle.sync_survey.specs.Faults.{SurveyFields, HoldsStream}
 use Rattle.sync_survey.specs.Survey.{survey_of}
 use Rattle.laid_files.specs.LaidFiles.{entry_of, rows_from}
-use Rattle.drill_stream.specs.Drill.{drill_header, drill_frames, drill_stream}
+use Rattle.drill_stream.specs.Drill.{drill_header, frame_at, drill_frames, drill_stream}
 
 -- there is no head, no block and no junk, and the frames stand one behind the other from the first byte on; none is lost
 abbrev pub drill_fields : ℕ → ℕ → SurveyFields
@@ -30,3 +30,7 @@ StreamsAreSurveyed =
 -- each frame of it has 417 bytes
 abbrev pub StreamsAreLong : Type 0
 StreamsAreLong = (seed count : ℕ) → length (drill_stream seed count) ≡ 417 * count
+
+-- the main data of the first frame begin in its own area
+abbrev pub FirstBeginsInItsArea : Type 0
+FirstBeginsInItsArea = (seed : ℕ) → (frame_at seed 0).kept.side.main_data_begin ≡ 0

@@ -6,8 +6,10 @@
 mod draws;
 mod fault;
 mod frames;
+mod laws;
 mod making;
 mod stream;
 
 pub use fault::StreamFault;
+pub use laws::{streams_are_long, streams_are_surveyed, streams_hold};
 pub use stream::write_stream;

@@ -34,7 +34,7 @@ unfolding payload_bytes
 payload_least s = omega arith
 
 -- bits from the start of the main data on, where they stand behind the bytes of a head
-payload_there : (main before area_data payload rest : List ℕ) (start at : ℕ) (s : Side) → main ≡ before ++ area_data → start ≡ length before + at → drop at area_data ≡ payload ++ rest → length payload ≡ payload_bytes s
+pub payload_there : (main before area_data payload rest : List ℕ) (start at : ℕ) (s : Side) → main ≡ before ++ area_data → start ≡ length before + at → drop at area_data ≡ payload ++ rest → length payload ≡ payload_bytes s
     → payload_at main start s ≡ take (payload_bits s) (bits payload)
 payload_there main before area_data payload rest start at s is place there long =
     let bytes : drop start main ≡ payload ++ rest =
@@ -47,17 +47,17 @@ payload_there main before area_data payload rest start at s is place there long 
 
 -- ---- all frames
 
-entry_get : (c : ClassFields) (fs : List Frame) (i : ℕ) (f : Frame) → AreEntries c fs → slice_get fs i ≡ Some f → IsEntry c f
+pub entry_get : (c : ClassFields) (fs : List Frame) (i : ℕ) (f : Frame) → AreEntries c fs → slice_get fs i ≡ Some f → IsEntry c f
 entry_get c [] i f entries is = absurd cc
 entry_get c (g ∷ fs) zero f entries is = let same : g ≡ f = cc in subst (IsEntry c) same entries.0
 entry_get c (g ∷ fs) (suc i) f entries is = entry_get c fs i f entries.1 is
 
 -- the row of a frame that begins at an offset
-abbrev row_at : ℕ → Frame → Row
+abbrev pub row_at : ℕ → Frame → Row
 row_at at f = record { offset = at; header = f.kept.header; side = f.kept.side; lost = false }
 
 -- the main data of frame i are those that were given
-abbrev HasPayload : List ℕ → Option Head → List Row → ℕ → Frame → Type 0
+abbrev pub HasPayload : List ℕ → Option Head → List Row → ℕ → Frame → Type 0
 HasPayload main head rows i f = (at : ℕ) → slice_get rows i ≡ Some (row_at at f) → payload_at main (start_of_data (place head rows i) (row_at at f)) f.kept.side ≡ take (payload_bits f.kept.side) (bits f.payload)
 
 frames_by : (main : List ℕ) (head : Option Head) (rows : List Row) (n at : ℕ) (fs : List Frame) → ((i : ℕ) (f : Frame) → slice_get fs i ≡ Some f → HasPayload main head rows (n + i) f)
@@ -76,7 +76,7 @@ frames_by main head rows n at (f ∷ fs) has there =
     (λ i g is. subst (λ m. HasPayload main head rows m g) (omega arith) (has (suc i) g is))
     (λ i r is. ap (slice_get rows) (omega arith) ∙ there (suc i) r is))
 
-entries_by : (main : List ℕ) (head : Option Head) (at : ℕ) (fs : List Frame) → ((i : ℕ) (f : Frame) → slice_get fs i ≡ Some f → HasPayload main head (rows_from at fs) i f) → stream_frames main head (rows_from at fs) ≡ map entry_of fs
+pub entries_by : (main : List ℕ) (head : Option Head) (at : ℕ) (fs : List Frame) → ((i : ℕ) (f : Frame) → slice_get fs i ≡ Some f → HasPayload main head (rows_from at fs) i f) → stream_frames main head (rows_from at fs) ≡ map entry_of fs
 unfolding stream_frames
 entries_by main head at fs has =
     frames_by main head (rows_from at fs) 0 at fs

@@ -35,17 +35,17 @@ use Rattle.laid_files.proofs.InfoBytes.{info_header, length-info_frame, info_ite
 use Rattle.laid_files.proofs.WholeItems.{AreWhole, whole-append, placed, whole-run, block_items, blocks-whole, blocks-placed}
 use Rattle.laid_files.proofs.LaidFrames.{frame_items, framed-whole, frames_at, frames-placed, blocks-behind, StandFrom, framed-stand, areas-all}
 
-front_end-is : (file : List ℕ) → (run Front file 0).stop ≡ front_end_of file
+pub front_end-is : (file : List ℕ) → (run Front file 0).stop ≡ front_end_of file
 unfolding front_end_of
 front_end-is file = refl
 
 -- a whole frame behind the blocks at the front is the first of the stream
-start_by : (file : List ℕ) (at : ℕ) (h : HeaderFields) → at ≡ front_end_of file → item_at file at ≡ FrameItem h → at + size_of (FrameItem h) ≤ length file → start_of file ≡ Ok (record { front_end = at; first = record { offset = at; header = h } })
+pub start_by : (file : List ℕ) (at : ℕ) (h : HeaderFields) → at ≡ front_end_of file → item_at file at ≡ FrameItem h → at + size_of (FrameItem h) ≤ length file → start_of file ≡ Ok (record { front_end = at; first = record { offset = at; header = h } })
 start_by file at h front is within =
     let fit : fits file at (FrameItem h) ≡ true = le-leb _ _ (omega (arith, within)) in
     start_is file at (FrameItem h) front is ∙ rw fit refl
 
-not_in_front : (file : List ℕ) (at : ℕ) (h : HeaderFields) → item_at file at ≡ FrameItem h → item_of Front file at ≡ None
+pub not_in_front : (file : List ℕ) (at : ℕ) (h : HeaderFields) → item_at file at ≡ FrameItem h → item_of Front file at ≡ None
 unfolding item_of
 not_in_front file at h is = ap (whole Front file at) is
 
@@ -55,7 +55,7 @@ head_with p at = record { offset = p.offset; header = p.header; text_at = at }
 head_by : (p : PlacedFrame) (at : ℕ) (o : Option ℕ) → o ≡ Some at → option_map (λ n. head_with p n) o ≡ Some (head_with p at)
 head_by p at o is = ap (option_map (λ n. head_with p n)) is
 
-some_frames : (file : List ℕ) (at : ℕ) (fs : List Frame) → 0 < length fs → end_fault file (frames_at at fs) None ≡ None
+pub some_frames : (file : List ℕ) (at : ℕ) (fs : List Frame) → 0 < length fs → end_fault file (frames_at at fs) None ≡ None
 some_frames file at [] some = absurd (omega (arith, some))
 some_frames file at (f ∷ fs) some = refl
 

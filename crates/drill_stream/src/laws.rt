@@ -1,0 +1,20 @@
+//! Laws of streams made from a number. Each function does nothing: a proof that needs its law calls it.
+ghost use Rattle.drill_stream.specs.Laws.{StreamsHold, StreamsAreSurveyed, StreamsAreLong, FirstBeginsInItsArea};
+
+/// Whatever the number, the stream of one frame or more is well-formed. Its frames have the fields and the main data that
+/// were drawn, and none is lost.
+pub fn streams_hold()
+    ensures { StreamsHold }
+{}
+
+/// Whatever the number, a survey of the stream of 1 to 20,000 frames that allows as many has no fault. It finds the frames
+/// one behind the other from the first byte on, the first with main_data_begin 0, and no head, no block and no junk.
+pub fn streams_are_surveyed()
+    ensures surveyed { StreamsAreSurveyed }
+    ensures first { FirstBeginsInItsArea }
+{}
+
+/// The stream has 417 bytes for each frame.
+pub fn streams_are_long()
+    ensures { StreamsAreLong }
+{}
