@@ -1,17 +1,14 @@
 -- A file that is nothing but frames, with all main data laid into their areas: it is well-formed, a survey tells the frames that were
 -- given, and they are its stream.
-use Rattle.std.proofs.Common.{◌≡◌, ℕ, zero, suc, ◌+◌, ◌-◌, ◌*◌, ◌≤◌, ◌<◌, false, List, [], ◌∷◌, ◌++◌, length, take, drop, map, Option, Some, None, option_map, Ok, refl, sym, ◌∙◌, ap, ap₂, subst, arith, append-nil, append_assoc, zero-add, length-append}
+use Rattle.std.proofs.Common.{◌≡◌, ℕ, ◌+◌, ◌-◌, ◌≤◌, List, [], ◌∷◌, ◌++◌, length, take, drop, map, Option, Some, None, option_map, Ok, refl, sym, ◌∙◌, ap, ap₂, subst, arith, append-nil, append_assoc, length-append}
 use Rattle.std.specs.Prelude.{slice_get}
 use Rattle.std.proofs.lemmas.List.{take_at, drop_all, length-take-le}
 use Rattle.std.proofs.lemmas.Option.{slice_get-map}
-use Rattle.bit_fields.specs.Bits.{bits}
 use Rattle.frame_header.specs.Fields.{ClassFields}
-use Rattle.frame_header.specs.Tables.{class_of, length_of}
-use Rattle.side_info.specs.Side.{payload_bits}
+use Rattle.frame_header.specs.Tables.{class_of}
 use Rattle.info_header.specs.HeadText.{head_text_of}
 use Rattle.frame_writer.specs.Laid.{start_of, areas_end, laid, CanBeLaid}
 use Rattle.frame_writer.specs.Frames.{front_of, area_in, Frame, all_kept, areas_in, piece_of, pieces, framed, frame_bytes}
-use Rattle.sync_survey.specs.declared.items.Item.{Item}
 use Rattle.sync_survey.specs.declared.items.Item.TheVariants.{Frame as FrameItem, End}
 use Rattle.sync_survey.specs.declared.places.Head.{Head}
 use Rattle.sync_survey.specs.declared.places.PlacedFrame.{PlacedFrame}
@@ -20,7 +17,7 @@ use Rattle.sync_survey.specs.declared.places.Start.{Start}
 use Rattle.sync_survey.specs.declared.rows.Row.{Row}
 use Rattle.sync_survey.specs.declared.runs.Part.TheVariants.{Front, Stream}
 use Rattle.sync_survey.specs.Items.{item_at, size_of}
-use Rattle.sync_survey.specs.Runs.{Run, item_of, run, frames_of, blocks_of}
+use Rattle.sync_survey.specs.Runs.{Run, run, frames_of, blocks_of}
 use Rattle.sync_survey.specs.Start.{start_of as start_of_file}
 use Rattle.sync_survey.specs.Walk.{stream_run, frame_bytes as bytes_of_frame, head_by, head_of, numbered, all_blocks, fault_at, end_fault}
 use Rattle.sync_survey.specs.MainData.{rows_of, start_of_data, place, main_bytes, marked}
@@ -29,11 +26,11 @@ use Rattle.sync_survey.proofs.OneItem.{stands-only_at}
 use Rattle.sync_survey.proofs.RunsLaws.{item_of-past}
 use Rattle.sync_survey.proofs.ItemLists.{item_at-known}
 use Rattle.sync_survey.proofs.SurveyParts.{frames_from, told_from, IsRead, surveyed-told, surveyed-stream, sound-no_all_faults}
-use Rattle.laid_files.specs.LaidFiles.{IsEntry, AreEntries, entry_of, frame_length, rows_from}
-use Rattle.laid_files.proofs.EntryBytes.{shaped, length-front, length-entry, entry_item}
+use Rattle.laid_files.specs.LaidFiles.{AreEntries, entry_of, frame_length, rows_from}
+use Rattle.laid_files.proofs.EntryBytes.{shaped, length-entry, entry_item}
 use Rattle.laid_files.proofs.WholeItems.{placed, whole-run}
 use Rattle.laid_files.proofs.LaidData.{length-laid, laid-there}
-use Rattle.laid_files.proofs.LaidFrames.{frame_items, framed-whole, frames_at, frames-placed, blocks-behind, StandFrom, framed-stand, rows-there, areas-there, areas-all}
+use Rattle.laid_files.proofs.LaidFrames.{frame_items, framed-whole, frames_at, StandFrom, framed-stand, rows-there, areas-there, areas-all}
 use Rattle.laid_files.proofs.LaidSound.{laid-sound, none-marked, starts-there}
 use Rattle.laid_files.proofs.LaidRuns.{front_end-is, start_by, not_in_front, some_frames}
 use Rattle.laid_files.proofs.LaidLaws.{payload_there, entry_get, row_at, HasPayload, entries_by}

@@ -1,15 +1,15 @@
 -- The side information that was drawn: each field is within its bits, and the main data fit into the room that there is for them.
-use Rattle.std.proofs.Common.{◌≡◌, get_or, ℕ, ◌+◌, ◌*◌, ◌%◌, ◌^◌, ◌<◌, ◌≤◌, List, [], ◌∷◌, map, refl, sym, ap, subst, arith, lit<}
+use Rattle.std.proofs.Common.{◌≡◌, ℕ, ◌+◌, ◌*◌, ◌%◌, ◌<◌, ◌≤◌, List, [], ◌∷◌, map, refl, arith, lit<}
 use Rattle.std.proofs.lemmas.Nat.{mod_below}
 use Rattle.frame_header.specs.declared.version.Version.TheVariants.{One}
 use Rattle.frame_header.specs.Tables.{class_of}
 use Rattle.side_info.specs.declared.side.Side.{Side}
 use Rattle.side_info.specs.Granule.{GranuleFits}
 use Rattle.side_info.specs.Side.{SideFits, payload_bits}
-use Rattle.side_info.proofs.SideLaws.{IsShaped, SideFits-from_parts}
+use Rattle.side_info.proofs.SideLaws.{SideFits-from_parts}
 use Rattle.laid_files.specs.LaidFiles.{HasPairs}
 use Rattle.drill_stream.specs.Draws.{drawn, next_state, state_behind, draws}
-use Rattle.drill_stream.specs.Drill.{drill_header, room_of, granule_with, side_with, drawn_lengths, drawn_gains, drawn_side}
+use Rattle.drill_stream.specs.Drill.{drill_header, room_of, granule_with, side_with, drawn_side}
 
 -- four draws
 pub four-draws : (state : ℕ)

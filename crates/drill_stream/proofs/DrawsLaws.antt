@@ -1,12 +1,12 @@
 -- Draws, one behind the other, and the main data that are made of them.
-use Rattle.std.proofs.Common.{◌≡◌, get_or, set, ℕ, zero, suc, ◌+◌, ◌-◌, ◌*◌, ◌/◌, ◌%◌, ◌<◌, ◌≤◌, List, [], ◌∷◌, ◌++◌, length, take, drop, map, refl, sym, ◌∙◌, ap, subst, arith, append_assoc, length-append, zero-add}
-use Rattle.std.proofs.lemmas.List.{drop_more, set_at, map-append, length-map, take_all, length-take-le}
+use Rattle.std.proofs.Common.{◌≡◌, get_or, set, ℕ, zero, suc, ◌+◌, ◌-◌, ◌*◌, ◌/◌, ◌%◌, ◌<◌, List, [], ◌∷◌, ◌++◌, length, take, drop, map, refl, sym, ◌∙◌, ap, arith, append_assoc, zero-add}
+use Rattle.std.proofs.lemmas.List.{drop_more, set_at, map-append, length-map}
 use Rattle.bit_fields.specs.Bits.{bits, bytes, AreBytes}
-use Rattle.bit_fields.proofs.BitsLaws.{bytes-bits, length-bits}
+use Rattle.bit_fields.proofs.BitsLaws.{bytes-bits}
 use Rattle.reservoir.specs.Window.{main_bits, ArePacked}
 use Rattle.frame_writer.specs.Laid.{zeros}
 use Rattle.drill_stream.specs.Draws.{next_state, drawn, state_behind, draws}
-use Rattle.drill_stream.specs.Drill.{drawn_bytes, first_bits, drawn_payload}
+use Rattle.drill_stream.specs.Drill.{drawn_bytes, first_bits}
 
 -- ---- one draw more
 

@@ -1,19 +1,19 @@
 -- The stream of a number is frames alone, with all main data laid into their areas.
-use Rattle.std.proofs.Common.{◌≡◌, ℕ, zero, suc, ◌+◌, ◌-◌, ◌*◌, ◌/◌, ◌%◌, ◌^◌, ◌≤◌, ◌<◌, ◌⊎◌, inl, inr, eqb, Bool, true, false, ◌||◌, ◌&&◌, List, [], ◌∷◌, ◌++◌, length, take, drop, map, Option, Some, None, Ok, refl, sym, ◌∙◌, ap, ap₂, subst, arith, append_assoc, append-nil, length-append, zero-add, lit<, lit≤}
-use Rattle.std.specs.Prelude.{codes, bytes_eq, if◌then◌else◌}
+use Rattle.std.proofs.Common.{◌≡◌, ℕ, zero, suc, ◌+◌, ◌-◌, ◌*◌, ◌/◌, ◌%◌, ◌^◌, ◌≤◌, ◌<◌, ◌⊎◌, inl, inr, false, ◌||◌, List, [], ◌∷◌, ◌++◌, length, take, drop, map, None, Ok, refl, sym, ◌∙◌, ap, ap₂, subst, arith, append_assoc, append-nil, length-append, lit<, lit≤}
+use Rattle.std.specs.Prelude.{codes, bytes_eq}
 use Rattle.std.specs.List.{All, range_with_len}
 use Rattle.std.proofs.lemmas.Bool.{ne_eqb, le-ltb, cases_lt}
 use Rattle.std.proofs.Math.Seq.{take-append-add}
 use Rattle.std.proofs.lemmas.List.FromFn.{length-range_with_len}
-use Rattle.std.proofs.lemmas.List.{length-map, length-drop, take_at, drop_at, take_all, length-take-le, length-replicate, take-append-le, drop-append-le, drop_all}
+use Rattle.std.proofs.lemmas.List.{length-map, length-drop, drop_at, length-take-le, length-replicate}
 use Rattle.std.proofs.lemmas.List.Elements.{All-nil, All-cons, All-head, All-tail, All-append, All-take, All-replicate}
 use Rattle.std.proofs.lemmas.Nat.{mod_below}
 use Rattle.bit_fields.specs.Bits.{bits_of, bits, bytes, number, AreBits}
-use Rattle.bit_fields.proofs.BitsLaws.{AreBits-append, AreBits-take, AreBits-bits, AreBytes-bytes, bits-bytes, length-bits, length-bits_of, bits-cons, bits-nil, bytes-nil, bytes-eight, number-append, number-bits_of, number-bits_of-below, bits-one, take-bits_of}
+use Rattle.bit_fields.proofs.BitsLaws.{AreBits-append, AreBits-take, AreBits-bits, AreBytes-bytes, bits-bytes, length-bits, length-bits_of, bits-cons, bytes-nil, bytes-eight, number-append, number-bits_of, number-bits_of-below, bits-one, take-bits_of}
 use Rattle.frame_header.specs.Fields.{HeaderFields, IsHeader}
-use Rattle.frame_header.specs.Tables.{class_of, overhead_of, side_size_of, length_of}
-use Rattle.side_info.specs.Side.{payload_bits, payload_bytes}
-use Rattle.info_header.specs.HeadText.{has_text, low_place, high_place, head_text_of}
+use Rattle.frame_header.specs.Tables.{class_of, overhead_of, side_size_of}
+use Rattle.side_info.specs.Side.{payload_bytes}
+use Rattle.info_header.specs.HeadText.{has_text, low_place, head_text_of}
 use Rattle.frame_writer.specs.Laid.{zeros, start_of, end_of, CanBeLaidFrom, laid, laid_from}
 use Rattle.frame_writer.specs.Frames.{front_of, area_in, Frame, piece_of, pieces, all_kept, areas_in, framed, frame_bytes}
 use Rattle.sync_survey.specs.Faults.{longest_file, surveyed, HoldsStream}
@@ -24,10 +24,10 @@ use Rattle.laid_files.proofs.LaidFrames.{areas-all}
 use Rattle.laid_files.proofs.EntryBytes.{shaped, length-front}
 use Rattle.std.proofs.Math.Path.{transport}
 use Rattle.drill_stream.specs.Draws.{next_state, draws, state_behind}
-use Rattle.drill_stream.specs.Drill.{drill_header, drawn_side, drawn_bytes, first_bits, drawn_payload, drawn_bits, drawn_frame, area_start, data_start, data_begin, before_frame, frame_at, drill_frames, drill_stream}
+use Rattle.drill_stream.specs.Drill.{drill_header, drawn_side, drawn_bytes, first_bits, drawn_payload, drawn_bits, area_start, data_start, data_begin, before_frame, frame_at, drill_frames, drill_stream}
 use Rattle.drill_stream.proofs.DrawsLaws.{length-drawn}
 use Rattle.drill_stream.proofs.DrawnSide.{drawn_side-pairs, drawn_side-fits, drawn_side-begin}
-use Rattle.drill_stream.proofs.MakingLaws.{area-is, length-is, length-spelled, length-payload, payload-within, before-ended, begin-few}
+use Rattle.drill_stream.proofs.MakingLaws.{area-is, length-spelled, length-payload, payload-within, before-ended, begin-few}
 use Rattle.drill_stream.proofs.BareStream.{IsBare, bare_fields, bare-survey, bare-holds}
 use Rattle.drill_stream.specs.Laws.{drill_fields, StreamsHold, StreamsAreSurveyed, StreamsAreLong, FirstBeginsInItsArea}
 

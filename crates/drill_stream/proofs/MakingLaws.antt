@@ -1,24 +1,23 @@
 -- Frames of a stream that are given to a writer one after another.
-use Rattle.std.proofs.Common.{◌≡◌, ℕ, zero, suc, ◌+◌, ◌-◌, ◌*◌, ◌/◌, ◌≤◌, ◌<◌, min, max, false, List, [], ◌∷◌, ◌++◌, length, take, drop, map, refl, sym, ◌∙◌, ap, ap₂, subst, arith, append_assoc, append-nil, zero-add, length-append}
+use Rattle.std.proofs.Common.{◌≡◌, ℕ, zero, suc, ◌+◌, ◌-◌, ◌*◌, ◌/◌, ◌≤◌, ◌<◌, min, false, List, [], ◌∷◌, ◌++◌, length, take, map, refl, sym, ◌∙◌, ap, ap₂, subst, arith, append_assoc, zero-add, length-append}
 use Rattle.std.specs.List.{range_with_len}
 use Rattle.std.proofs.lemmas.List.{length-take-le, length-replicate}
 use Rattle.std.proofs.lemmas.List.FromFn.{map-range_with_len_more}
-use Rattle.bit_fields.specs.Bits.{bits, bytes}
+use Rattle.bit_fields.specs.Bits.{bits}
 use Rattle.bit_fields.proofs.BitsLaws.{length-bits, length-bytes}
 use Rattle.frame_header.specs.Fields.{ClassFields}
 use Rattle.frame_header.specs.Tables.{class_of, area_of, length_of, rate_of, frequency_of, overhead_of, side_size_of, window_of}
-use Rattle.side_info.specs.Side.{payload_bits, payload_bytes}
 use Rattle.outside.specs.Files.{Files, appended, IsThere}
 use Rattle.outside.specs.Passed.{PassedOn, AppendedPrefix}
 use Rattle.outside.proofs.FilesLaws.{appended_twice, appended_nothing}
 use Rattle.outside.proofs.PassedLaws.{passed_then_prefix, prefix_in_front}
 use Rattle.frame_writer.specs.Laid.{zeros, BeginsWithin}
-use Rattle.frame_writer.specs.Frames.{Frame, Held, area_in, held_bytes, frame_bytes, pieces, reach_of, reach_with}
-use Rattle.frame_writer.specs.Writing.{Writing, writing, waiting_bytes, IsNew, IsWriterOf, WritesOn, WritesPart}
+use Rattle.frame_writer.specs.Frames.{Frame, Held, held_bytes, frame_bytes, pieces, reach_of, reach_with}
+use Rattle.frame_writer.specs.Writing.{Writing, waiting_bytes, IsNew, IsWriterOf, WritesOn, WritesPart}
 use Rattle.frame_writer.proofs.FrameLaws.{laid-steps, later-frames}
 use Rattle.drill_stream.specs.declared.making.Making.{Making}
 use Rattle.drill_stream.specs.Draws.{state_behind}
-use Rattle.drill_stream.specs.Drill.{drill_header, drawn_side, drawn_bytes, first_bits, drawn_payload, drawn_bits, drawn_frame, draws_of, Before, area_start, data_start, data_begin, before_next, before_frame, frame_at, drill_frames, drill_stream}
+use Rattle.drill_stream.specs.Drill.{drill_header, drawn_bytes, first_bits, drawn_payload, drawn_bits, drawn_frame, draws_of, Before, area_start, data_begin, before_next, before_frame, frame_at, drill_frames, drill_stream}
 use Rattle.drill_stream.specs.Making.{writing_in, IsNext, next_frame, IsBefore, HasMade}
 use Rattle.drill_stream.proofs.DrawsLaws.{length-drawn}
 use Rattle.drill_stream.proofs.DrawnSide.{drawn_side-room, drawn_side-begin}

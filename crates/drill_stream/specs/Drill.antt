@@ -1,6 +1,6 @@
 -- A stream made from a number: frames whose main data are drawn by chance and use the bit reservoir (main_data_begin, ISO/IEC 11172-3,
 -- 2.4.2.7). All are of MPEG-1, 128 kbit/s at 44,100 Hz in two channels, so 417 bytes long with an own area of 381.
-use Rattle.std.specs.Prelude.{◌≡◌, ℕ, zero, suc, ◌+◌, ◌-◌, ◌*◌, ◌/◌, ◌%◌, max, false, List, [], ◌∷◌, ◌++◌, length, take, map, sum, slice_index}
+use Rattle.std.specs.Prelude.{ℕ, zero, suc, ◌+◌, ◌-◌, ◌*◌, ◌/◌, ◌%◌, max, false, List, [], ◌∷◌, ◌++◌, length, take, map, slice_index}
 use Rattle.std.specs.List.{range_with_len}
 use Rattle.bit_fields.specs.Bits.{bits, bytes}
 use Rattle.frame_header.specs.declared.version.Version.TheVariants.{One}

@@ -1,4 +1,5 @@
 pub mod Draws
 pub mod Drill
 pub mod Making
+pub mod Summary
 pub mod Laws

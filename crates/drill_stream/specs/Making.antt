@@ -1,8 +1,8 @@
 -- Frames of a stream on their way to a file.
-use Rattle.std.specs.Prelude.{◌≡◌, ℕ, List, [], ◌++◌}
+use Rattle.std.specs.Prelude.{◌≡◌, ℕ, List, []}
 use Rattle.frame_header.specs.Tables.{class_of}
 use Rattle.outside.specs.Files.{Files, appended}
-use Rattle.frame_writer.specs.Frames.{Frame, Held, IsNextSettled, reach_of}
+use Rattle.frame_writer.specs.Frames.{Frame, IsNextSettled, reach_of}
 use Rattle.frame_writer.specs.Writing.{Writing, writing, IsWriterOf}
 use Rattle.drill_stream.specs.declared.making.Making.{Making}
 use Rattle.drill_stream.specs.Drill.{drill_header, data_begin, before_frame, drawn_frame}

@@ -9,7 +9,9 @@ mod frames;
 mod laws;
 mod making;
 mod stream;
+mod summary;
 
 pub use fault::StreamFault;
 pub use laws::{streams_are_long, streams_are_surveyed, streams_hold};
 pub use stream::write_stream;
+pub use summary::{Summary, send_summary};

@@ -79,12 +79,7 @@ impl Making {
     ///
     /// # Errors
     /// Where a write failed. Then a prefix of the stream of these frames was appended.
-    fn frames<D: Folder>(
-        &mut self,
-        count: u32,
-        folder: &mut D,
-        name: &str,
-    ) -> Result<(), Failed>
+    fn frames<D: Folder>(&mut self, count: u32, folder: &mut D, name: &str) -> Result<(), Failed>
         requires there { IsThere (D.files folder.old) name.now }
         requires new { IsNew (class_of drill_header_lem) self.old.writer }
         requires none { self.old.unsent ≡ [] }

@@ -28,7 +28,7 @@ pub fn write_stream<D: Folder>(
         appended (emptied (D.files folder.old) name.now) name.now (drill_stream seed count)) }
     ensures part { IsErrOf result StreamFault.Write → (D.files folder.new ≡ D.files folder.old) ⊎
         AppendedPrefix name.now (drill_stream seed count)
-            (emptied (D.files folder.old) name.now) (D.files folder.new) }
+        (emptied (D.files folder.old) name.now) (D.files folder.new) }
     ensures failed { IsErrOf result StreamFault.Write →
         WriteFailed (D.counts folder.old) (D.counts folder.new) }
     ensures kept { IsErrOf result StreamFault.Memory → D.files folder.new ≡ D.files folder.old }

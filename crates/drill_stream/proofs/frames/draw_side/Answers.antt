@@ -1,5 +1,5 @@
 -- Eight draws are the side information.
-use Rattle.std.proofs.Common.{◌∙◌, sym, ap, refl}
+use Rattle.std.proofs.Common.{◌∙◌, ap}
 use Rattle.drill_stream.specs.Draws.{draws, state_behind}
 use Rattle.side_info.specs.declared.side.Side.{Side}
 use Rattle.drill_stream.proofs.DrawnSide.{behind-twice, side-drawn}

@@ -1,5 +1,5 @@
 -- The bytes so far were drawn.
-use Rattle.std.proofs.Common.{◌≡◌, ◌++◌, map, drop}
+use Rattle.std.proofs.Common.{◌≡◌, ◌++◌, drop}
 use Rattle.drill_stream.specs.Draws.{state_behind}
 use Rattle.drill_stream.specs.Drill.{drawn_bytes}
 use Rattle.drill_stream.proofs.draws.Draws.fill.Given as goal

@@ -1,12 +1,11 @@
 -- The main data fit into the room for them.
-use Rattle.std.proofs.Common.{◌≡◌, ◌+◌, ◌*◌, ◌/◌, ◌≤◌, ◌∙◌, sym, ap, subst, length, arith}
+use Rattle.std.proofs.Common.{◌≡◌, ◌+◌, ◌/◌, ◌≤◌, ◌∙◌, ap, length, arith}
 use Rattle.frame_header.specs.Fields.{HeaderFields}
 use Rattle.frame_header.specs.Tables.{class_of, area_of}
 use Rattle.side_info.specs.declared.side.Side.{Side}
-use Rattle.side_info.specs.Side.{SideFits, payload_bits}
-use Rattle.frame_writer.specs.Frames.{reach_of}
+use Rattle.side_info.specs.Side.{payload_bits}
 use Rattle.drill_stream.specs.Draws.{state_behind}
-use Rattle.drill_stream.specs.Drill.{drill_header, drawn_side}
+use Rattle.drill_stream.specs.Drill.{drawn_side}
 use Rattle.drill_stream.proofs.DrawsLaws.{behind-sum}
 use Rattle.drill_stream.proofs.DrawnSide.{drawn_side-fits, drawn_side-room, drawn_side-begin}
 use Rattle.drill_stream.proofs.MakingLaws.{area-is, reach-most}
@@ -37,8 +36,16 @@ frame-requires-clause-within g c =
     let area : area_of (class_of c.drill_header.result) c.drill_header.result.slot c.drill_header.result.protected ≡ 381 =
     ap (λ (h : HeaderFields). area_of (class_of h) h.slot h.protected) c.drill_header.ensures ∙ area-is in
     let size : length c.draw_payload-payload.result ≤ c.draw_side-side.result.main_data_begin + area_of (class_of c.drill_header.result) c.drill_header.result.slot c.drill_header.result.protected =
-    omega (arith, area, c.draw_payload-payload.ensures.size, c.bits.ensures, ap payload_bits c.draw_side-side.ensures.side, drawn_side-room begin m.draws.state,
-      ap (λ (s : Side). s.main_data_begin) c.draw_side-side.ensures.side, drawn_side-begin begin m.draws.state) in
+    omega (
+      arith,
+      area,
+      c.draw_payload-payload.ensures.size,
+      c.bits.ensures,
+      ap payload_bits c.draw_side-side.ensures.side,
+      drawn_side-room begin m.draws.state,
+      ap (λ (s : Side). s.main_data_begin) c.draw_side-side.ensures.side,
+      drawn_side-begin begin m.draws.state,
+    ) in
     size
 
 pub frame-requires-clause-few : goal.frame-requires-clause-few

@@ -1,6 +1,5 @@
 -- One frame after another.
-use Rattle.std.proofs.Common.{◌≡◌, ◌+◌, ◌<◌, ◌∙◌, suc, refl, sym, ap, subst, arith}
-use Rattle.std.proofs.lemmas.Result.{err_from_is_err_and}
+use Rattle.std.proofs.Common.{◌≡◌, ◌+◌, ◌∙◌, suc, refl, sym, subst, arith}
 use Rattle.outside.proofs.PassedLaws.{on_err}
 use Rattle.outside.proofs.FilesLaws.{appended_there}
 use Rattle.outside.specs.Files.{IsThere}

@@ -1,5 +1,4 @@
 -- All frames, and then what waits of them.
-use Rattle.std.proofs.Common.{◌≡◌, ◌∙◌, sym, ap, subst}
 use Rattle.std.proofs.lemmas.Result.{on_ok_weaker, on_err_weaker}
 use Rattle.outside.proofs.PassedLaws.{on_err, passed_then, passed_then_prefix, passed_then_all, passed_there}
 use Rattle.drill_stream.specs.Making.{writing_in}
