@@ -7,3 +7,4 @@ pub mod PassLaws
 pub mod SentLaws
 pub mod KnownLaws
 mod SlotsLaws
+pub mod ShortLaws

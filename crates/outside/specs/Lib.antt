@@ -4,6 +4,7 @@ pub mod Held
 pub mod Plan
 pub mod Slots
 pub mod Memory
+pub mod Short
 pub mod Real
 pub mod Opening
 pub mod Faults

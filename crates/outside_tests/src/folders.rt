@@ -4,6 +4,7 @@ mod noticed;
 mod real;
 mod sending;
 mod shaky;
+mod short;
 mod slow;
 
 use outside::{Call, Failed, Folder, MemFolder, MemSink, read_full, send_all, write_all};
