@@ -36,7 +36,7 @@ long_take k n bytes within = long_cases k n bytes within _ _ refl refl
 -- ---- a block
 
 -- by so many of its first bytes a block of this kind is known
-abbrev known_by : Kind → ℕ
+abbrev pub known_by : Kind → ℕ
 known_by Id3v2 = 10
 known_by Id3v1 = 3
 known_by Ape = 32
@@ -63,7 +63,7 @@ length_as-take Id3v2 n bytes within = rw (part_take 6 4 n bytes (omega arith), g
 length_as-take Id3v1 n bytes within = refl
 length_as-take Ape n bytes within = rw (part_take 12 4 n bytes (omega arith)) refl
 
-front_as-take : (kind : Kind) (n : ℕ) (bytes : List ℕ) → known_by kind ≤ n → front_as kind (take n bytes) ≡ front_as kind bytes
+pub front_as-take : (kind : Kind) (n : ℕ) (bytes : List ℕ) → known_by kind ≤ n → front_as kind (take n bytes) ≡ front_as kind bytes
 front_as-take kind n bytes within = rw (begins-take kind n bytes within, length_as-take kind n bytes within) refl
 
 -- these bytes are within the block

@@ -16,7 +16,7 @@ use Rattle.sync_survey.proofs.ItemBytes.{IsItem, kept_item}
 -- ---- items of the front
 
 -- what may stand before the first frame may stand behind it
-stream_belongs : (part : Part) (item : Item) → belongs part item ≡ true → belongs Stream item ≡ true
+pub stream_belongs : (part : Part) (item : Item) → belongs part item ≡ true → belongs Stream item ≡ true
 stream_belongs part (Frame h) is = refl
 stream_belongs part Free is = is
 stream_belongs part (Block b) is = refl

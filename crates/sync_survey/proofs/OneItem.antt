@@ -62,7 +62,7 @@ four_bytes (a ∷ []) below long = absurd (omega (arith, long))
 four_bytes (a ∷ b ∷ rest) below long =
     result_cases _ (λ header. let ones = sync_byte a b (take 2 rest) (omega (arith, below)) (readable_sync _ (readable_cases _ _ refl header)) in omega (arith, ones, below))
 
-no_header : (bytes : List ℕ) → get_or bytes 0 0 < 255 → header_front bytes ≡ Err No
+pub no_header : (bytes : List ℕ) → get_or bytes 0 0 < 255 → header_front bytes ≡ Err No
 unfolding header_front
 no_header bytes below = no_header_by _ _ (λ long. four_bytes bytes below (leb-true 4 (length bytes) long))
 

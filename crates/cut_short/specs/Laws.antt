@@ -1,0 +1,31 @@
+-- What is at fault in a file that was cut short.
+use Rattle.std.specs.Prelude.{◌≡◌, ℕ, ◌≤◌, List, ◌++◌, length, take, Result, Ok, Err}
+use Rattle.sync_survey.specs.declared.survey_fault.SurveyFault.{SurveyFault}
+use Rattle.sync_survey.specs.declared.survey_fault.SurveyFault.TheVariants.{NoFrame, LostSync, Truncated}
+use Rattle.sync_survey.specs.MainData.{StreamFrame}
+use Rattle.sync_survey.specs.Faults.{SurveyFields, surveyed, stream_of, IsWellFormed}
+
+-- the first frames of a stream, or all
+abbrev pub IsFrontOf : List StreamFrame → List StreamFrame → Type 0
+IsFrontOf front stream = (rest : List StreamFrame) × (front ++ rest ≡ stream)
+
+-- there is no frame, or the file ends within a frame or a block, or what is left is neither
+abbrev pub IsCutFault : SurveyFault → Type 0
+IsCutFault (NoFrame at) = Unit {0}
+IsCutFault (LostSync at) = Unit {0}
+IsCutFault (Truncated at) = Unit {0}
+IsCutFault _ = ⊥
+
+-- what a survey of a file says that was cut out of the front of another: such a fault, or none, and then its stream is a front of the
+-- other's
+abbrev pub IsCutAnswer : List ℕ → List ℕ → Result SurveyFields SurveyFault → Type 0
+IsCutAnswer file front (Ok s) = IsWellFormed front × IsFrontOf (stream_of front) (stream_of file)
+IsCutAnswer file front (Err fault) = IsCutFault fault
+
+-- For every file without fault and without junk, and every number of bytes up to its length: so many of its first bytes have no fault,
+-- or their first fault is that there is no frame, a frame or block that isn't whole, or lost synchronisation. As many frames are allowed
+-- as the file has.
+abbrev pub PrefixFault : Type 0
+PrefixFault =
+    (file : List ℕ) (allowed : ℕ) (s : SurveyFields) (count : ℕ) → surveyed file allowed ≡ Ok s → s.junk ≡ s.first → count ≤ length file
+    → IsCutAnswer file (take count file) (surveyed (take count file) (length s.frames))

@@ -1,0 +1,6 @@
+//! Laws of files that were cut short. There is no code.
+#![tactic(auto)]
+
+mod laws;
+
+pub use laws::prefix_fault;
