@@ -65,7 +65,7 @@ octets-are : (count state : ℕ) → Rattle.bit_fields.specs.Bits.AreBytes (draw
 unfolding drawn_payload
 octets-are count state = AreBytes-bytes (spelled count (drawn_bytes ((count + 7) / 8) state)) (AreBits-spelled count (drawn_bytes ((count + 7) / 8) state))
 
-bytes-is : (begin state : ℕ) → payload_bytes (drawn_side begin state) ≡ (drawn_bits begin state + 7) / 8
+pub bytes-is : (begin state : ℕ) → payload_bytes (drawn_side begin state) ≡ (drawn_bits begin state + 7) / 8
 unfolding payload_bytes
 bytes-is begin state = refl
 
@@ -86,14 +86,14 @@ is_entry seed i =
 
 -- ---- all frames from one on
 
-abbrev from_on : ℕ → ℕ → ℕ → List Frame
+abbrev pub from_on : ℕ → ℕ → ℕ → List Frame
 from_on seed i count = map (frame_at seed) (range_with_len i count)
 
 entries-are : (seed i count : ℕ) → AreEntries (class_of drill_header) (from_on seed i count)
 entries-are seed i zero = tt
 entries-are seed i (suc count) = (is_entry seed i, entries-are seed (i + 1) count)
 
-ended-next : (seed i : ℕ) → (before_frame seed (suc i)).ended ≡ data_start i (before_frame seed i) + length (frame_at seed i).payload
+pub ended-next : (seed i : ℕ) → (before_frame seed (suc i)).ended ≡ data_start i (before_frame seed i) + length (frame_at seed i).payload
 unfolding before_frame
 ended-next seed i = refl
 
@@ -214,7 +214,7 @@ front-size seed i = length-front drill_header (frame_at seed i).kept.side header
 
 -- ---- the stream
 
-first-begin : (seed : ℕ) → (before_frame seed 0).ended ≡ 0
+pub first-begin : (seed : ℕ) → (before_frame seed 0).ended ≡ 0
 unfolding before_frame
 first-begin seed = refl
 

@@ -4,3 +4,4 @@ pub mod DrawnSide
 pub mod MakingLaws
 pub mod BareStream
 pub mod DrillLaws
+pub mod NoLeadIn

@@ -1,9 +1,14 @@
 -- What a survey tells of such a stream.
-use Rattle.std.specs.Prelude.{◌≡◌, ℕ, ◌*◌, ◌<◌, ◌≤◌, None, [], length, map, Ok}
-use Rattle.frame_header.specs.Tables.{class_of}
+use Rattle.std.specs.Prelude.{◌≡◌, ℕ, ◌*◌, ◌<◌, ◌≤◌, false, None, List, [], ◌∷◌, length, map, Contains, All, Ok}
+use Rattle.frame_header.specs.Fields.{HeaderFields, SlotFields}
+use Rattle.frame_header.specs.Tables.{class_of, window_of}
 use Rattle.sync_survey.specs.Faults.{SurveyFields, HoldsStream}
 use Rattle.sync_survey.specs.Survey.{survey_of}
 use Rattle.laid_files.specs.LaidFiles.{entry_of, rows_from}
+use Rattle.slot_plan.specs.declared.needs.Need.{Need}
+use Rattle.slot_plan.specs.declared.needs.Placed.{Placed}
+use Rattle.slot_plan.specs.Plans.{IsPlan}
+use Rattle.part_needs.specs.Needs.{need_of}
 use Rattle.drill_stream.specs.Drill.{drill_header, frame_at, drill_frames, drill_stream}
 
 -- there is no head, no block and no junk, and the frames stand one behind the other from the first byte on; none is lost
@@ -34,3 +39,14 @@ StreamsAreLong = (seed count : ℕ) → length (drill_stream seed count) ≡ 417
 -- the main data of the first frame begin in its own area
 abbrev pub FirstBeginsInItsArea : Type 0
 FirstBeginsInItsArea = (seed : ℕ) → (frame_at seed 0).kept.side.main_data_begin ≡ 0
+
+-- what the planner is given of such a stream
+abbrev pub drill_needs : ℕ → ℕ → List Need
+drill_needs seed count = map need_of (rows_from 0 (drill_frames seed count))
+
+-- Where each frame may keep its own slot, the frames have a layout without a lead-in, so that no plan of them has one: neither where each
+-- keeps its slot nor where each may have any.
+abbrev pub StreamsNeedNoLeadIn : Type 0
+StreamsNeedNoLeadIn =
+    (seed count : ℕ) (choices : HeaderFields → List SlotFields) (placed : List Placed) → Contains (choices drill_header) drill_header.slot
+    → IsPlan (window_of drill_header.version) choices (drill_needs seed count ∷ []) placed → All (λ p. p.lead_in ≡ false) placed

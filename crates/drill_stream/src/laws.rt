@@ -1,5 +1,5 @@
 //! Laws of streams made from a number. Each function does nothing: a proof that needs its law calls it.
-ghost use Rattle.drill_stream.specs.Laws.{StreamsHold, StreamsAreSurveyed, StreamsAreLong, FirstBeginsInItsArea};
+ghost use Rattle.drill_stream.specs.Laws.{StreamsHold, StreamsAreSurveyed, StreamsAreLong, FirstBeginsInItsArea, StreamsNeedNoLeadIn};
 
 /// Whatever the number, the stream of one frame or more is well-formed. Its frames have the fields and the main data that
 /// were drawn, and none is lost.
@@ -17,4 +17,10 @@ pub fn streams_are_surveyed()
 /// The stream has 417 bytes for each frame.
 pub fn streams_are_long()
     ensures { StreamsAreLong }
+{}
+
+/// No plan of the frames of the stream has a lead-in, where each may have its own slot: they have a layout without one. So a
+/// file into which they are packed has none.
+pub fn streams_need_no_lead_in()
+    ensures { StreamsNeedNoLeadIn }
 {}

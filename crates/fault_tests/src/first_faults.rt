@@ -592,7 +592,7 @@ struct Change {
     answer: Option<SurveyFault>,
 }
 
-static CHANGES: [Change; 21] = [
+static CHANGES: [Change; 23] = [
     Change {
         at: 417,
         value: 0x00,
@@ -617,6 +617,17 @@ static CHANGES: [Change; 21] = [
         at: 418,
         value: 0xf3,
         answer: Some(SurveyFault::Mixed(417)),
+    },
+    // MPEG-2.5, in which the frame would have 522 bytes.
+    Change {
+        at: 418,
+        value: 0xe2,
+        answer: Some(SurveyFault::Truncated(417)),
+    },
+    Change {
+        at: 418,
+        value: 0xe3,
+        answer: Some(SurveyFault::Truncated(417)),
     },
     Change {
         at: 418,

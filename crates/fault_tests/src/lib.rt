@@ -13,6 +13,8 @@ mod plain;
 #[cfg(test)]
 mod shapes;
 #[cfg(test)]
+mod shrunk;
+#[cfg(test)]
 mod stretches;
 #[cfg(test)]
 mod walks;
