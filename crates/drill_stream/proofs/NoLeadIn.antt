@@ -1,13 +1,12 @@
 -- The frames of a stream have a layout without a lead-in: that in which they were drawn.
-use Rattle.std.proofs.Common.{◌≡◌, ℕ, zero, suc, ◌+◌, ◌-◌, ◌*◌, ◌≤◌, false, List, [], ◌∷◌, ◌++◌, length, map, Option, Some, None, refl, sym, ◌∙◌, ap, subst, arith, append-nil}
+use Rattle.std.proofs.Common.{◌≡◌, ℕ, zero, suc, ◌+◌, false, List, [], ◌∷◌, length, map, Option, Some, None, refl, sym, ◌∙◌, ap, subst, arith, append-nil}
 use Rattle.std.specs.Prelude.{Contains}
-use Rattle.std.specs.List.{All, range_with_len}
+use Rattle.std.specs.List.{All}
 use Rattle.std.proofs.Math.Path.{transport}
 use Rattle.std.proofs.lemmas.List.Elements.{All-nil, All-cons}
 use Rattle.frame_header.specs.Fields.{HeaderFields, SlotFields}
-use Rattle.frame_header.specs.Tables.{class_of, area_of, window_of}
+use Rattle.frame_header.specs.Tables.{class_of}
 use Rattle.side_info.specs.Side.{payload_bytes}
-use Rattle.frame_writer.specs.Frames.{Frame}
 use Rattle.laid_files.specs.LaidFiles.{frame_length, rows_from}
 use Rattle.slot_plan.specs.declared.needs.Need.{Need}
 use Rattle.slot_plan.specs.declared.needs.Placed.{Placed}
@@ -17,7 +16,7 @@ use Rattle.slot_plan.specs.Parts.{Item, areas_for, open_of, item_of, items_of, I
 use Rattle.slot_plan.specs.Plans.{AreFor, IsPlan}
 use Rattle.slot_plan.proofs.AreaLaws.{Contains-area}
 use Rattle.part_needs.specs.Needs.{need_of}
-use Rattle.drill_stream.specs.Drill.{drill_header, drawn_side, drawn_bits, drawn_frame, area_start, data_start, data_begin, before_frame, frame_at, drill_frames}
+use Rattle.drill_stream.specs.Drill.{drill_header, drawn_side, drawn_bits, area_start, data_start, data_begin, before_frame, frame_at, drill_frames}
 use Rattle.drill_stream.specs.Laws.{drill_needs, StreamsNeedNoLeadIn}
 use Rattle.drill_stream.proofs.MakingLaws.{area-is, length-payload, payload-within, before-ended}
 use Rattle.drill_stream.proofs.DrillLaws.{from_on, bytes-is, ended-next, first-begin}

@@ -1,6 +1,6 @@
 //! Streams made from a number. The bytes are those of a program in another language that follows the rules of the generator.
 
-use drill_stream::{StreamFault, Summary, send_summary, write_stream};
+use drill_stream::{StreamFault, Summary, send_summary, stream_folder, write_stream};
 use outside::{Call, Failed, MemFolder, MemSink};
 use std::alloc::{AllocError, AllocGlobal, Global};
 use std::process::Abort;
@@ -67,6 +67,14 @@ fn one_frame(rt: HostRuntime) -> Result<(), Fail> {
     let mut folder = MemFolder::new(rt.alloc());
     assert_eq!(&rt; put_stream(rt.alloc(), &mut folder, 1, 1)?, Ok(()));
     expect_first(&rt, folder.get("s").unwrap_or(&[]));
+    Ok(())
+}
+
+#[test]
+fn a_folder_of_its_own(rt: HostRuntime) -> Result<(), Fail> {
+    let folder = stream_folder(rt.alloc(), 1, 1, "s", "p")?;
+    expect_first(&rt, folder.get("s").unwrap_or(&[]));
+    assert_eq!(&rt; folder.get("p").map(|bytes| bytes.len()), None);
     Ok(())
 }
 

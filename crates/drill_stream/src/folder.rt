@@ -1,0 +1,40 @@
+//! A folder in memory with a stream and room for the file that it is packed into.
+ghost use Rattle.std.specs.Prelude.{◌≡◌, ◌+◌, ◌*◌, ◌≤◌, Some, IfOk};
+ghost use Rattle.outside.specs.Memory.{contents_of, room_of};
+ghost use Rattle.drill_stream.specs.Drill.{drill_stream};
+
+use crate::stream::write_stream;
+use outside::MemFolder;
+use std::alloc::{AllocError, Global};
+
+/// The bytes of a frame of the stream.
+const FRAME: u64 = 417;
+
+/// The most bytes of a frame that is written: one of 320 kbit/s at 32,000 Hz, or of 160 kbit/s at 8,000 Hz, padded.
+const LONGEST: u64 = 1441;
+
+/// A folder in memory that holds the stream of this number, of so many frames, under the one name, and that has under the
+/// other room for as many frames, an Info frame and a lead-in, each as long as a frame can be.
+///
+/// # Errors
+/// Where there is no memory.
+pub fn stream_folder(
+    alloc: Global,
+    seed: u32,
+    count: u32,
+    stream: &str,
+    packed: &str,
+) -> Result<MemFolder, AllocError>
+    ensures stream { IfOk result (λ folder. contents_of folder stream.now
+        ≡ Some (drill_stream seed count)) }
+    ensures room { IfOk result (λ folder. (count + 2) * 1441 ≤ room_of folder packed.now) }
+{
+    let count_of = u64::from(count);
+    let mut folder = MemFolder::new(alloc);
+    folder.reserve(stream, FRAME * count_of)?;
+    let Ok(()) = write_stream(alloc, seed, count, &mut folder, stream) else {
+        return Err(AllocError);
+    };
+    folder.reserve(packed, LONGEST * (count_of + 2))?;
+    Ok(folder)
+}
