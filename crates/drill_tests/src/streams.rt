@@ -78,8 +78,16 @@ fn a_folder_of_its_own(rt: HostRuntime) -> Result<(), Fail> {
     Ok(())
 }
 
+/// A number made of all bytes, each of which changes it.
+fn hash_of(bytes: &[u8]) -> u32 {
+    bytes.iter().fold(0, |hash: u32, byte| {
+        hash.wrapping_mul(31).wrapping_add(u32::from(*byte))
+    })
+}
+
 fn expect_fronts(rt: &impl Abort, stream: &[u8]) {
     assert!(rt; stream.len() == 1251);
+    assert_eq!(rt; hash_of(stream), 2_747_035_911);
     for (frame, front) in stream.chunks(417).zip(&FRONTS) {
         assert!(rt; frame.starts_with(front));
     }
