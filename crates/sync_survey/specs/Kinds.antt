@@ -33,6 +33,10 @@ HasRightNumbers (TooLong size) = longest_file < size
 HasRightNumbers (Shrunk first second) = second < first
 HasRightNumbers _ = Unit {0}
 
+-- the file isn't refused: a call failed, the file became shorter, or there is no memory
+abbrev pub IsFromOutside : SurveyFault → Type 0
+IsFromOutside fault = kind_of fault ≡ IsRefused → ⊥
+
 -- what stands for each kind
 pub record ByKind {ℓ} (A : Type ℓ) : Type ℓ where
   pub absent : A

@@ -17,7 +17,8 @@ use Rattle.sync_survey.specs.MainData.{place, end_before, is_lost}
 use Rattle.sync_survey.specs.Faults.{SurveyFields, surveyed, data_faults, faults_from, fault_place, NoneBefore, longest_file}
 use Rattle.sync_survey.specs.Start.{start_of}
 use Rattle.sync_survey.specs.Walk.{head_of}
-use Rattle.sync_survey.specs.Kinds.{kind_of, by_kind, HasRightNumbers}
+use Rattle.sync_survey.specs.Kinds.{InputKind, kind_of, by_kind, HasRightNumbers}
+use Rattle.sync_survey.specs.Kinds.InputKind.{IsRefused}
 
 -- the survey of a file with these bytes, or why there is none: it is too long, or else its first fault
 unfoldable pub survey_of : List ℕ → ℕ → Result SurveyFields SurveyFault
@@ -77,6 +78,10 @@ pub record IsRefusal (name : List ℕ) (files : Files) (allowed : ℕ) (before a
 -- so refused, whatever number of frames is allowed
 abbrev pub IsEarlyRefusal : List ℕ → Files → Counts → Counts → SurveyFault → Type 0
 IsEarlyRefusal name files before after fault = (allowed : ℕ) → IsRefusal name files allowed before after fault
+
+-- where the fault refuses the name's file, it is that of its length
+abbrev pub IsOfLength : List ℕ → Files → SurveyFault → Type 0
+IsOfLength name files fault = kind_of fault ≡ IsRefused → (bytes : List ℕ) → Holds files name bytes → fault ≡ TooLong (length bytes)
 
 -- ---- what is known of the file while it is read
 

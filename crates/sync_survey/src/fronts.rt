@@ -5,6 +5,7 @@ ghost use Rattle.outside.specs.Counts.{OnlyReads};
 ghost use Rattle.outside.specs.Feed.{IsFedFrom};
 ghost use Rattle.sync_survey.specs.Runs.{run, block_as, blocks_of};
 ghost use Rattle.sync_survey.specs.Start.{front_end_of};
+ghost use Rattle.sync_survey.specs.Kinds.{IsFromOutside};
 ghost use Rattle.sync_survey.specs.Survey.{HasLength, IsEarlyRefusal, BlocksAreLaid};
 
 use crate::items::Item;
@@ -32,7 +33,7 @@ pub(crate) fn keep_block(
 
 /// Passes the blocks and zero bytes at the front of the file, keeps the blocks, and answers where neither
 /// stands.
-pub(crate) fn pass_front<D: Folder>(
+pub fn pass_front<D: Folder>(
     feed: &mut Feed,
     folder: &mut D,
     name: &str,
@@ -51,6 +52,7 @@ pub(crate) fn pass_front<D: Folder>(
     ensures done { OnOk result (D.counts folder.new ≡ D.counts folder.old) }
     ensures refused { IfErr result (IsEarlyRefusal name.now (D.files folder.old)
         (D.counts folder.old) (D.counts folder.new)) }
+    ensures outside { IfErr result IsFromOutside }
     ensures fed { IsFedFrom feed.new (D.files folder.new) name.now }
     ensures files { D.files folder.new ≡ D.files folder.old }
     ensures counts { OnlyReads (D.counts folder.old) (D.counts folder.new) }

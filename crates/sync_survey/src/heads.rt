@@ -7,6 +7,7 @@ ghost use Rattle.sync_survey.specs.declared.items.Item.TheVariants.{Frame};
 ghost use Rattle.sync_survey.specs.Items.{size_of};
 ghost use Rattle.sync_survey.specs.Walk.{head_by, own_bytes, numbered_at, IsFrameOf};
 ghost use Rattle.sync_survey.specs.MainData.{head_area as head_area_lem};
+ghost use Rattle.sync_survey.specs.Kinds.{IsFromOutside};
 ghost use Rattle.sync_survey.specs.Survey.{HasLength, IsHeadOf, IsEarlyRefusal};
 
 use crate::looks::look;
@@ -16,7 +17,7 @@ use info_header::head_text;
 use outside::{Feed, Folder};
 
 /// The head that the frame is, where it is one. The first of the bytes are the frame's, all of them.
-fn head_in(frame: &PlacedFrame, bytes: &[u8]) -> Option<Head>
+pub fn head_in(frame: &PlacedFrame, bytes: &[u8]) -> Option<Head>
     ensures most { length_of (class_of frame.now.header) frame.now.header.slot ≤ 1441 }
     ensures head { result ≡ head_by frame.now (own_bytes frame.now bytes.now) }
     ensures same { IfSome result (IsFrameOf frame.now) }
@@ -33,7 +34,7 @@ fn head_in(frame: &PlacedFrame, bytes: &[u8]) -> Option<Head>
 
 /// The head that the first frame is, where it is one.
 #[tactic(auto, unfolding(crate::specs::Walk::head_of))]
-pub(crate) fn find_head<D: Folder>(
+pub fn find_head<D: Folder>(
     feed: &mut Feed,
     folder: &mut D,
     name: &str,
@@ -49,6 +50,7 @@ pub(crate) fn find_head<D: Folder>(
     ensures done { OnOk result (D.counts folder.new ≡ D.counts folder.old) }
     ensures refused { IfErr result (IsEarlyRefusal name.now (D.files folder.old)
         (D.counts folder.old) (D.counts folder.new)) }
+    ensures outside { IfErr result IsFromOutside }
     ensures fed { IsFedFrom feed.new (D.files folder.new) name.now }
     ensures files { D.files folder.new ≡ D.files folder.old }
     ensures counts { OnlyReads (D.counts folder.old) (D.counts folder.new) }
@@ -58,7 +60,7 @@ pub(crate) fn find_head<D: Folder>(
 }
 
 /// The bytes of the head that count as main data.
-pub(crate) fn head_area(head: &Option<Head>) -> u64
+pub fn head_area(head: &Option<Head>) -> u64
     ensures area { result ≡ head_area_lem head.now }
     ensures most { result ≤ 1441 }
 {
@@ -69,7 +71,7 @@ pub(crate) fn head_area(head: &Option<Head>) -> u64
 }
 
 /// Where the numbered frames begin: at the first frame, or behind it where that is the head.
-pub(crate) fn numbered_from(first: &PlacedFrame, head: &Option<Head>) -> u64
+pub fn numbered_from(first: &PlacedFrame, head: &Option<Head>) -> u64
     requires { first.now.offset + size_of (Frame first.now.header) ≤ 2 ^ 62 }
     ensures at { result ≡ numbered_at first.now head.now }
     ensures within { result ≤ first.now.offset + size_of (Frame first.now.header) }

@@ -39,7 +39,7 @@ fn header_front(bytes: &[u8]) -> Result<Header, NotHeader>
 /// The item at the front of the bytes.
 #[inline(always)]
 #[tactic(auto, unfolding(crate::specs::Items::item_front))]
-pub(crate) fn item_front(bytes: &[u8]) -> Item
+pub fn item_front(bytes: &[u8]) -> Item
     ensures { result ≡ item_front_lem bytes.now }
 {
     match header_front(bytes) {
@@ -85,7 +85,7 @@ impl Item {
 }
 
 /// Whether version, sampling frequency and number of channels are the same.
-pub(crate) fn is_same_class(a: Class, b: Class) -> bool
+pub fn is_same_class(a: Class, b: Class) -> bool
     ensures { result ≡ same_class a b }
 {
     a.is_same(b)

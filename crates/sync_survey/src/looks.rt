@@ -5,7 +5,8 @@ ghost use Rattle.outside.specs.Files.{Holds};
 ghost use Rattle.outside.specs.Counts.{OnlyReads};
 ghost use Rattle.outside.specs.Feed.{IsFedFrom};
 ghost use Rattle.sync_survey.specs.Looks.{look_size, Shows};
-ghost use Rattle.sync_survey.specs.Survey.{HasLength, IsEarlyRefusal};
+ghost use Rattle.sync_survey.specs.Kinds.{IsFromOutside};
+ghost use Rattle.sync_survey.specs.Survey.{HasLength, IsEarlyRefusal, IsOfLength};
 
 use crate::survey_fault::SurveyFault;
 use outside::{Feed, FindFault, Folder};
@@ -17,13 +18,14 @@ const LONGEST_FILE: u64 = 1_073_741_824;
 const LOOK_SIZE: u64 = 4096;
 
 /// The length of the file in bytes, where it may have it.
-pub(crate) fn find_length<D: Folder>(folder: &mut D, name: &str) -> Result<u64, SurveyFault>
+pub fn find_length<D: Folder>(folder: &mut D, name: &str) -> Result<u64, SurveyFault>
     ensures found { IfOk result (HasLength (D.files folder.old) name.now) }
     ensures octets { IfOk result (λ _. (bytes : List ℕ) → Holds (D.files folder.old) name.now bytes
         → AreBytes bytes) }
     ensures done { OnOk result (D.counts folder.new ≡ D.counts folder.old) }
     ensures refused { IfErr result (IsEarlyRefusal name.now (D.files folder.old)
         (D.counts folder.old) (D.counts folder.new)) }
+    ensures length { IfErr result (IsOfLength name.now (D.files folder.old)) }
     ensures files { D.files folder.new ≡ D.files folder.old }
     ensures counts { OnlyReads (D.counts folder.old) (D.counts folder.new) }
 {
@@ -37,7 +39,7 @@ pub(crate) fn find_length<D: Folder>(folder: &mut D, name: &str) -> Result<u64, 
 
 /// Looks at the file, which was found with so many bytes, from an offset within them on, and answers how many are left
 /// there. The feed gives 4,096 of them, or all where there are fewer.
-pub(crate) fn look<D: Folder>(
+pub fn look<D: Folder>(
     feed: &mut Feed,
     folder: &mut D,
     name: &str,
@@ -54,6 +56,7 @@ pub(crate) fn look<D: Folder>(
     ensures done { OnOk result (D.counts folder.new ≡ D.counts folder.old) }
     ensures refused { IfErr result (IsEarlyRefusal name.now (D.files folder.old)
         (D.counts folder.old) (D.counts folder.new)) }
+    ensures outside { IfErr result IsFromOutside }
     ensures fed { IsFedFrom feed.new (D.files folder.new) name.now }
     ensures files { D.files folder.new ≡ D.files folder.old }
     ensures counts { OnlyReads (D.counts folder.old) (D.counts folder.new) }

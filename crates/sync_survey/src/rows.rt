@@ -25,18 +25,18 @@ pub struct Row {
 
 /// The main data before a frame.
 #[derive(Clone, Copy)]
-pub(crate) struct Before {
+pub struct Before {
     /// How many bytes they are: the place where the own area of the frame begins among them.
-    pub(crate) place: u64,
+    pub place: u64,
     /// The place where those of the last frame end that is neither silent nor lost; 0 where there is none.
-    pub(crate) ended: u64,
+    pub ended: u64,
 }
 
 /// What a frame without fault leaves: whether it is lost, and the main data before the next frame.
 #[derive(Clone, Copy)]
-pub(crate) struct Behind {
-    pub(crate) lost: bool,
-    pub(crate) before: Before,
+pub struct Behind {
+    pub lost: bool,
+    pub before: Before,
 }
 
 /// The fault of the frame's check word, where it has one and it isn't the right one.
@@ -77,7 +77,7 @@ impl Before {
 
     /// What the frame leaves, whose own area has so many bytes, or the first fault of its main data. A lost
     /// frame has none.
-    fn behind(&self, row: &Row, area: u32) -> Result<Behind, SurveyFault>
+    pub fn behind(&self, row: &Row, area: u32) -> Result<Behind, SurveyFault>
         requires bound { self.now.place ≤ 2 ^ 62 }
         requires area { area ≡ own_area row.now.header }
         requires few { area ≤ 1441 }

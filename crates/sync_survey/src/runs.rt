@@ -31,9 +31,9 @@ fn belongs(part: Part, item: &Item) -> bool
 /// A whole item, and how many bytes are passed with it: its own, and behind a zero byte all zero bytes that
 /// were seen.
 #[derive(Clone, Copy)]
-pub(crate) struct Step {
-    pub(crate) item: Item,
-    pub(crate) size: u64,
+pub struct Step {
+    pub item: Item,
+    pub size: u64,
 }
 
 /// How many zero bytes stand at the front.
@@ -58,11 +58,14 @@ fn passed(item: &Item, size: u64, front: &[u8]) -> u64
 
 /// The item of the part at the front of the bytes that a look has shown, where it is whole: so many bytes
 /// are left of the file there.
-pub(crate) fn step_at(part: Part, front: &[u8], left: u64) -> Option<Step>
+pub fn step_at(part: Part, front: &[u8], left: u64) -> Option<Step>
     requires { length front.now ≤ left }
     ensures step { (file : List ℕ) (at : ℕ) → Shows file at front.now left
         → IsStep part file at result }
     ensures item { IfSome result (λ s. s.item ≡ item_front_lem front.now) }
+    ensures zeros { IfSome result (λ s. s.item ≡ Item.Zero
+        → s.size ≡ prefix_len (λ b. b == 0) front.now) }
+    ensures own { IfSome result (λ s. (s.item ≡ Item.Zero → ⊥) → s.size ≡ size_of s.item) }
     ensures least { IfSome result (λ s. size_of s.item ≤ s.size) }
     ensures most { IfSome result (λ s. (h : HeaderFields) → s.item ≡ Item.Frame h
         → size_of s.item ≤ 1441) }

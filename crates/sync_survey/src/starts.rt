@@ -40,7 +40,7 @@ fn bytes_behind(bytes: &[u8], place: usize) -> &[u8]
 /// The anchored frame at the offset where a look has shown these bytes, and so many are left: it is whole,
 /// and at its end stands a header of its class, the beginning of a block, or the end of the file.
 #[tactic(auto, unfolding(crate::specs::Start::anchored_frame))]
-pub(crate) fn anchored_frame(front: &[u8], offset: u64, left: u64) -> Option<PlacedFrame>
+pub fn anchored_frame(front: &[u8], offset: u64, left: u64) -> Option<PlacedFrame>
     ensures frame { (file : List ℕ) → Shows file offset front.now left
         → result ≡ anchored_frame_lem file offset }
     ensures offset { IfSome result (λ p. p.offset ≡ offset) }

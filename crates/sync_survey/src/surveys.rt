@@ -9,11 +9,11 @@ use frame_header::Class;
 /// What is known of a file without a fault. Offsets and lengths are in bytes.
 #[derive(Drop)]
 pub struct Survey {
-    pub(crate) frames: Vec<Row>,
-    pub(crate) blocks: Vec<Piece>,
-    pub(crate) head: Option<Head>,
-    pub(crate) start: Start,
-    pub(crate) length: u64,
+    pub frames: Vec<Row>,
+    pub blocks: Vec<Piece>,
+    pub head: Option<Head>,
+    pub start: Start,
+    pub length: u64,
 }
 
 impl Survey {
