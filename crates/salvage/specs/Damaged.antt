@@ -1,0 +1,113 @@
+-- What is read of a damaged file.
+use Rattle.std.specs.Prelude.{◌≡◌, ℕ, ◌-◌, nat_lt, if◌then◌else◌, List, [], ◌∷◌, ◌++◌, length, slice_get, Option, Some, None, Result, Ok, Err}
+use Rattle.frame_header.specs.Tables.{class_of}
+use Rattle.outside.specs.Files.{Files, Holds, IsThere, IsMissing}
+use Rattle.outside.specs.Counts.{Counts, Rose}
+use Rattle.sync_survey.specs.declared.places.Head.{Head}
+use Rattle.sync_survey.specs.declared.places.PlacedFrame.{PlacedFrame}
+use Rattle.sync_survey.specs.declared.rows.Row.{Row}
+use Rattle.sync_survey.specs.declared.runs.Part.TheVariants.{Front}
+use Rattle.sync_survey.specs.declared.survey_fault.SurveyFault.{SurveyFault}
+use Rattle.sync_survey.specs.declared.survey_fault.SurveyFault.TheVariants.{TooLong, NoFrame, TooManyFrames}
+use Rattle.sync_survey.specs.Runs.{run, blocks_of}
+use Rattle.sync_survey.specs.Start.{front_end_of}
+use Rattle.sync_survey.specs.Walk.{head_of, numbered_at}
+use Rattle.sync_survey.specs.Faults.{SurveyFields, tells, longest_file}
+use Rattle.sync_survey.specs.Kinds.{kind_of, by_kind, HasRightNumbers}
+use Rattle.sync_survey.specs.Survey.{HasShrunk, AsksForMemory}
+use Rattle.salvage.specs.declared.damaged.Damaged.{Damaged}
+use Rattle.salvage.specs.declared.gap.Gap.{Gap}
+use Rattle.salvage.specs.Walk.{first_frame, PlacedThing, things, gaps_of, blocks_in}
+use Rattle.salvage.specs.Sound.{runs_of, judged_runs}
+
+-- a file may have so many frames
+abbrev pub most_frames : ℕ
+most_frames = 2900000
+
+-- What is read: the frames, each marked that becomes an empty one, the blocks outside of gaps, and the head, as a survey tells of them;
+-- and the gaps.
+pub record DamagedFields : Type 0 where
+  pub survey : SurveyFields
+  pub gaps : List Gap
+
+-- the bytes between two offsets are a gap, where there are some
+abbrev pub gap_between : ℕ → ℕ → List Gap
+gap_between from to = if nat_lt from to then record { offset = from; length = to - from } ∷ [] else []
+
+-- what stands behind the head, or from the first frame on where that is none
+abbrev pub things_from : List ℕ → PlacedFrame → List PlacedThing
+things_from file first = things file (class_of first.header) (numbered_at first (head_of file first))
+
+unfoldable pub damaged_from : List ℕ → ℕ → PlacedFrame → DamagedFields
+damaged_from file front_end first =
+    let head = head_of file first in
+    let found = things_from file first in record {
+      survey = record {
+        frames = judged_runs file head (runs_of found);
+        blocks = blocks_of (run Front file 0).items ++ blocks_in found;
+        head = head;
+        junk = front_end;
+        first = first.offset;
+        class = class_of first.header;
+        length = length file;
+      };
+      gaps = gap_between front_end first.offset ++ gaps_of found;
+    }
+
+-- the first frame past the number that a file may have is refused
+abbrev pub unless_too_many : Option Row → DamagedFields → Result DamagedFields SurveyFault
+unless_too_many None d = Ok d
+unless_too_many (Some r) d = Err (TooManyFrames r.offset)
+
+-- there has to be a frame besides the head
+abbrev pub counted : ℕ → List Row → DamagedFields → Result DamagedFields SurveyFault
+counted front_end [] d = Err (NoFrame front_end)
+counted front_end (r ∷ rows) d = unless_too_many (slice_get (r ∷ rows) most_frames) d
+
+abbrev pub with_number : ℕ → DamagedFields → Result DamagedFields SurveyFault
+with_number front_end d = counted front_end d.survey.frames d
+
+abbrev pub damaged_by : List ℕ → ℕ → Option PlacedFrame → Result DamagedFields SurveyFault
+damaged_by file front_end None = Err (NoFrame front_end)
+damaged_by file front_end (Some first) = with_number front_end (damaged_from file front_end first)
+
+-- what is read of a file of a length that it may have
+unfoldable pub damaged : List ℕ → Result DamagedFields SurveyFault
+damaged file = damaged_by file (front_end_of file) (first_frame file (front_end_of file))
+
+-- what is read of a file with these bytes, or why it is refused
+unfoldable pub damaged_of : List ℕ → Result DamagedFields SurveyFault
+damaged_of file = if nat_lt longest_file (length file) then Err (TooLong (length file)) else damaged file
+
+-- what the code tells
+abbrev pub tells_of : Damaged → DamagedFields
+tells_of d = record { survey = tells d.survey; gaps = d.gaps.items }
+
+-- where the name's file is told, this is read of it
+abbrev pub IsReadOf : List ℕ → Files → DamagedFields → Type 0
+IsReadOf name files d = (bytes : List ℕ) → Holds files name bytes → damaged_of bytes ≡ Ok d
+
+-- ---- refusals
+
+-- the file is there, its bytes are refused so, and nothing is counted
+pub record RefusesDamaged (name : List ℕ) (files : Files) (before after : Counts) (fault : SurveyFault) : Type 0 where
+  pub there : IsThere files name
+  pub bytes : (bytes : List ℕ) → Holds files name bytes → damaged_of bytes ≡ Err fault
+  pub counts : after ≡ before
+
+-- why nothing is read, by the fault's kind: the file isn't there, could not be read, became shorter, there is no memory, or it is refused
+abbrev pub IsReadFault : List ℕ → Files → Counts → Counts → SurveyFault → Type 0
+IsReadFault name files before after fault = by_kind
+    (record {
+      absent = IsMissing files name × Rose before.misses after.misses;
+      unread = Rose before.read_faults after.read_faults;
+      shorter = HasShrunk files before after;
+      too_much = AsksForMemory name files before after;
+      refused = RefusesDamaged name files before after fault;
+    })
+    (kind_of fault)
+
+-- with the right numbers
+pub record IsReadRefusal (name : List ℕ) (files : Files) (before after : Counts) (fault : SurveyFault) : Type 0 where
+  pub cause : IsReadFault name files before after fault
+  pub numbers : HasRightNumbers fault

@@ -1,0 +1,7 @@
+-- What the contracts of this crate cite.
+pub mod Usable
+pub mod Walk
+pub mod Sound
+pub mod Damaged
+pub mod Judged
+pub mod Steps

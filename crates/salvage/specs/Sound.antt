@@ -1,0 +1,55 @@
+-- The frames between gaps, and which of them have their main data (main_data_begin, ISO/IEC 11172-3 and 13818-3, 2.4.2.7).
+use Rattle.std.specs.Prelude.{ℕ, zero, suc, ◌&&◌, not, if◌then◌else◌, Bool, List, [], ◌∷◌, ◌++◌, map, flat_map, slice_get, Option, Some, None, option_to_list}
+use Rattle.std.specs.List.{enumerate_from}
+use Rattle.sync_survey.specs.declared.places.Head.{Head}
+use Rattle.sync_survey.specs.declared.places.PlacedFrame.{PlacedFrame}
+use Rattle.sync_survey.specs.declared.rows.Row.{Row}
+use Rattle.sync_survey.specs.Runs.{frame_as}
+use Rattle.sync_survey.specs.MainData.{rows_of, place, is_silent, points_too_far, end_of_data}
+use Rattle.sync_survey.specs.Faults.{overlaps, overruns}
+use Rattle.salvage.specs.Walk.{Thing, IsItem, IsGap, PlacedThing}
+
+-- ---- runs of frames
+
+-- a run begins with the first frame, and one behind each gap
+pub record FrameRuns : Type 0 where
+  pub first : List PlacedFrame
+  pub later : List (List PlacedFrame)
+
+-- these runs behind a thing: a gap ends a run, and a frame belongs to the first
+abbrev pub runs_behind : ℕ → Thing → FrameRuns → FrameRuns
+runs_behind at (IsItem item) runs = record { first = option_to_list (frame_as at item) ++ runs.first; later = runs.later }
+runs_behind at (IsGap n) runs = record { first = []; later = runs.first ∷ runs.later }
+
+abbrev pub runs_of : List PlacedThing → FrameRuns
+runs_of [] = record { first = []; later = [] }
+runs_of (t ∷ ts) = runs_behind t.offset t.thing (runs_of ts)
+
+-- ---- sound frames
+
+-- The main data of a frame begin neither before all main data of its run nor before the end of those before it, and end within its own
+-- area: by the place of its own area among the main data of the run, and where those before it end.
+abbrev pub is_sound : ℕ → ℕ → Row → Bool
+is_sound place ended r = not (points_too_far place r) && not (overlaps place ended r) && not (overruns place r)
+
+-- where the main data end behind a frame: one that isn't sound, or has none, moves no end
+abbrev pub sound_end : ℕ → ℕ → Option Row → ℕ
+sound_end place ended None = ended
+sound_end place ended (Some r) = if is_sound place ended r && not (is_silent r) then end_of_data place r else ended
+
+-- where the main data end that stand before frame i of a run: those of the last sound frame before it that has some, or 0
+unfoldable pub end_of_sound : Option Head → List Row → ℕ → ℕ
+end_of_sound head rows zero = 0
+end_of_sound head rows (suc i) = sound_end (place head rows i) (end_of_sound head rows i) (slice_get rows i)
+
+-- frame i of a run, marked where it isn't sound: it becomes an empty frame
+abbrev pub judged_row : Option Head → List Row → ℕ → Row → Row
+judged_row head rows i r = record r { lost = not (is_sound (place head rows i) (end_of_sound head rows i) r) }
+
+-- all frames of a run, before which the head's main data stand where there is one
+unfoldable pub judged : Option Head → List Row → List Row
+judged head rows = map (λ (p : ℕ × Row). judged_row head rows p.0 p.1) (enumerate_from 0 rows)
+
+-- those of all runs
+abbrev pub judged_runs : List ℕ → Option Head → FrameRuns → List Row
+judged_runs file head runs = judged head (rows_of file runs.first) ++ flat_map (λ run. judged None (rows_of file run)) runs.later

@@ -1,0 +1,38 @@
+-- Frames of a damaged file that can be used.
+use Rattle.std.specs.Prelude.{ℕ, ◌==◌, ◌&&◌, ◌||◌, not, if◌then◌else◌, Bool, List, length, drop, Option, Some, None, is_some, filter_map, slice_get}
+use Rattle.std.specs.List.{range_with_len}
+use Rattle.frame_header.specs.Fields.{HeaderFields, same_class}
+use Rattle.frame_header.specs.Tables.{class_of}
+use Rattle.side_info.specs.Frame.{word_said, word_right}
+use Rattle.sync_survey.specs.declared.places.PlacedFrame.{PlacedFrame}
+use Rattle.sync_survey.specs.Start.{anchored_frame}
+use Rattle.sync_survey.specs.Walk.{own_bytes, head_by}
+use Rattle.salvage.specs.declared.usable.Role.{Role}
+use Rattle.salvage.specs.declared.usable.Role.TheVariants.{First, Later}
+
+-- the frame that these bytes begin with has no check word, or the right one
+abbrev pub has_right_word : HeaderFields → List ℕ → Bool
+has_right_word h bytes = not h.protected || (word_said bytes == word_right h bytes)
+
+-- it is a head
+abbrev pub is_head : PlacedFrame → List ℕ → Bool
+is_head p bytes = is_some (head_by p (own_bytes p bytes))
+
+-- A whole frame is usable for a role, by the bytes from its first on: its check word is right, and as a later frame it is of the class of
+-- the first frame. As the first frame it may be a head, whose check word isn't judged.
+abbrev pub is_usable : Role → PlacedFrame → List ℕ → Bool
+is_usable First p bytes = has_right_word p.header bytes || is_head p bytes
+is_usable (Later class) p bytes = same_class (class_of p.header) class && has_right_word p.header bytes
+
+-- the frame of the file, where it is usable
+abbrev pub if_usable : List ℕ → Role → Option PlacedFrame → Option PlacedFrame
+if_usable file role None = None
+if_usable file role (Some p) = if is_usable role p (drop p.offset file) then Some p else None
+
+-- the anchored frame at the offset, where it is usable
+unfoldable pub usable_anchored : List ℕ → Role → ℕ → Option PlacedFrame
+usable_anchored file role at = if_usable file role (anchored_frame file at)
+
+-- the frame at the least offset, from one on, where a usable anchored one stands
+unfoldable pub next_usable : List ℕ → Role → ℕ → Option PlacedFrame
+next_usable file role from = slice_get (filter_map (usable_anchored file role) (range_with_len from (length file))) 0

@@ -1,0 +1,93 @@
+-- What stands in a damaged file: the first frame, and from there on items and gaps.
+use Rattle.std.specs.Prelude.{ℕ, zero, suc, ◌+◌, ◌-◌, nat_lt, if◌then◌else◌, List, [], ◌∷◌, length, drop, filter_map, Option, Some, None, option_and_then}
+use Rattle.core.specs.Option.{option_or}
+use Rattle.frame_header.specs.Fields.{ClassFields}
+use Rattle.sync_survey.specs.declared.items.Item.{Item}
+use Rattle.sync_survey.specs.declared.items.Item.TheVariants.{Frame, Free, Block, Zero, End, Nothing}
+use Rattle.sync_survey.specs.declared.places.PlacedFrame.{PlacedFrame}
+use Rattle.sync_survey.specs.declared.places.Piece.{Piece}
+use Rattle.sync_survey.specs.declared.runs.Part.TheVariants.{Stream}
+use Rattle.sync_survey.specs.Items.{size_of}
+use Rattle.sync_survey.specs.Runs.{item_of, frame_as, block_as}
+use Rattle.salvage.specs.declared.gap.Gap.{Gap}
+use Rattle.salvage.specs.declared.usable.Role.{Role}
+use Rattle.salvage.specs.declared.usable.Role.TheVariants.{First, Later}
+use Rattle.salvage.specs.Usable.{is_usable, next_usable}
+
+-- ---- what is read at an offset
+
+-- the item, unless it is a frame that isn't usable
+abbrev pub unless_unusable : List ℕ → Role → ℕ → Item → Option Item
+unless_unusable file role at (Frame h) = if is_usable role (record { offset = at; header = h }) (drop at file) then Some (Frame h) else None
+unless_unusable file role at item = Some item
+
+-- the item that is read at the offset: a usable frame, a whole block, or a zero byte
+unfoldable pub item_read : List ℕ → Role → ℕ → Option Item
+item_read file role at = option_and_then (unless_unusable file role at) (item_of Stream file at)
+
+-- The first frame, by where the blocks and zero bytes at the front of the file end: it is usable, and stands there or, anchored, at the
+-- least offset behind.
+unfoldable pub first_frame : List ℕ → ℕ → Option PlacedFrame
+first_frame file front_end = option_or (option_and_then (frame_as front_end) (item_read file First front_end)) (next_usable file First (front_end + 1))
+
+-- a gap that begins at an offset ends at the least greater one where a usable anchored frame stands, or with the file
+abbrev pub end_by : List ℕ → Option PlacedFrame → ℕ
+end_by file None = length file
+end_by file (Some p) = p.offset
+
+unfoldable pub gap_end : List ℕ → ClassFields → ℕ → ℕ
+gap_end file class at = end_by file (next_usable file (Later class) (at + 1))
+
+pub data Thing : Type 0 where
+  -- an item that is read
+  IsItem : Item → Thing
+  -- a gap of so many bytes
+  IsGap : ℕ → Thing
+
+-- how many bytes it has
+abbrev pub size_of_thing : Thing → ℕ
+size_of_thing (IsItem item) = size_of item
+size_of_thing (IsGap n) = n
+
+-- the item that is read at the offset, or the gap that begins there
+abbrev pub thing_by : List ℕ → ClassFields → ℕ → Option Item → Thing
+thing_by file class at (Some item) = IsItem item
+thing_by file class at None = IsGap (gap_end file class at - at)
+
+unfoldable pub thing_at : List ℕ → ClassFields → ℕ → Thing
+thing_at file class at = thing_by file class at (item_read file (Later class) at)
+
+-- ---- all of it
+
+pub record PlacedThing : Type 0 where
+  pub offset : ℕ
+  pub thing : Thing
+
+-- at most so many things that stand end to end from an offset on
+unfoldable pub things_up_to : ℕ → List ℕ → ClassFields → ℕ → List PlacedThing
+things_up_to zero file class at = []
+things_up_to (suc most) file class at =
+    let here = thing_at file class at in
+    if nat_lt at (length file) then record { offset = at; thing = here } ∷ things_up_to most file class (at + size_of_thing here) else []
+
+-- all things that stand end to end from an offset on: there are no more than bytes
+unfoldable pub things : List ℕ → ClassFields → ℕ → List PlacedThing
+things file class from = things_up_to (length file) file class from
+
+-- ---- gaps and blocks
+
+abbrev pub gap_as : ℕ → Thing → Option Gap
+gap_as at (IsItem item) = None
+gap_as at (IsGap n) = Some (record { offset = at; length = n })
+
+abbrev pub block_in : ℕ → Thing → Option Piece
+block_in at (IsItem item) = block_as at item
+block_in at (IsGap n) = None
+
+-- the gaps among these things, in their order
+abbrev pub gaps_of : List PlacedThing → List Gap
+gaps_of ts = filter_map (λ t. gap_as t.offset t.thing) ts
+
+-- the blocks among them
+abbrev pub blocks_in : List PlacedThing → List Piece
+blocks_in ts = filter_map (λ t. block_in t.offset t.thing) ts

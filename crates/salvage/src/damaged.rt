@@ -1,0 +1,51 @@
+//! What is read of a damaged file.
+ghost use Rattle.std.specs.Prelude.{◌≡◌};
+ghost use Rattle.salvage.specs.Damaged.{tells_of};
+
+use crate::gap::Gap;
+use sync_survey::{Head, Piece, Row, Survey};
+
+/// What is read of a damaged file. Offsets and lengths are in bytes.
+#[derive(Drop)]
+pub struct Damaged {
+    pub(crate) survey: Survey,
+    pub(crate) gaps: Vec<Gap>,
+}
+
+impl Damaged {
+    /// What is read, as a survey tells of it: `lost` is each frame that becomes an empty one, and the junk
+    /// is the gap before the first frame.
+    pub fn survey(&self) -> &Survey
+        ensures { result.now ≡ self.now.survey }
+    {
+        &self.survey
+    }
+
+    /// The frames in their order, without the head. `lost` is each that becomes an empty one.
+    pub fn frames(&self) -> &[Row]
+        ensures { result.now ≡ (tells_of self.now).survey.frames }
+    {
+        self.survey.frames()
+    }
+
+    /// The gaps by their offsets.
+    pub fn gaps(&self) -> &[Gap]
+        ensures { result.now ≡ (tells_of self.now).gaps }
+    {
+        &self.gaps
+    }
+
+    /// The blocks by their offsets, without those in gaps.
+    pub fn blocks(&self) -> &[Piece]
+        ensures { result.now ≡ (tells_of self.now).survey.blocks }
+    {
+        self.survey.blocks()
+    }
+
+    /// The head, where the first frame is one.
+    pub fn head(&self) -> Option<Head>
+        ensures { result ≡ (tells_of self.now).survey.head }
+    {
+        self.survey.head()
+    }
+}

@@ -1,0 +1,82 @@
+//! What was found so far.
+ghost use Rattle.std.specs.Prelude.{◌≡◌, ◌⊎◌, ◌^◌, ◌≤◌, MatchResult, OnOk};
+ghost use Rattle.frame_header.specs.Fields.{HeaderFields};
+ghost use Rattle.frame_header.specs.Tables.{class_of};
+ghost use Rattle.side_info.specs.Side.{SideFits};
+ghost use Rattle.sync_survey.specs.Looks.{ReachArea, row_read};
+ghost use Rattle.salvage.specs.Judged.{judged_by, before_next, AddsItem, AddsGap, IsPastMost};
+
+use crate::gap::Gap;
+use frame_header::Header;
+use side_info::{Side, read_side};
+use std::alloc::AllocError;
+use sync_survey::{Before, Behind, Item, Piece, Row, SurveyFault};
+
+/// A file may have so many frames.
+const MOST_FRAMES: usize = 2_900_000;
+
+/// The frames that were found and judged, the blocks, the gaps, and the main data since the last gap.
+#[derive(Drop)]
+pub(crate) struct Found {
+    pub(crate) rows: Vec<Row>,
+    pub(crate) pieces: Vec<Piece>,
+    pub(crate) gaps: Vec<Gap>,
+    pub(crate) before: Before,
+}
+
+/// Marks the row where its frame isn't sound by the main data before it, and answers those before the next
+/// frame.
+fn mark(before: &Before, row: &mut Row) -> Before {
+    let area = row.header.area();
+    match before.behind(row, area) {
+        Ok(Behind { lost: false, before }) => before,
+        _ => {
+            row.lost = true;
+            Before {
+                place: before.place + u64::from(area),
+                ended: before.ended,
+            }
+        }
+    }
+}
+
+impl Found {
+    /// Judges the frame at the offset and keeps it. The first of the bytes are its own.
+    fn judge(&mut self, offset: u64, header: Header, bytes: &[u8]) -> Result<(), SurveyFault> {
+        let count = self.rows.len();
+        if count == MOST_FRAMES {
+            return Err(SurveyFault::TooManyFrames(offset));
+        }
+        // The row is read and judged where it stays, since to copy it takes as long as to read it.
+        self.rows.push(Row {
+            offset,
+            header,
+            side: Side::empty(),
+            lost: false,
+        })?;
+        let row = &mut self.rows[count];
+        read_side(&header, bytes, &mut row.side);
+        self.before = mark(&self.before, row);
+        Ok(())
+    }
+
+    /// Keeps the item at the offset. The first of the bytes are its own.
+    pub(crate) fn keep(&mut self, offset: u64, item: &Item, bytes: &[u8]) -> Result<(), SurveyFault> {
+        match *item {
+            Item::Frame(header) => self.judge(offset, header, bytes)?,
+            Item::Block(block) => self.pieces.push(Piece { offset, block })?,
+            _ => {}
+        }
+        Ok(())
+    }
+
+    /// Keeps a gap from one offset to another. The main data begin behind it.
+    pub(crate) fn skip(&mut self, from: u64, to: u64) -> Result<(), AllocError> {
+        self.gaps.push(Gap {
+            offset: from,
+            length: to - from,
+        })?;
+        self.before = Before { place: 0, ended: 0 };
+        Ok(())
+    }
+}

@@ -1,0 +1,85 @@
+//! Frames of a damaged file that can be used.
+ghost use Rattle.std.specs.Prelude.{◌≡◌, ◌≤◌, ◌<◌, ◌+◌, ℕ, List, length, min, IfSome};
+ghost use Rattle.frame_header.specs.Fields.{HeaderFields};
+ghost use Rattle.sync_survey.specs.Items.{size_of, item_front as item_front_lem};
+ghost use Rattle.sync_survey.specs.Looks.{look_size, Shows, ReachArea};
+ghost use Rattle.salvage.specs.Usable.{has_right_word as has_right_word_lem, is_usable, usable_anchored};
+ghost use Rattle.salvage.specs.Steps.{IsRead};
+
+use frame_header::{Class, Header};
+use side_info::{check_word, side_of_frame, word_said};
+use sync_survey::{Item, Part, PlacedFrame, Step, anchored_frame, head_in, is_same_class, step_at};
+
+/// What a frame is wanted for.
+#[derive(Clone, Copy)]
+pub(crate) enum Role {
+    /// As the first frame, which may be a head.
+    First,
+    /// As a later frame, of the class of the first.
+    Later(Class),
+}
+
+/// Whether the frame that these bytes begin with has no check word, or the right one.
+fn has_right_word(header: &Header, bytes: &[u8]) -> bool
+    requires room { ReachArea header.now bytes.now }
+    ensures { result ≡ has_right_word_lem header.now bytes.now }
+{
+    if !header.protected {
+        return true;
+    }
+    let side = side_of_frame(header, bytes);
+    word_said(bytes) == check_word(header, &side)
+}
+
+impl Role {
+    /// Whether a whole frame is usable for the role. The first of the bytes are its own.
+    fn admits(&self, frame: &PlacedFrame, bytes: &[u8]) -> bool
+        requires room { ReachArea frame.now.header bytes.now }
+        ensures { result ≡ is_usable self.now frame.now bytes.now }
+    {
+        match self {
+            Role::First => {
+                has_right_word(&frame.header, bytes) || head_in(frame, bytes).is_some()
+            }
+            Role::Later(class) => {
+                is_same_class(frame.header.class(), *class)
+                    && has_right_word(&frame.header, bytes)
+            }
+        }
+    }
+
+    /// The usable anchored frame at the offset where a look has shown these bytes, and so many are left.
+    pub(crate) fn anchored(&self, front: &[u8], at: u64, left: u64) -> Option<PlacedFrame>
+        requires many { length front.now ≡ min look_size left }
+        ensures frame { (file : List ℕ) → Shows file at front.now left
+            → result ≡ usable_anchored file self.now at }
+        ensures offset { IfSome result (λ p. p.offset ≡ at) }
+        ensures within { IfSome result (λ p. size_of (Item.Frame p.header) ≤ left) }
+    {
+        let frame = anchored_frame(front, at, left)?;
+        if self.admits(&frame, front) {
+            Some(frame)
+        } else {
+            None
+        }
+    }
+
+    /// The item that is read at the offset where a look has shown these bytes, and so many are left.
+    pub(crate) fn step(&self, front: &[u8], at: u64, left: u64) -> Option<Step>
+        requires many { length front.now ≡ min look_size left }
+        ensures read { (file : List ℕ) → Shows file at front.now left
+            → IsRead file self.now at result }
+        ensures item { IfSome result (λ s. s.item ≡ item_front_lem front.now) }
+        ensures least { IfSome result (λ s. size_of s.item ≤ s.size) }
+        ensures most { IfSome result (λ s. (h : HeaderFields) → s.item ≡ Item.Frame h
+            → size_of s.item ≤ 1441) }
+        ensures some { IfSome result (λ s. 0 < s.size) }
+        ensures within { IfSome result (λ s. s.size ≤ left) }
+    {
+        let step = step_at(Part::Stream, front, left)?;
+        match step.item {
+            Item::Frame(header) if !self.admits(&PlacedFrame { offset: at, header }, front) => None,
+            _ => Some(step),
+        }
+    }
+}
