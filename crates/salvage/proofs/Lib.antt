@@ -1,0 +1,4 @@
+-- The lemmas of this crate.
+pub mod UsableLaws
+pub mod ReadFaults
+pub mod SearchLaws

@@ -1,6 +1,6 @@
 -- What stands in a damaged file: the first frame, and from there on items and gaps.
-use Rattle.std.specs.Prelude.{ℕ, zero, suc, ◌+◌, ◌-◌, nat_lt, if◌then◌else◌, List, [], ◌∷◌, length, drop, filter_map, Option, Some, None, option_and_then}
-use Rattle.core.specs.Option.{option_or}
+use Rattle.std.specs.Prelude.{ℕ, zero, suc, ◌+◌, ◌-◌, nat_lt, if◌then◌else◌, Bool, true, List, [], ◌∷◌, length, drop, filter_map, Option, Some, None, option_and_then}
+use Rattle.std.specs.Option.{option_or}
 use Rattle.frame_header.specs.Fields.{ClassFields}
 use Rattle.sync_survey.specs.declared.items.Item.{Item}
 use Rattle.sync_survey.specs.declared.items.Item.TheVariants.{Frame, Free, Block, Zero, End, Nothing}
@@ -16,14 +16,18 @@ use Rattle.salvage.specs.Usable.{is_usable, next_usable}
 
 -- ---- what is read at an offset
 
--- the item, unless it is a frame that isn't usable
-abbrev pub unless_unusable : List ℕ → Role → ℕ → Item → Option Item
-unless_unusable file role at (Frame h) = if is_usable role (record { offset = at; header = h }) (drop at file) then Some (Frame h) else None
-unless_unusable file role at item = Some item
+-- a whole item at the offset is read: it isn't a frame, or is a usable one
+abbrev pub is_read : List ℕ → Role → ℕ → Item → Bool
+is_read file role at (Frame h) = is_usable role (record { offset = at; header = h }) (drop at file)
+is_read file role at item = true
+
+abbrev pub if_read : List ℕ → Role → ℕ → Option Item → Option Item
+if_read file role at None = None
+if_read file role at (Some item) = if is_read file role at item then Some item else None
 
 -- the item that is read at the offset: a usable frame, a whole block, or a zero byte
 unfoldable pub item_read : List ℕ → Role → ℕ → Option Item
-item_read file role at = option_and_then (unless_unusable file role at) (item_of Stream file at)
+item_read file role at = if_read file role at (item_of Stream file at)
 
 -- The first frame, by where the blocks and zero bytes at the front of the file end: it is usable, and stands there or, anchored, at the
 -- least offset behind.

@@ -1,20 +1,45 @@
 //! The next usable frame.
-ghost use Rattle.std.specs.Prelude.{◌≡◌};
+ghost use Rattle.std.specs.Prelude.{◌≡◌, ◌+◌, ◌<◌, ◌≤◌, ℕ, List, drop, length, IfOk, IfErr, IfSome, OnOk};
+ghost use Rattle.frame_header.specs.Fields.{HeaderFields};
+ghost use Rattle.outside.specs.Files.{Holds};
+ghost use Rattle.outside.specs.Counts.{OnlyReads};
+ghost use Rattle.outside.specs.Feed.{IsFedFrom};
+ghost use Rattle.sync_survey.specs.declared.items.Item.TheVariants.{Frame};
+ghost use Rattle.sync_survey.specs.Items.{size_of, item_front};
+ghost use Rattle.sync_survey.specs.Survey.{HasLength};
+ghost use Rattle.salvage.specs.Usable.{next_usable as next_usable_lem};
+ghost use Rattle.salvage.specs.Walk.{first_frame as first_frame_lem};
+ghost use Rattle.salvage.specs.Damaged.{IsReadRefusal};
+ghost use Rattle.salvage.specs.Steps.{may_begin as may_begin_lem};
 
 use crate::usable::Role;
 use outside::{Feed, Folder};
-use sync_survey::{Item, PlacedFrame, SurveyFault, look};
+use sync_survey::{PlacedFrame, SurveyFault, look};
+
+/// So many bytes of a look are searched at once: behind each of them 32 are seen.
+const REACH: usize = 4_064;
+
+/// Whether a header may begin with these two bytes: by eight bits of the sync word and the two of the layer.
+fn may_begin(first: u8, second: u8) -> bool
+    ensures { result ≡ may_begin_lem first second }
+{
+    first == 0xff && second / 2 % 4 == 1
+}
 
 /// How many bytes are passed up to the next place where a header may begin, at least one.
-fn bare(front: &[u8]) -> u64 {
-    let mut passed = 1;
-    for pair in front.windows(2).skip(1) {
-        if pair[0] == 0xff && pair[1] & 0xe6 == 0xe2 {
-            break;
+fn bare(front: &[u8]) -> u64
+    ensures some { 0 < result }
+    ensures few { result ≤ 4064 }
+    ensures none { (k : ℕ) (h : HeaderFields) → 0 < k → k < result
+        → item_front (drop k front.now) ≡ Frame h → ⊥ }
+{
+    let end = front.len().saturating_sub(1).min(REACH);
+    for at in 1..end {
+        if may_begin(front[at], front[at + 1]) {
+            return at as u64;
         }
-        passed += 1;
     }
-    passed
+    end.max(1) as u64
 }
 
 /// The frame at the least offset, from one on, where a usable anchored one stands.
@@ -25,7 +50,22 @@ pub(crate) fn next_usable<D: Folder>(
     size: u64,
     from: u64,
     role: Role,
-) -> Result<Option<PlacedFrame>, SurveyFault> {
+) -> Result<Option<PlacedFrame>, SurveyFault>
+    requires known { HasLength (D.files folder.old) name.now size }
+    requires fed { IsFedFrom feed.old (D.files folder.old) name.now }
+    requires early { from ≤ size + 1 }
+    ensures next { IfOk result (λ o. (bytes : List ℕ) → Holds (D.files folder.old) name.now bytes
+        → o ≡ next_usable_lem bytes role from) }
+    ensures whole { IfOk result (λ o. IfSome o
+        (λ p. p.offset + size_of (Frame p.header) ≤ size)) }
+    ensures behind { IfOk result (λ o. IfSome o (λ p. from ≤ p.offset)) }
+    ensures done { OnOk result (D.counts folder.new ≡ D.counts folder.old) }
+    ensures refused { IfErr result (IsReadRefusal name.now (D.files folder.old)
+        (D.counts folder.old) (D.counts folder.new)) }
+    ensures fed { IsFedFrom feed.new (D.files folder.new) name.now }
+    ensures files { D.files folder.new ≡ D.files folder.old }
+    ensures counts { OnlyReads (D.counts folder.old) (D.counts folder.new) }
+{
     let mut at = from;
     while at < size {
         let left = look(feed, folder, name, size, at)?;
@@ -44,11 +84,25 @@ pub(crate) fn first_frame<D: Folder>(
     name: &str,
     size: u64,
     front_end: u64,
-) -> Result<Option<PlacedFrame>, SurveyFault> {
+) -> Result<Option<PlacedFrame>, SurveyFault>
+    requires known { HasLength (D.files folder.old) name.now size }
+    requires fed { IsFedFrom feed.old (D.files folder.old) name.now }
+    requires within { front_end ≤ size }
+    ensures first { IfOk result (λ o. (bytes : List ℕ) → Holds (D.files folder.old) name.now bytes
+        → o ≡ first_frame_lem bytes front_end) }
+    ensures whole { IfOk result (λ o. IfSome o
+        (λ p. p.offset + size_of (Frame p.header) ≤ size)) }
+    ensures behind { IfOk result (λ o. IfSome o (λ p. front_end ≤ p.offset)) }
+    ensures done { OnOk result (D.counts folder.new ≡ D.counts folder.old) }
+    ensures refused { IfErr result (IsReadRefusal name.now (D.files folder.old)
+        (D.counts folder.old) (D.counts folder.new)) }
+    ensures fed { IsFedFrom feed.new (D.files folder.new) name.now }
+    ensures files { D.files folder.new ≡ D.files folder.old }
+    ensures counts { OnlyReads (D.counts folder.old) (D.counts folder.new) }
+{
     let left = look(feed, folder, name, size, front_end)?;
-    let step = Role::First.step(feed.bytes(), front_end, left);
-    if let Some(step) = step && let Item::Frame(header) = step.item {
-        return Ok(Some(PlacedFrame { offset: front_end, header }));
+    if let Some(frame) = Role::First.whole(feed.bytes(), front_end, left) {
+        return Ok(Some(frame));
     }
     next_usable(feed, folder, name, size, front_end + 1, Role::First)
 }

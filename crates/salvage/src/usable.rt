@@ -1,10 +1,13 @@
 //! Frames of a damaged file that can be used.
-ghost use Rattle.std.specs.Prelude.{◌≡◌, ◌≤◌, ◌<◌, ◌+◌, ℕ, List, length, min, IfSome};
+ghost use Rattle.std.specs.Prelude.{◌≡◌, ◌≤◌, ◌<◌, ◌==◌, ℕ, List, length, min, IfSome, option_and_then};
+ghost use Rattle.std.specs.List.{prefix_len};
 ghost use Rattle.frame_header.specs.Fields.{HeaderFields};
 ghost use Rattle.sync_survey.specs.Items.{size_of, item_front as item_front_lem};
 ghost use Rattle.sync_survey.specs.Looks.{look_size, Shows, ReachArea};
 ghost use Rattle.salvage.specs.Usable.{has_right_word as has_right_word_lem, is_usable, usable_anchored};
-ghost use Rattle.salvage.specs.Steps.{IsRead};
+ghost use Rattle.sync_survey.specs.Runs.{frame_as};
+ghost use Rattle.salvage.specs.Walk.{item_read};
+ghost use Rattle.salvage.specs.Steps.{admits_item as admits_item_lem, IsRead};
 
 use frame_header::{Class, Header};
 use side_info::{check_word, side_of_frame, word_said};
@@ -31,6 +34,18 @@ fn has_right_word(header: &Header, bytes: &[u8]) -> bool
     word_said(bytes) == check_word(header, &side)
 }
 
+/// The frame that the item at the offset is.
+fn frame_of(item: &Item, offset: u64) -> Option<PlacedFrame>
+    ensures frame { result ≡ frame_as offset item.now }
+    ensures offset { IfSome result (λ p. p.offset ≡ offset) }
+    ensures size { IfSome result (λ p. size_of (Item.Frame p.header) ≡ size_of item.now) }
+{
+    match *item {
+        Item::Frame(header) => Some(PlacedFrame { offset, header }),
+        _ => None,
+    }
+}
+
 impl Role {
     /// Whether a whole frame is usable for the role. The first of the bytes are its own.
     fn admits(&self, frame: &PlacedFrame, bytes: &[u8]) -> bool
@@ -48,6 +63,17 @@ impl Role {
         }
     }
 
+    /// Whether a whole item at the offset is read. The first of the bytes are its own.
+    fn admits_item(&self, item: &Item, bytes: &[u8], at: u64) -> bool
+        requires room { (h : HeaderFields) → item.now ≡ Item.Frame h → ReachArea h bytes.now }
+        ensures { result ≡ admits_item_lem self.now at item.now bytes.now }
+    {
+        match *item {
+            Item::Frame(header) => self.admits(&PlacedFrame { offset: at, header }, bytes),
+            _ => true,
+        }
+    }
+
     /// The usable anchored frame at the offset where a look has shown these bytes, and so many are left.
     pub(crate) fn anchored(&self, front: &[u8], at: u64, left: u64) -> Option<PlacedFrame>
         requires many { length front.now ≡ min look_size left }
@@ -56,7 +82,9 @@ impl Role {
         ensures offset { IfSome result (λ p. p.offset ≡ at) }
         ensures within { IfSome result (λ p. size_of (Item.Frame p.header) ≤ left) }
     {
-        let frame = anchored_frame(front, at, left)?;
+        let Some(frame) = anchored_frame(front, at, left) else {
+            return None;
+        };
         if self.admits(&frame, front) {
             Some(frame)
         } else {
@@ -70,16 +98,36 @@ impl Role {
         ensures read { (file : List ℕ) → Shows file at front.now left
             → IsRead file self.now at result }
         ensures item { IfSome result (λ s. s.item ≡ item_front_lem front.now) }
+        ensures zeros { IfSome result (λ s. s.item ≡ Item.Zero
+            → s.size ≡ prefix_len (λ b. b == 0) front.now) }
+        ensures own { IfSome result (λ s. (s.item ≡ Item.Zero → ⊥) → s.size ≡ size_of s.item) }
         ensures least { IfSome result (λ s. size_of s.item ≤ s.size) }
         ensures most { IfSome result (λ s. (h : HeaderFields) → s.item ≡ Item.Frame h
             → size_of s.item ≤ 1441) }
         ensures some { IfSome result (λ s. 0 < s.size) }
         ensures within { IfSome result (λ s. s.size ≤ left) }
     {
-        let step = step_at(Part::Stream, front, left)?;
-        match step.item {
-            Item::Frame(header) if !self.admits(&PlacedFrame { offset: at, header }, front) => None,
-            _ => Some(step),
+        let Some(step) = step_at(Part::Stream, front, left) else {
+            return None;
+        };
+        if self.admits_item(&step.item, front, at) {
+            Some(step)
+        } else {
+            None
         }
+    }
+
+    /// The frame that is read at the offset where a look has shown these bytes, and so many are left.
+    pub(crate) fn whole(&self, front: &[u8], at: u64, left: u64) -> Option<PlacedFrame>
+        requires many { length front.now ≡ min look_size left }
+        ensures frame { (file : List ℕ) → Shows file at front.now left
+            → result ≡ option_and_then (frame_as at) (item_read file self.now at) }
+        ensures offset { IfSome result (λ p. p.offset ≡ at) }
+        ensures within { IfSome result (λ p. size_of (Item.Frame p.header) ≤ left) }
+    {
+        let Some(step) = self.step(front, at, left) else {
+            return None;
+        };
+        frame_of(&step.item, at)
     }
 }

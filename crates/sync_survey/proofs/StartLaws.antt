@@ -22,25 +22,25 @@ use Rattle.sync_survey.proofs.LooksLaws.{item_at-shown, item_at-behind, fits-lef
 -- ---- the first of so many offsets
 
 -- what stands at the first of so many offsets, from one on, where something does
-abbrev first_of : (ℕ → Option PlacedFrame) → ℕ → ℕ → Option PlacedFrame
+abbrev pub first_of : (ℕ → Option PlacedFrame) → ℕ → ℕ → Option PlacedFrame
 first_of stands count from = slice_get (filter_map stands (range_with_len from count)) 0
 
 -- nothing stands at the first offset
 nothing_here : (o : Option PlacedFrame) (rest : List PlacedFrame) → o ≡ None → slice_get (cons_option o rest) 0 ≡ slice_get rest 0
 nothing_here o rest none = ap (λ x. slice_get (cons_option x rest) 0) none
 
-first_of-none : (stands : ℕ → Option PlacedFrame) (count from : ℕ) → ((at : ℕ) → from ≤ at → at < from + count → stands at ≡ None) → first_of stands count from ≡ None
+pub first_of-none : (stands : ℕ → Option PlacedFrame) (count from : ℕ) → ((at : ℕ) → from ≤ at → at < from + count → stands at ≡ None) → first_of stands count from ≡ None
 first_of-none stands zero from none = refl
 first_of-none stands (suc n) from none =
     nothing_here (stands from) (filter_map stands (range_with_len (from + 1) n)) (none from (omega arith) (omega arith))
     ∙ first_of-none stands n (from + 1) (λ at low high. none at (omega (arith, low)) (omega (arith, high)))
 
 -- this stands at an offset, and nothing at an earlier one
-record IsFirstAt (stands : ℕ → Option PlacedFrame) (from to at : ℕ) (p : PlacedFrame) : Type 0 where
-  low : from ≤ at
-  high : at < to
-  here : stands at ≡ Some p
-  none : (earlier : ℕ) → from ≤ earlier → earlier < at → stands earlier ≡ None
+pub record IsFirstAt (stands : ℕ → Option PlacedFrame) (from to at : ℕ) (p : PlacedFrame) : Type 0 where
+  pub low : from ≤ at
+  pub high : at < to
+  pub here : stands at ≡ Some p
+  pub none : (earlier : ℕ) → from ≤ earlier → earlier < at → stands earlier ≡ None
 
 first_cases : (stands : ℕ → Option PlacedFrame) (n from at : ℕ) (p : PlacedFrame) (o : Option PlacedFrame) → stands from ≡ o → IsFirstAt stands from (from + suc n) at p →
     (IsFirstAt stands (from + 1) ((from + 1) + n) at p → first_of stands n (from + 1) ≡ Some p) → slice_get (cons_option o (filter_map stands (range_with_len (from + 1) n))) 0 ≡ Some p
@@ -53,7 +53,7 @@ first_cases stands n from at p None is first behind =
     let later : from + 1 ≤ at = omega (arith, first.low, contra) in
     behind (record { low = later; high = omega (arith, first.high); here = first.here; none = λ earlier low high. first.none earlier (omega (arith, low)) high })
 
-first_of-some : (stands : ℕ → Option PlacedFrame) (count from at : ℕ) (p : PlacedFrame) → IsFirstAt stands from (from + count) at p → first_of stands count from ≡ Some p
+pub first_of-some : (stands : ℕ → Option PlacedFrame) (count from at : ℕ) (p : PlacedFrame) → IsFirstAt stands from (from + count) at p → first_of stands count from ≡ Some p
 first_of-some stands zero from at p first = absurd (omega (arith, first.low, first.high))
 first_of-some stands (suc n) from at p first = first_cases stands n from at p (stands from) refl first (first_of-some stands n (from + 1) at p)
 
@@ -66,7 +66,7 @@ is_nothing stands n from at None is found behind (Some p) here low high =
     let contra : at ≡ from → ⊥ = λ same. let some : stands from ≡ Some p = ap stands (sym same) ∙ here in absurd cc in
     behind found (omega (arith, low, contra)) (omega (arith, high))
 
-first_of-nothing : (stands : ℕ → Option PlacedFrame) (count from : ℕ) → first_of stands count from ≡ None → (at : ℕ) → from ≤ at → at < from + count → stands at ≡ None
+pub first_of-nothing : (stands : ℕ → Option PlacedFrame) (count from : ℕ) → first_of stands count from ≡ None → (at : ℕ) → from ≤ at → at < from + count → stands at ≡ None
 first_of-nothing stands zero from found at low high = absurd (omega (arith, low, high))
 first_of-nothing stands (suc n) from found at low high = is_nothing stands n from at (stands from) refl found (λ later. first_of-nothing stands n (from + 1) later at) (stands at) refl low high
 
@@ -85,7 +85,7 @@ is_found stands n from p None is found behind =
     let later = behind found in
     (later.0, record { low = omega (arith, later.1.low); high = omega (arith, later.1.high); here = later.1.here; none = λ earlier low high. none_before stands from later.0 earlier (stands earlier) is later.1.none low high refl })
 
-first_of-is : (stands : ℕ → Option PlacedFrame) (count from : ℕ) (p : PlacedFrame) → first_of stands count from ≡ Some p → (at : ℕ) × IsFirstAt stands from (from + count) at p
+pub first_of-is : (stands : ℕ → Option PlacedFrame) (count from : ℕ) (p : PlacedFrame) → first_of stands count from ≡ Some p → (at : ℕ) × IsFirstAt stands from (from + count) at p
 first_of-is stands zero from p found = absurd cc
 first_of-is stands (suc n) from p found = is_found stands n from p (stands from) refl found (first_of-is stands n (from + 1) p)
 
@@ -260,7 +260,7 @@ module _ (file : List ℕ) (at : ℕ) (front : List ℕ) (left : ℕ) (shows : S
 
 -- ---- where the search ends
 
-anchored_frame-past : (file : List ℕ) (at : ℕ) → length file ≤ at → anchored_frame file at ≡ None
+pub anchored_frame-past : (file : List ℕ) (at : ℕ) → length file ≤ at → anchored_frame file at ≡ None
 unfolding anchored_frame
 anchored_frame-past file at past = ap (anchored file at) (sym (stands-only_at file at End (drop_all at file past)))
 

@@ -51,7 +51,7 @@ shown_room front item h size left is frame few least within many = omega (arith,
 -- ---- the side information and the check word that a look shows
 
 module _ (file : List ℕ) (at : ℕ) (front : List ℕ) (left : ℕ) (shows : Shows file at front left) (h : HeaderFields) (few : overhead_of (class_of h) h.protected ≤ look_size) where
-  row_shown : row_in at h front ≡ row_of file (record { offset = at; header = h })
+  pub row_shown : row_in at h front ≡ row_of file (record { offset = at; header = h })
   row_shown = ap (λ s. record { offset = at; header = h; side = s; lost = false }) (ap (side_in h) shows.front_is ∙ side_in-take h look_size (drop at file) few)
 
   word_shown : word_said front ≡ word_said (drop at file)

@@ -1,0 +1,92 @@
+-- Why a damaged file isn't read.
+use Rattle.std.proofs.Common.{◌≡◌, ℕ, ◌<◌, ◌≤◌, ltb, cond, true, false, List, length, Result, Ok, Err, refl, sym, ◌∙◌, ap, subst, arith}
+use Rattle.std.proofs.lemmas.Bool.{lt-ltb, le-ltb}
+use Rattle.std.specs.Prelude.{IfErr}
+use Rattle.outside.specs.Files.{Files, Holds, IsThere, IsMissing}
+use Rattle.outside.specs.Counts.{Counts, Rose}
+use Rattle.sync_survey.specs.declared.survey_fault.SurveyFault.{SurveyFault}
+use Rattle.sync_survey.specs.declared.survey_fault.SurveyFault.TheVariants.{TooLong, Memory}
+use Rattle.sync_survey.specs.Faults.{longest_file}
+use Rattle.sync_survey.specs.Kinds.{InputKind, IsAbsent, IsUnread, IsShorter, IsTooMuch, IsRefused, kind_of, by_kind, HasRightNumbers, IsFromOutside, RefusesRightly}
+use Rattle.sync_survey.specs.Survey.{IsRefusal, IsSurveyFault, HasShrunk, AsksForMemory, RefusesBytes, HasLength, IsOfLength}
+use Rattle.salvage.specs.Damaged.{damaged, damaged_of, RefusesDamaged, IsReadFault, IsReadRefusal}
+
+module _ (name : List ℕ) (files : Files) (before after : Counts) (fault : SurveyFault) where
+  abbrev SurveyCause : InputKind → Type 0
+  SurveyCause kind = by_kind
+      (record {
+        absent = IsMissing files name × Rose before.misses after.misses;
+        unread = Rose before.read_faults after.read_faults;
+        shorter = HasShrunk files before after;
+        too_much = AsksForMemory name files before after;
+        refused = RefusesBytes name files 0 before after fault;
+      })
+      kind
+
+  abbrev ReadCause : InputKind → Type 0
+  ReadCause kind = by_kind
+      (record {
+        absent = IsMissing files name × Rose before.misses after.misses;
+        unread = Rose before.read_faults after.read_faults;
+        shorter = HasShrunk files before after;
+        too_much = AsksForMemory name files before after;
+        refused = RefusesDamaged name files before after fault;
+      })
+      kind
+
+  cause_by : (kind : InputKind) → SurveyCause kind → (kind ≡ IsRefused → RefusesDamaged name files before after fault) → ReadCause kind
+  cause_by IsAbsent is refused = is
+  cause_by IsUnread is refused = is
+  cause_by IsShorter is refused = is
+  cause_by IsTooMuch is refused = is
+  cause_by IsRefused is refused = refused refl
+
+  -- a call failed, the file became shorter, or there is no memory
+  pub outside_refusal : IsRefusal name files 0 before after fault → IsFromOutside fault → IsReadRefusal name files before after fault
+  outside_refusal is outside = record { cause = cause_by (kind_of fault) is.cause (λ e. absurd (outside e)); numbers = is.numbers }
+
+  -- the bytes are refused
+  pub bytes_refusal : (size : ℕ) → HasLength files name size → after ≡ before → RefusesRightly fault → ((bytes : List ℕ) → Holds files name bytes → damaged_of bytes ≡ Err fault) → IsReadRefusal name files before after fault
+  bytes_refusal size known same rightly refused = record {
+    cause = subst ReadCause (sym rightly.0) (record { there = known.there; bytes = refused; counts = same });
+    numbers = rightly.1;
+  }
+
+pub memory_refusal : (name : List ℕ) (files : Files) (before after : Counts) (size : ℕ) → HasLength files name size → after ≡ before → IsReadRefusal name files before after Memory
+memory_refusal name files before after size known same = record {
+  cause = record { there = known.there; few = λ bytes holds. omega (arith, known.few, known.long bytes holds); counts = same };
+  numbers = tt;
+}
+
+-- after calls that left the files and all counts
+pub refusal_later : (name : List ℕ) (files mid : Files) (before between after : Counts) (fault : SurveyFault) → mid ≡ files → between ≡ before → IsReadRefusal name mid between after fault → IsReadRefusal name files before after fault
+refusal_later name files mid before between after fault same_files same_counts is =
+    subst (λ f. IsReadRefusal name f before after fault) same_files (subst (λ n. IsReadRefusal name mid n after fault) same_counts is)
+
+-- a look failed
+pub look_refusal : (name : List ℕ) (files mid : Files) (before between after : Counts) (fault : SurveyFault) → mid ≡ files → between ≡ before → ((allowed : ℕ) → IsRefusal name mid allowed between after fault) → IsFromOutside fault
+    → IsReadRefusal name files before after fault
+look_refusal name files mid before between after fault same_files same_counts is outside =
+    refusal_later name files mid before between after fault same_files same_counts (outside_refusal name mid between after fault (is 0) outside)
+
+-- ---- by the length
+
+long-too : (file : List ℕ) → longest_file < length file → damaged_of file ≡ Err (TooLong (length file))
+unfolding damaged_of
+long-too file long = let more : ltb longest_file (length file) ≡ true = lt-ltb longest_file (length file) long in rw more refl
+
+pub damaged_of-short : (file : List ℕ) → length file ≤ longest_file → damaged_of file ≡ damaged file
+unfolding damaged_of
+damaged_of-short file few = let short : ltb longest_file (length file) ≡ false = le-ltb longest_file (length file) few in rw short refl
+
+refused_long : (file : List ℕ) (fault : SurveyFault) → fault ≡ TooLong (length file) → HasRightNumbers fault → damaged_of file ≡ Err fault
+refused_long file fault is numbers = long-too file (subst HasRightNumbers is numbers) ∙ ap Err (sym is)
+
+-- the file isn't found, or is too long
+pub find_refusal : (name : List ℕ) (files : Files) (before after : Counts) (fault : SurveyFault) → IsRefusal name files 0 before after fault → IsOfLength name files fault → IsReadRefusal name files before after fault
+find_refusal name files before after fault is length = record {
+  cause = cause_by name files before after fault (kind_of fault) is.cause (λ e.
+      let refuses : RefusesBytes name files 0 before after fault = subst (SurveyCause name files before after fault) e is.cause in
+      record { there = refuses.there; bytes = λ bytes holds. refused_long bytes fault (length e bytes holds) is.numbers; counts = refuses.counts });
+  numbers = is.numbers;
+}

@@ -1,0 +1,186 @@
+-- The next usable frame.
+use Rattle.std.proofs.Common.{◌≡◌, ℕ, zero, suc, ◌+◌, ◌-◌, ◌*◌, ◌/◌, ◌%◌, ◌^◌, ◌<◌, ◌≤◌, ◌&&◌, ◌==◌, ◌⊎◌, inl, inr, leb, min, Bool, true, false, cond, List, [], ◌∷◌, ◌++◌, length, take, drop, get_or, Option, Some, None, Result, Ok, Err, refl, sym, ◌∙◌, ap, ap₂, subst, arith}
+use Rattle.std.proofs.lemmas.Bool.{false≢true, eqb-true, eq-eqb, leb-true, leb-false}
+use Rattle.bit_fields.specs.Bits.{bits, number}
+use Rattle.bit_fields.specs.Groups.{group}
+use Rattle.bit_fields.proofs.BitsLaws.{number-nil, bits-nil, number-bits-push, number-within, AreBits-bits, length-bits}
+use Rattle.frame_header.specs.Fields.{HeaderFields}
+use Rattle.frame_header.specs.Reading.{sync_word, layer_bits, is_readable, rate_bits, header_fields, header_in, header_at}
+use Rattle.frame_header.specs.declared.header.NotHeader.{NotHeader}
+use Rattle.frame_header.specs.declared.header.NotHeader.TheVariants.{Free as FreeHeader, No}
+use Rattle.sync_survey.proofs.RunsLaws.{both}
+use Rattle.sync_survey.specs.declared.items.Item.{Item}
+use Rattle.sync_survey.specs.declared.items.Item.TheVariants.{Frame, Free, Block, Zero, End, Nothing}
+use Rattle.sync_survey.specs.declared.places.PlacedFrame.{PlacedFrame}
+use Rattle.sync_survey.specs.Items.{Stands, header_front, item_front, item_at}
+use Rattle.sync_survey.specs.Start.{anchored, anchored_frame}
+use Rattle.sync_survey.specs.Looks.{Shows}
+use Rattle.sync_survey.proofs.ItemsLaws.{stands}
+use Rattle.sync_survey.proofs.LooksLaws.{item_at-behind}
+use Rattle.sync_survey.proofs.StartLaws.{first_of, first_of-none, first_of-some, anchored_frame-past}
+use Rattle.salvage.specs.declared.usable.Role.{Role}
+use Rattle.salvage.specs.Usable.{if_usable, usable_anchored, next_usable}
+use Rattle.salvage.specs.declared.usable.Role.TheVariants.{First}
+use Rattle.salvage.specs.Walk.{item_read, first_frame}
+use Rattle.salvage.specs.Steps.{may_begin}
+use Rattle.std.specs.Prelude.{option_and_then, IfOk}
+use Rattle.std.specs.Option.{option_or}
+use Rattle.outside.specs.Files.{Files, Holds}
+use Rattle.sync_survey.specs.declared.survey_fault.SurveyFault.{SurveyFault}
+use Rattle.sync_survey.specs.Runs.{frame_as}
+
+-- ---- the first two bytes of a header
+
+module _ (a b c d : ℕ) (a_few : a < 256) (b_few : b < 256) (c_few : c < 256) (d_few : d < 256) where
+  number_four : number (bits (a ∷ b ∷ c ∷ d ∷ [])) ≡ ((a * 256 + b) * 256 + c) * 256 + d
+  number_four =
+      number-bits-push (a ∷ b ∷ c ∷ []) d d_few
+      ∙ ap (λ n. n * 256 + d) (number-bits-push (a ∷ b ∷ []) c c_few)
+      ∙ ap (λ n. (n * 256 + c) * 256 + d) (number-bits-push (a ∷ []) b b_few)
+      ∙ ap (λ n. ((n * 256 + b) * 256 + c) * 256 + d) (number-bits-push [] a a_few ∙ ap (λ n. n * 256 + a) (ap number bits-nil ∙ number-nil) ∙ nothing_more)
+    where
+      nothing_more : 0 * 256 + a ≡ a
+      nothing_more = omega arith
+
+  group_four : (from width : ℕ) → from + width ≤ 32 → group from width (bits (a ∷ b ∷ c ∷ d ∷ [])) ≡ (((a * 256 + b) * 256 + c) * 256 + d) / 2 ^ (32 - from - width) % 2 ^ width
+  unfolding group
+  group_four from width within =
+      let four = a ∷ b ∷ c ∷ d ∷ [] in
+      number-within from width (bits four) (AreBits-bits four) (omega (arith, within, length-bits four))
+      ∙ ap₂ (λ (n len : ℕ). n / 2 ^ (len - from - width) % 2 ^ width) number_four (length-bits four)
+
+  sync_said : group 0 11 (bits (a ∷ b ∷ c ∷ d ∷ [])) ≡ 2047 → a ≡ 255
+  sync_said is = omega (arith, sym (group_four 0 11 (omega arith)) ∙ is, a_few, b_few, c_few, d_few)
+
+  layer_said : group 13 2 (bits (a ∷ b ∷ c ∷ d ∷ [])) ≡ 1 → b / 2 % 4 ≡ 1
+  layer_said is = omega (arith, sym (group_four 13 2 (omega arith)) ∙ is, a_few, b_few, c_few, d_few)
+
+  begins_by : is_readable (bits (a ∷ b ∷ c ∷ d ∷ [])) ≡ true → may_begin a b ≡ true
+  unfolding is_readable
+  begins_by passes =
+      let parts = both _ _ passes in
+      let first = both _ _ parts.0 in
+      let front = both _ _ first.0 in
+      let marks = both _ _ front.0 in
+      let sync = eq-eqb a 255 (sync_said (eqb-true _ _ marks.0)) in
+      let layer = eq-eqb (b / 2 % 4) 1 (layer_said (eqb-true _ _ front.1)) in
+      ap₂ (λ (x y : Bool). x && y) sync layer
+
+read_cases : (h : List ℕ) (r z : Bool) (fields : HeaderFields) → is_readable h ≡ r → cond r (cond z (Err FreeHeader) (Ok (header_fields h))) (Err No) ≡ Ok fields → r ≡ true
+read_cases h true z fields is e = refl
+read_cases h false z fields is e = absurd cc
+
+readable_by : (h : List ℕ) (fields : HeaderFields) → header_in h ≡ Ok fields → is_readable h ≡ true
+unfolding header_in
+readable_by h fields e = read_cases h (is_readable h) (rate_bits h == 0) fields refl e
+
+readable_at : (four : List ℕ) (fields : HeaderFields) → header_at four ≡ Ok fields → is_readable (bits four) ≡ true
+unfolding header_at
+readable_at four fields e = readable_by (bits four) fields e
+
+abbrev AreFew : List ℕ → Type 0
+AreFew bytes = (i : ℕ) → get_or bytes i 0 < 256
+
+header_cases : (b : Bool) (r : Result HeaderFields NotHeader) (h : HeaderFields) → cond b r (Err No) ≡ Ok h → (b ≡ true) × (r ≡ Ok h)
+header_cases true r h e = (refl, e)
+header_cases false r h e = absurd cc
+
+begun : (bytes : List ℕ) (h : HeaderFields) → AreFew bytes → 4 ≤ length bytes → header_at (take 4 bytes) ≡ Ok h → may_begin (get_or bytes 0 0) (get_or bytes 1 0) ≡ true
+begun [] h few many e = absurd (omega (arith, many))
+begun (a ∷ []) h few many e = absurd (omega (arith, many))
+begun (a ∷ b ∷ []) h few many e = absurd (omega (arith, many))
+begun (a ∷ b ∷ c ∷ []) h few many e = absurd (omega (arith, many))
+begun (a ∷ b ∷ c ∷ d ∷ rest) h few many e = begins_by a b c d (few 0) (few 1) (few 2) (few 3) (readable_at (a ∷ b ∷ c ∷ d ∷ []) h e)
+
+-- where a header stands, it may begin
+header_begins : (bytes : List ℕ) (h : HeaderFields) → AreFew bytes → header_front bytes ≡ Ok h → may_begin (get_or bytes 0 0) (get_or bytes 1 0) ≡ true
+unfolding header_front
+header_begins bytes h few e =
+    let cases = header_cases _ _ h e in
+    begun bytes h few (leb-true 4 (length bytes) cases.0) cases.1
+
+-- ---- no usable anchored frame
+
+not_anchored : (file : List ℕ) (at : ℕ) (item : Item) → item_at file at ≡ item → ((h : HeaderFields) → item ≡ Frame h → ⊥) → anchored_frame file at ≡ None
+unfolding anchored_frame
+not_anchored file at (Frame h) is none = absurd (none h refl)
+not_anchored file at Free is none = ap (anchored file at) is
+not_anchored file at (Block b) is none = ap (anchored file at) is
+not_anchored file at Zero is none = ap (anchored file at) is
+not_anchored file at End is none = ap (anchored file at) is
+not_anchored file at Nothing is none = ap (anchored file at) is
+
+not_usable : (file : List ℕ) (role : Role) (at : ℕ) → anchored_frame file at ≡ None → usable_anchored file role at ≡ None
+unfolding usable_anchored
+not_usable file role at none = ap (if_usable file role) none
+
+get_drop : (xs : List ℕ) (k i : ℕ) → get_or (drop k xs) i 0 ≡ get_or xs (k + i) 0
+get_drop xs zero i = ap (λ n. get_or xs n 0) (omega arith)
+get_drop [] (suc k) i = refl
+get_drop (x ∷ xs) (suc k) i =
+    let next : suc (k + i) ≡ suc k + i = omega arith in
+    get_drop xs k i ∙ ap (λ n. get_or (x ∷ xs) n 0) next
+
+-- where none may begin, none stands
+pub bare_at : (front : List ℕ) → ((i : ℕ) → get_or front i 0 < 256) → (k : ℕ) → may_begin (get_or front k 0) (get_or front (k + 1) 0) ≡ false → (h : HeaderFields) → item_front (drop k front) ≡ Frame h → ⊥
+bare_at front few k bare h is =
+    let header : header_front (drop k front) ≡ Ok h = subst (Stands (drop k front)) is (stands (drop k front)) in
+    let begins = header_begins (drop k front) h (λ i. subst (λ n. n < 256) (sym (get_drop front k i)) (few (k + i))) header in
+    let same = ap₂ (λ (m n : ℕ). may_begin m n) (get_drop front k 0 ∙ ap (λ n. get_or front n 0) (omega arith)) (get_drop front k 1) in
+    false≢true (sym bare ∙ sym same ∙ begins)
+
+module _ (file : List ℕ) (at : ℕ) (front : List ℕ) (left : ℕ) (shows : Shows file at front left) where
+  bare_usable : (role : Role) (k : ℕ) → k ≤ 4064 → ((h : HeaderFields) → item_front (drop k front) ≡ Frame h → ⊥) → usable_anchored file role (at + k) ≡ None
+  bare_usable role k near bare =
+      not_usable file role (at + k) (not_anchored file (at + k) (item_front (drop k front)) (sym (item_at-behind file at front left shows k near)) bare)
+
+  -- none stands at the offsets that are passed
+  pub passed_bare : (role : Role) (n earlier : ℕ) → n ≤ 4064 → ((k : ℕ) (h : HeaderFields) → 0 < k → k < n → item_front (drop k front) ≡ Frame h → ⊥) → at < earlier → earlier < at + n → usable_anchored file role earlier ≡ None
+  passed_bare role n earlier near bare low high =
+      let k = earlier - at in
+      let same : at + k ≡ earlier = omega (arith, low) in
+      subst (λ m. usable_anchored file role m ≡ None) same (bare_usable role k (omega (arith, near, high, low)) (λ h. bare k h (omega (arith, low)) (omega (arith, high, low))))
+
+-- none stands before a later offset
+pub none_later : (file : List ℕ) (role : Role) (from at later earlier : ℕ) → ((k : ℕ) → from ≤ k → k < at → usable_anchored file role k ≡ None) → usable_anchored file role at ≡ None
+    → ((k : ℕ) → at < k → k < later → usable_anchored file role k ≡ None) → from ≤ earlier → earlier < later → usable_anchored file role earlier ≡ None
+none_later file role from at later earlier before here behind low high = by_place (leb earlier at) (leb at earlier) refl refl
+  where
+    by_place : (a b : Bool) → leb earlier at ≡ a → leb at earlier ≡ b → usable_anchored file role earlier ≡ None
+    by_place true true is is' =
+        let same : at ≡ earlier = omega (arith, leb-true earlier at is, leb-true at earlier is') in
+        subst (λ k. usable_anchored file role k ≡ None) same here
+    by_place true false is is' = before earlier low (leb-false at earlier is')
+    by_place false b is is' = behind earlier (leb-false earlier at is) high
+
+-- ---- the search
+
+pub next_usable-some : (file : List ℕ) (role : Role) (from at : ℕ) (p : PlacedFrame) → from ≤ at → at < length file → usable_anchored file role at ≡ Some p → ((k : ℕ) → from ≤ k → k < at → usable_anchored file role k ≡ None)
+    → next_usable file role from ≡ Some p
+unfolding next_usable
+next_usable-some file role from at p low high here none =
+    first_of-some (usable_anchored file role) (length file) from at p (record { low = low; high = omega (arith, high); here = here; none = none })
+
+none_by_end : (file : List ℕ) (role : Role) (from to at : ℕ) → length file ≤ to → ((k : ℕ) → from ≤ k → k < to → usable_anchored file role k ≡ None) → from ≤ at → (b : Bool) → leb to at ≡ b → usable_anchored file role at ≡ None
+none_by_end file role from to at end none low true e = not_usable file role at (anchored_frame-past file at (omega (arith, end, leb-true to at e)))
+none_by_end file role from to at end none low false e = none at low (leb-false to at e)
+
+pub next_usable-none : (file : List ℕ) (role : Role) (from to : ℕ) → length file ≤ to → ((k : ℕ) → from ≤ k → k < to → usable_anchored file role k ≡ None) → next_usable file role from ≡ None
+unfolding next_usable
+next_usable-none file role from to end none = first_of-none (usable_anchored file role) (length file) from (λ at low high. none_by_end file role from to at end none low (leb to at) refl)
+
+-- ---- the first frame
+
+pub first_here : (file : List ℕ) (front_end : ℕ) (p : PlacedFrame) → option_and_then (frame_as front_end) (item_read file First front_end) ≡ Some p → first_frame file front_end ≡ Some p
+unfolding first_frame
+first_here file front_end p here = ap (λ o. option_or o (next_usable file First (front_end + 1))) here
+
+first_later : (file : List ℕ) (front_end : ℕ) → option_and_then (frame_as front_end) (item_read file First front_end) ≡ None → first_frame file front_end ≡ next_usable file First (front_end + 1)
+unfolding first_frame
+first_later file front_end none = ap (λ o. option_or o (next_usable file First (front_end + 1))) none
+
+pub first_behind : (name : List ℕ) (files mid : Files) (front_end : ℕ) (r : Result (Option PlacedFrame) SurveyFault) → mid ≡ files
+    → ((bytes : List ℕ) → Holds files name bytes → option_and_then (frame_as front_end) (item_read bytes First front_end) ≡ None)
+    → IfOk r (λ o. (bytes : List ℕ) → Holds mid name bytes → o ≡ next_usable bytes First (front_end + 1)) → IfOk r (λ o. (bytes : List ℕ) → Holds files name bytes → o ≡ first_frame bytes front_end)
+first_behind name files mid front_end (Ok o) same none next = λ bytes holds. next bytes (subst (λ f. Holds f name bytes) (sym same) holds) ∙ sym (first_later bytes front_end (none bytes holds))
+first_behind name files mid front_end (Err fault) same none next = tt

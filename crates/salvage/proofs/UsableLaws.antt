@@ -1,0 +1,111 @@
+-- Whether a frame is usable is seen by a look.
+use Rattle.std.proofs.Common.{◌≡◌, ℕ, ◌+◌, ◌<◌, ◌≤◌, ◌||◌, ◌&&◌, ◌==◌, min, Bool, true, false, cond, not, List, length, take, drop, Option, Some, None, refl, sym, ◌∙◌, ap, ap₂, subst, arith}
+use Rattle.std.specs.Prelude.{is_some}
+use Rattle.std.proofs.lemmas.List.{take-take}
+use Rattle.frame_header.specs.Fields.{HeaderFields, IsHeader, same_class}
+use Rattle.frame_header.specs.Tables.{class_of, length_of, overhead_of}
+use Rattle.frame_header.proofs.Lengths.{length-most}
+use Rattle.frame_header.proofs.HeaderLaws.{IsClass-class_of}
+use Rattle.side_info.specs.Frame.{word_said, word_right, side_in}
+use Rattle.side_info.specs.CheckWord.{check_word_of}
+use Rattle.side_info.proofs.FrameLaws.{side_in-take, word_said-take, overhead-few}
+use Rattle.sync_survey.specs.declared.items.Item.{Item}
+use Rattle.sync_survey.specs.declared.items.Item.TheVariants.{Frame, Free, Block, Zero, End, Nothing}
+use Rattle.sync_survey.specs.declared.places.PlacedFrame.{PlacedFrame}
+use Rattle.sync_survey.specs.declared.runs.Part.TheVariants.{Stream}
+use Rattle.sync_survey.specs.Items.{item_front, item_at, size_of}
+use Rattle.sync_survey.specs.Runs.{belongs, item_of}
+use Rattle.sync_survey.specs.Start.{anchored_frame}
+use Rattle.sync_survey.specs.Walk.{own_bytes, head_by}
+use Rattle.sync_survey.specs.Looks.{look_size, Shows}
+use Rattle.sync_survey.proofs.LooksLaws.{item_at-shown}
+use Rattle.sync_survey.proofs.RunsLaws.{item_of-whole}
+use Rattle.sync_survey.proofs.StepLaws.{item_header, overhead_few}
+use Rattle.salvage.specs.declared.usable.Role.{Role}
+use Rattle.salvage.specs.declared.usable.Role.TheVariants.{First, Later}
+use Rattle.salvage.specs.Usable.{has_right_word, is_head, is_usable, if_usable, usable_anchored}
+use Rattle.salvage.specs.Walk.{is_read, if_read, item_read}
+use Rattle.salvage.specs.Steps.{admits_item}
+
+-- a header that stands somewhere is of a frame with few bytes
+pub length_few : (front : List ℕ) (h : HeaderFields) → item_front front ≡ Frame h → length_of (class_of h) h.slot ≤ 1441
+length_few front h is =
+    let known = item_header front (Frame h) (sym is) h refl in
+    length-most (class_of h) h.slot (IsClass-class_of h known) known.slot
+
+-- the look shows all that is judged
+pub room_shown : (front : List ℕ) (h : HeaderFields) (left : ℕ) → item_front front ≡ Frame h → size_of (Frame h) ≤ left → length front ≡ min look_size left → overhead_of (class_of h) h.protected ≤ length front
+room_shown front h left is within many = omega (arith, overhead_few front (Frame h) h (sym is) refl, length_few front h is, within, many)
+
+word-take : (h : HeaderFields) (n : ℕ) (bytes : List ℕ) → 38 ≤ n → has_right_word h (take n bytes) ≡ has_right_word h bytes
+word-take h n bytes many =
+    let few = overhead-few (class_of h) h.protected in
+    ap₂ (λ (said right : ℕ). not h.protected || (said == right)) (word_said-take n bytes (omega (arith, many))) (ap (check_word_of h) (side_in-take h n bytes (omega (arith, few, many))))
+
+head-take : (p : PlacedFrame) (n : ℕ) (bytes : List ℕ) → length_of (class_of p.header) p.header.slot ≤ n → is_head p (take n bytes) ≡ is_head p bytes
+head-take p n bytes few = ap (λ l. is_some (head_by p l)) (take-take (length_of (class_of p.header) p.header.slot) n bytes few)
+
+usable-take : (role : Role) (p : PlacedFrame) (n : ℕ) (bytes : List ℕ) → 38 ≤ n → length_of (class_of p.header) p.header.slot ≤ n → is_usable role p (take n bytes) ≡ is_usable role p bytes
+usable-take First p n bytes many few = ap₂ (λ (a b : Bool). a || b) (word-take p.header n bytes many) (head-take p n bytes few)
+usable-take (Later class) p n bytes many few = ap (λ (b : Bool). same_class (class_of p.header) class && b) (word-take p.header n bytes many)
+
+module _ (file : List ℕ) (at : ℕ) (front : List ℕ) (left : ℕ) (shows : Shows file at front left) where
+  pub usable_shown : (role : Role) (p : PlacedFrame) → p.offset ≡ at → item_front front ≡ Frame p.header → is_usable role p front ≡ is_usable role p (drop p.offset file)
+  usable_shown role p here is =
+      ap (is_usable role p) shows.front_is
+      ∙ usable-take role p look_size (drop at file) (omega arith) (omega (arith, length_few front p.header is))
+      ∙ ap (λ n. is_usable role p (drop n file)) (sym here)
+
+  -- ---- an anchored frame
+
+  usable_by : (role : Role) (o : Option PlacedFrame) → o ≡ anchored_frame file at → if_usable file role o ≡ usable_anchored file role at
+  unfolding usable_anchored
+  usable_by role o is = ap (if_usable file role) is
+
+  pub none_anchored : (role : Role) → None ≡ anchored_frame file at → None ≡ usable_anchored file role at
+  none_anchored role is = usable_by role None is
+
+  pub frame_anchored : (role : Role) (p : PlacedFrame) → Some p ≡ anchored_frame file at → p.offset ≡ at → item_front front ≡ Frame p.header → is_usable role p front ≡ true → Some p ≡ usable_anchored file role at
+  frame_anchored role p anchored here is usable =
+      sym (ap (λ b. cond b (Some p) None) (sym (usable_shown role p here is) ∙ usable)) ∙ usable_by role (Some p) anchored
+
+  pub frame_refused : (role : Role) (p : PlacedFrame) → Some p ≡ anchored_frame file at → p.offset ≡ at → item_front front ≡ Frame p.header → is_usable role p front ≡ false → None ≡ usable_anchored file role at
+  frame_refused role p anchored here is usable =
+      sym (ap (λ b. cond b (Some p) None) (sym (usable_shown role p here is) ∙ usable)) ∙ usable_by role (Some p) anchored
+
+  -- ---- an item that is read
+
+  read_by : (role : Role) (o : Option Item) → item_of Stream file at ≡ o → item_read file role at ≡ if_read file role at o
+  unfolding item_read
+  read_by role o is = ap (if_read file role at) is
+
+  pub none_read : (role : Role) → item_of Stream file at ≡ None → item_read file role at ≡ None
+  none_read role is = read_by role None is
+
+  read_shown : (role : Role) (item : Item) → item_front front ≡ item → admits_item role at item front ≡ is_read file role at item
+  read_shown role (Frame h) is = usable_shown role (record { offset = at; header = h }) refl is
+  read_shown role Free is = refl
+  read_shown role (Block b) is = refl
+  read_shown role Zero is = refl
+  read_shown role End is = refl
+  read_shown role Nothing is = refl
+
+  whole_by : (item : Item) (size : ℕ) → item ≡ item_front front → belongs Stream item ≡ true → 0 < size_of item → size_of item ≤ size → size ≤ left → item_of Stream file at ≡ Some item
+  whole_by item size is here some least within =
+      item_of-whole Stream file at item (sym (item_at-shown file at front left shows) ∙ sym is) here (omega (arith, some, least, within, shows.left_is))
+
+  -- the item that is passed is whole
+  pub step_whole : (item : Item) (size : ℕ) → item ≡ item_front front → ((item ≡ Zero → ⊥) → size ≡ size_of item) → 0 < size → size_of item ≤ size → size ≤ left → item_of Stream file at ≡ Some item
+  step_whole (Frame h) size is own some least within = whole_by (Frame h) size is refl (omega (arith, own (λ e. cc), some)) least within
+  step_whole Free size is own some least within = absurd (omega (arith, own (λ e. cc), some))
+  step_whole (Block b) size is own some least within = whole_by (Block b) size is refl (omega (arith, own (λ e. cc), some)) least within
+  step_whole Zero size is own some least within = whole_by Zero size is refl (omega arith) least within
+  step_whole End size is own some least within = absurd (omega (arith, own (λ e. cc), some))
+  step_whole Nothing size is own some least within = absurd (omega (arith, own (λ e. cc), some))
+
+  -- it is read, or not
+  pub item_taken : (role : Role) (item : Item) → item_of Stream file at ≡ Some item → item ≡ item_front front → admits_item role at item front ≡ true → item_read file role at ≡ Some item
+  item_taken role item here is admits = read_by role (Some item) here ∙ ap (λ b. cond b (Some item) None) (sym (read_shown role item (sym is)) ∙ admits)
+
+  pub item_refused : (role : Role) (item : Item) → item_of Stream file at ≡ Some item → item ≡ item_front front → admits_item role at item front ≡ false → item_read file role at ≡ None
+  item_refused role item here is admits = read_by role (Some item) here ∙ ap (λ b. cond b (Some item) None) (sym (read_shown role item (sym is)) ∙ admits)

@@ -1,0 +1,18 @@
+-- No usable anchored frame stands at an offset before.
+use Rattle.std.proofs.Common.{◌-◌, ◌≡◌, ℕ, ◌<◌, ◌≤◌, List, None}
+use Rattle.outside.specs.Files.{Holds}
+use Rattle.outside.specs.Feed.{IsFedFrom}
+use Rattle.salvage.specs.Usable.{usable_anchored}
+use Rattle.salvage.proofs.search.next_usable.Given as goal
+
+abbrev pub invariant-loop-at : goal.invariant-loop-at
+invariant-loop-at g l = record {
+  none : (bytes : List ℕ) → Holds (g.D.Folder.files l.initial.folder) l.name bytes → (earlier : ℕ) → l.from ≤ earlier → earlier < l.at → usable_anchored bytes l.role earlier ≡ None;
+  low : l.from ≤ l.at;
+  fed : IsFedFrom l.feed (g.D.Folder.files l.folder) l.name;
+  files : g.D.Folder.files l.folder ≡ g.D.Folder.files l.initial.folder;
+  counts : g.D.Folder.counts l.folder ≡ g.D.Folder.counts l.initial.folder;
+}
+
+abbrev pub decreases-loop-at : goal.decreases-loop-at
+decreases-loop-at g l = l.size - l.at
