@@ -1,5 +1,5 @@
 -- What is kept of an item or a gap behind what was kept before.
-use Rattle.std.specs.Prelude.{◌≡◌, ℕ, ◌+◌, ◌⊎◌, not, List, [], ◌∷◌, ◌++◌, length, Some, option_to_list}
+use Rattle.std.specs.Prelude.{◌≡◌, ℕ, ◌+◌, ◌-◌, not, List, [], ◌∷◌, ◌++◌, length, drop, Some, option_to_list}
 use Rattle.sync_survey.specs.declared.items.Item.{Item}
 use Rattle.sync_survey.specs.declared.items.Item.TheVariants.{Frame, Free, Block, Zero, End, Nothing}
 use Rattle.sync_survey.specs.declared.places.Piece.{Piece}
@@ -11,6 +11,7 @@ use Rattle.sync_survey.specs.Runs.{block_as}
 use Rattle.sync_survey.specs.MainData.{row_in, own_area}
 use Rattle.salvage.specs.declared.found.Found.{Found}
 use Rattle.salvage.specs.declared.gap.Gap.{Gap}
+use Rattle.salvage.specs.Walk.{Thing, IsItem, IsGap, PlacedThing}
 use Rattle.salvage.specs.Sound.{is_sound, sound_end}
 use Rattle.salvage.specs.Damaged.{most_frames}
 
@@ -36,22 +37,42 @@ abbrev pub before_behind : Before → ℕ → List ℕ → Item → Before
 before_behind b at bytes (Frame h) = before_next b (row_in at h bytes)
 before_behind b at bytes item = b
 
+-- ---- what a walk has left
+
+-- the row of a thing
+abbrev pub rows_here : List ℕ → Before → ℕ → Thing → List Row
+rows_here file b at (IsItem item) = rows_in b at (drop at file) item
+rows_here file b at (IsGap n) = []
+
+-- the main data behind it
+abbrev pub before_here : List ℕ → Before → ℕ → Thing → Before
+before_here file b at (IsItem item) = before_behind b at (drop at file) item
+before_here file b at (IsGap n) = none_before
+
+-- the rows of these things, by the main data before the first of them
+abbrev pub rows_left : List ℕ → Before → List PlacedThing → List Row
+rows_left file b [] = []
+rows_left file b (t ∷ ts) = rows_here file b t.offset t.thing ++ rows_left file (before_here file b t.offset t.thing) ts
+
+-- ---- what is kept
+
 -- these rows, blocks and gaps are kept behind the others
-pub record Adds (rows : List Row) (blocks : List Piece) (gaps : List Gap) (before : Before) (old new : Found) : Type 0 where
-  pub rows : new.rows.items ≡ old.rows.items ++ rows
-  pub pieces : new.pieces.items ≡ old.pieces.items ++ blocks
-  pub gaps : new.gaps.items ≡ old.gaps.items ++ gaps
-  pub before : new.before ≡ before
+pub record Adds (found_rows : List Row) (found_blocks : List Piece) (found_gaps : List Gap) (main : Before) (to : ℕ) (old new : Found) : Type 0 where
+  pub rows : new.rows.items ≡ old.rows.items ++ found_rows
+  pub pieces : new.pieces.items ≡ old.pieces.items ++ found_blocks
+  pub gaps : new.gaps.items ≡ old.gaps.items ++ found_gaps
+  pub before : new.before ≡ main
+  pub at : new.at ≡ to
 
--- the item at an offset is kept, by the bytes from there on
-abbrev pub AddsItem : ℕ → Item → List ℕ → Found → Found → Type 0
-AddsItem at item bytes old new = Adds (rows_in old.before at bytes item) (option_to_list (block_as at item)) [] (before_behind old.before at bytes item) old new
+-- the item where the reading stands is kept, by the bytes from there on, and so many bytes are passed
+abbrev pub AddsItem : Item → ℕ → List ℕ → Found → Found → Type 0
+AddsItem item size bytes old new = Adds (rows_in old.before old.at bytes item) (option_to_list (block_as old.at item)) [] (before_behind old.before old.at bytes item) (old.at + size) old new
 
--- the gap is
-abbrev pub AddsGap : Gap → Found → Found → Type 0
-AddsGap gap old new = Adds [] [] (gap ∷ []) none_before old new
+-- a gap from there to another offset is
+abbrev pub AddsGap : ℕ → Found → Found → Type 0
+AddsGap to old new = Adds [] [] (record { offset = old.at; length = to - old.at } ∷ []) none_before to old new
 
--- the frame at an offset is the first past the number that a file may have
-abbrev pub IsPastMost : ℕ → Item → Found → SurveyFault → Type 0
-IsPastMost at (Frame h) old fault = (fault ≡ TooManyFrames at) × (length old.rows.items ≡ most_frames)
-IsPastMost at item old fault = ⊥
+-- the frame there is the first past the number that a file may have
+abbrev pub IsPastMost : Item → Found → SurveyFault → Type 0
+IsPastMost (Frame h) old fault = (fault ≡ TooManyFrames old.at) × (length old.rows.items ≡ most_frames)
+IsPastMost item old fault = ⊥

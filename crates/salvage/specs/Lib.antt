@@ -5,3 +5,4 @@ pub mod Sound
 pub mod Damaged
 pub mod Judged
 pub mod Steps
+pub mod Progress

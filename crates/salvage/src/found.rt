@@ -1,5 +1,5 @@
 //! What was found so far.
-ghost use Rattle.std.specs.Prelude.{◌≡◌, ◌⊎◌, ◌^◌, ◌≤◌, ◌-◌, false, MatchResult, OnOk};
+ghost use Rattle.std.specs.Prelude.{◌≡◌, ◌⊎◌, ◌^◌, ◌≤◌, ◌+◌, false, MatchResult, OnOk};
 ghost use Rattle.frame_header.specs.Fields.{HeaderFields};
 ghost use Rattle.frame_header.specs.Tables.{class_of};
 ghost use Rattle.side_info.specs.Side.{SideFits};
@@ -15,13 +15,15 @@ use sync_survey::{Before, Item, Piece, Row, SurveyFault};
 /// A file may have so many frames.
 const MOST_FRAMES: usize = 2_900_000;
 
-/// The frames that were found and judged, the blocks, the gaps, and the main data since the last gap.
+/// The frames that were found and judged, the blocks, the gaps, the main data since the last gap, and the
+/// offset up to which the file was read.
 #[derive(Drop)]
 pub(crate) struct Found {
     pub(crate) rows: Vec<Row>,
     pub(crate) pieces: Vec<Piece>,
     pub(crate) gaps: Vec<Gap>,
     pub(crate) before: Before,
+    pub(crate) at: u64,
 }
 
 /// Marks the row where its frame isn't sound by the main data before it, and answers those before the next
@@ -47,22 +49,22 @@ fn mark(before: &Before, row: &mut Row) -> Before
 }
 
 impl Found {
-    /// Judges the frame at the offset and keeps it. The first of the bytes are its own.
-    fn judge(&mut self, offset: u64, header: Header, bytes: &[u8]) -> Result<(), SurveyFault>
+    /// Judges the frame where the reading stands, and keeps it. The first of the bytes are its own.
+    fn judge(&mut self, header: Header, bytes: &[u8]) -> Result<(), SurveyFault>
         requires room { ReachArea header bytes.now }
         requires bound { self.old.before.place ≤ 2 ^ 62 }
         ensures { MatchResult result
-            (λ _. AddsItem offset (Item.Frame header) bytes.now self.old self.new)
+            (λ _. AddsItem (Item.Frame header) 0 bytes.now self.old self.new)
             (λ fault. (fault ≡ SurveyFault.Memory)
-            ⊎ IsPastMost offset (Item.Frame header) self.old fault) }
+            ⊎ IsPastMost (Item.Frame header) self.old fault) }
     {
         let count = self.rows.len();
         if count == MOST_FRAMES {
-            return Err(SurveyFault::TooManyFrames(offset));
+            return Err(SurveyFault::TooManyFrames(self.at));
         }
         // The row is read and judged where it stays, since to copy it takes as long as to read it.
         self.rows.push(Row {
-            offset,
+            offset: self.at,
             header,
             side: Side::empty(),
             lost: false,
@@ -73,38 +75,50 @@ impl Found {
         Ok(())
     }
 
-    /// Keeps the item at the offset. The first of the bytes are its own.
-    pub(crate) fn keep(
-        &mut self,
-        offset: u64,
-        item: &Item,
-        bytes: &[u8],
-    ) -> Result<(), SurveyFault>
+    /// Keeps the item where the reading stands. The first of the bytes are its own.
+    fn keep_item(&mut self, item: &Item, bytes: &[u8]) -> Result<(), SurveyFault>
         requires room { (h : HeaderFields) → item.now ≡ Item.Frame h → ReachArea h bytes.now }
         requires bound { self.old.before.place ≤ 2 ^ 62 }
         ensures { MatchResult result
-            (λ _. AddsItem offset item.now bytes.now self.old self.new)
-            (λ fault. (fault ≡ SurveyFault.Memory) ⊎ IsPastMost offset item.now self.old fault) }
+            (λ _. AddsItem item.now 0 bytes.now self.old self.new)
+            (λ fault. (fault ≡ SurveyFault.Memory) ⊎ IsPastMost item.now self.old fault) }
     {
         match *item {
-            Item::Frame(header) => self.judge(offset, header, bytes)?,
-            Item::Block(block) => self.pieces.push(Piece { offset, block })?,
+            Item::Frame(header) => self.judge(header, bytes)?,
+            Item::Block(block) => {
+                let offset = self.at;
+                self.pieces.push(Piece { offset, block })?;
+            }
             _ => {}
         }
         Ok(())
     }
 
-    /// Keeps a gap from one offset to another. The main data begin anew behind it.
-    pub(crate) fn skip(&mut self, from: u64, to: u64) -> Result<(), AllocError>
-        requires { from ≤ to }
-        ensures { OnOk result (AddsGap (record { offset = from; length = to - from })
-            self.old self.new) }
+    /// Keeps the item where the reading stands, and passes so many bytes. The first of the bytes are its own.
+    pub(crate) fn keep(&mut self, item: &Item, size: u64, bytes: &[u8]) -> Result<(), SurveyFault>
+        requires room { (h : HeaderFields) → item.now ≡ Item.Frame h → ReachArea h bytes.now }
+        requires bound { self.old.before.place ≤ 2 ^ 62 }
+        requires short { self.old.at + size ≤ 2 ^ 62 }
+        ensures { MatchResult result
+            (λ _. AddsItem item.now size bytes.now self.old self.new)
+            (λ fault. (fault ≡ SurveyFault.Memory) ⊎ IsPastMost item.now self.old fault) }
+    {
+        self.keep_item(item, bytes)?;
+        self.at += size;
+        Ok(())
+    }
+
+    /// Keeps a gap from where the reading stands to another offset. The main data begin anew behind it.
+    pub(crate) fn skip(&mut self, to: u64) -> Result<(), AllocError>
+        requires { self.old.at ≤ to }
+        ensures { OnOk result (AddsGap to self.old self.new) }
     {
         self.gaps.push(Gap {
-            offset: from,
-            length: to - from,
+            offset: self.at,
+            length: to - self.at,
         })?;
         self.before = Before { place: 0, ended: 0 };
+        self.at = to;
         Ok(())
     }
 }

@@ -1,0 +1,82 @@
+-- How far a damaged file was read.
+use Rattle.std.specs.Prelude.{◌≡◌, ℕ, ◌+◌, ◌≤◌, List, [], ◌∷◌, ◌++◌, IfSome, Some}
+use Rattle.frame_header.specs.Fields.{ClassFields, IsHeader}
+use Rattle.frame_header.specs.Tables.{class_of}
+use Rattle.outside.specs.Files.{Files, Holds}
+use Rattle.sync_survey.specs.declared.rows.Row.{Row}
+use Rattle.sync_survey.specs.declared.items.Item.TheVariants.{Frame}
+use Rattle.sync_survey.specs.Items.{size_of}
+use Rattle.sync_survey.specs.Start.{front_end_of}
+use Rattle.sync_survey.specs.Walk.{head_of, IsFrameOf}
+use Rattle.sync_survey.specs.Faults.{SurveyFields}
+use Rattle.sync_survey.specs.Survey.{HasLength, AreLaid, BlocksAreLaid, IsWholeHead}
+use Rattle.salvage.specs.declared.begun.Begun.{Begun}
+use Rattle.salvage.specs.declared.found.Found.{Found}
+use Rattle.salvage.specs.declared.gap.Gap.{Gap}
+use Rattle.salvage.specs.Walk.{things, gaps_of, blocks_in, first_frame}
+use Rattle.salvage.specs.Damaged.{DamagedFields, damaged_from}
+use Rattle.salvage.specs.Judged.{rows_left}
+
+-- the class of the first frame
+abbrev pub class_in : Begun → ClassFields
+class_in b = class_of b.start.first.header
+
+-- a file begins so
+pub record BeginsSo (file : List ℕ) (b : Begun) : Type 0 where
+  pub front : b.start.front_end ≡ front_end_of file
+  pub first : first_frame file b.start.front_end ≡ Some b.start.first
+  pub head : b.head ≡ head_of file b.start.first
+
+-- The name's file begins so: its first frame is within its length, and is the head where there is one; where the file is told, so are its
+-- bytes.
+pub record IsBegun (files : Files) (name : List ℕ) (b : Begun) : Type 0 where
+  pub known : HasLength files name b.size
+  pub whole : b.start.first.offset + size_of (Frame b.start.first.header) ≤ b.size
+  pub junk : b.start.front_end ≤ b.start.first.offset
+  pub same : IfSome b.head (IsFrameOf b.start.first)
+  pub told : (bytes : List ℕ) → Holds files name bytes → BeginsSo bytes b
+
+-- all that is read of the file
+abbrev pub whole_of : List ℕ → Begun → DamagedFields
+whole_of file b = damaged_from file b.start.front_end b.start.first
+
+-- what was found, and behind it what the walk has left, is all that is read
+pub record IsReadTo (file : List ℕ) (b : Begun) (found : Found) : Type 0 where
+  pub rows : found.rows.items ++ rows_left file found.before (things file (class_in b) found.at) ≡ (whole_of file b).survey.frames
+  pub blocks : found.pieces.items ++ blocks_in (things file (class_in b) found.at) ≡ (whole_of file b).survey.blocks
+  pub gaps : found.gaps.items ++ gaps_of (things file (class_in b) found.at) ≡ (whole_of file b).gaps
+
+-- so far the name's file was read
+abbrev pub AreReadTo : Files → List ℕ → Begun → Found → Type 0
+AreReadTo files name b found = (bytes : List ℕ) → Holds files name bytes → IsReadTo bytes b found
+
+-- ---- what is known, whatever is told of the file
+
+-- these gaps stand one behind the other from one offset to another, and none is empty
+abbrev pub GapsAreLaid : ℕ → List Gap → ℕ → Type 0
+GapsAreLaid from [] to = from ≤ to
+GapsAreLaid from (g ∷ gaps) to = (from ≤ g.offset) × (1 ≤ g.length) × GapsAreLaid (g.offset + g.length) gaps to
+
+-- these frames have headers of the standard, and are of the class
+abbrev pub AreOfClass : ClassFields → List Row → Type 0
+AreOfClass class [] = Unit {0}
+AreOfClass class (r ∷ rows) = IsHeader r.header × (class_of r.header ≡ class) × AreOfClass class rows
+
+-- what was found stands in order, before where the reading stands
+pub record IsLaidTo (b : Begun) (found : Found) : Type 0 where
+  pub rows : AreLaid b.start.first.offset found.rows.items found.at
+  pub class : AreOfClass (class_in b) found.rows.items
+  pub pieces : BlocksAreLaid 0 found.pieces.items found.at
+  pub gaps : GapsAreLaid 0 found.gaps.items found.at
+  pub low : found.before.place ≤ 1441 + found.at
+  pub within : found.at ≤ b.size
+
+-- the gaps and the junk stand before the first frame or behind it, and head, frames, blocks and gaps are within the length
+pub record IsLaidOut (d : DamagedFields) : Type 0 where
+  pub junk : d.survey.junk ≤ d.survey.first
+  pub first : d.survey.first ≤ d.survey.length
+  pub head : IfSome d.survey.head (IsWholeHead d.survey.first d.survey.class d.survey.length)
+  pub frames : AreLaid d.survey.first d.survey.frames d.survey.length
+  pub class : AreOfClass d.survey.class d.survey.frames
+  pub blocks : BlocksAreLaid 0 d.survey.blocks d.survey.length
+  pub gaps : GapsAreLaid 0 d.gaps d.survey.length
