@@ -2,3 +2,7 @@
 pub mod UsableLaws
 pub mod ReadFaults
 pub mod SearchLaws
+pub mod WalkLaws
+pub mod SoundLaws
+pub mod ProgressLaws
+pub mod Results

@@ -1,5 +1,5 @@
 -- How far a damaged file was read.
-use Rattle.std.specs.Prelude.{◌≡◌, ℕ, ◌+◌, ◌≤◌, List, [], ◌∷◌, ◌++◌, IfSome, Some}
+use Rattle.std.specs.Prelude.{◌≡◌, ℕ, ◌+◌, ◌<◌, ◌≤◌, List, [], ◌∷◌, ◌++◌, length, IfSome, Some}
 use Rattle.frame_header.specs.Fields.{ClassFields, IsHeader}
 use Rattle.frame_header.specs.Tables.{class_of}
 use Rattle.outside.specs.Files.{Files, Holds}
@@ -14,7 +14,7 @@ use Rattle.salvage.specs.declared.begun.Begun.{Begun}
 use Rattle.salvage.specs.declared.found.Found.{Found}
 use Rattle.salvage.specs.declared.gap.Gap.{Gap}
 use Rattle.salvage.specs.Walk.{things, gaps_of, blocks_in, first_frame}
-use Rattle.salvage.specs.Damaged.{DamagedFields, damaged_from}
+use Rattle.salvage.specs.Damaged.{DamagedFields, damaged_from, most_frames}
 use Rattle.salvage.specs.Judged.{rows_left}
 
 -- the class of the first frame
@@ -39,6 +39,21 @@ pub record IsBegun (files : Files) (name : List ℕ) (b : Begun) : Type 0 where
 -- all that is read of the file
 abbrev pub whole_of : List ℕ → Begun → DamagedFields
 whole_of file b = damaged_from file b.start.front_end b.start.first
+
+-- what the code tells of a file that begins so, where this was found in it
+abbrev pub told_of : Begun → Found → DamagedFields
+told_of b found = record {
+  survey = record {
+    frames = found.rows.items;
+    blocks = found.pieces.items;
+    head = b.head;
+    junk = b.start.front_end;
+    first = b.start.first.offset;
+    class = class_in b;
+    length = b.size;
+  };
+  gaps = found.gaps.items;
+}
 
 -- what was found, and behind it what the walk has left, is all that is read
 pub record IsReadTo (file : List ℕ) (b : Begun) (found : Found) : Type 0 where
@@ -70,6 +85,17 @@ pub record IsLaidTo (b : Begun) (found : Found) : Type 0 where
   pub gaps : GapsAreLaid 0 found.gaps.items found.at
   pub low : found.before.place ≤ 1441 + found.at
   pub within : found.at ≤ b.size
+  pub few : length found.rows.items ≤ most_frames
+
+-- so far the name's file was read, and what was found is laid so
+pub record IsReading (files : Files) (name : List ℕ) (b : Begun) (found : Found) : Type 0 where
+  pub told : AreReadTo files name b found
+  pub laid : IsLaidTo b found
+
+-- where it was, so it is behind a call, further on
+pub record ReadsOn (files : Files) (name : List ℕ) (b : Begun) (old new : Found) : Type 0 where
+  pub reading : IsReading files name b new
+  pub on : old.at < new.at
 
 -- the gaps and the junk stand before the first frame or behind it, and head, frames, blocks and gaps are within the length
 pub record IsLaidOut (d : DamagedFields) : Type 0 where
@@ -80,3 +106,5 @@ pub record IsLaidOut (d : DamagedFields) : Type 0 where
   pub class : AreOfClass d.survey.class d.survey.frames
   pub blocks : BlocksAreLaid 0 d.survey.blocks d.survey.length
   pub gaps : GapsAreLaid 0 d.gaps d.survey.length
+  pub some : 0 < length d.survey.frames
+  pub few : length d.survey.frames ≤ most_frames

@@ -1,9 +1,10 @@
 //! What was found so far.
-ghost use Rattle.std.specs.Prelude.{◌≡◌, ◌⊎◌, ◌^◌, ◌≤◌, ◌+◌, false, MatchResult, OnOk};
+ghost use Rattle.std.specs.Prelude.{◌≡◌, ◌⊎◌, ◌^◌, ◌≤◌, ◌+◌, false, length, MatchResult, OnOk};
 ghost use Rattle.frame_header.specs.Fields.{HeaderFields};
 ghost use Rattle.frame_header.specs.Tables.{class_of};
 ghost use Rattle.side_info.specs.Side.{SideFits};
 ghost use Rattle.sync_survey.specs.Looks.{ReachArea, row_read};
+ghost use Rattle.salvage.specs.Damaged.{most_frames};
 ghost use Rattle.salvage.specs.Judged.{judged_by, before_next, AddsItem, AddsGap, IsPastMost};
 
 use crate::gap::Gap;
@@ -53,10 +54,12 @@ impl Found {
     fn judge(&mut self, header: Header, bytes: &[u8]) -> Result<(), SurveyFault>
         requires room { ReachArea header bytes.now }
         requires bound { self.old.before.place ≤ 2 ^ 62 }
-        ensures { MatchResult result
+        ensures kept { MatchResult result
             (λ _. AddsItem (Item.Frame header) 0 bytes.now self.old self.new)
             (λ fault. (fault ≡ SurveyFault.Memory)
             ⊎ IsPastMost (Item.Frame header) self.old fault) }
+        ensures few { OnOk result (length self.old.rows.items ≤ most_frames
+            → length self.new.rows.items ≤ most_frames) }
     {
         let count = self.rows.len();
         if count == MOST_FRAMES {
@@ -79,9 +82,11 @@ impl Found {
     fn keep_item(&mut self, item: &Item, bytes: &[u8]) -> Result<(), SurveyFault>
         requires room { (h : HeaderFields) → item.now ≡ Item.Frame h → ReachArea h bytes.now }
         requires bound { self.old.before.place ≤ 2 ^ 62 }
-        ensures { MatchResult result
+        ensures kept { MatchResult result
             (λ _. AddsItem item.now 0 bytes.now self.old self.new)
             (λ fault. (fault ≡ SurveyFault.Memory) ⊎ IsPastMost item.now self.old fault) }
+        ensures few { OnOk result (length self.old.rows.items ≤ most_frames
+            → length self.new.rows.items ≤ most_frames) }
     {
         match *item {
             Item::Frame(header) => self.judge(header, bytes)?,
@@ -99,9 +104,11 @@ impl Found {
         requires room { (h : HeaderFields) → item.now ≡ Item.Frame h → ReachArea h bytes.now }
         requires bound { self.old.before.place ≤ 2 ^ 62 }
         requires short { self.old.at + size ≤ 2 ^ 62 }
-        ensures { MatchResult result
+        ensures kept { MatchResult result
             (λ _. AddsItem item.now size bytes.now self.old self.new)
             (λ fault. (fault ≡ SurveyFault.Memory) ⊎ IsPastMost item.now self.old fault) }
+        ensures few { OnOk result (length self.old.rows.items ≤ most_frames
+            → length self.new.rows.items ≤ most_frames) }
     {
         self.keep_item(item, bytes)?;
         self.at += size;

@@ -1,19 +1,21 @@
 //! The reading of a damaged file of a folder.
-ghost use Rattle.std.specs.Prelude.{◌≡◌, ◌+◌, ◌<◌, ◌≤◌, ℕ, List, [], length, IfOk, IfErr, IfSome, OnOk, ◌^◌};
+ghost use Rattle.std.specs.Prelude.{◌≡◌, ◌+◌, ◌<◌, ◌≤◌, ℕ, List, [], None, length, IfOk, IfErr, IfSome, OnOk, ◌^◌};
 ghost use Rattle.outside.specs.Files.{Holds, IsThere};
 ghost use Rattle.outside.specs.Counts.{OnlyReads};
 ghost use Rattle.outside.specs.Feed.{IsFedFrom};
 ghost use Rattle.sync_survey.specs.declared.runs.Part.TheVariants.{Front};
+ghost use Rattle.sync_survey.specs.declared.survey_fault.SurveyFault.TheVariants.{NoFrame};
 ghost use Rattle.sync_survey.specs.declared.items.Item.TheVariants.{Frame};
 ghost use Rattle.sync_survey.specs.Items.{size_of};
 ghost use Rattle.sync_survey.specs.Walk.{numbered_at};
 ghost use Rattle.sync_survey.specs.MainData.{head_area as head_area_lem};
 ghost use Rattle.sync_survey.specs.Runs.{run, blocks_of};
 ghost use Rattle.sync_survey.specs.Kinds.{HasRightNumbers};
-ghost use Rattle.sync_survey.specs.Survey.{HoldsOctets, BlocksAreLaid};
-ghost use Rattle.salvage.specs.Walk.{end_by};
+ghost use Rattle.sync_survey.specs.Survey.{HasLength, HoldsOctets, BlocksAreLaid};
+ghost use Rattle.salvage.specs.declared.usable.Role.TheVariants.{Later};
+ghost use Rattle.salvage.specs.Walk.{item_read, end_by};
 ghost use Rattle.salvage.specs.Damaged.{tells_of, IsReadOf, IsReadFault, IsReadRefusal, gap_between};
-ghost use Rattle.salvage.specs.Progress.{IsBegun, AreReadTo, IsLaidTo, IsLaidOut};
+ghost use Rattle.salvage.specs.Progress.{class_in, told_of, IsBegun, IsReading, ReadsOn, IsLaidOut};
 
 use crate::begun::Begun;
 use crate::damaged::Damaged;
@@ -69,13 +71,21 @@ fn found_first(alloc: Global, begun: &Begun, pieces: Vec<Piece>) -> Result<Found
 /// Where a gap ends: where the next frame begins, or with the file.
 fn end_of(next: Option<PlacedFrame>, size: u64) -> u64
     ensures told { (file : List ℕ) → size ≡ length file → result ≡ end_by file next }
-    ensures within { IfSome next (λ p. p.offset ≤ size) → result ≤ size }
+    ensures within { IfSome next (λ p. p.offset + size_of (Frame p.header) ≤ size)
+        → result ≤ size }
     ensures behind { (at : ℕ) → at ≤ size → IfSome next (λ p. at ≤ p.offset) → at ≤ result }
 {
     match next {
         Some(frame) => frame.offset,
         None => size,
     }
+}
+
+/// What a frame behind the first is wanted for.
+fn later_role(begun: &Begun) -> Role
+    ensures { result ≡ Later (class_in begun.now) }
+{
+    Role::Later(begun.start.first.header.class())
 }
 
 /// Keeps the gap that begins where the reading stands.
@@ -85,10 +95,26 @@ fn read_gap<D: Folder>(
     name: &str,
     begun: &Begun,
     found: &mut Found,
-) -> Result<(), SurveyFault> {
-    let role = Role::Later(begun.start.first.header.class());
+) -> Result<(), SurveyFault>
+    requires begun { IsBegun (D.files folder.old) name.now begun.now }
+    requires fed { IsFedFrom feed.old (D.files folder.old) name.now }
+    requires before { found.old.at < begun.now.size }
+    requires none { (bytes : List ℕ) → Holds (D.files folder.old) name.now bytes
+        → item_read bytes (Later (class_in begun.now)) found.old.at ≡ None }
+    requires reading { IsReading (D.files folder.old) name.now begun.now found.old }
+    ensures reading { OnOk result (ReadsOn (D.files folder.old) name.now begun.now
+        found.old found.new) }
+    ensures done { OnOk result (D.counts folder.new ≡ D.counts folder.old) }
+    ensures refused { IfErr result (IsReadRefusal name.now (D.files folder.old)
+        (D.counts folder.old) (D.counts folder.new)) }
+    ensures fed { IsFedFrom feed.new (D.files folder.new) name.now }
+    ensures files { D.files folder.new ≡ D.files folder.old }
+    ensures counts { OnlyReads (D.counts folder.old) (D.counts folder.new) }
+{
+    let role = later_role(begun);
     let next = next_usable(feed, folder, name, begun.size, found.at + 1, role)?;
-    found.skip(end_of(next, begun.size))?;
+    let end = end_of(next, begun.size);
+    found.skip(end)?;
     Ok(())
 }
 
@@ -99,9 +125,22 @@ fn read_thing<D: Folder>(
     name: &str,
     begun: &Begun,
     found: &mut Found,
-) -> Result<(), SurveyFault> {
+) -> Result<(), SurveyFault>
+    requires begun { IsBegun (D.files folder.old) name.now begun.now }
+    requires fed { IsFedFrom feed.old (D.files folder.old) name.now }
+    requires before { found.old.at < begun.now.size }
+    requires reading { IsReading (D.files folder.old) name.now begun.now found.old }
+    ensures reading { OnOk result (ReadsOn (D.files folder.old) name.now begun.now
+        found.old found.new) }
+    ensures done { OnOk result (D.counts folder.new ≡ D.counts folder.old) }
+    ensures refused { IfErr result (IsReadRefusal name.now (D.files folder.old)
+        (D.counts folder.old) (D.counts folder.new)) }
+    ensures fed { IsFedFrom feed.new (D.files folder.new) name.now }
+    ensures files { D.files folder.new ≡ D.files folder.old }
+    ensures counts { OnlyReads (D.counts folder.old) (D.counts folder.new) }
+{
     let left = look(feed, folder, name, begun.size, found.at)?;
-    let role = Role::Later(begun.start.first.header.class());
+    let role = later_role(begun);
     let Some(step) = role.step(feed.bytes(), found.at, left) else {
         return read_gap(feed, folder, name, begun, found);
     };
@@ -115,15 +154,31 @@ fn read_things<D: Folder>(
     name: &str,
     begun: &Begun,
     found: &mut Found,
-) -> Result<(), SurveyFault> {
+) -> Result<(), SurveyFault>
+    requires begun { IsBegun (D.files folder.old) name.now begun.now }
+    requires fed { IsFedFrom feed.old (D.files folder.old) name.now }
+    requires reading { IsReading (D.files folder.old) name.now begun.now found.old }
+    ensures reading { OnOk result (IsReading (D.files folder.old) name.now begun.now found.new) }
+    ensures end { OnOk result (begun.now.size ≤ found.new.at) }
+    ensures done { OnOk result (D.counts folder.new ≡ D.counts folder.old) }
+    ensures refused { IfErr result (IsReadRefusal name.now (D.files folder.old)
+        (D.counts folder.old) (D.counts folder.new)) }
+    ensures files { D.files folder.new ≡ D.files folder.old }
+    ensures counts { OnlyReads (D.counts folder.old) (D.counts folder.new) }
+{
     while found.at < begun.size {
         read_thing(feed, folder, name, begun, found)?;
     }
     Ok(())
 }
 
-/// What was found in a file that was read to its end.
-fn damaged_by(begun: &Begun, found: Found) -> Result<Damaged, SurveyFault> {
+/// What was found in a file that was read to its end. Refuses with `NoFrame` where no frame was.
+fn damaged_by(begun: &Begun, found: Found) -> Result<Damaged, SurveyFault>
+    ensures told { IfOk result (λ d. tells_of d ≡ told_of begun.now found) }
+    ensures some { OnOk result (found.rows.items ≡ [] → ⊥) }
+    ensures none { IfErr result (λ f. (f ≡ NoFrame begun.now.start.front_end)
+        × (found.rows.items ≡ [])) }
+{
     if found.rows.is_empty() {
         return Err(SurveyFault::NoFrame(begun.start.front_end));
     }
@@ -139,23 +194,116 @@ fn damaged_by(begun: &Begun, found: Found) -> Result<Damaged, SurveyFault> {
     })
 }
 
-/// Reads what there is of the file.
+/// Finds where the file begins, and keeps the blocks at its front.
+fn begin<D: Folder>(
+    feed: &mut Feed,
+    folder: &mut D,
+    name: &str,
+    size: u64,
+    pieces: &mut Vec<Piece>,
+) -> Result<Begun, SurveyFault>
+    requires known { HasLength (D.files folder.old) name.now size }
+    requires fed { IsFedFrom feed.old (D.files folder.old) name.now }
+    requires none { pieces.old.items ≡ [] }
+    ensures begun { IfOk result (IsBegun (D.files folder.old) name.now) }
+    ensures blocks { OnOk result ((bytes : List ℕ) → Holds (D.files folder.old) name.now bytes
+        → pieces.new.items ≡ blocks_of (run Front bytes 0).items) }
+    ensures laid { IfOk result (λ b. BlocksAreLaid 0 pieces.new.items b.start.front_end) }
+    ensures done { OnOk result (D.counts folder.new ≡ D.counts folder.old) }
+    ensures refused { IfErr result (IsReadRefusal name.now (D.files folder.old)
+        (D.counts folder.old) (D.counts folder.new)) }
+    ensures fed { IsFedFrom feed.new (D.files folder.new) name.now }
+    ensures files { D.files folder.new ≡ D.files folder.old }
+    ensures counts { OnlyReads (D.counts folder.old) (D.counts folder.new) }
+{
+    let front_end = pass_front(feed, folder, name, size, pieces)?;
+    let Some(first) = first_frame(feed, folder, name, size, front_end)? else {
+        return Err(SurveyFault::NoFrame(front_end));
+    };
+    let head = find_head(feed, folder, name, size, &first)?;
+    let start = Start { front_end, first };
+    Ok(Begun { size, start, head })
+}
+
+/// What is read of a file that begins so, with these blocks at its front.
+fn read_on<D: Folder>(
+    alloc: Global,
+    feed: &mut Feed,
+    folder: &mut D,
+    name: &str,
+    begun: &Begun,
+    pieces: Vec<Piece>,
+) -> Result<Damaged, SurveyFault>
+    requires begun { IsBegun (D.files folder.old) name.now begun.now }
+    requires fed { IsFedFrom feed.old (D.files folder.old) name.now }
+    requires blocks { (bytes : List ℕ) → Holds (D.files folder.old) name.now bytes
+        → pieces.items ≡ blocks_of (run Front bytes 0).items }
+    requires laid { BlocksAreLaid 0 pieces.items begun.now.start.front_end }
+    ensures exact { IfOk result (λ d. IsReadOf name.now (D.files folder.old) (tells_of d)) }
+    ensures laid { IfOk result (λ d. IsLaidOut (tells_of d)) }
+    ensures done { OnOk result (D.counts folder.new ≡ D.counts folder.old) }
+    ensures refused { IfErr result (IsReadRefusal name.now (D.files folder.old)
+        (D.counts folder.old) (D.counts folder.new)) }
+    ensures files { D.files folder.new ≡ D.files folder.old }
+    ensures counts { OnlyReads (D.counts folder.old) (D.counts folder.new) }
+{
+    let Ok(mut found) = found_first(alloc, begun, pieces) else {
+        return Err(SurveyFault::Memory);
+    };
+    read_things(feed, folder, name, begun, &mut found)?;
+    damaged_by(begun, found)
+}
+
+/// What is read of a damaged file, as `read_damaged` has it.
+fn read_file<D: Folder>(
+    alloc: Global,
+    folder: &mut D,
+    name: &str,
+) -> Result<Damaged, SurveyFault>
+    ensures exact { IfOk result (λ d. IsReadOf name.now (D.files folder.old) (tells_of d)) }
+    ensures laid { IfOk result (λ d. IsLaidOut (tells_of d)) }
+    ensures there { OnOk result (IsThere (D.files folder.old) name.now) }
+    ensures octets { OnOk result (HoldsOctets name.now (D.files folder.old)) }
+    ensures done { OnOk result (D.counts folder.new ≡ D.counts folder.old) }
+    ensures refused { IfErr result (IsReadRefusal name.now (D.files folder.old)
+        (D.counts folder.old) (D.counts folder.new)) }
+    ensures files { D.files folder.new ≡ D.files folder.old }
+    ensures counts { OnlyReads (D.counts folder.old) (D.counts folder.new) }
+{
+    let size = find_length(folder, name)?;
+    let mut feed = Feed::new(alloc)?;
+    let mut pieces = Vec::new(alloc);
+    let begun = begin(&mut feed, folder, name, size, &mut pieces)?;
+    read_on(alloc, &mut feed, folder, name, &begun, pieces)
+}
+
+/// What is read of a damaged file. The files stay.
+///
+/// Blocks and zero bytes are passed at the front of the file. The first frame is the usable one that stands where they
+/// end, or the first usable one behind that is anchored. From there on the file is read item by item: usable
+/// frames, blocks and zero bytes. Where none of them stands whole a gap begins; it ends where the next usable frame
+/// stands that is anchored, or with the file. A frame is usable where it is whole, of the class of the first, and its
+/// check word is right where it has one; the first one may be a head with any check word.
+///
+/// Refuses with `Absent`, `TooLong`, `Read`, `Shrunk` and `Memory` as `survey` does; with `NoFrame` and where the
+/// blocks and zero bytes at the front end, where there is no frame besides a head; and with `TooManyFrames` at the
+/// frame with number 2,900,000. With nothing else.
 pub fn read_damaged<D: Folder>(
     alloc: Global,
     folder: &mut D,
     name: &str,
-) -> Result<Damaged, SurveyFault> {
-    let size = find_length(folder, name)?;
-    let mut feed = Feed::new(alloc)?;
-    let mut pieces = Vec::new(alloc);
-    let front_end = pass_front(&mut feed, folder, name, size, &mut pieces)?;
-    let Some(first) = first_frame(&mut feed, folder, name, size, front_end)? else {
-        return Err(SurveyFault::NoFrame(front_end));
-    };
-    let head = find_head(&mut feed, folder, name, size, &first)?;
-    let start = Start { front_end, first };
-    let begun = Begun { size, start, head };
-    let mut found = found_first(alloc, &begun, pieces)?;
-    read_things(&mut feed, folder, name, &begun, &mut found)?;
-    damaged_by(&begun, found)
+) -> Result<Damaged, SurveyFault>
+    ensures exact { IfOk result (λ d. IsReadOf name.now (D.files folder.old) (tells_of d)) }
+    // Whether the files are told or not: where head, frames, blocks and gaps stand, and that there is a frame.
+    ensures laid { IfOk result (λ d. IsLaidOut (tells_of d)) }
+    ensures there { OnOk result (IsThere (D.files folder.old) name.now) }
+    ensures octets { OnOk result (HoldsOctets name.now (D.files folder.old)) }
+    ensures done { OnOk result (D.counts folder.new ≡ D.counts folder.old) }
+    ensures refused { IfErr result (IsReadFault name.now (D.files folder.old)
+        (D.counts folder.old) (D.counts folder.new)) }
+    ensures numbers { IfErr result HasRightNumbers }
+    ensures files { D.files folder.new ≡ D.files folder.old }
+    ensures counts { OnlyReads (D.counts folder.old) (D.counts folder.new) }
+{
+    read_file(alloc, folder, name)
 }

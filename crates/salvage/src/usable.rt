@@ -1,5 +1,5 @@
 //! Frames of a damaged file that can be used.
-ghost use Rattle.std.specs.Prelude.{◌≡◌, ◌≤◌, ◌<◌, ◌==◌, ℕ, List, length, min, IfSome, option_and_then};
+ghost use Rattle.std.specs.Prelude.{◌≡◌, ◌≤◌, ◌<◌, ◌==◌, ℕ, true, List, length, min, IfSome, option_and_then};
 ghost use Rattle.std.specs.List.{prefix_len};
 ghost use Rattle.frame_header.specs.Fields.{HeaderFields};
 ghost use Rattle.sync_survey.specs.Items.{size_of, item_front as item_front_lem};
@@ -98,6 +98,7 @@ impl Role {
         ensures read { (file : List ℕ) → Shows file at front.now left
             → IsRead file self.now at result }
         ensures item { IfSome result (λ s. s.item ≡ item_front_lem front.now) }
+        ensures usable { IfSome result (λ s. admits_item_lem self.now at s.item front.now ≡ true) }
         ensures zeros { IfSome result (λ s. s.item ≡ Item.Zero
             → s.size ≡ prefix_len (λ b. b == 0) front.now) }
         ensures own { IfSome result (λ s. (s.item ≡ Item.Zero → ⊥) → s.size ≡ size_of s.item) }

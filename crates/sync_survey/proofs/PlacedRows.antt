@@ -59,7 +59,7 @@ class-parts c d version frequency channels =
     ∙ ap (λ n. record { version = d.version; frequency_index = n; channels = c.channels }) frequency
     ∙ ap (λ n. record { version = d.version; frequency_index = d.frequency_index; channels = n }) channels
 
-same_class-is : (c d : ClassFields) → same_class c d ≡ true → c ≡ d
+pub same_class-is : (c d : ClassFields) → same_class c d ≡ true → c ≡ d
 unfolding same_class
 same_class-is c d e =
     let all = both_of _ (c.channels == d.channels) e in

@@ -21,9 +21,9 @@ fresh c =
 read : (c : After-mark-self) → record c.index_mut-row.result.now { side = c.read_side.new.side } ≡ row_in c.args.self.now.at c.args.header c.args.bytes.now
 read c = ap₂ (λ (q : Row) (s : Side). record q { side = s }) (fresh c) c.read_side.ensures.side
 
-pub returns : goal.returns
-returns c =
-    let at = (goal.at.returns c).After-mark-self in
+pub returns-clause-kept : goal.returns-clause-kept
+returns-clause-kept c =
+    let at = (goal.at.returns-clause-kept c).After-mark-self in
     let now = c.args.self.now in
     let pushed : Row = record { offset = c.args.self.now.at; header = c.args.header; side = c.empty.result; lost = false } in record {
       rows =

@@ -1,0 +1,293 @@
+-- One thing more is read.
+use Rattle.std.proofs.Common.{◌≡◌, ℕ, zero, suc, ◌+◌, ◌-◌, ◌<◌, ◌≤◌, ◌==◌, ◌&&◌, Bool, true, false, List, [], ◌∷◌, ◌++◌, length, drop, Option, Some, None, Result, Ok, Err, refl, sym, ◌∙◌, ap, ap₂, subst, arith, append-nil}
+use Rattle.std.specs.Prelude.{option_to_list, slice_get}
+use Rattle.std.specs.List.{prefix_len}
+use Rattle.frame_header.specs.Fields.{HeaderFields, ClassFields, IsHeader, same_class}
+use Rattle.frame_header.specs.Tables.{class_of, length_of, overhead_of, area_of}
+use Rattle.frame_header.proofs.HeaderLaws.{IsClass-class_of}
+use Rattle.side_info.specs.Side.{SideFits}
+use Rattle.side_info.specs.Frame.{side_in}
+use Rattle.side_info.proofs.FrameLaws.{fits-side_in, overhead-few}
+use Rattle.sync_survey.specs.declared.items.Item.{Item}
+use Rattle.sync_survey.specs.declared.items.Item.TheVariants.{Frame, Free, Block, Zero, End, Nothing}
+use Rattle.sync_survey.specs.declared.places.Piece.{Piece}
+use Rattle.sync_survey.specs.declared.rows.Row.{Row}
+use Rattle.sync_survey.specs.declared.rows.Before.{Before}
+use Rattle.sync_survey.specs.Items.{item_front, size_of}
+use Rattle.sync_survey.specs.Runs.{block_as}
+use Rattle.sync_survey.specs.MainData.{row_in, row_of, own_area}
+use Rattle.sync_survey.specs.Looks.{look_size, Shows}
+use Rattle.sync_survey.specs.Survey.{AreLaid, BlocksAreLaid}
+use Rattle.sync_survey.proofs.RunsLaws.{both, kept_more, kept_whole}
+use Rattle.sync_survey.proofs.FrontLaws.{blocks_more, pieces_later}
+use Rattle.sync_survey.proofs.StepLaws.{row_shown, item_header, laid_later}
+use Rattle.sync_survey.proofs.PlacedRows.{same_class-is}
+use Rattle.sync_survey.specs.declared.survey_fault.SurveyFault.{SurveyFault}
+use Rattle.sync_survey.specs.declared.survey_fault.SurveyFault.TheVariants.{NoFrame, TooManyFrames}
+use Rattle.sync_survey.specs.Faults.{longest_file}
+use Rattle.sync_survey.specs.Kinds.{RefusesRightly}
+use Rattle.sync_survey.specs.Start.{front_end_of}
+use Rattle.salvage.specs.declared.begun.Begun.{Begun}
+use Rattle.salvage.specs.declared.found.Found.{Found}
+use Rattle.salvage.specs.declared.gap.Gap.{Gap}
+use Rattle.salvage.specs.declared.usable.Role.TheVariants.{Later}
+use Rattle.salvage.specs.Walk.{item_read, first_frame, gap_end, things, gaps_of, blocks_in}
+use Rattle.salvage.specs.Judged.{judged_by, before_next, none_before, rows_in, before_behind, rows_left, Adds, AddsItem, AddsGap, IsPastMost}
+use Rattle.salvage.specs.Steps.{admits_item}
+use Rattle.salvage.specs.Progress.{class_in, BeginsSo, whole_of, told_of, IsReadTo, GapsAreLaid, AreOfClass, IsLaidTo}
+use Rattle.salvage.specs.Damaged.{DamagedFields, damaged_from, unless_too_many, counted, with_number, damaged_by, damaged, damaged_of, most_frames}
+use Rattle.salvage.proofs.ReadFaults.{damaged_of-short}
+use Rattle.salvage.proofs.WalkLaws.{things-past, things-gap, things-item, item_passed, gap_end-is}
+
+-- ---- what was found, and what is left
+
+module _ (file : List ℕ) (b : Begun) (old new : Found) where
+  left_by : (m : Before) (n : ℕ) → new.before ≡ m → new.at ≡ n → rows_left file new.before (things file (class_in b) new.at) ≡ rows_left file m (things file (class_in b) n)
+  left_by m n before at = ap₂ (λ (m : Before) (n : ℕ). rows_left file m (things file (class_in b) n)) before at
+
+  -- a gap more
+  pub gap_read : IsReadTo file b old → old.at < length file → item_read file (Later (class_in b)) old.at ≡ None → AddsGap (gap_end file (class_in b) old.at) old new → IsReadTo file b new
+  gap_read so_far before none adds =
+      let end = gap_end file (class_in b) old.at in
+      let here = things-gap file (class_in b) old.at before none in
+      record {
+        rows =
+            ap (λ l. new.rows.items ++ l) (left_by none_before end adds.before adds.at)
+            ∙ kept_more old.rows.items [] new.rows.items (rows_left file old.before (things file (class_in b) old.at)) (rows_left file none_before (things file (class_in b) end)) (whole_of file b).survey.frames adds.rows
+            (ap (rows_left file old.before) here) so_far.rows;
+        blocks =
+            ap (λ n. new.pieces.items ++ blocks_in (things file (class_in b) n)) adds.at
+            ∙ kept_more old.pieces.items [] new.pieces.items (blocks_in (things file (class_in b) old.at)) (blocks_in (things file (class_in b) end)) (whole_of file b).survey.blocks adds.pieces (ap blocks_in here) so_far.blocks;
+        gaps =
+            ap (λ n. new.gaps.items ++ gaps_of (things file (class_in b) n)) adds.at
+            ∙ kept_more old.gaps.items (record { offset = old.at; length = end - old.at } ∷ []) new.gaps.items (gaps_of (things file (class_in b) old.at)) (gaps_of (things file (class_in b) end)) (whole_of file b).gaps adds.gaps
+            (ap gaps_of here) so_far.gaps;
+      }
+
+  rows_shown : (item : Item) (front : List ℕ) (left : ℕ) → Shows file old.at front left → rows_in old.before old.at front item ≡ rows_in old.before old.at (drop old.at file) item
+  rows_shown (Frame h) front left shows = ap (λ (r : Row). judged_by old.before r ∷ []) (row_shown file old.at front left shows h (omega (arith, overhead-few (class_of h) h.protected)))
+  rows_shown Free front left shows = refl
+  rows_shown (Block block) front left shows = refl
+  rows_shown Zero front left shows = refl
+  rows_shown End front left shows = refl
+  rows_shown Nothing front left shows = refl
+
+  before_shown : (item : Item) (front : List ℕ) (left : ℕ) → Shows file old.at front left → before_behind old.before old.at front item ≡ before_behind old.before old.at (drop old.at file) item
+  before_shown (Frame h) front left shows = ap (before_next old.before) (row_shown file old.at front left shows h (omega (arith, overhead-few (class_of h) h.protected)))
+  before_shown Free front left shows = refl
+  before_shown (Block block) front left shows = refl
+  before_shown Zero front left shows = refl
+  before_shown End front left shows = refl
+  before_shown Nothing front left shows = refl
+
+  -- an item more
+  pub item_more : (item : Item) (size : ℕ) (front : List ℕ) (left : ℕ) → IsReadTo file b old → Shows file old.at front left → item_read file (Later (class_in b)) old.at ≡ Some item
+      → (item ≡ Zero → size ≡ prefix_len (λ b. b == 0) front) → ((item ≡ Zero → ⊥) → size ≡ size_of item) → AddsItem item size front old new → IsReadTo file b new
+  item_more item size front left so_far shows is zeros own adds =
+      let passed = item_passed file (class_in b) old.at front left item size shows is zeros own in
+      let end = old.at + size in
+      let main = before_behind old.before old.at (drop old.at file) item in
+      record {
+        rows =
+            ap (λ l. new.rows.items ++ l) (left_by main end (adds.before ∙ before_shown item front left shows) adds.at)
+            ∙ kept_more old.rows.items (rows_in old.before old.at (drop old.at file) item) new.rows.items (rows_left file old.before (things file (class_in b) old.at)) (rows_left file main (things file (class_in b) end))
+            (whole_of file b).survey.frames (adds.rows ∙ ap (λ l. old.rows.items ++ l) (rows_shown item front left shows)) (passed.rows old.before) so_far.rows;
+        blocks =
+            ap (λ n. new.pieces.items ++ blocks_in (things file (class_in b) n)) adds.at
+            ∙ kept_more old.pieces.items (option_to_list (block_as old.at item)) new.pieces.items (blocks_in (things file (class_in b) old.at)) (blocks_in (things file (class_in b) end)) (whole_of file b).survey.blocks adds.pieces
+            passed.blocks so_far.blocks;
+        gaps =
+            ap (λ n. new.gaps.items ++ gaps_of (things file (class_in b) n)) adds.at
+            ∙ kept_more old.gaps.items [] new.gaps.items (gaps_of (things file (class_in b) old.at)) (gaps_of (things file (class_in b) end)) (whole_of file b).gaps adds.gaps passed.gaps so_far.gaps;
+      }
+
+-- the file was read to its end
+pub record IsReadWhole (file : List ℕ) (b : Begun) (found : Found) : Type 0 where
+  pub rows : found.rows.items ≡ (whole_of file b).survey.frames
+  pub blocks : found.pieces.items ≡ (whole_of file b).survey.blocks
+  pub gaps : found.gaps.items ≡ (whole_of file b).gaps
+
+pub read_whole : (file : List ℕ) (b : Begun) (found : Found) → IsReadTo file b found → length file ≤ found.at → IsReadWhole file b found
+read_whole file b found so_far end =
+    let none = things-past file (class_in b) found.at end in
+    record {
+      rows = kept_whole found.rows.items _ _ (ap (rows_left file found.before) none) so_far.rows;
+      blocks = kept_whole found.pieces.items _ _ (ap blocks_in none) so_far.blocks;
+      gaps = kept_whole found.gaps.items _ _ (ap gaps_of none) so_far.gaps;
+    }
+
+-- ---- where things stand
+
+rows_push : (from : ℕ) (rows : List Row) (to later : ℕ) (r : Row) → AreLaid from rows to → SideFits (class_of r.header) r.side → to ≤ r.offset → r.offset + length_of (class_of r.header) r.header.slot ≤ later → AreLaid from (rows ++ r ∷ []) later
+rows_push from [] to later r laid fits low high = (omega (arith, laid, low), fits, high)
+rows_push from (q ∷ rows) to later r laid fits low high = (laid.0, laid.1, rows_push (q.offset + length_of (class_of q.header) q.header.slot) rows to later r laid.2 fits low high)
+
+class_push : (class : ClassFields) (rows : List Row) (r : Row) → AreOfClass class rows → IsHeader r.header → class_of r.header ≡ class → AreOfClass class (rows ++ r ∷ [])
+class_push class [] r all known same = (known, same, tt)
+class_push class (q ∷ rows) r all known same = (all.0, all.1, class_push class rows r all.2 known same)
+
+gaps_push : (from : ℕ) (gaps : List Gap) (to later : ℕ) (g : Gap) → GapsAreLaid from gaps to → to ≤ g.offset → 1 ≤ g.length → g.offset + g.length ≤ later → GapsAreLaid from (gaps ++ g ∷ []) later
+gaps_push from [] to later g laid low some high = (omega (arith, laid, low), some, high)
+gaps_push from (q ∷ gaps) to later g laid low some high = (laid.0, laid.1, gaps_push (q.offset + q.length) gaps to later g laid.2 low some high)
+
+pub gaps_later : (from : ℕ) (gaps : List Gap) (to later : ℕ) → GapsAreLaid from gaps to → to ≤ later → GapsAreLaid from gaps later
+gaps_later from [] to later laid low = omega (arith, laid, low)
+gaps_later from (q ∷ gaps) to later laid low = (laid.0, laid.1, gaps_later (q.offset + q.length) gaps to later laid.2 low)
+
+area_within : (h : HeaderFields) → own_area h ≤ length_of (class_of h) h.slot
+unfolding area_of
+area_within h = omega arith
+
+same_items : {X : Type 0} (P : List X → Type 0) (old new : List X) → new ≡ old ++ [] → P old → P new
+same_items P old new same holds = subst P (sym (same ∙ append-nil old)) holds
+
+module _ (b : Begun) (old new : Found) (laid : IsLaidTo b old) where
+  pub gap_laid : (to : ℕ) → old.at < to → to ≤ b.size → AddsGap to old new → IsLaidTo b new
+  gap_laid to some within adds =
+      let here : new.at ≡ to = adds.at in
+      let later : old.at ≤ new.at = omega (arith, here, some) in
+      record {
+        rows = same_items (λ l. AreLaid b.start.first.offset l new.at) old.rows.items new.rows.items adds.rows (laid_later b.start.first.offset old.rows.items old.at new.at laid.rows later);
+        class = same_items (AreOfClass (class_in b)) old.rows.items new.rows.items adds.rows laid.class;
+        pieces = same_items (λ l. BlocksAreLaid 0 l new.at) old.pieces.items new.pieces.items adds.pieces (pieces_later 0 old.pieces.items old.at new.at laid.pieces later);
+        gaps =
+            subst (λ l. GapsAreLaid 0 l new.at) (sym adds.gaps)
+            (gaps_push 0 old.gaps.items old.at new.at (record { offset = old.at; length = to - old.at }) laid.gaps (omega arith) (omega (arith, some)) (omega (arith, some, here)));
+        low = omega (arith, ap (λ m. m.place) adds.before);
+        within = omega (arith, here, within);
+        few = same_items (λ l. length l ≤ most_frames) old.rows.items new.rows.items adds.rows laid.few;
+      }
+
+  other_laid : (item : Item) (size : ℕ) (front : List ℕ) → size_of item ≤ size → old.at + size ≤ b.size → rows_in old.before old.at front item ≡ [] → before_behind old.before old.at front item ≡ old.before → AddsItem item size front old new → IsLaidTo b new
+  other_laid item size front least within no_row same adds =
+      let here : new.at ≡ old.at + size = adds.at in
+      let later : old.at ≤ new.at = omega (arith, here) in
+      let rows : new.rows.items ≡ old.rows.items ++ [] = adds.rows ∙ ap (λ l. old.rows.items ++ l) no_row in
+      record {
+        rows = same_items (λ l. AreLaid b.start.first.offset l new.at) old.rows.items new.rows.items rows (laid_later b.start.first.offset old.rows.items old.at new.at laid.rows later);
+        class = same_items (AreOfClass (class_in b)) old.rows.items new.rows.items rows laid.class;
+        pieces = subst (BlocksAreLaid 0 new.pieces.items) (sym here) (blocks_more old.pieces.items new.pieces.items old.at size item laid.pieces least adds.pieces);
+        gaps = same_items (λ l. GapsAreLaid 0 l new.at) old.gaps.items new.gaps.items adds.gaps (gaps_later 0 old.gaps.items old.at new.at laid.gaps later);
+        low = omega (arith, ap (λ m. m.place) (adds.before ∙ same), laid.low, here);
+        within = omega (arith, here, within);
+        few = same_items (λ l. length l ≤ most_frames) old.rows.items new.rows.items rows laid.few;
+      }
+
+  frame_laid : (h : HeaderFields) (size : ℕ) (front : List ℕ) → (length old.rows.items ≤ most_frames → length new.rows.items ≤ most_frames) → IsHeader h → class_of h ≡ class_in b → size_of (Frame h) ≤ size → old.at + size ≤ b.size → AddsItem (Frame h) size front old new → IsLaidTo b new
+  frame_laid h size front few known same least within adds =
+      let here : new.at ≡ old.at + size = adds.at in
+      let later : old.at ≤ new.at = omega (arith, here) in
+      let row = judged_by old.before (row_in old.at h front) in
+      record {
+        rows =
+            subst (λ l. AreLaid b.start.first.offset l new.at) (sym adds.rows)
+            (rows_push b.start.first.offset old.rows.items old.at new.at row laid.rows (fits-side_in h front (IsClass-class_of h known)) (omega arith) (omega (arith, least, here)));
+        class = subst (AreOfClass (class_in b)) (sym adds.rows) (class_push (class_in b) old.rows.items row laid.class known same);
+        pieces = same_items (λ l. BlocksAreLaid 0 l new.at) old.pieces.items new.pieces.items adds.pieces (pieces_later 0 old.pieces.items old.at new.at laid.pieces later);
+        gaps = same_items (λ l. GapsAreLaid 0 l new.at) old.gaps.items new.gaps.items adds.gaps (gaps_later 0 old.gaps.items old.at new.at laid.gaps later);
+        low = omega (arith, ap (λ m. m.place) adds.before, laid.low, here, least, area_within h);
+        within = omega (arith, here, within);
+        few = few laid.few;
+      }
+
+  -- whatever item it is that is kept
+  pub item_laid : (item : Item) (size : ℕ) (front : List ℕ) → (length old.rows.items ≤ most_frames → length new.rows.items ≤ most_frames) → item ≡ item_front front → admits_item (Later (class_in b)) old.at item front ≡ true → size_of item ≤ size → old.at + size ≤ b.size → AddsItem item size front old new → IsLaidTo b new
+  item_laid (Frame h) size front few is admits least within adds =
+      let same : class_of h ≡ class_in b = same_class-is (class_of h) (class_in b) (both _ _ admits).0 in
+      frame_laid h size front few (item_header front (Frame h) is h refl) same least within adds
+  item_laid Free size front few is admits least within adds = other_laid Free size front least within refl refl adds
+  item_laid (Block block) size front few is admits least within adds = other_laid (Block block) size front least within refl refl adds
+  item_laid Zero size front few is admits least within adds = other_laid Zero size front least within refl refl adds
+  item_laid End size front few is admits least within adds = other_laid End size front least within refl refl adds
+  item_laid Nothing size front few is admits least within adds = other_laid Nothing size front least within refl refl adds
+
+-- ---- what is read of the whole file
+
+-- the file is read from its first frame on
+pub damaged_is : (file : List ℕ) (b : Begun) → BeginsSo file b → damaged file ≡ with_number b.start.front_end (whole_of file b)
+unfolding damaged
+damaged_is file b begins =
+    ap (λ n. damaged_by file n (first_frame file n)) (sym begins.front) ∙ ap (damaged_by file b.start.front_end) begins.first
+
+get_first : (xs ys : List Row) (r : Row) (n : ℕ) → length xs ≡ n → slice_get (xs ++ r ∷ ys) n ≡ Some r
+get_first [] ys r n is = ap (slice_get (r ∷ ys)) (sym is)
+get_first (x ∷ xs) ys r n is = ap (slice_get (x ∷ (xs ++ r ∷ ys))) (sym is) ∙ get_first xs ys r (length xs) refl
+
+many_counted : (front_end : ℕ) (rows : List Row) (d : DamagedFields) (r : Row) → slice_get rows most_frames ≡ Some r → counted front_end rows d ≡ Err (TooManyFrames r.offset)
+many_counted front_end [] d r is = absurd cc
+many_counted front_end (q ∷ rows) d r is = ap (λ o. unless_too_many o d) is
+
+-- a frame more than there may be
+pub past_most : (file : List ℕ) (b : Begun) (found : Found) (item : Item) (fault : SurveyFault) → BeginsSo file b → length file ≤ longest_file → IsReadTo file b found → item_read file (Later (class_in b)) found.at ≡ Some item
+    → IsPastMost item found fault → damaged_of file ≡ Err fault
+past_most file b found (Frame h) fault begins few so_far is past =
+    let here = things-item file (class_in b) found.at (Frame h) is in
+    let row = judged_by found.before (row_in found.at h (drop found.at file)) in
+    let rest = rows_left file (before_next found.before (row_in found.at h (drop found.at file))) (things file (class_in b) (found.at + size_of (Frame h))) in
+    let rows : found.rows.items ++ row ∷ rest ≡ (whole_of file b).survey.frames = sym (ap (λ l. found.rows.items ++ rows_left file found.before l) here) ∙ so_far.rows in
+    damaged_of-short file few
+    ∙ damaged_is file b begins
+    ∙ many_counted b.start.front_end (whole_of file b).survey.frames (whole_of file b) row (ap (λ l. slice_get l most_frames) (sym rows) ∙ get_first found.rows.items rest row most_frames past.1)
+    ∙ ap Err (sym past.0)
+past_most file b found Free fault begins few so_far is past = absurd past
+past_most file b found (Block block) fault begins few so_far is past = absurd past
+past_most file b found Zero fault begins few so_far is past = absurd past
+past_most file b found End fault begins few so_far is past = absurd past
+past_most file b found Nothing fault begins few so_far is past = absurd past
+
+-- no frame besides the head
+none_counted : (front_end : ℕ) (rows : List Row) (d : DamagedFields) → rows ≡ [] → counted front_end rows d ≡ Err (NoFrame front_end)
+none_counted front_end rows d is = ap (λ l. counted front_end l d) is
+
+pub no_frames : (file : List ℕ) (b : Begun) (found : Found) → BeginsSo file b → length file ≤ longest_file → IsReadWhole file b found → found.rows.items ≡ [] → damaged_of file ≡ Err (NoFrame b.start.front_end)
+no_frames file b found begins few read none =
+    damaged_of-short file few ∙ damaged_is file b begins ∙ none_counted b.start.front_end (whole_of file b).survey.frames (whole_of file b) (sym read.rows ∙ none)
+
+-- no first frame
+first_none : (file : List ℕ) (front_end : ℕ) → front_end ≡ front_end_of file → first_frame file front_end ≡ None → damaged file ≡ Err (NoFrame front_end)
+unfolding damaged
+first_none file front_end front none = ap (λ n. damaged_by file n (first_frame file n)) (sym front) ∙ ap (damaged_by file front_end) none
+
+pub no_first : (file : List ℕ) (front_end : ℕ) → front_end ≡ front_end_of file → length file ≤ longest_file → first_frame file front_end ≡ None → damaged_of file ≡ Err (NoFrame front_end)
+no_first file front_end front few none = damaged_of-short file few ∙ first_none file front_end front none
+
+past_end : (rows : List Row) (n : ℕ) → length rows ≤ n → slice_get rows n ≡ None
+past_end [] n few = refl
+past_end (r ∷ rows) zero few = absurd (omega (arith, few))
+past_end (r ∷ rows) (suc n) few = past_end rows n (omega (arith, few))
+
+few_counted : (front_end : ℕ) (rows : List Row) (d : DamagedFields) → (rows ≡ [] → ⊥) → length rows ≤ most_frames → counted front_end rows d ≡ Ok d
+few_counted front_end [] d some few = absurd (some refl)
+few_counted front_end (r ∷ rows) d some few = ap (λ o. unless_too_many o d) (past_end (r ∷ rows) most_frames few)
+
+-- what the code tells is what is read
+told_is : (file : List ℕ) (b : Begun) (found : Found) → BeginsSo file b → length file ≡ b.size → IsReadWhole file b found → whole_of file b ≡ told_of b found
+unfolding damaged_from
+told_is file b found begins size read = λ i. record {
+  survey = record {
+    frames = sym read.rows i;
+    blocks = sym read.blocks i;
+    head = sym begins.head i;
+    junk = b.start.front_end;
+    first = b.start.first.offset;
+    class = class_in b;
+    length = size i;
+  };
+  gaps = sym read.gaps i;
+}
+
+pub all_read : (file : List ℕ) (b : Begun) (found : Found) → BeginsSo file b → length file ≤ longest_file → length file ≡ b.size → IsReadWhole file b found → (found.rows.items ≡ [] → ⊥) → length found.rows.items ≤ most_frames
+    → damaged_of file ≡ Ok (told_of b found)
+all_read file b found begins few size read some most =
+    damaged_of-short file few
+    ∙ damaged_is file b begins
+    ∙ few_counted b.start.front_end (whole_of file b).survey.frames (whole_of file b) (λ none. some (read.rows ∙ none)) (subst (λ l. length l ≤ most_frames) read.rows most)
+    ∙ ap Ok (told_is file b found begins size read)
+
+pub past_rightly : (item : Item) (found : Found) (fault : SurveyFault) → IsPastMost item found fault → RefusesRightly fault
+past_rightly (Frame h) found fault past = subst RefusesRightly (sym past.0) (refl, tt)
+past_rightly Free found fault past = absurd past
+past_rightly (Block block) found fault past = absurd past
+past_rightly Zero found fault past = absurd past
+past_rightly End found fault past = absurd past
+past_rightly Nothing found fault past = absurd past

@@ -1,0 +1,11 @@
+-- What is known of a result, by its cases.
+use Rattle.std.proofs.Common.{Result, Ok, Err}
+use Rattle.std.specs.Prelude.{MatchResult, OnOk, IfErr}
+
+pub on_both : {T E : Type 0} (r : Result T E) (P : T → Type 0) (Q : E → Type 0) (A B : Type 0) → MatchResult r P Q → OnOk r B → ((x : T) → P x → B → A) → OnOk r A
+on_both (Ok x) P Q A B is other then = then x is other
+on_both (Err e) P Q A B is other then = tt
+
+pub if_err : {T E : Type 0} (r : Result T E) (P : T → Type 0) (Q A : E → Type 0) → MatchResult r P Q → ((e : E) → Q e → A e) → IfErr r A
+if_err (Ok x) P Q A is then = tt
+if_err (Err e) P Q A is then = then e is

@@ -1,0 +1,99 @@
+-- The frames of all runs, judged one behind the other.
+use Rattle.std.proofs.Common.{◌≡◌, ℕ, zero, suc, ◌+◌, ◌≤◌, not, List, [], ◌∷◌, ◌++◌, length, map, Option, Some, None, refl, sym, ◌∙◌, ap, ap₂, arith, append_assoc, append-nil, length-append}
+use Rattle.std.specs.Prelude.{flat_map, slice_get}
+use Rattle.std.specs.List.{enumerate_from}
+use Rattle.sync_survey.specs.declared.items.Item.{Item}
+use Rattle.sync_survey.specs.declared.items.Item.TheVariants.{Frame, Free, Block, Zero, End, Nothing}
+use Rattle.sync_survey.specs.declared.places.Head.{Head}
+use Rattle.sync_survey.specs.declared.places.PlacedFrame.{PlacedFrame}
+use Rattle.sync_survey.specs.declared.rows.Row.{Row}
+use Rattle.sync_survey.specs.declared.rows.Before.{Before}
+use Rattle.sync_survey.specs.MainData.{row_of, rows_of, head_area, place}
+use Rattle.sync_survey.proofs.FaultsLaws.{get_more, get_next, place-more, place-next, place-none}
+use Rattle.salvage.specs.Walk.{Thing, IsItem, IsGap, PlacedThing}
+use Rattle.salvage.specs.Sound.{FrameRuns, runs_behind, runs_of, is_sound, sound_end, end_of_sound, judged_row, judged, judged_runs}
+use Rattle.salvage.specs.Judged.{judged_by, before_next, none_before, rows_here, before_here, rows_left}
+
+-- ---- one run
+
+-- the rows marked one behind the other
+abbrev judged_from : Before → List Row → List Row
+judged_from b [] = []
+judged_from b (r ∷ rows) = judged_by b r ∷ judged_from (before_next b r) rows
+
+module _ (head : Option Head) where
+  end-more : (rows more : List Row) (i : ℕ) → i ≤ length rows → end_of_sound head (rows ++ more) i ≡ end_of_sound head rows i
+  unfolding end_of_sound
+  end-more rows more zero within = refl
+  end-more rows more (suc i) within =
+      let before : i ≤ length rows = omega (arith, within) in
+      ap (λ n. sound_end n (end_of_sound head (rows ++ more) i) (slice_get (rows ++ more) i)) (place-more head rows more i before)
+      ∙ ap (λ n. sound_end (place head rows i) n (slice_get (rows ++ more) i)) (end-more rows more i before)
+      ∙ ap (sound_end (place head rows i) (end_of_sound head rows i)) (get_more rows more i within)
+
+  end-next : (rows : List Row) (r : Row) → end_of_sound head (rows ++ r ∷ []) (length (rows ++ r ∷ [])) ≡ sound_end (place head rows (length rows)) (end_of_sound head rows (length rows)) (Some r)
+  unfolding end_of_sound
+  end-next rows r =
+      let n = length rows in
+      let one : length (rows ++ r ∷ []) ≡ suc n = omega (arith, length-append rows (r ∷ [])) in
+      ap (end_of_sound head (rows ++ r ∷ [])) one
+      ∙ ap (λ m. sound_end m (end_of_sound head (rows ++ r ∷ []) n) (slice_get (rows ++ r ∷ []) n)) (place-more head rows (r ∷ []) n (omega arith))
+      ∙ ap (λ m. sound_end (place head rows n) m (slice_get (rows ++ r ∷ []) n)) (end-more rows (r ∷ []) n (omega arith))
+      ∙ ap (sound_end (place head rows n) (end_of_sound head rows n)) (get_next rows r)
+
+  -- the main data before the frame behind these
+  abbrev behind : List Row → Before
+  behind rows = record { place = place head rows (length rows); ended = end_of_sound head rows (length rows) }
+
+  behind-next : (rows : List Row) (r : Row) → before_next (behind rows) r ≡ behind (rows ++ r ∷ [])
+  behind-next rows r = ap₂ (λ m n. record { place = m; ended = n }) (sym (place-next head rows r)) (sym (end-next rows r))
+
+  row-next : (rows rest : List Row) (r : Row) → judged_row head (rows ++ r ∷ rest) (length rows) r ≡ judged_by (behind rows) r
+  row-next rows rest r = ap₂ (λ m n. record r { lost = not (is_sound m n r) }) (place-more head rows (r ∷ rest) (length rows) (omega arith)) (end-more rows (r ∷ rest) (length rows) (omega arith))
+
+  judged_rest : (rows rest : List Row) → map (λ (p : ℕ × Row). judged_row head (rows ++ rest) p.0 p.1) (enumerate_from (length rows) rest) ≡ judged_from (behind rows) rest
+  judged_rest rows [] = refl
+  judged_rest rows (r ∷ rest) =
+      let one : length rows + 1 ≡ length (rows ++ r ∷ []) = omega (arith, length-append rows (r ∷ [])) in
+      ap₂ (λ (q : Row) (l : List Row). q ∷ l) (row-next rows rest r)
+      (ap₂ (λ (l : List Row) n. map (λ (p : ℕ × Row). judged_row head l p.0 p.1) (enumerate_from n rest)) (sym (append_assoc rows (r ∷ []) rest)) one
+      ∙ judged_rest (rows ++ r ∷ []) rest
+      ∙ ap (λ b. judged_from b rest) (sym (behind-next rows r)))
+
+  behind-none : behind [] ≡ record { place = head_area head; ended = 0 }
+  unfolding end_of_sound
+  behind-none = ap (λ n. record { place = n; ended = 0 }) (sym (place-none head))
+
+  judged-from : (rows : List Row) → judged head rows ≡ judged_from (record { place = head_area head; ended = 0 }) rows
+  unfolding judged
+  judged-from rows = judged_rest [] rows ∙ ap (λ b. judged_from b rows) behind-none
+
+-- ---- all runs
+
+abbrev runs_from : List ℕ → Before → FrameRuns → List Row
+runs_from file b runs = judged_from b (rows_of file runs.first) ++ flat_map (λ run. judged_from none_before (rows_of file run)) runs.later
+
+later_same : (file : List ℕ) (later : List (List PlacedFrame)) → flat_map (λ run. judged None (rows_of file run)) later ≡ flat_map (λ run. judged_from none_before (rows_of file run)) later
+later_same file [] = refl
+later_same file (run ∷ later) = ap₂ (λ (a b : List Row). a ++ b) (judged-from None (rows_of file run)) (later_same file later)
+
+runs-from : (file : List ℕ) (head : Option Head) (runs : FrameRuns) → judged_runs file head runs ≡ runs_from file (record { place = head_area head; ended = 0 }) runs
+runs-from file head runs = ap₂ (λ (a b : List Row). a ++ b) (judged-from head (rows_of file runs.first)) (later_same file runs.later)
+
+-- one thing in front
+thing_first : (file : List ℕ) (b : Before) (at : ℕ) (thing : Thing) (runs : FrameRuns) → runs_from file b (runs_behind at thing runs) ≡ rows_here file b at thing ++ runs_from file (before_here file b at thing) runs
+thing_first file b at (IsGap n) runs = refl
+thing_first file b at (IsItem (Frame h)) runs = refl
+thing_first file b at (IsItem Free) runs = refl
+thing_first file b at (IsItem (Block block)) runs = refl
+thing_first file b at (IsItem Zero) runs = refl
+thing_first file b at (IsItem End) runs = refl
+thing_first file b at (IsItem Nothing) runs = refl
+
+all_things : (file : List ℕ) (b : Before) (ts : List PlacedThing) → runs_from file b (runs_of ts) ≡ rows_left file b ts
+all_things file b [] = refl
+all_things file b (t ∷ ts) = thing_first file b t.offset t.thing (runs_of ts) ∙ ap (λ l. rows_here file b t.offset t.thing ++ l) (all_things file (before_here file b t.offset t.thing) ts)
+
+-- the frames of all runs are those that are met one behind the other
+pub runs-left : (file : List ℕ) (head : Option Head) (ts : List PlacedThing) → judged_runs file head (runs_of ts) ≡ rows_left file (record { place = head_area head; ended = 0 }) ts
+runs-left file head ts = runs-from file head (runs_of ts) ∙ all_things file (record { place = head_area head; ended = 0 }) ts
