@@ -1,5 +1,5 @@
 -- One thing more is read.
-use Rattle.std.proofs.Common.{◌≡◌, ℕ, zero, suc, ◌+◌, ◌-◌, ◌<◌, ◌≤◌, ◌==◌, ◌&&◌, Bool, true, false, List, [], ◌∷◌, ◌++◌, length, drop, Option, Some, None, Result, Ok, Err, refl, sym, ◌∙◌, ap, ap₂, subst, arith, append-nil}
+use Rattle.std.proofs.Common.{◌≡◌, ℕ, zero, suc, ◌+◌, ◌-◌, ◌<◌, ◌≤◌, ◌==◌, ◌&&◌, Bool, true, false, cond, ltb, List, [], ◌∷◌, ◌++◌, length, drop, Option, Some, None, Result, Ok, Err, refl, sym, ◌∙◌, ap, ap₂, subst, arith, append-nil}
 use Rattle.std.specs.Prelude.{option_to_list, slice_get}
 use Rattle.std.specs.List.{prefix_len}
 use Rattle.frame_header.specs.Fields.{HeaderFields, ClassFields, IsHeader, same_class}
@@ -34,8 +34,18 @@ use Rattle.salvage.specs.declared.usable.Role.TheVariants.{Later}
 use Rattle.salvage.specs.Walk.{item_read, first_frame, gap_end, things, gaps_of, blocks_in}
 use Rattle.salvage.specs.Judged.{judged_by, before_next, none_before, rows_in, before_behind, rows_left, Adds, AddsItem, AddsGap, IsPastMost}
 use Rattle.salvage.specs.Steps.{admits_item}
-use Rattle.salvage.specs.Progress.{class_in, BeginsSo, whole_of, told_of, IsReadTo, GapsAreLaid, AreOfClass, IsLaidTo}
+use Rattle.salvage.specs.Progress.{class_in, BeginsSo, whole_of, told_of, IsReadTo, GapsAreLaid, AreOfClass, IsLaidTo, IsLaidOut}
 use Rattle.salvage.specs.Damaged.{DamagedFields, damaged_from, unless_too_many, counted, with_number, damaged_by, damaged, damaged_of, most_frames}
+use Rattle.std.proofs.lemmas.Bool.{ltb-true}
+use Rattle.std.specs.Prelude.{IfSome}
+use Rattle.sync_survey.specs.declared.places.Head.{Head}
+use Rattle.sync_survey.specs.declared.runs.Part.TheVariants.{Front}
+use Rattle.sync_survey.specs.Runs.{run, blocks_of}
+use Rattle.sync_survey.specs.Walk.{head_of, numbered_at, IsFrameOf}
+use Rattle.sync_survey.specs.MainData.{head_area}
+use Rattle.sync_survey.specs.Survey.{IsWholeHead}
+use Rattle.salvage.specs.Damaged.{gap_between}
+use Rattle.salvage.proofs.SoundLaws.{runs-left}
 use Rattle.salvage.proofs.ReadFaults.{damaged_of-short}
 use Rattle.salvage.proofs.WalkLaws.{things-past, things-gap, things-item, item_passed, gap_end-is}
 
@@ -291,3 +301,70 @@ past_rightly (Block block) found fault past = absurd past
 past_rightly Zero found fault past = absurd past
 past_rightly End found fault past = absurd past
 past_rightly Nothing found fault past = absurd past
+
+-- ---- where the reading begins
+
+-- nothing was found yet
+pub record IsFirst (b : Begun) (found : Found) : Type 0 where
+  pub rows : found.rows.items ≡ []
+  pub gaps : found.gaps.items ≡ gap_between b.start.front_end b.start.first.offset
+  pub before : found.before ≡ record { place = head_area b.head; ended = 0 }
+  pub at : found.at ≡ numbered_at b.start.first b.head
+
+pub begun_read : (file : List ℕ) (b : Begun) (found : Found) → BeginsSo file b → IsFirst b found → found.pieces.items ≡ blocks_of (run Front file 0).items → IsReadTo file b found
+unfolding damaged_from
+begun_read file b found begins first blocks =
+    let ahead = λ (h : Option Head). things file (class_in b) (numbered_at b.start.first h) in
+    record {
+      rows =
+          ap (λ (l : List Row). l ++ rows_left file found.before (things file (class_in b) found.at)) first.rows
+          ∙ ap₂ (λ (m : Before) (n : ℕ). rows_left file m (things file (class_in b) n)) first.before first.at
+          ∙ ap (λ (h : Option Head). rows_left file (record { place = head_area h; ended = 0 }) (ahead h)) begins.head
+          ∙ sym (runs-left file (head_of file b.start.first) (ahead (head_of file b.start.first)));
+      blocks = ap₂ (λ (l : List Piece) (n : ℕ). l ++ blocks_in (things file (class_in b) n)) blocks first.at ∙ ap (λ (h : Option Head). blocks_of (run Front file 0).items ++ blocks_in (ahead h)) begins.head;
+      gaps = ap₂ (λ (l : List Gap) (n : ℕ). l ++ gaps_of (things file (class_in b) n)) first.gaps first.at ∙ ap (λ (h : Option Head). gap_between b.start.front_end b.start.first.offset ++ gaps_of (ahead h)) begins.head;
+    }
+
+between_laid : (from to at : ℕ) (less : Bool) → ltb from to ≡ less → from ≤ to → to ≤ at → GapsAreLaid 0 (cond less (record { offset = from; length = to - from } ∷ []) []) at
+between_laid from to at true is low high = (omega arith, omega (arith, ltb-true from to is), omega (arith, low, high))
+between_laid from to at false is low high = omega arith
+
+pub begun_laid : (b : Begun) (found : Found) → IsFirst b found → b.start.front_end ≤ b.start.first.offset → BlocksAreLaid 0 found.pieces.items b.start.front_end → found.before.place ≤ 1441 → b.start.first.offset ≤ found.at → found.at ≤ b.size
+    → IsLaidTo b found
+begun_laid b found first junk blocks low behind within = record {
+  rows = subst (λ l. AreLaid b.start.first.offset l found.at) (sym first.rows) behind;
+  class = subst (AreOfClass (class_in b)) (sym first.rows) tt;
+  pieces = pieces_later 0 found.pieces.items b.start.front_end found.at blocks (omega (arith, junk, behind));
+  gaps = subst (λ l. GapsAreLaid 0 l found.at) (sym first.gaps) (between_laid b.start.front_end b.start.first.offset found.at (ltb b.start.front_end b.start.first.offset) refl junk behind);
+  low = omega (arith, low);
+  within = within;
+  few = omega (arith, ap length first.rows);
+}
+
+-- ---- where it ends
+
+head_within : (b : Begun) (head : Option Head) → b.start.first.offset + size_of (Frame b.start.first.header) ≤ b.size → IfSome head (IsFrameOf b.start.first) → IfSome head (IsWholeHead b.start.first.offset (class_in b) b.size)
+head_within b None whole same = tt
+head_within b (Some head) whole same = record {
+  place = same.0;
+  class_is = ap class_of same.1;
+  within = omega (arith, same.0, ap (λ h. size_of (Frame h)) same.1, whole);
+}
+
+some_of : (rows : List Row) → (rows ≡ [] → ⊥) → 0 < length rows
+some_of [] none = absurd (none refl)
+some_of (r ∷ rows) none = omega arith
+
+pub laid_out : (b : Begun) (found : Found) → b.start.front_end ≤ b.start.first.offset → b.start.first.offset + size_of (Frame b.start.first.header) ≤ b.size → IfSome b.head (IsFrameOf b.start.first) → IsLaidTo b found
+    → (found.rows.items ≡ [] → ⊥) → IsLaidOut (told_of b found)
+laid_out b found junk whole same laid some = record {
+  junk = junk;
+  first = omega (arith, whole);
+  head = head_within b b.head whole same;
+  frames = laid_later b.start.first.offset found.rows.items found.at b.size laid.rows laid.within;
+  class = laid.class;
+  blocks = pieces_later 0 found.pieces.items found.at b.size laid.pieces laid.within;
+  gaps = gaps_later 0 found.gaps.items found.at b.size laid.gaps laid.within;
+  some = some_of found.rows.items some;
+  few = laid.few;
+}

@@ -1,6 +1,6 @@
 -- What is known of a result, by its cases.
 use Rattle.std.proofs.Common.{Result, Ok, Err}
-use Rattle.std.specs.Prelude.{MatchResult, OnOk, IfErr}
+use Rattle.std.specs.Prelude.{MatchResult, OnOk, IfOk, IfErr}
 
 pub on_both : {T E : Type 0} (r : Result T E) (P : T → Type 0) (Q : E → Type 0) (A B : Type 0) → MatchResult r P Q → OnOk r B → ((x : T) → P x → B → A) → OnOk r A
 on_both (Ok x) P Q A B is other then = then x is other
@@ -9,3 +9,11 @@ on_both (Err e) P Q A B is other then = tt
 pub if_err : {T E : Type 0} (r : Result T E) (P : T → Type 0) (Q A : E → Type 0) → MatchResult r P Q → ((e : E) → Q e → A e) → IfErr r A
 if_err (Ok x) P Q A is then = tt
 if_err (Err e) P Q A is then = then e is
+
+pub if_ok : {T E : Type 0} (r : Result T E) (P A : T → Type 0) (B : Type 0) → IfOk r P → OnOk r B → ((x : T) → P x → B → A x) → IfOk r A
+if_ok (Ok x) P A B is other then = then x is other
+if_ok (Err e) P A B is other then = tt
+
+pub err_then : {T E : Type 0} (r : Result T E) (P A : E → Type 0) → IfErr r P → ((e : E) → P e → A e) → IfErr r A
+err_then (Ok x) P A is then = tt
+err_then (Err e) P A is then = then e is

@@ -57,6 +57,10 @@ fn found_first(alloc: Global, begun: &Begun, pieces: Vec<Piece>) -> Result<Found
     ensures before { IfOk result (λ f. f.before ≡ record {
         place = head_area_lem begun.now.head; ended = 0 }) }
     ensures at { IfOk result (λ f. f.at ≡ numbered_at begun.now.start.first begun.now.head) }
+    ensures low { IfOk result (λ f. f.before.place ≤ 1441) }
+    ensures behind { IfOk result (λ f. begun.now.start.first.offset ≤ f.at) }
+    ensures within { IfOk result (λ f. f.at ≤ begun.now.start.first.offset
+        + size_of (Frame begun.now.start.first.header)) }
 {
     let place = head_area(&begun.head);
     Ok(Found {
