@@ -1,0 +1,56 @@
+-- What was found up to the end is all that is read.
+use Rattle.std.proofs.Common.{◌≡◌, ℕ, List, [], Ok, refl, sym, ◌∙◌, ap, subst, arith}
+use Rattle.outside.specs.Files.{Holds}
+use Rattle.sync_survey.specs.declared.survey_fault.SurveyFault.TheVariants.{NoFrame}
+use Rattle.sync_survey.specs.Survey.{BlocksAreLaid}
+use Rattle.salvage.specs.Damaged.{tells_of, IsReadRefusal}
+use Rattle.salvage.specs.Progress.{told_of, IsLaidOut}
+use Rattle.salvage.proofs.Results.{if_ok, err_then}
+use Rattle.salvage.proofs.ReadFaults.{bytes_refusal}
+use Rattle.salvage.proofs.ProgressLaws.{IsFirst, begun_read, begun_laid, read_whole, all_read, no_frames, laid_out}
+use Rattle.salvage.proofs.reading.read_on.Goals as goal
+
+pub read_things-requires-clause-reading : goal.read_things-requires-clause-reading
+read_things-requires-clause-reading g c =
+    let begun = c.args.begun.now in
+    let found = c.in-Ok.found in
+    let first : IsFirst begun found = record { rows = c.in-Ok.ensures.rows; gaps = c.in-Ok.ensures.gaps; before = c.in-Ok.ensures.before; at = c.in-Ok.ensures.at } in
+    record {
+      told = λ bytes holds. begun_read bytes begun found (c.requires.begun.told bytes holds) first (c.in-Ok.ensures.pieces ∙ c.requires.blocks bytes holds);
+      laid =
+          begun_laid begun found first c.requires.begun.junk (subst (λ l. BlocksAreLaid 0 l begun.start.front_end) (sym c.in-Ok.ensures.pieces) c.requires.laid) c.in-Ok.ensures.low c.in-Ok.ensures.behind
+          (omega (arith, c.in-Ok.ensures.within, c.requires.begun.whole));
+    }
+
+pub returns-clause-exact : goal.returns-clause-exact
+returns-clause-exact g c =
+    let begun = c.args.begun.now in
+    let found = c.read_things.new.found in
+    let reading = c.in_ok-read_things.ensures.reading in
+    if_ok c.damaged_by.result (λ d. tells_of d ≡ told_of begun found) _ (found.rows.items ≡ [] → ⊥) c.damaged_by.ensures.told c.damaged_by.ensures.some (λ d told some. λ bytes holds.
+    let known = c.requires.begun.known.long bytes holds in
+    all_read bytes begun found (c.requires.begun.told bytes holds) (omega (arith, known, c.requires.begun.known.few)) (sym known)
+    (read_whole bytes begun found (reading.told bytes holds) (omega (arith, known, c.in_ok-read_things.ensures.end))) some reading.laid.few
+    ∙ ap Ok (sym told))
+
+pub returns-clause-laid : goal.returns-clause-laid
+returns-clause-laid g c =
+    let begun = c.args.begun.now in
+    let found = c.read_things.new.found in
+    if_ok c.damaged_by.result (λ d. tells_of d ≡ told_of begun found) (λ d. IsLaidOut (tells_of d)) (found.rows.items ≡ [] → ⊥) c.damaged_by.ensures.told c.damaged_by.ensures.some (λ d told some.
+    subst IsLaidOut (sym told) (laid_out begun found c.requires.begun.junk c.requires.begun.whole c.requires.begun.same c.in_ok-read_things.ensures.reading.laid some))
+
+pub returns-clause-refused : goal.returns-clause-refused
+returns-clause-refused g c =
+    let begun = c.args.begun.now in
+    let found = c.read_things.new.found in
+    let name = c.args.name.now in
+    let files = g.D.Folder.files c.args.folder.now in
+    let before = g.D.Folder.counts c.args.folder.now in
+    let after = g.D.Folder.counts c.read_things.new.folder in
+    err_then c.damaged_by.result (λ fault. (fault ≡ NoFrame begun.start.front_end) × (found.rows.items ≡ [])) (IsReadRefusal name files before after) c.damaged_by.ensures.none (λ fault is.
+    subst (IsReadRefusal name files before after) (sym is.0)
+    (bytes_refusal name files before after (NoFrame begun.start.front_end) begun.size c.requires.begun.known c.in_ok-read_things.ensures.done (refl, tt) (λ bytes holds.
+    let known = c.requires.begun.known.long bytes holds in
+    no_frames bytes begun found (c.requires.begun.told bytes holds) (omega (arith, known, c.requires.begun.known.few))
+    (read_whole bytes begun found (c.in_ok-read_things.ensures.reading.told bytes holds) (omega (arith, known, c.in_ok-read_things.ensures.end))) is.1)))
