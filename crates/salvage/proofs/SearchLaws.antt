@@ -4,7 +4,11 @@ use Rattle.std.proofs.lemmas.Bool.{false≢true, eqb-true, eq-eqb, leb-true, leb
 use Rattle.bit_fields.specs.Bits.{bits, number}
 use Rattle.bit_fields.specs.Groups.{group}
 use Rattle.bit_fields.proofs.BitsLaws.{number-nil, bits-nil, number-bits-push, number-within, AreBits-bits, length-bits}
-use Rattle.frame_header.specs.Fields.{HeaderFields}
+use Rattle.frame_header.specs.Fields.{HeaderFields, ClassFields}
+use Rattle.frame_header.specs.Tables.{class_of, length_of}
+use Rattle.tag_blocks.specs.declared.block.Kind.{Kind}
+use Rattle.tag_blocks.specs.declared.block.Kind.TheVariants.{Id3v2, Id3v1, Ape}
+use Rattle.tag_blocks.proofs.BlocksLaws.{first_byte, block_front-first}
 use Rattle.frame_header.specs.Reading.{sync_word, layer_bits, is_readable, rate_bits, header_fields, header_in, header_at}
 use Rattle.frame_header.specs.declared.header.NotHeader.{NotHeader}
 use Rattle.frame_header.specs.declared.header.NotHeader.TheVariants.{Free as FreeHeader, No}
@@ -12,8 +16,8 @@ use Rattle.sync_survey.proofs.RunsLaws.{both}
 use Rattle.sync_survey.specs.declared.items.Item.{Item}
 use Rattle.sync_survey.specs.declared.items.Item.TheVariants.{Frame, Free, Block, Zero, End, Nothing}
 use Rattle.sync_survey.specs.declared.places.PlacedFrame.{PlacedFrame}
-use Rattle.sync_survey.specs.Items.{Stands, header_front, item_front, item_at}
-use Rattle.sync_survey.specs.Start.{anchored, anchored_frame}
+use Rattle.sync_survey.specs.Items.{Stands, header_front, item_front, item_at, fits}
+use Rattle.sync_survey.specs.Start.{is_anchor, has_anchor, anchored, anchored_frame}
 use Rattle.sync_survey.specs.Looks.{Shows}
 use Rattle.sync_survey.proofs.ItemsLaws.{stands}
 use Rattle.sync_survey.proofs.LooksLaws.{item_at-behind}
@@ -22,7 +26,7 @@ use Rattle.salvage.specs.declared.usable.Role.{Role}
 use Rattle.salvage.specs.Usable.{if_usable, usable_anchored, next_usable}
 use Rattle.salvage.specs.declared.usable.Role.TheVariants.{First}
 use Rattle.salvage.specs.Walk.{item_read, first_frame}
-use Rattle.salvage.specs.Steps.{may_begin}
+use Rattle.salvage.specs.Steps.{may_begin, may_begin_block, IsBare}
 use Rattle.std.specs.Prelude.{option_and_then, IfOk}
 use Rattle.std.specs.Option.{option_or}
 use Rattle.outside.specs.Files.{Files, Holds}
@@ -101,14 +105,9 @@ header_begins bytes h few e =
 
 -- ---- no usable anchored frame
 
-not_anchored : (file : List ℕ) (at : ℕ) (item : Item) → item_at file at ≡ item → ((h : HeaderFields) → item ≡ Frame h → ⊥) → anchored_frame file at ≡ None
-unfolding anchored_frame
-not_anchored file at (Frame h) is none = absurd (none h refl)
-not_anchored file at Free is none = ap (anchored file at) is
-not_anchored file at (Block b) is none = ap (anchored file at) is
-not_anchored file at Zero is none = ap (anchored file at) is
-not_anchored file at End is none = ap (anchored file at) is
-not_anchored file at Nothing is none = ap (anchored file at) is
+no_second : (a b : Bool) → b ≡ false → (a && b) ≡ false
+no_second true b is = is
+no_second false b is = refl
 
 not_usable : (file : List ℕ) (role : Role) (at : ℕ) → anchored_frame file at ≡ None → usable_anchored file role at ≡ None
 unfolding usable_anchored
@@ -129,17 +128,73 @@ bare_at front few k bare h is =
     let same = ap₂ (λ (m n : ℕ). may_begin m n) (get_drop front k 0 ∙ ap (λ n. get_or front n 0) (omega arith)) (get_drop front k 1) in
     false≢true (sym bare ∙ sym same ∙ begins)
 
+-- ---- what is no anchor
+
+not_letter : (kind : Kind) (first : ℕ) → first ≡ first_byte kind → may_begin_block first ≡ false → ⊥
+not_letter Id3v2 first is none = false≢true (sym none ∙ ap may_begin_block is)
+not_letter Id3v1 first is none = false≢true (sym none ∙ ap may_begin_block is)
+not_letter Ape first is none = false≢true (sym none ∙ ap may_begin_block is)
+
+-- neither a header nor a block begins with these bytes, and they aren't none
+pub not_anchor : (bytes : List ℕ) (class : ClassFields) → ((i : ℕ) → get_or bytes i 0 < 256) → 2 ≤ length bytes → may_begin (get_or bytes 0 0) (get_or bytes 1 0) ≡ false → may_begin_block (get_or bytes 0 0) ≡ false
+    → is_anchor class (item_front bytes) ≡ false
+not_anchor bytes class few many bare letter = by_item (item_front bytes) refl (stands bytes)
+  where
+    by_item : (item : Item) → item_front bytes ≡ item → Stands bytes item → is_anchor class item ≡ false
+    by_item (Frame h) is here = absurd (false≢true (sym bare ∙ header_begins bytes h few here))
+    by_item Free is here = refl
+    by_item (Block b) is here = absurd (not_letter b.kind (get_or bytes 0 0) (block_front-first bytes b here) letter)
+    by_item Zero is here = refl
+    by_item End is here = absurd (omega (arith, ap length here, many))
+    by_item Nothing is here = refl
+
+-- ---- where no anchored frame stands
+
+-- a header other than this one doesn't stand here
+pub header_same : (bytes : List ℕ) (h g : HeaderFields) → header_front bytes ≡ Ok h → item_front bytes ≡ Frame g → h ≡ g
+header_same bytes h g read is =
+    let header : header_front bytes ≡ Ok g = subst (Stands bytes) is (stands bytes) in
+    cc
+
+pub header_of : (bytes : List ℕ) (g : HeaderFields) → item_front bytes ≡ Frame g → header_front bytes ≡ Ok g
+header_of bytes g is = subst (Stands bytes) is (stands bytes)
+
+-- none stands before a later place of the look
+pub bare_more : (front : List ℕ) (at : ℕ) → ((k : ℕ) → 0 < k → k < at → IsBare front k) → IsBare front at → (k : ℕ) → 0 < k → k < at + 1 → IsBare front k
+bare_more front at before here k some low = by_place (leb at k) refl
+  where
+    by_place : (b : Bool) → leb at k ≡ b → IsBare front k
+    by_place true is =
+        let same : at ≡ k = omega (arith, leb-true at k is, low) in
+        subst (IsBare front) same here
+    by_place false is = before k some (leb-false at k is)
+
 module _ (file : List ℕ) (at : ℕ) (front : List ℕ) (left : ℕ) (shows : Shows file at front left) where
-  bare_usable : (role : Role) (k : ℕ) → k ≤ 4064 → ((h : HeaderFields) → item_front (drop k front) ≡ Frame h → ⊥) → usable_anchored file role (at + k) ≡ None
-  bare_usable role k near bare =
-      not_usable file role (at + k) (not_anchored file (at + k) (item_front (drop k front)) (sym (item_at-behind file at front left shows k near)) bare)
+  no_anchor : (k : ℕ) (h : HeaderFields) → k ≤ 4064 → (k + length_of (class_of h) h.slot ≤ 4064) × (is_anchor (class_of h) (item_front (drop (k + length_of (class_of h) h.slot) front)) ≡ false) → has_anchor file (at + k) h ≡ false
+  no_anchor k h near bare =
+      let size = length_of (class_of h) h.slot in
+      let place : at + (k + size) ≡ (at + k) + size = omega arith in
+      let behind : item_front (drop (k + size) front) ≡ item_at file ((at + k) + size) = item_at-behind file at front left shows (k + size) bare.0 ∙ ap (item_at file) place in
+      no_second (fits file (at + k) (Frame h)) (is_anchor (class_of h) (item_at file ((at + k) + size))) (sym (ap (is_anchor (class_of h)) behind) ∙ bare.1)
+
+  bare_by : (k : ℕ) (item : Item) → k ≤ 4064 → item_front (drop k front) ≡ item → item_at file (at + k) ≡ item → IsBare front k → anchored_frame file (at + k) ≡ None
+  unfolding anchored_frame
+  bare_by k (Frame h) near shown is bare = ap (anchored file (at + k)) is ∙ ap (λ b. cond b (Some (record { offset = at + k; header = h })) None) (no_anchor k h near (bare h shown))
+  bare_by k Free near shown is bare = ap (anchored file (at + k)) is
+  bare_by k (Block b) near shown is bare = ap (anchored file (at + k)) is
+  bare_by k Zero near shown is bare = ap (anchored file (at + k)) is
+  bare_by k End near shown is bare = ap (anchored file (at + k)) is
+  bare_by k Nothing near shown is bare = ap (anchored file (at + k)) is
+
+  bare_usable : (role : Role) (k : ℕ) → k ≤ 4064 → IsBare front k → usable_anchored file role (at + k) ≡ None
+  bare_usable role k near bare = not_usable file role (at + k) (bare_by k (item_front (drop k front)) near refl (sym (item_at-behind file at front left shows k near)) bare)
 
   -- none stands at the offsets that are passed
-  pub passed_bare : (role : Role) (n earlier : ℕ) → n ≤ 4064 → ((k : ℕ) (h : HeaderFields) → 0 < k → k < n → item_front (drop k front) ≡ Frame h → ⊥) → at < earlier → earlier < at + n → usable_anchored file role earlier ≡ None
+  pub passed_bare : (role : Role) (n earlier : ℕ) → n ≤ 4064 → ((k : ℕ) → 0 < k → k < n → IsBare front k) → at < earlier → earlier < at + n → usable_anchored file role earlier ≡ None
   passed_bare role n earlier near bare low high =
       let k = earlier - at in
       let same : at + k ≡ earlier = omega (arith, low) in
-      subst (λ m. usable_anchored file role m ≡ None) same (bare_usable role k (omega (arith, near, high, low)) (λ h. bare k h (omega (arith, low)) (omega (arith, high, low))))
+      subst (λ m. usable_anchored file role m ≡ None) same (bare_usable role k (omega (arith, near, high, low)) (bare k (omega (arith, low)) (omega (arith, high, low))))
 
 -- none stands before a later offset
 pub none_later : (file : List ℕ) (role : Role) (from at later earlier : ℕ) → ((k : ℕ) → from ≤ k → k < at → usable_anchored file role k ≡ None) → usable_anchored file role at ≡ None

@@ -1,7 +1,11 @@
 -- What is read at an offset that a look has shown.
-use Rattle.std.specs.Prelude.{◌≡◌, ℕ, ◌/◌, ◌%◌, ◌==◌, ◌&&◌, Bool, true, List, Option, Some, None}
+use Rattle.std.specs.Prelude.{◌≡◌, ℕ, ◌+◌, ◌≤◌, ◌/◌, ◌%◌, ◌==◌, ◌&&◌, ◌||◌, Bool, true, false, List, drop, Option, Some, None}
 use Rattle.sync_survey.specs.declared.items.Item.{Item}
 use Rattle.sync_survey.specs.declared.items.Item.TheVariants.{Frame, Free, Block, Zero, End, Nothing}
+use Rattle.frame_header.specs.Fields.{HeaderFields}
+use Rattle.frame_header.specs.Tables.{class_of, length_of}
+use Rattle.sync_survey.specs.Items.{item_front}
+use Rattle.sync_survey.specs.Start.{is_anchor}
 use Rattle.sync_survey.specs.declared.runs.Step.{Step}
 use Rattle.salvage.specs.declared.usable.Role.{Role}
 use Rattle.salvage.specs.Usable.{is_usable}
@@ -10,6 +14,20 @@ use Rattle.salvage.specs.Walk.{item_read}
 -- a header may begin with these two bytes: by eight bits of the sync word and the two of the layer
 abbrev pub may_begin : ℕ → ℕ → Bool
 may_begin first second = (first == 255) && (second / 2 % 4 == 1)
+
+-- a block may begin with this byte: `I`, `T` or `A`
+abbrev pub may_begin_block : ℕ → Bool
+may_begin_block first = (first == 73) || ((first == 84) || (first == 65))
+
+-- so many bytes of a look are searched at once: behind each of them 32 are seen
+abbrev pub reach : ℕ
+reach = 4064
+
+-- no anchored frame stands at this place of a look, since no header does, or no anchor at the frame's end, which the look shows
+abbrev pub IsBare : List ℕ → ℕ → Type 0
+IsBare front k =
+    (h : HeaderFields) → item_front (drop k front) ≡ Frame h
+    → (k + length_of (class_of h) h.slot ≤ reach) × (is_anchor (class_of h) (item_front (drop (k + length_of (class_of h) h.slot) front)) ≡ false)
 
 -- a whole item at an offset is read, by the bytes from there on: it isn't a frame, or is a usable one
 abbrev pub admits_item : Role → ℕ → Item → List ℕ → Bool

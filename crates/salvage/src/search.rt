@@ -1,20 +1,21 @@
 //! The next usable frame.
-ghost use Rattle.std.specs.Prelude.{◌≡◌, ◌+◌, ◌<◌, ◌≤◌, ℕ, List, drop, length, IfOk, IfErr, IfSome, OnOk};
-ghost use Rattle.frame_header.specs.Fields.{HeaderFields};
+ghost use Rattle.std.specs.Prelude.{◌≡◌, ◌+◌, ◌<◌, ◌≤◌, ℕ, List, false, length, IfOk, IfErr, IfSome, OnOk};
+ghost use Rattle.frame_header.specs.Fields.{ClassFields};
+ghost use Rattle.sync_survey.specs.Start.{is_anchor};
 ghost use Rattle.outside.specs.Files.{Holds};
 ghost use Rattle.outside.specs.Counts.{OnlyReads};
 ghost use Rattle.outside.specs.Feed.{IsFedFrom};
 ghost use Rattle.sync_survey.specs.declared.items.Item.TheVariants.{Frame};
-ghost use Rattle.sync_survey.specs.Items.{size_of, item_front};
+ghost use Rattle.sync_survey.specs.Items.{size_of, item_front as item_front_lem};
 ghost use Rattle.sync_survey.specs.Survey.{HasLength};
 ghost use Rattle.salvage.specs.Usable.{next_usable as next_usable_lem};
 ghost use Rattle.salvage.specs.Walk.{first_frame as first_frame_lem};
 ghost use Rattle.salvage.specs.Damaged.{IsReadRefusal};
-ghost use Rattle.salvage.specs.Steps.{may_begin as may_begin_lem};
+ghost use Rattle.salvage.specs.Steps.{may_begin as may_begin_lem, may_begin_block as may_begin_block_lem, IsBare};
 
 use crate::usable::Role;
 use outside::{Feed, Folder};
-use sync_survey::{PlacedFrame, SurveyFault, look};
+use sync_survey::{PlacedFrame, SurveyFault, bytes_behind, header_front, look};
 
 /// So many bytes of a look are searched at once: behind each of them 32 are seen.
 const REACH: usize = 4_064;
@@ -26,16 +27,49 @@ fn may_begin(first: u8, second: u8) -> bool
     first == 0xff && second / 2 % 4 == 1
 }
 
-/// How many bytes are passed up to the next place where a header may begin, at least one.
+/// Whether a block may begin with this byte.
+fn may_begin_block(first: u8) -> bool
+    ensures { result ≡ may_begin_block_lem first }
+{
+    first == b'I' || first == b'T' || first == b'A'
+}
+
+/// Whether an anchor may begin with these bytes: a header by its first two, a block by its first, or the end
+/// of the file.
+fn may_anchor(bytes: &[u8]) -> bool
+    ensures { result ≡ false → (class : ClassFields)
+        → is_anchor class (item_front_lem bytes.now) ≡ false }
+{
+    if bytes.len() < 2 {
+        return true;
+    }
+    may_begin(bytes[0], bytes[1]) || may_begin_block(bytes[0])
+}
+
+/// Whether an anchored frame may stand at this place of a look.
+fn may_stand(front: &[u8], at: usize) -> bool
+    requires within { at + 1 < length front.now }
+    ensures { result ≡ false → IsBare front.now at }
+{
+    if !may_begin(front[at], front[at + 1]) {
+        return false;
+    }
+    let Ok(header) = header_front(bytes_behind(front, at)) else {
+        return false;
+    };
+    let end = at + header.length() as usize;
+    end > REACH || may_anchor(bytes_behind(front, end))
+}
+
+/// How many bytes are passed up to the next place of a look where an anchored frame may stand, at least one.
 fn bare(front: &[u8]) -> u64
     ensures some { 0 < result }
     ensures few { result ≤ 4064 }
-    ensures none { (k : ℕ) (h : HeaderFields) → 0 < k → k < result
-        → item_front (drop k front.now) ≡ Frame h → ⊥ }
+    ensures none { (k : ℕ) → 0 < k → k < result → IsBare front.now k }
 {
     let end = front.len().saturating_sub(1).min(REACH);
     for at in 1..end {
-        if may_begin(front[at], front[at + 1]) {
+        if may_stand(front, at) {
             return at as u64;
         }
     }

@@ -27,7 +27,7 @@ pub enum Item {
 
 /// The header at the front of the bytes, of which there have to be four.
 #[tactic(auto, unfolding(crate::specs::Items::header_front))]
-fn header_front(bytes: &[u8]) -> Result<Header, NotHeader>
+pub fn header_front(bytes: &[u8]) -> Result<Header, NotHeader>
     ensures { result ≡ header_front_lem bytes.now }
 {
     let [a, b, c, d, ..] = bytes else {

@@ -18,7 +18,7 @@ mod surveys;
 pub use folders::survey;
 pub use fronts::pass_front;
 pub use heads::{find_head, head_area, head_in, numbered_from};
-pub use items::{Item, is_same_class, item_front};
+pub use items::{Item, header_front, is_same_class, item_front};
 pub use laws::{
     lost_frames_lead, one_item_stands, runs_are_only, starts_are_least, surveys_are_placed,
     surveys_hold_streams,
@@ -27,6 +27,6 @@ pub use looks::{find_length, look};
 pub use places::{Head, Piece, PlacedFrame, Start};
 pub use rows::{Before, Behind, Row};
 pub use runs::{Part, Step, step_at};
-pub use starts::anchored_frame;
+pub use starts::{anchored_frame, bytes_behind};
 pub use survey_fault::SurveyFault;
 pub use surveys::Survey;

@@ -31,7 +31,7 @@ fn is_anchor(class: Class, item: &Item) -> bool
 }
 
 /// The bytes from a place on; none past their end.
-fn bytes_behind(bytes: &[u8], place: usize) -> &[u8]
+pub fn bytes_behind(bytes: &[u8], place: usize) -> &[u8]
     ensures { result.now ≡ drop place bytes.now }
 {
     bytes.get(place..).unwrap_or(&[])
