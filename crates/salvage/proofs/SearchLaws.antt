@@ -160,14 +160,21 @@ pub header_of : (bytes : List ℕ) (g : HeaderFields) → item_front bytes ≡ F
 header_of bytes g is = subst (Stands bytes) is (stands bytes)
 
 -- none stands before a later place of the look
-pub bare_more : (front : List ℕ) (at : ℕ) → ((k : ℕ) → 0 < k → k < at → IsBare front k) → IsBare front at → (k : ℕ) → 0 < k → k < at + 1 → IsBare front k
-bare_more front at before here k some low = by_place (leb at k) refl
+pub bare_more : (front : List ℕ) (from at : ℕ) → ((k : ℕ) → from ≤ k → k < at → IsBare front k) → IsBare front at → (k : ℕ) → from ≤ k → k < at + 1 → IsBare front k
+bare_more front from at before here k some low = by_place (leb at k) refl
   where
     by_place : (b : Bool) → leb at k ≡ b → IsBare front k
     by_place true is =
         let same : at ≡ k = omega (arith, leb-true at k is, low) in
         subst (IsBare front) same here
     by_place false is = before k some (leb-false at k is)
+
+pub bare_joined : (front : List ℕ) (from mid to : ℕ) → ((k : ℕ) → from ≤ k → k < mid → IsBare front k) → ((k : ℕ) → mid ≤ k → k < to → IsBare front k) → (k : ℕ) → from ≤ k → k < to → IsBare front k
+bare_joined front from mid to before behind k low high = by_place (leb mid k) refl
+  where
+    by_place : (b : Bool) → leb mid k ≡ b → IsBare front k
+    by_place true is = behind k (leb-true mid k is) high
+    by_place false is = before k low (leb-false mid k is)
 
 module _ (file : List ℕ) (at : ℕ) (front : List ℕ) (left : ℕ) (shows : Shows file at front left) where
   no_anchor : (k : ℕ) (h : HeaderFields) → k ≤ 4064 → (k + length_of (class_of h) h.slot ≤ 4064) × (is_anchor (class_of h) (item_front (drop (k + length_of (class_of h) h.slot) front)) ≡ false) → has_anchor file (at + k) h ≡ false

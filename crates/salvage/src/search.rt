@@ -1,5 +1,5 @@
 //! The next usable frame.
-ghost use Rattle.std.specs.Prelude.{◌≡◌, ◌+◌, ◌<◌, ◌≤◌, ℕ, List, false, length, IfOk, IfErr, IfSome, OnOk};
+ghost use Rattle.std.specs.Prelude.{◌≡◌, ◌+◌, ◌^◌, ◌<◌, ◌≤◌, ℕ, List, false, length, IfOk, IfErr, IfSome, OnOk};
 ghost use Rattle.frame_header.specs.Fields.{ClassFields};
 ghost use Rattle.sync_survey.specs.Start.{is_anchor};
 ghost use Rattle.outside.specs.Files.{Holds};
@@ -48,17 +48,31 @@ fn may_anchor(bytes: &[u8]) -> bool
 
 /// Whether an anchored frame may stand at this place of a look.
 fn may_stand(front: &[u8], at: usize) -> bool
-    requires within { at + 1 < length front.now }
+    requires within { at < 2 ^ 32 }
     ensures { result ≡ false → IsBare front.now at }
 {
-    if !may_begin(front[at], front[at + 1]) {
-        return false;
-    }
     let Ok(header) = header_front(bytes_behind(front, at)) else {
         return false;
     };
     let end = at + header.length() as usize;
     end > REACH || may_anchor(bytes_behind(front, end))
+}
+
+/// The first place of a look, from one on and before another, where a header may begin; that other where none
+/// may.
+fn find_begin(front: &[u8], from: usize, to: usize) -> usize
+    requires within { to < length front.now }
+    requires ordered { from ≤ to }
+    ensures low { from ≤ result }
+    ensures high { result ≤ to }
+    ensures none { (k : ℕ) → from ≤ k → k < result → IsBare front.now k }
+{
+    for at in from..to {
+        if may_begin(front[at], front[at + 1]) {
+            return at;
+        }
+    }
+    to
 }
 
 /// How many bytes are passed up to the next place of a look where an anchored frame may stand, at least one.
@@ -68,12 +82,15 @@ fn bare(front: &[u8]) -> u64
     ensures none { (k : ℕ) → 0 < k → k < result → IsBare front.now k }
 {
     let end = front.len().saturating_sub(1).min(REACH);
-    for at in 1..end {
-        if may_stand(front, at) {
+    let mut at = 1;
+    while at < end {
+        at = find_begin(front, at, end);
+        if at == end || may_stand(front, at) {
             return at as u64;
         }
+        at += 1;
     }
-    end.max(1) as u64
+    at as u64
 }
 
 /// The frame at the least offset, from one on, where a usable anchored one stands.

@@ -1,10 +1,14 @@
--- No anchored frame stands at the places that are passed.
-use Rattle.std.proofs.Common.{refl, sym, ◌∙◌, arith}
-use Rattle.salvage.proofs.SearchLaws.{bare_more}
+-- No anchored frame stands up to the place that is found.
+use Rattle.std.proofs.Common.{arith}
+use Rattle.salvage.proofs.SearchLaws.{bare_more, bare_joined}
 use Rattle.salvage.proofs.search.bare.Goals as goal
 
-pub loop-at-preserved : goal.loop-at-preserved
-loop-at-preserved c = record { none = bare_more c.args.front.now c.loop-at.at c.loop-at.invariant.none (c.may_stand.ensures c.if-may_stand.false) }
+pub returns-then-at-end-clause-none : goal.returns-then-at-end-clause-none
+returns-then-at-end-clause-none c = λ k some low. bare_joined c.args.front.now 1 c.loop-at.at c.find_begin-at.result c.loop-at.invariant.none c.find_begin-at.ensures.none k (omega (arith, some)) low
 
-pub returns-clause-none : goal.returns-clause-none
-returns-clause-none c = λ k some low. c.loop-at.invariant.none k some (omega (arith, some, low, c.max.ensures, c.loop-at-test.false))
+pub loop-at-preserved : goal.loop-at-preserved
+loop-at-preserved c = record {
+  none = bare_more c.args.front.now 1 c.find_begin-at.result (bare_joined c.args.front.now 1 c.loop-at.at c.find_begin-at.result c.loop-at.invariant.none c.find_begin-at.ensures.none) (c.may_stand.ensures c.if-may_stand.false);
+  some = omega arith;
+  few = omega (arith, c.find_begin-at.ensures.high, c.if-at-end.false);
+}

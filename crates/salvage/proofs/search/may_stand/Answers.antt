@@ -8,9 +8,6 @@ use Rattle.salvage.specs.Steps.{may_begin}
 use Rattle.salvage.proofs.SearchLaws.{bare_at, header_same, header_of}
 use Rattle.salvage.proofs.search.may_stand.Goals as goal
 
-pub returns-then-not-may_begin : goal.returns-then-not-may_begin
-returns-then-not-may_begin c = λ _ h is. absurd (bare_at c.args.front.now (λ i. omega (arith, c.type_inv.front i)) c.args.at (sym c.may_begin.ensures ∙ c.if-not-may_begin.true) h is)
-
 pub returns-in_default : goal.returns-in_default
 returns-in_default c = λ _ h is. absurd (c.in_default.not-Ok h (c.header_front.ensures ∙ ap header_front c.bytes_behind.ensures ∙ header_of (drop c.args.at c.args.front.now) h is))
 
