@@ -6,3 +6,6 @@ pub mod Damaged
 pub mod Judged
 pub mod Steps
 pub mod Progress
+pub mod Text
+pub mod Stream
+pub mod Laws

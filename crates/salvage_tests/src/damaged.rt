@@ -7,7 +7,7 @@ use std::process::Abort;
 use std::test::Fail;
 use sync_survey::{Piece, Row, SurveyFault};
 use test_files::files::{APE, ID3V1, ID3V1_REST, ID3V2, ID3V2_REST, Stretch, bytes_of};
-use test_files::frames::{Frame, HEAD, MONO, PROTECTED_G, PROTECTED_HEAD, PROTECTED_Z, Z};
+use test_files::frames::{Frame, HEAD, OVERFULL, PROTECTED_G, PROTECTED_HEAD, PROTECTED_Z, Z};
 
 /// A damaged file, and what is read of it.
 struct Case {
@@ -21,77 +21,253 @@ struct Case {
 
 /// Two frames, of which the second points 81 bytes back into the first.
 const FIRST: Stretch = Stretch::Frame(0, 2400);
+
 const SECOND: Stretch = Stretch::Frame(81, 3200);
 
 /// The first frame's third byte is 00, so that its main data are lost to the second.
 static NO_FIRST: Case = Case {
-    file: &[Stretch::Bytes(&[0xff, 0xfb, 0x00, 0x00]), Stretch::Fill(0, 413), SECOND],
+    file: &[
+        Stretch::Bytes(&[0xff, 0xfb, 0x00, 0x00]),
+        Stretch::Fill(0, 413),
+        SECOND,
+    ],
     frames: &[(417, true)],
-    gaps: &[Gap { offset: 0, length: 417 }],
+    gaps: &[Gap {
+        offset: 0,
+        length: 417,
+    }],
     blocks: &[],
 };
 
 /// The second frame has one byte less.
 static TRUNCATED: Case = Case {
-    file: &[FIRST, Stretch::Bytes(&[0xff, 0xfb, 0x90, 0x00]), Stretch::Fill(0, 412)],
+    file: &[
+        FIRST,
+        Stretch::Bytes(&[0xff, 0xfb, 0x90, 0x00]),
+        Stretch::Fill(0, 412),
+    ],
     frames: &[(0, false)],
-    gaps: &[Gap { offset: 417, length: 416 }],
+    gaps: &[Gap {
+        offset: 417,
+        length: 416,
+    }],
     blocks: &[],
 };
 
 /// Junk at the end, in which neither a frame nor a block begins.
 static GAP_AT_END: Case = Case {
-    file: &[FIRST, SECOND, Stretch::Fill(0, 7), Stretch::Fill(0x55, 70_000)],
+    file: &[
+        FIRST,
+        SECOND,
+        Stretch::Fill(0, 7),
+        Stretch::Fill(0x55, 70_000),
+    ],
     frames: &[(0, false), (417, false)],
-    gaps: &[Gap { offset: 841, length: 70_000 }],
+    gaps: &[Gap {
+        offset: 841,
+        length: 70_000,
+    }],
     blocks: &[],
 };
 
 /// One frame between two stretches of junk: it points to nothing of its own run. The block behind is an anchor.
 static BETWEEN: Case = Case {
     file: &[
-        FIRST, Stretch::Fill(0x55, 100), SECOND, APE, Stretch::Fill(0x55, 5), FIRST, SECOND,
+        FIRST,
+        Stretch::Fill(0x55, 100),
+        SECOND,
+        APE,
+        Stretch::Fill(0x55, 5),
+        FIRST,
+        SECOND,
     ],
     frames: &[(0, false), (517, true), (1018, false), (1435, false)],
-    gaps: &[Gap { offset: 417, length: 100 }, Gap { offset: 1013, length: 5 }],
+    gaps: &[
+        Gap {
+            offset: 417,
+            length: 100,
+        },
+        Gap {
+            offset: 1013,
+            length: 5,
+        },
+    ],
     blocks: &[934],
 };
 
 /// A block in a gap isn't read; one behind the last frame is.
 static BLOCK_IN_GAP: Case = Case {
     file: &[
-        FIRST, Stretch::Fill(0x55, 3), ID3V2, ID3V2_REST, FIRST, SECOND, ID3V1, ID3V1_REST,
+        FIRST,
+        Stretch::Fill(0x55, 3),
+        ID3V2,
+        ID3V2_REST,
+        FIRST,
+        SECOND,
+        ID3V1,
+        ID3V1_REST,
     ],
     frames: &[(0, false), (460, false), (877, false)],
-    gaps: &[Gap { offset: 417, length: 43 }],
+    gaps: &[Gap {
+        offset: 417,
+        length: 43,
+    }],
     blocks: &[1294],
 };
 
 /// A protected frame whose check word is wrong.
 static WRONG_WORD: Case = Case {
-    file: &[
-        Stretch::Frames(&[PROTECTED_Z, PROTECTED_G, Frame { word: Some(0x11a3), ..PROTECTED_G }, PROTECTED_G, PROTECTED_Z]),
-    ],
+    file: &[Stretch::Frames(&[
+        PROTECTED_Z,
+        PROTECTED_G,
+        Frame {
+            word: Some(0x11a3),
+            ..PROTECTED_G
+        },
+        PROTECTED_G,
+        PROTECTED_Z,
+    ])],
     frames: &[(0, false), (417, false), (1251, false), (1668, false)],
-    gaps: &[Gap { offset: 834, length: 417 }],
+    gaps: &[Gap {
+        offset: 834,
+        length: 417,
+    }],
     blocks: &[],
 };
 
 /// The first frame is a head whatever check word stands in it; one behind is a frame.
 static HEADS: Case = Case {
-    file: &[ID3V2, ID3V2_REST, Stretch::Fill(0x55, 9), Stretch::Frames(&[PROTECTED_HEAD, HEAD, Z])],
+    file: &[
+        ID3V2,
+        ID3V2_REST,
+        Stretch::Fill(0x55, 9),
+        Stretch::Frames(&[PROTECTED_HEAD, HEAD, Z]),
+    ],
     frames: &[(466, false), (883, false)],
-    gaps: &[Gap { offset: 40, length: 9 }],
+    gaps: &[Gap {
+        offset: 40,
+        length: 9,
+    }],
     blocks: &[0],
 };
 
-/// MPEG-2, mono, 24,000 Hz: a frame of MPEG-1 in between isn't one of the stream's.
-static MONO_FRAMES: Case = Case {
-    file: &[Stretch::Frames(&[MONO, MONO, Z, MONO])],
-    frames: &[],
+/// The second frame begins one byte before the end of the first's main data, and moves no end: the third
+/// begins there. More bits than its own area has are in the fourth.
+static UNSOUND: Case = Case {
+    file: &[
+        FIRST,
+        Stretch::Frame(82, 3200),
+        Stretch::Frame(462, 3200),
+        Stretch::Frames(&[OVERFULL, Z]),
+    ],
+    frames: &[
+        (0, false),
+        (417, true),
+        (834, false),
+        (1251, true),
+        (1668, false),
+    ],
     gaps: &[],
     blocks: &[],
 };
+
+/// MPEG-2, 24,000 Hz, 8 kbit/s, mono: 11 bytes of main data, and main_data_begin is 0, or 11.
+const SHORT: Frame = Frame {
+    header: [0xff, 0xf3, 0x14, 0xc0],
+    word: None,
+    side: &[],
+    area: &[],
+    length: 24,
+};
+
+const SHORT_BACK: Frame = Frame {
+    side: &[11],
+    ..SHORT
+};
+
+/// A frame of MPEG-1 between them isn't one of the stream's.
+static MPEG_2: Case = Case {
+    file: &[
+        Stretch::Frames(&[SHORT, SHORT_BACK]),
+        Stretch::Fill(0x55, 3),
+        Stretch::Frames(&[SHORT_BACK, SHORT_BACK, Z, SHORT]),
+    ],
+    frames: &[
+        (0, false),
+        (24, false),
+        (51, true),
+        (75, false),
+        (516, false),
+    ],
+    gaps: &[
+        Gap {
+            offset: 48,
+            length: 3,
+        },
+        Gap {
+            offset: 99,
+            length: 417,
+        },
+    ],
+    blocks: &[],
+};
+
+/// MPEG-2.5, 8,000 Hz, 8 kbit/s, mono, without a check word and with the right one.
+const SLOW: Frame = Frame {
+    header: [0xff, 0xe3, 0x18, 0xc0],
+    word: None,
+    side: &[],
+    area: &[],
+    length: 72,
+};
+
+const SLOW_PROTECTED: Frame = Frame {
+    header: [0xff, 0xe2, 0x18, 0xc0],
+    word: Some(0x11d2),
+    ..SLOW
+};
+
+static MPEG_2_5: Case = Case {
+    file: &[Stretch::Frames(&[
+        SLOW,
+        SLOW_PROTECTED,
+        Frame {
+            word: Some(0x11d3),
+            ..SLOW_PROTECTED
+        },
+        SLOW,
+    ])],
+    frames: &[(0, false), (72, false), (216, false)],
+    gaps: &[Gap {
+        offset: 144,
+        length: 72,
+    }],
+    blocks: &[],
+};
+
+/// Files of which nothing is read, and where the blocks and zero bytes at their front end.
+static NOTHING: [(&[Stretch], u64); 4] = [
+    (&[], 0),
+    (&[Stretch::Fill(0x55, 70_000)], 0),
+    (
+        &[
+            ID3V2,
+            ID3V2_REST,
+            Stretch::Fill(0, 2),
+            Stretch::Frames(&[HEAD]),
+        ],
+        42,
+    ),
+    (
+        &[
+            ID3V2,
+            ID3V2_REST,
+            Stretch::Frames(&[HEAD]),
+            Stretch::Fill(0x55, 70_000),
+        ],
+        40,
+    ),
+];
 
 /// What is read of the file, where something is.
 fn read(alloc: Global, parts: &[Stretch]) -> Result<Result<Damaged, SurveyFault>, AllocError> {
@@ -102,11 +278,19 @@ fn read(alloc: Global, parts: &[Stretch]) -> Result<Result<Damaged, SurveyFault>
 }
 
 fn same_rows(rows: &[Row], wanted: &[(u64, bool)]) -> bool {
-    rows.len() == wanted.len() && rows.iter().zip(wanted).all(|(row, (at, lost))| row.offset == *at && row.lost == *lost)
+    rows.len() == wanted.len()
+        && rows
+            .iter()
+            .zip(wanted)
+            .all(|(row, (at, lost))| row.offset == *at && row.lost == *lost)
 }
 
 fn same_blocks(blocks: &[Piece], wanted: &[u64]) -> bool {
-    blocks.len() == wanted.len() && blocks.iter().zip(wanted).all(|(block, at)| block.offset == *at)
+    blocks.len() == wanted.len()
+        && blocks
+            .iter()
+            .zip(wanted)
+            .all(|(block, at)| block.offset == *at)
 }
 
 /// Whether what is read of the case's file is what is wanted.
@@ -114,7 +298,11 @@ fn holds(alloc: Global, case: &Case) -> Result<bool, AllocError> {
     let Ok(damaged) = read(alloc, case.file)? else {
         return Ok(false);
     };
-    Ok(same_rows(damaged.frames(), case.frames) && damaged.gaps() == case.gaps && same_blocks(damaged.blocks(), case.blocks))
+    Ok(
+        same_rows(damaged.frames(), case.frames)
+            && damaged.gaps() == case.gaps
+            && same_blocks(damaged.blocks(), case.blocks),
+    )
 }
 
 fn expect<R: Abort>(rt: &R, alloc: Global, case: &Case) -> Result<(), Fail> {
@@ -125,12 +313,13 @@ fn expect<R: Abort>(rt: &R, alloc: Global, case: &Case) -> Result<(), Fail> {
 #[test]
 fn frames_that_point_into_gaps(rt: HostRuntime) -> Result<(), Fail> {
     expect(&rt, rt.alloc(), &NO_FIRST)?;
-    expect(&rt, rt.alloc(), &TRUNCATED)?;
-    expect(&rt, rt.alloc(), &BETWEEN)
+    expect(&rt, rt.alloc(), &BETWEEN)?;
+    expect(&rt, rt.alloc(), &UNSOUND)
 }
 
 #[test]
 fn gaps(rt: HostRuntime) -> Result<(), Fail> {
+    expect(&rt, rt.alloc(), &TRUNCATED)?;
     expect(&rt, rt.alloc(), &GAP_AT_END)?;
     expect(&rt, rt.alloc(), &BLOCK_IN_GAP)
 }
@@ -139,4 +328,30 @@ fn gaps(rt: HostRuntime) -> Result<(), Fail> {
 fn check_words(rt: HostRuntime) -> Result<(), Fail> {
     expect(&rt, rt.alloc(), &WRONG_WORD)?;
     expect(&rt, rt.alloc(), &HEADS)
+}
+
+#[test]
+fn other_versions(rt: HostRuntime) -> Result<(), Fail> {
+    expect(&rt, rt.alloc(), &MPEG_2)?;
+    expect(&rt, rt.alloc(), &MPEG_2_5)
+}
+
+/// Whether nothing is read of the file for want of a frame.
+fn is_without_frame(alloc: Global, parts: &[Stretch], front_end: u64) -> Result<bool, AllocError> {
+    Ok(match read(alloc, parts)? {
+        Ok(_) => false,
+        Err(fault) => fault == SurveyFault::NoFrame(front_end),
+    })
+}
+
+fn expect_nothing<R: Abort>(rt: &R, alloc: Global) -> Result<(), Fail> {
+    for (parts, front_end) in &NOTHING {
+        assert!(rt; is_without_frame(alloc, parts, *front_end)?);
+    }
+    Ok(())
+}
+
+#[test]
+fn no_frame(rt: HostRuntime) -> Result<(), Fail> {
+    expect_nothing(&rt, rt.alloc())
 }
