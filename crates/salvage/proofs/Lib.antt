@@ -6,3 +6,4 @@ pub mod WalkLaws
 pub mod SoundLaws
 pub mod ProgressLaws
 pub mod Results
+pub mod KeepsLaws

@@ -266,7 +266,7 @@ past_end [] n few = refl
 past_end (r ∷ rows) zero few = absurd (omega (arith, few))
 past_end (r ∷ rows) (suc n) few = past_end rows n (omega (arith, few))
 
-few_counted : (front_end : ℕ) (rows : List Row) (d : DamagedFields) → (rows ≡ [] → ⊥) → length rows ≤ most_frames → counted front_end rows d ≡ Ok d
+pub few_counted : (front_end : ℕ) (rows : List Row) (d : DamagedFields) → (rows ≡ [] → ⊥) → length rows ≤ most_frames → counted front_end rows d ≡ Ok d
 few_counted front_end [] d some few = absurd (some refl)
 few_counted front_end (r ∷ rows) d some few = ap (λ o. unless_too_many o d) (past_end (r ∷ rows) most_frames few)
 

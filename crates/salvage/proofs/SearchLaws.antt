@@ -109,7 +109,7 @@ no_second : (a b : Bool) → b ≡ false → (a && b) ≡ false
 no_second true b is = is
 no_second false b is = refl
 
-not_usable : (file : List ℕ) (role : Role) (at : ℕ) → anchored_frame file at ≡ None → usable_anchored file role at ≡ None
+pub not_usable : (file : List ℕ) (role : Role) (at : ℕ) → anchored_frame file at ≡ None → usable_anchored file role at ≡ None
 unfolding usable_anchored
 not_usable file role at none = ap (if_usable file role) none
 

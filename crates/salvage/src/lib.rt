@@ -5,10 +5,12 @@ mod begun;
 mod damaged;
 mod found;
 mod gap;
+mod laws;
 mod reading;
 mod search;
 mod usable;
 
 pub use damaged::Damaged;
 pub use gap::Gap;
+pub use laws::salvage_keeps_streams;
 pub use reading::read_damaged;

@@ -26,8 +26,8 @@ use crate::usable::Role;
 use outside::{Feed, Folder};
 use std::alloc::{AllocError, Global};
 use sync_survey::{
-    Before, Piece, PlacedFrame, Start, Survey, SurveyFault, find_head, find_length, head_area, look,
-    numbered_from, pass_front,
+    Before, Piece, PlacedFrame, Start, Survey, SurveyFault, find_head, find_length, head_area,
+    look, numbered_from, pass_front,
 };
 
 /// The gap before the first frame, where there is one.
@@ -55,7 +55,9 @@ fn found_first(alloc: Global, begun: &Begun, pieces: Vec<Piece>) -> Result<Found
     ensures gaps { IfOk result (λ f. f.gaps.items ≡ gap_between begun.now.start.front_end
         begun.now.start.first.offset) }
     ensures before { IfOk result (λ f. f.before ≡ record {
-        place = head_area_lem begun.now.head; ended = 0 }) }
+      place = head_area_lem begun.now.head;
+      ended = 0;
+    }) }
     ensures at { IfOk result (λ f. f.at ≡ numbered_at begun.now.start.first begun.now.head) }
     ensures low { IfOk result (λ f. f.before.place ≤ 1441) }
     ensures behind { IfOk result (λ f. begun.now.start.first.offset ≤ f.at) }
@@ -259,11 +261,7 @@ fn read_on<D: Folder>(
 }
 
 /// What is read of a damaged file, as `read_damaged` has it.
-fn read_file<D: Folder>(
-    alloc: Global,
-    folder: &mut D,
-    name: &str,
-) -> Result<Damaged, SurveyFault>
+fn read_file<D: Folder>(alloc: Global, folder: &mut D, name: &str) -> Result<Damaged, SurveyFault>
     ensures exact { IfOk result (λ d. IsReadOf name.now (D.files folder.old) (tells_of d)) }
     ensures laid { IfOk result (λ d. IsLaidOut (tells_of d)) }
     ensures there { OnOk result (IsThere (D.files folder.old) name.now) }

@@ -57,8 +57,7 @@ impl Role {
                 has_right_word(&frame.header, bytes) || head_in(frame, bytes).is_some()
             }
             Role::Later(class) => {
-                is_same_class(frame.header.class(), *class)
-                    && has_right_word(&frame.header, bytes)
+                is_same_class(frame.header.class(), *class) && has_right_word(&frame.header, bytes)
             }
         }
     }

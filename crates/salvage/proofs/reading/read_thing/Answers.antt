@@ -58,10 +58,10 @@ returns-clause-refused g c =
     let item = c.in-Some.step.item in
     if_err c.keep.result _ (λ fault. (fault ≡ Memory) ⊎ IsPastMost item old fault) _ c.keep.ensures.kept (λ fault is. elim is as (λ _. IsReadRefusal c.args.name.now (g.D.Folder.files c.args.folder.now) (g.D.Folder.counts c.args.folder.now) (g.D.Folder.counts c.look.new.folder) fault) [
       | inl memory ↦ subst (IsReadRefusal c.args.name.now (g.D.Folder.files c.args.folder.now) (g.D.Folder.counts c.args.folder.now) (g.D.Folder.counts c.look.new.folder)) (sym memory)
-      (memory_refusal c.args.name.now (g.D.Folder.files c.args.folder.now) (g.D.Folder.counts c.args.folder.now) (g.D.Folder.counts c.look.new.folder) begun.size c.requires.begun.known c.in_ok-left.ensures.done)
+          (memory_refusal c.args.name.now (g.D.Folder.files c.args.folder.now) (g.D.Folder.counts c.args.folder.now) (g.D.Folder.counts c.look.new.folder) begun.size c.requires.begun.known c.in_ok-left.ensures.done)
       | inr past ↦ bytes_refusal c.args.name.now (g.D.Folder.files c.args.folder.now) (g.D.Folder.counts c.args.folder.now) (g.D.Folder.counts c.look.new.folder) fault begun.size c.requires.begun.known c.in_ok-left.ensures.done
-      (past_rightly item old fault past) (λ bytes holds.
-      let seen = subst (λ l. Shows bytes old.at l c.in_ok-left.left) (sym c.bytes.ensures) (c.in_ok-left.ensures.shows bytes holds) in
-      past_most bytes begun old item fault (c.requires.begun.told bytes holds) (omega (arith, c.requires.begun.known.few, c.requires.begun.known.long bytes holds)) (c.requires.reading.told bytes holds)
-      (subst (λ (r : Role). IsRead bytes r old.at (Some c.in-Some.step)) c.later_role-role.ensures (c.in-Some.ensures.read bytes seen)) past)
+          (past_rightly item old fault past) (λ bytes holds.
+          let seen = subst (λ l. Shows bytes old.at l c.in_ok-left.left) (sym c.bytes.ensures) (c.in_ok-left.ensures.shows bytes holds) in
+          past_most bytes begun old item fault (c.requires.begun.told bytes holds) (omega (arith, c.requires.begun.known.few, c.requires.begun.known.long bytes holds)) (c.requires.reading.told bytes holds)
+          (subst (λ (r : Role). IsRead bytes r old.at (Some c.in-Some.step)) c.later_role-role.ensures (c.in-Some.ensures.read bytes seen)) past)
     ])

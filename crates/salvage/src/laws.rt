@@ -1,0 +1,8 @@
+//! Laws of the definitions. Each function does nothing: a proof that needs its law calls it.
+ghost use Rattle.salvage.specs.Laws.{SalvageKeepsStreams};
+
+/// Of a file without fault all is read that its survey tells, and nothing is missing but the junk before the
+/// first frame. So its stream is kept.
+pub fn salvage_keeps_streams()
+    ensures { SalvageKeepsStreams }
+{}
