@@ -1,30 +1,26 @@
 -- Of a file without fault all is read that its survey tells.
-use Rattle.std.proofs.Common.{◌≡◌, ℕ, zero, suc, ◌+◌, ◌<◌, ◌≤◌, ◌==◌, ◌&&◌, ◌||◌, Bool, true, false, cond, not, List, [], ◌∷◌, ◌++◌, length, drop, map, Option, Some, None, Result, Ok, Err, refl, sym, ◌∙◌, ap, ap₂, subst, arith, append-nil, length-drop}
+use Rattle.std.proofs.Common.{◌≡◌, ℕ, zero, suc, ◌+◌, ◌<◌, ◌≤◌, ◌==◌, ◌&&◌, ◌||◌, Bool, true, false, cond, not, List, [], ◌∷◌, ◌++◌, length, drop, map, Option, Some, None, Ok, Err, refl, sym, ◌∙◌, ap, ap₂, subst, arith, append-nil, length-drop}
 use Rattle.std.specs.Option.{option_or}
-use Rattle.std.specs.Prelude.{slice_get, is_some, option_and_then, option_map, option_to_list, filter_map}
+use Rattle.std.specs.Prelude.{slice_get, is_some, option_and_then, option_to_list}
 use Rattle.std.specs.List.{enumerate_from, cons_option}
-use Rattle.std.proofs.lemmas.Bool.{le-leb}
 use Rattle.frame_header.specs.Fields.{HeaderFields, ClassFields, same_class}
 use Rattle.frame_header.specs.Tables.{class_of}
 use Rattle.side_info.specs.Frame.{word_said, word_right}
 use Rattle.sync_survey.specs.declared.items.Item.{Item}
 use Rattle.sync_survey.specs.declared.items.Item.TheVariants.{Frame, Free, Block, Zero, End, Nothing}
 use Rattle.sync_survey.specs.declared.places.Head.{Head}
-use Rattle.sync_survey.specs.declared.places.Piece.{Piece}
 use Rattle.sync_survey.specs.declared.places.PlacedFrame.{PlacedFrame}
 use Rattle.sync_survey.specs.declared.places.Start.{Start}
 use Rattle.sync_survey.specs.declared.rows.Row.{Row}
 use Rattle.sync_survey.specs.declared.runs.Part.TheVariants.{Front, Stream}
 use Rattle.sync_survey.specs.declared.survey_fault.SurveyFault.{SurveyFault}
-use Rattle.sync_survey.specs.declared.survey_fault.SurveyFault.TheVariants.{NoFrame}
 use Rattle.sync_survey.specs.Items.{item_at, size_of, fits}
 use Rattle.sync_survey.specs.Runs.{Placed, whole, item_of, run, AreEndToEnd, frame_as, block_as, frames_of, blocks_of}
-use Rattle.sync_survey.specs.Start.{anchored_frame, first_anchored, longest_junk, start_behind, start_at, front_end_of, start_of}
-use Rattle.sync_survey.specs.Walk.{stream_run, head_of, numbered, numbered_at, all_blocks, fault_at, end_fault}
+use Rattle.sync_survey.specs.Start.{anchored_frame, first_anchored, longest_junk, start_behind, start_at, front_end_of}
+use Rattle.sync_survey.specs.Walk.{stream_run, head_of, numbered, numbered_at, all_blocks, end_fault}
 use Rattle.sync_survey.specs.MainData.{row_of, rows_of, place, is_silent, points_too_far, lacks_data, end_of_data, end_behind, end_before, is_lost, marked_row, marked}
-use Rattle.sync_survey.specs.Faults.{SurveyFields, surveyed, has_wrong_word, overlaps, overruns, class_from}
-use Rattle.sync_survey.proofs.ItemsLaws.{stands-at}
-use Rattle.sync_survey.proofs.RunsLaws.{IsItemOf, item_of-is, run-ends, frames-next}
+use Rattle.sync_survey.specs.Faults.{SurveyFields, has_wrong_word, overlaps, overruns, class_from}
+use Rattle.sync_survey.proofs.RunsLaws.{item_of-is, run-ends, frames-next}
 use Rattle.sync_survey.proofs.StartLaws.{start_is, start-front, first_of-is, anchored_frame-is}
 use Rattle.sync_survey.proofs.WalkLaws.{numbered-frames, numbered-blocks, numbered-stop, no_fault, nothing_left}
 use Rattle.sync_survey.proofs.SurveyParts.{frames_from, told_from, surveyed-parts, StandWell, AreSound, all_faults-none_sound}
@@ -33,10 +29,10 @@ use Rattle.sync_survey.proofs.Progress.{first_of_stream}
 use Rattle.salvage.specs.declared.usable.Role.{Role}
 use Rattle.salvage.specs.declared.usable.Role.TheVariants.{First, Later}
 use Rattle.salvage.specs.Usable.{has_right_word, is_head, is_usable, if_usable, usable_anchored, next_usable}
-use Rattle.salvage.specs.Walk.{is_read, if_read, item_read, first_frame, IsItem, IsGap, PlacedThing, things, gaps_of, blocks_in}
+use Rattle.salvage.specs.Walk.{is_read, if_read, item_read, first_frame, IsItem, PlacedThing, things, gaps_of, blocks_in}
 use Rattle.salvage.specs.Sound.{FrameRuns, runs_of, is_sound, sound_end, end_of_sound, judged_row, judged, judged_runs}
-use Rattle.salvage.specs.Damaged.{DamagedFields, damaged_from, things_from, gap_between, counted, with_number, damaged_by, damaged, most_frames}
-use Rattle.salvage.proofs.WalkLaws.{item_read-is, things-item, things-past}
+use Rattle.salvage.specs.Damaged.{DamagedFields, damaged_from, things_from, gap_between, with_number, damaged_by, damaged}
+use Rattle.salvage.proofs.WalkLaws.{things-item, things-past}
 use Rattle.salvage.proofs.SearchLaws.{first_here, not_usable, next_usable-some}
 use Rattle.salvage.specs.Laws.{SalvageKeepsStreams}
 use Rattle.salvage.proofs.ProgressLaws.{few_counted}

@@ -1,12 +1,11 @@
 -- One thing more is read.
-use Rattle.std.proofs.Common.{◌≡◌, ℕ, zero, suc, ◌+◌, ◌-◌, ◌<◌, ◌≤◌, ◌==◌, ◌&&◌, Bool, true, false, cond, ltb, List, [], ◌∷◌, ◌++◌, length, drop, Option, Some, None, Result, Ok, Err, refl, sym, ◌∙◌, ap, ap₂, subst, arith, append-nil}
+use Rattle.std.proofs.Common.{◌≡◌, ℕ, zero, suc, ◌+◌, ◌-◌, ◌<◌, ◌≤◌, ◌==◌, Bool, true, false, cond, ltb, List, [], ◌∷◌, ◌++◌, length, drop, Option, Some, None, Ok, Err, refl, sym, ◌∙◌, ap, ap₂, subst, arith, append-nil}
 use Rattle.std.specs.Prelude.{option_to_list, slice_get}
 use Rattle.std.specs.List.{prefix_len}
-use Rattle.frame_header.specs.Fields.{HeaderFields, ClassFields, IsHeader, same_class}
-use Rattle.frame_header.specs.Tables.{class_of, length_of, overhead_of, area_of}
+use Rattle.frame_header.specs.Fields.{HeaderFields, ClassFields, IsHeader}
+use Rattle.frame_header.specs.Tables.{class_of, length_of, area_of}
 use Rattle.frame_header.proofs.HeaderLaws.{IsClass-class_of}
 use Rattle.side_info.specs.Side.{SideFits}
-use Rattle.side_info.specs.Frame.{side_in}
 use Rattle.side_info.proofs.FrameLaws.{fits-side_in, overhead-few}
 use Rattle.sync_survey.specs.declared.items.Item.{Item}
 use Rattle.sync_survey.specs.declared.items.Item.TheVariants.{Frame, Free, Block, Zero, End, Nothing}
@@ -15,8 +14,8 @@ use Rattle.sync_survey.specs.declared.rows.Row.{Row}
 use Rattle.sync_survey.specs.declared.rows.Before.{Before}
 use Rattle.sync_survey.specs.Items.{item_front, size_of}
 use Rattle.sync_survey.specs.Runs.{block_as}
-use Rattle.sync_survey.specs.MainData.{row_in, row_of, own_area}
-use Rattle.sync_survey.specs.Looks.{look_size, Shows}
+use Rattle.sync_survey.specs.MainData.{row_in, own_area}
+use Rattle.sync_survey.specs.Looks.{Shows}
 use Rattle.sync_survey.specs.Survey.{AreLaid, BlocksAreLaid}
 use Rattle.sync_survey.proofs.RunsLaws.{both, kept_more, kept_whole}
 use Rattle.sync_survey.proofs.FrontLaws.{blocks_more, pieces_later}
@@ -32,7 +31,7 @@ use Rattle.salvage.specs.declared.found.Found.{Found}
 use Rattle.salvage.specs.declared.gap.Gap.{Gap}
 use Rattle.salvage.specs.declared.usable.Role.TheVariants.{Later}
 use Rattle.salvage.specs.Walk.{item_read, first_frame, gap_end, things, gaps_of, blocks_in}
-use Rattle.salvage.specs.Judged.{judged_by, before_next, none_before, rows_in, before_behind, rows_left, Adds, AddsItem, AddsGap, IsPastMost}
+use Rattle.salvage.specs.Judged.{judged_by, before_next, none_before, rows_in, before_behind, rows_left, AddsItem, AddsGap, IsPastMost}
 use Rattle.salvage.specs.Steps.{admits_item}
 use Rattle.salvage.specs.Progress.{class_in, BeginsSo, whole_of, told_of, IsReadTo, GapsAreLaid, AreOfClass, IsLaidTo, IsLaidOut}
 use Rattle.salvage.specs.Damaged.{DamagedFields, damaged_from, unless_too_many, counted, with_number, damaged_by, damaged, damaged_of, most_frames}
@@ -47,7 +46,7 @@ use Rattle.sync_survey.specs.Survey.{IsWholeHead}
 use Rattle.salvage.specs.Damaged.{gap_between}
 use Rattle.salvage.proofs.SoundLaws.{runs-left}
 use Rattle.salvage.proofs.ReadFaults.{damaged_of-short}
-use Rattle.salvage.proofs.WalkLaws.{things-past, things-gap, things-item, item_passed, gap_end-is}
+use Rattle.salvage.proofs.WalkLaws.{things-past, things-gap, things-item, item_passed}
 
 -- ---- what was found, and what is left
 

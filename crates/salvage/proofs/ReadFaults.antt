@@ -1,15 +1,14 @@
 -- Why a damaged file isn't read.
-use Rattle.std.proofs.Common.{◌≡◌, ℕ, ◌<◌, ◌≤◌, ltb, cond, true, false, List, length, Result, Ok, Err, refl, sym, ◌∙◌, ap, subst, arith}
+use Rattle.std.proofs.Common.{◌≡◌, ℕ, ◌<◌, ◌≤◌, ltb, true, false, List, length, Err, refl, sym, ◌∙◌, ap, subst, arith}
 use Rattle.std.proofs.lemmas.Bool.{lt-ltb, le-ltb}
-use Rattle.std.specs.Prelude.{IfErr}
-use Rattle.outside.specs.Files.{Files, Holds, IsThere, IsMissing}
+use Rattle.outside.specs.Files.{Files, Holds, IsMissing}
 use Rattle.outside.specs.Counts.{Counts, Rose}
 use Rattle.sync_survey.specs.declared.survey_fault.SurveyFault.{SurveyFault}
 use Rattle.sync_survey.specs.declared.survey_fault.SurveyFault.TheVariants.{TooLong, Memory}
 use Rattle.sync_survey.specs.Faults.{longest_file}
 use Rattle.sync_survey.specs.Kinds.{InputKind, IsAbsent, IsUnread, IsShorter, IsTooMuch, IsRefused, kind_of, by_kind, HasRightNumbers, IsFromOutside, RefusesRightly}
-use Rattle.sync_survey.specs.Survey.{IsRefusal, IsSurveyFault, HasShrunk, AsksForMemory, RefusesBytes, HasLength, IsOfLength}
-use Rattle.salvage.specs.Damaged.{damaged, damaged_of, RefusesDamaged, IsReadFault, IsReadRefusal}
+use Rattle.sync_survey.specs.Survey.{IsRefusal, HasShrunk, AsksForMemory, RefusesBytes, HasLength, IsOfLength}
+use Rattle.salvage.specs.Damaged.{damaged, damaged_of, RefusesDamaged, IsReadRefusal}
 
 module _ (name : List ℕ) (files : Files) (before after : Counts) (fault : SurveyFault) where
   abbrev SurveyCause : InputKind → Type 0

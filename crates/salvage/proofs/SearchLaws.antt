@@ -1,5 +1,5 @@
 -- The next usable frame.
-use Rattle.std.proofs.Common.{◌≡◌, ℕ, zero, suc, ◌+◌, ◌-◌, ◌*◌, ◌/◌, ◌%◌, ◌^◌, ◌<◌, ◌≤◌, ◌&&◌, ◌==◌, ◌⊎◌, inl, inr, leb, min, Bool, true, false, cond, List, [], ◌∷◌, ◌++◌, length, take, drop, get_or, Option, Some, None, Result, Ok, Err, refl, sym, ◌∙◌, ap, ap₂, subst, arith}
+use Rattle.std.proofs.Common.{◌≡◌, ℕ, zero, suc, ◌+◌, ◌-◌, ◌*◌, ◌/◌, ◌%◌, ◌^◌, ◌<◌, ◌≤◌, ◌&&◌, ◌==◌, leb, Bool, true, false, cond, List, [], ◌∷◌, length, take, drop, get_or, Option, Some, None, Result, Ok, Err, refl, sym, ◌∙◌, ap, ap₂, subst, arith}
 use Rattle.std.proofs.lemmas.Bool.{false≢true, eqb-true, eq-eqb, leb-true, leb-false}
 use Rattle.bit_fields.specs.Bits.{bits, number}
 use Rattle.bit_fields.specs.Groups.{group}
@@ -9,7 +9,7 @@ use Rattle.frame_header.specs.Tables.{class_of, length_of}
 use Rattle.tag_blocks.specs.declared.block.Kind.{Kind}
 use Rattle.tag_blocks.specs.declared.block.Kind.TheVariants.{Id3v2, Id3v1, Ape}
 use Rattle.tag_blocks.proofs.BlocksLaws.{first_byte, block_front-first}
-use Rattle.frame_header.specs.Reading.{sync_word, layer_bits, is_readable, rate_bits, header_fields, header_in, header_at}
+use Rattle.frame_header.specs.Reading.{is_readable, rate_bits, header_fields, header_in, header_at}
 use Rattle.frame_header.specs.declared.header.NotHeader.{NotHeader}
 use Rattle.frame_header.specs.declared.header.NotHeader.TheVariants.{Free as FreeHeader, No}
 use Rattle.sync_survey.proofs.RunsLaws.{both}
@@ -21,7 +21,7 @@ use Rattle.sync_survey.specs.Start.{is_anchor, has_anchor, anchored, anchored_fr
 use Rattle.sync_survey.specs.Looks.{Shows}
 use Rattle.sync_survey.proofs.ItemsLaws.{stands}
 use Rattle.sync_survey.proofs.LooksLaws.{item_at-behind}
-use Rattle.sync_survey.proofs.StartLaws.{first_of, first_of-none, first_of-some, anchored_frame-past}
+use Rattle.sync_survey.proofs.StartLaws.{first_of-none, first_of-some, anchored_frame-past}
 use Rattle.salvage.specs.declared.usable.Role.{Role}
 use Rattle.salvage.specs.Usable.{if_usable, usable_anchored, next_usable}
 use Rattle.salvage.specs.declared.usable.Role.TheVariants.{First}

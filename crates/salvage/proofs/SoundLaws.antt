@@ -1,14 +1,13 @@
 -- The frames of all runs, judged one behind the other.
-use Rattle.std.proofs.Common.{◌≡◌, ℕ, zero, suc, ◌+◌, ◌≤◌, not, List, [], ◌∷◌, ◌++◌, length, map, Option, Some, None, refl, sym, ◌∙◌, ap, ap₂, arith, append_assoc, append-nil, length-append}
+use Rattle.std.proofs.Common.{◌≡◌, ℕ, zero, suc, ◌+◌, ◌≤◌, not, List, [], ◌∷◌, ◌++◌, length, map, Option, Some, None, refl, sym, ◌∙◌, ap, ap₂, arith, append_assoc, length-append}
 use Rattle.std.specs.Prelude.{flat_map, slice_get}
 use Rattle.std.specs.List.{enumerate_from}
-use Rattle.sync_survey.specs.declared.items.Item.{Item}
 use Rattle.sync_survey.specs.declared.items.Item.TheVariants.{Frame, Free, Block, Zero, End, Nothing}
 use Rattle.sync_survey.specs.declared.places.Head.{Head}
 use Rattle.sync_survey.specs.declared.places.PlacedFrame.{PlacedFrame}
 use Rattle.sync_survey.specs.declared.rows.Row.{Row}
 use Rattle.sync_survey.specs.declared.rows.Before.{Before}
-use Rattle.sync_survey.specs.MainData.{row_of, rows_of, head_area, place}
+use Rattle.sync_survey.specs.MainData.{rows_of, head_area, place}
 use Rattle.sync_survey.proofs.FaultsLaws.{get_more, get_next, place-more, place-next, place-none}
 use Rattle.salvage.specs.Walk.{Thing, IsItem, IsGap, PlacedThing}
 use Rattle.salvage.specs.Sound.{FrameRuns, runs_behind, runs_of, is_sound, sound_end, end_of_sound, judged_row, judged, judged_runs}

@@ -1,22 +1,21 @@
 -- Whether a frame is usable is seen by a look.
-use Rattle.std.proofs.Common.{◌≡◌, ℕ, ◌+◌, ◌<◌, ◌≤◌, ◌||◌, ◌&&◌, ◌==◌, min, Bool, true, false, cond, not, List, length, take, drop, Option, Some, None, refl, sym, ◌∙◌, ap, ap₂, subst, arith}
+use Rattle.std.proofs.Common.{◌≡◌, ℕ, ◌<◌, ◌≤◌, ◌||◌, ◌&&◌, ◌==◌, min, Bool, true, false, cond, not, List, length, take, drop, Option, Some, None, refl, sym, ◌∙◌, ap, ap₂, arith}
 use Rattle.std.specs.Prelude.{is_some}
 use Rattle.std.proofs.lemmas.List.{take-take}
-use Rattle.frame_header.specs.Fields.{HeaderFields, IsHeader, same_class}
+use Rattle.frame_header.specs.Fields.{HeaderFields, same_class}
 use Rattle.frame_header.specs.Tables.{class_of, length_of, overhead_of}
 use Rattle.frame_header.proofs.Lengths.{length-most}
 use Rattle.frame_header.proofs.HeaderLaws.{IsClass-class_of}
-use Rattle.side_info.specs.Frame.{word_said, word_right, side_in}
 use Rattle.side_info.specs.CheckWord.{check_word_of}
 use Rattle.side_info.proofs.FrameLaws.{side_in-take, word_said-take, overhead-few}
 use Rattle.sync_survey.specs.declared.items.Item.{Item}
 use Rattle.sync_survey.specs.declared.items.Item.TheVariants.{Frame, Free, Block, Zero, End, Nothing}
 use Rattle.sync_survey.specs.declared.places.PlacedFrame.{PlacedFrame}
 use Rattle.sync_survey.specs.declared.runs.Part.TheVariants.{Stream}
-use Rattle.sync_survey.specs.Items.{item_front, item_at, size_of}
+use Rattle.sync_survey.specs.Items.{item_front, size_of}
 use Rattle.sync_survey.specs.Runs.{belongs, item_of}
 use Rattle.sync_survey.specs.Start.{anchored_frame}
-use Rattle.sync_survey.specs.Walk.{own_bytes, head_by}
+use Rattle.sync_survey.specs.Walk.{head_by}
 use Rattle.sync_survey.specs.Looks.{look_size, Shows}
 use Rattle.sync_survey.proofs.LooksLaws.{item_at-shown}
 use Rattle.sync_survey.proofs.RunsLaws.{item_of-whole}

@@ -1,15 +1,13 @@
 -- What stands in a damaged file, thing by thing.
-use Rattle.std.proofs.Common.{◌≡◌, ℕ, zero, suc, ◌+◌, ◌-◌, ◌<◌, ◌≤◌, ◌==◌, Bool, true, false, cond, ltb, List, [], ◌∷◌, ◌++◌, length, take, drop, Option, Some, None, refl, sym, ◌∙◌, ap, ap₂, subst, arith, length-drop}
+use Rattle.std.proofs.Common.{◌≡◌, ℕ, zero, suc, ◌+◌, ◌-◌, ◌<◌, ◌≤◌, ◌==◌, Bool, true, false, cond, ltb, List, [], ◌∷◌, ◌++◌, length, take, drop, Option, Some, None, refl, sym, ◌∙◌, ap, subst, arith, length-drop}
 use Rattle.std.specs.Prelude.{option_to_list}
-use Rattle.std.specs.List.{prefix_len, cons_option}
-use Rattle.std.proofs.lemmas.Bool.{false≢true, eqb-true, lt-ltb, le-ltb, ltb-true, ltb-false}
+use Rattle.std.specs.List.{prefix_len}
+use Rattle.std.proofs.lemmas.Bool.{eqb-true, lt-ltb, le-ltb, ltb-true}
 use Rattle.std.proofs.lemmas.List.{drop-drop, take-append-drop}
-use Rattle.frame_header.specs.Fields.{HeaderFields, ClassFields}
+use Rattle.frame_header.specs.Fields.{ClassFields}
 use Rattle.sync_survey.specs.declared.items.Item.{Item}
 use Rattle.sync_survey.specs.declared.items.Item.TheVariants.{Frame, Free, Block, Zero, End, Nothing}
 use Rattle.sync_survey.specs.declared.places.PlacedFrame.{PlacedFrame}
-use Rattle.sync_survey.specs.declared.places.Piece.{Piece}
-use Rattle.sync_survey.specs.declared.rows.Row.{Row}
 use Rattle.sync_survey.specs.declared.rows.Before.{Before}
 use Rattle.sync_survey.specs.declared.runs.Part.TheVariants.{Stream}
 use Rattle.sync_survey.specs.Items.{size_of}
@@ -19,12 +17,11 @@ use Rattle.sync_survey.specs.Looks.{look_size, Shows}
 use Rattle.sync_survey.proofs.RunsLaws.{IsItemOf, item_of-is, item_of-whole, cons_list}
 use Rattle.sync_survey.proofs.OneItem.{stands-only_at}
 use Rattle.sync_survey.proofs.StartLaws.{IsAnchoredAt, anchored_frame-is, first_of-is}
-use Rattle.salvage.specs.declared.gap.Gap.{Gap}
 use Rattle.salvage.specs.declared.usable.Role.{Role}
-use Rattle.salvage.specs.declared.usable.Role.TheVariants.{First, Later}
-use Rattle.salvage.specs.Usable.{if_usable, usable_anchored, next_usable, is_usable}
-use Rattle.salvage.specs.Walk.{is_read, if_read, item_read, end_by, gap_end, Thing, IsItem, IsGap, size_of_thing, thing_by, thing_at, PlacedThing, things_up_to, things, gaps_of, blocks_in}
-use Rattle.salvage.specs.Judged.{rows_in, before_behind, rows_left, none_before}
+use Rattle.salvage.specs.declared.usable.Role.TheVariants.{Later}
+use Rattle.salvage.specs.Usable.{if_usable, usable_anchored, next_usable}
+use Rattle.salvage.specs.Walk.{if_read, item_read, end_by, gap_end, Thing, IsItem, IsGap, size_of_thing, thing_by, thing_at, PlacedThing, things_up_to, things, gaps_of, blocks_in}
+use Rattle.salvage.specs.Judged.{rows_in, before_behind, rows_left}
 
 -- ---- an item that is read
 

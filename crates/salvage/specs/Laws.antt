@@ -1,5 +1,5 @@
 -- What the definitions of this crate say together.
-use Rattle.std.specs.Prelude.{◌≡◌, ℕ, ◌≤◌, List, [], ◌∷◌, length, codes, Option, Some, Ok}
+use Rattle.std.specs.Prelude.{◌≡◌, ℕ, ◌≤◌, List, length, Ok}
 use Rattle.sync_survey.specs.Faults.{SurveyFields, surveyed}
 use Rattle.salvage.specs.Damaged.{damaged, gap_between, most_frames}
 

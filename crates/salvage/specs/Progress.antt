@@ -8,7 +8,6 @@ use Rattle.sync_survey.specs.declared.items.Item.TheVariants.{Frame}
 use Rattle.sync_survey.specs.Items.{size_of}
 use Rattle.sync_survey.specs.Start.{front_end_of}
 use Rattle.sync_survey.specs.Walk.{head_of, IsFrameOf}
-use Rattle.sync_survey.specs.Faults.{SurveyFields}
 use Rattle.sync_survey.specs.Survey.{HasLength, AreLaid, BlocksAreLaid, IsWholeHead}
 use Rattle.salvage.specs.declared.begun.Begun.{Begun}
 use Rattle.salvage.specs.declared.found.Found.{Found}

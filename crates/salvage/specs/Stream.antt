@@ -1,11 +1,10 @@
 -- The stream of what is left of a damaged file.
-use Rattle.std.specs.Prelude.{List, ◌++◌, flat_map, Option, None}
+use Rattle.std.specs.Prelude.{ℕ, List, ◌++◌, flat_map, Option, None}
 use Rattle.sync_survey.specs.declared.places.Head.{Head}
 use Rattle.sync_survey.specs.declared.places.PlacedFrame.{PlacedFrame}
 use Rattle.sync_survey.specs.declared.rows.Row.{Row}
 use Rattle.sync_survey.specs.MainData.{rows_of, main_bytes, StreamFrame, stream_frames}
 use Rattle.sync_survey.specs.Walk.{head_of}
-use Rattle.salvage.specs.Walk.{PlacedThing}
 use Rattle.salvage.specs.Sound.{FrameRuns, runs_of, judged}
 use Rattle.salvage.specs.Damaged.{things_from}
 

@@ -17,7 +17,7 @@ use Rattle.sync_survey.specs.MainData.{place, end_before, is_lost}
 use Rattle.sync_survey.specs.Faults.{SurveyFields, surveyed, data_faults, faults_from, fault_place, NoneBefore, longest_file}
 use Rattle.sync_survey.specs.Start.{start_of}
 use Rattle.sync_survey.specs.Walk.{head_of}
-use Rattle.sync_survey.specs.Kinds.{InputKind, kind_of, by_kind, HasRightNumbers}
+use Rattle.sync_survey.specs.Kinds.{kind_of, by_kind, HasRightNumbers}
 use Rattle.sync_survey.specs.Kinds.InputKind.{IsRefused}
 
 -- the survey of a file with these bytes, or why there is none: it is too long, or else its first fault

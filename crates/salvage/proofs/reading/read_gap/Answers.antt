@@ -1,5 +1,5 @@
 -- The gap ends at the next frame, or with the file.
-use Rattle.std.proofs.Common.{◌≡◌, ◌+◌, ◌<◌, sym, ◌∙◌, ap, subst, arith}
+use Rattle.std.proofs.Common.{◌≡◌, ◌+◌, ◌<◌, ◌∙◌, ap, subst, arith}
 use Rattle.salvage.specs.Walk.{end_by, gap_end}
 use Rattle.salvage.specs.Usable.{next_usable}
 use Rattle.salvage.specs.Judged.{AddsGap}

@@ -1,6 +1,5 @@
 -- What was found up to the end is all that is read.
-use Rattle.std.proofs.Common.{◌≡◌, ℕ, List, [], Ok, refl, sym, ◌∙◌, ap, subst, arith}
-use Rattle.outside.specs.Files.{Holds}
+use Rattle.std.proofs.Common.{◌≡◌, [], Ok, refl, sym, ◌∙◌, ap, subst, arith}
 use Rattle.sync_survey.specs.declared.survey_fault.SurveyFault.TheVariants.{NoFrame}
 use Rattle.sync_survey.specs.Survey.{BlocksAreLaid}
 use Rattle.salvage.specs.Damaged.{tells_of, IsReadRefusal}

@@ -1,17 +1,14 @@
 -- The item is kept, or refused as a frame too many.
-use Rattle.std.proofs.Common.{◌≡◌, true, Some, ◌⊎◌, inl, inr, ◌+◌, ◌≤◌, ℕ, List, length, refl, sym, ◌∙◌, ap, subst, arith}
+use Rattle.std.proofs.Common.{◌≡◌, true, Some, ◌⊎◌, inl, inr, ◌+◌, ◌≤◌, length, refl, sym, ◌∙◌, ap, subst, arith}
 use Rattle.std.proofs.lemmas.Result.{err_from_is_err_and}
 use Rattle.frame_header.specs.Tables.{class_of, overhead_of}
-use Rattle.outside.specs.Files.{Holds}
 use Rattle.sync_survey.specs.declared.survey_fault.SurveyFault.TheVariants.{Memory}
 use Rattle.sync_survey.specs.Looks.{Shows}
 use Rattle.sync_survey.proofs.StepLaws.{shown_room}
 use Rattle.salvage.specs.declared.usable.Role.{Role}
-use Rattle.salvage.specs.declared.usable.Role.TheVariants.{Later}
 use Rattle.salvage.specs.Damaged.{IsReadRefusal}
 use Rattle.salvage.specs.Judged.{AddsItem, IsPastMost}
 use Rattle.salvage.specs.Steps.{admits_item, IsRead}
-use Rattle.salvage.specs.Progress.{class_in, ReadsOn}
 use Rattle.salvage.proofs.Results.{on_both, if_err}
 use Rattle.salvage.proofs.ReadFaults.{look_refusal, memory_refusal, bytes_refusal}
 use Rattle.salvage.proofs.ProgressLaws.{item_more, item_laid, past_most, past_rightly}

@@ -1,5 +1,5 @@
 -- Where none may begin, none stands.
-use Rattle.std.proofs.Common.{refl, sym, ◌∙◌, arith}
+use Rattle.std.proofs.Common.{sym, ◌∙◌, arith}
 use Rattle.salvage.proofs.SearchLaws.{bare_at, bare_more}
 use Rattle.salvage.proofs.search.find_begin.Goals as goal
 

@@ -1,8 +1,6 @@
 -- The frame where the front ends, or the next one.
-use Rattle.std.proofs.Common.{◌≡◌, ℕ, List, None, refl, sym, ◌∙◌, ap, subst, arith}
-use Rattle.std.specs.Prelude.{IfOk}
+use Rattle.std.proofs.Common.{refl, sym, subst}
 use Rattle.std.proofs.lemmas.Result.{err_from_is_err_and}
-use Rattle.outside.specs.Files.{Holds}
 use Rattle.sync_survey.specs.Looks.{Shows}
 use Rattle.salvage.proofs.ReadFaults.{look_refusal}
 use Rattle.salvage.proofs.SearchLaws.{first_here, first_behind}

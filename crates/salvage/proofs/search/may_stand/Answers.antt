@@ -4,8 +4,7 @@ use Rattle.frame_header.specs.Fields.{HeaderFields}
 use Rattle.frame_header.specs.Tables.{class_of, length_of}
 use Rattle.sync_survey.specs.Items.{header_front, item_front}
 use Rattle.sync_survey.specs.Start.{is_anchor}
-use Rattle.salvage.specs.Steps.{may_begin}
-use Rattle.salvage.proofs.SearchLaws.{bare_at, header_same, header_of}
+use Rattle.salvage.proofs.SearchLaws.{header_same, header_of}
 use Rattle.salvage.proofs.search.may_stand.Goals as goal
 
 pub returns-in_default : goal.returns-in_default

@@ -1,9 +1,8 @@
 -- The offsets at which no header may begin are passed.
-use Rattle.std.proofs.Common.{◌≡◌, ◌+◌, ◌<◌, ◌≤◌, List, ℕ, get_or, refl, sym, ◌∙◌, ap, subst, arith}
+use Rattle.std.proofs.Common.{◌+◌, sym, ◌∙◌, subst, arith}
 use Rattle.std.proofs.lemmas.Result.{err_from_is_err_and}
 use Rattle.outside.specs.Files.{Holds}
 use Rattle.sync_survey.specs.Looks.{Shows}
-use Rattle.salvage.specs.Steps.{may_begin}
 use Rattle.salvage.proofs.ReadFaults.{look_refusal}
 use Rattle.salvage.proofs.SearchLaws.{passed_bare, none_later, next_usable-some, next_usable-none}
 use Rattle.salvage.proofs.search.next_usable.Goals as goal

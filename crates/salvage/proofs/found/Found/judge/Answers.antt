@@ -1,5 +1,5 @@
 -- The row that is read and marked is the one that was pushed.
-use Rattle.std.proofs.Common.{◌≡◌, ◌+◌, false, List, [], ◌∷◌, ◌++◌, length, get_or, slice_set, refl, sym, ◌∙◌, ap, ap₂, arith, append-nil}
+use Rattle.std.proofs.Common.{◌≡◌, false, List, [], ◌∷◌, ◌++◌, length, get_or, slice_set, sym, ◌∙◌, ap, ap₂, arith, append-nil}
 use Rattle.side_info.specs.declared.side.Side.{Side}
 use Rattle.sync_survey.specs.declared.rows.Row.{Row}
 use Rattle.sync_survey.specs.MainData.{row_in}

@@ -1,6 +1,5 @@
 -- The item that is passed, where it is read.
-use Rattle.std.proofs.Common.{sym, ◌∙◌, ap, subst, ◌≤◌, length, arith}
-use Rattle.frame_header.specs.Tables.{class_of, overhead_of}
+use Rattle.std.proofs.Common.{sym, ◌∙◌}
 use Rattle.sync_survey.proofs.StepLaws.{shown_room}
 use Rattle.salvage.proofs.UsableLaws.{none_read, step_whole, item_taken, item_refused}
 use Rattle.salvage.proofs.usable.Role.step.Goals as goal
