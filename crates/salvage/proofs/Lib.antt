@@ -7,3 +7,4 @@ pub mod SoundLaws
 pub mod ProgressLaws
 pub mod Results
 pub mod KeepsLaws
+pub mod KeptLaws

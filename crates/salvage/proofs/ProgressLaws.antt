@@ -45,6 +45,8 @@ use Rattle.sync_survey.specs.MainData.{head_area}
 use Rattle.sync_survey.specs.Survey.{IsWholeHead}
 use Rattle.salvage.specs.Damaged.{gap_between}
 use Rattle.salvage.proofs.SoundLaws.{runs-left}
+use Rattle.salvage.specs.Kept.{AreKeptTo}
+use Rattle.salvage.proofs.KeptLaws.{kept_none, kept_gap, kept_frame}
 use Rattle.salvage.proofs.ReadFaults.{damaged_of-short}
 use Rattle.salvage.proofs.WalkLaws.{things-past, things-gap, things-item, item_passed}
 
@@ -165,6 +167,7 @@ module _ (b : Begun) (old new : Found) (laid : IsLaidTo b old) where
         low = omega (arith, ap (λ m. m.place) adds.before);
         within = omega (arith, here, within);
         few = same_items (λ l. length l ≤ most_frames) old.rows.items new.rows.items adds.rows laid.few;
+        kept = subst (AreKeptTo b.head new.rows.items) (sym adds.before) (same_items (λ l. AreKeptTo b.head l none_before) old.rows.items new.rows.items adds.rows (kept_gap b.head old.rows.items old.before laid.kept));
       }
 
   other_laid : (item : Item) (size : ℕ) (front : List ℕ) → size_of item ≤ size → old.at + size ≤ b.size → rows_in old.before old.at front item ≡ [] → before_behind old.before old.at front item ≡ old.before → AddsItem item size front old new → IsLaidTo b new
@@ -180,6 +183,7 @@ module _ (b : Begun) (old new : Found) (laid : IsLaidTo b old) where
         low = omega (arith, ap (λ m. m.place) (adds.before ∙ same), laid.low, here);
         within = omega (arith, here, within);
         few = same_items (λ l. length l ≤ most_frames) old.rows.items new.rows.items rows laid.few;
+        kept = subst (AreKeptTo b.head new.rows.items) (sym (adds.before ∙ same)) (same_items (λ l. AreKeptTo b.head l old.before) old.rows.items new.rows.items rows laid.kept);
       }
 
   frame_laid : (h : HeaderFields) (size : ℕ) (front : List ℕ) → (length old.rows.items ≤ most_frames → length new.rows.items ≤ most_frames) → IsHeader h → class_of h ≡ class_in b → size_of (Frame h) ≤ size → old.at + size ≤ b.size → AddsItem (Frame h) size front old new → IsLaidTo b new
@@ -197,6 +201,7 @@ module _ (b : Begun) (old new : Found) (laid : IsLaidTo b old) where
         low = omega (arith, ap (λ m. m.place) adds.before, laid.low, here, least, area_within h);
         within = omega (arith, here, within);
         few = few laid.few;
+        kept = subst (AreKeptTo b.head new.rows.items) (sym adds.before) (subst (λ l. AreKeptTo b.head l (before_next old.before (row_in old.at h front))) (sym adds.rows) (kept_frame b.head old.rows.items old.before laid.kept (row_in old.at h front)));
       }
 
   -- whatever item it is that is kept
@@ -338,6 +343,7 @@ begun_laid b found first junk blocks low behind within = record {
   low = omega (arith, low);
   within = within;
   few = omega (arith, ap length first.rows);
+  kept = subst (AreKeptTo b.head found.rows.items) (sym first.before) (subst (λ l. AreKeptTo b.head l (record { place = head_area b.head; ended = 0 })) (sym first.rows) (kept_none b.head));
 }
 
 -- ---- where it ends
@@ -366,4 +372,5 @@ laid_out b found junk whole same laid some = record {
   gaps = gaps_later 0 found.gaps.items found.at b.size laid.gaps laid.within;
   some = some_of found.rows.items some;
   few = laid.few;
+  kept = laid.kept.frames;
 }

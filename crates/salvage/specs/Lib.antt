@@ -9,3 +9,4 @@ pub mod Progress
 pub mod Text
 pub mod Stream
 pub mod Laws
+pub mod Kept

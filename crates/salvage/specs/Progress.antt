@@ -15,6 +15,7 @@ use Rattle.salvage.specs.declared.gap.Gap.{Gap}
 use Rattle.salvage.specs.Walk.{things, gaps_of, blocks_in, first_frame}
 use Rattle.salvage.specs.Damaged.{DamagedFields, damaged_from, most_frames}
 use Rattle.salvage.specs.Judged.{rows_left}
+use Rattle.salvage.specs.Kept.{AreKeptWell, AreKeptTo}
 
 -- the class of the first frame
 abbrev pub class_in : Begun → ClassFields
@@ -85,6 +86,7 @@ pub record IsLaidTo (b : Begun) (found : Found) : Type 0 where
   pub low : found.before.place ≤ 1441 + found.at
   pub within : found.at ≤ b.size
   pub few : length found.rows.items ≤ most_frames
+  pub kept : AreKeptTo b.head found.rows.items found.before
 
 -- so far the name's file was read, and what was found is laid so
 pub record IsReading (files : Files) (name : List ℕ) (b : Begun) (found : Found) : Type 0 where
@@ -107,3 +109,4 @@ pub record IsLaidOut (d : DamagedFields) : Type 0 where
   pub gaps : GapsAreLaid 0 d.gaps d.survey.length
   pub some : 0 < length d.survey.frames
   pub few : length d.survey.frames ≤ most_frames
+  pub kept : AreKeptWell d.survey.head d.survey.frames

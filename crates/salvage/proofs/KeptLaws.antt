@@ -1,0 +1,139 @@
+-- The frames that are kept stand well among those of all runs.
+use Rattle.std.proofs.Common.{◌≡◌, ℕ, zero, suc, ◌+◌, ◌-◌, ◌≤◌, ◌&&◌, ◌||◌, Bool, true, false, cond, not, List, [], ◌∷◌, ◌++◌, length, length-append, Option, Some, inl, inr, refl, sym, ◌∙◌, ap, ap₂, subst, arith}
+use Rattle.std.specs.Prelude.{slice_get}
+use Rattle.std.proofs.lemmas.Bool.{ltb-false, le-ltb, cases_lt}
+use Rattle.std.proofs.lemmas.Option.{slice_get_within}
+use Rattle.side_info.specs.Side.{payload_bytes}
+use Rattle.sync_survey.specs.declared.places.Head.{Head}
+use Rattle.sync_survey.specs.declared.rows.Row.{Row}
+use Rattle.sync_survey.specs.declared.rows.Before.{Before}
+use Rattle.sync_survey.specs.MainData.{own_area, head_area, place, is_silent, end_of_data}
+use Rattle.sync_survey.proofs.RunsLaws.{both}
+use Rattle.sync_survey.proofs.FaultsLaws.{get_more, get_next, place-more, place-next, place-none}
+use Rattle.salvage.specs.Sound.{is_sound}
+use Rattle.salvage.specs.Judged.{judged_by, before_next, none_before}
+use Rattle.salvage.specs.Kept.{kept_end, end_of_kept, AreKeptWell, AreKeptTo}
+
+-- ---- a sound frame, by numbers
+
+record IsWithin (place ended : ℕ) (r : Row) : Type 0 where
+  begins : r.side.main_data_begin ≤ place
+  apart : ended ≤ place - r.side.main_data_begin
+  ends : (place - r.side.main_data_begin) + payload_bytes r.side ≤ place + own_area r.header
+
+not_true : (b : Bool) → not b ≡ true → b ≡ false
+not_true true is = absurd cc
+not_true false is = refl
+
+not_false : (b : Bool) → not b ≡ false → b ≡ true
+not_false true is = refl
+not_false false is = absurd cc
+
+sound_within : (place ended : ℕ) (r : Row) → is_sound place ended r ≡ true → IsWithin place ended r
+sound_within place ended r is =
+    let parts = both _ _ is in
+    let front = both _ _ parts.0 in
+    record {
+      begins = ltb-false _ _ (not_true _ front.0);
+      apart = ltb-false _ _ (not_true _ front.1);
+      ends = ltb-false _ _ (not_true _ parts.1);
+    }
+
+within_sound : (place ended : ℕ) (r : Row) → IsWithin place ended r → is_sound place ended r ≡ true
+within_sound place ended r is =
+    ap₂ (λ (a b : Bool). a && b)
+    (ap₂ (λ (a b : Bool). not a && not b) (le-ltb place r.side.main_data_begin is.begins) (le-ltb (place - r.side.main_data_begin) ended is.apart))
+    (ap not (le-ltb (place + own_area r.header) ((place - r.side.main_data_begin) + payload_bytes r.side) is.ends))
+
+-- ---- one frame more
+
+module _ (head : Option Head) where
+  kept-more : (rows more : List Row) (i : ℕ) → i ≤ length rows → end_of_kept head (rows ++ more) i ≡ end_of_kept head rows i
+  unfolding end_of_kept
+  kept-more rows more zero within = refl
+  kept-more rows more (suc i) within =
+      let before : i ≤ length rows = omega (arith, within) in
+      ap (λ n. kept_end n (end_of_kept head (rows ++ more) i) (slice_get (rows ++ more) i)) (place-more head rows more i before)
+      ∙ ap (λ n. kept_end (place head rows i) n (slice_get (rows ++ more) i)) (kept-more rows more i before)
+      ∙ ap (kept_end (place head rows i) (end_of_kept head rows i)) (get_more rows more i within)
+
+  kept-next : (rows : List Row) (r : Row) → end_of_kept head (rows ++ r ∷ []) (length (rows ++ r ∷ [])) ≡ kept_end (place head rows (length rows)) (end_of_kept head rows (length rows)) (Some r)
+  unfolding end_of_kept
+  kept-next rows r =
+      let n = length rows in
+      let one : length (rows ++ r ∷ []) ≡ suc n = omega (arith, length-append rows (r ∷ [])) in
+      ap (end_of_kept head (rows ++ r ∷ [])) one
+      ∙ ap (λ m. kept_end m (end_of_kept head (rows ++ r ∷ []) n) (slice_get (rows ++ r ∷ []) n)) (place-more head rows (r ∷ []) n (omega arith))
+      ∙ ap (λ m. kept_end (place head rows n) m (slice_get (rows ++ r ∷ []) n)) (kept-more rows (r ∷ []) n (omega arith))
+      ∙ ap (kept_end (place head rows n) (end_of_kept head rows n)) (get_next rows r)
+
+  pub kept_none : AreKeptTo head [] (record { place = head_area head; ended = 0 })
+  unfolding end_of_kept
+  kept_none = record {
+    frames = λ i r found kept. absurd cc;
+    base = 0;
+    place_is = omega (arith, place-none head);
+    ended_is = omega arith;
+    within = omega arith;
+  }
+
+  -- behind a gap
+  pub kept_gap : (rows : List Row) (b : Before) → AreKeptTo head rows b → AreKeptTo head rows none_before
+  kept_gap rows b kept = record {
+    frames = kept.frames;
+    base = place head rows (length rows);
+    place_is = omega arith;
+    ended_is = omega (arith, kept.within);
+    within = kept.within;
+  }
+
+  -- what a frame leaves
+  end_by : (base now ended : ℕ) (b : Before) (r : Row) (sound silent : Bool) → is_sound b.place b.ended r ≡ sound → is_silent r ≡ silent → now ≡ base + b.place → ended ≤ base + b.ended → ended ≤ now
+      → (cond (not sound || silent) ended (end_of_data now r) ≤ base + cond (sound && not silent) (end_of_data b.place r) b.ended) × (cond (not sound || silent) ended (end_of_data now r) ≤ now + own_area r.header)
+  end_by base now ended b r true true is other at low high = (low, omega (arith, high))
+  end_by base now ended b r true false is other at low high =
+      let here = sound_within b.place b.ended r is in
+      (omega (arith, at, here.begins), omega (arith, at, here.begins, here.ends))
+  end_by base now ended b r false silent is other at low high = (low, omega (arith, high))
+
+  module _ (rows : List Row) (b : Before) (kept : AreKeptTo head rows b) (r : Row) where
+    abbrev marked_one : Row
+    marked_one = judged_by b r
+
+    sound_by : not (is_sound b.place b.ended r) ≡ false → is_sound (place head rows (length rows)) (end_of_kept head rows (length rows)) r ≡ true
+    sound_by mark =
+        let here = sound_within b.place b.ended r (not_false _ mark) in
+        within_sound (place head rows (length rows)) (end_of_kept head rows (length rows)) r (record {
+          begins = omega (arith, kept.place_is, here.begins);
+          apart = omega (arith, kept.place_is, kept.ended_is, here.begins, here.apart);
+          ends = omega (arith, kept.place_is, here.begins, here.ends);
+        })
+
+    last_kept : marked_one.lost ≡ false → is_sound (place head (rows ++ marked_one ∷ []) (length rows)) (end_of_kept head (rows ++ marked_one ∷ []) (length rows)) marked_one ≡ true
+    last_kept mark =
+        ap₂ (λ m n. is_sound m n r) (place-more head rows (marked_one ∷ []) (length rows) (omega arith)) (kept-more rows (marked_one ∷ []) (length rows) (omega arith)) ∙ sound_by mark
+
+    each_kept : AreKeptWell head (rows ++ marked_one ∷ [])
+    each_kept i q found mark =
+        elim (cases_lt i (length rows)) as (λ _. is_sound (place head (rows ++ marked_one ∷ []) i) (end_of_kept head (rows ++ marked_one ∷ []) i) q ≡ true) [
+          | inl before ↦
+              ap₂ (λ m n. is_sound m n q) (place-more head rows (marked_one ∷ []) i (omega (arith, before))) (kept-more rows (marked_one ∷ []) i (omega (arith, before)))
+              ∙ kept.frames i q (sym (get_more rows (marked_one ∷ []) i before) ∙ found) mark
+          | inr behind ↦
+              let at : i ≡ length rows = omega (arith, behind, slice_get_within (rows ++ marked_one ∷ []) i q found, length-append rows (marked_one ∷ [])) in
+              let one : Some marked_one ≡ Some q = sym (get_next rows marked_one) ∙ ap (slice_get (rows ++ marked_one ∷ [])) (sym at) ∙ found in
+              let same : marked_one ≡ q = cc in
+              subst (λ (p : Row). is_sound (place head (rows ++ marked_one ∷ []) i) (end_of_kept head (rows ++ marked_one ∷ []) i) p ≡ true) same
+              (subst (λ n. is_sound (place head (rows ++ marked_one ∷ []) n) (end_of_kept head (rows ++ marked_one ∷ []) n) marked_one ≡ true) (sym at) (last_kept (ap (λ (p : Row). p.lost) same ∙ mark)))
+        ]
+
+    pub kept_frame : AreKeptTo head (rows ++ marked_one ∷ []) (before_next b r)
+    kept_frame =
+        let ends = end_by kept.base (place head rows (length rows)) (end_of_kept head rows (length rows)) b r (is_sound b.place b.ended r) (is_silent r) refl refl kept.place_is kept.ended_is kept.within in
+        record {
+          frames = each_kept;
+          base = kept.base;
+          place_is = omega (arith, place-next head rows marked_one, kept.place_is);
+          ended_is = omega (arith, kept-next rows marked_one, ends.0);
+          within = omega (arith, kept-next rows marked_one, place-next head rows marked_one, ends.1);
+        }

@@ -1,0 +1,30 @@
+-- Where the main data of the frames that are kept stand among those of all frames, whatever gaps stand between.
+use Rattle.std.specs.Prelude.{◌≡◌, ℕ, zero, suc, ◌+◌, ◌≤◌, ◌||◌, if◌then◌else◌, true, false, List, length, slice_get, Option, Some, None}
+use Rattle.sync_survey.specs.declared.places.Head.{Head}
+use Rattle.sync_survey.specs.declared.rows.Row.{Row}
+use Rattle.sync_survey.specs.MainData.{place, is_silent, end_of_data}
+use Rattle.sync_survey.specs.declared.rows.Before.{Before}
+use Rattle.salvage.specs.Sound.{is_sound}
+
+-- where the main data end behind a frame: one that becomes empty, or has none, moves no end
+abbrev pub kept_end : ℕ → ℕ → Option Row → ℕ
+kept_end place ended None = ended
+kept_end place ended (Some r) = if r.lost || is_silent r then ended else end_of_data place r
+
+-- where those end that stand before frame i of all: of the last frame before it that is kept and has some, or 0
+unfoldable pub end_of_kept : Option Head → List Row → ℕ → ℕ
+end_of_kept head rows zero = 0
+end_of_kept head rows (suc i) = kept_end (place head rows i) (end_of_kept head rows i) (slice_get rows i)
+
+-- The main data of each frame that is kept begin neither before all main data nor before the end of those kept before it, and end within
+-- its own area: so among the areas of all frames, as in its run.
+abbrev pub AreKeptWell : Option Head → List Row → Type 0
+AreKeptWell head rows = (i : ℕ) (r : Row) → slice_get rows i ≡ Some r → r.lost ≡ false → is_sound (place head rows i) (end_of_kept head rows i) r ≡ true
+
+-- the frames so far, and where the run began among their main data
+pub record AreKeptTo (head : Option Head) (rows : List Row) (b : Before) : Type 0 where
+  pub frames : AreKeptWell head rows
+  pub base : ℕ
+  pub place_is : place head rows (length rows) ≡ base + b.place
+  pub ended_is : end_of_kept head rows (length rows) ≤ base + b.ended
+  pub within : end_of_kept head rows (length rows) ≤ place head rows (length rows)
