@@ -5,7 +5,7 @@ use salvage::{Damaged, Gap, read_damaged};
 use std::alloc::{AllocError, Global};
 use std::process::Abort;
 use std::test::Fail;
-use sync_survey::{Piece, Row, SurveyFault};
+use sync_survey::{Head, Piece, Row, SurveyFault};
 use test_files::files::{APE, ID3V1, ID3V1_REST, ID3V2, ID3V2_REST, Stretch, bytes_of};
 use test_files::frames::{Frame, HEAD, OVERFULL, PROTECTED_G, PROTECTED_HEAD, PROTECTED_Z, Z};
 
@@ -17,6 +17,8 @@ struct Case {
     gaps: &'static [Gap],
     /// The offsets of the blocks.
     blocks: &'static [u64],
+    /// The offset of the head.
+    head: Option<u64>,
 }
 
 /// Two frames, of which the second points 81 bytes back into the first.
@@ -37,6 +39,7 @@ static NO_FIRST: Case = Case {
         length: 417,
     }],
     blocks: &[],
+    head: None,
 };
 
 /// The second frame has one byte less.
@@ -52,6 +55,7 @@ static TRUNCATED: Case = Case {
         length: 416,
     }],
     blocks: &[],
+    head: None,
 };
 
 /// Junk at the end, in which neither a frame nor a block begins.
@@ -68,6 +72,7 @@ static GAP_AT_END: Case = Case {
         length: 70_000,
     }],
     blocks: &[],
+    head: None,
 };
 
 /// One frame between two stretches of junk: it points to nothing of its own run. The block behind is an anchor.
@@ -93,6 +98,7 @@ static BETWEEN: Case = Case {
         },
     ],
     blocks: &[934],
+    head: None,
 };
 
 /// A block in a gap isn't read; one behind the last frame is.
@@ -113,6 +119,7 @@ static BLOCK_IN_GAP: Case = Case {
         length: 43,
     }],
     blocks: &[1294],
+    head: None,
 };
 
 /// A protected frame whose check word is wrong.
@@ -133,6 +140,7 @@ static WRONG_WORD: Case = Case {
         length: 417,
     }],
     blocks: &[],
+    head: None,
 };
 
 /// The first frame is a head whatever check word stands in it; one behind is a frame.
@@ -149,6 +157,7 @@ static HEADS: Case = Case {
         length: 9,
     }],
     blocks: &[0],
+    head: Some(49),
 };
 
 /// The second frame begins one byte before the end of the first's main data, and moves no end: the third
@@ -169,6 +178,7 @@ static UNSOUND: Case = Case {
     ],
     gaps: &[],
     blocks: &[],
+    head: None,
 };
 
 /// MPEG-2, 24,000 Hz, 8 kbit/s, mono: 11 bytes of main data, and main_data_begin is 0, or 11.
@@ -210,6 +220,7 @@ static MPEG_2: Case = Case {
         },
     ],
     blocks: &[],
+    head: None,
 };
 
 /// MPEG-2.5, 8,000 Hz, 8 kbit/s, mono, without a check word and with the right one.
@@ -243,6 +254,7 @@ static MPEG_2_5: Case = Case {
         length: 72,
     }],
     blocks: &[],
+    head: None,
 };
 
 /// Files of which nothing is read, and where the blocks and zero bytes at their front end.
@@ -285,6 +297,13 @@ fn same_rows(rows: &[Row], wanted: &[(u64, bool)]) -> bool {
             .all(|(row, (at, lost))| row.offset == *at && row.lost == *lost)
 }
 
+fn same_head(head: Option<Head>, wanted: Option<u64>) -> bool {
+    match head {
+        Some(head) => wanted == Some(head.offset),
+        None => wanted.is_none(),
+    }
+}
+
 fn same_blocks(blocks: &[Piece], wanted: &[u64]) -> bool {
     blocks.len() == wanted.len()
         && blocks
@@ -301,7 +320,9 @@ fn holds(alloc: Global, case: &Case) -> Result<bool, AllocError> {
     Ok(
         same_rows(damaged.frames(), case.frames)
             && damaged.gaps() == case.gaps
-            && same_blocks(damaged.blocks(), case.blocks),
+            && same_blocks(damaged.blocks(), case.blocks)
+            && same_head(damaged.head(), case.head)
+            && damaged.survey().frames().len() == case.frames.len(),
     )
 }
 
