@@ -58,7 +58,8 @@ impl Making {
             self.new.writer (D.files folder.old) (D.files folder.new)) }
         ensures next { OnOk result (IsNext self.new) }
         ensures state { self.new.draws.state ≡
-            state_behind (draws_of (reach_of self.old.writer) self.old.draws.state) self.old.draws.state }
+            state_behind (draws_of (reach_of self.old.writer) self.old.draws.state)
+            self.old.draws.state }
         ensures reach { reach_of self.new.writer ≡
             reach_with (class_of drill_header_lem) (next_frame self.old) }
         ensures failed { OnErr result (WriteFailed (D.counts folder.old) (D.counts folder.new)) }
