@@ -1,8 +1,8 @@
 //! Calls of the outside that fail.
 
 use crate::check_words::WRONG_M;
-use acceptance_kit::commands::{Ended, folder_of_frames, run_over, sink};
 use acceptance_kit::rows::{Failing, File, MORE, More, ROW, Row, first_difference};
+use acceptance_kit::running::{Ended, folder_of_frames, run_over, sink};
 use outside::{Call, MemFolder, MemSink};
 use std::alloc::{AllocError, AllocGlobal, Global};
 use std::process::Abort;

@@ -1,8 +1,8 @@
 //! What stands in a file, line by line. The lines are worked out by hand from the frames' bytes.
 
 use crate::reservoirs::{FIRST, NEARER, SECOND};
-use acceptance_kit::commands::{folder_of_file, list_to};
 use acceptance_kit::rows::{Failing, File, MORE, More, ROW, Row, first_difference};
+use acceptance_kit::running::{folder_of_file, list_to};
 use outside::{Call, MemFolder};
 use std::alloc::{AllocError, AllocGlobal};
 use std::process::Abort;

@@ -1,7 +1,7 @@
 //! A whole song.
 
-use acceptance_kit::commands::{Ended, folder_of_file, list_to};
 use acceptance_kit::rows::{File, MORE, More, ROW, Row, first_difference};
+use acceptance_kit::running::{Ended, folder_of_file, list_to};
 use std::alloc::{AllocError, Global};
 use std::process::Abort;
 use std::test::Fail;

@@ -1,6 +1,6 @@
 //! What the tests of whole commands share: commands over a folder and sinks in memory.
 #![tactic(auto)]
 
-pub mod commands;
 pub mod rows;
+pub mod running;
 pub mod steps;

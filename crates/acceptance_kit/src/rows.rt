@@ -1,6 +1,6 @@
 //! Whole commands as rows of a table, and one runner for all of them.
 
-use crate::commands::{Ended, run_with_room};
+use crate::running::{Ended, run_with_room};
 use outside::{Call, MemFolder};
 use std::alloc::{AllocError, Global};
 use test_files::files::{Stretch, bytes_of};

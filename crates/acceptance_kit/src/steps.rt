@@ -1,7 +1,7 @@
 //! Commands of which one call fails: the first of its kind, the second and so on, until none does.
 
-use crate::commands::{Ended, run_with_room};
 use crate::rows::{File, difference_of_files, put_files, wants_memory};
+use crate::running::{Ended, run_with_room};
 use outside::{Call, MemFolder};
 use std::alloc::{AllocError, Global};
 use test_files::files::bytes_of;

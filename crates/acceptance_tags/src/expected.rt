@@ -1,6 +1,6 @@
 //! What the tests of this crate expect of commands.
 
-use acceptance_kit::commands::{run_over, sink};
+use acceptance_kit::running::{run_over, sink};
 use outside::Folder;
 use std::alloc::{AllocError, AllocGlobal};
 use std::process::Abort;
