@@ -34,6 +34,11 @@ pub enum Refusal {
     OutputTooLong(u64),
     /// The frames from the first number on and before the second aren't in a file of so many frames, or are none.
     Range(u64, u64, u64),
+    /// No frame of the class has this bit rate, in kbit/s.
+    NoRate(u16),
+    /// Up to this frame, counted from 0, the main data have no room in slots of the bit rates that are allowed, even behind a
+    /// lead-in.
+    Unfit(u32),
     /// The frames of this input, counted from 0, are of another class than those of the first.
     Differ(u32),
     /// The cue sheet has so many bytes, more than 65,536.

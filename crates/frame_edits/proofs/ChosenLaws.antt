@@ -1,11 +1,9 @@
 -- Frames that a command chooses of a surveyed file: they have a plan, and the file of them holds the stream that the command says.
-use Rattle.std.proofs.Common.{◌≡◌, ℕ, suc, ◌+◌, ◌-◌, ◌&&◌, Bool, true, false, cond, List, [], ◌∷◌, ◌++◌, length, get_or, map, drop, take, Option, Some, None, Result, Ok, Err, refl, sym, ◌∙◌, ap, subst, inl, inr, arith, rules, append-nil, length-append}
-use Rattle.std.specs.Prelude.{◌⊎◌, ◌↔◌, ◌<◌, ◌≤◌, nat_lt, nat_le, IfErr, slice_get, slice_range, Contains, All, replicate}
-use Rattle.std.specs.List.{range_with_len}
-use Rattle.std.proofs.lemmas.Option.{slice_get_cases, slice_get-get_or}
+use Rattle.std.proofs.Common.{◌≡◌, ℕ, suc, ◌+◌, ◌-◌, ◌&&◌, Bool, true, false, cond, List, [], ◌∷◌, ◌++◌, length, get_or, map, drop, take, Option, Some, None, Result, Ok, Err, refl, sym, ◌∙◌, ap, subst, arith, rules, append-nil, length-append}
+use Rattle.std.specs.Prelude.{◌↔◌, ◌<◌, ◌≤◌, nat_lt, nat_le, IfErr, Contains, All, replicate}
+use Rattle.std.proofs.lemmas.Option.{slice_get-get_or}
 use Rattle.std.proofs.lemmas.List.{length-map, length-take}
-use Rattle.std.proofs.lemmas.List.FromFn.{length-range_with_len}
-use Rattle.frame_header.specs.Fields.{SlotFields, HeaderFields, ClassFields, IsSlot, IsHeader}
+use Rattle.frame_header.specs.Fields.{SlotFields, HeaderFields, ClassFields, IsSlot}
 use Rattle.frame_header.specs.Tables.{class_of, length_of, window_of}
 use Rattle.frame_header.specs.Slots.{slot_of, all_slots}
 use Rattle.frame_header.proofs.SlotLaws.{length-all_slots, IsSlot-nth_slot}
@@ -22,22 +20,17 @@ use Rattle.slot_plan.specs.Laws.{ChooseInOrder}
 use Rattle.slot_plan.proofs.ThePlan.{plan-the_plan}
 use Rattle.part_needs.specs.Needs.{Asked, need_of, needs_of, asked_of}
 use Rattle.part_needs.specs.Fit.{IsPlaced, AreFit}
-use Rattle.part_needs.proofs.FitLaws.{AreKnown, part-fits, part-known}
+use Rattle.part_needs.proofs.FitLaws.{part-known}
 use Rattle.part_needs.proofs.PartsLaws.{one-part-fits, parts_are}
-use Rattle.frame_writer.specs.Frames.{Frame}
-use Rattle.laying.specs.Relaid.{Part, AreParts, AreSlots, frames_in, stream_in, relaid, with_lead_ins}
-use Rattle.laying.specs.Fits.{FitsFrom}
-use Rattle.laying.specs.Written.{front_blocks, back_blocks, slot_in, table_entry, head_info}
-use Rattle.laying.proofs.HoldLaws.{files-hold, blocks-kept}
-use Rattle.laying.proofs.RelayLaws.{range-next}
+use Rattle.laying.specs.Relaid.{AreSlots}
+use Rattle.laying.specs.Fits.{FitsFrom, IsFitting}
+use Rattle.laying.specs.Written.{slot_in, head_info}
 use Rattle.laying.proofs.FitLaws.{plans-fit}
-use Rattle.laying.proofs.SlotLaws.{slots-planned}
-use Rattle.laid_files.specs.LaidFiles.{HasInfoSizes, laid_file}
+use Rattle.frame_edits.proofs.LaidLaws.{laid-slots, laid-holds, plan-slots}
 use Rattle.sync_survey.specs.declared.rows.Row.{Row}
 use Rattle.sync_survey.specs.declared.places.Head.{Head}
 use Rattle.sync_survey.specs.declared.survey_fault.SurveyFault.{SurveyFault}
-use Rattle.sync_survey.specs.MainData.{StreamFrame}
-use Rattle.sync_survey.specs.Faults.{SurveyFields, surveyed, HoldsStream}
+use Rattle.sync_survey.specs.Faults.{SurveyFields, HoldsStream}
 use Rattle.sync_survey.specs.Survey.{survey_of}
 use Rattle.sync_survey.proofs.PlacedRows.{surveyed-placed}
 use Rattle.commands.specs.declared.fault.EditFault.{EditFault}
@@ -45,7 +38,7 @@ use Rattle.commands.specs.declared.fault.Refusal.{Refusal}
 use Rattle.commands.specs.declared.fault.Refusal.TheVariants.{Range}
 use Rattle.frame_edits.specs.declared.chosen.Slots.{Slots}
 use Rattle.frame_edits.specs.declared.chosen.Slots.TheVariants.{Own, Least}
-use Rattle.frame_edits.specs.Chosen.{Chosen, outside_fault, choices_by, part_of, chosen_rows, plan_of, laid_frames, chosen_info, laid_from, chosen_file, chosen_stream, Choosing, laid_with, choosing, stream_with, stream_chosen_by, stream_chosen, chosen_with, cut_choice, all_choice}
+use Rattle.frame_edits.specs.Chosen.{Chosen, laid_of, outside_fault, choices_by, chosen_rows, plan_of, laid_frames, chosen_file, chosen_stream, Choosing, laid_with, choosing, stream_with, stream_chosen_by, stream_chosen, chosen_with, cut_choice, all_choice}
 use Rattle.commands.specs.One.{most_frames}
 use Rattle.sync_survey.proofs.SurveyedFiles.{survey_of-parts}
 use Rattle.commands.specs.Left.{IsLate}
@@ -134,64 +127,25 @@ module _ (chosen : Chosen) (s : SurveyFields) (placed : IsPlaced s) (some : chos
       subst (λ (needs : List Need). FitsFrom (window_of s.class.version) 0 needs ps) (append-nil (map need_of part_rows))
       (plans-fit (window_of s.class.version) (choices_by chosen.slots) (part_rows ∷ []) ps (of_part ps plan))
 
+  -- and it can be laid
+  pub plan-fitting : IsFitting (window_of s.class.version) (map need_of part_rows) (plan_of chosen s)
+  unfolding needs_of
+  plan-fitting = record {
+    fits = subst (λ (needs : List Need). FitsFrom (window_of s.class.version) 0 needs (plan_of chosen s)) (append-nil (map need_of part_rows)) (plans-fit (window_of s.class.version) (choices_by chosen.slots) (part_rows ∷ []) (plan_of chosen s) the-plan);
+    slots = plan-slots (window_of s.class.version) (choices_by chosen.slots) part_rows (plan_of chosen s) (choice_slots chosen.slots) (part-known s chosen.from chosen.to placed) the-plan;
+  }
+
 module _ (chosen : Chosen) (file : List ℕ) (s : SurveyFields) (is : survey_of file most_frames ≡ Ok s) (some : chosen.from < chosen.to) (within : chosen.to ≤ length s.frames) where
-  whole : surveyed file most_frames ≡ Ok s
-  whole = (survey_of-parts file most_frames s is).1
-
-  abbrev part : Part
-  part = part_of chosen file s
-
-  are : AreParts s.class (part ∷ [])
-  are = (record { allowed = most_frames; is = whole; class = refl; some = some; within = within }, tt)
-
-  abbrev rows : List Row
-  rows = chosen_rows chosen s
-
-  plan : IsPlan (window_of s.class.version) (choices_by chosen.slots) (map need_of rows ∷ []) (plan_of chosen s)
-  plan = the-plan chosen s (surveyed-placed file most_frames s whole) some within
+  fitting : IsFitting (window_of s.class.version) (map need_of (chosen_rows chosen s)) (plan_of chosen s)
+  fitting = plan-fitting chosen s (surveyed-placed file most_frames s (survey_of-parts file most_frames s is).1) some within
 
   -- the frames are in the slots of the plan
   pub frame-slots : map slot_in (laid_frames chosen file s) ≡ map (λ (p : Placed). p.slot) (plan_of chosen s)
-  frame-slots =
-      subst (λ (fs : List Frame). map slot_in (relaid fs (plan_of chosen s)) ≡ map (λ (p : Placed). p.slot) (plan_of chosen s)) (append-nil (frames_in part))
-      (slots-planned s.class (choices_by chosen.slots) (part ∷ []) (plan_of chosen s) are (choice_slots chosen.slots) plan)
-
-  sizes : length chosen.extension ≡ 36 → HasInfoSizes (chosen_info chosen file s)
-  sizes extension = record {
-    table = length-map (range_with_len 0 100) (table_entry s.class (laid_frames chosen file s)) ∙ length-range_with_len 0 100;
-    extension = extension;
-  }
-
-  module _ (first : Row) (found : slice_get s.frames chosen.from ≡ Some first) where
-    rows_are : rows ≡ first ∷ slice_range s.frames (chosen.from + 1) chosen.to
-    rows_are = range-next s.frames chosen.from chosen.to first found some
-
-    pub first-header : IsHeader first.header
-    first-header = (subst AreKnown rows_are (part-known s chosen.from chosen.to (surveyed-placed file most_frames s whole))).0
-
-    pub first-class : class_of first.header ≡ s.class
-    unfolding AreOfClass
-    first-class =
-        (subst (λ (l : List Row). AreOfClass s.class (map need_of l)) rows_are (part-fits s chosen.from chosen.to (surveyed-placed file most_frames s whole)).0).0
-
-    laid-holds : length chosen.extension ≡ 36 → HoldsStream (laid_from (Some first) chosen file s) (with_lead_ins (plan_of chosen s) (stream_in part))
-    laid-holds extension =
-        let kept = blocks-kept file most_frames s whole in
-        let holds = files-hold s.class (choices_by chosen.slots) (part ∷ []) (plan_of chosen s) (omega arith) are (choice_slots chosen.slots) plan
-        (front_blocks file s) first.header (chosen_info chosen file s) (back_blocks file s) kept.0 first-header first-class (sizes extension) kept.1 in
-        subst (λ (fs : List Frame). HoldsStream (laid_file (front_blocks file s) first.header (chosen_info chosen file s) (relaid fs (plan_of chosen s)) (back_blocks file s)) (with_lead_ins (plan_of chosen s) (stream_in part)))
-        (append-nil (frames_in part))
-        (subst (λ (ss : List StreamFrame). HoldsStream (laid_file (front_blocks file s) first.header (chosen_info chosen file s) (relaid (frames_in part ++ []) (plan_of chosen s)) (back_blocks file s)) (with_lead_ins (plan_of chosen s) ss))
-        (append-nil (stream_in part)) holds)
+  frame-slots = laid-slots (laid_of chosen s) file s is some within fitting
 
   pub chosen-holds : length chosen.extension ≡ 36 → HoldsStream (chosen_file chosen file s) (chosen_stream chosen file s)
   unfolding chosen_file chosen_stream
-  chosen-holds extension = at (slice_get_cases s.frames chosen.from).1
-    where
-      at : ((x : Row) × (chosen.from < length s.frames) × (slice_get s.frames chosen.from ≡ Some x) × (get_or s.frames chosen.from x ≡ x)) ⊎ ((length s.frames ≤ chosen.from) × (slice_get s.frames chosen.from ≡ None))
-          → HoldsStream (laid_from (slice_get s.frames chosen.from) chosen file s) (with_lead_ins (plan_of chosen s) (stream_in part))
-      at (inl found) = subst (λ (o : Option Row). HoldsStream (laid_from o chosen file s) (with_lead_ins (plan_of chosen s) (stream_in part))) (sym found.2) (laid-holds found.0 found.2 extension)
-      at (inr past) = absurd (omega (arith, past.0, some, within))
+  chosen-holds extension = laid-holds (laid_of chosen s) file s is some within fitting extension
 
 -- ---- a command that lays chosen frames
 
@@ -252,11 +206,11 @@ unfolding head_info
 head-extension file None = info-extension []
 head-extension file (Some head) = info-extension (drop head.text_at (take (length_of (class_of head.header) head.header.slot) (drop head.offset file)))
 
-all_late : (slots : Slots) (file : List ℕ) (s : SurveyFields) → IfErr (all_choice slots file s) IsLate
+pub all_late : (slots : Slots) (file : List ℕ) (s : SurveyFields) → IfErr (all_choice slots file s) IsLate
 unfolding all_choice
 all_late slots file s = unless_late _ _
 
-all_right : (slots : Slots) (file : List ℕ) (s : SurveyFields) (chosen : Chosen) → all_choice slots file s ≡ Ok chosen → IsRight chosen s
+pub all_right : (slots : Slots) (file : List ℕ) (s : SurveyFields) (chosen : Chosen) → all_choice slots file s ≡ Ok chosen → IsRight chosen s
 unfolding all_choice
 all_right slots file s chosen e = with_right (head_info file s.head).quality (head_info file s.head).extension 0 (length s.frames) slots s chosen (head-extension file s.head) e
 

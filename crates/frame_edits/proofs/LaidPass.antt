@@ -22,7 +22,8 @@ use Rattle.sync_survey.specs.declared.rows.Row.{Row}
 use Rattle.sync_survey.specs.Faults.{SurveyFields, tells}
 use Rattle.sync_survey.specs.Survey.{IsLaidOut}
 use Rattle.commands.specs.PassFaults.{of_pass}
-use Rattle.frame_edits.specs.Chosen.{Chosen, plan_of, laid_from, chosen_file, IsChosenInfo}
+use Rattle.frame_edits.specs.Laid.{Laid, file_from, file_laid, IsLaidInfo}
+use Rattle.frame_edits.specs.Chosen.{Chosen, plan_of, laid_by, chosen_file}
 use Rattle.frame_edits.specs.Selected.{IsSurveyOf}
 use Rattle.commands.specs.One.{Making, IsInputFault, most_frames}
 use Rattle.commands.specs.Left.{seen}
@@ -69,13 +70,18 @@ read_is_input make name files new before after same Read size reads h = record {
 read_is_input make name files new before after same (Shrunk first second) size reads h = record { rose = h.3; counts = h.4; untold_before = h.0; untold_after = same ∙ h.0 }
 read_is_input make name files new before after same Write size reads h = absurd (reads refl)
 
--- what is written is the file of the chosen frames
-pub written-is : (chosen : Chosen) (file : List ℕ) (s : SurveyFields) (info : List ℕ) (placed : List Placed) → chosen.from < length s.frames → placed ≡ plan_of chosen s → IsChosenInfo chosen file s info
-    → concat (front_blocks file s) ++ (info ++ (frame_bytes (relaid (slice_range (all_frames file s) chosen.from chosen.to) placed) ++ concat (back_blocks file s))) ≡ chosen_file chosen file s
-unfolding chosen_file laid_file
-written-is chosen file s info placed within plan is = at (slice_get_cases s.frames chosen.from).1
+-- what is written is the file of the frames in the slots of the plan
+pub written-is : (laid : Laid) (file : List ℕ) (s : SurveyFields) (info : List ℕ) (placed : List Placed) → laid.from < length s.frames → placed ≡ laid.placed → IsLaidInfo laid file s info
+    → concat (front_blocks file s) ++ (info ++ (frame_bytes (relaid (slice_range (all_frames file s) laid.from laid.to) placed) ++ concat (back_blocks file s))) ≡ file_laid laid file s
+unfolding laid_file
+written-is laid file s info placed within plan is = at (slice_get_cases s.frames laid.from).1
   where
-    at : ((x : Row) × (chosen.from < length s.frames) × (slice_get s.frames chosen.from ≡ Some x) × (get_or s.frames chosen.from x ≡ x)) ⊎ ((length s.frames ≤ chosen.from) × (slice_get s.frames chosen.from ≡ None))
-        → concat (front_blocks file s) ++ (info ++ (frame_bytes (relaid (slice_range (all_frames file s) chosen.from chosen.to) placed) ++ concat (back_blocks file s))) ≡ laid_from (slice_get s.frames chosen.from) chosen file s
+    at : ((x : Row) × (laid.from < length s.frames) × (slice_get s.frames laid.from ≡ Some x) × (get_or s.frames laid.from x ≡ x)) ⊎ ((length s.frames ≤ laid.from) × (slice_get s.frames laid.from ≡ None))
+        → concat (front_blocks file s) ++ (info ++ (frame_bytes (relaid (slice_range (all_frames file s) laid.from laid.to) placed) ++ concat (back_blocks file s))) ≡ file_from (slice_get s.frames laid.from) laid file s
     at (inl found) = rw (is found.0 found.2, plan, found.2) refl
     at (inr past) = absurd (omega (arith, past.0, within))
+
+-- where the plan is that of the chosen frames, it is their file
+pub file-is : (chosen : Chosen) (placed : List Placed) (file : List ℕ) (s : SurveyFields) → placed ≡ plan_of chosen s → file_laid (laid_by chosen placed) file s ≡ chosen_file chosen file s
+unfolding chosen_file
+file-is chosen placed file s plan = ap (λ l. file_laid (laid_by chosen l) file s) plan

@@ -1,5 +1,5 @@
 -- A file of frames chosen of another, laid anew into slots: what is cut out, and what is packed.
-use Rattle.std.specs.Prelude.{◌≡◌, ℕ, nat_lt, nat_le, ◌&&◌, if◌then◌else◌, Bool, true, false, List, [], ◌∷◌, length, map, slice_get, slice_range, replicate, Option, Some, None, Result, Ok, Err}
+use Rattle.std.specs.Prelude.{ℕ, nat_lt, nat_le, ◌&&◌, if◌then◌else◌, Bool, true, false, List, [], ◌∷◌, length, map, slice_range, replicate, Option, Some, None, Result, Ok, Err}
 use Rattle.frame_header.specs.Fields.{SlotFields, HeaderFields}
 use Rattle.frame_header.specs.Tables.{window_of}
 use Rattle.cue_sheet.specs.declared.place.Place.{Place}
@@ -9,16 +9,15 @@ use Rattle.slot_plan.specs.ThePlan.{the_plan}
 use Rattle.part_needs.specs.Needs.{need_of}
 use Rattle.part_needs.specs.Fit.{own_choice, any_choice}
 use Rattle.frame_writer.specs.Frames.{Frame}
-use Rattle.laid_files.specs.LaidFiles.{laid_file}
 use Rattle.info_header.specs.declared.fields.Info.{Info}
-use Rattle.info_header.specs.InfoFrame.{info_frame}
-use Rattle.laying.specs.Relaid.{Part, frames_in, stream_in, relaid, with_lead_ins}
-use Rattle.laying.specs.Written.{front_blocks, back_blocks, info_for, head_info}
+use Rattle.laying.specs.Relaid.{Part}
+use Rattle.laying.specs.Written.{head_info}
 use Rattle.sync_survey.specs.declared.rows.Row.{Row}
 use Rattle.sync_survey.specs.declared.survey_fault.SurveyFault.{SurveyFault}
 use Rattle.sync_survey.specs.MainData.{StreamFrame}
 use Rattle.sync_survey.specs.Faults.{SurveyFields}
 use Rattle.sync_survey.specs.Survey.{survey_of}
+use Rattle.frame_edits.specs.Laid.{Laid, part_laid, frames_laid, info_laid, file_from, file_laid, stream_laid, IsLaidInfo}
 use Rattle.frame_edits.specs.declared.chosen.Chosen.{Chosen as CodeChosen}
 use Rattle.frame_edits.specs.declared.chosen.Slots.{Slots}
 use Rattle.frame_edits.specs.declared.chosen.Slots.TheVariants.{Own, Least}
@@ -53,9 +52,6 @@ abbrev pub choices_by : Slots → HeaderFields → List SlotFields
 choices_by Least = any_choice
 choices_by Own = own_choice
 
-abbrev pub part_of : Chosen → List ℕ → SurveyFields → Part
-part_of chosen file s = record { file = file; survey = s; from = chosen.from; to = chosen.to }
-
 -- the frames that are chosen, as the survey tells of them
 abbrev pub chosen_rows : Chosen → SurveyFields → List Row
 chosen_rows chosen s = slice_range s.frames chosen.from chosen.to
@@ -64,30 +60,36 @@ chosen_rows chosen s = slice_range s.frames chosen.from chosen.to
 abbrev pub plan_of : Chosen → SurveyFields → List Placed
 plan_of chosen s = the_plan (window_of s.class.version) (choices_by chosen.slots) (map need_of (chosen_rows chosen s) ∷ [])
 
--- the frames with all main data, in these slots
+-- they in the slots of a plan
+abbrev pub laid_by : Chosen → List Placed → Laid
+laid_by chosen placed = record { from = chosen.from; to = chosen.to; placed = placed; quality = chosen.quality; extension = chosen.extension }
+
+-- in those of their own
+abbrev pub laid_of : Chosen → SurveyFields → Laid
+laid_of chosen s = laid_by chosen (plan_of chosen s)
+
+abbrev pub part_of : Chosen → List ℕ → SurveyFields → Part
+part_of chosen file s = part_laid (laid_of chosen s) file s
+
 abbrev pub laid_frames : Chosen → List ℕ → SurveyFields → List Frame
-laid_frames chosen file s = relaid (frames_in (part_of chosen file s)) (plan_of chosen s)
+laid_frames chosen file s = frames_laid (laid_of chosen s) file s
 
--- what the Info frame in front of them tells
 abbrev pub chosen_info : Chosen → List ℕ → SurveyFields → Info
-chosen_info chosen file s = info_for s.class (laid_frames chosen file s) chosen.quality chosen.extension
+chosen_info chosen file s = info_laid (laid_of chosen s) file s
 
--- The ID3v2 blocks that stand in front of the first frame, an Info frame like this first one that is chosen, the frames, and all other
--- blocks; of no frames there is no file.
 abbrev pub laid_from : Option Row → Chosen → List ℕ → SurveyFields → List ℕ
-laid_from None chosen file s = []
-laid_from (Some first) chosen file s = laid_file (front_blocks file s) first.header (chosen_info chosen file s) (laid_frames chosen file s) (back_blocks file s)
+laid_from first chosen file s = file_from first (laid_of chosen s) file s
 
 unfoldable pub chosen_file : Chosen → List ℕ → SurveyFields → List ℕ
-chosen_file chosen file s = laid_from (slice_get s.frames chosen.from) chosen file s
+chosen_file chosen file s = file_laid (laid_of chosen s) file s
 
 -- these are the bytes of the Info frame
 abbrev pub IsChosenInfo : Chosen → List ℕ → SurveyFields → List ℕ → Type 0
-IsChosenInfo chosen file s bytes = (first : Row) → slice_get s.frames chosen.from ≡ Some first → bytes ≡ info_frame first.header (chosen_info chosen file s)
+IsChosenInfo chosen file s bytes = IsLaidInfo (laid_of chosen s) file s bytes
 
 -- its stream: at most one lead-in, and the frames as they are in the stream of the file
 unfoldable pub chosen_stream : Chosen → List ℕ → SurveyFields → List StreamFrame
-chosen_stream chosen file s = with_lead_ins (plan_of chosen s) (stream_in (part_of chosen file s))
+chosen_stream chosen file s = stream_laid (laid_of chosen s) file s
 
 -- ---- the commands
 

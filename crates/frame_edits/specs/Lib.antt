@@ -1,4 +1,5 @@
 -- What the contracts of this crate cite.
+pub mod Laid
 pub mod Chosen
 pub mod Selected
 pub mod Choices

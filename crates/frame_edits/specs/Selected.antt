@@ -9,11 +9,23 @@ use Rattle.sync_survey.specs.Faults.{SurveyFields}
 use Rattle.sync_survey.specs.Survey.{survey_of}
 use Rattle.frame_edits.specs.declared.plans.Selection.{Selection}
 use Rattle.commands.specs.One.{most_frames}
-use Rattle.frame_edits.specs.Chosen.{chosen_in, chosen_file, plan_of, IsChosenInfo}
+use Rattle.frame_edits.specs.Laid.{Laid, IsLaidInfo}
+use Rattle.frame_edits.specs.Chosen.{chosen_in, chosen_file, plan_of, laid_by, IsChosenInfo}
 
 -- where the files are told, this is the survey of the input
 abbrev pub IsSurveyOf : List ℕ → SurveyFields → Files → Type 0
 IsSurveyOf input s files = (file : List ℕ) → Holds files input file → survey_of file most_frames ≡ Ok s
+
+-- the chosen frames in the slots of the plan that was made of them, whatever it was made by
+abbrev pub laid_in : Selection → Laid
+laid_in selection = laid_by (chosen_in selection.chosen) (entries selection.planned.plan)
+
+-- There is a frame, all are there, the plan can be written frame by frame, and these are the bytes of the Info frame in front of it.
+pub record IsWritable (s : SurveyFields) (selection : Selection) : Type 0 where
+  pub some : selection.chosen.from < selection.chosen.to
+  pub within : selection.chosen.to ≤ length s.frames
+  pub fits : FitsFrom (window_of s.class.version) 0 (map need_of (slice_range s.frames selection.chosen.from selection.chosen.to)) (entries selection.planned.plan)
+  pub info : (file : List ℕ) → survey_of file most_frames ≡ Ok s → IsLaidInfo (laid_in selection) file s selection.planned.info.items
 
 -- There is a frame, all are there, this is their plan, which can be written frame by frame, and these are the bytes of their Info frame.
 pub record IsSelected (s : SurveyFields) (selection : Selection) : Type 0 where

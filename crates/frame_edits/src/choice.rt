@@ -1,13 +1,14 @@
 //! Which frames of a file the commands of this crate choose.
-ghost use Rattle.std.specs.Prelude.{◌≡◌, ◌<◌, ◌≤◌, ℕ, List, length, Ok, Err, MatchResult, IfOk, IfErr, OnOk};
+ghost use Rattle.std.specs.Prelude.{◌≡◌, ◌<◌, ◌≤◌, Bool, ℕ, List, length, Ok, Err, MatchResult, IfOk, IfErr, OnOk};
 ghost use Rattle.outside.specs.Files.{Holds, IsThere};
 ghost use Rattle.outside.specs.Counts.{OnlyReads};
 ghost use Rattle.cue_sheet.specs.Places.{IsPlace};
 ghost use Rattle.sync_survey.specs.Faults.{tells};
 ghost use Rattle.sync_survey.specs.Survey.{survey_of, IsLaidOut};
 ghost use Rattle.commands.specs.Left.{seen, IsOfInput, IsRefusal};
-ghost use Rattle.commands.specs.One.{most_frames, IsInputFault};
-ghost use Rattle.frame_edits.specs.Chosen.{chosen_in, choosing, cut_choice as cut_choice_lem, all_choice as all_choice_lem, cut_refuses, pack_refuses};
+ghost use Rattle.commands.specs.One.{most_frames, IsInputFault, Making};
+ghost use Rattle.commands.specs.declared.fault.Refusal.{Refusal};
+ghost use Rattle.frame_edits.specs.Chosen.{chosen_in, choosing, cut_choice as cut_choice_lem, all_choice as all_choice_lem, cut_refuses};
 ghost use Rattle.frame_edits.specs.Choices.{choosing_by, refused_by, IsChoice};
 
 use crate::chosen::{Chosen, Slots, choose};
@@ -49,7 +50,10 @@ fn cut_choice(survey: &Survey, from: &Place, to: &Place, slots: Slots) -> Result
 }
 
 /// All frames, with the quality and extension that the head of the input tells.
-fn all_choice<D: Folder>(
+///
+/// # Errors
+/// `Input` with `Read` and `Shrunk` where the frame of the head could not be read. The files stay.
+pub fn all_choice<D: Folder>(
     folder: &mut D,
     name: &str,
     survey: &Survey,
@@ -65,10 +69,12 @@ fn all_choice<D: Folder>(
         → all_choice_lem slots bytes (tells survey.now) ≡ Ok (chosen_in chosen)) }
     ensures some { IfOk result (λ chosen. chosen.from < chosen.to) }
     ensures within { IfOk result (λ chosen. chosen.to ≤ length (tells survey.now).frames) }
-    ensures refused { IfErr result (IsInputFault (choosing (all_choice_lem slots)) name.now
-        (seen (D.files folder.old) (D.counts folder.old))
-        (seen (D.files folder.new) (D.counts folder.new))) }
-    ensures numbers { IfErr result (IsOfInput pack_refuses) }
+    // Whatever the command makes of them.
+    ensures refused { IfErr result (λ fault. (make : Making)
+        → IsInputFault make name.now (seen (D.files folder.old) (D.counts folder.old))
+        (seen (D.files folder.new) (D.counts folder.new)) fault) }
+    ensures numbers { IfErr result (λ fault. (refuses : Refusal → Bool)
+        → IsOfInput refuses fault) }
     ensures done { OnOk result (D.counts folder.new ≡ D.counts folder.old) }
     ensures files { D.files folder.new ≡ D.files folder.old }
     ensures counts { OnlyReads (D.counts folder.old) (D.counts folder.new) }

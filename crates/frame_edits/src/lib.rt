@@ -9,8 +9,8 @@ mod plans;
 mod writing;
 
 pub use calls::{cut, pack};
-pub use choice::Choice;
+pub use choice::{Choice, all_choice};
 pub use chosen::{Chosen, Slots, choose};
 pub use edit::{FrameEdit, Work};
-pub use plans::{Planned, Selection, plan_file};
-pub use writing::write_selection;
+pub use plans::{Planned, Selection, info_bytes, plan_file};
+pub use writing::{write_laid, write_selection};

@@ -1,6 +1,11 @@
 //! The plan of chosen frames, and the Info frame in front of them.
-ghost use Rattle.std.specs.Prelude.{◌≡◌, ◌<◌, ◌≤◌, ℕ, List, [], ◌∷◌, length, map, slice_range, Ok, IfOk};
+ghost use Rattle.std.specs.Prelude.{◌≡◌, ◌<◌, ◌≤◌, ℕ, List, [], ◌∷◌, length, map, slice_get, slice_range, Some, Ok, IfOk};
 ghost use Rattle.frame_header.specs.Tables.{window_of};
+ghost use Rattle.info_header.specs.InfoFrame.{info_frame};
+ghost use Rattle.slot_plan.specs.declared.needs.Placed.{Placed as PlacedFields};
+ghost use Rattle.frame_writer.specs.Frames.{Frame};
+ghost use Rattle.laying.specs.Written.{slot_in, info_for};
+ghost use Rattle.sync_survey.specs.declared.rows.Row.{Row as RowFields};
 ghost use Rattle.part_needs.specs.Needs.{need_of, asked_of};
 ghost use Rattle.part_needs.specs.Fit.{CanBePlanned};
 ghost use Rattle.slot_plan.specs.Parts.{window_in, parts_of};
@@ -16,7 +21,7 @@ use arrayvec::ArrayVec;
 use info_header::write_info;
 use laying::info_of;
 use part_needs::Parts;
-use slot_plan::{Keep, Least, Plan, Policy};
+use slot_plan::{Keep, Least, Placed, Plan, Policy};
 use std::alloc::{AllocError, Global};
 use sync_survey::{Row, Survey};
 
@@ -66,6 +71,24 @@ fn plan_chosen(alloc: Global, survey: &Survey, chosen: &Chosen) -> Result<Plan, 
     }
 }
 
+/// The bytes of the Info frame in front of chosen frames in the slots of a plan, whatever they were planned by.
+pub fn info_bytes(survey: &Survey, chosen: &Chosen, placed: &[Placed]) -> ArrayVec<u8, 1441>
+    requires laid { IsLaidOut (tells survey.now) }
+    requires within { chosen.now.from < length (tells survey.now).frames }
+    requires few { length placed.now ≤ 2900064 }
+    ensures { (first : RowFields) (frames : List Frame)
+        → slice_get (tells survey.now).frames chosen.now.from ≡ Some first
+        → map slot_in frames ≡ map (λ (p : PlacedFields). p.slot) placed.now
+        → result.items ≡ info_frame first.header (info_for (tells survey.now).class frames
+        chosen.now.kept.quality chosen.now.kept.extension) }
+{
+    let fields = info_of(survey.class(), placed, &chosen.kept);
+    let first = &survey.frames()[chosen.from].header;
+    let mut info = ArrayVec::new();
+    write_info(first, &fields, &mut info);
+    info
+}
+
 /// The plan of chosen frames, and their Info frame.
 pub fn plan_file(alloc: Global, survey: &Survey, chosen: &Chosen) -> Result<Planned, AllocError>
     requires laid { IsLaidOut (tells survey.now) }
@@ -82,9 +105,6 @@ pub fn plan_file(alloc: Global, survey: &Survey, chosen: &Chosen) -> Result<Plan
         → IsChosenInfo (chosen_in chosen.now) file (tells survey.now) p.info.items) }
 {
     let plan = plan_chosen(alloc, survey, chosen)?;
-    let fields = info_of(survey.class(), plan.placed(), &chosen.kept);
-    let first = &survey.frames()[chosen.from].header;
-    let mut info = ArrayVec::new();
-    write_info(first, &fields, &mut info);
+    let info = info_bytes(survey, chosen, plan.placed());
     Ok(Planned { plan, info })
 }

@@ -8,11 +8,52 @@ ghost use Rattle.sync_survey.specs.Faults.{tells};
 ghost use Rattle.sync_survey.specs.Survey.{IsLaidOut};
 ghost use Rattle.commands.specs.One.{holding, IsPassFault};
 ghost use Rattle.commands.specs.Left.{seen, IsOfPass};
-ghost use Rattle.frame_edits.specs.Selected.{IsSelected, IsSurveyOf, selected_file};
+ghost use Rattle.frame_edits.specs.Selected.{laid_in, IsSelected, IsSurveyOf, IsWritable, selected_file};
+ghost use Rattle.frame_edits.specs.Laid.{file_laid};
 
 use crate::plans::Selection;
 use laying::{Buffers, Relay, Section};
 use outside::{Folder, PassFault};
+
+/// Appends the file of the chosen frames in the slots of their plan to the output, whatever they were planned by. Nothing waits in front of it, and what else the buffers hold may be
+/// of whatever was written before. It takes no memory.
+///
+/// # Errors
+/// `Read` and `Shrunk` where a read failed, or gave no byte before the length that the input was found with; `Write` where a
+/// write failed. Then a prefix of the file was appended.
+pub fn write_laid<D: Folder>(
+    folder: &mut D,
+    relay: &Relay<'_>,
+    selection: &Selection,
+    buffers: &mut Buffers,
+) -> Result<(), PassFault>
+    requires ready { IsReady relay.now (D.files folder.old) buffers.old.feed }
+    requires exact { IsSurveyOf relay.now.pass.input.now (tells relay.now.survey.now)
+        (D.files folder.old) }
+    requires writable { IsWritable (tells relay.now.survey.now) selection.now }
+    requires unsent { buffers.old.waiting ≡ [] }
+    ensures written { OnOk result (Appends relay.now.pass.input.now relay.now.pass.output.now
+        (λ file. file_laid (laid_in selection.now) file (tells relay.now.survey.now))
+        (D.files folder.old) (D.files folder.new)) }
+    ensures prefix { OnErr result (AppendsPrefix relay.now.pass.input.now relay.now.pass.output.now
+        (λ file. file_laid (laid_in selection.now) file (tells relay.now.survey.now))
+        (D.files folder.old) (D.files folder.new)) }
+    ensures done { OnOk result (D.counts folder.new ≡ D.counts folder.old) }
+    ensures cause { IfErr result (HasPassCause relay.now.pass.length (D.files folder.old)
+        (D.counts folder.old) (D.counts folder.new)) }
+    // What another file of chosen frames may be written with.
+    ensures ready { OnOk result (IsReady relay.now (D.files folder.new) buffers.new.feed) }
+    ensures unsent { OnOk result (buffers.new.waiting ≡ []) }
+{
+    let chosen = &selection.chosen;
+    let section = Section {
+        from: chosen.from,
+        to: chosen.to,
+        placed: selection.planned.plan.placed(),
+        info: selection.planned.info.as_slice(),
+    };
+    relay.write(folder, &section, buffers)
+}
 
 /// Appends the file of the chosen frames to the output. Nothing waits in front of it, and what else the buffers hold may be
 /// of whatever was written before. It takes no memory.
@@ -44,12 +85,5 @@ pub fn write_selection<D: Folder>(
     ensures ready { OnOk result (IsReady relay.now (D.files folder.new) buffers.new.feed) }
     ensures unsent { OnOk result (buffers.new.waiting ≡ []) }
 {
-    let chosen = &selection.chosen;
-    let section = Section {
-        from: chosen.from,
-        to: chosen.to,
-        placed: selection.planned.plan.placed(),
-        info: selection.planned.info.as_slice(),
-    };
-    relay.write(folder, &section, buffers)
+    write_laid(folder, relay, selection, buffers)
 }

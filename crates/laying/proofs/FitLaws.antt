@@ -21,11 +21,11 @@ use Rattle.laying.specs.Laws.{PlansFit, AskedPlans}
 -- ---- items of a plan, as they were asked for
 
 -- an item is the lead-in in front of this frame, or the frame
-abbrev IsAsked : Bool → Item → Need → Type 0
+abbrev pub IsAsked : Bool → Item → Need → Type 0
 IsAsked true item need = (item.class ≡ class_of need.header) × (item.protected ≡ false) × (item.bytes ≡ 0)
 IsAsked false item need = (item.class ≡ class_of need.header) × (item.protected ≡ need.header.protected) × (item.bytes ≡ need.bytes)
 
-abbrev Asks : List Item → List Need → Type 0
+abbrev pub Asks : List Item → List Need → Type 0
 Asks [] [] = Unit {0}
 Asks [] (need ∷ needs) = ⊥
 Asks (item ∷ items) [] = ⊥
@@ -69,6 +69,19 @@ fits-on window (item ∷ items) (need ∷ needs) (p ∷ placed) end low before (
           (fits-on window items (left_behind p.lead_in need needs) placed (start + item.bytes) (at + item.bytes) (before + area_in item p.slot) starts follow for_items.2 layout.4 (omega (arith, first)) (omega (arith, first, layout.3)) (ap (drop 1) begins)),
     )
 
+-- items that ask for these frames, laid as early as may be
+pub items-fit : (window : ℕ) (items : List Item) (needs : List Need) (placed : List Placed) → Asks items needs → AreFor items placed → IsFeasible window 0 (frames_of (map open_of items) (areas_in items placed))
+    → map (λ (p : Placed). p.begin) placed ≡ begins_of window 0 0 (frames_of (map open_of items) (areas_in items placed)) → FitsFrom window 0 needs placed
+unfolding IsFeasible
+items-fit window items needs placed asks for_items feasible begins =
+    let none : min window (0 - 0) ≡ 0 = omega arith in
+    subst (λ n. FitsFrom window n needs placed) none (fits-on window items needs placed 0 0 0 feasible.0 asks for_items feasible.1 (omega arith) (omega arith) begins)
+
+-- each frame asks for itself
+pub asks-each : (choices : HeaderFields → List SlotFields) (needs : List Need) → Asks (map (item_of choices) needs) needs
+asks-each choices [] = tt
+asks-each choices (need ∷ needs) = ((refl, refl, refl), asks-each choices needs)
+
 -- ---- all parts
 
 asks-items : (choices : HeaderFields → List SlotFields) (needs : List Need) (rest : List Item) (more : List Need) → Asks rest more → Asks (map (item_of choices) needs ++ rest) (needs ++ more)
@@ -91,13 +104,9 @@ asks-whole window choices (part ∷ parts) (lead_in ∷ lead_ins) leads =
     asks-part window choices (map need_of part) lead_in (whole_of choices (map (map need_of) parts) lead_ins) (flat_map (map need_of) parts) leads.0 (asks-whole window choices parts lead_ins leads.1)
 
 pub plans-fit : PlansFit
-unfolding IsFeasible needs_of
+unfolding needs_of
 plans-fit window choices parts placed plan =
-    let feasible = plan.whole.least.feasible in
-    let none : min window (0 - 0) ≡ 0 = omega arith in
-    subst (λ n. FitsFrom window n (flat_map (map need_of) parts) placed) none
-    (fits-on window (whole_of choices (map (map need_of) parts) plan.lead_ins) (flat_map (map need_of) parts) placed 0 0 0 feasible.0 (asks-whole window choices parts plan.lead_ins plan.alone) plan.whole.slots feasible.1 (omega arith) (omega arith)
-    plan.whole.begins)
+    items-fit window (whole_of choices (map (map need_of) parts) plan.lead_ins) (flat_map (map need_of) parts) placed (asks-whole window choices parts plan.lead_ins plan.alone) plan.whole.slots plan.whole.least.feasible plan.whole.begins
 
 pub asked-plans : AskedPlans
 asked-plans c choices parts placed fit plan =

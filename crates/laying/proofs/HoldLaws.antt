@@ -70,7 +70,7 @@ needs-all c file s are = needs-each c file s 0 s.frames are
 
 -- ---- a part
 
-part-entries : (c : ClassFields) (p : Part) → IsPart c p → AreEntries c (frames_in p)
+pub part-entries : (c : ClassFields) (p : Part) → IsPart c p → AreEntries c (frames_in p)
 part-entries c p is =
     let are = surveyed-frames p.file is.allowed p.survey is.is in
     entries-take c (p.to - p.from) (drop p.from (all_frames p.file p.survey)) (entries-drop c p.from (all_frames p.file p.survey) (subst (λ d. AreEntries d (all_frames p.file p.survey)) is.class are.entries))
@@ -82,10 +82,10 @@ needs-range file allowed s from to e =
     subst (λ (l : List Need). AreNeedsOf l (slice_range (all_frames file s) from to)) (sym (range-map need_of from to s.frames))
     (needs-take (to - from) (drop from (map need_of s.frames)) (drop from (all_frames file s)) (needs-drop from (map need_of s.frames) (all_frames file s) (needs-all s.class file s are.entries)))
 
-part-needs : (c : ClassFields) (p : Part) → IsPart c p → AreNeedsOf (needs_in p) (frames_in p)
+pub part-needs : (c : ClassFields) (p : Part) → IsPart c p → AreNeedsOf (needs_in p) (frames_in p)
 part-needs c p is = needs-range p.file is.allowed p.survey p.from p.to is.is
 
-part-stream : (c : ClassFields) (p : Part) → IsPart c p → map entry_of (frames_in p) ≡ stream_in p
+pub part-stream : (c : ClassFields) (p : Part) → IsPart c p → map entry_of (frames_in p) ≡ stream_in p
 part-stream c p is =
     let are = surveyed-frames p.file is.allowed p.survey is.is in
     range-map entry_of p.from p.to (all_frames p.file p.survey) ∙ ap (λ (l : List StreamFrame). slice_range l p.from p.to) are.stream_is
@@ -113,7 +113,7 @@ all-length : (file : List ℕ) (s : SurveyFields) → length (all_frames file s)
 unfolding all_frames
 all-length file s = length-map (enumerate_from 0 s.frames) (λ (p : ℕ × Row). frame_of file s p.0 p.1) ∙ length-enumerate_from 0 s.frames
 
-part-some : (c : ClassFields) (p : Part) → IsPart c p → 0 < length (frames_in p)
+pub part-some : (c : ClassFields) (p : Part) → IsPart c p → 0 < length (frames_in p)
 part-some c p is = omega (arith, is.some, is.within, all-length p.file p.survey, length-drop p.from (all_frames p.file p.survey), length-take (p.to - p.from) (drop p.from (all_frames p.file p.survey)))
 
 parts-some : (c : ClassFields) (parts : List Part) → 1 ≤ length parts → AreParts c parts → 0 < length (joined (map frames_in parts))

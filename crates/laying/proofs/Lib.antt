@@ -10,3 +10,4 @@ pub mod SlotLaws
 pub mod InfoLaws
 pub mod KeptLaws
 pub mod CopyLaws
+pub mod FittingFrames

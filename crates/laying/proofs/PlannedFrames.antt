@@ -30,14 +30,14 @@ use Rattle.laying.specs.Relaid.{moved_to, lead_in_to, relaid, silent_before, wit
 abbrev pub one : Bool → Placed → Frame → Frame
 one lead_in p f = cond lead_in (lead_in_to p f) (moved_to p f)
 
-abbrev one_in_stream : Bool → StreamFrame → StreamFrame
+abbrev pub one_in_stream : Bool → StreamFrame → StreamFrame
 one_in_stream lead_in f = cond lead_in (silent_before f) f
 
 pub relaid-cons : (p : Placed) (placed : List Placed) (f : Frame) (fs : List Frame) → relaid (f ∷ fs) (p ∷ placed) ≡ one p.lead_in p f ∷ relaid (left_behind p.lead_in f fs) placed
 unfolding relaid
 relaid-cons p placed f fs = refl
 
-stream-cons : (p : Placed) (placed : List Placed) (f : StreamFrame) (fs : List StreamFrame) → with_lead_ins (p ∷ placed) (f ∷ fs) ≡ one_in_stream p.lead_in f ∷ with_lead_ins placed (left_behind p.lead_in f fs)
+pub stream-cons : (p : Placed) (placed : List Placed) (f : StreamFrame) (fs : List StreamFrame) → with_lead_ins (p ∷ placed) (f ∷ fs) ≡ one_in_stream p.lead_in f ∷ with_lead_ins placed (left_behind p.lead_in f fs)
 unfolding with_lead_ins
 stream-cons p placed f fs = refl
 
@@ -110,7 +110,7 @@ module _ (c : ClassFields) (p : Placed) (f : Frame) (slot : IsSlot p.slot) (near
     filled = ap (λ n. drop n (bits f.payload)) (bits_begun f.kept.side p.begin) ∙ is.filled ∙ ap₂ (λ m n. zeros (8 * m - n)) (sym (bytes_begun f.kept.side p.begin)) (sym (bits_begun f.kept.side p.begin));
   }
 
-  one-entry : (b : Bool) → IsEntry c (one b p f)
+  pub one-entry : (b : Bool) → IsEntry c (one b p f)
   one-entry true = lead_in-entry
   one-entry false = moved-entry
 
@@ -120,7 +120,7 @@ lengths_begun : (h : HeaderFields) (s : Side) (begin : ℕ) → part_lengths h (
 unfolding granules_in
 lengths_begun h s begin = refl
 
-one-stream : (b : Bool) (p : Placed) (f : Frame) → entry_of (one b p f) ≡ one_in_stream b (entry_of f)
+pub one-stream : (b : Bool) (p : Placed) (f : Frame) → entry_of (one b p f) ≡ one_in_stream b (entry_of f)
 unfolding bits payload_bits
 one-stream true p f = ap (λ lengths. record { header = record f.kept.header { protected = false; slot = no_slot }; side = no_side; payload = parts_of lengths [] }) (lengths_begun f.kept.header no_side p.begin)
 one-stream false p f =
@@ -131,7 +131,7 @@ pub next-map : {X Y : Type 0} (g : X → Y) (b : Bool) (x : X) (xs : List X) →
 next-map g true x xs = refl
 next-map g false x xs = refl
 
-next-entries : (c : ClassFields) (b : Bool) (f : Frame) (fs : List Frame) → IsEntry c f → AreEntries c fs → AreEntries c (left_behind b f fs)
+pub next-entries : (c : ClassFields) (b : Bool) (f : Frame) (fs : List Frame) → IsEntry c f → AreEntries c fs → AreEntries c (left_behind b f fs)
 next-entries c true f fs is are = (is, are)
 next-entries c false f fs is are = are
 
@@ -168,12 +168,12 @@ pub record AreLaidFrom (c : ClassFields) (end before : ℕ) (fs : List Frame) (s
   pub fit : CanBeLaidFrom end before (pieces fs)
   pub stream_is : map entry_of fs ≡ stream
 
-none_laid : (c : ClassFields) (end before : ℕ) (placed : List Placed) → AreLaidFrom c end before (relaid [] placed) (with_lead_ins placed [])
+pub none_laid : (c : ClassFields) (end before : ℕ) (placed : List Placed) → AreLaidFrom c end before (relaid [] placed) (with_lead_ins placed [])
 unfolding relaid with_lead_ins
 none_laid c end before placed = record { entries = tt; fit = tt; stream_is = refl }
 
 -- one frame more in front
-laid_more : (c : ClassFields) (end before bytes area : ℕ) (g : Frame) (gs : List Frame) (q : StreamFrame) (qs : List StreamFrame)
+pub laid_more : (c : ClassFields) (end before bytes area : ℕ) (g : Frame) (gs : List Frame) (q : StreamFrame) (qs : List StreamFrame)
     → IsEntry c g → entry_of g ≡ q → length g.payload ≡ bytes → kept_area g.kept ≡ area
     → end + g.kept.side.main_data_begin ≤ before → before - g.kept.side.main_data_begin + bytes ≤ before + area
     → AreLaidFrom c (before - g.kept.side.main_data_begin + bytes) (before + area) gs qs → AreLaidFrom c end before (g ∷ gs) (q ∷ qs)
@@ -263,12 +263,12 @@ abbrev pub AllEntries : ClassFields → List (List Frame) → Type 0
 AllEntries c [] = Unit {0}
 AllEntries c (fs ∷ more) = AreEntries c fs × AllEntries c more
 
-slot_among : (slot : SlotFields) → Contains all_slots slot → IsSlot slot
+pub slot_among : (slot : SlotFields) → Contains all_slots slot → IsSlot slot
 slot_among slot has =
     let within : has.0 < 28 = omega (arith, has.1, length-all_slots) in
     subst IsSlot (get_or_default all_slots has.0 (slot_of 1 false) slot has.1 ∙ has.2) (IsSlot-nth_slot has.0 within)
 
-only_one : (slot other : SlotFields) → Contains (slot ∷ []) other → slot ≡ other
+pub only_one : (slot other : SlotFields) → Contains (slot ∷ []) other → slot ≡ other
 only_one slot other has = first_of_one slot other has.0 (omega (arith, has.1)) has.2
   where
     first_of_one : (slot other : SlotFields) (k : ℕ) → k ≡ 0 → get_or (slot ∷ []) k other ≡ other → slot ≡ other

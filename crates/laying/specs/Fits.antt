@@ -1,5 +1,6 @@
 -- Which plans can be written frame by frame (main_data_begin, ISO/IEC 11172-3 and 13818-3, 2.4.2.7).
 use Rattle.std.specs.Prelude.{ℕ, ◌+◌, ◌-◌, ◌≤◌, min, if◌then◌else◌, Bool, false, List, [], ◌∷◌}
+use Rattle.frame_header.specs.Fields.{IsSlot}
 use Rattle.frame_header.specs.Tables.{class_of, area_of}
 use Rattle.slot_plan.specs.declared.needs.Need.{Need}
 use Rattle.slot_plan.specs.declared.needs.Placed.{Placed}
@@ -31,3 +32,13 @@ unfoldable pub last_reach : ℕ → ℕ → List Need → List Placed → ℕ
 last_reach window reach [] placed = reach
 last_reach window reach (need ∷ needs) [] = reach
 last_reach window reach (need ∷ needs) (p ∷ placed) = last_reach window (reach_behind window p need) (left_behind p.lead_in need needs) placed
+
+-- each is in one of the 28 slots
+abbrev pub AreInSlots : List Placed → Type 0
+AreInSlots [] = Unit {0}
+AreInSlots (p ∷ placed) = IsSlot p.slot × AreInSlots placed
+
+-- a plan by which frames can be laid, behind no frames
+pub record IsFitting (window : ℕ) (needs : List Need) (placed : List Placed) : Type 0 where
+  pub fits : FitsFrom window 0 needs placed
+  pub slots : AreInSlots placed

@@ -10,13 +10,13 @@ use Rattle.frame_writer.specs.Frames.{Frame, pieces}
 use Rattle.sync_survey.specs.Faults.{SurveyFields, surveyed, HoldsStream}
 use Rattle.laid_files.specs.LaidFiles.{IsBlocks, AreEntries, entry_of, HasInfoSizes, laid_file}
 use Rattle.sync_survey.specs.MainData.{StreamFrame}
-use Rattle.laying.specs.Written.{front_blocks, back_blocks}
+use Rattle.laying.specs.Written.{front_blocks, back_blocks, slot_in}
 use Rattle.part_needs.specs.Needs.{need_of, needs_of, asked_of}
 use Rattle.sync_survey.specs.declared.rows.Row.{Row}
-use Rattle.laying.specs.Fits.{FitsFrom}
+use Rattle.laying.specs.Fits.{FitsFrom, IsFitting}
 use Rattle.part_needs.specs.Fit.{AreFit}
 use Rattle.slot_plan.specs.Parts.{window_in, parts_of}
-use Rattle.laying.specs.Relaid.{Part, frames_in, stream_in, AreParts, needs_in, AreSlots, relaid, with_lead_ins}
+use Rattle.laying.specs.Relaid.{Part, frames_in, stream_in, IsPart, AreParts, needs_in, AreSlots, relaid, with_lead_ins}
 
 -- there are frames; they are of this class, their main data can be laid as they say, and this is what they are in a stream
 pub record AreLaidAs (c : ClassFields) (frames : List Frame) (stream : List StreamFrame) : Type 0 where
@@ -53,3 +53,16 @@ abbrev pub AskedPlans : Type 0
 AskedPlans =
     (c : ClassFields) (choices : HeaderFields → List SlotFields) (parts : List (List Row)) (placed : List Placed) → AreFit c (asked_of parts)
     → IsPlan (window_in (asked_of parts).needs) choices (parts_of (asked_of parts).needs (asked_of parts).places) placed → IsPlan (window_of c.version) choices (map (map need_of) parts) placed
+
+-- the frames of a part in the slots of any plan by which they can be laid: a file of them is well-formed, and its stream is the lead-ins of the plan and the frames
+abbrev pub FittingFilesHold : Type 0
+FittingFilesHold =
+    (c : ClassFields) (part : Part) (placed : List Placed) → IsPart c part → IsFitting (window_of c.version) (needs_in part) placed
+    → (front : List (List ℕ)) (first : HeaderFields) (info : Info) (back : List (List ℕ)) → IsBlocks front → IsHeader first → class_of first ≡ c → HasInfoSizes info → IsBlocks back
+    → HoldsStream (laid_file front first info (relaid (frames_in part) placed) back) (with_lead_ins placed (stream_in part))
+
+-- they are in the slots of the plan, one for each
+abbrev pub FittingSlots : Type 0
+FittingSlots =
+    (c : ClassFields) (part : Part) (placed : List Placed) → IsPart c part → IsFitting (window_of c.version) (needs_in part) placed
+    → map slot_in (relaid (frames_in part) placed) ≡ map (λ (p : Placed). p.slot) placed

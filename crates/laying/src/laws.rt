@@ -1,5 +1,5 @@
 //! Laws of files of chosen frames. Each function does nothing: a proof that needs its law calls it.
-ghost use Rattle.laying.specs.Laws.{EntriesHold, FilesHold, BlocksAreKept, PlansFit, AskedPlans};
+ghost use Rattle.laying.specs.Laws.{EntriesHold, FilesHold, BlocksAreKept, PlansFit, AskedPlans, FittingFilesHold, FittingSlots};
 
 /// The frames of parts of files without fault, in the slots and with the main_data_begin of their plan, are of the class, and
 /// their main data can be laid so. In a stream they are the plan's lead-ins, and each chosen frame as it is in the stream of its
@@ -32,4 +32,15 @@ pub fn plans_fit()
 /// their class: so the other laws speak of it.
 pub fn asked_plans()
     ensures { AskedPlans }
+{}
+
+/// The frames of a part of a file without fault, in the slots and with the main_data_begin of any plan that can be written
+/// frame by frame: a file of them is well-formed, and its stream is the lead-ins of the plan and the chosen frames.
+pub fn fitting_files_hold()
+    ensures { FittingFilesHold }
+{}
+
+/// These frames are in the slots of the plan, one for each of its lead-ins and frames.
+pub fn fitting_slots()
+    ensures { FittingSlots }
 {}

@@ -13,6 +13,9 @@ mod section;
 pub use buffers::Buffers;
 pub use info::{Kept, info_of, kept_fields};
 pub use info_laws::slots_are_planned;
-pub use laws::{asked_plans, blocks_are_kept, entries_hold, files_hold, plans_fit};
+pub use laws::{
+    asked_plans, blocks_are_kept, entries_hold, files_hold, fitting_files_hold, fitting_slots,
+    plans_fit,
+};
 pub use relay::Relay;
 pub use section::Section;

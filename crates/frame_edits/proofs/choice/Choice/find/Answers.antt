@@ -6,7 +6,7 @@ use Rattle.sync_survey.specs.Faults.{SurveyFields, tells}
 use Rattle.sync_survey.specs.Survey.{survey_of}
 use Rattle.commands.specs.declared.fault.EditFault.{EditFault}
 use Rattle.commands.specs.Left.{Seen, seen, IsRefusal}
-use Rattle.commands.specs.One.{most_frames, IsInputFault}
+use Rattle.commands.specs.One.{Making, most_frames, IsInputFault}
 use Rattle.commands.proofs.InputLaws.{refusal-of, refusal_is_input}
 use Rattle.frame_edits.specs.declared.chosen.Chosen.{Chosen as CodeChosen}
 use Rattle.frame_edits.specs.Chosen.{Chosen, Choosing, chosen_in, laid_with, choosing, cut_choice, cut_refuses}
@@ -43,3 +43,15 @@ returns-in-Between-clause-refused g c =
     let now = seen (g.D.Folder.files c.args.folder.now) (g.D.Folder.counts c.args.folder.now) in
     subst (λ choice. IfErr c.cut_choice.result (IsInputFault (choosing (choosing_by choice)) c.args.name.now now now)) (sym c.in-Between.is)
     (choice_err (cut_choice c.in-Between.from.now c.in-Between.to.now c.in-Between.slots) c.args.name.now (tells c.args.survey.now) now c.requires.there c.requires.surveyed c.cut_choice.result c.cut_choice.ensures.chosen c.cut_choice.ensures.refusal)
+
+-- what holds whatever the command makes holds of this one
+of_making : (P : Making → EditFault → Type 0) (make : Making) (r : Result CodeChosen EditFault) → IfErr r (λ fault. (other : Making) → P other fault) → IfErr r (P make)
+of_making P make (Ok chosen) is = tt
+of_making P make (Err fault) is = is make
+
+pub returns-in-All-clause-refused : goal.returns-in-All-clause-refused
+returns-in-All-clause-refused g c =
+    let files = g.D.Folder.files in
+    let counts = g.D.Folder.counts in
+    of_making (λ make. IsInputFault make c.args.name.now (seen (files c.args.folder.now) (counts c.args.folder.now)) (seen (files c.all_choice.new.folder) (counts c.all_choice.new.folder))) (choosing (choosing_by c.args.self.now)) c.all_choice.result
+    c.all_choice.ensures.refused

@@ -1,0 +1,54 @@
+-- A file of frames of another in the slots of a plan, whatever it was planned by.
+use Rattle.std.specs.Prelude.{◌≡◌, ℕ, List, [], map, slice_get, slice_range, Option, Some, None}
+use Rattle.slot_plan.specs.declared.needs.Need.{Need}
+use Rattle.slot_plan.specs.declared.needs.Placed.{Placed}
+use Rattle.part_needs.specs.Needs.{need_of}
+use Rattle.frame_writer.specs.Frames.{Frame}
+use Rattle.laid_files.specs.LaidFiles.{laid_file}
+use Rattle.info_header.specs.declared.fields.Info.{Info}
+use Rattle.info_header.specs.InfoFrame.{info_frame}
+use Rattle.laying.specs.Relaid.{Part, frames_in, stream_in, relaid, with_lead_ins}
+use Rattle.laying.specs.Written.{front_blocks, back_blocks, info_for}
+use Rattle.sync_survey.specs.declared.rows.Row.{Row}
+use Rattle.sync_survey.specs.MainData.{StreamFrame}
+use Rattle.sync_survey.specs.Faults.{SurveyFields}
+
+-- The frames from one on and before another, the slots of their plan, and what the Info frame in front of them tells of quality and extension.
+pub record Laid : Type 0 where
+  pub from : ℕ
+  pub to : ℕ
+  pub placed : List Placed
+  pub quality : Option ℕ
+  pub extension : List ℕ
+
+abbrev pub part_laid : Laid → List ℕ → SurveyFields → Part
+part_laid laid file s = record { file = file; survey = s; from = laid.from; to = laid.to }
+
+-- what their plan was made of
+abbrev pub needs_laid : Laid → SurveyFields → List Need
+needs_laid laid s = map need_of (slice_range s.frames laid.from laid.to)
+
+-- the frames with all main data, in these slots
+abbrev pub frames_laid : Laid → List ℕ → SurveyFields → List Frame
+frames_laid laid file s = relaid (frames_in (part_laid laid file s)) laid.placed
+
+-- what the Info frame in front of them tells
+abbrev pub info_laid : Laid → List ℕ → SurveyFields → Info
+info_laid laid file s = info_for s.class (frames_laid laid file s) laid.quality laid.extension
+
+-- The ID3v2 blocks that stand in front of the first frame, an Info frame like this first one that is chosen, the frames, and all other
+-- blocks; of no frames there is no file.
+abbrev pub file_from : Option Row → Laid → List ℕ → SurveyFields → List ℕ
+file_from None laid file s = []
+file_from (Some first) laid file s = laid_file (front_blocks file s) first.header (info_laid laid file s) (frames_laid laid file s) (back_blocks file s)
+
+abbrev pub file_laid : Laid → List ℕ → SurveyFields → List ℕ
+file_laid laid file s = file_from (slice_get s.frames laid.from) laid file s
+
+-- its stream: the lead-ins of the plan, and the frames as they are in the stream of the file
+abbrev pub stream_laid : Laid → List ℕ → SurveyFields → List StreamFrame
+stream_laid laid file s = with_lead_ins laid.placed (stream_in (part_laid laid file s))
+
+-- these are the bytes of its Info frame
+abbrev pub IsLaidInfo : Laid → List ℕ → SurveyFields → List ℕ → Type 0
+IsLaidInfo laid file s bytes = (first : Row) → slice_get s.frames laid.from ≡ Some first → bytes ≡ info_frame first.header (info_laid laid file s)

@@ -1,0 +1,91 @@
+-- Frames in the slots and with the main_data_begin of any plan that can be written frame by frame: they can be laid, and are what they were.
+use Rattle.std.proofs.Common.{◌≡◌, ℕ, ◌+◌, ◌-◌, ◌<◌, ◌≤◌, min, cond, Bool, true, false, List, [], ◌∷◌, length, map, refl, sym, ◌∙◌, ap, ap₂, subst, arith}
+use Rattle.frame_header.specs.Fields.{SlotFields, HeaderFields, ClassFields, IsHeader}
+use Rattle.frame_header.specs.Tables.{class_of, area_of, window_of}
+use Rattle.info_header.specs.declared.fields.Info.{Info}
+use Rattle.slot_plan.specs.declared.needs.Need.{Need}
+use Rattle.slot_plan.specs.declared.needs.Placed.{Placed}
+use Rattle.frame_writer.specs.Frames.{Frame, area_in as kept_area}
+use Rattle.sync_survey.specs.MainData.{StreamFrame}
+use Rattle.sync_survey.specs.Faults.{HoldsStream}
+use Rattle.laid_files.specs.LaidFiles.{IsBlocks, HasInfoSizes, AreEntries, entry_of, laid_file}
+use Rattle.laid_files.proofs.LaidLaws.{laid-stream}
+use Rattle.laying.specs.Relaid.{Part, frames_in, stream_in, IsPart, needs_in, relaid, with_lead_ins, left_behind}
+use Rattle.laying.specs.Fits.{bytes_at, area_at, reach_behind, FitsFrom, AreInSlots, IsFitting}
+use Rattle.laying.specs.Written.{slot_in}
+use Rattle.laying.specs.Laws.{FittingFilesHold, FittingSlots}
+use Rattle.laying.proofs.PlannedFrames.{one, one_in_stream, relaid-cons, stream-cons, one-entry, one-stream, next-map, next-entries, AreLaidFrom, none_laid, laid_more, AreNeedsOf}
+use Rattle.laying.proofs.HoldLaws.{part-entries, part-needs, part-stream, part-some}
+
+-- ---- one frame
+
+piece-by : (b : Bool) (p : Placed) (need : Need) (f : Frame) → need.header ≡ f.kept.header → need.bytes ≡ length f.payload
+    → (length (one b p f).payload ≡ bytes_at b need) × ((one b p f).kept.side.main_data_begin ≡ p.begin) × (kept_area (one b p f).kept ≡ area_of (class_of need.header) p.slot (cond b false need.header.protected))
+piece-by true p need f header bytes = (refl, refl, ap (λ (h : HeaderFields). area_of (class_of h) p.slot false) (sym header))
+piece-by false p need f header bytes = (sym bytes, refl, ap (λ (h : HeaderFields). area_of (class_of h) p.slot h.protected) (sym header))
+
+next-needs : (b : Bool) (need : Need) (needs : List Need) (f : Frame) (fs : List Frame) → AreNeedsOf (need ∷ needs) (f ∷ fs) → AreNeedsOf (left_behind b need needs) (left_behind b f fs)
+next-needs true need needs f fs are = are
+next-needs false need needs f fs are = are.2
+
+-- ---- all of them
+
+-- from a place on behind which so many free bytes are within reach
+laid-fitting : (c : ClassFields) (needs : List Need) (fs : List Frame) (placed : List Placed) (reach end before : ℕ) → AreEntries c fs → AreNeedsOf needs fs → AreInSlots placed
+    → FitsFrom (window_of c.version) reach needs placed → reach ≤ window_of c.version → end + reach ≤ before
+    → AreLaidFrom c end before (relaid fs placed) (with_lead_ins placed (map entry_of fs))
+unfolding FitsFrom
+laid-fitting c [] [] placed reach end before are needs_are slots fits near room = none_laid c end before placed
+laid-fitting c [] (f ∷ fs) placed reach end before are needs_are slots fits near room = absurd needs_are
+laid-fitting c (need ∷ needs) [] placed reach end before are needs_are slots fits near room = absurd needs_are
+laid-fitting c (need ∷ needs) (f ∷ fs) [] reach end before are needs_are slots fits near room = absurd fits
+laid-fitting c (need ∷ needs) (f ∷ fs) (p ∷ placed) reach end before are needs_are slots fits near room =
+    let window = window_of c.version in
+    let g = one p.lead_in p f in
+    let bytes = bytes_at p.lead_in need in
+    let area = area_at p need in
+    let piece = piece-by p.lead_in p need f needs_are.0 needs_are.1 in
+    let begins : g.kept.side.main_data_begin ≡ p.begin = piece.1 in
+    let behind = laid-fitting c (left_behind p.lead_in need needs) (left_behind p.lead_in f fs) placed (reach_behind window p need) (before - g.kept.side.main_data_begin + bytes) (before + area)
+    (next-entries c p.lead_in f fs are.0 are.1) (next-needs p.lead_in need needs f fs needs_are) slots.1 fits.2 (omega arith) (omega (arith, begins, fits.0, fits.1, room)) in
+    let there : AreLaidFrom c (before - g.kept.side.main_data_begin + bytes) (before + area) (relaid (left_behind p.lead_in f fs) placed) (with_lead_ins placed (left_behind p.lead_in (entry_of f) (map entry_of fs))) =
+    subst (λ (l : List StreamFrame). AreLaidFrom c (before - g.kept.side.main_data_begin + bytes) (before + area) (relaid (left_behind p.lead_in f fs) placed) (with_lead_ins placed l)) (next-map entry_of p.lead_in f fs) behind in
+    subst (λ (l : List Frame). AreLaidFrom c end before l (with_lead_ins (p ∷ placed) (map entry_of (f ∷ fs)))) (sym (relaid-cons p placed f fs))
+    (subst (λ (l : List StreamFrame). AreLaidFrom c end before (g ∷ relaid (left_behind p.lead_in f fs) placed) l) (sym (stream-cons p placed (entry_of f) (map entry_of fs)))
+    (laid_more c end before bytes area g (relaid (left_behind p.lead_in f fs) placed) (one_in_stream p.lead_in (entry_of f)) (with_lead_ins placed (left_behind p.lead_in (entry_of f) (map entry_of fs)))
+    (one-entry c p f slots.0 (omega (arith, fits.0, near)) are.0 p.lead_in) (one-stream p.lead_in p f) piece.0 piece.2 (omega (arith, begins, fits.0, room)) (omega (arith, begins, fits.0, fits.1, room)) there))
+
+one-slot : (b : Bool) (p : Placed) (f : Frame) → slot_in (one b p f) ≡ p.slot
+one-slot true p f = refl
+one-slot false p f = refl
+
+slots-by : (window reach : ℕ) (needs : List Need) (fs : List Frame) (placed : List Placed) → AreNeedsOf needs fs → FitsFrom window reach needs placed → map slot_in (relaid fs placed) ≡ map (λ (p : Placed). p.slot) placed
+unfolding FitsFrom relaid
+slots-by window reach [] [] [] are fits = refl
+slots-by window reach [] [] (p ∷ placed) are fits = absurd fits
+slots-by window reach [] (f ∷ fs) placed are fits = absurd are
+slots-by window reach (need ∷ needs) [] placed are fits = absurd are
+slots-by window reach (need ∷ needs) (f ∷ fs) [] are fits = absurd fits
+slots-by window reach (need ∷ needs) (f ∷ fs) (p ∷ placed) are fits =
+    ap (map slot_in) (relaid-cons p placed f fs)
+    ∙ ap₂ (λ (s : SlotFields) (l : List SlotFields). s ∷ l) (one-slot p.lead_in p f)
+    (slots-by window (reach_behind window p need) (left_behind p.lead_in need needs) (left_behind p.lead_in f fs) placed (next-needs p.lead_in need needs f fs are) fits.2)
+
+some-by : (window reach : ℕ) (needs : List Need) (fs : List Frame) (placed : List Placed) → AreNeedsOf needs fs → FitsFrom window reach needs placed → 0 < length fs → 0 < length (relaid fs placed)
+unfolding FitsFrom
+some-by window reach needs [] placed are fits some = absurd (omega (arith, some))
+some-by window reach [] (f ∷ fs) placed are fits some = absurd are
+some-by window reach (need ∷ needs) (f ∷ fs) [] are fits some = absurd fits
+some-by window reach (need ∷ needs) (f ∷ fs) (p ∷ placed) are fits some = omega (arith, ap length (relaid-cons p placed f fs))
+
+-- ---- of a part
+
+pub fitting-slots : FittingSlots
+fitting-slots c part placed is fitting = slots-by (window_of c.version) 0 (needs_in part) (frames_in part) placed (part-needs c part is) fitting.fits
+
+pub fitting-files-hold : FittingFilesHold
+fitting-files-hold c part placed is fitting front first info back before header class sizes behind =
+    let laid = laid-fitting c (needs_in part) (frames_in part) placed 0 0 0 (part-entries c part is) (part-needs c part is) fitting.slots fitting.fits (omega arith) (omega arith) in
+    subst (HoldsStream (laid_file front first info (relaid (frames_in part) placed) back)) (laid.stream_is ∙ ap (with_lead_ins placed) (part-stream c part is))
+    (laid-stream c front first info (relaid (frames_in part) placed) back
+    (record { blocks_before = before; header = header; class = class; sizes = sizes; some = some-by (window_of c.version) 0 (needs_in part) (frames_in part) placed (part-needs c part is) fitting.fits (part-some c part is); entries = laid.entries; laid = laid.fit; blocks_behind = behind }))

@@ -1,0 +1,6 @@
+-- From one frame to the next.
+use Rattle.laying.proofs.FittingFrames.{fitting-files-hold}
+use Rattle.laying.proofs.laws.fitting_files_hold.Goals as goal
+
+pub returns : goal.returns
+returns c = fitting-files-hold

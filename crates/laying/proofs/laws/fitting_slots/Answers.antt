@@ -1,0 +1,6 @@
+-- One frame, one slot.
+use Rattle.laying.proofs.FittingFrames.{fitting-slots}
+use Rattle.laying.proofs.laws.fitting_slots.Goals as goal
+
+pub returns : goal.returns
+returns c = fitting-slots
