@@ -1,0 +1,4 @@
+-- The lemmas of this crate.
+pub mod MenuLaws
+pub mod PlanLaws
+pub mod PackingLaws

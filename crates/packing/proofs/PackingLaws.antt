@@ -1,0 +1,131 @@
+-- The file of all frames in the slots of a plan holds their stream, and what the one body asks of the command.
+use Rattle.std.proofs.Common.{◌≡◌, ℕ, ◌<◌, ◌≤◌, List, length, Bool, Result, Ok, Err, sym, ◌∙◌, ap, subst}
+use Rattle.std.specs.Prelude.{IfErr}
+use Rattle.frame_header.specs.Fields.{ClassFields}
+use Rattle.frame_header.specs.Tables.{window_of}
+use Rattle.outside.specs.Files.{Files, Holds, IsThere}
+use Rattle.slot_plan.specs.declared.needs.Need.{Need}
+use Rattle.slot_plan.specs.declared.needs.Placed.{Placed}
+use Rattle.part_needs.specs.Fit.{IsPlaced}
+use Rattle.laying.specs.Fits.{IsFitting}
+use Rattle.sync_survey.specs.declared.survey_fault.SurveyFault.{SurveyFault}
+use Rattle.sync_survey.specs.Faults.{SurveyFields, HoldsStream, tells}
+use Rattle.sync_survey.specs.Survey.{survey_of}
+use Rattle.sync_survey.proofs.PlacedRows.{surveyed-placed}
+use Rattle.sync_survey.proofs.SurveyedFiles.{survey_of-parts}
+use Rattle.commands.specs.declared.fault.EditFault.{EditFault}
+use Rattle.commands.specs.declared.fault.Refusal.{Refusal}
+use Rattle.commands.specs.declared.fault.EditFault.TheVariants.{EqualNames, Input, Refused, Write, Sent, Memory}
+use Rattle.commands.specs.Left.{Seen, IsLate, IsOfInput}
+use Rattle.commands.specs.Refusing.{then_made}
+use Rattle.commands.specs.One.{Making, most_frames, IsInputFault, IsMaking, IsProper}
+use Rattle.commands.proofs.RefusingLaws.{then_late, then_ok}
+use Rattle.commands.proofs.InputLaws.{IsProperMaking, file_makes, file_proper, refusal_is_input, memory_is_input}
+use Rattle.frame_edits.specs.declared.chosen.Slots.TheVariants.{Least}
+use Rattle.frame_edits.specs.Laid.{Laid, file_laid, stream_laid}
+use Rattle.frame_edits.specs.Chosen.{Chosen, all_choice, laid_by}
+use Rattle.frame_edits.proofs.ChosenLaws.{all_late, all_right}
+use Rattle.frame_edits.proofs.LaidLaws.{laid-holds}
+use Rattle.packing.specs.declared.mode.Rates.{Rates}
+use Rattle.packing.specs.declared.edit.Work.{Work}
+use Rattle.packing.specs.Packing.{Planning, needs_of, laid_as, packed, packing, stream_with, stream_by, packed_stream, packed_task}
+use Rattle.packing.specs.Rates.{rates_plan, rates_refuse, IsPlanFault}
+use Rattle.packing.specs.Modes.{rates_task}
+use Rattle.packing.specs.Ready.{IsReady, packed_file}
+use Rattle.packing.proofs.PlanLaws.{rates-late, chosen-fitting}
+
+-- whatever the plan is made by, its refusals come late, and frames can be laid by it
+pub record IsPlanning (plan : Planning) : Type 0 where
+  pub late : (class : ClassFields) (needs : List Need) → IfErr (plan class needs) IsLate
+  pub fitting : (chosen : Chosen) (s : SurveyFields) → IsPlaced s → chosen.from < chosen.to → chosen.to ≤ length s.frames → (placed : List Placed) → plan s.class (needs_of chosen s) ≡ Ok placed
+      → IsFitting (window_of s.class.version) (needs_of chosen s) placed
+
+module _ (plan : Planning) (is_planning : IsPlanning plan) where
+  packing_late : (file : List ℕ) (s : SurveyFields) → IfErr (packing plan file s) IsLate
+  unfolding packed
+  packing_late file s =
+      then_late (packed plan file s) (λ laid. Ok (file_laid laid file s))
+      (then_late (all_choice Least file s) (laid_as plan s) (all_late Least file s) (λ chosen.
+      then_late (plan s.class (needs_of chosen s)) (λ placed. Ok (laid_by chosen placed)) (is_planning.late s.class (needs_of chosen s)) (λ placed. tt)))
+      (λ laid. tt)
+
+  packed_holds : (file : List ℕ) (s : SurveyFields) (laid : Laid) → survey_of file most_frames ≡ Ok s → packed plan file s ≡ Ok laid → HoldsStream (file_laid laid file s) (stream_laid laid file s)
+  unfolding packed
+  packed_holds file s laid is made =
+      let chose = then_ok (all_choice Least file s) (laid_as plan s) laid made in
+      let chosen = chose.0 in
+      let planned = then_ok (plan s.class (needs_of chosen s)) (λ placed. Ok (laid_by chosen placed)) laid chose.2 in
+      let placed = planned.0 in
+      let same : laid_by chosen placed ≡ laid = cc in
+      let right = all_right Least file s chosen chose.1 in
+      let fitting = is_planning.fitting chosen s (surveyed-placed file most_frames s (survey_of-parts file most_frames s is).1) right.some right.within placed planned.1 in
+      subst (λ (l : Laid). HoldsStream (file_laid l file s) (stream_laid l file s)) same (laid-holds (laid_by chosen placed) file s is right.some right.within fitting right.extension)
+
+  made_stream : (file : List ℕ) (s : SurveyFields) (new : List ℕ) → survey_of file most_frames ≡ Ok s → packing plan file s ≡ Ok new → HoldsStream new (stream_with file s (packed plan file s))
+  made_stream file s new is made =
+      let parts = then_ok (packed plan file s) (λ laid. Ok (file_laid laid file s)) new made in
+      let same : file_laid parts.0 file s ≡ new = cc in
+      subst (λ (r : Result Laid EditFault). HoldsStream new (stream_with file s r)) (sym parts.1)
+      (subst (λ (n : List ℕ). HoldsStream n (stream_laid parts.0 file s)) same (packed_holds file s parts.0 is parts.1))
+
+  pub packing_proper : IsProperMaking (packing plan) (packed_stream plan)
+  packing_proper = record {
+    late = packing_late;
+    streams = λ file s new all is made.
+        subst (λ (r : Result SurveyFields SurveyFault). HoldsStream new (stream_by plan file r)) (sym is) (made_stream file s new is made);
+  }
+
+  pub packed_proper : (refuses : Refusal → Bool) (input : List ℕ) → IsProper (packed_task plan refuses input)
+  packed_proper refuses input = file_proper (packing plan) (packed_stream plan) packing_proper refuses input
+
+rates_planning : (rates : Rates) → IsPlanning (rates_plan rates)
+rates_planning rates = record {
+  late = rates-late rates;
+  fitting = λ chosen s well some within placed planned. (chosen-fitting chosen s well some within rates placed planned).fitting;
+}
+
+pub rates_proper : (rates : Rates) (input : List ℕ) → IsProper (rates_task rates input)
+rates_proper rates input = packed_proper (rates_plan rates) (rates_planning rates) (rates_refuse rates) input
+
+pub work_makes : (plan : Planning) (refuses : Refusal → Bool) (input : List ℕ) (work : Work) (files : Files) → IsReady input plan work files → IsMaking (packed_task plan refuses input) (packed_file work) files
+work_makes plan refuses input work files ready =
+    file_makes (packing plan) (packed_stream plan) refuses input files (packed_file work) (tells work.survey) ready.there ready.surveyed ready.octets
+    (λ bytes holds. ap (λ r. then_made r (λ laid. Ok (file_laid laid bytes (tells work.survey)))) (ready.planned bytes holds))
+
+-- ---- before the output is created
+
+-- what was as before is as it was
+pub input_moved : (make : Making) (name : List ℕ) (before old new : Seen) (fault : EditFault) → before ≡ old → IsInputFault make name before new fault → IsInputFault make name old new fault
+input_moved make name before old new fault same is = subst (λ o. IsInputFault make name o new fault) same is
+
+-- the input was surveyed, its frames were chosen, and there is no plan of them
+module _ (rates : Rates) (name : List ℕ) (old new : Seen) (s : SurveyFields) (chosen : Chosen) (there : IsThere old.files name) (surveyed : (bytes : List ℕ) → Holds old.files name bytes → survey_of bytes most_frames ≡ Ok s)
+    (chose : (bytes : List ℕ) → Holds old.files name bytes → all_choice Least bytes s ≡ Ok chosen) (stays : new ≡ old) where
+  unplanned : (file : List ℕ) (fault : EditFault) → all_choice Least file s ≡ Ok chosen → rates_plan rates s.class (needs_of chosen s) ≡ Err fault → packing (rates_plan rates) file s ≡ Err fault
+  unfolding packed
+  unplanned file fault is none =
+      ap (λ r. then_made (then_made r (laid_as (rates_plan rates) s)) (λ laid. Ok (file_laid laid file s))) is
+      ∙ ap (λ r. then_made (then_made r (λ placed. Ok (laid_by chosen placed))) (λ laid. Ok (file_laid laid file s))) none
+
+  pub plan_is_input : (fault : EditFault) → IsPlanFault rates s.class (needs_of chosen s) fault → IsInputFault (packing (rates_plan rates)) name old new fault
+  plan_is_input (EqualNames place) is = absurd is
+  plan_is_input (Input place fault) is = absurd is
+  plan_is_input (Refused refusal) is = refusal_is_input (packing (rates_plan rates)) name old new s refusal there surveyed (λ bytes holds. unplanned bytes (Refused refusal) (chose bytes holds) is.0) stays
+  plan_is_input (Write place) is = absurd is
+  plan_is_input Sent is = absurd is
+  plan_is_input Memory is = memory_is_input (packing (rates_plan rates)) name old new s there surveyed stays
+
+pub plan_numbers : (rates : Rates) (class : ClassFields) (needs : List Need) (fault : EditFault) → IsPlanFault rates class needs fault → IsOfInput (rates_refuse rates) fault
+plan_numbers rates class needs (EqualNames place) is = absurd is
+plan_numbers rates class needs (Input place fault) is = absurd is
+plan_numbers rates class needs (Refused refusal) is = is.1
+plan_numbers rates class needs (Write place) is = absurd is
+plan_numbers rates class needs Sent is = absurd is
+plan_numbers rates class needs Memory is = tt
+
+-- the frames that were chosen have their plan
+pub planned_is : (rates : Rates) (file : List ℕ) (s : SurveyFields) (chosen : Chosen) (placed : List Placed) → all_choice Least file s ≡ Ok chosen → rates_plan rates s.class (needs_of chosen s) ≡ Ok placed
+    → packed (rates_plan rates) file s ≡ Ok (laid_by chosen placed)
+unfolding packed
+planned_is rates file s chosen placed is planned =
+    ap (λ r. then_made r (laid_as (rates_plan rates) s)) is ∙ ap (λ r. then_made r (λ placed. Ok (laid_by chosen placed))) planned

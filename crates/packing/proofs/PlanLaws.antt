@@ -1,0 +1,246 @@
+-- The plan with the slots of some bit rates: it can be laid, and up from a bit rate on there is always one.
+use Rattle.std.proofs.Common.{◌≡◌, ℕ, zero, suc, ◌+◌, ◌-◌, ◌==◌, cond, get_or, append-nil, rules, ◌<◌, ◌≤◌, Bool, true, false, List, [], ◌∷◌, length, map, drop, All, Contains, Some, None, Result, Ok, Err, refl, sym, ◌∙◌, ap, subst, arith, length-drop}
+use Rattle.std.specs.Prelude.{IfOk, IfErr, MatchResult, slice_range}
+use Rattle.std.proofs.lemmas.List.{length-map, length-take}
+use Rattle.frame_header.specs.Fields.{SlotFields, ClassFields, IsSlot, IsClass}
+use Rattle.frame_header.specs.Tables.{window_of}
+use Rattle.frame_header.proofs.HeaderLaws.{IsClass-class_of}
+use Rattle.slot_plan.specs.declared.needs.Need.{Need}
+use Rattle.slot_plan.specs.declared.needs.Placed.{Placed}
+use Rattle.slot_plan.specs.Parts.{Item, item_of, AreOfClass, AreOfOneClass, window_in}
+use Rattle.slot_plan.specs.Plans.{AreFor, entries}
+use Rattle.slot_plan.specs.declared.needs.Plan.{Plan}
+use Rattle.part_needs.specs.Needs.{need_of, needs_of as needs_of_parts}
+use Rattle.part_needs.specs.Fit.{IsPlaced}
+use Rattle.part_needs.proofs.FitLaws.{AreKnown, part-fits, part-known}
+use Rattle.rate_plan.specs.Menus.{from_menu, items_from, AreAscending, IsMenu, IsMenuPlan, IsUnfit, Refuses}
+use Rattle.rate_plan.specs.declared.fault.RateFault.{RateFault}
+use Rattle.rate_plan.specs.declared.fault.RateFault.TheVariants.{Unfit, Memory as NoMemory}
+use Rattle.rate_plan.specs.MenuPlan.{menu_plan}
+use Rattle.rate_plan.proofs.OneMenuPlan.{menu_plan-is}
+use Rattle.rate_plan.proofs.LargestLaw.{largest-fits}
+use Rattle.laying.specs.Fits.{IsFitting}
+use Rattle.laying.proofs.FitLaws.{Asks, items-fit, asks-each}
+use Rattle.sync_survey.specs.declared.rows.Row.{Row}
+use Rattle.sync_survey.specs.Faults.{SurveyFields}
+use Rattle.commands.specs.declared.fault.EditFault.TheVariants.{Refused}
+use Rattle.commands.specs.declared.fault.Refusal.{Refusal}
+use Rattle.commands.specs.declared.fault.Refusal.TheVariants.{NoRate, Unfit as UnfitFrame}
+use Rattle.commands.specs.Left.{IsLate}
+use Rattle.commands.specs.Refusing.{unless, then_made}
+use Rattle.commands.proofs.RefusingLaws.{unless_late, unless_ok, then_late, then_ok}
+use Rattle.frame_edits.specs.Chosen.{Chosen, chosen_rows}
+use Rattle.frame_edits.proofs.LaidLaws.{AreOpen, open-in_slots}
+use Rattle.packing.specs.declared.mode.Rates.{Rates}
+use Rattle.packing.specs.declared.mode.Rates.TheVariants.{Only, From}
+use Rattle.packing.specs.Packing.{needs_of}
+use Rattle.packing.specs.Rates.{named, is_rate, menu_in, no_rate, fitted, rates_plan, rates_refuse, of_rate, IsMenuFault, IsPlanFault}
+use Rattle.packing.proofs.MenuLaws.{menu-ascends, menu-slots, menu-some, floor-largest}
+
+-- ---- from a menu
+
+asks-from : (lead_in : Bool) (menu : List SlotFields) (needs : List Need) → Asks (items_from lead_in menu needs) needs
+unfolding items_from
+asks-from false menu needs = asks-each (from_menu menu) needs
+asks-from true menu [] = tt
+asks-from true menu (first ∷ needs) = ((refl, refl, refl), asks-each (from_menu menu) (first ∷ needs))
+
+module _ (menu : List SlotFields) (slots : (slot : SlotFields) → Contains menu slot → IsSlot slot) where
+  open-needs : (needs : List Need) → AreOpen (map (item_of (from_menu menu)) needs)
+  open-needs [] = tt
+  open-needs (need ∷ needs) = (slots, open-needs needs)
+
+  open-from : (lead_in : Bool) (needs : List Need) → AreOpen (items_from lead_in menu needs)
+  unfolding items_from
+  open-from false needs = open-needs needs
+  open-from true [] = tt
+  open-from true (first ∷ needs) = (slots, open-needs (first ∷ needs))
+
+from-length : (lead_in : Bool) (menu : List SlotFields) (needs : List Need) → length (items_from lead_in menu needs) ≤ length needs + 1
+unfolding items_from
+from-length false menu needs = omega (arith, length-map needs (item_of (from_menu menu)))
+from-length true menu [] = omega arith
+from-length true menu (first ∷ needs) = omega (arith, length-map needs (item_of (from_menu menu)))
+
+for-length : (items : List Item) (placed : List Placed) → AreFor items placed → length placed ≡ length items
+unfolding AreFor
+for-length [] [] for_items = refl
+for-length [] (p ∷ placed) for_items = absurd for_items
+for-length (item ∷ items) [] for_items = absurd for_items
+for-length (item ∷ items) (p ∷ placed) for_items = ap suc (for-length items placed for_items.2)
+
+-- by it frames can be laid, with at most one lead-in
+pub record IsFittingFew (window : ℕ) (needs : List Need) (placed : List Placed) : Type 0 where
+  pub fitting : IsFitting window needs placed
+  pub few : length placed ≤ length needs + 1
+
+menu-fitting : (window : ℕ) (menu : List SlotFields) (needs : List Need) (placed : List Placed) → ((slot : SlotFields) → Contains menu slot → IsSlot slot) → IsMenuPlan window menu needs placed → IsFittingFew window needs placed
+menu-fitting window menu needs placed slots is =
+    let whole = is.whole in
+    let items = items_from is.lead_in menu needs in
+    record {
+      fitting = record {
+        fits = items-fit window items needs placed (asks-from is.lead_in menu needs) whole.slots whole.least.feasible whole.begins;
+        slots = open-in_slots items placed (open-from menu slots is.lead_in needs) whole.slots;
+      };
+      few = omega (arith, for-length items placed whole.slots, from-length is.lead_in menu needs);
+    }
+
+-- ---- with the slots of some bit rates
+
+fitted-ok : (r : Result (List Placed) ℕ) (placed : List Placed) → fitted r ≡ Ok placed → r ≡ Ok placed
+fitted-ok (Ok first) placed is = cc
+fitted-ok (Err i) placed is = absurd cc
+
+fitted-late : (r : Result (List Placed) ℕ) → IfErr (fitted r) IsLate
+fitted-late (Ok placed) = tt
+fitted-late (Err i) = refl
+
+pub rates-late : (rates : Rates) (class : ClassFields) (needs : List Need) → IfErr (rates_plan rates class needs) IsLate
+rates-late rates class needs =
+    then_late (unless (no_rate rates class) (menu_in rates class)) (λ menu. fitted (menu_plan (window_of class.version) menu needs)) (unless_late (no_rate rates class) (menu_in rates class))
+    (λ menu. fitted-late (menu_plan (window_of class.version) menu needs))
+
+pub rates-fitting : (rates : Rates) (class : ClassFields) (needs : List Need) (placed : List Placed) → IsClass class → AreOfClass class needs → 1 ≤ length needs → rates_plan rates class needs ≡ Ok placed
+    → IsFittingFew (window_of class.version) needs placed
+rates-fitting rates class needs placed sound same some planned =
+    let window = window_of class.version in
+    let made = then_ok (unless (no_rate rates class) (menu_in rates class)) (λ menu. fitted (menu_plan window menu needs)) placed planned in
+    let ok = unless_ok (no_rate rates class) (menu_in rates class) made.0 made.1 in
+    let is : menu_plan window (menu_in rates class) needs ≡ Ok placed = fitted-ok (menu_plan window (menu_in rates class) needs) placed (ap (λ menu. fitted (menu_plan window menu needs)) ok.1 ∙ made.2) in
+    menu-fitting window (menu_in rates class) needs placed (menu-slots rates class)
+    (((menu_plan-is window class (menu_in rates class) needs same some (menu-ascends rates class sound) (menu-some rates class ok.0)).0 placed).1 is)
+
+-- ---- what the planner answers
+
+one-class : (class : ClassFields) (needs : List Need) → AreOfClass class needs → AreOfOneClass needs
+unfolding AreOfClass
+one-class class [] same = tt
+one-class class (first ∷ needs) same = subst (λ c. AreOfClass c needs) (sym same.0) same.1
+
+window-is : (class : ClassFields) (needs : List Need) → AreOfClass class needs → 1 ≤ length needs → window_in needs ≡ window_of class.version
+unfolding AreOfClass
+window-is class [] same some = absurd (omega (arith, some))
+window-is class (first ∷ needs) same some = ap (λ (c : ClassFields). window_of c.version) same.0
+
+is-menu : (class : ClassFields) (menu : List SlotFields) (needs : List Need) → AreOfClass class needs → AreAscending class menu → IsMenu menu needs
+unfolding AreOfClass
+is-menu class menu [] same ascend = tt
+is-menu class menu (first ∷ needs) same ascend = subst (λ c. AreAscending c menu) (sym same.0) ascend
+
+-- what the planner is given of frames
+pub needs-one : (rows : List Row) → needs_of_parts (rows ∷ []) ≡ map need_of rows
+unfolding needs_of_parts
+needs-one rows = append-nil (map need_of rows)
+
+module _ (class : ClassFields) (menu : List SlotFields) (needs given : List Need) (is : given ≡ needs) (same : AreOfClass class needs) (ascend : AreAscending class menu) where
+  pub given-class : AreOfOneClass given
+  given-class = subst AreOfOneClass (sym is) (one-class class needs same)
+
+  pub given-menu : IsMenu menu given
+  given-menu = subst (IsMenu menu) (sym is) (is-menu class menu needs same ascend)
+
+  module _ (some : 1 ≤ length needs) (slots : 1 ≤ length menu) where
+    abbrev Says : Result Plan RateFault → Type 0
+    Says r = MatchResult r (λ plan. menu_plan (window_of class.version) menu needs ≡ Ok (entries plan)) (IsMenuFault (menu_plan (window_of class.version) menu needs))
+
+    law : ((placed : List Placed) → IsMenuPlan (window_in needs) menu needs placed → menu_plan (window_of class.version) menu needs ≡ Ok placed)
+        × ((i : ℕ) → IsUnfit (window_in needs) menu needs i → menu_plan (window_of class.version) menu needs ≡ Err i)
+    law =
+        let window = window_is in
+        let laws = menu_plan-is (window_of class.version) class menu needs same some ascend slots in (
+          (λ placed plan. (laws.0 placed).0 (subst (λ w. IsMenuPlan w menu needs placed) window plan)),
+          (λ i unfit. (laws.1 i).0 (subst (λ w. IsUnfit w menu needs i) window unfit)),
+        )
+      where
+        window_is : window_in needs ≡ window_of class.version
+        window_is = window-is class needs same some
+
+    pub planner-says : (r : Result Plan RateFault) → IfOk r (λ plan. IsMenuPlan (window_in given) menu given (entries plan)) → IfErr r (Refuses (window_in given) menu given) → Says r
+    planner-says (Ok plan) ok err = law.0 (entries plan) (subst (λ n. IsMenuPlan (window_in n) menu n (entries plan)) is ok)
+    planner-says (Err (Unfit i)) ok err = law.1 i (subst (λ n. IsUnfit (window_in n) menu n i) is err)
+    planner-says (Err NoMemory) ok err = tt
+
+-- ---- chosen frames
+
+class-sound : (class : ClassFields) (rows : List Row) → AreKnown rows → AreOfClass class (map need_of rows) → 1 ≤ length rows → IsClass class
+unfolding AreOfClass
+class-sound class [] known same some = absurd (omega (arith, some))
+class-sound class (r ∷ rows) known same some = subst IsClass same.0 (IsClass-class_of r.header known.0)
+
+known-slots : (rows : List Row) → AreKnown rows → All (λ need. IsSlot need.header.slot) (map need_of rows)
+known-slots [] known = λ k d within. absurd (omega (arith, within))
+known-slots (r ∷ rows) known = λ k d within. at k d within (known-slots rows known.1)
+  where
+    at : (k : ℕ) (d : Need) → k < suc (length (map need_of rows)) → All (λ need. IsSlot need.header.slot) (map need_of rows) → IsSlot (get_or (need_of r ∷ map need_of rows) k d).header.slot
+    at zero d within rest = known.0.slot
+    at (suc k) d within rest = rest k d (omega (arith, within))
+
+rate-same : (n : ℕ) → (n == n) ≡ true
+rate-same n = search rules
+
+named-refused : (rates : Rates) (class : ClassFields) (refusal : Refusal) → no_rate rates class ≡ Some refusal → rates_refuse rates refusal ≡ true
+named-refused rates class refusal is = at (is_rate (named rates) class) is
+  where
+    at : (b : Bool) → cond b None (Some (NoRate (named rates))) ≡ Some refusal → rates_refuse rates refusal ≡ true
+    at true e = absurd cc
+    at false e = let same : NoRate (named rates) ≡ refusal = cc in subst (λ r. rates_refuse rates r ≡ true) same (rate-same (named rates))
+
+module _ (chosen : Chosen) (s : SurveyFields) (placed : IsPlaced s) (some : chosen.from < chosen.to) (within : chosen.to ≤ length s.frames) where
+  pub rows-some : 1 ≤ length (chosen_rows chosen s)
+  rows-some = omega (arith, some, within, length-drop chosen.from s.frames, length-take (chosen.to - chosen.from) (drop chosen.from s.frames))
+
+  pub rows-few : length (chosen_rows chosen s) ≤ length s.frames
+  rows-few = omega (arith, length-drop chosen.from s.frames, length-take (chosen.to - chosen.from) (drop chosen.from s.frames))
+
+  pub rows-same : AreOfClass s.class (needs_of chosen s)
+  rows-same = (part-fits s chosen.from chosen.to placed).0
+
+  pub rows-sound : IsClass s.class
+  rows-sound = class-sound s.class (chosen_rows chosen s) (part-known s chosen.from chosen.to placed) rows-same rows-some
+
+  needs-some : 1 ≤ length (needs_of chosen s)
+  needs-some = omega (arith, rows-some, length-map (chosen_rows chosen s) need_of)
+
+  pub chosen-fitting : (rates : Rates) (plan : List Placed) → rates_plan rates s.class (needs_of chosen s) ≡ Ok plan → IsFittingFew (window_of s.class.version) (needs_of chosen s) plan
+  chosen-fitting rates plan planned = rates-fitting rates s.class (needs_of chosen s) plan rows-sound rows-same needs-some planned
+
+  known : AreKnown (chosen_rows chosen s)
+  known = part-known s chosen.from chosen.to placed
+
+  -- up from a bit rate on no frame is unfit
+  never-unfit : (rate i : ℕ) → no_rate (From rate) s.class ≡ None → menu_plan (window_of s.class.version) (menu_in (From rate) s.class) (needs_of chosen s) ≡ Err i → ⊥
+  never-unfit rate i none is =
+      let menu = menu_in (From rate) s.class in
+      let unfit = ((menu_plan-is (window_of s.class.version) s.class menu (needs_of chosen s) rows-same needs-some (menu-ascends (From rate) s.class rows-sound) (menu-some (From rate) s.class none)).1 i).1 is in
+      largest-fits s.class menu (needs_of chosen s) i rows-sound rows-same (known-slots (chosen_rows chosen s) known) (floor-largest rate s.class none) (part-fits s chosen.from chosen.to placed).1 unfit
+
+  refuses-unfit : (rates : Rates) (i : ℕ) → no_rate rates s.class ≡ None → menu_plan (window_of s.class.version) (menu_in rates s.class) (needs_of chosen s) ≡ Err i → rates_refuse rates (UnfitFrame i) ≡ true
+  refuses-unfit (Only rate) i none is = refl
+  refuses-unfit (From rate) i none is = absurd (never-unfit rate i none is)
+
+  plan-by : (rates : Rates) → no_rate rates s.class ≡ None → rates_plan rates s.class (needs_of chosen s) ≡ fitted (menu_plan (window_of s.class.version) (menu_in rates s.class) (needs_of chosen s))
+  plan-by rates none = ap (λ o. then_made (unless o (menu_in rates s.class)) (λ menu. fitted (menu_plan (window_of s.class.version) menu (needs_of chosen s)))) none
+
+  pub plan-is : (rates : Rates) (plan : List Placed) → no_rate rates s.class ≡ None → menu_plan (window_of s.class.version) (menu_in rates s.class) (needs_of chosen s) ≡ Ok plan → rates_plan rates s.class (needs_of chosen s) ≡ Ok plan
+  plan-is rates plan none is = plan-by rates none ∙ ap fitted is
+
+  pub plan-fault : (rates : Rates) (fault : RateFault) → no_rate rates s.class ≡ None → IsMenuFault (menu_plan (window_of s.class.version) (menu_in rates s.class) (needs_of chosen s)) fault
+      → IsPlanFault rates s.class (needs_of chosen s) (of_rate fault)
+  plan-fault rates (Unfit i) none is = (plan-by rates none ∙ ap fitted is, refuses-unfit rates i none is)
+  plan-fault rates NoMemory none is = tt
+
+  -- by what the code has of class, menu and frames
+  module _ (rates : Rates) (class : ClassFields) (menu : List SlotFields) (frames : List Row) (class_is : class ≡ s.class) (menu_is : menu ≡ menu_in rates class) (frames_are : frames ≡ s.frames) (none : no_rate rates class ≡ None) where
+    pub menu-fault : (fault : RateFault) → IsMenuFault (menu_plan (window_of class.version) menu (map need_of (slice_range frames chosen.from chosen.to))) fault → IsPlanFault rates s.class (needs_of chosen s) (of_rate fault)
+    menu-fault fault is =
+        plan-fault rates fault (subst (λ k. no_rate rates k ≡ None) class_is none)
+        (subst (λ (k : ClassFields). IsMenuFault (menu_plan (window_of k.version) (menu_in rates k) (needs_of chosen s)) fault) class_is
+        (subst (λ m. IsMenuFault (menu_plan (window_of class.version) m (needs_of chosen s)) fault) menu_is
+        (subst (λ l. IsMenuFault (menu_plan (window_of class.version) menu (map need_of (slice_range l chosen.from chosen.to))) fault) frames_are is)))
+
+  pub rate-fault : (rates : Rates) (refusal : Refusal) → no_rate rates s.class ≡ Some refusal → IsPlanFault rates s.class (needs_of chosen s) (Refused refusal)
+  rate-fault rates refusal is = (
+    ap (λ o. then_made (unless o (menu_in rates s.class)) (λ menu. fitted (menu_plan (window_of s.class.version) menu (needs_of chosen s)))) is,
+    named-refused rates s.class refusal is,
+  )

@@ -1,0 +1,12 @@
+-- The slots so far that are allowed.
+use Rattle.std.proofs.Common.{◌≡◌, ◌≤◌, take}
+use Rattle.std.specs.Prelude.{filter}
+use Rattle.arrayvec.specs.ArrayVec.{array_vec_len}
+use Rattle.packing.specs.Rates.{allows}
+use Rattle.packing.proofs.menu.allowed_of.Given as goal
+
+abbrev pub invariant-loop-slot : goal.invariant-loop-slot
+invariant-loop-slot l = record {
+  items : l.menu.items ≡ filter (allows l.rates l.class) (take l.slot-index l.slots);
+  count : array_vec_len l.menu ≤ l.slot-index;
+}

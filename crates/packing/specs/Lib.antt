@@ -1,0 +1,5 @@
+-- What the contracts of this crate cite.
+pub mod Packing
+pub mod Rates
+pub mod Modes
+pub mod Ready

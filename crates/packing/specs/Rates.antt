@@ -1,0 +1,71 @@
+-- The slots of some bit rates, and the plan with these alone.
+use Rattle.std.specs.Prelude.{◌≡◌, ℕ, ◌==◌, leb, nat_lt, if◌then◌else◌, Bool, true, false, List, length, filter, Option, Some, None, Result, Ok, Err}
+use Rattle.frame_header.specs.Fields.{SlotFields, ClassFields}
+use Rattle.frame_header.specs.Tables.{window_of, rate_of}
+use Rattle.frame_header.specs.Slots.{all_slots}
+use Rattle.slot_plan.specs.declared.needs.Need.{Need}
+use Rattle.slot_plan.specs.declared.needs.Placed.{Placed}
+use Rattle.rate_plan.specs.MenuPlan.{menu_plan}
+use Rattle.rate_plan.specs.declared.fault.RateFault.{RateFault}
+use Rattle.rate_plan.specs.declared.fault.RateFault.TheVariants.{Unfit as UnfitFrame, Memory as NoMemory}
+use Rattle.commands.specs.declared.fault.EditFault.{EditFault}
+use Rattle.commands.specs.declared.fault.EditFault.TheVariants.{Refused, Memory}
+use Rattle.commands.specs.declared.fault.Refusal.{Refusal}
+use Rattle.commands.specs.declared.fault.Refusal.TheVariants.{NoRate, Unfit}
+use Rattle.commands.specs.Refusing.{unless, then_made}
+use Rattle.packing.specs.declared.mode.Rates.{Rates}
+use Rattle.packing.specs.declared.mode.Rates.TheVariants.{Only, From}
+
+-- the bit rate that is named
+abbrev pub named : Rates → ℕ
+named (Only rate) = rate
+named (From rate) = rate
+
+-- the slot has a bit rate that is allowed
+abbrev pub allows : Rates → ClassFields → SlotFields → Bool
+allows (Only rate) class slot = rate_of class slot == rate
+allows (From rate) class slot = leb rate (rate_of class slot)
+
+-- the menu: the slots that are allowed, in the order of their areas
+abbrev pub menu_in : Rates → ClassFields → List SlotFields
+menu_in rates class = filter (allows rates class) all_slots
+
+-- a slot of the class has this bit rate
+abbrev pub is_rate : ℕ → ClassFields → Bool
+is_rate rate class = nat_lt 0 (length (menu_in (Only rate) class))
+
+-- what is named isn't a bit rate of the class
+abbrev pub no_rate : Rates → ClassFields → Option Refusal
+no_rate rates class = if is_rate (named rates) class then None else Some (NoRate (named rates))
+
+-- the plan, or the first unfit frame
+abbrev pub fitted : Result (List Placed) ℕ → Result (List Placed) EditFault
+fitted (Ok placed) = Ok placed
+fitted (Err i) = Err (Refused (Unfit i))
+
+-- The plan from the menu (the law `menu_plan_is_the_plan` says which that is), or why there is none.
+abbrev pub rates_plan : Rates → ClassFields → List Need → Result (List Placed) EditFault
+rates_plan rates class needs = then_made (unless (no_rate rates class) (menu_in rates class)) (λ menu. fitted (menu_plan (window_of class.version) menu needs))
+
+-- With one bit rate alone a frame may be unfit; up from one on none is.
+abbrev pub rates_refuse : Rates → Refusal → Bool
+rates_refuse rates (NoRate rate) = rate == named rates
+rates_refuse (Only rate) (Unfit i) = true
+rates_refuse (From rate) (Unfit i) = false
+rates_refuse rates _ = false
+
+-- that of the planner as one of a command
+abbrev pub of_rate : RateFault → EditFault
+of_rate (UnfitFrame i) = Refused (Unfit i)
+of_rate NoMemory = Memory
+
+-- what a refusal of the planner says
+abbrev pub IsMenuFault : Result (List Placed) ℕ → RateFault → Type 0
+IsMenuFault r (UnfitFrame i) = r ≡ Err i
+IsMenuFault r NoMemory = Unit {0}
+
+-- the fault of the plan: it has none, or there was no memory
+abbrev pub IsPlanFault : Rates → ClassFields → List Need → EditFault → Type 0
+IsPlanFault rates class needs (Refused refusal) = (rates_plan rates class needs ≡ Err (Refused refusal)) × (rates_refuse rates refusal ≡ true)
+IsPlanFault rates class needs Memory = Unit {0}
+IsPlanFault rates class needs _ = ⊥

@@ -1,0 +1,82 @@
+//! The command `pack` over a folder, in each of its modes.
+ghost use Rattle.std.specs.Prelude.{◌≡◌, ◌↔◌, ℕ, Some, IfErr, OnOk, IsErrOf};
+ghost use Rattle.outside.specs.Counts.{NoneFell};
+ghost use Rattle.commands.specs.Command.{HoldsStreams, clash_of};
+ghost use Rattle.commands.specs.Left.{seen, IsDone, Leaves, HasNumbers};
+ghost use Rattle.commands.specs.One.{one_command};
+ghost use Rattle.packing.specs.Modes.{rates_task, pack_mode_command};
+
+use crate::edit::RatesEdit;
+use crate::mode::{PackMode, Rates};
+use commands::{EditFault, make_one};
+use frame_edits::pack;
+use outside::Folder;
+use std::alloc::Global;
+
+/// Packs with slots of some bit rates alone.
+fn pack_rates<D: Folder>(
+    alloc: Global,
+    folder: &mut D,
+    input: &str,
+    output: &str,
+    rates: Rates,
+) -> Result<(), EditFault>
+    ensures done { OnOk result (IsDone (one_command (rates_task rates input.now) output.now)
+        (seen (D.files folder.old) (D.counts folder.old))
+        (seen (D.files folder.new) (D.counts folder.new))) }
+    ensures left { IfErr result (Leaves (one_command (rates_task rates input.now) output.now)
+        (seen (D.files folder.old) (D.counts folder.old))
+        (seen (D.files folder.new) (D.counts folder.new))) }
+    ensures numbers { IfErr result (HasNumbers
+        (one_command (rates_task rates input.now) output.now)) }
+    ensures names { (place : ℕ) → IsErrOf result (EditFault.EqualNames place)
+        ↔ (clash_of (one_command (rates_task rates input.now) output.now) ≡ Some place) }
+    ensures streams { OnOk result (HoldsStreams
+        (one_command (rates_task rates input.now) output.now) (D.files folder.old)) }
+    ensures counts { NoneFell (D.counts folder.old) (D.counts folder.new) }
+{
+    make_one(alloc, folder, &RatesEdit { input, rates }, output)
+}
+
+/// Writes the output, which is all frames of the input, each with the least bit rate and padding that the mode allows and with
+/// which all main data have room (ISO/IEC 11172-3, 2.4.2.7): its ID3v2 blocks that stand in front of the first frame, an
+/// Info frame with the quality and extension of the input's, the frames, and all other blocks. A lead-in, one empty frame,
+/// stands in front where the main data have no room without it.
+///
+/// Refuses, in this order: `EqualNames(0)` where the names are equal, byte for byte; `Input(0, ..)` with the fault of the
+/// survey of the input, of which 2,900,000 frames are allowed; `NoRate` with the bit rate of the mode where it isn't one of
+/// the input's class; `Unfit` with the first frame up to which the main data have no room, even behind a lead-in.
+/// `PackMode::Least` is never refused these two, and `PackMode::Floor` is never `Unfit`. Then nothing was created.
+///
+/// `Input` with `Read` and `Write(0)` come only where a call of that kind failed, `Input` with `Absent` only where the input
+/// isn't there, and every other answer only where none failed; after `Write(0)` the output is as it was or
+/// holds a prefix of its bytes. `Memory` may come once the input was found with a length that it may have,
+/// before the output is created, and not from then on.
+pub fn pack_with<D: Folder>(
+    alloc: Global,
+    folder: &mut D,
+    input: &str,
+    output: &str,
+    mode: &PackMode,
+) -> Result<(), EditFault>
+    ensures done { OnOk result (IsDone (pack_mode_command mode.now input.now output.now)
+        (seen (D.files folder.old) (D.counts folder.old))
+        (seen (D.files folder.new) (D.counts folder.new))) }
+    ensures left { IfErr result (Leaves (pack_mode_command mode.now input.now output.now)
+        (seen (D.files folder.old) (D.counts folder.old))
+        (seen (D.files folder.new) (D.counts folder.new))) }
+    // Over a folder that tells nothing too.
+    ensures numbers { IfErr result (HasNumbers (pack_mode_command mode.now input.now output.now)) }
+    ensures names { (place : ℕ) → IsErrOf result (EditFault.EqualNames place)
+        ↔ (clash_of (pack_mode_command mode.now input.now output.now) ≡ Some place) }
+    // The input is well-formed, and the output holds its stream.
+    ensures streams { OnOk result (HoldsStreams (pack_mode_command mode.now input.now output.now)
+        (D.files folder.old)) }
+    ensures counts { NoneFell (D.counts folder.old) (D.counts folder.new) }
+{
+    match *mode {
+        PackMode::Least => pack(alloc, folder, input, output),
+        PackMode::Constant(rate) => pack_rates(alloc, folder, input, output, Rates::Only(rate)),
+        PackMode::Floor(rate) => pack_rates(alloc, folder, input, output, Rates::From(rate)),
+    }
+}

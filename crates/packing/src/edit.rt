@@ -1,0 +1,76 @@
+//! Packing with slots of some bit rates as a case of the one body.
+ghost use Rattle.packing.specs.Modes.{rates_task};
+ghost use Rattle.packing.specs.Rates.{rates_plan};
+ghost use Rattle.packing.specs.Ready.{IsReady as IsReadyWork, packed_file};
+
+use crate::mode::Rates;
+use crate::plans::plan_packed;
+use commands::{Edit, EditFault, survey_input};
+use frame_edits::{Selection, Slots, all_choice, write_laid};
+use laying::{Buffers, Relay};
+use outside::{Folder, Pass, PassFault};
+use std::alloc::Global;
+use sync_survey::Survey;
+
+/// An input that is packed with slots of some bit rates.
+#[derive(Clone, Copy)]
+pub struct RatesEdit<'a> {
+    pub input: &'a str,
+    pub rates: Rates,
+}
+
+/// What is known of the input, all its frames with their plan, and the memory of the pass.
+#[derive(Drop)]
+pub struct Work {
+    survey: Survey,
+    selection: Selection,
+    buffers: Buffers,
+}
+
+impl<'a> Edit for RatesEdit<'a> {
+    type Work = Work;
+
+    ghost task = { λ edit. rates_task edit.rates edit.input.now };
+
+    ghost IsLegal = { λ edit. Unit {0} };
+
+    ghost file_of = { λ work. packed_file work };
+
+    ghost IsReady = { λ edit work files.
+        IsReadyWork edit.input.now (rates_plan edit.rates) work files };
+
+    fn clash(&self, output: &str) -> Option<u32> {
+        if self.input == output { Some(0) } else { None }
+    }
+
+    fn prepare<D: Folder>(&self, alloc: Global, folder: &mut D) -> Result<Work, EditFault> {
+        let survey = survey_input(alloc, folder, self.input)?;
+        let chosen = all_choice(folder, self.input, &survey, Slots::Least)?;
+        let planned = plan_packed(alloc, &survey, &chosen, self.rates)?;
+        let buffers = Buffers::new(alloc, survey.class())?;
+        Ok(Work {
+            survey,
+            selection: Selection { chosen, planned },
+            buffers,
+        })
+    }
+
+    fn write<D: Folder>(
+        &self,
+        folder: &mut D,
+        output: &str,
+        work: &mut Work,
+    ) -> Result<(), PassFault> {
+        let Work {
+            survey,
+            selection,
+            buffers,
+        } = work;
+        let pass = Pass {
+            input: self.input,
+            output,
+            length: survey.length(),
+        };
+        write_laid(folder, &Relay { pass, survey }, selection, buffers)
+    }
+}

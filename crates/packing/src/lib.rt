@@ -1,0 +1,12 @@
+//! Packing with bounds: all frames of a file in slots of some bit rates alone.
+#![tactic(auto)]
+
+mod calls;
+mod edit;
+mod menu;
+mod mode;
+mod plans;
+
+pub use calls::pack_with;
+pub use edit::{RatesEdit, Work};
+pub use mode::{PackMode, Rates};

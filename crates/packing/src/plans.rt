@@ -1,0 +1,127 @@
+//! The plan of all frames of a file with slots of some bit rates, and the Info frame in front of them.
+ghost use Rattle.std.specs.Prelude.{◌≡◌, ◌<◌, ◌≤◌, ℕ, List, length, map, Ok, IfOk, IfErr, MatchResult};
+ghost use Rattle.frame_header.specs.Tables.{window_of};
+ghost use Rattle.slot_plan.specs.Parts.{AreOfClass};
+ghost use Rattle.slot_plan.specs.Plans.{entries};
+ghost use Rattle.part_needs.specs.Needs.{need_of};
+ghost use Rattle.rate_plan.specs.Menus.{AreAscending};
+ghost use Rattle.rate_plan.specs.MenuPlan.{menu_plan};
+ghost use Rattle.sync_survey.specs.Faults.{tells};
+ghost use Rattle.sync_survey.specs.Survey.{survey_of, IsLaidOut};
+ghost use Rattle.commands.specs.One.{most_frames};
+ghost use Rattle.frame_edits.specs.Laid.{IsLaidInfo};
+ghost use Rattle.frame_edits.specs.Chosen.{chosen_in, laid_by};
+ghost use Rattle.laying.specs.Fits.{IsFitting};
+ghost use Rattle.packing.specs.Packing.{needs_of};
+ghost use Rattle.packing.specs.Rates.{no_rate as no_rate_lem, of_rate as of_rate_lem, rates_plan as rates_plan_lem, IsMenuFault, IsPlanFault};
+
+use crate::menu::menu_of;
+use crate::mode::Rates;
+use commands::{EditFault, Refusal};
+use frame_edits::{Chosen, Planned, info_bytes};
+use frame_header::{Class, Slot};
+use part_needs::Parts;
+use rate_plan::{RateFault, rate_plan};
+use slot_plan::Plan;
+use std::alloc::Global;
+use sync_survey::{Row, Survey};
+
+/// `NoRate` where no slot of the class has the bit rate that is named.
+fn no_rate(rates: Rates, class: Class) -> Option<Refusal>
+    ensures { result ≡ no_rate_lem rates class }
+{
+    let rate = match rates {
+        Rates::Only(rate) | Rates::From(rate) => rate,
+    };
+    if menu_of(Rates::Only(rate), class).is_empty() {
+        Some(Refusal::NoRate(rate))
+    } else {
+        None
+    }
+}
+
+/// A fault of the planner as one of a command.
+fn of_rate(fault: RateFault) -> EditFault
+    ensures { result ≡ of_rate_lem fault }
+{
+    match fault {
+        RateFault::Unfit(i) => EditFault::Refused(Refusal::Unfit(i)),
+        RateFault::Memory => EditFault::Memory,
+    }
+}
+
+/// The plan of frames with slots of a menu.
+fn plan_menu(alloc: Global, class: Class, rows: &[Row], menu: &[Slot]) -> Result<Plan, RateFault>
+    requires class { AreOfClass class (map need_of rows.now) }
+    requires some { 1 ≤ length rows.now }
+    requires few { length rows.now ≤ 2900000 }
+    requires slots { 1 ≤ length menu.now }
+    requires ascending { AreAscending class menu.now }
+    ensures { MatchResult result
+        (λ plan. menu_plan (window_of class.version) menu.now (map need_of rows.now)
+        ≡ Ok (entries plan))
+        (IsMenuFault (menu_plan (window_of class.version) menu.now (map need_of rows.now))) }
+{
+    let mut parts = Parts::new(alloc);
+    parts.push(rows)?;
+    rate_plan(alloc, parts.needs(), menu)
+}
+
+/// The plan of chosen frames with slots of some bit rates.
+fn plan_rates(
+    alloc: Global,
+    survey: &Survey,
+    chosen: &Chosen,
+    rates: Rates,
+) -> Result<Plan, EditFault>
+    requires laid { IsLaidOut (tells survey.now) }
+    requires few { length (tells survey.now).frames ≤ 2900000 }
+    requires some { chosen.now.from < chosen.now.to }
+    requires within { chosen.now.to ≤ length (tells survey.now).frames }
+    ensures { MatchResult result
+        (λ plan. rates_plan_lem rates (tells survey.now).class
+        (needs_of (chosen_in chosen.now) (tells survey.now)) ≡ Ok (entries plan))
+        (IsPlanFault rates (tells survey.now).class
+        (needs_of (chosen_in chosen.now) (tells survey.now))) }
+{
+    let class = survey.class();
+    if let Some(refusal) = no_rate(rates, class) {
+        return Err(refusal.into());
+    }
+    let rows = &survey.frames()[chosen.from..chosen.to];
+    let menu = menu_of(rates, class);
+    match plan_menu(alloc, class, rows, menu.as_slice()) {
+        Ok(plan) => Ok(plan),
+        Err(fault) => Err(of_rate(fault)),
+    }
+}
+
+/// The plan of chosen frames with slots of some bit rates, and their Info frame.
+///
+/// # Errors
+/// `NoRate` where the bit rate that is named isn't one of the class; `Unfit` where the frames don't fit; `Memory`.
+pub(crate) fn plan_packed(
+    alloc: Global,
+    survey: &Survey,
+    chosen: &Chosen,
+    rates: Rates,
+) -> Result<Planned, EditFault>
+    requires laid { IsLaidOut (tells survey.now) }
+    requires few { length (tells survey.now).frames ≤ 2900000 }
+    requires some { chosen.now.from < chosen.now.to }
+    requires within { chosen.now.to ≤ length (tells survey.now).frames }
+    ensures plan { IfOk result (λ p. rates_plan_lem rates (tells survey.now).class
+        (needs_of (chosen_in chosen.now) (tells survey.now)) ≡ Ok (entries p.plan)) }
+    ensures fits { IfOk result (λ p. IsFitting (window_of (tells survey.now).class.version)
+        (needs_of (chosen_in chosen.now) (tells survey.now)) (entries p.plan)) }
+    ensures info { IfOk result (λ p. (file : List ℕ)
+        → survey_of file most_frames ≡ Ok (tells survey.now)
+        → IsLaidInfo (laid_by (chosen_in chosen.now) (entries p.plan)) file (tells survey.now)
+        p.info.items) }
+    ensures refused { IfErr result (IsPlanFault rates (tells survey.now).class
+        (needs_of (chosen_in chosen.now) (tells survey.now))) }
+{
+    let plan = plan_rates(alloc, survey, chosen, rates)?;
+    let info = info_bytes(survey, chosen, plan.placed());
+    Ok(Planned { plan, info })
+}
