@@ -11,7 +11,7 @@ use test_files::files::{Stretch, bytes_of};
 
 /// Two frames of MPEG-1, 44,100 Hz, 128 kbit/s, stereo, of 417 bytes with an area of 381. The first has 300 bytes of main
 /// data in its area; those of the second, 400, begin 81 bytes before its own.
-static TWO: [Stretch; 7] = [
+const TWO: &[Stretch] = &[
     Stretch::Bytes(&[0xff, 0xfb, 0x90, 0x00, 0x00, 0x00, 0x09, 0x60]),
     Stretch::Fill(0, 28),
     Stretch::Fill(0x11, 300),
@@ -22,11 +22,11 @@ static TWO: [Stretch; 7] = [
 ];
 
 /// What stands in the output before, and still does where nothing is written.
-static OLD: [Stretch; 1] = [Stretch::Bytes(b"old")];
+const OLD: &[Stretch] = &[Stretch::Bytes(b"old")];
 
 /// A lead-in and two frames of 313 bytes with areas of 277: without the lead-in the main data have no room. The first main
 /// data begin with the lead-in's area, the second 254 bytes before their frame's own.
-static ALL_OF_96: [Stretch; 18] = [
+const ALL_OF_96: &[Stretch] = &[
     Stretch::Bytes(&[0xff, 0xfb, 0x50, 0x00]),
     Stretch::Fill(0, 32),
     Stretch::Bytes(b"Info\0\0\0\x0f\0\0\0\x03\0\0\x04\x7b"),
@@ -48,7 +48,7 @@ static ALL_OF_96: [Stretch; 18] = [
 ];
 
 /// Both frames of 128 kbit/s, as they were.
-static FROM_128: [Stretch; 14] = [
+const FROM_128: &[Stretch] = &[
     Stretch::Bytes(&[0xff, 0xfb, 0x50, 0x00]),
     Stretch::Fill(0, 32),
     Stretch::Bytes(b"Info\0\0\0\x0f\0\0\0\x02\0\0\x04\x12"),
@@ -66,7 +66,7 @@ static FROM_128: [Stretch; 14] = [
 ];
 
 /// The first of 112 kbit/s, with an area of 329 of which 29 are left for the second of 128 kbit/s: 990 bytes.
-static LEAST: [Stretch; 14] = [
+const LEAST: &[Stretch] = &[
     Stretch::Bytes(&[0xff, 0xfb, 0x50, 0x00]),
     Stretch::Fill(0, 32),
     Stretch::Bytes(b"Xing\0\0\0\x0f\0\0\0\x02\0\0\x03\xde"),
@@ -94,53 +94,53 @@ static ROWS: [Row; 10] = [
     Row {
         mode: PackMode::Least,
         answer: Ok(()),
-        after: &LEAST,
+        after: LEAST,
     },
     Row {
         mode: PackMode::Constant(96),
         answer: Ok(()),
-        after: &ALL_OF_96,
+        after: ALL_OF_96,
     },
     Row {
         mode: PackMode::Constant(128),
         answer: Ok(()),
-        after: &FROM_128,
+        after: FROM_128,
     },
     Row {
         mode: PackMode::Constant(64),
         answer: Err(EditFault::Refused(Refusal::Unfit(1))),
-        after: &OLD,
+        after: OLD,
     },
     Row {
         mode: PackMode::Constant(32),
         answer: Err(EditFault::Refused(Refusal::Unfit(0))),
-        after: &OLD,
+        after: OLD,
     },
     Row {
         mode: PackMode::Constant(100),
         answer: Err(EditFault::Refused(Refusal::NoRate(100))),
-        after: &OLD,
+        after: OLD,
     },
     Row {
         mode: PackMode::Floor(32),
         answer: Ok(()),
-        after: &LEAST,
+        after: LEAST,
     },
     Row {
         mode: PackMode::Floor(128),
         answer: Ok(()),
-        after: &FROM_128,
+        after: FROM_128,
     },
     // Bit rates of MPEG-2 alone, and of none.
     Row {
         mode: PackMode::Floor(8),
         answer: Err(EditFault::Refused(Refusal::NoRate(8))),
-        after: &OLD,
+        after: OLD,
     },
     Row {
         mode: PackMode::Floor(0),
         answer: Err(EditFault::Refused(Refusal::NoRate(0))),
-        after: &OLD,
+        after: OLD,
     },
 ];
 
@@ -149,9 +149,9 @@ fn expect_row<R: Abort + AllocGlobal>(
     folder: &mut MemFolder,
     row: &Row,
 ) -> Result<(), Fail> {
-    let input = bytes_of(rt.alloc(), &TWO)?;
+    let input = bytes_of(rt.alloc(), TWO)?;
     folder.put("a", &input)?;
-    let old = bytes_of(rt.alloc(), &OLD)?;
+    let old = bytes_of(rt.alloc(), OLD)?;
     folder.put("b", &old)?;
     folder.reserve("b", 2000)?;
     let answer = pack_with(rt.alloc(), folder, "a", "b", &row.mode);

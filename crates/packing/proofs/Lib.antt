@@ -2,3 +2,4 @@
 pub mod MenuLaws
 pub mod PlanLaws
 pub mod PackingLaws
+pub mod FloorLaw

@@ -209,7 +209,7 @@ module _ (chosen : Chosen) (s : SurveyFields) (placed : IsPlaced s) (some : chos
   known = part-known s chosen.from chosen.to placed
 
   -- up from a bit rate on no frame is unfit
-  never-unfit : (rate i : ℕ) → no_rate (From rate) s.class ≡ None → menu_plan (window_of s.class.version) (menu_in (From rate) s.class) (needs_of chosen s) ≡ Err i → ⊥
+  pub never-unfit : (rate i : ℕ) → no_rate (From rate) s.class ≡ None → menu_plan (window_of s.class.version) (menu_in (From rate) s.class) (needs_of chosen s) ≡ Err i → ⊥
   never-unfit rate i none is =
       let menu = menu_in (From rate) s.class in
       let unfit = ((menu_plan-is (window_of s.class.version) s.class menu (needs_of chosen s) rows-same needs-some (menu-ascends (From rate) s.class rows-sound) (menu-some (From rate) s.class none)).1 i).1 is in

@@ -3,3 +3,4 @@ pub mod Packing
 pub mod Rates
 pub mod Modes
 pub mod Ready
+pub mod Laws

@@ -3,10 +3,12 @@
 
 mod calls;
 mod edit;
+mod laws;
 mod menu;
 mod mode;
 mod plans;
 
 pub use calls::pack_with;
 pub use edit::{RatesEdit, Work};
+pub use laws::floors_fit;
 pub use mode::{PackMode, Rates};
