@@ -8,6 +8,7 @@
 //! | `list` | `listing` | sends what a file holds, a line for each frame and block, to a sink |
 //! | `gain`, `undo` | `gain_edits` | moves the gains of a file, and takes back what the file's tag says of that |
 //! | `cut`, `pack` | `frame_edits` | lays chosen frames, or all, anew in one file |
+//! | `pack_with` | `packing` | packs in a mode: with the least slots, one bit rate alone, or bit rates from one on |
 //! | `split` | `splitting` | lays the frames between places anew, a file for each piece |
 //! | `join` | `joining` | lays the frames of several files anew in one |
 //!
@@ -19,4 +20,5 @@ pub use gain_edits::{gain, opposite_gives_back, undo, undo_gives_back};
 pub use joining::join;
 pub use listing::list;
 pub use moved_gains::{Channels, Shift, Steps, Stuck};
+pub use packing::{PackMode, floors_fit, pack_with};
 pub use splitting::{Points, split};

@@ -7,6 +7,7 @@ use packing::{PackMode, pack_with};
 use std::alloc::AllocGlobal;
 use std::process::Abort;
 use std::test::Fail;
+use sync_survey::SurveyFault;
 use test_files::files::{Stretch, bytes_of};
 
 /// Two frames of MPEG-1, 44,100 Hz, 128 kbit/s, stereo, of 417 bytes with an area of 381. The first has 300 bytes of main
@@ -165,7 +166,14 @@ fn expect_row<R: Abort + AllocGlobal>(
     Ok(())
 }
 
+/// What is wrong with the input comes before what is wrong with the bit rate.
+fn expect_absent<R: Abort + AllocGlobal>(rt: &R, folder: &mut MemFolder) {
+    let answer = pack_with(rt.alloc(), folder, "c", "b", &PackMode::Constant(100));
+    assert_eq!(rt; answer, Err(EditFault::Input(0, SurveyFault::Absent)));
+}
+
 fn expect_rows<R: Abort + AllocGlobal>(rt: &R, folder: &mut MemFolder) -> Result<(), Fail> {
+    expect_absent(rt, folder);
     for row in &ROWS {
         expect_row(rt, folder, row)?;
     }
