@@ -301,7 +301,8 @@ fn repeat(kinds: &mut Kinds, kind: WordKind, count: usize)
 // Appends the words of a flag.
 fn append_flag(kinds: &mut Kinds, flag: Flag)
     requires { length kinds.old.items ≤ 110 }
-    ensures items { map word_kind kinds.new.items ≡ map word_kind kinds.old.items ++ flag_kinds flag }
+    ensures items { map word_kind kinds.new.items ≡
+        map word_kind kinds.old.items ++ flag_kinds flag }
     ensures count { length kinds.new.items ≤ length kinds.old.items + 2 }
 {
     for word in flag.words() {

@@ -58,7 +58,8 @@ fn lay_input<D: Folder>(
     placed: &[Placed],
     buffers: &mut Buffers,
 ) -> Result<(), PassFault>
-    requires source { IsSource relay.now.pass.output.now (D.files folder.old) relay.now.pass.input.now
+    requires source { IsSource relay.now.pass.output.now (D.files folder.old)
+        relay.now.pass.input.now
         (tells relay.now.survey.now) }
     requires length { relay.now.pass.length ≡ (tells relay.now.survey.now).length }
     requires target { IsThere (D.files folder.old) relay.now.pass.output.now }
@@ -106,13 +107,17 @@ pub(crate) fn lay_all<'a, D: Folder>(
     requires target { IsThere (D.files folder.old) output.now }
     requires new { IsNew buffers.old.writer.class buffers.old.writer }
     requires none { buffers.old.waiting ≡ [] }
-    requires fits { FitsFrom (window_of buffers.old.writer.class.version) (reach_of buffers.old.writer)
+    requires fits { FitsFrom (window_of buffers.old.writer.class.version)
+        (reach_of buffers.old.writer)
         (needs_of (rows_of (map tells surveys.now))) placed.now }
     // Any name but the output's stands for the files that are told.
     ensures lays { OnOk result ((name : List ℕ) → name ≢ output.now → Lays name output.now
-        (all_laid (D.files folder.old) (map string_bytes inputs.now) (map tells surveys.now) placed.now)
-        (writing_in buffers.old) (writing_in buffers.new) (D.files folder.old) (D.files folder.new)) }
-    ensures prefix { OnErr result ((name : List ℕ) → name ≢ output.now → AppendsPrefix name output.now
+        (all_laid (D.files folder.old) (map string_bytes inputs.now) (map tells surveys.now)
+        placed.now)
+        (writing_in buffers.old) (writing_in buffers.new)
+        (D.files folder.old) (D.files folder.new)) }
+    ensures prefix { OnErr result ((name : List ℕ) → name ≢ output.now
+        → AppendsPrefix name output.now
         (λ file. frame_bytes (all_laid (D.files folder.old) (map string_bytes inputs.now)
         (map tells surveys.now) placed.now file)) (D.files folder.old) (D.files folder.new)) }
     ensures done { OnOk result (D.counts folder.new ≡ D.counts folder.old) }

@@ -94,11 +94,13 @@ fn append_joined<'a, D: Folder>(
     requires new { IsNew buffers.old.writer.class buffers.old.writer }
     requires unsent { buffers.old.waiting ≡ [] }
     // Any name but the output's stands for the files that are told.
-    ensures written { OnOk result ((name : List ℕ) → name ≢ output.now → Appends name output.now
+    ensures written { OnOk result ((name : List ℕ) → name ≢ output.now
+        → Appends name output.now
         (λ _. joined_file (told_parts (D.files folder.old) (map string_bytes inputs.now)
         (map tells surveys.now)))
         (D.files folder.old) (D.files folder.new)) }
-    ensures prefix { OnErr result ((name : List ℕ) → name ≢ output.now → AppendsPrefix name output.now
+    ensures prefix { OnErr result ((name : List ℕ) → name ≢ output.now
+        → AppendsPrefix name output.now
         (λ _. joined_file (told_parts (D.files folder.old) (map string_bytes inputs.now)
         (map tells surveys.now)))
         (D.files folder.old) (D.files folder.new)) }

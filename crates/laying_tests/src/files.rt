@@ -65,8 +65,10 @@ static OUTPUT: [Stretch; 11] = [
 /// A frame in its own slot, with its main data in its own area.
 #[tactic(auto, unfolding(laying::specs::Fits::FitsFrom))]
 fn own_place(row: &Row) -> Placed
-    requires { (need_of row.now).bytes ≤ area_of (class_of row.now.header) row.now.header.slot row.now.header.protected }
-    ensures { (window : ℕ) (rows : List RowFields) → slice_range rows 0 1 ≡ row.now ∷ [] → FitsFrom window 0 (map need_of (slice_range rows 0 1)) (result ∷ []) }
+    requires { (need_of row.now).bytes ≤ area_of (class_of row.now.header) row.now.header.slot
+        row.now.header.protected }
+    ensures { (window : ℕ) (rows : List RowFields) → slice_range rows 0 1 ≡ row.now ∷ []
+        → FitsFrom window 0 (map need_of (slice_range rows 0 1)) (result ∷ []) }
 {
     Placed {
         lead_in: false,

@@ -66,7 +66,8 @@ fn run_job<D: Folder, T: Sink, E: Sink>(
         (world (seen (D.files folder.new) (D.counts folder.new))
         (heard (T.sent out.new) (T.faults out.new)) (heard (E.sent err.new) (E.faults err.new)))
         result }
-    ensures streams { result ≡ 0 → HoldsStreams (command_of (asked job.entry)) (D.files folder.old) }
+    ensures streams { result ≡ 0 → HoldsStreams (command_of (asked job.entry))
+        (D.files folder.old) }
     ensures counts { NoneFell (D.counts folder.old) (D.counts folder.new) }
 {
     match job {

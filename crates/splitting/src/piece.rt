@@ -37,7 +37,8 @@ fn make_piece(
     requires laid { IsLaidOut (tells survey.now) }
     requires few { length (tells survey.now).frames ≤ 2900000 }
     requires number { number ≤ 99 }
-    ensures name { IfOk result (λ piece. string_bytes piece.name ≡ piece_name_lem prefix.now number) }
+    ensures name { IfOk result (λ piece. string_bytes piece.name ≡
+        piece_name_lem prefix.now number) }
     ensures ready { IfOk result (IsReady (tells survey.now)) }
     ensures chosen { MatchResult result
         (λ piece. frames_between (length (tells survey.now).frames) from to
@@ -66,7 +67,8 @@ pub(crate) fn make_pieces(
     requires most { length places.now ≤ 100 }
     requires laid { IsLaidOut (tells survey.now) }
     requires few { length (tells survey.now).frames ≤ 2900000 }
-    ensures pieces { IfOk result (λ pieces. ArePieces prefix.now (tells survey.now) 1 pieces.items) }
+    ensures pieces { IfOk result (λ pieces. ArePieces prefix.now (tells survey.now) 1
+        pieces.items) }
     ensures count { IfOk result (λ pieces. length pieces.items + 1 ≡ length places.now) }
     ensures chosen { MatchResult result
         (λ pieces. chosen_at (tells survey.now).class (length
