@@ -48,39 +48,39 @@ moved_own steps lost file at Nothing all is belongs within = absurd (false≢tru
 
 -- ---- several items
 
-pub moved-nil : (steps : Steps) (lost : ℕ → Bool) (file : List ℕ) → moved_items steps lost file [] ≡ []
+pub moved-nil : (steps : ℕ → Steps) (lost : ℕ → Bool) (file : List ℕ) → moved_items steps lost file [] ≡ []
 unfolding moved_items
 moved-nil steps lost file = refl
 
-pub moved-cons : (steps : Steps) (lost : ℕ → Bool) (file : List ℕ) (p : Placed) (ps : List Placed) → moved_items steps lost file (p ∷ ps) ≡ moved_item steps (lost p.offset) p.item (bytes_in file p) ++ moved_items steps lost file ps
+pub moved-cons : (steps : ℕ → Steps) (lost : ℕ → Bool) (file : List ℕ) (p : Placed) (ps : List Placed) → moved_items steps lost file (p ∷ ps) ≡ moved_item (steps p.offset) (lost p.offset) p.item (bytes_in file p) ++ moved_items steps lost file ps
 unfolding moved_items
 moved-cons steps lost file p ps = refl
 
-pub moved_are : (steps : Steps) (lost : ℕ → Bool) (file : List ℕ) (from : ℕ) (ps : List Placed) (to : ℕ) → AreBytes file → AreEndToEnd Stream file from ps to → AreItems ps (moved_items steps lost file ps)
+pub moved_are : (steps : ℕ → Steps) (lost : ℕ → Bool) (file : List ℕ) (from : ℕ) (ps : List Placed) (to : ℕ) → AreBytes file → AreEndToEnd Stream file from ps to → AreItems ps (moved_items steps lost file ps)
 moved_are steps lost file from [] to all ends = moved-nil steps lost file
 moved_are steps lost file from (p ∷ ps) to all ends =
     let here = item_of-is Stream file p.offset p.item ends.1 in (
-      moved_item steps (lost p.offset) p.item (bytes_in file p),
+      moved_item (steps p.offset) (lost p.offset) p.item (bytes_in file p),
       moved_items steps lost file ps,
       moved-cons steps lost file p ps,
-      moved_own steps (lost p.offset) file p.offset p.item all here.is here.belongs here.within,
+      moved_own (steps p.offset) (lost p.offset) file p.offset p.item all here.is here.belongs here.within,
       moved_are steps lost file (p.offset + size_of p.item) ps to all ends.2,
     )
 
 -- ---- the frames among them
 
 -- the frame of a file stands in another one, so many bytes nearer to its front, and with moved gains where it isn't lost
-pub record IsMovedAt (steps : Steps) (lost : ℕ → Bool) (file new : List ℕ) (gap : ℕ) (p : PlacedFrame) : Type 0 where
+pub record IsMovedAt (steps : ℕ → Steps) (lost : ℕ → Bool) (file new : List ℕ) (gap : ℕ) (p : PlacedFrame) : Type 0 where
   pub whole : IsWhole p.header (frame_bytes file p)
   pub rest : List ℕ
-  pub stands : drop (p.offset - gap) new ≡ moved_unless_lost (lost p.offset) steps p.header (frame_bytes file p) ++ rest
+  pub stands : drop (p.offset - gap) new ≡ moved_unless_lost (lost p.offset) (steps p.offset) p.header (frame_bytes file p) ++ rest
 
-abbrev pub AreMovedAt : Steps → (ℕ → Bool) → List ℕ → List ℕ → ℕ → List PlacedFrame → Type 0
+abbrev pub AreMovedAt : (ℕ → Steps) → (ℕ → Bool) → List ℕ → List ℕ → ℕ → List PlacedFrame → Type 0
 AreMovedAt steps lost file new gap [] = Unit {0}
 AreMovedAt steps lost file new gap (p ∷ ps) = IsMovedAt steps lost file new gap p × AreMovedAt steps lost file new gap ps
 
-frame_more : (steps : Steps) (lost : ℕ → Bool) (file new : List ℕ) (gap at : ℕ) (item : Item) (rest : List ℕ) (frames : List PlacedFrame) → AreBytes file → item_at file at ≡ item → at + size_of item ≤ length file
-    → drop (at - gap) new ≡ moved_item steps (lost at) item (take (size_of item) (drop at file)) ++ rest → AreMovedAt steps lost file new gap frames → AreMovedAt steps lost file new gap (cons_option (frame_as at item) frames)
+frame_more : (steps : ℕ → Steps) (lost : ℕ → Bool) (file new : List ℕ) (gap at : ℕ) (item : Item) (rest : List ℕ) (frames : List PlacedFrame) → AreBytes file → item_at file at ≡ item → at + size_of item ≤ length file
+    → drop (at - gap) new ≡ moved_item (steps at) (lost at) item (take (size_of item) (drop at file)) ++ rest → AreMovedAt steps lost file new gap frames → AreMovedAt steps lost file new gap (cons_option (frame_as at item) frames)
 frame_more steps lost file new gap at (Frame h) rest frames all is within stands later = (record { whole = frame_whole file at h all is within; rest = rest; stands = stands }, later)
 frame_more steps lost file new gap at Free rest frames all is within stands later = later
 frame_more steps lost file new gap at (Block b) rest frames all is within stands later = later
@@ -88,18 +88,18 @@ frame_more steps lost file new gap at Zero rest frames all is within stands late
 frame_more steps lost file new gap at End rest frames all is within stands later = later
 frame_more steps lost file new gap at Nothing rest frames all is within stands later = later
 
-pub frames_moved : (steps : Steps) (lost : ℕ → Bool) (file new : List ℕ) (gap from at : ℕ) (ps : List Placed) (to : ℕ) (behind : List ℕ) → AreBytes file → AreEndToEnd Stream file from ps to → from ≡ at + gap
+pub frames_moved : (steps : ℕ → Steps) (lost : ℕ → Bool) (file new : List ℕ) (gap from at : ℕ) (ps : List Placed) (to : ℕ) (behind : List ℕ) → AreBytes file → AreEndToEnd Stream file from ps to → from ≡ at + gap
     → drop at new ≡ moved_items steps lost file ps ++ behind → AreMovedAt steps lost file new gap (frames_of ps)
 frames_moved steps lost file new gap from at [] to behind all ends there is = tt
 frames_moved steps lost file new gap from at (p ∷ ps) to behind all ends there is =
     let size = size_of p.item in
-    let own = moved_item steps (lost p.offset) p.item (bytes_in file p) in
+    let own = moved_item (steps p.offset) (lost p.offset) p.item (bytes_in file p) in
     let rest = moved_items steps lost file ps ++ behind in
     let here = item_of-is Stream file p.offset p.item ends.1 in
     let place : p.offset - gap ≡ at = omega (arith, ends.0, there) in
     let stands : drop (p.offset - gap) new ≡ own ++ rest =
     ap (λ n. drop n new) place ∙ is ∙ ap (λ (l : List ℕ). l ++ behind) (moved-cons steps lost file p ps) ∙ append_assoc own (moved_items steps lost file ps) behind in
     let next : drop (p.offset - gap + size) new ≡ rest =
-    sym (drop-drop size (p.offset - gap) new) ∙ ap (drop size) stands ∙ drop_at own rest size (moved_own steps (lost p.offset) file p.offset p.item all here.is here.belongs here.within).size in
+    sym (drop-drop size (p.offset - gap) new) ∙ ap (drop size) stands ∙ drop_at own rest size (moved_own (steps p.offset) (lost p.offset) file p.offset p.item all here.is here.belongs here.within).size in
     frame_more steps lost file new gap p.offset p.item rest (frames_of ps) all here.is here.within stands
     (frames_moved steps lost file new gap (p.offset + size) (p.offset - gap + size) ps to behind all ends.2 (omega (arith, place, ends.0, there)) next)

@@ -61,11 +61,11 @@ low_cases file start (inr least) = omega (arith, least.0)
 -- ---- the bytes of the edited file
 
 -- the bytes of the first frame in the edited file: a head stays
-abbrev pub first_bytes : Steps → (ℕ → Bool) → List ℕ → PlacedFrame → Option Head → List ℕ
-first_bytes steps lost file first None = moved_unless_lost (lost first.offset) steps first.header (frame_bytes file first)
+abbrev pub first_bytes : (ℕ → Steps) → (ℕ → Bool) → List ℕ → PlacedFrame → Option Head → List ℕ
+first_bytes steps lost file first None = moved_unless_lost (lost first.offset) (steps first.offset) first.header (frame_bytes file first)
 first_bytes steps lost file first (Some head) = frame_bytes file first
 
-pub moved_first : (steps : Steps) (lost : ℕ → Bool) (file : List ℕ) (first : PlacedFrame) (ps : List Placed) (o : Option Head)
+pub moved_first : (steps : ℕ → Steps) (lost : ℕ → Bool) (file : List ℕ) (first : PlacedFrame) (ps : List Placed) (o : Option Head)
     → moved_stream steps lost file o (record { offset = first.offset; item = Frame first.header } ∷ ps) ≡ first_bytes steps lost file first o ++ moved_items steps lost file ps
 moved_first steps lost file first ps None = moved-cons steps lost file (record { offset = first.offset; item = Frame first.header }) ps
 moved_first steps lost file first ps (Some head) = ap (λ l. l ++ moved_items steps lost file ps) (append-nil (frame_bytes file first))
@@ -79,7 +79,7 @@ numbered-mapped gap (Some head) (p ∷ ps) = refl
 abbrev pub lost_from : List ℕ → Start → ℕ → Bool
 lost_from file start = is_lost_at (told_from file start).frames
 
-module _ (steps : Steps) (file : List ℕ) (allowed : ℕ) (start : Start) (all : AreBytes file) (read : IsRead file allowed start) where
+module _ (steps : ℕ → Steps) (file : List ℕ) (allowed : ℕ) (start : Start) (all : AreBytes file) (read : IsRead file allowed start) where
   abbrev pub new_file : List ℕ
   new_file = edited steps file (told_from file start)
 
@@ -166,7 +166,7 @@ module _ (steps : Steps) (file : List ℕ) (allowed : ℕ) (start : Start) (all 
   first_frame = frame_whole file first h all first_whole.is first_whole.within
 
   own_by : (o : Option Head) → IsItem (Frame h) (first_bytes steps lost file start.first o)
-  own_by None = whole_item h (first_bytes steps lost file start.first None) (moved_unless-whole (lost first) steps h (frame_bytes file start.first) first_frame).whole
+  own_by None = whole_item h (first_bytes steps lost file start.first None) (moved_unless-whole (lost first) (steps first) h (frame_bytes file start.first) first_frame).whole
   own_by (Some found) = whole_item h (frame_bytes file start.first) first_frame
 
   before_are : AreItems front.items before
@@ -253,11 +253,11 @@ module _ (steps : Steps) (file : List ℕ) (allowed : ℕ) (start : Start) (all 
 
   -- the first frame is the same there from two bytes before its area on
   end_by : (o : Option Head) → drop (overhead_of (class_of h) h.protected - 2) (first_bytes steps lost file start.first o) ≡ drop (overhead_of (class_of h) h.protected - 2) (frame_bytes file start.first)
-  end_by None = (moved_unless-whole (lost first) steps h (frame_bytes file start.first) first_frame).same_end
+  end_by None = (moved_unless-whole (lost first) (steps first) h (frame_bytes file start.first) first_frame).same_end
   end_by (Some found) = refl
 
   area_by : (o : Option Head) → drop (overhead_of (class_of h) h.protected) (first_bytes steps lost file start.first o) ≡ drop (overhead_of (class_of h) h.protected) (frame_bytes file start.first)
-  area_by None = (moved_unless-whole (lost first) steps h (frame_bytes file start.first) first_frame).same_area
+  area_by None = (moved_unless-whole (lost first) (steps first) h (frame_bytes file start.first) first_frame).same_area
   area_by (Some found) = refl
 
   new_own : frame_bytes new_file (moved_start start).first ≡ own

@@ -46,7 +46,7 @@ row_sized steps file row here = by_lost row.lost
         ap (λ (s : Side). length (frame_with row.header (moved_side steps s) (frame_of file row))) here.side
         ∙ (moved_whole steps row.header (frame_of file row) here.whole).whole.size
 
-each_there : (steps : Steps) (lost : ℕ → Bool) (file new : List ℕ) (gap : ℕ) (ps : List PlacedFrame) → AreMovedAt steps lost file new gap ps → WordsAreRight file ps → AreFramesOf file (rows_by lost file ps)
+each_there : (steps : ℕ → Steps) (lost : ℕ → Bool) (file new : List ℕ) (gap : ℕ) (ps : List PlacedFrame) → AreMovedAt steps lost file new gap ps → WordsAreRight file ps → AreFramesOf file (rows_by lost file ps)
 each_there steps lost file new gap [] at right = tt
 each_there steps lost file new gap (p ∷ ps) at right = (
   record { whole = at.0.whole; side = sym (own-side file p at.0.whole); right = own-right file p at.0.whole right.0 },
@@ -60,7 +60,7 @@ frames_there file allowed s all e =
   where
     from : (start : Start) → IsRead file allowed start → AreFramesOf file (told_from file start).frames
     from start read =
-        let steps : Steps = record { left = pos 0; right = pos 0; wrap = false } in
+        let steps : ℕ → Steps = λ at. record { left = pos 0; right = pos 0; wrap = false } in
         let told : (told_from file start).frames ≡ rows_by (lost_from file start) file (frames_from file start) =
         marked-by file (head_of file start.first) start.first.offset (frames_from file start) (walk_rising file start (head_of file start.first)) in
         subst (AreFramesOf file) (sym told)

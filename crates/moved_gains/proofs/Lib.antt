@@ -1,4 +1,5 @@
 -- The lemmas of this crate.
+pub mod CourseLaws
 pub mod MovedGains
 pub mod MovingLaws
 pub mod WrittenLaws

@@ -144,7 +144,7 @@ near_cases m n k low_m low_n true is = eq-eqb (m - k) (n - k) (ap (λ x. x - k) 
 near_cases m n k low_m low_n false is = ne_eqb (m - k) (n - k) (λ e. eqb-false m n is (omega (arith, e, low_m, low_n)))
 
 -- the lost frames stand at the same offsets, so many bytes nearer to the front
-pub lost-nearer : (steps : Steps) (gap from at : ℕ) (rows : List Row) → AreRising from rows → gap ≤ from → gap ≤ at → is_lost_at (map (moved_row steps gap) rows) (at - gap) ≡ is_lost_at rows at
+pub lost-nearer : (steps : ℕ → Steps) (gap from at : ℕ) (rows : List Row) → AreRising from rows → gap ≤ from → gap ≤ at → is_lost_at (map (moved_row steps gap) rows) (at - gap) ≡ is_lost_at rows at
 lost-nearer steps gap from at [] rise low here = refl
 lost-nearer steps gap from at (r ∷ rows) rise low here =
     let above : gap ≤ r.offset = omega (arith, low, rise.0) in

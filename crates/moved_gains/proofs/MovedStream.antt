@@ -21,7 +21,7 @@ use Rattle.sync_survey.proofs.SurveyParts.{frames_from, told_from, IsRead, surve
 use Rattle.moved_gains.specs.declared.shift.Steps.{Steps}
 use Rattle.moved_gains.specs.Gains.{moved_side, moved_unless}
 use Rattle.moved_gains.specs.Edited.{edited}
-use Rattle.moved_gains.specs.Streams.{moved_row, moved_head, moved_survey, moved_stream_frame}
+use Rattle.moved_gains.specs.Streams.{moved_row, moved_head, moved_survey, moved_stream_frame, moved_stream_of}
 use Rattle.moved_gains.proofs.MovedGains.{payload_bits-moved, lengths-moved}
 use Rattle.moved_gains.proofs.MovedFrame.{whole_room}
 use Rattle.moved_gains.proofs.EditedItems.{IsMovedAt, AreMovedAt}
@@ -31,7 +31,7 @@ use Rattle.moved_gains.proofs.MovedSurvey.{to, frame_there, AreShaped, start-mov
 
 -- ---- the main data
 
-area-moved : (steps : Steps) (lost : ℕ → Bool) (file new : List ℕ) (gap : ℕ) (p : PlacedFrame) → IsMovedAt steps lost file new gap p → area_bytes new (p.offset - gap) p.header ≡ area_bytes file p.offset p.header
+area-moved : (steps : ℕ → Steps) (lost : ℕ → Bool) (file new : List ℕ) (gap : ℕ) (p : PlacedFrame) → IsMovedAt steps lost file new gap p → area_bytes new (p.offset - gap) p.header ≡ area_bytes file p.offset p.header
 area-moved steps lost file new gap p at =
     let over = overhead_of (class_of p.header) p.header.protected in
     let room : over ≤ length_of (class_of p.header) p.header.slot = omega (arith, (whole_room p.header (frame_bytes file p) at.whole).0, at.whole.size) in
@@ -40,7 +40,7 @@ area-moved steps lost file new gap p at =
     ∙ (to steps lost file new gap p at).same_area
     ∙ sym (area-frame file p room)
 
-areas-moved : (steps : Steps) (lost : ℕ → Bool) (file new : List ℕ) (gap : ℕ) (ps : List PlacedFrame) → AreMovedAt steps lost file new gap ps
+areas-moved : (steps : ℕ → Steps) (lost : ℕ → Bool) (file new : List ℕ) (gap : ℕ) (ps : List PlacedFrame) → AreMovedAt steps lost file new gap ps
     → flat_map (λ (r : Row). area_bytes new r.offset r.header) (map (moved_row steps gap) (rows_by lost file ps)) ≡ flat_map (λ (r : Row). area_bytes file r.offset r.header) (rows_by lost file ps)
 areas-moved steps lost file new gap [] at = refl
 areas-moved steps lost file new gap (p ∷ ps) at = ap₂ (λ (a b : List ℕ). a ++ b) (area-moved steps lost file new gap p at.0) (areas-moved steps lost file new gap ps at.1)
@@ -68,35 +68,35 @@ by_shaped : (lost : ℕ → Bool) (file : List ℕ) (ps : List PlacedFrame) → 
 by_shaped lost file [] = tt
 by_shaped lost file (p ∷ ps) = (shaped-side_in p.header (drop p.offset file), by_shaped lost file ps)
 
-frame-moved : (steps : Steps) (gap : ℕ) (main : List ℕ) (o : Option Head) (rows : List Row) (i : ℕ) (r : Row) → IsShaped r.side
-    → stream_frame main (option_map (moved_head gap) o) (map (moved_row steps gap) rows) i (moved_row steps gap r) ≡ moved_stream_frame steps (stream_frame main o rows i r)
+frame-moved : (steps : ℕ → Steps) (gap : ℕ) (main : List ℕ) (o : Option Head) (rows : List Row) (i : ℕ) (r : Row) → IsShaped r.side
+    → stream_frame main (option_map (moved_head gap) o) (map (moved_row steps gap) rows) i (moved_row steps gap r) ≡ moved_stream_frame (steps r.offset) (stream_frame main o rows i r)
 frame-moved steps gap main o rows i r shaped =
     let begin = start-moved steps gap o rows i r in
-    let counts : side_of (moved_row steps gap r) ≡ moved_side steps (side_of r) = counts-moved steps r.lost r.side in
+    let counts : side_of (moved_row steps gap r) ≡ moved_side (steps r.offset) (side_of r) = counts-moved (steps r.offset) r.lost r.side in
     let well = counts_shaped r.lost r.side shaped in
-    let side = ap (λ (s : Side). record s { main_data_begin = 0 }) counts ∙ side-moved steps (side_of r) in
-    let lengths = ap (part_lengths r.header) counts ∙ lengths-moved steps r.header (side_of r) well in
-    let payload = ap payload_bits counts ∙ payload_bits-moved steps (side_of r) well in
+    let side = ap (λ (s : Side). record s { main_data_begin = 0 }) counts ∙ side-moved (steps r.offset) (side_of r) in
+    let lengths = ap (part_lengths r.header) counts ∙ lengths-moved (steps r.offset) r.header (side_of r) well in
+    let payload = ap payload_bits counts ∙ payload_bits-moved (steps r.offset) (side_of r) well in
     λ j. record (stream_frame main o rows i r) {
       side = side j;
       payload = parts_of (lengths j) (take (payload j) (drop (8 * begin j) (bits main)));
     }
 
-frames_moved : (steps : Steps) (gap : ℕ) (main : List ℕ) (o : Option Head) (rows : List Row) (n : ℕ) (more : List Row) → AreShaped more
+frames_moved : (steps : ℕ → Steps) (gap : ℕ) (main : List ℕ) (o : Option Head) (rows : List Row) (n : ℕ) (more : List Row) → AreShaped more
     → map (λ (p : ℕ × Row). stream_frame main (option_map (moved_head gap) o) (map (moved_row steps gap) rows) p.0 p.1) (enumerate_from n (map (moved_row steps gap) more))
-    ≡ map (moved_stream_frame steps) (map (λ (p : ℕ × Row). stream_frame main o rows p.0 p.1) (enumerate_from n more))
+    ≡ map (λ (p : ℕ × Row). moved_stream_frame (steps p.1.offset) (stream_frame main o rows p.0 p.1)) (enumerate_from n more)
 frames_moved steps gap main o rows n [] shaped = refl
 frames_moved steps gap main o rows n (r ∷ more) shaped =
     ap₂ (λ (f : StreamFrame) (fs : List StreamFrame). f ∷ fs) (frame-moved steps gap main o rows n r shaped.0) (frames_moved steps gap main o rows (n + 1) more shaped.1)
 
-all_moved : (steps : Steps) (gap : ℕ) (main : List ℕ) (o : Option Head) (rows : List Row) → AreShaped rows
-    → stream_frames main (option_map (moved_head gap) o) (map (moved_row steps gap) rows) ≡ map (moved_stream_frame steps) (stream_frames main o rows)
+all_moved : (steps : ℕ → Steps) (gap : ℕ) (main : List ℕ) (o : Option Head) (rows : List Row) → AreShaped rows
+    → stream_frames main (option_map (moved_head gap) o) (map (moved_row steps gap) rows) ≡ map (λ (p : ℕ × Row). moved_stream_frame (steps p.1.offset) (stream_frame main o rows p.0 p.1)) (enumerate_from 0 rows)
 unfolding stream_frames
 all_moved steps gap main o rows shaped = frames_moved steps gap main o rows 0 rows shaped
 
 -- ---- the stream
 
-module _ (steps : Steps) (file : List ℕ) (allowed : ℕ) (start : Start) (all : AreBytes file) (read : IsRead file allowed start) where
+module _ (steps : ℕ → Steps) (file : List ℕ) (allowed : ℕ) (start : Start) (all : AreBytes file) (read : IsRead file allowed start) where
   abbrev new : List ℕ
   new = new_file steps file allowed start all read
 
@@ -131,20 +131,20 @@ module _ (steps : Steps) (file : List ℕ) (allowed : ℕ) (start : Start) (all 
   abbrev IsMovedBy : List Row → Type 0
   IsMovedBy rs =
       stream_frames (main_bytes new (option_map (moved_head gap) head) (map (moved_row steps gap) rs)) (option_map (moved_head gap) head) (map (moved_row steps gap) rs)
-      ≡ map (moved_stream_frame steps) (stream_frames (main_bytes file head rs) head rs)
+      ≡ map (λ (p : ℕ × Row). moved_stream_frame (steps p.1.offset) (stream_frame (main_bytes file head rs) head rs p.0 p.1)) (enumerate_from 0 rs)
 
   rows_moved : IsMovedBy rows
   rows_moved =
       ap (λ main. stream_frames main (option_map (moved_head gap) head) (map (moved_row steps gap) rows)) main_same
       ∙ all_moved steps gap (main_bytes file head rows) head rows (by_shaped lost file (frames_from file start))
 
-  stream-from : stream_of_survey new (moved_survey steps (told_from file start)) ≡ map (moved_stream_frame steps) (stream_of_survey file (told_from file start))
-  unfolding stream_of_survey moved_survey
+  stream-from : stream_of_survey new (moved_survey steps (told_from file start)) ≡ moved_stream_of steps file (told_from file start)
+  unfolding stream_of_survey moved_survey moved_stream_of
   stream-from = subst IsMovedBy (sym rows_told) rows_moved
 
 -- The stream of the edited file: each frame with its gains moved, and all else as it was.
-pub stream-edited : (steps : Steps) (file : List ℕ) (allowed : ℕ) (s : SurveyFields) → AreBytes file → surveyed file allowed ≡ Ok s
-    → stream_of_survey (edited steps file s) (moved_survey steps s) ≡ map (moved_stream_frame steps) (stream_of_survey file s)
+pub stream-edited : (steps : ℕ → Steps) (file : List ℕ) (allowed : ℕ) (s : SurveyFields) → AreBytes file → surveyed file allowed ≡ Ok s
+    → stream_of_survey (edited steps file s) (moved_survey steps s) ≡ moved_stream_of steps file s
 stream-edited steps file allowed s all e =
     let parts = surveyed-parts file allowed s e in
-    subst (λ t. stream_of_survey (edited steps file t) (moved_survey steps t) ≡ map (moved_stream_frame steps) (stream_of_survey file t)) parts.2 (stream-from steps file allowed parts.0 all parts.1)
+    subst (λ t. stream_of_survey (edited steps file t) (moved_survey steps t) ≡ moved_stream_of steps file t) parts.2 (stream-from steps file allowed parts.0 all parts.1)

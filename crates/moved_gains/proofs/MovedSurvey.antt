@@ -78,32 +78,32 @@ words_right file (p ∷ ps) each = (each 0 (row_of file p) refl, words_right fil
 -- ---- a frame that stands in another file, with moved gains where it isn't lost
 
 -- such a frame, not marked
-abbrev pub moved_plain : Steps → (ℕ → Bool) → ℕ → Row → Row
-moved_plain steps lost gap r = record r { offset = r.offset - gap; side = moved_unless (lost r.offset) steps r.side }
+abbrev pub moved_plain : (ℕ → Steps) → (ℕ → Bool) → ℕ → Row → Row
+moved_plain steps lost gap r = record r { offset = r.offset - gap; side = moved_unless (lost r.offset) (steps r.offset) r.side }
 
-module _ (steps : Steps) (lost : ℕ → Bool) (file new : List ℕ) (gap : ℕ) (p : PlacedFrame) (at : IsMovedAt steps lost file new gap p) where
+module _ (steps : ℕ → Steps) (lost : ℕ → Bool) (file new : List ℕ) (gap : ℕ) (p : PlacedFrame) (at : IsMovedAt steps lost file new gap p) where
   abbrev frame : List ℕ
   frame = frame_bytes file p
 
   abbrev new_frame : List ℕ
-  new_frame = moved_unless_lost (lost p.offset) steps p.header frame
+  new_frame = moved_unless_lost (lost p.offset) (steps p.offset) p.header frame
 
   abbrev size : ℕ
   size = length_of (class_of p.header) p.header.slot
 
-  pub to : IsMovedUnless (lost p.offset) steps p.header frame new_frame
-  to = moved_unless-whole (lost p.offset) steps p.header frame at.whole
+  pub to : IsMovedUnless (lost p.offset) (steps p.offset) p.header frame new_frame
+  to = moved_unless-whole (lost p.offset) (steps p.offset) p.header frame at.whole
 
   pub frame_there : take size (drop (p.offset - gap) new) ≡ new_frame
   frame_there = ap (take size) at.stands ∙ take_at new_frame at.rest size to.whole.size
 
-  side_there : side_in p.header (drop (p.offset - gap) new) ≡ moved_unless (lost p.offset) steps (side_in p.header (drop p.offset file))
+  side_there : side_in p.header (drop (p.offset - gap) new) ≡ moved_unless (lost p.offset) (steps p.offset) (side_in p.header (drop p.offset file))
   side_there =
       let room = (whole_room p.header frame at.whole) in
       sym (side_in-take p.header size (drop (p.offset - gap) new) (omega (arith, room.0, at.whole.size)))
       ∙ ap (side_in p.header) frame_there
       ∙ to.side
-      ∙ ap (moved_unless (lost p.offset) steps) (own-side file p at.whole)
+      ∙ ap (moved_unless (lost p.offset) (steps p.offset)) (own-side file p at.whole)
 
   pub row-moved : row_of new (nearer_frame gap p) ≡ moved_plain steps lost gap (row_of file p)
   row-moved = ap (λ s. record { offset = p.offset - gap; header = p.header; side = s; lost = false }) side_there
@@ -122,9 +122,9 @@ module _ (steps : Steps) (lost : ℕ → Bool) (file new : List ℕ) (gap : ℕ)
     right_cases s is false protected = refl
 
     pub right_word : has_wrong_word (word_said (drop (p.offset - gap) new)) (moved_plain steps lost gap (row_of file p)) ≡ false
-    right_word = right_cases (moved_unless (lost p.offset) steps (side_in p.header (drop p.offset file))) side_there p.header.protected refl
+    right_word = right_cases (moved_unless (lost p.offset) (steps p.offset) (side_in p.header (drop p.offset file))) side_there p.header.protected refl
 
-pub rows-moved : (steps : Steps) (lost : ℕ → Bool) (file new : List ℕ) (gap : ℕ) (ps : List PlacedFrame) → AreMovedAt steps lost file new gap ps → rows_of new (map (nearer_frame gap) ps) ≡ map (moved_plain steps lost gap) (rows_of file ps)
+pub rows-moved : (steps : ℕ → Steps) (lost : ℕ → Bool) (file new : List ℕ) (gap : ℕ) (ps : List PlacedFrame) → AreMovedAt steps lost file new gap ps → rows_of new (map (nearer_frame gap) ps) ≡ map (moved_plain steps lost gap) (rows_of file ps)
 rows-moved steps lost file new gap [] at = refl
 rows-moved steps lost file new gap (p ∷ ps) at = ap₂ (λ (r : Row) (rs : List Row). r ∷ rs) (row-moved steps lost file new gap p at.0) (rows-moved steps lost file new gap ps at.1)
 
@@ -156,11 +156,11 @@ unfolding place
 place-kept f same gap o rows i =
     ap₂ (λ m n. m + n) (head_area-moved gap o) (ap (sum_by (λ (r : Row). own_area r.header)) (take-map f i rows) ∙ areas-kept f same (take i rows))
 
-pub start-moved : (steps : Steps) (gap : ℕ) (o : Option Head) (rows : List Row) (i : ℕ) (r : Row)
+pub start-moved : (steps : ℕ → Steps) (gap : ℕ) (o : Option Head) (rows : List Row) (i : ℕ) (r : Row)
     → start_of_data (place (option_map (moved_head gap) o) (map (moved_row steps gap) rows) i) (moved_row steps gap r) ≡ start_of_data (place o rows i) r
-start-moved steps gap o rows i r = ap₂ (λ m n. m - n) (place-kept (moved_row steps gap) (λ q. refl) gap o rows i) (begin-unless r.lost steps r.side)
+start-moved steps gap o rows i r = ap₂ (λ m n. m - n) (place-kept (moved_row steps gap) (λ q. refl) gap o rows i) (begin-unless r.lost (steps r.offset) r.side)
 
-module _ (steps : Steps) (lost : ℕ → Bool) (gap : ℕ) where
+module _ (steps : ℕ → Steps) (lost : ℕ → Bool) (gap : ℕ) where
   abbrev moved_by : Row → Row
   moved_by r = moved_plain steps lost gap r
 
@@ -169,17 +169,17 @@ module _ (steps : Steps) (lost : ℕ → Bool) (gap : ℕ) where
 
   lacks-moved : (place_now new_place ended new_ended : ℕ) (r : Row) → new_place ≡ place_now → new_ended ≡ ended → lacks_data new_place new_ended (moved_by r) ≡ lacks_data place_now ended r
   lacks-moved place_now new_place ended new_ended r same_place same_ended =
-      ap₂ (λ (a b : Bool). a && b) (ap (λ n. n == 0) same_ended) (ap₂ ltb same_place (begin-unless (lost r.offset) steps r.side))
+      ap₂ (λ (a b : Bool). a && b) (ap (λ n. n == 0) same_ended) (ap₂ ltb same_place (begin-unless (lost r.offset) (steps r.offset) r.side))
 
   data_end-moved : (place_now new_place : ℕ) (r : Row) → new_place ≡ place_now → IsShaped r.side → end_of_data new_place (moved_by r) ≡ end_of_data place_now r
   data_end-moved place_now new_place r same_place shaped =
-      ap₂ (λ m n. m + n) (ap₂ (λ m n. m - n) same_place (begin-unless (lost r.offset) steps r.side)) (payload-unless (lost r.offset) steps r.side shaped)
+      ap₂ (λ m n. m + n) (ap₂ (λ m n. m - n) same_place (begin-unless (lost r.offset) (steps r.offset) r.side)) (payload-unless (lost r.offset) (steps r.offset) r.side shaped)
 
   behind-moved : (place_now new_place ended new_ended : ℕ) (r : Option Row) → new_place ≡ place_now → new_ended ≡ ended → IfSome r (λ q. IsShaped q.side)
       → end_behind new_place new_ended (option_map moved_by r) ≡ end_behind place_now ended r
   behind-moved place_now new_place ended new_ended None same_place same_ended shaped = same_ended
   behind-moved place_now new_place ended new_ended (Some r) same_place same_ended shaped =
-      let silent : is_silent (moved_by r) ≡ is_silent r = ap (λ n. n == 0) (payload_bits-unless (lost r.offset) steps r.side shaped) in
+      let silent : is_silent (moved_by r) ≡ is_silent r = ap (λ n. n == 0) (payload_bits-unless (lost r.offset) (steps r.offset) r.side shaped) in
       let lacks = lacks-moved place_now new_place ended new_ended r same_place same_ended in
       let loud = data_end-moved place_now new_place r same_place shaped in
       λ i. cond (silent i || lacks i) (same_ended i) (loud i)
@@ -189,7 +189,7 @@ shaped_get [] i shaped = tt
 shaped_get (r ∷ rows) zero shaped = shaped.0
 shaped_get (r ∷ rows) (suc i) shaped = shaped_get rows i shaped.1
 
-module _ (steps : Steps) (lost : ℕ → Bool) (gap : ℕ) (o : Option Head) (rows : List Row) (shaped : AreShaped rows) where
+module _ (steps : ℕ → Steps) (lost : ℕ → Bool) (gap : ℕ) (o : Option Head) (rows : List Row) (shaped : AreShaped rows) where
   abbrev near_head : Option Head
   near_head = option_map (moved_head gap) o
 
@@ -216,7 +216,7 @@ module _ (steps : Steps) (lost : ℕ → Bool) (gap : ℕ) (o : Option Head) (ro
       let here : lost r.offset ≡ is_lost o rows n r = agree 0 r refl ∙ ap (λ m. is_lost o rows m r) none in
       let mark = lost-moved n r in
       let own : marked_row near_head near_rows n (moved_plain steps lost gap r) ≡ moved_row steps gap (marked_row o rows n r) =
-      λ i. record { offset = r.offset - gap; header = r.header; side = moved_unless (here i) steps r.side; lost = mark i } in
+      λ i. record { offset = r.offset - gap; header = r.header; side = moved_unless (here i) (steps r.offset) r.side; lost = mark i } in
       ap₂ (λ (q : Row) (qs : List Row). q ∷ qs) own (marks_moved (n + 1) more (λ i q is. agree (suc i) q is ∙ ap (λ m. is_lost o rows m q) (omega arith)))
 
   -- they are marked so, and those that aren't lost have moved gains
@@ -234,14 +234,14 @@ right_get file [] i r right is = absurd cc
 right_get file (q ∷ rows) zero r right is = let same : q ≡ r = cc in subst (λ x. has_wrong_word (word_said (drop x.offset file)) x ≡ false) same right.0
 right_get file (q ∷ rows) (suc i) r right is = right_get file rows i r right.1 is
 
-rows_right : (steps : Steps) (lost : ℕ → Bool) (file new : List ℕ) (gap : ℕ) (ps : List PlacedFrame) → AreMovedAt steps lost file new gap ps → WordsAreRight file ps → AreRight new (map (moved_plain steps lost gap) (rows_of file ps))
+rows_right : (steps : ℕ → Steps) (lost : ℕ → Bool) (file new : List ℕ) (gap : ℕ) (ps : List PlacedFrame) → AreMovedAt steps lost file new gap ps → WordsAreRight file ps → AreRight new (map (moved_plain steps lost gap) (rows_of file ps))
 rows_right steps lost file new gap [] at words = tt
 rows_right steps lost file new gap (p ∷ ps) at words = (right_word steps lost file new gap p at.0 words.0, rows_right steps lost file new gap ps at.1 words.1)
 
-sound-moved : (steps : Steps) (lost : ℕ → Bool) (said new_said : ℕ) (gap : ℕ) (class : ClassFields) (allowed place_now ended count new_place new_ended : ℕ) (r : Row) → new_place ≡ place_now → new_ended ≡ ended → IsShaped r.side
+sound-moved : (steps : ℕ → Steps) (lost : ℕ → Bool) (said new_said : ℕ) (gap : ℕ) (class : ClassFields) (allowed place_now ended count new_place new_ended : ℕ) (r : Row) → new_place ≡ place_now → new_ended ≡ ended → IsShaped r.side
     → has_wrong_word new_said (moved_plain steps lost gap r) ≡ false → IsSound said class allowed place_now ended count r → IsSound new_said class allowed new_place new_ended count (moved_plain steps lost gap r)
 sound-moved steps lost said new_said gap class allowed place_now ended count new_place new_ended r same_place same_ended shaped word sound =
-    let begin = begin-unless (lost r.offset) steps r.side in
+    let begin = begin-unless (lost r.offset) (steps r.offset) r.side in
     record {
       same = sound.same;
       word = word;
@@ -256,7 +256,7 @@ sound-moved steps lost said new_said gap class allowed place_now ended count new
     }
 
 -- what stands at i among moved rows is the row there, moved
-moved_get : (steps : Steps) (lost : ℕ → Bool) (gap : ℕ) (rows : List Row) (i : ℕ) (r : Row) → slice_get (map (moved_plain steps lost gap) rows) i ≡ Some r → (q : Row) × (slice_get rows i ≡ Some q) × (moved_plain steps lost gap q ≡ r)
+moved_get : (steps : ℕ → Steps) (lost : ℕ → Bool) (gap : ℕ) (rows : List Row) (i : ℕ) (r : Row) → slice_get (map (moved_plain steps lost gap) rows) i ≡ Some r → (q : Row) × (slice_get rows i ≡ Some q) × (moved_plain steps lost gap q ≡ r)
 moved_get steps lost gap [] i r is = absurd cc
 moved_get steps lost gap (q ∷ rows) zero r is = (q, refl, cc)
 moved_get steps lost gap (q ∷ rows) (suc i) r is = moved_get steps lost gap rows i r is
@@ -264,7 +264,7 @@ moved_get steps lost gap (q ∷ rows) (suc i) r is = moved_get steps lost gap ro
 some_shaped : (rows : List Row) (i : ℕ) (q : Row) → AreShaped rows → slice_get rows i ≡ Some q → IsShaped q.side
 some_shaped rows i q shaped is = subst (λ (o : Option Row). IfSome o (λ x. IsShaped x.side)) is (shaped_get rows i shaped)
 
-all_sound : (steps : Steps) (lost : ℕ → Bool) (file new : List ℕ) (gap : ℕ) (o : Option Head) (class : ClassFields) (allowed : ℕ) (rows : List Row) → AreShaped rows → AreRight new (map (moved_plain steps lost gap) rows)
+all_sound : (steps : ℕ → Steps) (lost : ℕ → Bool) (file new : List ℕ) (gap : ℕ) (o : Option Head) (class : ClassFields) (allowed : ℕ) (rows : List Row) → AreShaped rows → AreRight new (map (moved_plain steps lost gap) rows)
     → AreSound file o class allowed rows → AreSound new (option_map (moved_head gap) o) class allowed (map (moved_plain steps lost gap) rows)
 all_sound steps lost file new gap o class allowed rows shaped right sound = λ i r is.
     let found = moved_get steps lost gap rows i r is in
@@ -292,7 +292,7 @@ end_cases file new gap [] (Some fault) e = absurd cc
 end_cases file new gap [] None e = absurd cc
 end_cases file new gap (p ∷ ps) o e = refl
 
-module _ (steps : Steps) (file : List ℕ) (allowed : ℕ) (start : Start) (all : AreBytes file) (read : IsRead file allowed start) where
+module _ (steps : ℕ → Steps) (file : List ℕ) (allowed : ℕ) (start : Start) (all : AreBytes file) (read : IsRead file allowed start) where
   abbrev new : List ℕ
   new = new_file steps file allowed start all read
 
@@ -385,7 +385,7 @@ module _ (steps : Steps) (file : List ℕ) (allowed : ℕ) (start : Start) (all 
   surveyed-from = surveyed-told new allowed (moved_start start) new-read ∙ ap Ok new-told
 
 -- The survey of the edited file: that of the file with moved gains, and without the junk.
-pub surveyed-edited : (steps : Steps) (file : List ℕ) (allowed : ℕ) (s : SurveyFields) → AreBytes file → surveyed file allowed ≡ Ok s → surveyed (edited steps file s) allowed ≡ Ok (moved_survey steps s)
+pub surveyed-edited : (steps : ℕ → Steps) (file : List ℕ) (allowed : ℕ) (s : SurveyFields) → AreBytes file → surveyed file allowed ≡ Ok s → surveyed (edited steps file s) allowed ≡ Ok (moved_survey steps s)
 surveyed-edited steps file allowed s all e =
     let parts = surveyed-parts file allowed s e in
     subst (λ t. surveyed (edited steps file t) allowed ≡ Ok (moved_survey steps t)) parts.2 (surveyed-from steps file allowed parts.0 all parts.1)

@@ -37,16 +37,16 @@ use Rattle.moved_gains.proofs.EditedItems.{moved-nil, moved-cons}
 use Rattle.moved_gains.proofs.LostOffsets.{rows_by, marked-by, walk_rising}
 
 -- the bytes of the file from an offset on, with the gains of these frames moved, which stand behind it in their order
-unfoldable pub moved_from : Steps → List ℕ → ℕ → List Row → List ℕ
+unfoldable pub moved_from : (ℕ → Steps) → List ℕ → ℕ → List Row → List ℕ
 moved_from steps file at [] = drop at file
-moved_from steps file at (row ∷ rows) = bytes_between file at row.offset ++ (moved_row_bytes steps file row ++ moved_from steps file (row_end row) rows)
+moved_from steps file at (row ∷ rows) = bytes_between file at row.offset ++ (moved_row_bytes (steps row.offset) file row ++ moved_from steps file (row_end row) rows)
 
-pub moved_from-nil : (steps : Steps) (file : List ℕ) (at : ℕ) → moved_from steps file at [] ≡ drop at file
+pub moved_from-nil : (steps : ℕ → Steps) (file : List ℕ) (at : ℕ) → moved_from steps file at [] ≡ drop at file
 unfolding moved_from
 moved_from-nil steps file at = refl
 
-pub moved_from-cons : (steps : Steps) (file : List ℕ) (at : ℕ) (row : Row) (rows : List Row)
-    → moved_from steps file at (row ∷ rows) ≡ bytes_between file at row.offset ++ (moved_row_bytes steps file row ++ moved_from steps file (row_end row) rows)
+pub moved_from-cons : (steps : ℕ → Steps) (file : List ℕ) (at : ℕ) (row : Row) (rows : List Row)
+    → moved_from steps file at (row ∷ rows) ≡ bytes_between file at row.offset ++ (moved_row_bytes (steps row.offset) file row ++ moved_from steps file (row_end row) rows)
 unfolding moved_from
 moved_from-cons steps file at row rows = refl
 
@@ -56,14 +56,14 @@ IsBehind at [] = Unit {0}
 IsBehind at (row ∷ rows) = at ≤ row.offset
 
 -- bytes before the first frame stay
-pub moved_from-later : (steps : Steps) (file : List ℕ) (at size : ℕ) (rows : List Row) → IsBehind (at + size) rows
+pub moved_from-later : (steps : ℕ → Steps) (file : List ℕ) (at size : ℕ) (rows : List Row) → IsBehind (at + size) rows
     → moved_from steps file at rows ≡ take size (drop at file) ++ moved_from steps file (at + size) rows
 moved_from-later steps file at size [] behind =
     moved_from-nil steps file at
     ∙ sym (take-append-drop size (drop at file))
     ∙ ap (λ (l : List ℕ). take size (drop at file) ++ l) (drop-drop size at file ∙ sym (moved_from-nil steps file (at + size)))
 moved_from-later steps file at size (row ∷ rows) behind =
-    let rest = moved_row_bytes steps file row ++ moved_from steps file (row_end row) rows in
+    let rest = moved_row_bytes (steps row.offset) file row ++ moved_from steps file (row_end row) rows in
     let sum : row.offset - at ≡ size + (row.offset - (at + size)) = omega (arith, behind) in
     moved_from-cons steps file at row rows
     ∙ ap (λ n. take n (drop at file) ++ rest) sum
@@ -97,24 +97,24 @@ abbrev item_bytes : List ℕ → ℕ → Item → List ℕ
 item_bytes file at item = take (size_of item) (drop at file)
 
 -- an item that isn't a frame
-kept : (steps : Steps) (lost : ℕ → Bool) (file : List ℕ) (frames : List PlacedFrame) (at : ℕ) (item : Item) → IsBehind (at + size_of item) (rows_by lost file frames)
+kept : (steps : ℕ → Steps) (lost : ℕ → Bool) (file : List ℕ) (frames : List PlacedFrame) (at : ℕ) (item : Item) → IsBehind (at + size_of item) (rows_by lost file frames)
     → moved_from steps file at (rows_by lost file frames) ≡ item_bytes file at item ++ moved_from steps file (at + size_of item) (rows_by lost file frames)
 kept steps lost file frames at item behind = moved_from-later steps file at (size_of item) (rows_by lost file frames) behind
 
 -- a frame
-frame_step : (steps : Steps) (lost : ℕ → Bool) (part : Part) (file : List ℕ) (frames : List PlacedFrame) (at : ℕ) (h : HeaderFields) → IsItemOf part file at (Frame h)
-    → moved_from steps file at (rows_by lost file (record { offset = at; header = h } ∷ frames)) ≡ moved_unless_lost (lost at) steps h (item_bytes file at (Frame h)) ++ moved_from steps file (at + size_of (Frame h)) (rows_by lost file frames)
+frame_step : (steps : ℕ → Steps) (lost : ℕ → Bool) (part : Part) (file : List ℕ) (frames : List PlacedFrame) (at : ℕ) (h : HeaderFields) → IsItemOf part file at (Frame h)
+    → moved_from steps file at (rows_by lost file (record { offset = at; header = h } ∷ frames)) ≡ moved_unless_lost (lost at) (steps at) h (item_bytes file at (Frame h)) ++ moved_from steps file (at + size_of (Frame h)) (rows_by lost file frames)
 frame_step steps lost part file frames at h here =
     let row : Row = record { offset = at; header = h; side = side_in h (drop at file); lost = lost at } in
     let len = length_of (class_of h) h.slot in
     let room = overhead-within h (header_front-in_range (drop at file) h (stands-at file at (Frame h) here.is)) in
     let none : at - at ≡ 0 = omega arith in
     moved_from-cons steps file at row (rows_by lost file frames)
-    ∙ ap (λ n. take n (drop at file) ++ (moved_row_bytes steps file row ++ moved_from steps file (row_end row) (rows_by lost file frames))) none
-    ∙ ap (λ (s : Side). cond (lost at) (item_bytes file at (Frame h)) (frame_with h (moved_side steps s) (item_bytes file at (Frame h))) ++ moved_from steps file (at + len) (rows_by lost file frames)) (sym (side_in-take h len (drop at file) room))
+    ∙ ap (λ n. take n (drop at file) ++ (moved_row_bytes (steps row.offset) file row ++ moved_from steps file (row_end row) (rows_by lost file frames))) none
+    ∙ ap (λ (s : Side). cond (lost at) (item_bytes file at (Frame h)) (frame_with h (moved_side (steps at) s) (item_bytes file at (Frame h))) ++ moved_from steps file (at + len) (rows_by lost file frames)) (sym (side_in-take h len (drop at file) room))
 
-item_step : (steps : Steps) (lost : ℕ → Bool) (part : Part) (file : List ℕ) (frames : List PlacedFrame) (at : ℕ) (item : Item) → IsItemOf part file at item → IsBehind (at + size_of item) (rows_by lost file frames)
-    → moved_from steps file at (rows_by lost file (option_to_list (frame_as at item) ++ frames)) ≡ moved_item steps (lost at) item (item_bytes file at item) ++ moved_from steps file (at + size_of item) (rows_by lost file frames)
+item_step : (steps : ℕ → Steps) (lost : ℕ → Bool) (part : Part) (file : List ℕ) (frames : List PlacedFrame) (at : ℕ) (item : Item) → IsItemOf part file at item → IsBehind (at + size_of item) (rows_by lost file frames)
+    → moved_from steps file at (rows_by lost file (option_to_list (frame_as at item) ++ frames)) ≡ moved_item (steps at) (lost at) item (item_bytes file at item) ++ moved_from steps file (at + size_of item) (rows_by lost file frames)
 item_step steps lost part file frames at (Frame h) here behind = frame_step steps lost part file frames at h here
 item_step steps lost part file frames at Free here behind = kept steps lost file frames at Free behind
 item_step steps lost part file frames at (Block b) here behind = kept steps lost file frames at (Block b) behind
@@ -123,7 +123,7 @@ item_step steps lost part file frames at End here behind = kept steps lost file 
 item_step steps lost part file frames at Nothing here behind = kept steps lost file frames at Nothing behind
 
 -- items that stand end to end are written as the moved items
-pub moved_from-items : (steps : Steps) (lost : ℕ → Bool) (part : Part) (file : List ℕ) (ps : List Placed) (from to : ℕ) → AreEndToEnd part file from ps to
+pub moved_from-items : (steps : ℕ → Steps) (lost : ℕ → Bool) (part : Part) (file : List ℕ) (ps : List Placed) (from to : ℕ) → AreEndToEnd part file from ps to
     → moved_from steps file from (rows_by lost file (frames_of ps)) ≡ moved_items steps lost file ps ++ drop to file
 moved_from-items steps lost part file [] from to e =
     moved_from-nil steps file from ∙ ap (λ n. drop n file) e ∙ ap (λ (l : List ℕ). l ++ drop to file) (sym (moved-nil steps lost file))
@@ -132,20 +132,20 @@ moved_from-items steps lost part file (p ∷ ps) from to e =
     let next = p.offset + size_of p.item in
     ap₂ (λ n (l : List PlacedFrame). moved_from steps file n (rows_by lost file l)) (sym e.0) (cons_list (frame_as p.offset p.item) (frames_of ps))
     ∙ item_step steps lost part file (frames_of ps) p.offset p.item here (frames_behind lost file part ps next to e.2)
-    ∙ ap (λ (l : List ℕ). moved_item steps (lost p.offset) p.item (bytes_in file p) ++ l) (moved_from-items steps lost part file ps next to e.2)
-    ∙ sym (append_assoc (moved_item steps (lost p.offset) p.item (bytes_in file p)) (moved_items steps lost file ps) (drop to file))
+    ∙ ap (λ (l : List ℕ). moved_item (steps p.offset) (lost p.offset) p.item (bytes_in file p) ++ l) (moved_from-items steps lost part file ps next to e.2)
+    ∙ sym (append_assoc (moved_item (steps p.offset) (lost p.offset) p.item (bytes_in file p)) (moved_items steps lost file ps) (drop to file))
     ∙ ap (λ (l : List ℕ). l ++ drop to file) (sym (moved-cons steps lost file p ps))
 
 -- ---- the stream
 
-whole : (steps : Steps) (lost : ℕ → Bool) (file : List ℕ) (ps : List Placed) (from to : ℕ) → AreEndToEnd Stream file from ps to → drop to file ≡ [] → moved_from steps file from (rows_by lost file (frames_of ps)) ≡ moved_items steps lost file ps
+whole : (steps : ℕ → Steps) (lost : ℕ → Bool) (file : List ℕ) (ps : List Placed) (from to : ℕ) → AreEndToEnd Stream file from ps to → drop to file ≡ [] → moved_from steps file from (rows_by lost file (frames_of ps)) ≡ moved_items steps lost file ps
 whole steps lost file ps from to e nothing =
     moved_from-items steps lost Stream file ps from to e
     ∙ ap (λ (l : List ℕ). moved_items steps lost file ps ++ l) nothing
     ∙ append-nil (moved_items steps lost file ps)
 
 -- behind the head, where the first frame is one
-behind_head : (steps : Steps) (lost : ℕ → Bool) (file : List ℕ) (head : Option Head) (ps : List Placed) (from to : ℕ) (h : HeaderFields) → AreEndToEnd Stream file from ps to → drop to file ≡ [] → item_at file from ≡ Frame h
+behind_head : (steps : ℕ → Steps) (lost : ℕ → Bool) (file : List ℕ) (head : Option Head) (ps : List Placed) (from to : ℕ) (h : HeaderFields) → AreEndToEnd Stream file from ps to → drop to file ≡ [] → item_at file from ≡ Frame h
     → moved_from steps file from (rows_by lost file (numbered head (frames_of ps))) ≡ moved_stream steps lost file head ps
 behind_head steps lost file None ps from to h e nothing first = whole steps lost file ps from to e nothing
 behind_head steps lost file (Some head) [] from to h e nothing first =
@@ -182,7 +182,7 @@ front_end-is file = refl
 -- ---- the whole file
 
 -- the bytes up to the junk, and from the first frame on with the gains of the frames moved
-pub written-edited : (steps : Steps) (file : List ℕ) (allowed : ℕ) (s : SurveyFields) → surveyed file allowed ≡ Ok s → take s.junk file ++ moved_from steps file s.first s.frames ≡ edited steps file s
+pub written-edited : (steps : ℕ → Steps) (file : List ℕ) (allowed : ℕ) (s : SurveyFields) → surveyed file allowed ≡ Ok s → take s.junk file ++ moved_from steps file s.first s.frames ≡ edited steps file s
 unfolding edited
 written-edited steps file allowed s e =
     let is = surveyed-is file allowed s e in

@@ -74,18 +74,18 @@ module _ (lost : ℕ → Bool) (file : List ℕ) where
 
   -- ---- a moved frame keeps its length
 
-  module _ (steps : Steps) where
+  module _ (steps : ℕ → Steps) where
     one_sized : (part : Part) (at : ℕ) (h : HeaderFields) → IsItemOf part file at (Frame h) → (b : Bool)
-        → length (cond b (take (length_of (class_of h) h.slot) (drop at file)) (frame_with h (moved_side steps (side_in h (drop at file))) (take (length_of (class_of h) h.slot) (drop at file)))) ≡ length_of (class_of h) h.slot
+        → length (cond b (take (length_of (class_of h) h.slot) (drop at file)) (frame_with h (moved_side (steps at) (side_in h (drop at file))) (take (length_of (class_of h) h.slot) (drop at file)))) ≡ length_of (class_of h) h.slot
     one_sized part at h here b =
         let size = length_of (class_of h) h.slot in
         let frame = take size (drop at file) in
         let fields = header_front-in_range (drop at file) h (stands-at file at (Frame h) here.is) in
         let long : length frame ≡ size = length-take-le size (drop at file) (omega (arith, here.within, length-drop at file)) in
         let s = side_in h (drop at file) in
-        let kept : length (frame_with h (moved_side steps s) frame) ≡ length frame =
-        length-frame_with h (moved_side steps s) frame (IsClass-class_of h fields) (IsShaped-moved steps s (shaped-side_in h (drop at file))) (omega (arith, overhead-within h fields, long)) in
-        by_lost b frame (frame_with h (moved_side steps s) frame) size long (kept ∙ long)
+        let kept : length (frame_with h (moved_side (steps at) s) frame) ≡ length frame =
+        length-frame_with h (moved_side (steps at) s) frame (IsClass-class_of h fields) (IsShaped-moved (steps at) s (shaped-side_in h (drop at file))) (omega (arith, overhead-within h fields, long)) in
+        by_lost b frame (frame_with h (moved_side (steps at) s) frame) size long (kept ∙ long)
       where
         by_lost : (b : Bool) (l m : List ℕ) (n : ℕ) → length l ≡ n → length m ≡ n → length (cond b l m) ≡ n
         by_lost true l m n a c = a
@@ -204,7 +204,7 @@ pub record IsInFront (s : SurveyFields) : Type 0 where
   pub some : 0 < tag_length s
   pub before : tag_at s + tag_length s ≤ s.junk
 
-pub record StandsSomewhere (steps : Steps) (file : List ℕ) (s : SurveyFields) : Type 0 where
+pub record StandsSomewhere (steps : ℕ → Steps) (file : List ℕ) (s : SurveyFields) : Type 0 where
   pub size : length file ≡ s.length
   pub junk : s.junk ≤ s.first
   pub first : s.first ≤ s.length
@@ -235,7 +235,7 @@ front_end-is : (file : List ℕ) → front_end_of file ≡ (run Front file 0).st
 unfolding front_end_of
 front_end-is file = refl
 
-module _ (steps : Steps) (file : List ℕ) (allowed : ℕ) (start : Start) (read : IsRead file allowed start) where
+module _ (steps : ℕ → Steps) (file : List ℕ) (allowed : ℕ) (start : Start) (read : IsRead file allowed start) where
   abbrev s : SurveyFields
   s = told_from file start
 
@@ -379,7 +379,7 @@ module _ (steps : Steps) (file : List ℕ) (allowed : ℕ) (start : Start) (read
         (find-append is_tag (blocks_of front.items) (blocks_of (stream_run file start).items) ∙ ap (λ (l : List Piece). option_or (find is_tag (blocks_of front.items)) (find is_tag l)) blocks_later);
   }
 
-pub stands_somewhere : (steps : Steps) (file : List ℕ) (allowed : ℕ) (s : SurveyFields) → surveyed file allowed ≡ Ok s → StandsSomewhere steps file s
+pub stands_somewhere : (steps : ℕ → Steps) (file : List ℕ) (allowed : ℕ) (s : SurveyFields) → surveyed file allowed ≡ Ok s → StandsSomewhere steps file s
 stands_somewhere steps file allowed s e =
     let parts = surveyed-parts file allowed s e in
     subst (StandsSomewhere steps file) parts.2 (stands steps file allowed parts.0 parts.1)

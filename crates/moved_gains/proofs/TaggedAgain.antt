@@ -24,11 +24,11 @@ use Rattle.moved_gains.proofs.TagPlaces.{IsAmong, IsInFront, StandsSomewhere, st
 use Rattle.moved_gains.proofs.WrittenTag.{length_moved, at_front, at_behind, is_behind, is_earlier, sized_front}
 use Rattle.moved_gains.proofs.MovedSurvey.{surveyed-edited}
 use Rattle.moved_gains.proofs.FramesThere.{AreFramesOf, frames_there}
-use Rattle.moved_gains.proofs.MovedAgain.{AreTogether, stood, AreMovedBy, ends_again, moved_again, moved_whole_to}
+use Rattle.moved_gains.proofs.MovedAgain.{AllTogether, stood, AreMovedBy, ends_again, moved_again, moved_whole_to}
 
 -- ---- the edited file is what stands before its tag, the tag, and what stands behind it
 
-pub record IsParted (steps : Steps) (file : List ℕ) (s : SurveyFields) (before behind : List ℕ) : Type 0 where
+pub record IsParted (steps : ℕ → Steps) (file : List ℕ) (s : SurveyFields) (before behind : List ℕ) : Type 0 where
   pub place : tag_at (moved_survey steps s) ≡ length before
   pub own : edited steps file s ≡ before ++ (own_bytes file s ++ behind)
   pub tagged : (bytes : List ℕ) → with_tag bytes (moved_survey steps s) (edited steps file s) ≡ before ++ (bytes ++ behind)
@@ -44,7 +44,7 @@ tagged_by bytes before own behind moved m at size is =
     ∙ drop_at own behind (tag_length m) (sym size) in
     ap₂ (λ (a b : List ℕ). a ++ (bytes ++ b)) front rest
 
-parted_by : (steps : Steps) (file : List ℕ) (s : SurveyFields) (before behind : List ℕ) → tag_at (moved_survey steps s) ≡ length before → length (own_bytes file s) ≡ tag_length s
+parted_by : (steps : ℕ → Steps) (file : List ℕ) (s : SurveyFields) (before behind : List ℕ) → tag_at (moved_survey steps s) ≡ length before → length (own_bytes file s) ≡ tag_length s
     → edited steps file s ≡ before ++ (own_bytes file s ++ behind) → IsParted steps file s before behind
 parted_by steps file s before behind place size own = record {
   place = place;
@@ -52,7 +52,7 @@ parted_by steps file s before behind place size own = record {
   tagged = λ bytes. tagged_by bytes before (own_bytes file s) behind (edited steps file s) (moved_survey steps s) place (length_moved steps s ∙ sym size) own;
 }
 
-module _ (steps : Steps) (file : List ℕ) (allowed : ℕ) (s : SurveyFields) (is : surveyed file allowed ≡ Ok s) where
+module _ (steps : ℕ → Steps) (file : List ℕ) (allowed : ℕ) (s : SurveyFields) (is : surveyed file allowed ≡ Ok s) where
   known : StandsSomewhere steps file s
   known = stands_somewhere steps file allowed s is
 
@@ -131,7 +131,15 @@ frames_behind : (file : List ℕ) (before behind : List Row) → AreFramesOf fil
 frames_behind file [] behind frames = frames
 frames_behind file (row ∷ before) behind frames = frames_behind file before behind frames.1
 
-module _ (one : Steps) (file : List ℕ) (allowed : ℕ) (s : SurveyFields) (are : AreBytes file) (is : surveyed file allowed ≡ Ok s) (block : List ℕ) (front : block_front block ≡ Some (record { kind = Ape; length = length block })) where
+together_before : (one two all : ℕ → Steps) (to : ℕ → ℕ) (before later : List Row) → AllTogether one two all to (before ++ later) → AllTogether one two all to before
+together_before one two all to [] later together = tt
+together_before one two all to (row ∷ before) later together = (together.0, together_before one two all to before later together.1)
+
+together_behind : (one two all : ℕ → Steps) (to : ℕ → ℕ) (before later : List Row) → AllTogether one two all to (before ++ later) → AllTogether one two all to later
+together_behind one two all to [] later together = together
+together_behind one two all to (row ∷ before) later together = together_behind one two all to before later together.1
+
+module _ (one : ℕ → Steps) (file : List ℕ) (allowed : ℕ) (s : SurveyFields) (are : AreBytes file) (is : surveyed file allowed ≡ Ok s) (block : List ℕ) (front : block_front block ≡ Some (record { kind = Ape; length = length block })) where
   abbrev m : SurveyFields
   m = moved_survey one s
 
@@ -269,7 +277,7 @@ module _ (one : Steps) (file : List ℕ) (allowed : ℕ) (s : SurveyFields) (are
       up = omega (arith, to_end, whole);
     }
 
-  module _ (two all : Steps) (sum : AreTogether one two all) where
+  module _ (two all : ℕ → Steps) (sum : AllTogether one two all to s.frames) where
     abbrev n : SurveyFields
     n = new_survey
 
@@ -312,7 +320,7 @@ module _ (one : Steps) (file : List ℕ) (allowed : ℕ) (s : SurveyFields) (are
         λ x low high. follows (x - gap) (omega (arith, kept, low, here.junk, at.before)) ∙ omega (arith, old_size, new_first, past, low, here.junk, at.before) in
         let rows_same : moved_to two new n.first (length new) n.frames ≡ moved_to all file s.first (length file) s.frames =
         ap₂ (λ k (l : List Row). moved_to two new n.first k l) (sym end) new_frames
-        ∙ moved_again one two all sum file new to s.first (length file) n.first s.frames [] frames (subst (EndBy s.first s.frames) (sym here.size) here.ends) (omega arith) by rows_stand in
+        ∙ moved_again one two all file new to s.first (length file) n.first s.frames [] sum frames (subst (EndBy s.first s.frames) (sym here.size) here.ends) (omega arith) by rows_stand in
         (parted_front two new allowed n new_is at_new).tagged bytes
         ∙ ap₂ (λ (j k : List ℕ). j ++ (bytes ++ k)) before_same (ap₂ (λ (j k : List ℕ). j ++ k) between_same rows_same)
         ∙ sym ((parted_front all file allowed s is at).tagged bytes)
@@ -346,6 +354,9 @@ module _ (one : Steps) (file : List ℕ) (allowed : ℕ) (s : SurveyFields) (are
       junk_long : length junk ≡ s.junk
       junk_long = length-take-le s.junk file (omega (arith, here.size, here.junk, here.first))
 
+      sum_both : AllTogether one two all to (at.before ++ at.behind)
+      sum_both = subst (AllTogether one two all to) at.all sum
+
       both : AreFramesOf file (at.before ++ at.behind)
       both = subst (AreFramesOf file) at.all frames
 
@@ -358,7 +369,7 @@ module _ (one : Steps) (file : List ℕ) (allowed : ℕ) (s : SurveyFields) (are
       before_again : moved_to two new n.first (tag_at n) (map (stood to one) at.before) ≡ moved_to all file s.first a at.before
       before_again =
           ap (λ k. moved_to two new n.first k (map (stood to one) at.before)) (sym (to_place at))
-          ∙ moved_again one two all sum file new to s.first a n.first at.before (block ++ behind) (frames_before file at.before at.behind both) at.front (omega (arith, up)) (by_before at) before_stands
+          ∙ moved_again one two all file new to s.first a n.first at.before (block ++ behind) (together_before one two all to at.before at.behind sum_both) (frames_before file at.before at.behind both) at.front (omega (arith, up)) (by_before at) before_stands
 
       front_long : length (junk ++ before) ≡ tag_at n
       front_long = sym (has_block.place ∙ parted.place)
@@ -375,7 +386,7 @@ module _ (one : Steps) (file : List ℕ) (allowed : ℕ) (s : SurveyFields) (are
       behind_again : moved_to two new after (length new) (map (stood to one) at.behind) ≡ moved_to all file (a + old) (length file) at.behind
       behind_again =
           ap (λ k. moved_to two new after k (map (stood to one) at.behind)) (sym (to_end at))
-          ∙ moved_again one two all sum file new to (a + old) (length file) after at.behind [] (frames_behind file at.before at.behind both) (rest_file at) (omega arith) (by_behind at) behind_stands
+          ∙ moved_again one two all file new to (a + old) (length file) after at.behind [] (together_behind one two all to at.before at.behind sum_both) (frames_behind file at.before at.behind both) (rest_file at) (omega arith) (by_behind at) behind_stands
 
       among_again : (bytes : List ℕ) → with_tag bytes (moved_survey two n) (edited two new n) ≡ with_tag bytes (moved_survey all s) (edited all file s)
       among_again bytes =

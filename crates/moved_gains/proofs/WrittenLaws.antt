@@ -11,22 +11,22 @@ use Rattle.moved_gains.proofs.MovingLaws.{moved_from, moved_from-nil, moved_from
 
 -- ---- one frame more
 
-written-nil : (steps : Steps) (tag : Option NewTag) (file : List ℕ) (at : ℕ) → written_from steps tag file at [] ≡ copied tag file at (length file)
+written-nil : (steps : ℕ → Steps) (tag : Option NewTag) (file : List ℕ) (at : ℕ) → written_from steps tag file at [] ≡ copied tag file at (length file)
 unfolding written_from
 written-nil steps tag file at = refl
 
-written-cons : (steps : Steps) (tag : Option NewTag) (file : List ℕ) (at : ℕ) (row : Row) (rows : List Row)
-    → written_from steps tag file at (row ∷ rows) ≡ copied tag file at row.offset ++ (moved_row_bytes steps file row ++ written_from steps tag file (row_end row) rows)
+written-cons : (steps : ℕ → Steps) (tag : Option NewTag) (file : List ℕ) (at : ℕ) (row : Row) (rows : List Row)
+    → written_from steps tag file at (row ∷ rows) ≡ copied tag file at row.offset ++ (moved_row_bytes (steps row.offset) file row ++ written_from steps tag file (row_end row) rows)
 unfolding written_from
 written-cons steps tag file at row rows = refl
 
 -- what is left to be written at the frame at i
-pub left_at : (steps : Steps) (tag : Option NewTag) (file : List ℕ) (at : ℕ) (rows : List Row) (i : ℕ) (row : Row) → drop i rows ≡ row ∷ drop (i + 1) rows
-    → written_from steps tag file at (drop i rows) ≡ copied tag file at row.offset ++ (moved_row_bytes steps file row ++ written_from steps tag file (row_end row) (drop (i + 1) rows))
+pub left_at : (steps : ℕ → Steps) (tag : Option NewTag) (file : List ℕ) (at : ℕ) (rows : List Row) (i : ℕ) (row : Row) → drop i rows ≡ row ∷ drop (i + 1) rows
+    → written_from steps tag file at (drop i rows) ≡ copied tag file at row.offset ++ (moved_row_bytes (steps row.offset) file row ++ written_from steps tag file (row_end row) (drop (i + 1) rows))
 left_at steps tag file at rows i row is = ap (written_from steps tag file at) is ∙ written-cons steps tag file at row (drop (i + 1) rows)
 
 -- behind the last frame that is the rest of the file
-pub left_behind : (steps : Steps) (tag : Option NewTag) (file : List ℕ) (at size : ℕ) (rows : List Row) → rows ≡ [] → length file ≡ size → written_from steps tag file at rows ≡ copied tag file at size
+pub left_behind : (steps : ℕ → Steps) (tag : Option NewTag) (file : List ℕ) (at size : ℕ) (rows : List Row) → rows ≡ [] → length file ≡ size → written_from steps tag file at rows ≡ copied tag file at size
 left_behind steps tag file at size rows none is = ap (written_from steps tag file at) none ∙ written-nil steps tag file at ∙ ap (copied tag file at) is
 
 -- ---- without a new tag
@@ -34,11 +34,11 @@ left_behind steps tag file at size rows none is = ap (written_from steps tag fil
 rest-is : (file : List ℕ) (at : ℕ) → bytes_between file at (length file) ≡ drop at file
 rest-is file at = take_all (length file - at) (drop at file) (omega (arith, length-drop at file))
 
-pub written-none : (steps : Steps) (file : List ℕ) (at : ℕ) (rows : List Row) → written_from steps None file at rows ≡ moved_from steps file at rows
+pub written-none : (steps : ℕ → Steps) (file : List ℕ) (at : ℕ) (rows : List Row) → written_from steps None file at rows ≡ moved_from steps file at rows
 written-none steps file at [] = written-nil steps None file at ∙ rest-is file at ∙ sym (moved_from-nil steps file at)
 written-none steps file at (row ∷ rows) =
     written-cons steps None file at row rows
-    ∙ ap (λ (l : List ℕ). bytes_between file at row.offset ++ (moved_row_bytes steps file row ++ l)) (written-none steps file (row_end row) rows)
+    ∙ ap (λ (l : List ℕ). bytes_between file at row.offset ++ (moved_row_bytes (steps row.offset) file row ++ l)) (written-none steps file (row_end row) rows)
     ∙ sym (moved_from-cons steps file at row rows)
 
 -- ---- frames in front of the tag, and frames behind it
@@ -53,26 +53,26 @@ end_rises from [] to ends = ends
 end_rises from (row ∷ rows) to ends = omega (arith, ends.0, ends.1, end_rises (row_end row) rows to ends.2)
 
 -- the bytes up to an offset, with the gains of these frames moved
-abbrev pub moved_to : Steps → List ℕ → ℕ → ℕ → List Row → List ℕ
+abbrev pub moved_to : (ℕ → Steps) → List ℕ → ℕ → ℕ → List Row → List ℕ
 moved_to steps file at to [] = bytes_between file at to
-moved_to steps file at to (row ∷ rows) = bytes_between file at row.offset ++ (moved_row_bytes steps file row ++ moved_to steps file (row_end row) to rows)
+moved_to steps file at to (row ∷ rows) = bytes_between file at row.offset ++ (moved_row_bytes (steps row.offset) file row ++ moved_to steps file (row_end row) to rows)
 
 -- the length of each frame stays
-abbrev pub AreSized : Steps → List ℕ → List Row → Type 0
+abbrev pub AreSized : (ℕ → Steps) → List ℕ → List Row → Type 0
 AreSized steps file [] = Unit {0}
-AreSized steps file (row ∷ rows) = (length (moved_row_bytes steps file row) ≡ row_length row) × AreSized steps file rows
+AreSized steps file (row ∷ rows) = (length (moved_row_bytes (steps row.offset) file row) ≡ row_length row) × AreSized steps file rows
 
 pub between_long : (file : List ℕ) (from to : ℕ) → from ≤ to → to ≤ length file → length (bytes_between file from to) ≡ to - from
 between_long file from to up within = length-take-le (to - from) (drop from file) (omega (arith, length-drop from file, up, within))
 
-pub moved_to-long : (steps : Steps) (file : List ℕ) (at to : ℕ) (rows : List Row) → AreSized steps file rows → EndBy at rows to → to ≤ length file → length (moved_to steps file at to rows) ≡ to - at
+pub moved_to-long : (steps : ℕ → Steps) (file : List ℕ) (at to : ℕ) (rows : List Row) → AreSized steps file rows → EndBy at rows to → to ≤ length file → length (moved_to steps file at to rows) ≡ to - at
 moved_to-long steps file at to [] sized ends within = between_long file at to ends within
 moved_to-long steps file at to (row ∷ rows) sized ends within =
     let up = end_rises (row_end row) rows to ends.2 in
     omega (
       arith,
-      length-append (bytes_between file at row.offset) (moved_row_bytes steps file row ++ moved_to steps file (row_end row) to rows),
-      length-append (moved_row_bytes steps file row) (moved_to steps file (row_end row) to rows),
+      length-append (bytes_between file at row.offset) (moved_row_bytes (steps row.offset) file row ++ moved_to steps file (row_end row) to rows),
+      length-append (moved_row_bytes (steps row.offset) file row) (moved_to steps file (row_end row) to rows),
       between_long file at row.offset ends.0 (omega (arith, ends.1, up, within)),
       sized.0,
       moved_to-long steps file (row_end row) to rows sized.1 ends.2 within,
@@ -85,7 +85,7 @@ pub append_three : (a b c d : List ℕ) → (a ++ (b ++ c)) ++ d ≡ a ++ (b ++ 
 append_three a b c d = append_assoc a (b ++ c) d ∙ ap (λ (l : List ℕ). a ++ l) (append_assoc b c d)
 
 -- the moved bytes up to an offset that isn't behind the next frame, and those from it on
-pub moved_split : (steps : Steps) (file : List ℕ) (at to : ℕ) (before behind : List Row) → EndBy at before to → IsBehind to behind
+pub moved_split : (steps : ℕ → Steps) (file : List ℕ) (at to : ℕ) (before behind : List Row) → EndBy at before to → IsBehind to behind
     → moved_from steps file at (before ++ behind) ≡ moved_to steps file at to before ++ moved_from steps file to behind
 moved_split steps file at to [] behind ends next =
     let sum : at + (to - at) ≡ to = omega (arith, ends) in
@@ -93,8 +93,8 @@ moved_split steps file at to [] behind ends next =
     ∙ ap (λ n. bytes_between file at to ++ moved_from steps file n behind) sum
 moved_split steps file at to (row ∷ before) behind ends next =
     moved_from-cons steps file at row (before ++ behind)
-    ∙ ap (λ (l : List ℕ). bytes_between file at row.offset ++ (moved_row_bytes steps file row ++ l)) (moved_split steps file (row_end row) to before behind ends.2 next)
-    ∙ sym (append_three (bytes_between file at row.offset) (moved_row_bytes steps file row) (moved_to steps file (row_end row) to before) (moved_from steps file to behind))
+    ∙ ap (λ (l : List ℕ). bytes_between file at row.offset ++ (moved_row_bytes (steps row.offset) file row ++ l)) (moved_split steps file (row_end row) to before behind ends.2 next)
+    ∙ sym (append_three (bytes_between file at row.offset) (moved_row_bytes (steps row.offset) file row) (moved_to steps file (row_end row) to before) (moved_from steps file to behind))
 
 -- ---- with a new tag
 
@@ -104,7 +104,7 @@ not_all true true false l m e = refl
 not_all true false c l m e = refl
 not_all false b c l m e = refl
 
-module _ (steps : Steps) (file : List ℕ) (tag : NewTag) where
+module _ (steps : ℕ → Steps) (file : List ℕ) (tag : NewTag) where
   abbrev new : List ℕ
   new = tag.bytes.now
 
@@ -127,7 +127,7 @@ module _ (steps : Steps) (file : List ℕ) (tag : NewTag) where
   written-behind at [] to past ends = written-nil steps (Some tag) file at ∙ behind_tag at (length file) past ∙ rest-is file at ∙ sym (moved_from-nil steps file at)
   written-behind at (row ∷ rows) to past ends =
       written-cons steps (Some tag) file at row rows
-      ∙ ap₂ (λ (a b : List ℕ). a ++ (moved_row_bytes steps file row ++ b)) (behind_tag at row.offset past) (written-behind (row_end row) rows to (omega (arith, past, ends.0, ends.1)) ends.2)
+      ∙ ap₂ (λ (a b : List ℕ). a ++ (moved_row_bytes (steps row.offset) file row ++ b)) (behind_tag at row.offset past) (written-behind (row_end row) rows to (omega (arith, past, ends.0, ends.1)) ends.2)
       ∙ sym (moved_from-cons steps file at row rows)
 
   -- the tag stands in front of these frames, or at the end
@@ -138,9 +138,9 @@ module _ (steps : Steps) (file : List ℕ) (tag : NewTag) where
       ∙ around_tag at (length file) low up within
       ∙ ap (λ (l : List ℕ). bytes_between file at tag.at ++ (new ++ l)) (rest-is file tag.end ∙ sym (moved_from-nil steps file tag.end))
   written-next at (row ∷ behind) to low up within ends =
-      let rest = moved_row_bytes steps file row ++ moved_from steps file (row_end row) behind in
+      let rest = moved_row_bytes (steps row.offset) file row ++ moved_from steps file (row_end row) behind in
       written-cons steps (Some tag) file at row behind
-      ∙ ap₂ (λ (a b : List ℕ). a ++ (moved_row_bytes steps file row ++ b)) (around_tag at row.offset low up ends.0) (written-behind (row_end row) behind to (omega (arith, up, ends.0, ends.1)) ends.2)
+      ∙ ap₂ (λ (a b : List ℕ). a ++ (moved_row_bytes (steps row.offset) file row ++ b)) (around_tag at row.offset low up ends.0) (written-behind (row_end row) behind to (omega (arith, up, ends.0, ends.1)) ends.2)
       ∙ append_three (bytes_between file at tag.at) new (bytes_between file tag.end row.offset) rest
       ∙ ap (λ (l : List ℕ). bytes_between file at tag.at ++ (new ++ l)) (sym (moved_from-cons steps file tag.end row behind))
 
@@ -151,5 +151,5 @@ module _ (steps : Steps) (file : List ℕ) (tag : NewTag) where
   written-split at (row ∷ before) behind to ends up within next =
       let high = end_rises (row_end row) before tag.at ends.2 in
       written-cons steps (Some tag) file at row (before ++ behind)
-      ∙ ap₂ (λ (a b : List ℕ). a ++ (moved_row_bytes steps file row ++ b)) (before_tag at row.offset (omega (arith, ends.1, high, up))) (written-split (row_end row) before behind to ends.2 up within next)
-      ∙ sym (append_three (bytes_between file at row.offset) (moved_row_bytes steps file row) (moved_to steps file (row_end row) tag.at before) (new ++ moved_from steps file tag.end behind))
+      ∙ ap₂ (λ (a b : List ℕ). a ++ (moved_row_bytes (steps row.offset) file row ++ b)) (before_tag at row.offset (omega (arith, ends.1, high, up))) (written-split (row_end row) before behind to ends.2 up within next)
+      ∙ sym (append_three (bytes_between file at row.offset) (moved_row_bytes (steps row.offset) file row) (moved_to steps file (row_end row) tag.at before) (new ++ moved_from steps file tag.end behind))

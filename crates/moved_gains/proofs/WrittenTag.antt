@@ -36,14 +36,14 @@ module _ (first gap : ℕ) where
   size_kept : (p : Piece) → (moved_block first gap p).block.length ≡ p.block.length
   size_kept p = elim (ltb p.offset first) as (λ b. (cond b p (record p { offset = p.offset - gap })).block.length ≡ p.block.length) [ true ↦ refl | false ↦ refl ]
 
-last_moved : (steps : Steps) (gap from : ℕ) (row : Row) (rows : List Row) (to : ℕ) → EndBy from (row ∷ rows) to → gap ≤ from → last_end (map (moved_row steps gap) (row ∷ rows)) ≡ last_end (row ∷ rows) - gap
+last_moved : (steps : ℕ → Steps) (gap from : ℕ) (row : Row) (rows : List Row) (to : ℕ) → EndBy from (row ∷ rows) to → gap ≤ from → last_end (map (moved_row steps gap) (row ∷ rows)) ≡ last_end (row ∷ rows) - gap
 last_moved steps gap from row [] to ends low = omega (arith, ends.0, low)
 last_moved steps gap from row (q ∷ rows) to ends low =
     last_more (moved_row steps gap row) (moved_row steps gap q) (map (moved_row steps gap) rows)
     ∙ last_moved steps gap (row_end row) q rows to ends.2 (omega (arith, low, ends.0, ends.1))
     ∙ ap (λ n. n - gap) (sym (last_more row q rows))
 
-module _ (steps : Steps) (s : SurveyFields) where
+module _ (steps : ℕ → Steps) (s : SurveyFields) where
   abbrev gap : ℕ
   gap = junk_length s
 
@@ -112,7 +112,7 @@ pub is_earlier : (at later : ℕ) (rows : List Row) → at ≤ later → IsBehin
 is_earlier at later [] low behind = tt
 is_earlier at later (row ∷ rows) low behind = omega (arith, low, behind)
 
-pub sized_front : (steps : Steps) (file : List ℕ) (before behind : List Row) → AreSized steps file (before ++ behind) → AreSized steps file before
+pub sized_front : (steps : ℕ → Steps) (file : List ℕ) (before behind : List Row) → AreSized steps file (before ++ behind) → AreSized steps file before
 sized_front steps file [] behind sized = tt
 sized_front steps file (row ∷ before) behind sized = (sized.0, sized_front steps file before behind sized.1)
 
@@ -120,7 +120,7 @@ with_tag-is : (bytes : List ℕ) (s : SurveyFields) (file : List ℕ) → with_t
 unfolding with_tag
 with_tag-is bytes s file = refl
 
-module _ (steps : Steps) (file : List ℕ) (allowed : ℕ) (s : SurveyFields) (is : surveyed file allowed ≡ Ok s) (tag : NewTag) (bytes : List ℕ) (new : IsTagOf s (Some bytes) (Some tag)) where
+module _ (steps : ℕ → Steps) (file : List ℕ) (allowed : ℕ) (s : SurveyFields) (is : surveyed file allowed ≡ Ok s) (tag : NewTag) (bytes : List ℕ) (new : IsTagOf s (Some bytes) (Some tag)) where
   abbrev m2 : SurveyFields
   m2 = moved_survey steps s
 

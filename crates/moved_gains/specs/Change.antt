@@ -4,17 +4,18 @@ use Rattle.file_tag.specs.Places.{with_tag}
 use Rattle.sync_survey.specs.Faults.{SurveyFields}
 use Rattle.moved_gains.specs.declared.change.Change.{Change as CodeChange}
 use Rattle.moved_gains.specs.declared.shift.Steps.{Steps}
+use Rattle.moved_gains.specs.Course.{steps_over}
 use Rattle.moved_gains.specs.Edited.{edited}
 use Rattle.moved_gains.specs.Streams.{moved_survey}
 
--- by how many steps the gains move, and the bytes that stand in place of the tag, where it changes: none, where it is taken out
+-- by how many steps the gains of the frame at an offset move, and the bytes that stand in place of the tag, where it changes: none, where it is taken out
 pub record Change : Type 0 where
-  pub steps : Steps
+  pub steps : ℕ → Steps
   pub tag : Option (List ℕ)
 
--- that of the code
-abbrev pub change_in : CodeChange → Change
-change_in change = record { steps = change.steps; tag = option_map (λ tag. tag.items) change.tag }
+-- that of the code, of a file with this survey
+abbrev pub change_in : CodeChange → SurveyFields → Change
+change_in change s = record { steps = steps_over change.course s.frames; tag = option_map (λ tag. tag.items) change.tag }
 
 -- the file with these bytes in place of its tag
 abbrev pub retag : Option (List ℕ) → SurveyFields → List ℕ → List ℕ

@@ -32,12 +32,12 @@ moved_item steps lost Zero bytes = bytes
 moved_item steps lost End bytes = bytes
 moved_item steps lost Nothing bytes = bytes
 
--- the same of items of a file, one behind the other, where the frames at these offsets are lost
-unfoldable pub moved_items : Steps → (ℕ → Bool) → List ℕ → List Placed → List ℕ
-moved_items steps lost file ps = flat_map (λ (p : Placed). moved_item steps (lost p.offset) p.item (bytes_in file p)) ps
+-- the same of items of a file, one behind the other, where a frame at an offset moves by the steps there, and the frames at these offsets are lost
+unfoldable pub moved_items : (ℕ → Steps) → (ℕ → Bool) → List ℕ → List Placed → List ℕ
+moved_items steps lost file ps = flat_map (λ (p : Placed). moved_item (steps p.offset) (lost p.offset) p.item (bytes_in file p)) ps
 
 -- the items from the first frame on; a head is the first of them, and stays
-abbrev pub moved_stream : Steps → (ℕ → Bool) → List ℕ → Option Head → List Placed → List ℕ
+abbrev pub moved_stream : (ℕ → Steps) → (ℕ → Bool) → List ℕ → Option Head → List Placed → List ℕ
 moved_stream steps lost file None ps = moved_items steps lost file ps
 moved_stream steps lost file (Some head) ps = bytes_of_items file (take 1 ps) ++ moved_items steps lost file (drop 1 ps)
 
@@ -46,8 +46,8 @@ abbrev pub is_lost_at : List Row → ℕ → Bool
 is_lost_at [] at = false
 is_lost_at (row ∷ rows) at = (row.lost && row.offset == at) || is_lost_at rows at
 
--- all items of a file in their order, with the gains of its frames moved; junk is dropped
-unfoldable pub edited : Steps → List ℕ → SurveyFields → List ℕ
+-- all items of a file in their order, with the gains of its frames moved, each by the steps at its offset; junk is dropped
+unfoldable pub edited : (ℕ → Steps) → List ℕ → SurveyFields → List ℕ
 edited steps file s =
     bytes_of_items file (run Front file 0).items ++ moved_stream steps (is_lost_at s.frames) file s.head (run Stream file s.first).items
 

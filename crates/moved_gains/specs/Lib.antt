@@ -1,5 +1,6 @@
 -- What the contracts of this crate cite.
 pub mod Gains
+pub mod Course
 pub mod Edited
 pub mod Streams
 pub mod Change

@@ -47,12 +47,12 @@ copied None file from to = bytes_between file from to
 copied (Some tag) file from to =
     if nat_le from tag.at && (nat_le tag.at tag.end && nat_le tag.end to) then bytes_around tag from to file else bytes_between file from to
 
--- The bytes of the file from an offset on, with the gains of these frames moved, which stand behind it in their order, and with the new tag,
+-- The bytes of the file from an offset on, with the gains of these frames moved, each by the steps at its offset, which stand behind it in their order, and with the new tag,
 -- where what it replaces stands between them.
-unfoldable pub written_from : Steps → Option NewTag → List ℕ → ℕ → List Row → List ℕ
+unfoldable pub written_from : (ℕ → Steps) → Option NewTag → List ℕ → ℕ → List Row → List ℕ
 written_from steps tag file at [] = copied tag file at (length file)
 written_from steps tag file at (row ∷ rows) =
-    copied tag file at row.offset ++ (moved_row_bytes steps file row ++ written_from steps tag file (row_end row) rows)
+    copied tag file at row.offset ++ (moved_row_bytes (steps row.offset) file row ++ written_from steps tag file (row_end row) rows)
 
 -- the new tag of a change stands in place of the file's
 abbrev pub IsTagOf : SurveyFields → Option (List ℕ) → Option NewTag → Type 0

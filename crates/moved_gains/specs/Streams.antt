@@ -1,10 +1,11 @@
 -- What a change of gains makes of the survey of a file, and of the stream that the file holds.
 pub use Rattle.sync_survey.specs.Faults.{HoldsStream, stream_by, stream_of as stream_in}
+use Rattle.std.specs.List.{enumerate_from}
 use Rattle.std.specs.Prelude.{◌≡◌, ℕ, ◌-◌, nat_lt, if◌then◌else◌, List, ◌++◌, take, drop, map, option_map}
 use Rattle.sync_survey.specs.declared.places.Head.{Head}
 use Rattle.sync_survey.specs.declared.places.Piece.{Piece}
 use Rattle.sync_survey.specs.declared.rows.Row.{Row}
-use Rattle.sync_survey.specs.MainData.{StreamFrame}
+use Rattle.sync_survey.specs.MainData.{StreamFrame, main_bytes, stream_frame}
 use Rattle.sync_survey.specs.Faults.{SurveyFields, IsWellFormed, stream_of_survey}
 use Rattle.moved_gains.specs.declared.shift.Steps.{Steps}
 use Rattle.moved_gains.specs.Gains.{moved_side, moved_unless}
@@ -15,9 +16,9 @@ use Rattle.moved_gains.specs.Gains.{moved_side, moved_unless}
 abbrev pub junk_length : SurveyFields → ℕ
 junk_length s = s.first - s.junk
 
--- a frame that isn't lost has moved gains, and each stands so many bytes nearer to the front of the file
-abbrev pub moved_row : Steps → ℕ → Row → Row
-moved_row steps gap row = record row { offset = row.offset - gap; side = moved_unless row.lost steps row.side }
+-- a frame that isn't lost has its gains moved by the steps at its offset, and each stands so many bytes nearer to the front of the file
+abbrev pub moved_row : (ℕ → Steps) → ℕ → Row → Row
+moved_row steps gap row = record row { offset = row.offset - gap; side = moved_unless row.lost (steps row.offset) row.side }
 
 -- a head stands so many bytes nearer to the front, and stays
 abbrev pub moved_head : ℕ → Head → Head
@@ -29,7 +30,7 @@ moved_block first gap piece = if nat_lt piece.offset first then piece else recor
 
 -- What a survey tells of the edited file: the same frames with moved gains, blocks, head and class, at their offsets without the junk.
 -- The first frame begins where the junk began.
-unfoldable pub moved_survey : Steps → SurveyFields → SurveyFields
+unfoldable pub moved_survey : (ℕ → Steps) → SurveyFields → SurveyFields
 moved_survey steps s = record {
   frames = map (moved_row steps (junk_length s)) s.frames;
   blocks = map (moved_block s.first (junk_length s)) s.blocks;
@@ -50,9 +51,14 @@ without_junk s file = take s.junk file ++ drop s.first file
 abbrev pub moved_stream_frame : Steps → StreamFrame → StreamFrame
 moved_stream_frame steps frame = record frame { side = moved_side steps frame.side }
 
+-- the stream of a surveyed file, with the gains of each frame moved by the steps at its offset
+unfoldable pub moved_stream_of : (ℕ → Steps) → List ℕ → SurveyFields → List StreamFrame
+moved_stream_of steps file s =
+    map (λ (p : ℕ × Row). moved_stream_frame (steps p.1.offset) (stream_frame (main_bytes file s.head s.frames) s.head s.frames p.0 p.1)) (enumerate_from 0 s.frames)
+
 -- Both files are well-formed, and the stream of the new one is that of the file with the gains of each frame moved: as many frames in
 -- the same order, with the same headers, the same main data, and the same side information but for the gains.
-pub record IsStreamMoved (steps : Steps) (file new : List ℕ) : Type 0 where
+pub record IsStreamMoved (steps : ℕ → Steps) (file new : List ℕ) : Type 0 where
   pub before : IsWellFormed file
   pub after : IsWellFormed new
-  pub stream : stream_of_survey new after.0 ≡ map (moved_stream_frame steps) (stream_of_survey file before.0)
+  pub stream : stream_of_survey new after.0 ≡ moved_stream_of steps file before.0

@@ -1,16 +1,18 @@
 //! Gains that are moved by steps of 1.5 dB: those of a frame, and those of a whole file, which is read once from front to
-//! back and written with them, and with another tag where that changes. What is written is a well-formed file with the same
+//! back and written with them, each frame by its own steps, and with another tag where that changes. What is written is a well-formed file with the same
 //! stream but for the gains.
 #![tactic(auto)]
 
 mod buffers;
 mod change;
+mod course;
 mod gains;
 mod moving;
 mod shift;
 
 pub use buffers::Buffers;
 pub use change::Change;
+pub use course::Course;
 pub use gains::{Stuck, stuck_in};
 pub use moving::write_changed;
 pub use shift::{Channels, Shift, Steps};

@@ -1,6 +1,6 @@
 //! The second pass over an input: it is read from front to back, and written with the gains of its frames moved,
 //! but for lost ones, and with another tag where that changes.
-ghost use Rattle.std.specs.Prelude.{◌≡◌, ◌≢◌, ◌+◌, ◌≤◌, ◌++◌, List, ℕ, [], length, take, drop, IfOk, IfErr, OnOk, OnErr, Ok};
+ghost use Rattle.std.specs.Prelude.{◌≡◌, ◌≢◌, ◌+◌, ◌<◌, ◌≤◌, ◌^◌, ◌++◌, List, ℕ, [], length, take, drop, IfOk, IfErr, OnOk, OnErr, Ok};
 ghost use Rattle.frame_header.specs.Fields.{HeaderFields};
 ghost use Rattle.frame_header.specs.Tables.{class_of, length_of, overhead_of};
 ghost use Rattle.side_info.specs.Frame.{side_in};
@@ -11,10 +11,12 @@ ghost use Rattle.sync_survey.specs.Survey.{survey_of, AreLaid, IsLaidOut};
 ghost use Rattle.moved_gains.specs.Buffers.{AreFresh};
 ghost use Rattle.sync_survey.specs.Limits.{most_frames};
 ghost use Rattle.moved_gains.specs.Change.{changed, change_in};
+ghost use Rattle.moved_gains.specs.Course.{steps_over, AreNumbered};
 ghost use Rattle.moved_gains.specs.Moving.{row_length, row_end, row_bytes, IsRowOf, AreRowsOf, moved_bytes, moved_row_bytes, bytes_around, copied, written_from, IsNewTag};
 
 use crate::buffers::Buffers;
 use crate::change::Change;
+use crate::course::Course;
 use crate::gains::moved_side;
 use crate::shift::Steps;
 use file_tag::tag_place;
@@ -57,11 +59,18 @@ struct NewTag<'a> {
     bytes: &'a [u8],
 }
 
+/// A frame, and by how many steps its gains move.
+#[derive(Clone, Copy)]
+struct MovedRow<'a> {
+    row: &'a Row,
+    steps: Steps,
+}
+
 /// A pass that moves gains.
 #[derive(Drop)]
 struct GainPass<'a> {
     pass: Pass<'a>,
-    steps: &'a Steps,
+    course: &'a Course,
     /// The new tag, where that changes.
     tag: Option<NewTag<'a>>,
 }
@@ -137,22 +146,22 @@ impl<'a> GainPass<'a> {
     fn push_moved<D: Folder>(
         &self,
         folder: &mut D,
-        row: &Row,
+        moved: &MovedRow,
         frame: &[u8],
         size: usize,
         waiting: &mut WriteBuffer,
     ) -> Result<(), PassFault>
         requires target { IsThere (D.files folder.old) self.now.pass.output.now }
-        requires reached { overhead_of (class_of row.now.header) row.now.header.protected ≤ size }
+        requires reached { overhead_of (class_of moved.now.row.now.header) moved.now.row.now.header.protected ≤ size }
         requires few { size ≤ 38 }
         requires within { size ≤ length frame.now }
         requires told { (file : List ℕ) → Holds (D.files folder.old) self.now.pass.input.now file →
-            IsRowOf file row.now × (frame.now ≡ row_bytes file row.now) }
+            IsRowOf file moved.now.row.now × (frame.now ≡ row_bytes file moved.now.row.now) }
         ensures written { OnOk result (Writes self.now.pass
-            (λ file. moved_row_bytes self.now.steps.now file row.now)
+            (λ file. moved_row_bytes moved.now.steps file moved.now.row.now)
             waiting.old waiting.new (D.files folder.old) (D.files folder.new)) }
         ensures prefix { OnErr result (WritesPrefix self.now.pass
-            (λ file. moved_row_bytes self.now.steps.now file row.now)
+            (λ file. moved_row_bytes moved.now.steps file moved.now.row.now)
             waiting.old (D.files folder.old) (D.files folder.new)) }
         ensures done { OnOk result (D.counts folder.new ≡ D.counts folder.old) }
         ensures cause { IfErr result (HasPassCause self.now.pass.length (D.files folder.old)
@@ -161,7 +170,7 @@ impl<'a> GainPass<'a> {
         let mut room = [0; MOST_OVERHEAD];
         let front = &mut room[..size];
         front.copy_from_slice(&frame[..size]);
-        move_front(self.steps, row, front);
+        move_front(&moved.steps, moved.row, front);
         self.pass.push_both(folder, front, &frame[size..], waiting)
     }
 
@@ -170,20 +179,20 @@ impl<'a> GainPass<'a> {
     fn push_frame<D: Folder>(
         &self,
         folder: &mut D,
-        row: &Row,
+        moved: &MovedRow,
         frame: &[u8],
         waiting: &mut WriteBuffer,
     ) -> Result<(), PassFault>
         requires target { IsThere (D.files folder.old) self.now.pass.output.now }
-        requires room { overhead_of (class_of row.now.header) row.now.header.protected
+        requires room { overhead_of (class_of moved.now.row.now.header) moved.now.row.now.header.protected
             ≤ length frame.now }
         requires told { (file : List ℕ) → Holds (D.files folder.old) self.now.pass.input.now file →
-            IsRowOf file row.now × (frame.now ≡ row_bytes file row.now) }
+            IsRowOf file moved.now.row.now × (frame.now ≡ row_bytes file moved.now.row.now) }
         ensures written { OnOk result (Writes self.now.pass
-            (λ file. moved_row_bytes self.now.steps.now file row.now)
+            (λ file. moved_row_bytes moved.now.steps file moved.now.row.now)
             waiting.old waiting.new (D.files folder.old) (D.files folder.new)) }
         ensures prefix { OnErr result (WritesPrefix self.now.pass
-            (λ file. moved_row_bytes self.now.steps.now file row.now)
+            (λ file. moved_row_bytes moved.now.steps file moved.now.row.now)
             waiting.old (D.files folder.old) (D.files folder.new)) }
         ensures done { OnOk result (D.counts folder.new ≡ D.counts folder.old) }
         ensures cause { IfErr result (HasPassCause self.now.pass.length (D.files folder.old)
@@ -191,9 +200,9 @@ impl<'a> GainPass<'a> {
     {
         // Bytes are copied fastest where their number is known.
         if frame.len() >= MOST_OVERHEAD {
-            self.push_moved(folder, row, frame, MOST_OVERHEAD, waiting)
+            self.push_moved(folder, moved, frame, MOST_OVERHEAD, waiting)
         } else {
-            self.push_moved(folder, row, frame, frame.len(), waiting)
+            self.push_moved(folder, moved, frame, frame.len(), waiting)
         }
     }
 
@@ -202,29 +211,30 @@ impl<'a> GainPass<'a> {
     fn move_frame<D: Folder>(
         &self,
         folder: &mut D,
-        row: &Row,
+        moved: &MovedRow,
         buffers: &mut Buffers,
     ) -> Result<u64, PassFault>
         requires ready { IsReady self.now.pass (D.files folder.old) buffers.old.feed }
-        requires within { row_end row.now ≤ self.now.pass.length }
+        requires within { row_end moved.now.row.now ≤ self.now.pass.length }
         requires told { (file : List ℕ) → Holds (D.files folder.old) self.now.pass.input.now file →
-            IsRowOf file row.now }
+            IsRowOf file moved.now.row.now }
         ensures written { OnOk result (Writes self.now.pass
-            (λ file. moved_row_bytes self.now.steps.now file row.now)
+            (λ file. moved_row_bytes moved.now.steps file moved.now.row.now)
             buffers.old.waiting buffers.new.waiting (D.files folder.old) (D.files folder.new)) }
         ensures prefix { OnErr result (WritesPrefix self.now.pass
-            (λ file. moved_row_bytes self.now.steps.now file row.now)
+            (λ file. moved_row_bytes moved.now.steps file moved.now.row.now)
             buffers.old.waiting (D.files folder.old) (D.files folder.new)) }
-        ensures end { IfOk result (λ end. end ≡ row_end row.now) }
+        ensures end { IfOk result (λ end. end ≡ row_end moved.now.row.now) }
         ensures done { OnOk result (D.counts folder.new ≡ D.counts folder.old) }
         ensures cause { IfErr result (HasPassCause self.now.pass.length (D.files folder.old)
             (D.counts folder.old) (D.counts folder.new)) }
         ensures ready { OnOk result (IsReady self.now.pass (D.files folder.new) buffers.new.feed) }
     {
         let Buffers { feed, waiting } = buffers;
+        let row = moved.row;
         let length = frame_length(&row.header);
         self.pass.fill(folder, row.offset, length as usize, feed)?;
-        self.push_frame(folder, row, feed.bytes(), waiting)?;
+        self.push_frame(folder, moved, feed.bytes(), waiting)?;
         Ok(row.offset + u64::from(length))
     }
 
@@ -239,22 +249,25 @@ impl<'a> GainPass<'a> {
     ) -> Result<(), PassFault>
         requires ready { IsReady self.now.pass (D.files folder.old) buffers.old.feed }
         requires laid { AreLaid from rows.now self.now.pass.length }
+        requires numbered { AreNumbered rows.now }
+        requires few { length rows.now < 2 ^ 32 }
         requires told { (file : List ℕ) → Holds (D.files folder.old) self.now.pass.input.now file →
             AreRowsOf file rows.now }
         ensures written { OnOk result (Writes self.now.pass
-            (λ file. written_from self.now.steps.now self.now.tag file from rows.now)
+            (λ file. written_from (steps_over self.now.course.now rows.now) self.now.tag file from rows.now)
             buffers.old.waiting buffers.new.waiting (D.files folder.old) (D.files folder.new)) }
         ensures prefix { OnErr result (WritesPrefix self.now.pass
-            (λ file. written_from self.now.steps.now self.now.tag file from rows.now)
+            (λ file. written_from (steps_over self.now.course.now rows.now) self.now.tag file from rows.now)
             buffers.old.waiting (D.files folder.old) (D.files folder.new)) }
         ensures done { OnOk result (D.counts folder.new ≡ D.counts folder.old) }
         ensures cause { IfErr result (HasPassCause self.now.pass.length (D.files folder.old)
             (D.counts folder.old) (D.counts folder.new)) }
     {
         let mut at = from;
-        for row in rows {
+        for (frame, row) in rows.iter().enumerate() {
             self.copy(folder, at, row.offset, buffers)?;
-            at = self.move_frame(folder, row, buffers)?;
+            let steps = self.course.steps(frame as u32);
+            at = self.move_frame(folder, &MovedRow { row, steps }, buffers)?;
         }
         self.copy(folder, at, self.pass.length, buffers)
     }
@@ -263,7 +276,7 @@ impl<'a> GainPass<'a> {
 /// The new tag of a change, in place of the input's, where it changes.
 fn new_tag<'a>(survey: &Survey, change: &'a Change) -> Option<NewTag<'a>>
     requires { IsLaidOut (tells survey.now) }
-    ensures { IsNewTag (tells survey.now) (change_in change.now) result }
+    ensures { IsNewTag (tells survey.now) (change_in change.now (tells survey.now)) result }
 {
     let bytes = change.tag.as_ref()?;
     let place = tag_place(survey);
@@ -297,10 +310,10 @@ pub fn write_changed<D: Folder>(
         survey_of file most_frames ≡ Ok (tells survey.now) }
     requires fresh { AreFresh buffers.old (D.files folder.old) input.now }
     ensures written { OnOk result (Appends input.now output.now
-        (λ file. changed (change_in change.now) file (tells survey.now))
+        (λ file. changed (change_in change.now (tells survey.now)) file (tells survey.now))
         (D.files folder.old) (D.files folder.new)) }
     ensures prefix { OnErr result (AppendsPrefix input.now output.now
-        (λ file. changed (change_in change.now) file (tells survey.now))
+        (λ file. changed (change_in change.now (tells survey.now)) file (tells survey.now))
         (D.files folder.old) (D.files folder.new)) }
     ensures done { OnOk result (D.counts folder.new ≡ D.counts folder.old) }
     ensures cause { IfErr result (HasPassCause (tells survey.now).length (D.files folder.old)
@@ -313,7 +326,7 @@ pub fn write_changed<D: Folder>(
     };
     let gains = GainPass {
         pass,
-        steps: &change.steps,
+        course: &change.course,
         tag: new_tag(survey, change),
     };
     let (junk, _) = survey.junk();

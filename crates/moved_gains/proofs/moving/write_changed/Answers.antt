@@ -1,5 +1,5 @@
 -- The bytes up to the junk, then those from the first frame on, and what still waits.
-use Rattle.std.proofs.Common.{◌≡◌, ◌++◌, List, [], ℕ, Option, refl, sym, ◌∙◌, ap, ap₂, subst, arith, Ok, append-nil}
+use Rattle.std.proofs.Common.{◌≡◌, ◌++◌, List, [], ℕ, Option, length, refl, sym, ◌∙◌, ap, ap₂, subst, arith, Ok, append-nil}
 use Rattle.std.specs.Prelude.{IfErr}
 use Rattle.std.proofs.lemmas.Result.{err_from_is_err_and, on_ok_weaker, on_err_weaker}
 use Rattle.outside.specs.Pass.{HasPassCause}
@@ -11,7 +11,10 @@ use Rattle.sync_survey.specs.Survey.{survey_of}
 use Rattle.moved_gains.specs.declared.shift.Steps.{Steps}
 use Rattle.moved_gains.specs.declared.moving.NewTag.{NewTag}
 use Rattle.sync_survey.specs.Limits.{most_frames}
-use Rattle.moved_gains.specs.Change.{Change, changed, change_in}
+use Rattle.moved_gains.specs.declared.change.Change.{Change as CodeChange}
+use Rattle.moved_gains.specs.Change.{changed, change_in}
+use Rattle.moved_gains.specs.Course.{AreNumbered, steps_over}
+use Rattle.moved_gains.proofs.CourseLaws.{out_numbered, out_few}
 use Rattle.moved_gains.specs.Moving.{AreRowsOf, copied, written_from, IsNewTag}
 use Rattle.moved_gains.proofs.MovingLaws.{laid_end, survey_of-length, survey_of-rows}
 use Rattle.sync_survey.proofs.SurveyedFiles.{survey_of-parts}
@@ -19,15 +22,15 @@ use Rattle.moved_gains.proofs.WrittenTag.{written-changed}
 use Rattle.moved_gains.proofs.moving.write_changed.Goals as goal
 
 -- the bytes up to the junk, and those from the first frame on
-abbrev both : Steps → Option NewTag → ℕ → ℕ → List Row → List ℕ → List ℕ
+abbrev both : (ℕ → Steps) → Option NewTag → ℕ → ℕ → List Row → List ℕ → List ℕ
 both steps tag junk first rows file = copied tag file 0 junk ++ written_from steps tag file first rows
 
-are_changed : (change : Change) (tag : Option NewTag) (file : List ℕ) (s : SurveyFields) (junk first : ℕ) (rows : List Row) → IsNewTag s change tag → junk ≡ s.junk → first ≡ s.first → rows ≡ s.frames → survey_of file most_frames ≡ Ok s
-    → both change.steps tag junk first rows file ≡ changed change file s
+are_changed : (change : CodeChange) (tag : Option NewTag) (file : List ℕ) (s : SurveyFields) (junk first : ℕ) (rows : List Row) → IsNewTag s (change_in change s) tag → junk ≡ s.junk → first ≡ s.first → rows ≡ s.frames → survey_of file most_frames ≡ Ok s
+    → both (steps_over change.course rows) tag junk first rows file ≡ changed (change_in change s) file s
 are_changed change tag file s junk first rows new junk_is first_is rows_are surveyed =
-    ap (λ n. both change.steps tag n first rows file) junk_is
-    ∙ ap₂ (λ n (l : List Row). both change.steps tag s.junk n l file) first_is rows_are
-    ∙ written-changed change tag file most_frames s new (survey_of-parts file most_frames s surveyed).1
+    ap (λ n. both (steps_over change.course rows) tag n first rows file) junk_is
+    ∙ ap₂ (λ n (l : List Row). both (steps_over change.course l) tag s.junk n l file) first_is rows_are
+    ∙ written-changed (change_in change s) tag file most_frames s new (survey_of-parts file most_frames s surveyed).1
 
 pub copy-requires-clause-ready : goal.copy-requires-clause-ready
 copy-requires-clause-ready g c = record {
@@ -47,14 +50,14 @@ copy-requires-clause-within g c =
 pub returns-in_err-copy-clause-prefix : goal.returns-in_err-copy-clause-prefix
 returns-in_err-copy-clause-prefix g c =
     let s = tells c.args.survey.now in
-    let change = change_in c.args.change.now in
+    let change = change_in c.args.change.now (tells c.args.survey.now) in
     let steps = change.steps in
     let tag = c.new_tag.result in
     let junk = c.junk-junk.result.0 in
     on_err c.from_residual.result
     (part_behind_none c.requires.fresh.none
     (prefix_as (record { input = c.args.input; output = c.args.output; length = c.length.result }) (λ file. changed change file s) (λ file. written_from steps tag file s.first s.frames)
-    (λ file holds. sym (are_changed change tag file s junk s.first s.frames c.new_tag.ensures (ap (λ r. r.0) c.junk-junk.ensures) refl refl (c.requires.exact file holds)))
+    (λ file holds. sym (are_changed c.args.change.now tag file s junk s.first s.frames c.new_tag.ensures (ap (λ r. r.0) c.junk-junk.ensures) refl refl (c.requires.exact file holds)))
     c.in_err-copy.ensures.prefix))
 
 pub move_frames-requires-clause-told : goal.move_frames-requires-clause-told
@@ -66,7 +69,7 @@ move_frames-requires-clause-told g c file holds =
 pub returns-in_err-move_frames-clause-prefix : goal.returns-in_err-move_frames-clause-prefix
 returns-in_err-move_frames-clause-prefix g c =
     let s = tells c.args.survey.now in
-    let change = change_in c.args.change.now in
+    let change = change_in c.args.change.now (tells c.args.survey.now) in
     let steps = change.steps in
     let tag = c.new_tag.result in
     let junk = c.junk-junk.result.0 in
@@ -76,7 +79,7 @@ returns-in_err-move_frames-clause-prefix g c =
     on_err c.from_residual-in_err-move_frames.result
     (part_behind_none c.requires.fresh.none
     (prefix_as (record { input = c.args.input; output = c.args.output; length = c.length.result }) (λ file. changed change file s) (λ file. [])
-    (λ file holds. sym (append-nil (both steps tag junk first rows file) ∙ are_changed change tag file s junk first rows c.new_tag.ensures (ap (λ r. r.0) c.junk-junk.ensures) c.first.ensures c.frames.ensures (c.requires.exact file holds)))
+    (λ file holds. sym (append-nil (both (steps_over c.args.change.now.course rows) tag junk first rows file) ∙ are_changed c.args.change.now tag file s junk first rows c.new_tag.ensures (ap (λ r. r.0) c.junk-junk.ensures) c.first.ensures c.frames.ensures (c.requires.exact file holds)))
     part))
 
 pub returns-in_err-move_frames-clause-cause : goal.returns-in_err-move_frames-clause-cause
@@ -93,27 +96,27 @@ finish-requires g c =
 pub returns-clause-written : goal.returns-clause-written
 returns-clause-written g c =
     let s = tells c.args.survey.now in
-    let change = change_in c.args.change.now in
+    let change = change_in c.args.change.now (tells c.args.survey.now) in
     let tag = c.new_tag.result in
     let junk = c.junk-junk.result.0 in
     let first = c.first.result in
     let rows = c.frames.result.now in
     let all = writes_then _ c.requires.apart c.in_ok-copy.ensures.written c.in_ok-move_frames.ensures.written in
     let moved = writes_as _ (λ file. changed change file s)
-    (λ file holds. are_changed change tag file s junk first rows c.new_tag.ensures (ap (λ r. r.0) c.junk-junk.ensures) c.first.ensures c.frames.ensures (c.requires.exact file holds)) all in
+    (λ file holds. are_changed c.args.change.now tag file s junk first rows c.new_tag.ensures (ap (λ r. r.0) c.junk-junk.ensures) c.first.ensures c.frames.ensures (c.requires.exact file holds)) all in
     on_ok_weaker c.finish.result (writes_all _ (λ file. changed change file s) (writes_behind_none c.requires.fresh.none moved)) c.finish.ensures.appended
 
 pub returns-clause-prefix : goal.returns-clause-prefix
 returns-clause-prefix g c =
     let s = tells c.args.survey.now in
-    let change = change_in c.args.change.now in
+    let change = change_in c.args.change.now (tells c.args.survey.now) in
     let tag = c.new_tag.result in
     let junk = c.junk-junk.result.0 in
     let first = c.first.result in
     let rows = c.frames.result.now in
     let all = writes_then _ c.requires.apart c.in_ok-copy.ensures.written c.in_ok-move_frames.ensures.written in
     let moved = writes_as _ (λ file. changed change file s)
-    (λ file holds. are_changed change tag file s junk first rows c.new_tag.ensures (ap (λ r. r.0) c.junk-junk.ensures) c.first.ensures c.frames.ensures (c.requires.exact file holds)) all in
+    (λ file holds. are_changed c.args.change.now tag file s junk first rows c.new_tag.ensures (ap (λ r. r.0) c.junk-junk.ensures) c.first.ensures c.frames.ensures (c.requires.exact file holds)) all in
     on_err_weaker c.finish.result (writes_end _ (λ file. changed change file s) (writes_behind_none c.requires.fresh.none moved)) c.finish.ensures.prefix
 
 pub returns-clause-cause : goal.returns-clause-cause
@@ -122,3 +125,9 @@ returns-clause-cause g c =
     let cause = subst (λ n. IfErr c.finish.result (HasPassCause n (g.D.Folder.files c.move_frames.new.folder) (g.D.Folder.counts c.move_frames.new.folder) (g.D.Folder.counts c.finish.new.folder))) c.length.ensures c.finish.ensures.cause in
     causes_behind c.in_ok-copy.ensures.written size _ _ _ c.in_ok-copy.ensures.done c.finish.result
     (causes_behind c.in_ok-move_frames.ensures.written size _ _ _ c.in_ok-move_frames.ensures.done c.finish.result cause)
+
+pub move_frames-requires-clause-numbered : goal.move_frames-requires-clause-numbered
+move_frames-requires-clause-numbered g c = subst AreNumbered (sym c.frames.ensures) (out_numbered (tells c.args.survey.now) c.requires.laid)
+
+pub move_frames-requires-clause-few : goal.move_frames-requires-clause-few
+move_frames-requires-clause-few g c = omega (arith, ap length c.frames.ensures, out_few (tells c.args.survey.now) c.requires.laid, c.requires.laid.few)

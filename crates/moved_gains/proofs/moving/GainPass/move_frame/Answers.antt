@@ -8,7 +8,7 @@ pub returns-in_err-fill-clause-prefix : goal.returns-in_err-fill-clause-prefix
 returns-in_err-fill-clause-prefix g c =
     let self = c.args.self.now in
     on_err c.from_residual.result
-    (prefix_nothing self.pass (λ file. moved_row_bytes self.steps.now file c.args.row.now) c.args.buffers.now.waiting (g.D.Folder.files c.args.folder.now) _ c.in_err-fill.ensures.files c.requires.ready.target)
+    (prefix_nothing self.pass (λ file. moved_row_bytes c.args.moved.now.steps file c.args.moved.now.row.now) c.args.buffers.now.waiting (g.D.Folder.files c.args.folder.now) _ c.in_err-fill.ensures.files c.requires.ready.target)
 
 pub returns-clause-ready : goal.returns-clause-ready
 returns-clause-ready g c = passed_ready c.args.self.now.pass c.in_ok-push_frame.ensures.written.passed c.in_ok-fill.ensures.ready

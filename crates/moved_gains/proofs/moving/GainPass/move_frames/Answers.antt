@@ -1,5 +1,5 @@
 -- One frame more, and what stands before it, goes on.
-use Rattle.std.proofs.Common.{◌≡◌, ◌+◌, ◌<◌, ◌++◌, ◌∷◌, List, [], ℕ, Option, length, get_or, drop, refl, sym, ◌∙◌, ap, subst, arith}
+use Rattle.std.proofs.Common.{◌≡◌, ◌+◌, ◌<◌, ◌++◌, ◌∷◌, List, [], ℕ, Option, length, get_or, drop, refl, sym, ◌∙◌, ap, ap₂, subst, arith}
 use Rattle.std.proofs.lemmas.List.{drop_all}
 use Rattle.std.proofs.lemmas.Result.{err_from_is_err_and, on_ok_weaker, on_err_weaker}
 use Rattle.outside.proofs.PassedLaws.{on_err}
@@ -8,7 +8,9 @@ use Rattle.sync_survey.specs.declared.rows.Row.{Row}
 use Rattle.sync_survey.specs.Survey.{AreLaid}
 use Rattle.moved_gains.specs.declared.moving.NewTag.{NewTag}
 use Rattle.moved_gains.specs.declared.shift.Steps.{Steps}
+use Rattle.moved_gains.specs.Course.{steps_over}
 use Rattle.moved_gains.specs.Moving.{row_end, AreRowsOf, moved_row_bytes, copied, written_from}
+use Rattle.moved_gains.proofs.CourseLaws.{frame_steps}
 use Rattle.moved_gains.proofs.Rows.{next_row}
 use Rattle.moved_gains.proofs.MovingLaws.{laid_end}
 use Rattle.moved_gains.proofs.WrittenLaws.{left_at, left_behind}
@@ -25,16 +27,16 @@ told : (file : List ℕ) (rows : List Row) (i : ℕ) (row : Row) → drop i rows
 told file rows i row is all = subst (AreRowsOf file) is all
 
 -- what is left behind the bytes before the frame
-abbrev left : Steps → Option NewTag → List Row → ℕ → Row → List ℕ → List ℕ
-left steps tag rows i row file = moved_row_bytes steps file row ++ written_from steps tag file (row_end row) (drop (i + 1) rows)
+abbrev left : (ℕ → Steps) → Option NewTag → List Row → ℕ → Row → List ℕ → List ℕ
+left steps tag rows i row file = moved_row_bytes (steps row.offset) file row ++ written_from steps tag file (row_end row) (drop (i + 1) rows)
 
-pub loop-row-init : goal.loop-row-init
-loop-row-init g c =
+pub loop-frame-init : goal.loop-frame-init
+loop-frame-init g c =
     let self = c.args.self.now in
     record {
       laid = c.requires.laid;
       told = c.requires.told;
-      up_to = up_to_begun self.pass (λ file. written_from self.steps.now self.tag file c.args.from c.args.rows.now) c.args.buffers.now.waiting (g.D.Folder.files c.args.folder.now) c.requires.ready.target;
+      up_to = up_to_begun self.pass (λ file. written_from (steps_over self.course.now c.args.rows.now) self.tag file c.args.from c.args.rows.now) c.args.buffers.now.waiting (g.D.Folder.files c.args.folder.now) c.requires.ready.target;
       ready = c.requires.ready;
       counts = refl;
     }
@@ -42,113 +44,118 @@ loop-row-init g c =
 pub copy-requires-clause-within : goal.copy-requires-clause-within
 copy-requires-clause-within g c =
     let rows = c.args.rows.now in
-    let row = c.row-item.result in
-    let i = c.loop-row.row-index in
+    let row = c.index-rows-frame.result in
+    let i = c.loop-frame.frame in
     let size = c.args.self.now.pass.length in
-    let all_laid = laid c.loop-row.at size rows i row (here rows i row (omega (arith, c.loop-row-test.true)) c.row-item.is) c.loop-row.invariant.laid in
+    let all_laid = laid c.loop-frame.at size rows i row (here rows i row (omega (arith, c.loop-frame-test.true)) c.index-rows-frame.is) c.loop-frame.invariant.laid in
     omega (arith, laid_end (row_end row) (drop (i + 1) rows) size all_laid.2)
 
 pub returns-in_err-copy-clause-prefix : goal.returns-in_err-copy-clause-prefix
 returns-in_err-copy-clause-prefix g c =
     let self = c.args.self.now in
     let rows = c.args.rows.now in
-    let row = c.row-item.result in
-    let i = c.loop-row.row-index in
-    let is = here rows i row (omega (arith, c.loop-row-test.true)) c.row-item.is in
+    let row = c.index-rows-frame.result in
+    let i = c.loop-frame.frame in
+    let is = here rows i row (omega (arith, c.loop-frame-test.true)) c.index-rows-frame.is in
     on_err c.from_residual.result
-    (up_to_prefix self.pass c.requires.ready.apart c.loop-row.invariant.up_to
-    (λ file. copied self.tag file c.loop-row.at row.offset) (left self.steps.now self.tag rows i row) (λ file holds. left_at self.steps.now self.tag file c.loop-row.at rows i row is) c.in_err-copy.ensures.prefix)
+    (up_to_prefix self.pass c.requires.ready.apart c.loop-frame.invariant.up_to
+    (λ file. copied self.tag file c.loop-frame.at row.offset) (left (steps_over self.course.now c.args.rows.now) self.tag rows i row) (λ file holds. left_at (steps_over self.course.now c.args.rows.now) self.tag file c.loop-frame.at rows i row is) c.in_err-copy.ensures.prefix)
 
 pub returns-in_err-copy-clause-cause : goal.returns-in_err-copy-clause-cause
 returns-in_err-copy-clause-cause g c =
     let p = err_from_is_err_and c.from_residual.result c.from_residual.ensures.1 in
-    rw (p.1, p.2) (cause_behind c.loop-row.invariant.up_to.written c.args.self.now.pass.length _ _ _ c.loop-row.invariant.counts _ c.in_err-copy.ensures.cause)
+    rw (p.1, p.2) (cause_behind c.loop-frame.invariant.up_to.written c.args.self.now.pass.length _ _ _ c.loop-frame.invariant.counts _ c.in_err-copy.ensures.cause)
 
 pub move_frame-requires-clause-within : goal.move_frame-requires-clause-within
 move_frame-requires-clause-within g c =
     let rows = c.args.rows.now in
-    let row = c.row-item.result in
-    let i = c.loop-row.row-index in
+    let row = c.index-rows-frame.result in
+    let i = c.loop-frame.frame in
     let size = c.args.self.now.pass.length in
-    let all_laid = laid c.loop-row.at size rows i row (here rows i row (omega (arith, c.loop-row-test.true)) c.row-item.is) c.loop-row.invariant.laid in
+    let all_laid = laid c.loop-frame.at size rows i row (here rows i row (omega (arith, c.loop-frame-test.true)) c.index-rows-frame.is) c.loop-frame.invariant.laid in
     laid_end (row_end row) (drop (i + 1) rows) size all_laid.2
 
 pub move_frame-requires-clause-told : goal.move_frame-requires-clause-told
 move_frame-requires-clause-told g c file holds =
     let self = c.args.self.now in
     let rows = c.args.rows.now in
-    let row = c.row-item.result in
-    let i = c.loop-row.row-index in
-    let is = here rows i row (omega (arith, c.loop-row-test.true)) c.row-item.is in
-    let before = up_to_more self.pass c.requires.ready.apart c.loop-row.invariant.up_to
-    (λ file. copied self.tag file c.loop-row.at row.offset) (left self.steps.now self.tag rows i row) (λ file holds. left_at self.steps.now self.tag file c.loop-row.at rows i row is) c.in_ok-copy.ensures.written in
-    (told file rows i row is (c.loop-row.invariant.told file (up_to_held self.pass c.requires.ready.apart before file holds))).0
+    let row = c.index-rows-frame.result in
+    let i = c.loop-frame.frame in
+    let is = here rows i row (omega (arith, c.loop-frame-test.true)) c.index-rows-frame.is in
+    let before = up_to_more self.pass c.requires.ready.apart c.loop-frame.invariant.up_to
+    (λ file. copied self.tag file c.loop-frame.at row.offset) (left (steps_over self.course.now c.args.rows.now) self.tag rows i row) (λ file holds. left_at (steps_over self.course.now c.args.rows.now) self.tag file c.loop-frame.at rows i row is) c.in_ok-copy.ensures.written in
+    (told file rows i row is (c.loop-frame.invariant.told file (up_to_held self.pass c.requires.ready.apart before file holds))).0
 
 pub returns-in_err-at-clause-prefix : goal.returns-in_err-at-clause-prefix
 returns-in_err-at-clause-prefix g c =
     let self = c.args.self.now in
     let apart = c.requires.ready.apart in
     let rows = c.args.rows.now in
-    let row = c.row-item.result in
-    let i = c.loop-row.row-index in
-    let is = here rows i row (omega (arith, c.loop-row-test.true)) c.row-item.is in
-    let before = up_to_more self.pass apart c.loop-row.invariant.up_to
-    (λ file. copied self.tag file c.loop-row.at row.offset) (left self.steps.now self.tag rows i row) (λ file holds. left_at self.steps.now self.tag file c.loop-row.at rows i row is) c.in_ok-copy.ensures.written in
+    let row = c.index-rows-frame.result in
+    let i = c.loop-frame.frame in
+    let is = here rows i row (omega (arith, c.loop-frame-test.true)) c.index-rows-frame.is in
+    let before = up_to_more self.pass apart c.loop-frame.invariant.up_to
+    (λ file. copied self.tag file c.loop-frame.at row.offset) (left (steps_over self.course.now c.args.rows.now) self.tag rows i row) (λ file holds. left_at (steps_over self.course.now c.args.rows.now) self.tag file c.loop-frame.at rows i row is) c.in_ok-copy.ensures.written in
+    let own : steps_over self.course.now rows row.offset ≡ c.steps-steps.result =
+    frame_steps self.course.now rows i row c.requires.numbered (omega (arith, c.loop-frame-test.true)) c.index-rows-frame.is ∙ sym c.steps-steps.ensures in
     on_err c.from_residual-in_err-at.result
     (up_to_prefix self.pass apart before
-    (λ file. moved_row_bytes self.steps.now file row) (λ file. written_from self.steps.now self.tag file (row_end row) (drop (i + 1) rows)) (λ file holds. refl) c.in_err-at.ensures.prefix)
+    (λ file. moved_row_bytes c.steps-steps.result file row) (λ file. written_from (steps_over self.course.now rows) self.tag file (row_end row) (drop (i + 1) rows))
+    (λ file holds. ap (λ s. moved_row_bytes s file row ++ written_from (steps_over self.course.now rows) self.tag file (row_end row) (drop (i + 1) rows)) own) c.in_err-at.ensures.prefix)
 
 pub returns-in_err-at-clause-cause : goal.returns-in_err-at-clause-cause
 returns-in_err-at-clause-cause g c =
     let size = c.args.self.now.pass.length in
     let p = err_from_is_err_and c.from_residual-in_err-at.result c.from_residual-in_err-at.ensures.1 in
     rw (p.1, p.2)
-    (cause_behind c.loop-row.invariant.up_to.written size _ _ _ c.loop-row.invariant.counts _
+    (cause_behind c.loop-frame.invariant.up_to.written size _ _ _ c.loop-frame.invariant.counts _
     (cause_behind c.in_ok-copy.ensures.written size _ _ _ c.in_ok-copy.ensures.done _ c.in_err-at.ensures.cause))
 
-pub loop-row-preserved : goal.loop-row-preserved
-loop-row-preserved g c =
+pub loop-frame-preserved : goal.loop-frame-preserved
+loop-frame-preserved g c =
     let self = c.args.self.now in
     let apart = c.requires.ready.apart in
     let rows = c.args.rows.now in
-    let row = c.row-item.result in
-    let i = c.loop-row.row-index in
-    let is = here rows i row (omega (arith, c.loop-row-test.true)) c.row-item.is in
-    let all_laid = laid c.loop-row.at self.pass.length rows i row is c.loop-row.invariant.laid in
+    let row = c.index-rows-frame.result in
+    let i = c.loop-frame.frame in
+    let is = here rows i row (omega (arith, c.loop-frame-test.true)) c.index-rows-frame.is in
+    let all_laid = laid c.loop-frame.at self.pass.length rows i row is c.loop-frame.invariant.laid in
     let end = c.in_ok-at.at in
+    let own : steps_over self.course.now rows row.offset ≡ c.steps-steps.result =
+    frame_steps self.course.now rows i row c.requires.numbered (omega (arith, c.loop-frame-test.true)) c.index-rows-frame.is ∙ sym c.steps-steps.ensures in
     let end_is : row_end row ≡ end = sym c.in_ok-at.ensures.end in
-    let before = up_to_more self.pass apart c.loop-row.invariant.up_to
-    (λ file. copied self.tag file c.loop-row.at row.offset) (left self.steps.now self.tag rows i row) (λ file holds. left_at self.steps.now self.tag file c.loop-row.at rows i row is) c.in_ok-copy.ensures.written in
+    let before = up_to_more self.pass apart c.loop-frame.invariant.up_to
+    (λ file. copied self.tag file c.loop-frame.at row.offset) (left (steps_over self.course.now c.args.rows.now) self.tag rows i row) (λ file holds. left_at (steps_over self.course.now c.args.rows.now) self.tag file c.loop-frame.at rows i row is) c.in_ok-copy.ensures.written in
     record {
       laid = subst (λ n. AreLaid n (drop (i + 1) rows) self.pass.length) end_is all_laid.2;
-      told = λ file holds. (told file rows i row is (c.loop-row.invariant.told file holds)).1;
+      told = λ file holds. (told file rows i row is (c.loop-frame.invariant.told file holds)).1;
       up_to = up_to_more self.pass apart before
-          (λ file. moved_row_bytes self.steps.now file row) (λ file. written_from self.steps.now self.tag file end (drop (i + 1) rows))
-          (λ file holds. ap (λ n. moved_row_bytes self.steps.now file row ++ written_from self.steps.now self.tag file n (drop (i + 1) rows)) end_is) c.in_ok-at.ensures.written;
+          (λ file. moved_row_bytes c.steps-steps.result file row) (λ file. written_from (steps_over self.course.now rows) self.tag file end (drop (i + 1) rows))
+          (λ file holds. ap₂ (λ s n. moved_row_bytes s file row ++ written_from (steps_over self.course.now rows) self.tag file n (drop (i + 1) rows)) own end_is) c.in_ok-at.ensures.written;
       ready = c.in_ok-at.ensures.ready;
-      counts = c.in_ok-at.ensures.done ∙ c.in_ok-copy.ensures.done ∙ c.loop-row.invariant.counts;
+      counts = c.in_ok-at.ensures.done ∙ c.in_ok-copy.ensures.done ∙ c.loop-frame.invariant.counts;
     }
 
 pub returns-clause-written : goal.returns-clause-written
 returns-clause-written g c =
     let self = c.args.self.now in
-    let rows = drop c.loop-row.row-index c.args.rows.now in
-    let none : rows ≡ [] = drop_all c.loop-row.row-index c.args.rows.now (omega (arith, c.loop-row-test.false)) in
+    let rows = drop c.loop-frame.frame c.args.rows.now in
+    let none : rows ≡ [] = drop_all c.loop-frame.frame c.args.rows.now (omega (arith, c.loop-frame-test.false)) in
     on_ok_weaker c.copy-2.result
-    (up_to_last self.pass c.requires.ready.apart c.loop-row.invariant.up_to
-    (λ file. copied self.tag file c.loop-row.at self.pass.length) (λ file holds. left_behind self.steps.now self.tag file c.loop-row.at self.pass.length rows none (c.requires.ready.length_is file holds)))
+    (up_to_last self.pass c.requires.ready.apart c.loop-frame.invariant.up_to
+    (λ file. copied self.tag file c.loop-frame.at self.pass.length) (λ file holds. left_behind (steps_over self.course.now c.args.rows.now) self.tag file c.loop-frame.at self.pass.length rows none (c.requires.ready.length_is file holds)))
     c.copy-2.ensures.written
 
 pub returns-clause-prefix : goal.returns-clause-prefix
 returns-clause-prefix g c =
     let self = c.args.self.now in
-    let rows = drop c.loop-row.row-index c.args.rows.now in
-    let none : rows ≡ [] = drop_all c.loop-row.row-index c.args.rows.now (omega (arith, c.loop-row-test.false)) in
+    let rows = drop c.loop-frame.frame c.args.rows.now in
+    let none : rows ≡ [] = drop_all c.loop-frame.frame c.args.rows.now (omega (arith, c.loop-frame-test.false)) in
     on_err_weaker c.copy-2.result
-    (up_to_last_prefix self.pass c.requires.ready.apart c.loop-row.invariant.up_to
-    (λ file. copied self.tag file c.loop-row.at self.pass.length) (λ file holds. left_behind self.steps.now self.tag file c.loop-row.at self.pass.length rows none (c.requires.ready.length_is file holds)))
+    (up_to_last_prefix self.pass c.requires.ready.apart c.loop-frame.invariant.up_to
+    (λ file. copied self.tag file c.loop-frame.at self.pass.length) (λ file holds. left_behind (steps_over self.course.now c.args.rows.now) self.tag file c.loop-frame.at self.pass.length rows none (c.requires.ready.length_is file holds)))
     c.copy-2.ensures.prefix
 
 pub returns-clause-cause : goal.returns-clause-cause
 returns-clause-cause g c =
-    causes_behind c.loop-row.invariant.up_to.written c.args.self.now.pass.length _ _ _ c.loop-row.invariant.counts c.copy-2.result c.copy-2.ensures.cause
+    causes_behind c.loop-frame.invariant.up_to.written c.args.self.now.pass.length _ _ _ c.loop-frame.invariant.counts c.copy-2.result c.copy-2.ensures.cause

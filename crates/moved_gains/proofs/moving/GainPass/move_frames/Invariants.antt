@@ -1,18 +1,19 @@
 -- The frames before went on, with their gains moved, and so did what stands before and between them.
 use Rattle.std.proofs.Common.{◌≡◌, ℕ, List, drop}
 use Rattle.outside.specs.Files.{Holds}
+use Rattle.moved_gains.specs.Course.{steps_over}
 use Rattle.moved_gains.specs.Moving.{AreRowsOf, written_from}
 use Rattle.sync_survey.specs.Survey.{AreLaid}
 use Rattle.outside.specs.Pass.{IsReady}
 use Rattle.outside.proofs.PassLaws.{WritesUpTo}
 use Rattle.moved_gains.proofs.moving.GainPass.move_frames.Given as goal
 
-abbrev pub invariant-loop-row : goal.invariant-loop-row
-invariant-loop-row g l = record {
-  laid : AreLaid l.at (drop l.row-index l.rows) l.self.pass.length;
-  told : (file : List ℕ) → Holds (g.D.Folder.files l.fn.folder) l.self.pass.input.now file → AreRowsOf file (drop l.row-index l.rows);
-  up_to : WritesUpTo l.self.pass (λ file. written_from l.self.steps.now l.self.tag file l.fn.from l.fn.rows) (λ file. written_from l.self.steps.now l.self.tag file l.at (drop l.row-index l.rows)) l.fn.buffers.waiting l.buffers.waiting
-      (g.D.Folder.files l.fn.folder) (g.D.Folder.files l.folder);
+abbrev pub invariant-loop-frame : goal.invariant-loop-frame
+invariant-loop-frame g l = record {
+  laid : AreLaid l.at (drop l.frame l.rows) l.self.pass.length;
+  told : (file : List ℕ) → Holds (g.D.Folder.files l.fn.folder) l.self.pass.input.now file → AreRowsOf file (drop l.frame l.rows);
+  up_to : WritesUpTo l.self.pass (λ file. written_from (steps_over l.self.course.now l.rows) l.self.tag file l.fn.from l.fn.rows) (λ file. written_from (steps_over l.self.course.now l.rows) l.self.tag file l.at (drop l.frame l.rows))
+      l.fn.buffers.waiting l.buffers.waiting (g.D.Folder.files l.fn.folder) (g.D.Folder.files l.folder);
   ready : IsReady l.self.pass (g.D.Folder.files l.folder) l.buffers.feed;
   counts : g.D.Folder.counts l.folder ≡ g.D.Folder.counts l.fn.folder;
 }

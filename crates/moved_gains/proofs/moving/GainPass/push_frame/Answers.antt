@@ -5,5 +5,5 @@ use Rattle.moved_gains.proofs.moving.GainPass.push_frame.Goals as goal
 
 pub push_moved-requires-clause-reached : goal.push_moved-requires-clause-reached
 push_moved-requires-clause-reached g c =
-    let h = c.args.row.now.header in
+    let h = c.args.moved.now.row.now.header in
     overhead-few (class_of h) h.protected

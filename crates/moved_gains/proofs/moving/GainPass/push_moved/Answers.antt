@@ -42,8 +42,8 @@ are_moved steps file given old new size row room whole told given_is old_is move
 pub returns-clause-written : goal.returns-clause-written
 returns-clause-written g c =
     let self = c.args.self.now in
-    let steps = self.steps.now in
-    let row = c.args.row.now in
+    let steps = c.args.moved.now.steps in
+    let row = c.args.moved.now.row.now in
     let size = c.args.size in
     let frame = c.args.frame.now in
     on_ok_weaker c.push_both.result
@@ -54,8 +54,8 @@ returns-clause-written g c =
 pub returns-clause-prefix : goal.returns-clause-prefix
 returns-clause-prefix g c =
     let self = c.args.self.now in
-    let steps = self.steps.now in
-    let row = c.args.row.now in
+    let steps = c.args.moved.now.steps in
+    let row = c.args.moved.now.row.now in
     let size = c.args.size in
     let frame = c.args.frame.now in
     on_err_weaker c.push_both.result

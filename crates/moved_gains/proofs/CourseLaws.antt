@@ -1,0 +1,72 @@
+-- The numbers of the frames of a file by their offsets.
+use Rattle.std.proofs.Common.{◌≡◌, ℕ, zero, suc, ◌+◌, ◌<◌, ◌≤◌, Bool, cond, List, [], ◌∷◌, length, get_or, Some, refl, ◌∙◌, ap, subst, arith}
+use Rattle.std.specs.Prelude.{slice_get}
+use Rattle.std.proofs.lemmas.Bool.{lt-ltb, le-ltb}
+use Rattle.std.proofs.lemmas.Option.{slice_get_read}
+use Rattle.frame_header.specs.Fields.{IsHeader}
+use Rattle.frame_header.specs.Tables.{class_of, length_of}
+use Rattle.frame_header.proofs.HeaderLaws.{IsClass-class_of}
+use Rattle.frame_header.proofs.Lengths.{area_some}
+use Rattle.sync_survey.specs.declared.rows.Row.{Row}
+use Rattle.sync_survey.specs.Faults.{SurveyFields}
+use Rattle.sync_survey.specs.Survey.{AreLaid, IsLaidOut}
+use Rattle.moved_gains.specs.declared.course.Course.{Course}
+use Rattle.moved_gains.specs.Course.{number_at, AreNumbered, steps_in, steps_over}
+use Rattle.moved_gains.proofs.LostOffsets.{AreRising, rising_less, rising_get}
+
+-- ---- frames at rising offsets
+
+before : (row : Row) (rows : List Row) (at : ℕ) → row.offset < at → number_at (row ∷ rows) at ≡ suc (number_at rows at)
+before row rows at low = ap (λ (b : Bool). cond b (suc (number_at rows at)) (number_at rows at)) (lt-ltb row.offset at low)
+
+behind : (row : Row) (rows : List Row) (at : ℕ) → at ≤ row.offset → number_at (row ∷ rows) at ≡ number_at rows at
+behind row rows at high = ap (λ (b : Bool). cond b (suc (number_at rows at)) (number_at rows at)) (le-ltb row.offset at high)
+
+-- no frame stands before an offset that isn't behind the first
+none_before : (at from : ℕ) (rows : List Row) → at ≤ from → AreRising from rows → number_at rows at ≡ 0
+none_before at from [] low rise = refl
+none_before at from (row ∷ rows) low rise =
+    behind row rows at (omega (arith, low, rise.0)) ∙ none_before at (suc row.offset) rows (omega (arith, low, rise.0)) rise.1
+
+pub rising_numbered : (from : ℕ) (rows : List Row) → AreRising from rows → AreNumbered rows
+rising_numbered from [] rise i row is = absurd cc
+rising_numbered from (q ∷ rows) rise zero row is =
+    let same : q ≡ row = cc in
+    subst (λ (x : Row). number_at (q ∷ rows) x.offset ≡ 0) same (behind q rows q.offset (omega arith) ∙ none_before q.offset (suc q.offset) rows (omega arith) rise.1)
+rising_numbered from (q ∷ rows) rise (suc i) row is =
+    before q rows row.offset (omega (arith, rising_get (suc q.offset) rows i row rise.1 is)) ∙ ap (λ n. suc n) (rising_numbered (suc q.offset) rows rise.1 i row is)
+
+-- ---- the frames of a survey
+
+abbrev AreKnown : List Row → Type 0
+AreKnown rows = (i : ℕ) (row : Row) → slice_get rows i ≡ Some row → IsHeader row.header
+
+some_bytes : (row : Row) → IsHeader row.header → 0 < length_of (class_of row.header) row.header.slot
+some_bytes row known = omega (arith, area_some (class_of row.header) row.header.slot (IsClass-class_of row.header known) known.slot)
+
+laid_rising : (from : ℕ) (rows : List Row) (to : ℕ) → AreKnown rows → AreLaid from rows to → AreRising from rows
+laid_rising from [] to known laid = tt
+laid_rising from (row ∷ rows) to known laid =
+    let next = row.offset + length_of (class_of row.header) row.header.slot in (
+      laid.0,
+      rising_less (suc row.offset) next rows (omega (arith, some_bytes row (known 0 row refl))) (laid_rising next rows to (λ i r is. known (suc i) r is) laid.2),
+    )
+
+-- no more than bytes
+laid_few : (from : ℕ) (rows : List Row) (to : ℕ) → AreKnown rows → AreLaid from rows to → from + length rows ≤ to
+laid_few from [] to known laid = omega (arith, laid)
+laid_few from (row ∷ rows) to known laid =
+    omega (arith, laid.0, some_bytes row (known 0 row refl), laid_few (row.offset + length_of (class_of row.header) row.header.slot) rows to (λ i r is. known (suc i) r is) laid.2)
+
+pub out_rising : (s : SurveyFields) → IsLaidOut s → AreRising s.first s.frames
+out_rising s laid = laid_rising s.first s.frames s.length (λ i row is. (laid.placed i row is).known) laid.frames
+
+pub out_numbered : (s : SurveyFields) → IsLaidOut s → AreNumbered s.frames
+out_numbered s laid = rising_numbered s.first s.frames (out_rising s laid)
+
+pub out_few : (s : SurveyFields) → IsLaidOut s → length s.frames ≤ s.length
+out_few s laid = omega (arith, laid_few s.first s.frames s.length (λ i row is. (laid.placed i row is).known) laid.frames)
+
+-- the steps of frame i are those of the frame at its offset
+pub frame_steps : (course : Course) (rows : List Row) (i : ℕ) (row : Row) → AreNumbered rows → i < length rows → row ≡ get_or rows i row → steps_over course rows row.offset ≡ steps_in course i
+frame_steps course rows i row numbered within is = ap (steps_in course) (numbered i row (slice_get_read rows (length rows) i row refl within is))

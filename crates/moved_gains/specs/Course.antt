@@ -1,0 +1,29 @@
+-- By how many steps the gains of each frame of a file move.
+use Rattle.std.specs.Prelude.{◌≡◌, ℕ, suc, false, slice_get, Some, nat_lt, if◌then◌else◌, List, [], ◌∷◌, ℤ}
+use Rattle.fade_plan.specs.Curves.{steps_at, steps_back}
+use Rattle.sync_survey.specs.declared.rows.Row.{Row}
+use Rattle.moved_gains.specs.declared.course.Course.{Course}
+use Rattle.moved_gains.specs.declared.course.Course.TheVariants.{Even, Along}
+use Rattle.moved_gains.specs.declared.shift.Steps.{Steps}
+
+-- both channels by as many steps, without wrap
+abbrev pub alike : ℤ → Steps
+alike steps = record { left = steps; right = steps; wrap = false }
+
+-- the steps of a frame of this number, counted from 0
+abbrev pub steps_in : Course → ℕ → Steps
+steps_in (Even steps) frame = steps
+steps_in (Along curve back) frame = alike (steps_back back (steps_at curve frame))
+
+-- as many of these frames stand before an offset: the number of the one that stands there
+abbrev pub number_at : List Row → ℕ → ℕ
+number_at [] at = 0
+number_at (row ∷ rows) at = if nat_lt row.offset at then suc (number_at rows at) else number_at rows at
+
+-- frame i of these is the one of number i at its offset
+abbrev pub AreNumbered : List Row → Type 0
+AreNumbered rows = (i : ℕ) (row : Row) → slice_get rows i ≡ Some row → number_at rows row.offset ≡ i
+
+-- the steps of the frame that stands at an offset of a file with these frames
+abbrev pub steps_over : Course → List Row → ℕ → Steps
+steps_over course rows at = steps_in course (number_at rows at)
