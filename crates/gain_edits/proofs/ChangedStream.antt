@@ -1,20 +1,25 @@
 -- What a command makes of a file is well-formed, and its stream is that of the file with each gain moved.
-use Rattle.std.proofs.Common.{◌≡◌, ℕ, ◌+◌, List, length, map, Option, Some, None, Result, Ok, Err, refl, sym, ◌∙◌, ap, subst, arith}
+use Rattle.std.proofs.Common.{◌≡◌, ℕ, ◌+◌, List, [], ◌∷◌, length, map, Option, Some, None, Result, Ok, Err, refl, sym, ◌∙◌, ap, subst, arith}
 use Rattle.std.specs.Prelude.{IfSome}
 use Rattle.bit_fields.specs.Bits.{AreBytes}
 use Rattle.file_tag.specs.Places.{IsTagBytes, retagged}
 use Rattle.file_tag.proofs.Retagged.{surveyed-retagged, stream-retagged}
 use Rattle.sync_survey.specs.declared.survey_fault.SurveyFault.{SurveyFault}
+use Rattle.std.specs.List.{enumerate_from}
+use Rattle.sync_survey.specs.declared.places.Head.{Head}
+use Rattle.sync_survey.specs.declared.rows.Row.{Row}
+use Rattle.sync_survey.specs.MainData.{StreamFrame, main_bytes, stream_frame, stream_frames}
 use Rattle.sync_survey.specs.Faults.{SurveyFields, surveyed, stream_of_survey, HoldsStream, stream_by, stream_of}
 use Rattle.sync_survey.specs.Survey.{survey_of}
 use Rattle.sync_survey.proofs.SurveyParts.{surveyed-allowed}
 use Rattle.commands.specs.declared.fault.EditFault.{EditFault}
+use Rattle.moved_gains.specs.Course.{even}
 use Rattle.moved_gains.specs.declared.shift.Steps.{Steps}
 use Rattle.moved_gains.specs.Edited.{edited}
 use Rattle.commands.specs.One.{most_frames, made_by, made_file}
 use Rattle.moved_gains.specs.Change.{Change, retag, changed}
 use Rattle.gain_edits.specs.Change.{Changing, changed_with, changing, changed_file}
-use Rattle.moved_gains.specs.Streams.{moved_stream_frame, moved_survey, IsStreamMoved}
+use Rattle.moved_gains.specs.Streams.{moved_stream_frame, moved_stream_of, moved_survey, IsStreamMoved}
 use Rattle.moved_gains.proofs.MovedSurvey.{surveyed-edited}
 use Rattle.moved_gains.proofs.MovedStream.{stream-edited}
 use Rattle.sync_survey.proofs.SurveyedFiles.{survey_of-parts}
@@ -55,15 +60,15 @@ survey_with (Some tag) s = retagged (length tag) s
 abbrev pub changed_survey : Change → SurveyFields → SurveyFields
 changed_survey change s = survey_with change.tag (moved_survey change.steps s)
 
-no_junk : (steps : Steps) (s : SurveyFields) → (moved_survey steps s).junk ≡ (moved_survey steps s).first
+no_junk : (steps : ℕ → Steps) (s : SurveyFields) → (moved_survey steps s).junk ≡ (moved_survey steps s).first
 unfolding moved_survey
 no_junk steps s = refl
 
 module _ (file : List ℕ) (allowed : ℕ) (s : SurveyFields) (all : AreBytes file) (is : surveyed file allowed ≡ Ok s) where
-  edited_is : (steps : Steps) → surveyed (edited steps file s) allowed ≡ Ok (moved_survey steps s)
+  edited_is : (steps : ℕ → Steps) → surveyed (edited steps file s) allowed ≡ Ok (moved_survey steps s)
   edited_is steps = surveyed-edited steps file allowed s all is
 
-  tagged_is : (steps : Steps) (o : Option (List ℕ)) → IfSome o IsTagBytes → surveyed (retag o (moved_survey steps s) (edited steps file s)) allowed ≡ Ok (survey_with o (moved_survey steps s))
+  tagged_is : (steps : ℕ → Steps) (o : Option (List ℕ)) → IfSome o IsTagBytes → surveyed (retag o (moved_survey steps s) (edited steps file s)) allowed ≡ Ok (survey_with o (moved_survey steps s))
   tagged_is steps None tags = edited_is steps
   tagged_is steps (Some tag) tags = surveyed-retagged (edited steps file s) tag allowed (moved_survey steps s) (edited_is steps) (no_junk steps s) tags
 
@@ -71,13 +76,13 @@ module _ (file : List ℕ) (allowed : ℕ) (s : SurveyFields) (all : AreBytes fi
   unfolding changed
   surveyed-changed change tags = tagged_is change.steps change.tag tags
 
-  stream_is : (steps : Steps) (o : Option (List ℕ)) → IfSome o IsTagBytes
-      → stream_of_survey (retag o (moved_survey steps s) (edited steps file s)) (survey_with o (moved_survey steps s)) ≡ map (moved_stream_frame steps) (stream_of_survey file s)
+  stream_is : (steps : ℕ → Steps) (o : Option (List ℕ)) → IfSome o IsTagBytes
+      → stream_of_survey (retag o (moved_survey steps s) (edited steps file s)) (survey_with o (moved_survey steps s)) ≡ moved_stream_of steps file s
   stream_is steps None tags = stream-edited steps file allowed s all is
   stream_is steps (Some tag) tags = stream-retagged (edited steps file s) tag allowed (moved_survey steps s) (edited_is steps) (no_junk steps s) tags ∙ stream-edited steps file allowed s all is
 
   pub stream-changed : (change : Change) → IfSome change.tag IsTagBytes
-      → stream_of_survey (changed change file s) (changed_survey change s) ≡ map (moved_stream_frame change.steps) (stream_of_survey file s)
+      → stream_of_survey (changed change file s) (changed_survey change s) ≡ moved_stream_of change.steps file s
   unfolding changed
   stream-changed change tags = stream_is change.steps change.tag tags
 
@@ -99,9 +104,23 @@ stream_of-survey : (file : List ℕ) (s : SurveyFields) → surveyed file (lengt
 unfolding stream_of
 stream_of-survey file s is = ap (stream_by file) is
 
+each_even : (steps : Steps) (main : List ℕ) (o : Option Head) (rows : List Row) (more : List (ℕ × Row))
+    → map (λ (p : ℕ × Row). moved_stream_frame steps (stream_frame main o rows p.0 p.1)) more ≡ map (moved_stream_frame steps) (map (λ (p : ℕ × Row). stream_frame main o rows p.0 p.1) more)
+each_even steps main o rows [] = refl
+each_even steps main o rows (p ∷ more) = ap (λ (l : List StreamFrame). moved_stream_frame steps (stream_frame main o rows p.0 p.1) ∷ l) (each_even steps main o rows more)
+
+-- where all frames have the same steps
+pub even_stream : (steps : Steps) (file : List ℕ) (s : SurveyFields) → moved_stream_of (even steps) file s ≡ map (moved_stream_frame steps) (stream_of_survey file s)
+unfolding moved_stream_of stream_of_survey stream_frames
+even_stream steps file s = each_even steps (main_bytes file s.head s.frames) s.head s.frames (enumerate_from 0 s.frames)
+
 -- as a stream that it holds
-pub moved_holds : (steps : Steps) (file new : List ℕ) → IsStreamMoved steps file new → HoldsStream new (map (moved_stream_frame steps) (stream_of file))
-moved_holds steps file new h = record {
+pub holds_moved : (steps : ℕ → Steps) (file new : List ℕ) (h : IsStreamMoved steps file new) → HoldsStream new (moved_stream_of steps file h.before.0)
+holds_moved steps file new h = record {
   well_formed = h.after;
-  stream_is = stream_of-survey new h.after.0 h.after.1 ∙ h.stream ∙ ap (map (moved_stream_frame steps)) (sym (stream_of-survey file h.before.0 h.before.1));
+  stream_is = stream_of-survey new h.after.0 h.after.1 ∙ h.stream;
 }
+
+pub moved_holds : (steps : Steps) (file new : List ℕ) → IsStreamMoved (even steps) file new → HoldsStream new (map (moved_stream_frame steps) (stream_of file))
+moved_holds steps file new h =
+    subst (HoldsStream new) (even_stream steps file h.before.0 ∙ ap (map (moved_stream_frame steps)) (sym (stream_of-survey file h.before.0 h.before.1))) (holds_moved (even steps) file new h)

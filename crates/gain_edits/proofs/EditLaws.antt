@@ -17,7 +17,7 @@ proper (Move shift tags) = gain_proper shift.now tags
 proper Undo = undo_proper
 
 pub edit_makes : (changes : Changes) (input : List ℕ) (work : Work) (files : Files) → IsReady input (changing_by changes) work files
-    → IsMaking (task_of changes input) (λ file. changed (change_in work.change) file (tells work.survey)) files
+    → IsMaking (task_of changes input) (λ file. changed (change_in work.change (tells work.survey)) file (tells work.survey)) files
 edit_makes changes input work files ready =
     file_makes (changing (changing_by changes)) (stream_moved_by (steps_by changes)) (refused_by changes) input files _ (tells work.survey) ready.there ready.surveyed ready.octets (λ bytes holds. ap (changed_with bytes (tells work.survey)) (ready.change bytes holds))
 

@@ -14,6 +14,7 @@ use Rattle.sync_survey.specs.MainData.{StreamFrame, main_bytes, side_of, stream_
 use Rattle.sync_survey.specs.Faults.{SurveyFields, surveyed, stream_of_survey}
 use Rattle.file_tag.specs.Places.{with_tag}
 use Rattle.file_tag.specs.Laws.{own_bytes}
+use Rattle.moved_gains.specs.Course.{even}
 use Rattle.moved_gains.specs.declared.shift.Steps.{Steps}
 use Rattle.moved_gains.specs.Gains.{moved_side}
 use Rattle.moved_gains.specs.Edited.{edited}
@@ -52,7 +53,7 @@ still_row steps none file row here = by_lost row.lost
         ap (λ (s : Side). frame_with row.header (moved_side steps s) (frame_of file row)) here.side
         ∙ frame_none steps none row.header (frame_of file row) here.whole here.right
 
-still_to : (steps : Steps) → IsNoStep steps → (file : List ℕ) (at to : ℕ) (rows : List Row) → AreFramesOf file rows → EndBy at rows to → moved_to steps file at to rows ≡ bytes_between file at to
+still_to : (steps : Steps) → IsNoStep steps → (file : List ℕ) (at to : ℕ) (rows : List Row) → AreFramesOf file rows → EndBy at rows to → moved_to (even steps) file at to rows ≡ bytes_between file at to
 still_to steps none file at to [] frames ends = refl
 still_to steps none file at to (row ∷ rows) frames ends =
     let up = end_rises (row_end row) rows to ends.2 in
@@ -62,17 +63,17 @@ still_to steps none file at to (row ∷ rows) frames ends =
     (ap₂ (λ (k l : List ℕ). k ++ l) own (still_to steps none file (row_end row) to rows frames.1 ends.2) ∙ join file row.offset (row_end row) to (omega (arith, ends.1)) up)
     ∙ join file at row.offset to ends.0 (omega (arith, ends.1, up))
 
-pub edited_still : (steps : Steps) → IsNoStep steps → (file : List ℕ) (allowed : ℕ) (s : SurveyFields) → AreBytes file → surveyed file allowed ≡ Ok s → edited steps file s ≡ without_junk s file
+pub edited_still : (steps : Steps) → IsNoStep steps → (file : List ℕ) (allowed : ℕ) (s : SurveyFields) → AreBytes file → surveyed file allowed ≡ Ok s → edited (even steps) file s ≡ without_junk s file
 edited_still steps none file allowed s are is =
-    let known = stands_somewhere steps file allowed s is in
-    sym (written-edited steps file allowed s is)
+    let known = stands_somewhere (even steps) file allowed s is in
+    sym (written-edited (even steps) file allowed s is)
     ∙ ap (λ (l : List ℕ). take s.junk file ++ l)
-    (moved_whole_to steps file s.first s.frames
+    (moved_whole_to (even steps) file s.first s.frames
     ∙ still_to steps none file s.first (length file) s.frames (frames_there file allowed s are is) (subst (EndBy s.first s.frames) (sym known.size) known.ends)
     ∙ take_all (length file - s.first) (drop s.first file) (omega (arith, length-drop s.first file)))
 
 -- the bytes of its own tag in their place give the edited file
-pub own_again : (steps : Steps) (file : List ℕ) (allowed : ℕ) (s : SurveyFields) → surveyed file allowed ≡ Ok s → with_tag (own_bytes file s) (moved_survey steps s) (edited steps file s) ≡ edited steps file s
+pub own_again : (steps : ℕ → Steps) (file : List ℕ) (allowed : ℕ) (s : SurveyFields) → surveyed file allowed ≡ Ok s → with_tag (own_bytes file s) (moved_survey steps s) (edited steps file s) ≡ edited steps file s
 own_again steps file allowed s is = by_place (stands_somewhere steps file allowed s is).place
   where
     by_place : IsInFront s ⊎ IsAmong s → with_tag (own_bytes file s) (moved_survey steps s) (edited steps file s) ≡ edited steps file s

@@ -21,6 +21,7 @@ use Rattle.sync_survey.specs.Faults.{SurveyFields, longest_file}
 use Rattle.commands.specs.declared.fault.EditFault.{EditFault}
 use Rattle.commands.specs.declared.fault.Refusal.{Refusal}
 use Rattle.commands.specs.declared.fault.Refusal.TheVariants.{UndoRange}
+use Rattle.moved_gains.specs.Course.{even}
 use Rattle.moved_gains.specs.declared.shift.Shift.{Shift}
 use Rattle.gain_edits.specs.GainRange.{range_fault}
 use Rattle.moved_gains.specs.Gains.{steps_of}
@@ -91,18 +92,18 @@ pub record AreNoted (shift : Shift) (s : SurveyFields) (tag : TagFields) (undo :
   pub fits : FitsText (next_undo shift undo)
   pub small : length (tag_bytes (tag_with (next_undo shift undo) tag)) ≤ longest_tag
   pub few : output_length s (tag_bytes (tag_with (next_undo shift undo) tag)) ≤ longest_file
-  pub free : range_fault (steps_of shift) s.frames ≡ None
-  pub is : record { steps = steps_of shift; tag = Some (tag_bytes (tag_with (next_undo shift undo) tag)) } ≡ change
+  pub free : range_fault (even (steps_of shift)) s.frames ≡ None
+  pub is : record { steps = even (steps_of shift); tag = Some (tag_bytes (tag_with (next_undo shift undo) tag)) } ≡ change
 
 noted_parts : (shift : Shift) (s : SurveyFields) (tag : TagFields) (undo : Undo) (change : Change) → noted_change shift s tag undo ≡ Ok change → AreNoted shift s tag undo change
 noted_parts shift s tag undo change e =
     let next = next_undo shift undo in
     let bytes = tag_bytes (tag_with next tag) in
     let all = unless_ok _ _ change e in
-    let apart = none_first (channel_fault shift s) (or_else (undo_fault next) (or_else (size_fault bytes) (or_else (output_fault s bytes) (range_fault (steps_of shift) s.frames)))) all.0 in
-    let number = none_first (undo_fault next) (or_else (size_fault bytes) (or_else (output_fault s bytes) (range_fault (steps_of shift) s.frames))) apart.1 in
-    let size = none_first (size_fault bytes) (or_else (output_fault s bytes) (range_fault (steps_of shift) s.frames)) number.1 in
-    let output = none_first (output_fault s bytes) (range_fault (steps_of shift) s.frames) size.1 in
+    let apart = none_first (channel_fault shift s) (or_else (undo_fault next) (or_else (size_fault bytes) (or_else (output_fault s bytes) (range_fault (even (steps_of shift)) s.frames)))) all.0 in
+    let number = none_first (undo_fault next) (or_else (size_fault bytes) (or_else (output_fault s bytes) (range_fault (even (steps_of shift)) s.frames))) apart.1 in
+    let size = none_first (size_fault bytes) (or_else (output_fault s bytes) (range_fault (even (steps_of shift)) s.frames)) number.1 in
+    let output = none_first (output_fault s bytes) (range_fault (even (steps_of shift)) s.frames) size.1 in
     record {
       fits = fits_text next number.0;
       small = ltb-false longest_tag (length bytes) (not_there (ltb longest_tag (length bytes)) _ size.0);

@@ -9,6 +9,7 @@ use Rattle.sync_survey.specs.Survey.{survey_of}
 use Rattle.sync_survey.proofs.FoldersLaws.{survey_of-short}
 use Rattle.commands.specs.declared.fault.Refusal.{Refusal}
 use Rattle.commands.specs.declared.fault.Refusal.TheVariants.{Mono, Joint}
+use Rattle.moved_gains.specs.Course.{even}
 use Rattle.moved_gains.specs.declared.shift.Channels.{Channels}
 use Rattle.moved_gains.specs.declared.shift.Channels.TheVariants.{Both, Left, Right}
 use Rattle.moved_gains.specs.declared.shift.Shift.{Shift}
@@ -33,8 +34,8 @@ use Rattle.sync_survey.proofs.SurveyedFiles.{survey_of-parts}
 use Rattle.gain_edits.proofs.ChangedStream.{changed-ok}
 use Rattle.commands.proofs.RefusingLaws.{unless_ok}
 use Rattle.moved_gains.proofs.FramesThere.{AreFramesOf, frames_there}
-use Rattle.moved_gains.proofs.MovedAgain.{AreTogether, stood, AreMovedBy, moved_again, moved_whole_to}
-use Rattle.gain_edits.proofs.RangeAgain.{range_back}
+use Rattle.moved_gains.proofs.MovedAgain.{AreTogether, AllTogether, even_together, stood, AreMovedBy, moved_again, moved_whole_to}
+use Rattle.gain_edits.proofs.RangeAgain.{even_opposite, range_back}
 use Rattle.gain_edits.proofs.NoStep.{edited_still}
 use Rattle.gain_edits.proofs.NotedAgain.{none_first}
 use Rattle.gain_edits.proofs.UndoneGains.{made_by}
@@ -52,7 +53,7 @@ right_back Left steps = refl
 right_back Right steps = +ℤ_invr steps
 
 -- no step at all
-abbrev still : Steps
+abbrev pub still : Steps
 still = record { left = pos 0; right = pos 0; wrap = false }
 
 -- both changes together are no step
@@ -64,7 +65,7 @@ together shift = record { left = sym (left_back shift.channels shift.steps); rig
 none_both : (o later : Option Refusal) → o ≡ None → later ≡ None → or_else o later ≡ None
 none_both o later e rest = ap (λ p. or_else p later) e ∙ rest
 
-joint_back : (steps : Steps) (gap : ℕ) (rows : List Row) → joint_fault rows ≡ None → joint_fault (map (moved_row steps gap) rows) ≡ None
+joint_back : (steps : ℕ → Steps) (gap : ℕ) (rows : List Row) → joint_fault rows ≡ None → joint_fault (map (moved_row steps gap) rows) ≡ None
 joint_back steps gap [] none = joint-nil
 joint_back steps gap (row ∷ rows) none =
     let there = moved_row steps gap row in
@@ -76,7 +77,7 @@ joint_back steps gap (row ∷ rows) none =
     apart true e = absurd cc
     apart false e = refl
 
-apart_back : (steps : Steps) (s : SurveyFields) → apart_fault s ≡ None → apart_fault (moved_survey steps s) ≡ None
+apart_back : (steps : ℕ → Steps) (s : SurveyFields) → apart_fault s ≡ None → apart_fault (moved_survey steps s) ≡ None
 unfolding moved_survey
 apart_back steps s none = by_channels (s.class.channels == 1) none
   where
@@ -85,41 +86,35 @@ apart_back steps s none = by_channels (s.class.channels == 1) none
     by_channels false e = joint_back steps (junk_length s) s.frames e
 
 -- the modes and the class stay, so the opposite change may be made of one channel too
-channel_back : (shift : Shift) (s : SurveyFields) → channel_fault shift s ≡ None → channel_fault (opposite shift) (moved_survey (steps_of shift) s) ≡ None
+channel_back : (shift : Shift) (s : SurveyFields) → channel_fault shift s ≡ None → channel_fault (opposite shift) (moved_survey (even (steps_of shift)) s) ≡ None
 channel_back shift s none = by_choice (are_both shift.channels) none
   where
-    by_choice : (b : Bool) → cond b None (apart_fault s) ≡ None → cond b None (apart_fault (moved_survey (steps_of shift) s)) ≡ None
+    by_choice : (b : Bool) → cond b None (apart_fault s) ≡ None → cond b None (apart_fault (moved_survey (even (steps_of shift)) s)) ≡ None
     by_choice true e = refl
-    by_choice false e = apart_back (steps_of shift) s e
+    by_choice false e = apart_back (even (steps_of shift)) s e
 
 -- ---- what a change without a note makes
 
 plain-parts : (shift : Shift) (file : List ℕ) (s : SurveyFields) (change : Change) → gain_change shift false file s ≡ Ok change
-    → (channel_fault shift s ≡ None) × (range_fault (steps_of shift) s.frames ≡ None) × (record { steps = steps_of shift; tag = None } ≡ change)
+    → (channel_fault shift s ≡ None) × (range_fault (even (steps_of shift)) s.frames ≡ None) × (record { steps = even (steps_of shift); tag = None } ≡ change)
 unfolding gain_change
 plain-parts shift file s change e =
-    let parts = unless_ok (or_else (channel_fault shift s) (range_fault (steps_of shift) s.frames)) _ change e in
-    let nones = none_first (channel_fault shift s) (range_fault (steps_of shift) s.frames) parts.0 in
+    let parts = unless_ok (or_else (channel_fault shift s) (range_fault (even (steps_of shift)) s.frames)) _ change e in
+    let nones = none_first (channel_fault shift s) (range_fault (even (steps_of shift)) s.frames) parts.0 in
     (nones.0, nones.1, parts.1)
 
-plain-ok : (shift : Shift) (file : List ℕ) (s : SurveyFields) → channel_fault shift s ≡ None → range_fault (steps_of shift) s.frames ≡ None → gain_change shift false file s ≡ Ok (record { steps = steps_of shift; tag = None })
+plain-ok : (shift : Shift) (file : List ℕ) (s : SurveyFields) → channel_fault shift s ≡ None → range_fault (even (steps_of shift)) s.frames ≡ None → gain_change shift false file s ≡ Ok (record { steps = even (steps_of shift); tag = None })
 unfolding gain_change
 plain-ok shift file s apart free =
-    ap (λ (o : Option Refusal). unless o (record { steps = steps_of shift; tag = None })) (none_both (channel_fault shift s) (range_fault (steps_of shift) s.frames) apart free)
+    ap (λ (o : Option Refusal). unless o (record { steps = even (steps_of shift); tag = None })) (none_both (channel_fault shift s) (range_fault (even (steps_of shift)) s.frames) apart free)
 
-plain-changed : (steps : Steps) (file : List ℕ) (s : SurveyFields) → changed (record { steps = steps; tag = None }) file s ≡ edited steps file s
+pub plain-changed : (steps : ℕ → Steps) (file : List ℕ) (s : SurveyFields) → changed (record { steps = steps; tag = None }) file s ≡ edited steps file s
 unfolding changed
 plain-changed steps file s = refl
 
 -- ---- the file back
 
-module _ (shift : Shift) (file : List ℕ) (s : SurveyFields) (are : AreBytes file) (short : survey_of file most_frames ≡ Ok s) where
-  abbrev one : Steps
-  one = steps_of shift
-
-  abbrev two : Steps
-  two = steps_of (opposite shift)
-
+module _ (one two : ℕ → Steps) (file : List ℕ) (s : SurveyFields) (sum : AllTogether one two (even still) (λ x. x - junk_length s) s.frames) (are : AreBytes file) (short : survey_of file most_frames ≡ Ok s) where
   abbrev moved : List ℕ
   moved = edited one file s
 
@@ -148,10 +143,10 @@ module _ (shift : Shift) (file : List ℕ) (s : SurveyFields) (are : AreBytes fi
   there : StandsSomewhere two moved m
   there = stands_somewhere two moved most_frames m new_is
 
-  frames : AreFramesOf file s.frames
+  pub frames : AreFramesOf file s.frames
   frames = frames_there file most_frames s are is
 
-  new_frames : m.frames ≡ map (stood to one) s.frames
+  pub new_frames : m.frames ≡ map (stood to one) s.frames
   unfolding moved_survey
   new_frames = refl
 
@@ -170,7 +165,7 @@ module _ (shift : Shift) (file : List ℕ) (s : SurveyFields) (are : AreBytes fi
   size : length moved ≡ length file - gap
   size = omega (arith, there.size, new_size, here.size)
 
-  new_survey : survey_of moved most_frames ≡ Ok m
+  pub new_survey : survey_of moved most_frames ≡ Ok m
   new_survey = survey_of-short moved most_frames (omega (arith, size, few)) ∙ new_is
 
   abbrev junk : List ℕ
@@ -194,35 +189,53 @@ module _ (shift : Shift) (file : List ℕ) (s : SurveyFields) (are : AreBytes fi
   to_end : length file - s.first + s.junk ≡ length moved
   to_end = omega (arith, size, here.size, here.junk, here.first)
 
-  rows_again : moved_from two moved m.first m.frames ≡ moved_from still file s.first s.frames
+  rows_again : moved_from two moved m.first m.frames ≡ moved_from (even still) file s.first s.frames
   rows_again =
       moved_whole_to two moved m.first m.frames
       ∙ ap₂ (λ k (l : List Row). moved_to two moved k (length moved) l) new_first new_frames
       ∙ ap (λ k. moved_to two moved s.junk k (map (stood to one) s.frames)) (sym to_end)
-      ∙ moved_again one two still (together shift) file moved to s.first (length file) s.junk s.frames [] frames (subst (EndBy s.first s.frames) (sym here.size) here.ends) (omega arith) by rows_stand
-      ∙ sym (moved_whole_to still file s.first s.frames)
+      ∙ moved_again one two (even still) file moved to s.first (length file) s.junk s.frames [] sum frames (subst (EndBy s.first s.frames) (sym here.size) here.ends) (omega arith) by rows_stand
+      ∙ sym (moved_whole_to (even still) file s.first s.frames)
 
   junk_again : take m.junk moved ≡ junk
   junk_again = ap (λ k. take k moved) new_junk ∙ ap (take s.junk) stands ∙ take_at junk rows s.junk junk_long
 
-  bytes_again : edited two moved m ≡ without_junk s file
+  pub bytes_again : edited two moved m ≡ without_junk s file
   bytes_again =
       sym (written-edited two moved most_frames m new_is)
       ∙ ap₂ (λ (k l : List ℕ). k ++ l) junk_again rows_again
-      ∙ written-edited still file most_frames s is
+      ∙ written-edited (even still) file most_frames s is
       ∙ edited_still still (refl, refl) file most_frames s are is
 
-  edited_back : channel_fault shift s ≡ None → range_fault one s.frames ≡ None → changed_file (gain_change (opposite shift) false) moved ≡ Ok (without_junk s file)
+module _ (shift : Shift) (file : List ℕ) (s : SurveyFields) (are : AreBytes file) (short : survey_of file most_frames ≡ Ok s) where
+  abbrev first : ℕ → Steps
+  first = even (steps_of shift)
+
+  abbrev second : ℕ → Steps
+  second = even (steps_of (opposite shift))
+
+  abbrev nearer : ℕ → ℕ
+  nearer x = x - junk_length s
+
+  both : AllTogether first second (even still) nearer s.frames
+  both = even_together (steps_of shift) (steps_of (opposite shift)) still (together shift) nearer s.frames
+
+  edited_back : channel_fault shift s ≡ None → range_fault first s.frames ≡ None → changed_file (gain_change (opposite shift) false) (edited first file s) ≡ Ok (without_junk s file)
   edited_back apart free =
-      let range : range_fault two m.frames ≡ None =
-      ap (range_fault two) new_frames ∙ range_back one two refl (left_back shift.channels shift.steps) (right_back shift.channels shift.steps) file to s.frames frames free in
-      changed-ok (gain_change (opposite shift) false) moved m (record { steps = two; tag = None }) new_survey (plain-ok (opposite shift) moved m (channel_back shift s apart) range)
-      ∙ ap Ok (plain-changed two moved m ∙ bytes_again)
+      let moved = edited first file s in
+      let m = moved_survey first s in
+      let range : range_fault second m.frames ≡ None =
+      ap (range_fault second) (new_frames first second file s both are short)
+      ∙ range_back first second file nearer s.frames
+      (even_opposite (steps_of shift) (steps_of (opposite shift)) (record { wraps = refl; left = left_back shift.channels shift.steps; right = right_back shift.channels shift.steps }) nearer s.frames)
+      (frames first second file s both are short) free in
+      changed-ok (gain_change (opposite shift) false) moved m (record { steps = second; tag = None }) (new_survey first second file s both are short) (plain-ok (opposite shift) moved m (channel_back shift s apart) range)
+      ∙ ap Ok (plain-changed second moved m ∙ bytes_again first second file s both are short)
 
 -- what a change without a note makes of a file, the opposite change makes the file again, but for its junk
 pub steps_back : OppositeGivesBack
 steps_back shift file new s are short e =
     let made = made_by (gain_change shift false) file new s short e in
     let parts = plain-parts shift file s made.change made.made in
-    let there : edited (steps_of shift) file s ≡ new = sym (plain-changed (steps_of shift) file s) ∙ ap (λ (c : Change). changed c file s) parts.2 ∙ made.bytes in
+    let there : edited (even (steps_of shift)) file s ≡ new = sym (plain-changed (even (steps_of shift)) file s) ∙ ap (λ (c : Change). changed c file s) parts.2 ∙ made.bytes in
     ap (changed_file (gain_change (opposite shift) false)) (sym there) ∙ edited_back shift file s are short parts.0 parts.1

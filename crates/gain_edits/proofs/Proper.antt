@@ -1,5 +1,5 @@
 -- Gain and undo are commands that change one file: their refusals, their steps, and their new tags.
-use Rattle.std.proofs.Common.{◌≡◌, ℕ, ◌==◌, Bool, true, false, cond, List, [], length, map, Option, Some, None, Result, Ok, Err, refl, sym, ◌∙◌, ap, subst, inl, inr}
+use Rattle.std.proofs.Common.{◌≡◌, ℕ, ◌==◌, Bool, true, false, cond, List, [], length, map, Some, None, Result, Ok, Err, refl, sym, ◌∙◌, ap, subst, inl, inr}
 use Rattle.std.specs.Prelude.{IfSome, IfErr}
 use Rattle.bit_fields.specs.Bits.{AreBytes}
 use Rattle.tag_blocks.specs.declared.undo.Undo.{Undo}
@@ -13,20 +13,21 @@ use Rattle.file_tag.specs.Reading.{file_tag}
 use Rattle.sync_survey.specs.Faults.{SurveyFields}
 use Rattle.sync_survey.specs.Survey.{survey_of}
 use Rattle.commands.specs.declared.fault.EditFault.{EditFault}
+use Rattle.moved_gains.specs.Course.{even}
 use Rattle.moved_gains.specs.declared.shift.Shift.{Shift}
 use Rattle.moved_gains.specs.declared.shift.Steps.{Steps}
 use Rattle.gain_edits.specs.GainRange.{range_fault}
 use Rattle.moved_gains.specs.Gains.{steps_of}
-use Rattle.commands.specs.Refusing.{or_else, unless, then_made}
+use Rattle.commands.specs.Refusing.{or_else, then_made}
 use Rattle.gain_edits.specs.Channels.{channel_fault}
 use Rattle.gain_edits.specs.UndoItem.{tag_read, noted_undo, found_undo, undo_steps, next_undo, undo_fault, tag_with, tag_without, bytes_unless_empty, size_fault, output_fault}
 use Rattle.commands.specs.One.{most_frames}
 use Rattle.moved_gains.specs.Change.{Change}
 use Rattle.gain_edits.specs.Change.{Changing, changed_with, changing, stream_moved_by}
-use Rattle.moved_gains.specs.Streams.{moved_stream_frame, stream_in}
+use Rattle.moved_gains.specs.Streams.{moved_stream_frame, stream_in, IsStreamMoved}
 use Rattle.sync_survey.specs.Faults.{HoldsStream}
 use Rattle.gain_edits.specs.Gain.{noted_change, tagged_change, gain_change}
-use Rattle.gain_edits.specs.Undo.{undone_change, undo_change, steps_when, steps_by, steps_back}
+use Rattle.gain_edits.specs.Undo.{undone_change, undo_change, undo_in, steps_when, steps_by, steps_back}
 use Rattle.sync_survey.proofs.SurveyedFiles.{survey_of-parts}
 use Rattle.gain_edits.proofs.ChangedStream.{change_cases, changed-stream, moved_holds}
 use Rattle.gain_edits.proofs.FileTags.{file_tag-is}
@@ -43,8 +44,8 @@ pub record IsNoted (shift : Shift) (file : List ℕ) (s : SurveyFields) (change 
   pub undo : Undo
   pub read : tag_read (file_tag file s) ≡ Ok tag
   pub item : noted_undo (tag_at s) (undo_from 32 tag.items) ≡ Ok undo
-  pub free : or_else (channel_fault shift s) (or_else (undo_fault (next_undo shift undo)) (or_else (size_fault (tag_bytes (tag_with (next_undo shift undo) tag))) (or_else (output_fault s (tag_bytes (tag_with (next_undo shift undo) tag))) (range_fault (steps_of shift) s.frames)))) ≡ None
-  pub is : record { steps = steps_of shift; tag = Some (tag_bytes (tag_with (next_undo shift undo) tag)) } ≡ change
+  pub free : or_else (channel_fault shift s) (or_else (undo_fault (next_undo shift undo)) (or_else (size_fault (tag_bytes (tag_with (next_undo shift undo) tag))) (or_else (output_fault s (tag_bytes (tag_with (next_undo shift undo) tag))) (range_fault (even (steps_of shift)) s.frames)))) ≡ None
+  pub is : record { steps = even (steps_of shift); tag = Some (tag_bytes (tag_with (next_undo shift undo) tag)) } ≡ change
 
 pub tagged-parts : (shift : Shift) (file : List ℕ) (s : SurveyFields) (change : Change) → tagged_change shift file s ≡ Ok change → IsNoted shift file s change
 tagged-parts shift file s change e =
@@ -58,26 +59,29 @@ pub record IsUndone (file : List ℕ) (s : SurveyFields) (change : Change) : Typ
   pub undo : Undo
   pub read : tag_read (file_tag file s) ≡ Ok tag
   pub item : found_undo (tag_at s) (undo_from 32 tag.items) ≡ Ok undo
-  pub free : range_fault (undo_steps undo) s.frames ≡ None
-  pub is : record { steps = undo_steps undo; tag = Some (bytes_unless_empty (tag_without tag)) } ≡ change
+  pub free : range_fault (even (undo_steps undo)) s.frames ≡ None
+  pub is : record { steps = even (undo_steps undo); tag = Some (bytes_unless_empty (tag_without tag)) } ≡ change
 
 pub undone-parts : (file : List ℕ) (s : SurveyFields) (change : Change) → undo_change file s ≡ Ok change → IsUndone file s change
 unfolding undo_change
 undone-parts file s change e =
     let one = then_ok (tag_read (file_tag file s)) _ change e in
     let two = then_ok (found_undo (tag_at s) (undo_from 32 one.0.items)) (undone_change s one.0) change one.2 in
-    let three = unless_ok (range_fault (undo_steps two.0) s.frames) _ change two.2 in
+    let three = unless_ok (range_fault (even (undo_steps two.0)) s.frames) _ change two.2 in
     record { tag = one.0; undo = two.0; read = one.1; item = two.1; free = three.0; is = three.1 }
 
-gain_steps : (shift : Shift) (tags : Bool) (file : List ℕ) (s : SurveyFields) (change : Change) → gain_change shift tags file s ≡ Ok change → change.steps ≡ steps_of shift
+gain_steps : (shift : Shift) (tags : Bool) (file : List ℕ) (s : SurveyFields) (change : Change) → gain_change shift tags file s ≡ Ok change → change.steps ≡ even (steps_of shift)
 unfolding gain_change
 gain_steps shift true file s change e = let parts = tagged-parts shift file s change e in ap (λ (c : Change). c.steps) (sym parts.is)
 gain_steps shift false file s change e =
-    let parts = unless_ok (or_else (channel_fault shift s) (range_fault (steps_of shift) s.frames)) _ change e in
+    let parts = unless_ok (or_else (channel_fault shift s) (range_fault (even (steps_of shift)) s.frames)) _ change e in
     ap (λ (c : Change). c.steps) (sym parts.1)
 
-back_steps : (file : List ℕ) (s : SurveyFields) (change : Change) → survey_of file most_frames ≡ Ok s → undo_change file s ≡ Ok change → change.steps ≡ steps_back file
-back_steps file s change is made = ap steps_when (sym made) ∙ ap (steps_by file) (sym is)
+back_steps : (file : List ℕ) (s : SurveyFields) (change : Change) → survey_of file most_frames ≡ Ok s → undo_change file s ≡ Ok change → change.steps ≡ even (steps_back file)
+back_steps file s change is made =
+    let parts = undone-parts file s change made in
+    let undo : undo_in file s ≡ Ok parts.undo = ap (λ (r : Result TagFields EditFault). then_made r (λ tag. found_undo (tag_at s) (undo_from 32 tag.items))) parts.read ∙ parts.item in
+    ap (λ (c : Change). c.steps) (sym parts.is) ∙ ap even (sym (ap (steps_by file) is ∙ ap steps_when undo))
 
 -- ---- the new tag
 
@@ -112,7 +116,7 @@ gain_tags shift true file s change all is e =
     subst (λ (c : Change). IfSome c.tag IsTagBytes) parts.is
     (tag_bytes-are (tag_with next parts.tag) (IsTag-with_undo next parts.tag (read-tag file s parts.tag all is parts.read)))
 gain_tags shift false file s change all is e =
-    let parts = unless_ok (or_else (channel_fault shift s) (range_fault (steps_of shift) s.frames)) _ change e in
+    let parts = unless_ok (or_else (channel_fault shift s) (range_fault (even (steps_of shift)) s.frames)) _ change e in
     subst (λ (c : Change). IfSome c.tag IsTagBytes) parts.1 tt
 
 undo_tags : (file : List ℕ) (s : SurveyFields) (change : Change) → AreBytes file → survey_of file most_frames ≡ Ok s → undo_change file s ≡ Ok change → IfSome change.tag IsTagBytes
@@ -129,13 +133,13 @@ with_late file s (Ok change) late = tt
 
 module _ (of : Changing) (steps_in : List ℕ → Steps)
     (late : (file : List ℕ) (s : SurveyFields) → IfErr (of file s) IsLate)
-    (steps : (file : List ℕ) (s : SurveyFields) (change : Change) → survey_of file most_frames ≡ Ok s → of file s ≡ Ok change → change.steps ≡ steps_in file)
+    (steps : (file : List ℕ) (s : SurveyFields) (change : Change) → survey_of file most_frames ≡ Ok s → of file s ≡ Ok change → change.steps ≡ even (steps_in file))
     (tags : (file : List ℕ) (s : SurveyFields) (change : Change) → AreBytes file → survey_of file most_frames ≡ Ok s → of file s ≡ Ok change → IfSome change.tag IsTagBytes) where
   moved_stream : (file : List ℕ) (s : SurveyFields) (new : List ℕ) → AreBytes file → survey_of file most_frames ≡ Ok s → changing of file s ≡ Ok new → HoldsStream new (map (moved_stream_frame (steps_in file)) (stream_in file))
   moved_stream file s new all is e =
       let c = change_cases of file new s (of file s) is refl e in
       let moved = changed-stream of file new c all (tags file c.survey c.change all c.is c.made) in
-      subst (λ t. HoldsStream new (map (moved_stream_frame t) (stream_in file))) (steps file c.survey c.change c.is c.made) (moved_holds c.change.steps file new moved)
+      moved_holds (steps_in file) file new (subst (λ (t : ℕ → Steps). IsStreamMoved t file new) (steps file c.survey c.change c.is c.made) moved)
 
   change_proper : IsProperMaking (changing of) (stream_moved_by steps_in)
   change_proper = record { late = λ file s. with_late file s (of file s) (late file s); streams = moved_stream }

@@ -10,6 +10,7 @@ use Rattle.side_info.proofs.SideLaws.{IsShaped, side_with, each_shaped}
 use Rattle.sync_survey.specs.declared.rows.Row.{Row}
 use Rattle.frame_header.specs.Tables.{class_of}
 use Rattle.commands.specs.declared.fault.Refusal.{Refusal}
+use Rattle.moved_gains.specs.Course.{even}
 use Rattle.moved_gains.specs.declared.gains.Stuck.{Stuck}
 use Rattle.moved_gains.specs.declared.shift.Steps.{Steps}
 use Rattle.moved_gains.specs.Gains.{is_silent_granule, is_outside, moved_gain, moved, moved_side, moved_unless, stuck_at, stuck_in}
@@ -121,30 +122,47 @@ moved_or_lost false two one s = refl
 
 -- none leaves its range by both together
 pub range_both : (one two all : Steps) → all.wrap ≡ one.wrap || two.wrap → AreTogether one two all → (file : List ℕ) (to : ℕ → ℕ) (rows : List Row) → AreFramesOf file rows
-    → range_fault one rows ≡ None → range_fault two (map (stood to one) rows) ≡ None → range_fault all rows ≡ None
-range_both one two all wraps sum file to [] frames first second = range-nil all
+    → range_fault (even one) rows ≡ None → range_fault (even two) (map (stood to (even one)) rows) ≡ None → range_fault (even all) rows ≡ None
+range_both one two all wraps sum file to [] frames first second = range-nil (even all)
 range_both one two all wraps sum file to (row ∷ rows) frames first second =
-    let f = stuck_none row.offset (stuck_of one row) (range_fault one rows) (sym (range-cons one row rows) ∙ first) in
-    let t = stuck_none (to row.offset) (stuck_of two (stood to one row)) (range_fault two (map (stood to one) rows)) (sym (range-cons two (stood to one row) (map (stood to one) rows)) ∙ second) in
-    range-cons all row rows
-    ∙ none_stuck row.offset (stuck_of all row) (range_fault all rows)
+    let there = map (stood to (even one)) rows in
+    let f = stuck_none row.offset (stuck_of one row) (range_fault (even one) rows) (sym (range-cons (even one) row rows) ∙ first) in
+    let t = stuck_none (to row.offset) (stuck_of two (stood to (even one) row)) (range_fault (even two) there) (sym (range-cons (even two) (stood to (even one) row) there) ∙ second) in
+    range-cons (even all) row rows
+    ∙ none_stuck row.offset (stuck_of all row) (range_fault (even all) rows)
     (unless_both row.lost (stuck_in one row.side) (stuck_in two (moved_side one row.side)) (stuck_in all row.side) (side_both one two all row.side (row_shaped file row frames.0) wraps sum)
     f.0 (sym (moved_or_lost row.lost two one row.side) ∙ t.0))
     (range_both one two all wraps sum file to rows frames.1 f.1 t.1)
 
+-- by these steps and then by those a frame has no step at all, and its gains wrap by both or by neither
+pub record AreOpposite (one two : Steps) : Type 0 where
+  pub wraps : two.wrap ≡ one.wrap
+  pub left : one.left +ℤ two.left ≡ pos 0
+  pub right : one.right +ℤ two.right ≡ pos 0
+
+abbrev pub AllOpposite : (ℕ → Steps) → (ℕ → Steps) → (ℕ → ℕ) → List Row → Type 0
+AllOpposite one two to [] = Unit {0}
+AllOpposite one two to (row ∷ rows) = AreOpposite (one row.offset) (two (to row.offset)) × AllOpposite one two to rows
+
+pub even_opposite : (one two : Steps) → AreOpposite one two → (to : ℕ → ℕ) (rows : List Row) → AllOpposite (even one) (even two) to rows
+even_opposite one two opposite to [] = tt
+even_opposite one two opposite to (row ∷ rows) = (opposite, even_opposite one two opposite to rows)
+
 -- none leaves it behind the one by the other, where both together are no step
-pub range_back : (one two : Steps) → two.wrap ≡ one.wrap → one.left +ℤ two.left ≡ pos 0 → one.right +ℤ two.right ≡ pos 0 → (file : List ℕ) (to : ℕ → ℕ) (rows : List Row) → AreFramesOf file rows
+pub range_back : (one two : ℕ → Steps) (file : List ℕ) (to : ℕ → ℕ) (rows : List Row) → AllOpposite one two to rows → AreFramesOf file rows
     → range_fault one rows ≡ None → range_fault two (map (stood to one) rows) ≡ None
-range_back one two wraps left right file to [] frames free = range-nil two
-range_back one two wraps left right file to (row ∷ rows) frames free =
+range_back one two file to [] opposite frames free = range-nil two
+range_back one two file to (row ∷ rows) opposite frames free =
     let still : Steps = record { left = pos 0; right = pos 0; wrap = false } in
     let or_none : (b : Bool) → b ≡ b || false = λ b. elim b as (λ c. c ≡ c || false) [ true ↦ refl | false ↦ refl ] in
-    let f = stuck_none row.offset (stuck_of one row) (range_fault one rows) (sym (range-cons one row rows) ∙ free) in
+    let a = one row.offset in
+    let b = two (to row.offset) in
+    let f = stuck_none row.offset (stuck_of a row) (range_fault one rows) (sym (range-cons one row rows) ∙ free) in
     let shaped = row_shaped file row frames.0 in
     range-cons two (stood to one row) (map (stood to one) rows)
-    ∙ none_stuck (to row.offset) (stuck_of two (stood to one row)) (range_fault two (map (stood to one) rows))
-    (moved_or_lost row.lost two one row.side
-    ∙ unless_both row.lost (stuck_in one row.side) (stuck_in one row.side) (stuck_in two (moved_side one row.side))
-    (λ first again. side_then one two still row.side shaped (wraps ∙ or_none one.wrap) (sym left) (sym right) first (side_still still (refl, refl) refl row.side shaped (row_fits file row frames.0)))
+    ∙ none_stuck (to row.offset) (stuck_of b (stood to one row)) (range_fault two (map (stood to one) rows))
+    (moved_or_lost row.lost b a row.side
+    ∙ unless_both row.lost (stuck_in a row.side) (stuck_in a row.side) (stuck_in b (moved_side a row.side))
+    (λ first again. side_then a b still row.side shaped (opposite.0.wraps ∙ or_none a.wrap) (sym opposite.0.left) (sym opposite.0.right) first (side_still still (refl, refl) refl row.side shaped (row_fits file row frames.0)))
     f.0 f.0)
-    (range_back one two wraps left right file to rows frames.1 f.1)
+    (range_back one two file to rows opposite.1 frames.1 f.1)

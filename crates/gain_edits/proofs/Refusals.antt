@@ -17,6 +17,7 @@ use Rattle.commands.specs.declared.fault.Refusal.TheVariants.{GainRange, Mono, J
 use Rattle.commands.specs.Refusing.{or_else, unless}
 use Rattle.commands.specs.Left.{IsLate, IsRefusal}
 use Rattle.commands.proofs.RefusingLaws.{unless_late, then_late}
+use Rattle.moved_gains.specs.Course.{even}
 use Rattle.moved_gains.specs.declared.gains.Stuck.{Stuck}
 use Rattle.moved_gains.specs.declared.shift.Shift.{Shift}
 use Rattle.moved_gains.specs.declared.shift.Steps.{Steps}
@@ -84,10 +85,10 @@ module _ (may : Refusal → Bool) (range : (offset granule channel gain : ℕ) �
   stuck_may row (Some stuck) later is = range row.offset stuck.granule stuck.channel stuck.gain
   stuck_may row None later is = is
 
-  range_may : (steps : Steps) (rows : List Row) → May may (range_fault steps rows)
+  range_may : (steps : ℕ → Steps) (rows : List Row) → May may (range_fault steps rows)
   unfolding range_fault
   range_may steps [] = tt
-  range_may steps (row ∷ rows) = stuck_may row (stuck_of steps row) (range_fault steps rows) (range_may steps rows)
+  range_may steps (row ∷ rows) = stuck_may row (stuck_of (steps row.offset) row) (range_fault steps rows) (range_may steps rows)
 
 joint_may : (tags : Bool) (rows : List Row) → May (gain_refuses tags) (joint_fault rows)
 unfolding joint_fault
@@ -102,7 +103,7 @@ channel_may tags shift s = elim (are_both shift.channels) as (λ b. May (gain_re
 
 pub plain_may : (tags : Bool) (shift : Shift) (s : SurveyFields) → IfErr (plain_change shift s) (IsRefusal (gain_refuses tags))
 plain_may tags shift s =
-    unless_may (gain_refuses tags) _ _ (or_may (gain_refuses tags) (channel_fault shift s) _ (channel_may tags shift s) (range_may (gain_refuses tags) (λ o g c n. refl) (steps_of shift) s.frames))
+    unless_may (gain_refuses tags) _ _ (or_may (gain_refuses tags) (channel_fault shift s) _ (channel_may tags shift s) (range_may (gain_refuses tags) (λ o g c n. refl) (even (steps_of shift)) s.frames))
 
 pub noted_may : (shift : Shift) (s : SurveyFields) (tag : TagFields) (undo : Undo) → IfErr (noted_change shift s tag undo) (IsRefusal (gain_refuses true))
 noted_may shift s tag undo =
@@ -115,7 +116,7 @@ noted_may shift s tag undo =
     (or_may may (number_fault next.left) (number_fault next.right) (where_may may (nat_lt 999 (unsigned_abs next.left)) (UndoRange next.left) refl)
     (where_may may (nat_lt 999 (unsigned_abs next.right)) (UndoRange next.right) refl))
     (or_may may (size_fault bytes) _ (where_may may _ _ refl)
-    (or_may may (output_fault s bytes) (range_fault (steps_of shift) s.frames) (where_may may _ _ refl) (range_may may (λ o g c n. refl) (steps_of shift) s.frames)))))
+    (or_may may (output_fault s bytes) (range_fault (even (steps_of shift)) s.frames) (where_may may _ _ refl) (range_may may (λ o g c n. refl) (even (steps_of shift)) s.frames)))))
 
 pub undone_may : (s : SurveyFields) (tag : TagFields) (undo : Undo) → IfErr (undone_change s tag undo) (IsRefusal undo_refuses)
 undone_may s tag undo = unless_may undo_refuses _ _ (range_may undo_refuses (λ o g c n. refl) _ s.frames)

@@ -25,8 +25,8 @@ abbrev err_change : EditFault → Result Change EditFault
 err_change fault = Err fault
 
 -- what the choice behind a tag answers
-abbrev pub IsAnswer : Result CodeChange EditFault → Result Change EditFault → Type 0
-IsAnswer r made = MatchResult r (λ change. made ≡ Ok (change_in change)) (λ fault. (fault ≡ Memory) ⊎ (made ≡ Err fault))
+abbrev pub IsAnswer : SurveyFields → Result CodeChange EditFault → Result Change EditFault → Type 0
+IsAnswer s r made = MatchResult r (λ change. made ≡ Ok (change_in change s)) (λ fault. (fault ≡ Memory) ⊎ (made ≡ Err fault))
 
 module _ (of : Changing) (may : Refusal → Bool) (name : List ℕ) (files new : Files) (before after : Counts) (same : new ≡ files) (s : SurveyFields) (there : IsThere files name)
     (is : (bytes : List ℕ) → Holds files name bytes → survey_of bytes most_frames ≡ Ok s) where
@@ -50,20 +50,20 @@ module _ (of : Changing) (may : Refusal → Bool) (name : List ℕ) (files new :
 
   -- or want of memory
   module _ (made : Result Change EditFault) (may_made : IfErr made (IsRefusal may)) (stays : after ≡ before) (whole : (bytes : List ℕ) → Holds files name bytes → of bytes s ≡ made) where
-    pub answer_is_input : (r : Result CodeChange EditFault) → IsAnswer r made → IfErr r (IsInputFault (changing of) name (seen files before) (seen new after))
+    pub answer_is_input : (r : Result CodeChange EditFault) → IsAnswer s r made → IfErr r (IsInputFault (changing of) name (seen files before) (seen new after))
     answer_is_input (Ok change) is-made = tt
     answer_is_input (Err fault) (inl memory) =
         subst (IsInputFault (changing of) name (seen files before) (seen new after)) (sym memory) (memory_is_input (changing of) name (seen files before) (seen new after) s there is (ap₂ seen same stays))
     answer_is_input (Err fault) (inr refused) = choice_is_input fault (of_err (IsRefusal may) made fault may_made refused) (λ bytes holds. whole bytes holds ∙ refused) stays
 
-    pub answer_ok : (r : Result CodeChange EditFault) → IsAnswer r made → IfOk r (λ change. (bytes : List ℕ) → Holds files name bytes → of bytes s ≡ Ok (change_in change))
+    pub answer_ok : (r : Result CodeChange EditFault) → IsAnswer s r made → IfOk r (λ change. (bytes : List ℕ) → Holds files name bytes → of bytes s ≡ Ok (change_in change s))
     answer_ok (Ok change) made-is = λ bytes holds. whole bytes holds ∙ made-is
     answer_ok (Err fault) made-is = tt
 
-pub answer_numbers : (may : Refusal → Bool) (made : Result Change EditFault) → IfErr made (IsRefusal may) → (r : Result CodeChange EditFault) → IsAnswer r made → IfErr r (IsOfInput may)
-answer_numbers may made may_made (Ok change) is-made = tt
-answer_numbers may made may_made (Err fault) (inl memory) = subst (IsOfInput may) (sym memory) tt
-answer_numbers may made may_made (Err fault) (inr refused) = refusal_numbers may fault (of_err (IsRefusal may) made fault may_made refused)
+pub answer_numbers : (may : Refusal → Bool) (s : SurveyFields) (made : Result Change EditFault) → IfErr made (IsRefusal may) → (r : Result CodeChange EditFault) → IsAnswer s r made → IfErr r (IsOfInput may)
+answer_numbers may s made may_made (Ok change) is-made = tt
+answer_numbers may s made may_made (Err fault) (inl memory) = subst (IsOfInput may) (sym memory) tt
+answer_numbers may s made may_made (Err fault) (inr refused) = refusal_numbers may fault (of_err (IsRefusal may) made fault may_made refused)
 
 pub tag_numbers : (may : Refusal → Bool) → ((size : ℕ) → may (TagTooLarge size) ≡ true) → ((at : ℕ) → may (BadTag at) ≡ true) → (name : List ℕ) (files : Files) (s : SurveyFields) (before after : Counts) (fault : FileTagFault)
     → IsTagCause name files s before after fault → IsOfInput may (of_tag fault)

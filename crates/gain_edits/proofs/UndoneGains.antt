@@ -23,6 +23,7 @@ use Rattle.sync_survey.proofs.FoldersLaws.{survey_of-short}
 use Rattle.sync_survey.proofs.SurveyParts.{surveyed-stream}
 use Rattle.commands.specs.declared.fault.EditFault.{EditFault}
 use Rattle.commands.specs.declared.fault.Refusal.{Refusal}
+use Rattle.moved_gains.specs.Course.{even}
 use Rattle.moved_gains.specs.declared.shift.Shift.{Shift}
 use Rattle.moved_gains.specs.declared.shift.Steps.{Steps}
 use Rattle.commands.specs.Refusing.{unless, then_made}
@@ -41,12 +42,12 @@ use Rattle.moved_gains.proofs.MovedGains.{sum_of, IsNoStep}
 use Rattle.moved_gains.proofs.TagPlaces.{tag_none}
 use Rattle.moved_gains.proofs.WrittenTag.{length_moved}
 use Rattle.sync_survey.proofs.SurveyedFiles.{survey_of-parts}
-use Rattle.gain_edits.proofs.ChangedStream.{changed-parts, changed-ok, changed_survey, surveyed-changed, stream-changed}
+use Rattle.gain_edits.proofs.ChangedStream.{even_stream, changed-parts, changed-ok, changed_survey, surveyed-changed, stream-changed}
 use Rattle.commands.proofs.RefusingLaws.{then_ok}
 use Rattle.gain_edits.proofs.FileTags.{file_tag-is, file_tag-none, same_tag}
 use Rattle.moved_gains.proofs.FramesThere.{AreFramesOf, frames_there}
-use Rattle.moved_gains.proofs.MovedAgain.{AreTogether, stood}
-use Rattle.gain_edits.proofs.RangeAgain.{range_both, range_back}
+use Rattle.moved_gains.proofs.MovedAgain.{even_together, AreTogether, stood}
+use Rattle.gain_edits.proofs.RangeAgain.{even_opposite, range_both, range_back}
 use Rattle.moved_gains.proofs.TaggedAgain.{new, new_survey, to, new_is, has_block, new_frames, new_long, clean_survey, changed_again}
 use Rattle.gain_edits.proofs.NoStep.{edited_still, own_again, stream_still}
 use Rattle.gain_edits.proofs.NotedAgain.{sum_again, sum_first, tag_without_none, tag_without_with, found_with, block_read, gain_noted}
@@ -63,14 +64,14 @@ pub record IsGained (file : List ℕ) (s : SurveyFields) (tag : TagFields) (last
   pub small : length (tag_bytes noted) ≤ longest_tag
   pub item : undo_from 32 noted.items ≡ Found undo
   pub others : tag_without noted ≡ tag_without tag
-  pub is : last ≡ with_tag (tag_bytes noted) (moved_survey steps s) (edited steps file s)
+  pub is : last ≡ with_tag (tag_bytes noted) (moved_survey (even steps) s) (edited (even steps) file s)
   pub left : steps.left +ℤ undo.left ≡ pos 0
   pub right : steps.right +ℤ undo.right ≡ pos 0
   pub wraps : undo.wrap ≡ steps.wrap
-  pub free : range_fault steps s.frames ≡ None
+  pub free : range_fault (even steps) s.frames ≡ None
   pub few : length last ≤ longest_file
 
-changed-with : (steps : Steps) (bytes file : List ℕ) (s : SurveyFields) → changed (record { steps = steps; tag = Some bytes }) file s ≡ with_tag bytes (moved_survey steps s) (edited steps file s)
+changed-with : (steps : Steps) (bytes file : List ℕ) (s : SurveyFields) → changed (record { steps = even steps; tag = Some bytes }) file s ≡ with_tag bytes (moved_survey (even steps) s) (edited (even steps) file s)
 unfolding changed
 changed-with steps bytes file s = refl
 
@@ -91,13 +92,13 @@ made_by of file new s is e =
 abbrev still : Steps
 still = undo_steps no_undo
 
-undo_made : (file : List ℕ) (s : SurveyFields) (tag : TagFields) (undo : Undo) → tag_read (file_tag file s) ≡ Ok tag → found_undo (tag_at s) (undo_from 32 tag.items) ≡ Ok undo → range_fault (undo_steps undo) s.frames ≡ None
-    → undo_change file s ≡ Ok (record { steps = undo_steps undo; tag = Some (bytes_unless_empty (tag_without tag)) })
+undo_made : (file : List ℕ) (s : SurveyFields) (tag : TagFields) (undo : Undo) → tag_read (file_tag file s) ≡ Ok tag → found_undo (tag_at s) (undo_from 32 tag.items) ≡ Ok undo → range_fault (even (undo_steps undo)) s.frames ≡ None
+    → undo_change file s ≡ Ok (record { steps = even (undo_steps undo); tag = Some (bytes_unless_empty (tag_without tag)) })
 unfolding undo_change
 undo_made file s tag undo read item free =
     ap (λ (r : Result TagFields EditFault). then_made r (λ (t : TagFields). then_made (found_undo (tag_at s) (undo_from 32 t.items)) (undone_change s t))) read
     ∙ ap (λ (r : Result Undo EditFault). then_made r (undone_change s tag)) item
-    ∙ ap (λ (o : Option Refusal). unless o (record { steps = undo_steps undo; tag = Some (bytes_unless_empty (tag_without tag)) })) free
+    ∙ ap (λ (o : Option Refusal). unless o (record { steps = even (undo_steps undo); tag = Some (bytes_unless_empty (tag_without tag)) })) free
 
 module _ (file : List ℕ) (s : SurveyFields) (tag : TagFields) (are : AreBytes file) (is : surveyed file most_frames ≡ Ok s) where
   frames : AreFramesOf file s.frames
@@ -106,11 +107,11 @@ module _ (file : List ℕ) (s : SurveyFields) (tag : TagFields) (are : AreBytes 
   -- ---- its length
 
   new_length : (steps : Steps) (block : List ℕ) → block_front block ≡ Some (record { kind = Ape; length = length block })
-      → length (with_tag block (moved_survey steps s) (edited steps file s)) ≡ s.length - junk_length s - tag_length s + length block
+      → length (with_tag block (moved_survey (even steps) s) (edited (even steps) file s)) ≡ s.length - junk_length s - tag_length s + length block
   new_length steps block front =
-      surveyed-length (with_tag block (moved_survey steps s) (edited steps file s)) most_frames (new_survey steps file most_frames s are is block front) (new_is steps file most_frames s are is block front)
-      ∙ new_long steps file most_frames s are is block front
-      ∙ ap (λ k. s.length - junk_length s - k + length block) (length_moved steps s)
+      surveyed-length (with_tag block (moved_survey (even steps) s) (edited (even steps) file s)) most_frames (new_survey (even steps) file most_frames s are is block front) (new_is (even steps) file most_frames s are is block front)
+      ∙ new_long (even steps) file most_frames s are is block front
+      ∙ ap (λ k. s.length - junk_length s - k + length block) (length_moved (even steps) s)
 
   -- ---- the first gain
 
@@ -123,7 +124,7 @@ module _ (file : List ℕ) (s : SurveyFields) (tag : TagFields) (are : AreBytes 
         let steps = steps_of shift in
         let new_tag = tag_with next tag in
         let new_own = IsTag-with_undo next tag own in
-        let there : last ≡ with_tag (tag_bytes new_tag) (moved_survey steps s) (edited steps file s) =
+        let there : last ≡ with_tag (tag_bytes new_tag) (moved_survey (even steps) s) (edited (even steps) file s) =
         sym made.bytes ∙ ap (λ (c : Change). changed c file s) (sym noted.is) ∙ changed-with steps (tag_bytes new_tag) file s in
         record {
           steps = steps;
@@ -151,26 +152,26 @@ module _ (file : List ℕ) (s : SurveyFields) (tag : TagFields) (are : AreBytes 
     front = block_front-tag_bytes g.noted g.are
 
     abbrev here : List ℕ
-    here = new g.steps file most_frames s are is block front
+    here = new (even g.steps) file most_frames s are is block front
 
     abbrev n : SurveyFields
-    n = new_survey g.steps file most_frames s are is block front
+    n = new_survey (even g.steps) file most_frames s are is block front
 
     here_few : length here ≤ longest_file
     here_few = omega (arith, g.few, ap length g.is)
 
     here_survey : survey_of here most_frames ≡ Ok n
-    here_survey = survey_of-short here most_frames here_few ∙ new_is g.steps file most_frames s are is block front
+    here_survey = survey_of-short here most_frames here_few ∙ new_is (even g.steps) file most_frames s are is block front
 
     here_read : tag_read (file_tag here n) ≡ Ok g.noted
     here_read =
-        ap tag_read ((has_block g.steps file most_frames s are is block front).tag ∙ block_read (tag_at (moved_survey g.steps s)) g.noted g.are g.small)
+        ap tag_read ((has_block (even g.steps) file most_frames s are is block front).tag ∙ block_read (tag_at (moved_survey (even g.steps) s)) g.noted g.are g.small)
 
     abbrev by : ℕ → ℕ
-    by = to g.steps file most_frames s are is block front
+    by = to (even g.steps) file most_frames s are is block front
 
-    here_frames : n.frames ≡ map (stood by g.steps) s.frames
-    here_frames = new_frames g.steps file most_frames s are is block front
+    here_frames : n.frames ≡ map (stood by (even g.steps)) s.frames
+    here_frames = new_frames (even g.steps) file most_frames s are is block front
 
     pub further_gain : (shift : Shift) (more : List ℕ) → changed_file (gain_change shift true) last ≡ Ok more → IsGained file s tag more
     further_gain shift more e =
@@ -182,11 +183,11 @@ module _ (file : List ℕ) (s : SurveyFields) (tag : TagFields) (are : AreBytes 
         let together : AreTogether g.steps step steps = record { left = refl; right = refl } in
         let new_tag = tag_with next g.noted in
         let new_own = IsTag-with_undo next g.noted g.are in
-        let there : more ≡ with_tag (tag_bytes new_tag) (moved_survey steps s) (edited steps file s) =
+        let there : more ≡ with_tag (tag_bytes new_tag) (moved_survey (even steps) s) (edited (even steps) file s) =
         sym made.bytes
         ∙ ap (λ (c : Change). changed c here n) (sym noted.is)
         ∙ changed-with step (tag_bytes new_tag) here n
-        ∙ changed_again g.steps file most_frames s are is block front step steps together (tag_bytes new_tag) in
+        ∙ changed_again (even g.steps) file most_frames s are is block front (even step) (even steps) (even_together g.steps step steps together by s.frames) (tag_bytes new_tag) in
         record {
           steps = steps;
           noted = new_tag;
@@ -199,34 +200,34 @@ module _ (file : List ℕ) (s : SurveyFields) (tag : TagFields) (are : AreBytes 
           left = sum_again g.steps.left step.left g.undo.left ∙ g.left;
           right = sum_again g.steps.right step.right g.undo.right ∙ g.right;
           wraps = ap (λ (b : Bool). b || shift.wrap) g.wraps;
-          free = range_both g.steps step steps refl together file by s.frames frames g.free (sym (ap (range_fault step) here_frames) ∙ noted.free);
+          free = range_both g.steps step steps refl together file by s.frames frames g.free (sym (ap (range_fault (even step)) here_frames) ∙ noted.free);
           few =
               omega (
                 arith,
                 ap length there,
                 new_length steps (tag_bytes new_tag) (block_front-tag_bytes new_tag new_own),
                 noted.few,
-                new_long g.steps file most_frames s are is block front,
-                length_moved g.steps s,
-                (has_block g.steps file most_frames s are is block front).size,
-                clean_survey g.steps file most_frames s are is block front,
+                new_long (even g.steps) file most_frames s are is block front,
+                length_moved (even g.steps) s,
+                (has_block (even g.steps) file most_frames s are is block front).size,
+                clean_survey (even g.steps) file most_frames s are is block front,
               );
         }
 
     -- undo gives the file by no step, with the other items of its tag
-    pub undone : changed_file undo_change last ≡ Ok (with_tag (bytes_unless_empty (tag_without tag)) (moved_survey still s) (edited still file s))
+    pub undone : changed_file undo_change last ≡ Ok (with_tag (bytes_unless_empty (tag_without tag)) (moved_survey (even still) s) (edited (even still) file s))
     undone =
         let back = undo_steps g.undo in
         let bytes = bytes_unless_empty (tag_without g.noted) in
-        let free : range_fault back n.frames ≡ None = ap (range_fault back) here_frames ∙ range_back g.steps back g.wraps g.left g.right file by s.frames frames g.free in
+        let free : range_fault (even back) n.frames ≡ None = ap (range_fault (even back)) here_frames ∙ range_back (even g.steps) (even back) file by s.frames (even_opposite g.steps back (record { wraps = g.wraps; left = g.left; right = g.right }) by s.frames) frames g.free in
         let made = undo_made here n g.noted g.undo here_read (ap (found_undo (tag_at n)) g.item) free in
         let together : AreTogether g.steps back still = record { left = sym g.left; right = sym g.right } in
         ap (changed_file undo_change) g.is
-        ∙ changed-ok undo_change here n (record { steps = back; tag = Some bytes }) here_survey made
+        ∙ changed-ok undo_change here n (record { steps = even back; tag = Some bytes }) here_survey made
         ∙ ap Ok
         (changed-with back bytes here n
-        ∙ changed_again g.steps file most_frames s are is block front back still together bytes
-        ∙ ap (λ (t : TagFields). with_tag (bytes_unless_empty t) (moved_survey still s) (edited still file s)) g.others)
+        ∙ changed_again (even g.steps) file most_frames s are is block front (even back) (even still) (even_together g.steps back still together by s.frames) bytes
+        ∙ ap (λ (t : TagFields). with_tag (bytes_unless_empty t) (moved_survey (even still) s) (edited (even still) file s)) g.others)
 
   -- ---- several gains
 
@@ -244,15 +245,15 @@ module _ (file : List ℕ) (s : SurveyFields) (tag : TagFields) (are : AreBytes 
   no_step : IsNoStep still
   no_step = (refl, refl)
 
-  edited_is : edited still file s ≡ without_junk s file
+  edited_is : edited (even still) file s ≡ without_junk s file
   edited_is = edited_still still no_step file most_frames s are is
 
-  tidied-is : tidied tag s file ≡ with_tag bytes (moved_survey still s) (without_junk s file)
+  tidied-is : tidied tag s file ≡ with_tag bytes (moved_survey (even still) s) (without_junk s file)
   unfolding tidied
   tidied-is = refl
 
-  undone_tidied : with_tag bytes (moved_survey still s) (edited still file s) ≡ tidied tag s file
-  undone_tidied = ap (with_tag bytes (moved_survey still s)) edited_is ∙ sym tidied-is
+  undone_tidied : with_tag bytes (moved_survey (even still) s) (edited (even still) file s) ≡ tidied tag s file
+  undone_tidied = ap (with_tag bytes (moved_survey (even still) s)) edited_is ∙ sym tidied-is
 
   -- the bytes of its tag are those that stand there
   own_cases : (read : file_tag file s ≡ Ok tag) (o : Option Piece) → tag_block s ≡ o → HasNoEmptyTag tag s → bytes ≡ own_bytes file s
@@ -271,8 +272,8 @@ module _ (file : List ℕ) (s : SurveyFields) (tag : TagFields) (are : AreBytes 
   tidied_kept : file_tag file s ≡ Ok tag → HasNoEmptyTag tag s → tidied tag s file ≡ without_junk s file
   tidied_kept read has =
       sym undone_tidied
-      ∙ ap (λ (l : List ℕ). with_tag l (moved_survey still s) (edited still file s)) (own_cases read (tag_block s) refl has)
-      ∙ own_again still file most_frames s is
+      ∙ ap (λ (l : List ℕ). with_tag l (moved_survey (even still) s) (edited (even still) file s)) (own_cases read (tag_block s) refl has)
+      ∙ own_again (even still) file most_frames s is
       ∙ edited_is
 
   no_junk : s.junk ≡ s.first → without_junk s file ≡ file
@@ -283,10 +284,11 @@ module _ (file : List ℕ) (s : SurveyFields) (tag : TagFields) (are : AreBytes 
 
   tidied_stream : IsTag tag → HoldsStream (tidied tag s file) (stream_of file)
   tidied_stream own =
-      let change : Change = record { steps = still; tag = Some bytes } in
+      let change : Change = record { steps = even still; tag = Some bytes } in
       let made : changed change file s ≡ tidied tag s file = changed-with still bytes file s ∙ undone_tidied in
       let same : stream_of_survey (changed change file s) (changed_survey change s) ≡ stream_of file =
       stream-changed file most_frames s are is change (bytes-are own)
+      ∙ even_stream still file s
       ∙ stream_still still no_step file most_frames s are is
       ∙ sym (surveyed-stream file most_frames s is).stream_is in
       subst (λ (l : List ℕ). HoldsStream l (stream_of file)) made
@@ -297,7 +299,7 @@ module _ (file : List ℕ) (s : SurveyFields) (tag : TagFields) (are : AreBytes 
   given_back own read none last g =
       let back : changed_file undo_change last ≡ Ok (tidied tag s file) =
       undone last g
-      ∙ ap Ok (ap (λ (t : TagFields). with_tag (bytes_unless_empty t) (moved_survey still s) (edited still file s)) (tag_without_none tag none) ∙ undone_tidied) in
+      ∙ ap Ok (ap (λ (t : TagFields). with_tag (bytes_unless_empty t) (moved_survey (even still) s) (edited (even still) file s)) (tag_without_none tag none) ∙ undone_tidied) in
       record {
         back = back;
         kept = λ has. back ∙ ap Ok (tidied_kept read has);

@@ -38,5 +38,5 @@ pub record IsReady (input : List ℕ) (of : Changing) (work : Work) (files : Fil
   pub laid : IsLaidOut (tells work.survey)
   pub surveyed : (bytes : List ℕ) → Holds files input bytes → survey_of bytes most_frames ≡ Ok (tells work.survey)
   pub octets : (bytes : List ℕ) → Holds files input bytes → AreBytes bytes
-  pub change : (bytes : List ℕ) → Holds files input bytes → of bytes (tells work.survey) ≡ Ok (change_in work.change)
+  pub change : (bytes : List ℕ) → Holds files input bytes → of bytes (tells work.survey) ≡ Ok (change_in work.change (tells work.survey))
   pub fresh : (others : Files) (name : List ℕ) → AreFresh work.buffers others name

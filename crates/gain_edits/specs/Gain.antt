@@ -7,6 +7,7 @@ use Rattle.file_tag.specs.Places.{tag_at}
 use Rattle.file_tag.specs.Reading.{file_tag}
 use Rattle.sync_survey.specs.Faults.{SurveyFields}
 use Rattle.commands.specs.declared.fault.EditFault.{EditFault}
+use Rattle.moved_gains.specs.Course.{even}
 use Rattle.moved_gains.specs.declared.shift.Shift.{Shift}
 use Rattle.moved_gains.specs.Gains.{steps_of}
 use Rattle.gain_edits.specs.GainRange.{range_fault}
@@ -22,7 +23,7 @@ use Rattle.commands.specs.Command.{Command}
 
 -- Tags are neither read nor written: one channel can't change alone, or else a gain would leave the range.
 abbrev pub plain_change : Shift → SurveyFields → Result Change EditFault
-plain_change shift s = unless (or_else (channel_fault shift s) (range_fault (steps_of shift) s.frames)) (record { steps = steps_of shift; tag = None })
+plain_change shift s = unless (or_else (channel_fault shift s) (range_fault (even (steps_of shift)) s.frames)) (record { steps = even (steps_of shift); tag = None })
 
 -- The change is noted in this tag, which says this undo: one channel can't change alone, or else a number of the next undo is too large, or else the
 -- new tag, or else the file with it, or else a gain would leave the range.
@@ -30,8 +31,8 @@ abbrev pub noted_change : Shift → SurveyFields → TagFields → Undo → Resu
 noted_change shift s tag undo =
     let next = next_undo shift undo in
     let bytes = tag_bytes (tag_with next tag) in
-    unless (or_else (channel_fault shift s) (or_else (undo_fault next) (or_else (size_fault bytes) (or_else (output_fault s bytes) (range_fault (steps_of shift) s.frames)))))
-    (record { steps = steps_of shift; tag = Some bytes })
+    unless (or_else (channel_fault shift s) (or_else (undo_fault next) (or_else (size_fault bytes) (or_else (output_fault s bytes) (range_fault (even (steps_of shift)) s.frames)))))
+    (record { steps = even (steps_of shift); tag = Some bytes })
 
 -- the tag is at fault, or else its undo item, or else the change is noted
 abbrev pub tagged_change : Shift → List ℕ → SurveyFields → Result Change EditFault

@@ -12,7 +12,7 @@ abbrev pub stuck_fault : ℕ → Option Stuck → Option Refusal → Option Refu
 stuck_fault offset (Some stuck) later = Some (GainRange offset stuck.granule stuck.channel stuck.gain)
 stuck_fault offset None later = later
 
--- the first gain of these frames that would leave the range
-unfoldable pub range_fault : Steps → List Row → Option Refusal
+-- the first gain of these frames, each moved by the steps at its offset, that would leave the range
+unfoldable pub range_fault : (ℕ → Steps) → List Row → Option Refusal
 range_fault steps [] = None
-range_fault steps (row ∷ rows) = stuck_fault row.offset (stuck_of steps row) (range_fault steps rows)
+range_fault steps (row ∷ rows) = stuck_fault row.offset (stuck_of (steps row.offset) row) (range_fault steps rows)

@@ -9,6 +9,7 @@ use Rattle.file_tag.specs.Reading.{file_tag}
 use Rattle.sync_survey.specs.Faults.{SurveyFields, stream_of, HoldsStream}
 use Rattle.sync_survey.specs.Survey.{survey_of}
 use Rattle.commands.specs.declared.fault.EditFault.{EditFault}
+use Rattle.moved_gains.specs.Course.{even}
 use Rattle.moved_gains.specs.declared.shift.Shift.{Shift}
 use Rattle.commands.specs.Refusing.{then_made}
 use Rattle.gain_edits.specs.UndoItem.{no_undo, undo_steps, bytes_unless_empty}
@@ -25,7 +26,7 @@ gained_by_all (shift ∷ shifts) file = then_made (changed_file (gain_change shi
 
 -- the file without the junk before its first frame, and without its tag where the tag has no item
 unfoldable pub tidied : TagFields → SurveyFields → List ℕ → List ℕ
-tidied tag s file = with_tag (bytes_unless_empty tag) (moved_survey (undo_steps no_undo) s) (without_junk s file)
+tidied tag s file = with_tag (bytes_unless_empty tag) (moved_survey (even (undo_steps no_undo)) s) (without_junk s file)
 
 -- the file has no tag, or one with an item
 abbrev pub HasNoEmptyTag : TagFields → SurveyFields → Type 0

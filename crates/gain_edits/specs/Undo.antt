@@ -9,6 +9,7 @@ use Rattle.sync_survey.specs.declared.survey_fault.SurveyFault.{SurveyFault}
 use Rattle.sync_survey.specs.Faults.{SurveyFields}
 use Rattle.sync_survey.specs.Survey.{survey_of}
 use Rattle.commands.specs.declared.fault.EditFault.{EditFault}
+use Rattle.moved_gains.specs.Course.{even}
 use Rattle.moved_gains.specs.declared.shift.Steps.{Steps}
 use Rattle.gain_edits.specs.GainRange.{range_fault}
 use Rattle.commands.specs.Refusing.{unless, then_made}
@@ -23,7 +24,7 @@ use Rattle.commands.specs.Command.{Command}
 
 -- by the steps of this undo: a gain would leave the range, or else the item goes, and with it a tag that has no other
 abbrev pub undone_change : SurveyFields → TagFields → Undo → Result Change EditFault
-undone_change s tag undo = unless (range_fault (undo_steps undo) s.frames) (record { steps = undo_steps undo; tag = Some (bytes_unless_empty (tag_without tag)) })
+undone_change s tag undo = unless (range_fault (even (undo_steps undo)) s.frames) (record { steps = even (undo_steps undo); tag = Some (bytes_unless_empty (tag_without tag)) })
 
 -- the tag is at fault, or else there is no undo item, or else its value is none, or else the steps that it says are taken
 unfoldable pub undo_change : Changing
@@ -31,12 +32,16 @@ undo_change file s = then_made (tag_read (file_tag file s)) (λ tag. then_made (
 
 -- ---- the steps that it takes
 
-abbrev pub steps_when : Result Change EditFault → Steps
-steps_when (Ok change) = change.steps
+-- what the undo item of a file with this survey says
+abbrev pub undo_in : List ℕ → SurveyFields → Result Undo EditFault
+undo_in file s = then_made (tag_read (file_tag file s)) (λ tag. found_undo (tag_at s) (undo_from 32 tag.items))
+
+abbrev pub steps_when : Result Undo EditFault → Steps
+steps_when (Ok undo) = undo_steps undo
 steps_when (Err fault) = undo_steps no_undo
 
 abbrev pub steps_by : List ℕ → Result SurveyFields SurveyFault → Steps
-steps_by file (Ok s) = steps_when (undo_change file s)
+steps_by file (Ok s) = steps_when (undo_in file s)
 steps_by file (Err fault) = undo_steps no_undo
 
 -- those that the undo item of the file says; none where the file is refused

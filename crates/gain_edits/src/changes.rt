@@ -42,7 +42,7 @@ impl<'a> Changes<'a> {
             → survey_of bytes most_frames ≡ Ok (tells survey.now) }
         ensures change { IfOk result (λ change. (bytes : List ℕ)
             → Holds (D.files folder.old) name.now bytes
-            → changing_by self.now bytes (tells survey.now) ≡ Ok (change_in change)) }
+            → changing_by self.now bytes (tells survey.now) ≡ Ok (change_in change (tells survey.now))) }
         ensures refused { IfErr result (IsInputFault (changing (changing_by self.now)) name.now
             (seen (D.files folder.old) (D.counts folder.old))
             (seen (D.files folder.new) (D.counts folder.new))) }

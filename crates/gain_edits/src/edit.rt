@@ -32,7 +32,7 @@ impl<'a> Edit for GainEdit<'a> {
 
     ghost IsLegal = { λ edit. Unit {0} };
 
-    ghost file_of = { λ work file. changed (change_in work.change) file (tells work.survey) };
+    ghost file_of = { λ work file. changed (change_in work.change (tells work.survey)) file (tells work.survey) };
 
     ghost IsReady = { λ edit work files.
         IsReadyWork edit.input.now (changing_by edit.changes) work files };

@@ -13,11 +13,11 @@ ghost use Rattle.gain_edits.specs.Gain.{plain_change as plain_change_lem, noted_
 ghost use Rattle.commands.specs.Left.{seen, IsOfInput};
 
 use crate::channels::channel_fault;
-use crate::gain_range::range_fault;
+use crate::gain_range::even_fault;
 use crate::undo_item::{next_undo, noted_undo, of_tag};
 use commands::{EditFault, LONGEST_FILE, LONGEST_TAG, Refusal};
 use file_tag::{read_tag, tag_place};
-use moved_gains::{Change, Shift};
+use moved_gains::{Change, Course, Shift};
 use outside::Folder;
 use std::alloc::Global;
 use sync_survey::Survey;
@@ -25,14 +25,18 @@ use tag_blocks::{Tag, Undo};
 
 /// A change without a note in the tag.
 fn plain_change(survey: &Survey, shift: &Shift) -> Result<Change, EditFault>
+    requires laid { IsLaidOut (tells survey.now) }
     ensures change { MatchResult result
-        (λ change. plain_change_lem shift.now (tells survey.now) ≡ Ok (change_in change))
+        (λ change. plain_change_lem shift.now (tells survey.now) ≡ Ok (change_in change (tells survey.now)))
         (λ fault. plain_change_lem shift.now (tells survey.now) ≡ Err fault) }
 {
     let steps = shift.each();
-    match channel_fault(shift, survey).or(range_fault(&steps, survey.frames())) {
+    match channel_fault(shift, survey).or(even_fault(steps, survey)) {
         Some(refusal) => Err(refusal.into()),
-        None => Ok(Change { steps, tag: None }),
+        None => Ok(Change {
+            course: Course::Even(steps),
+            tag: None,
+        }),
     }
 }
 
@@ -59,7 +63,8 @@ fn noted_change(
 ) -> Result<Change, EditFault>
     requires { IsLaidOut (tells survey.now) }
     ensures change { MatchResult result
-        (λ change. noted_change_lem shift.now (tells survey.now) tag undo.now ≡ Ok (change_in change))
+        (λ change. noted_change_lem shift.now (tells survey.now) tag undo.now
+        ≡ Ok (change_in change (tells survey.now)))
         (λ fault. (fault ≡ Memory)
         ⊎ (noted_change_lem shift.now (tells survey.now) tag undo.now ≡ Err fault)) }
 {
@@ -78,12 +83,12 @@ fn noted_change(
         return Err(Refusal::OutputTooLong(length).into());
     }
     let steps = shift.each();
-    if let Some(refusal) = range_fault(&steps, survey.frames()) {
+    if let Some(refusal) = even_fault(steps, survey) {
         return Err(refusal.into());
     }
     let bytes = tag.write(alloc)?;
     Ok(Change {
-        steps,
+        course: Course::Even(steps),
         tag: Some(bytes),
     })
 }
@@ -103,7 +108,7 @@ pub(crate) fn gain_change<D: Folder>(
         → survey_of bytes most_frames ≡ Ok (tells survey.now) }
     ensures change { IfOk result (λ change. (bytes : List ℕ)
         → Holds (D.files folder.old) name.now bytes
-        → gain_change_lem shift.now tags bytes (tells survey.now) ≡ Ok (change_in change)) }
+        → gain_change_lem shift.now tags bytes (tells survey.now) ≡ Ok (change_in change (tells survey.now))) }
     ensures refused { IfErr result (IsInputFault
         (changing (gain_change_lem shift.now tags)) name.now
         (seen (D.files folder.old) (D.counts folder.old))

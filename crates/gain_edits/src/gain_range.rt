@@ -1,11 +1,14 @@
 //! The first gain that would leave its range.
-ghost use Rattle.std.specs.Prelude.{◌≡◌};
+ghost use Rattle.std.specs.Prelude.{◌≡◌, ◌<◌, ◌^◌, length};
+ghost use Rattle.sync_survey.specs.Faults.{tells};
+ghost use Rattle.sync_survey.specs.Survey.{IsLaidOut};
+ghost use Rattle.moved_gains.specs.Course.{even, steps_over, AreNumbered};
 ghost use Rattle.moved_gains.specs.Edited.{stuck_of as stuck_of_lem};
 ghost use Rattle.gain_edits.specs.GainRange.{stuck_fault, range_fault as range_fault_lem};
 
 use commands::Refusal;
-use moved_gains::{Steps, Stuck, stuck_in};
-use sync_survey::Row;
+use moved_gains::{Course, Steps, Stuck, stuck_in};
+use sync_survey::{Row, Survey};
 
 /// The gain as a fault of the file, where its frame stands.
 fn fault_at(offset: u64, stuck: Option<Stuck>) -> Option<Refusal>
@@ -25,14 +28,35 @@ fn stuck_of(steps: &Steps, row: &Row) -> Option<Stuck>
     stuck_in(steps, &row.side)
 }
 
-/// The first gain of the frames that would leave the range, in order of frames, granules and channels.
-pub(crate) fn range_fault(steps: &Steps, rows: &[Row]) -> Option<Refusal>
-    ensures { result ≡ range_fault_lem steps.now rows.now }
+/// The first gain of these frames that would leave the range.
+fn first_fault(course: &Course, rows: &[Row]) -> Option<Refusal>
+    requires numbered { AreNumbered rows.now }
+    requires few { length rows.now < 2 ^ 32 }
+    ensures { result ≡ range_fault_lem (steps_over course.now rows.now) rows.now }
 {
-    for row in rows {
-        if let Some(fault) = fault_at(row.offset, stuck_of(steps, row)) {
+    for (frame, row) in rows.iter().enumerate() {
+        let steps = course.steps(frame as u32);
+        if let Some(fault) = fault_at(row.offset, stuck_of(&steps, row)) {
             return Some(fault);
         }
     }
     None
+}
+
+/// The first gain of a file's frames, each moved by its own steps, that would leave the range, in order of frames, granules
+/// and channels: `GainRange`.
+pub fn range_fault(course: &Course, survey: &Survey) -> Option<Refusal>
+    requires { IsLaidOut (tells survey.now) }
+    ensures { result ≡ range_fault_lem (steps_over course.now (tells survey.now).frames)
+        (tells survey.now).frames }
+{
+    first_fault(course, survey.frames())
+}
+
+/// The same where all frames move by the same steps.
+pub(crate) fn even_fault(steps: Steps, survey: &Survey) -> Option<Refusal>
+    requires { IsLaidOut (tells survey.now) }
+    ensures { result ≡ range_fault_lem (even steps) (tells survey.now).frames }
+{
+    range_fault(&Course::Even(steps), survey)
 }

@@ -14,4 +14,5 @@ mod undo_item;
 pub use calls::{gain, undo};
 pub use changes::Changes;
 pub use edit::{GainEdit, Work};
+pub use gain_range::range_fault;
 pub use laws::{opposite_gives_back, undo_gives_back};

@@ -12,11 +12,11 @@ ghost use Rattle.commands.specs.Left.{seen, IsOfInput};
 ghost use Rattle.gain_edits.specs.UndoItem.{bytes_unless_empty as bytes_unless_empty_lem};
 ghost use Rattle.gain_edits.specs.Undo.{undone_change as undone_change_lem, undo_change as undo_change_lem, undo_refuses};
 
-use crate::gain_range::range_fault;
+use crate::gain_range::even_fault;
 use crate::undo_item::{found_undo, of_tag, undo_steps};
 use commands::EditFault;
 use file_tag::{read_tag, tag_place};
-use moved_gains::Change;
+use moved_gains::{Change, Course};
 use outside::Folder;
 use std::alloc::{AllocError, Global};
 use sync_survey::Survey;
@@ -36,19 +36,20 @@ fn bytes_unless_empty(alloc: Global, tag: &Tag) -> Result<Vec<u8>, AllocError>
 /// The steps of the undo item are taken, and the item is taken out of the tag: `GainRange` for the first gain that would
 /// leave its range.
 fn undone_change(alloc: Global, survey: &Survey, tag: Tag, undo: &Undo) -> Result<Change, EditFault>
+    requires laid { IsLaidOut (tells survey.now) }
     ensures change { MatchResult result
-        (λ change. undone_change_lem (tells survey.now) tag undo.now ≡ Ok (change_in change))
+        (λ change. undone_change_lem (tells survey.now) tag undo.now ≡ Ok (change_in change (tells survey.now)))
         (λ fault. (fault ≡ Memory) ⊎ (undone_change_lem (tells survey.now) tag undo.now ≡ Err fault)) }
 {
     let mut tag = tag;
     let steps = undo_steps(undo);
-    if let Some(refusal) = range_fault(&steps, survey.frames()) {
+    if let Some(refusal) = even_fault(steps, survey) {
         return Err(refusal.into());
     }
     tag.drop_undo();
     let bytes = bytes_unless_empty(alloc, &tag)?;
     Ok(Change {
-        steps,
+        course: Course::Even(steps),
         tag: Some(bytes),
     })
 }
@@ -66,7 +67,7 @@ pub(crate) fn undo_change<D: Folder>(
         → survey_of bytes most_frames ≡ Ok (tells survey.now) }
     ensures change { IfOk result (λ change. (bytes : List ℕ)
         → Holds (D.files folder.old) name.now bytes
-        → undo_change_lem bytes (tells survey.now) ≡ Ok (change_in change)) }
+        → undo_change_lem bytes (tells survey.now) ≡ Ok (change_in change (tells survey.now))) }
     ensures refused { IfErr result (IsInputFault (changing undo_change_lem) name.now
         (seen (D.files folder.old) (D.counts folder.old))
         (seen (D.files folder.new) (D.counts folder.new))) }

@@ -6,6 +6,10 @@ use Rattle.moved_gains.specs.declared.course.Course.{Course}
 use Rattle.moved_gains.specs.declared.course.Course.TheVariants.{Even, Along}
 use Rattle.moved_gains.specs.declared.shift.Steps.{Steps}
 
+-- every frame by the same steps
+abbrev pub even : Steps → ℕ → Steps
+even steps at = steps
+
 -- both channels by as many steps, without wrap
 abbrev pub alike : ℤ → Steps
 alike steps = record { left = steps; right = steps; wrap = false }

@@ -48,26 +48,26 @@ with_item shift tags bytes s tag undo asked is item = rw (asked, is, item) refl
 -- ---- the answers
 
 -- without tags no memory is asked for
-plain_is : (r : Result CodeChange EditFault) (made : Result Change EditFault) → MatchResult r (λ change. made ≡ Ok (change_in change)) (λ fault. made ≡ Err fault) → IsAnswer r made
-plain_is (Ok change) made is = is
-plain_is (Err fault) made is = inr is
+plain_is : (s : SurveyFields) (r : Result CodeChange EditFault) (made : Result Change EditFault) → MatchResult r (λ change. made ≡ Ok (change_in change s)) (λ fault. made ≡ Err fault) → IsAnswer s r made
+plain_is s (Ok change) made is = is
+plain_is s (Err fault) made is = inr is
 
 pub returns-then-not-tags-clause-change : goal.returns-then-not-tags-clause-change
 returns-then-not-tags-clause-change g c =
     let s = tells c.args.survey.now in
     answer_ok (gain_change c.args.shift.now c.args.tags) (gain_refuses c.args.tags) c.args.name.now (g.D.Folder.files c.args.folder.now) _ (g.D.Folder.counts c.args.folder.now) _ refl s c.requires.there c.requires.surveyed (plain_change c.args.shift.now s) (plain_may c.args.tags c.args.shift.now s) refl
-    (λ bytes holds. without_tags c.args.shift.now c.args.tags bytes s c.if-not-tags.true) c.plain_change.result (plain_is c.plain_change.result _ c.plain_change.ensures.change)
+    (λ bytes holds. without_tags c.args.shift.now c.args.tags bytes s c.if-not-tags.true) c.plain_change.result (plain_is s c.plain_change.result _ c.plain_change.ensures.change)
 
 pub returns-then-not-tags-clause-refused : goal.returns-then-not-tags-clause-refused
 returns-then-not-tags-clause-refused g c =
     let s = tells c.args.survey.now in
     answer_is_input (gain_change c.args.shift.now c.args.tags) (gain_refuses c.args.tags) c.args.name.now (g.D.Folder.files c.args.folder.now) _ (g.D.Folder.counts c.args.folder.now) _ refl s c.requires.there c.requires.surveyed (plain_change c.args.shift.now s) (plain_may c.args.tags c.args.shift.now s) refl
-    (λ bytes holds. without_tags c.args.shift.now c.args.tags bytes s c.if-not-tags.true) c.plain_change.result (plain_is c.plain_change.result _ c.plain_change.ensures.change)
+    (λ bytes holds. without_tags c.args.shift.now c.args.tags bytes s c.if-not-tags.true) c.plain_change.result (plain_is s c.plain_change.result _ c.plain_change.ensures.change)
 
 pub returns-then-not-tags-clause-numbers : goal.returns-then-not-tags-clause-numbers
 returns-then-not-tags-clause-numbers g c =
     let s = tells c.args.survey.now in
-    answer_numbers (gain_refuses c.args.tags) (plain_change c.args.shift.now s) (plain_may c.args.tags c.args.shift.now s) c.plain_change.result (plain_is c.plain_change.result _ c.plain_change.ensures.change)
+    answer_numbers (gain_refuses c.args.tags) s (plain_change c.args.shift.now s) (plain_may c.args.tags c.args.shift.now s) c.plain_change.result (plain_is s c.plain_change.result _ c.plain_change.ensures.change)
 
 pub returns-in-Err-clause-refused : goal.returns-in-Err-clause-refused
 returns-in-Err-clause-refused g c =
@@ -115,4 +115,4 @@ pub returns-clause-numbers : goal.returns-clause-numbers
 returns-clause-numbers g c =
     let s = tells c.args.survey.now in
     subst (λ t. IfErr c.noted_change.result (IsOfInput (gain_refuses t))) (sym c.if-not-tags.false)
-    (answer_numbers (gain_refuses true) (noted_change c.args.shift.now s c.in-Ok.tag c.in_ok-undo.undo) (noted_may c.args.shift.now s c.in-Ok.tag c.in_ok-undo.undo) c.noted_change.result c.noted_change.ensures.change)
+    (answer_numbers (gain_refuses true) s (noted_change c.args.shift.now s c.in-Ok.tag c.in_ok-undo.undo) (noted_may c.args.shift.now s c.in-Ok.tag c.in_ok-undo.undo) c.noted_change.result c.noted_change.ensures.change)

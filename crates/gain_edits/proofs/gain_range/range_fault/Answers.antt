@@ -1,22 +1,16 @@
--- The first stuck gain is found.
-use Rattle.std.proofs.Common.{None, sym, ◌∙◌, ap, arith}
-use Rattle.gain_edits.specs.GainRange.{stuck_fault}
-use Rattle.gain_edits.proofs.RangeLaws.{range_more, range_here, range_all}
+-- The frames of a survey have their numbers.
+use Rattle.std.proofs.Common.{ap, sym, subst, length, arith, ◌∙◌}
+use Rattle.sync_survey.specs.Faults.{tells}
+use Rattle.moved_gains.specs.Course.{AreNumbered, steps_over}
+use Rattle.moved_gains.proofs.CourseLaws.{out_numbered, out_few}
+use Rattle.gain_edits.specs.GainRange.{range_fault}
 use Rattle.gain_edits.proofs.gain_range.range_fault.Goals as goal
 
-pub returns-in-Some : goal.returns-in-Some
-returns-in-Some c =
-    let row = c.row-item.result in
-    sym (c.loop-row.invariant
-    ∙ range_here c.args.steps.now c.args.rows.now c.loop-row.row-index row c.in-Some.fault (omega (arith, c.loop-row-test.true)) c.row-item.is
-    (sym (c.fault_at.ensures ∙ ap (λ s. stuck_fault row.offset s None) c.stuck_of.ensures) ∙ c.in-Some.is))
+pub first_fault-requires-clause-numbered : goal.first_fault-requires-clause-numbered
+first_fault-requires-clause-numbered c = subst AreNumbered (sym c.frames.ensures) (out_numbered (tells c.args.survey.now) c.requires)
 
-pub loop-row-preserved : goal.loop-row-preserved
-loop-row-preserved c =
-    let row = c.row-item.result in
-    c.loop-row.invariant
-    ∙ range_more c.args.steps.now c.args.rows.now c.loop-row.row-index row (omega (arith, c.loop-row-test.true)) c.row-item.is
-    (sym (c.fault_at.ensures ∙ ap (λ s. stuck_fault row.offset s None) c.stuck_of.ensures) ∙ c.in_default.is)
+pub first_fault-requires-clause-few : goal.first_fault-requires-clause-few
+first_fault-requires-clause-few c = omega (arith, ap length c.frames.ensures, out_few (tells c.args.survey.now) c.requires, c.requires.few)
 
 pub returns : goal.returns
-returns c = sym (c.loop-row.invariant ∙ range_all c.args.steps.now c.args.rows.now c.loop-row.row-index c.loop-row-test.false)
+returns c = c.first_fault.ensures ∙ ap (λ rows. range_fault (steps_over c.args.course.now rows) rows) c.frames.ensures

@@ -82,4 +82,4 @@ returns-clause-refused g c =
 pub returns-clause-numbers : goal.returns-clause-numbers
 returns-clause-numbers g c =
     let s = tells c.args.survey.now in
-    answer_numbers undo_refuses (undone_change s c.in-Ok.tag c.in_ok-undo.undo) (undone_may s c.in-Ok.tag c.in_ok-undo.undo) c.undone_change.result c.undone_change.ensures.change
+    answer_numbers undo_refuses s (undone_change s c.in-Ok.tag c.in_ok-undo.undo) (undone_may s c.in-Ok.tag c.in_ok-undo.undo) c.undone_change.result c.undone_change.ensures.change
