@@ -3,3 +3,4 @@ pub mod OutputLaws
 pub mod RefusingLaws
 pub mod InputLaws
 pub mod MakeLaws
+pub mod SheetLaws

@@ -6,3 +6,4 @@ pub mod Command
 pub mod Left
 pub mod One
 pub mod Said
+pub mod Sheet

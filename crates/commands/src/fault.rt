@@ -6,6 +6,7 @@ ghost use Rattle.commands.specs.Kinds.{of_input};
 ghost use Rattle.commands.specs.PassFaults.{of_pass};
 
 use cue_sheet::CueFault;
+use fade_plan::EnvelopeFault;
 use outside::PassFault;
 use std::alloc::{AllocError, AllocFailed};
 use sync_survey::SurveyFault;
@@ -41,10 +42,14 @@ pub enum Refusal {
     Unfit(u32),
     /// The frames of this input, counted from 0, are of another class than those of the first.
     Differ(u32),
-    /// The cue sheet has so many bytes, more than 65,536.
+    /// The sheet has so many bytes, more than 65,536.
     SheetTooLarge(u64),
     /// The cue sheet is at fault. Never `Memory`.
     Sheet(CueFault),
+    /// The sheet of a fade is at fault. Never `Memory`.
+    Curve(EnvelopeFault),
+    /// The point in this line of the sheet of a fade, counted from 1, isn't behind the one before it.
+    CurveNotRising(u32),
 }
 
 /// Why a job was not done.

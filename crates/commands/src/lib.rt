@@ -1,13 +1,15 @@
-//! What all commands share: what a command is, why it is refused and what it leaves, the survey of an input, and the one
+//! What all commands share: what a command is, why it is refused and what it leaves, the survey of an input, the bytes of a sheet, and the one
 //! body of those that make one file.
 #![tactic(auto)]
 
 mod edit;
 mod fault;
 mod limits;
+mod sheet;
 mod surveys;
 
 pub use edit::{Edit, make_one};
 pub use fault::{EditFault, Refusal};
 pub use limits::{LONGEST_FILE, LONGEST_TAG, MOST_FRAMES};
+pub use sheet::sheet_bytes;
 pub use surveys::{survey_at, survey_input};

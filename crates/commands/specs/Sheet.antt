@@ -1,0 +1,62 @@
+-- A sheet, the second input of a command: its bytes, and why they aren't read.
+use Rattle.std.specs.Prelude.{◌≡◌, ◌≢◌, ℕ, nat_lt, if◌then◌else◌, Bool, true, false, List, length, Option, Some, None, Result, Ok, Err}
+use Rattle.outside.specs.Files.{Holds, IsThere, IsMissing}
+use Rattle.outside.specs.Counts.{Rose}
+use Rattle.sync_survey.specs.declared.survey_fault.SurveyFault.TheVariants.{Absent, Memory as NoRoom}
+use Rattle.commands.specs.declared.fault.EditFault.{EditFault}
+use Rattle.commands.specs.declared.fault.EditFault.TheVariants.{Input, Refused, Memory}
+use Rattle.commands.specs.declared.fault.Refusal.{Refusal}
+use Rattle.commands.specs.declared.fault.Refusal.TheVariants.{SheetTooLarge}
+use Rattle.commands.specs.Kinds.{HasRightNumbers}
+use Rattle.commands.specs.Left.{Why, Rejected, Missing, Unread, Shorter, Unwritten, Unsent, NoMemory, why_of, Seen}
+use Rattle.commands.specs.One.{ReadsNothing, LosesInput}
+
+-- it may have so many bytes
+abbrev pub longest_sheet : ℕ
+longest_sheet = 65536
+
+-- the bytes of a sheet that isn't too large
+abbrev pub sheet_read : List ℕ → Result (List ℕ) EditFault
+sheet_read sheet = if nat_lt longest_sheet (length sheet) then Err (Refused (SheetTooLarge (length sheet))) else Ok sheet
+
+-- or why there are none
+abbrev pub sheet_in : Option (List ℕ) → Result (List ℕ) EditFault
+sheet_in None = Err (Input 1 Absent)
+sheet_in (Some sheet) = sheet_read sheet
+
+-- the sheet is there, and too large
+pub record RefusesSheet (name : List ℕ) (old new : Seen) (fault : EditFault) : Type 0 where
+  pub there : IsThere old.files name
+  pub bytes : (bytes : List ℕ) → Holds old.files name bytes → sheet_read bytes ≡ Err fault
+  pub stays : new ≡ old
+
+pub record MissesSheet (name : List ℕ) (old new : Seen) (fault : EditFault) : Type 0 where
+  pub is : fault ≡ Input 1 Absent
+  pub missing : IsMissing old.files name
+  pub rose : Rose old.counts.misses new.counts.misses
+  pub files : new.files ≡ old.files
+
+abbrev pub IsSheetFaultBy : List ℕ → Seen → Seen → EditFault → Why → Type 0
+IsSheetFaultBy name old new fault Rejected = RefusesSheet name old new fault
+IsSheetFaultBy name old new fault Missing = MissesSheet name old new fault
+IsSheetFaultBy name old new fault Unread = ReadsNothing old new
+IsSheetFaultBy name old new fault Shorter = LosesInput old new
+IsSheetFaultBy name old new fault (Unwritten k) = ⊥
+IsSheetFaultBy name old new fault Unsent = ⊥
+IsSheetFaultBy name old new fault NoMemory = new ≡ old
+
+-- what a fault says that was met while the sheet was read
+abbrev pub IsSheetFault : List ℕ → Seen → Seen → EditFault → Type 0
+IsSheetFault name old new fault = IsSheetFaultBy name old new fault (why_of fault)
+
+-- what may be refused of its size
+abbrev pub sheet_refuses : Refusal → Bool
+sheet_refuses (SheetTooLarge size) = nat_lt longest_sheet size
+sheet_refuses _ = false
+
+-- the fault is one of the sheet, or want of memory
+abbrev pub IsOfSheet : EditFault → Type 0
+IsOfSheet (Input place fault) = (place ≡ 1) × (fault ≢ NoRoom) × HasRightNumbers fault
+IsOfSheet (Refused refusal) = sheet_refuses refusal ≡ true
+IsOfSheet Memory = Unit {0}
+IsOfSheet _ = ⊥

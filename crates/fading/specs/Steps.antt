@@ -1,0 +1,49 @@
+-- The steps of the fade command.
+use Rattle.std.specs.Prelude.{◌≡◌, ◌≢◌, ℕ, Bool, true, List, Some, Ok, Err}
+use Rattle.bit_fields.specs.Bits.{AreBytes}
+use Rattle.outside.specs.Files.{Files, Holds, IsThere}
+use Rattle.sync_survey.specs.declared.survey_fault.SurveyFault.TheVariants.{Memory as NoRoom}
+use Rattle.sync_survey.specs.Faults.{SurveyFields, tells}
+use Rattle.sync_survey.specs.Survey.{survey_of, IsLaidOut}
+use Rattle.commands.specs.declared.fault.EditFault.{EditFault}
+use Rattle.commands.specs.declared.fault.EditFault.TheVariants.{Input, Refused, Memory}
+use Rattle.commands.specs.Kinds.{HasRightNumbers}
+use Rattle.commands.specs.Left.{Why, Rejected, Missing, Unread, Shorter, Unwritten, Unsent, NoMemory, why_of, Seen}
+use Rattle.commands.specs.One.{most_frames, ReadsNothing, LosesInput}
+use Rattle.commands.specs.Sheet.{MissesSheet}
+use Rattle.moved_gains.specs.Buffers.{AreFresh}
+use Rattle.fading.specs.declared.edit.Work.{Work}
+use Rattle.fading.specs.Fade.{fade_of, fade_refuses}
+
+-- the sheet is there, and what it changes in a file with this survey is refused
+pub record RefusesChange (sheet : List ℕ) (back : Bool) (s : SurveyFields) (old new : Seen) (fault : EditFault) : Type 0 where
+  pub there : IsThere old.files sheet
+  pub bytes : (bytes : List ℕ) → Holds old.files sheet bytes → fade_of (Some bytes) back s ≡ Err fault
+  pub stays : new ≡ old
+
+abbrev pub IsChangeFaultBy : List ℕ → Bool → SurveyFields → Seen → Seen → EditFault → Why → Type 0
+IsChangeFaultBy sheet back s old new fault Rejected = RefusesChange sheet back s old new fault
+IsChangeFaultBy sheet back s old new fault Missing = MissesSheet sheet old new fault
+IsChangeFaultBy sheet back s old new fault Unread = ReadsNothing old new
+IsChangeFaultBy sheet back s old new fault Shorter = LosesInput old new
+IsChangeFaultBy sheet back s old new fault (Unwritten k) = ⊥
+IsChangeFaultBy sheet back s old new fault Unsent = ⊥
+IsChangeFaultBy sheet back s old new fault NoMemory = new ≡ old
+
+-- what a fault says that was met once the input was surveyed
+abbrev pub IsChangeFault : List ℕ → Bool → SurveyFields → Seen → Seen → EditFault → Type 0
+IsChangeFault sheet back s old new fault = IsChangeFaultBy sheet back s old new fault (why_of fault)
+
+-- the fault is one of the sheet, a refusal of the command, or want of memory
+abbrev pub IsOfChange : EditFault → Type 0
+IsOfChange (Input place fault) = (place ≡ 1) × (fault ≢ NoRoom) × HasRightNumbers fault
+IsOfChange (Refused refusal) = fade_refuses refusal ≡ true
+IsOfChange Memory = Unit {0}
+IsOfChange _ = ⊥
+
+-- The input is there and was surveyed, and the buffers are new.
+pub record IsReady (input : List ℕ) (work : Work) (files : Files) : Type 0 where
+  pub there : IsThere files input
+  pub laid : IsLaidOut (tells work.survey)
+  pub surveyed : (bytes : List ℕ) → Holds files input bytes → survey_of bytes most_frames ≡ Ok (tells work.survey)
+  pub fresh : (others : Files) (name : List ℕ) → AreFresh work.buffers others name

@@ -1,0 +1,53 @@
+//! The command `fade` over a folder.
+ghost use Rattle.std.specs.Prelude.{◌≡◌, ◌↔◌, ℕ, Some, IfErr, OnOk, IsErrOf};
+ghost use Rattle.outside.specs.Counts.{NoneFell};
+ghost use Rattle.commands.specs.Command.{HoldsStreams, clash_of};
+ghost use Rattle.commands.specs.Left.{seen, IsDone, Leaves, HasNumbers};
+ghost use Rattle.fading.specs.Fade.{fade_command};
+
+use crate::edit::FadeEdit;
+use commands::{EditFault, make_one};
+use outside::Folder;
+use std::alloc::Global;
+
+/// Writes the output, which is the input with the gains of each frame moved on both channels by the steps, of 1.5 dB, that
+/// the curve of the sheet has at the frame's number, but those of lost frames; with `back` by as many steps the other way.
+/// Tags are neither read nor changed.
+///
+/// Refuses, in this order: `EqualNames(0)` and `EqualNames(1)` where the output's name is that of the input or of the sheet,
+/// byte for byte; `Input(0, ..)` with the fault of the survey of the input, of which 2,900,000 frames are allowed; of the
+/// sheet `Input(1, ..)` with `Absent` and `Read`, `SheetTooLarge` with its length above 65,536 bytes, and `Input(1, ..)` with
+/// `Shrunk`; `Curve` with the fault of its bytes; `CurveNotRising` with the first line, counted from 1, whose point isn't at
+/// a later frame than the point before; `GainRange` for the first gain, but those of lost frames, that would leave the
+/// range from 0 to 255. Then nothing was created.
+///
+/// `Input` with `Read` and `Write(0)` come only where a call of that kind failed, `Input` with `Absent` only where that input
+/// isn't there, and every other answer only where none failed; after `Write(0)` the output is as it was or
+/// holds a prefix of its bytes. `Memory` may come once the input was found with a length that it may have,
+/// before the output is created, and not from then on.
+pub fn fade<D: Folder>(
+    alloc: Global,
+    folder: &mut D,
+    input: &str,
+    output: &str,
+    sheet: &str,
+    back: bool,
+) -> Result<(), EditFault>
+    ensures done { OnOk result (IsDone (fade_command sheet.now back input.now output.now)
+        (seen (D.files folder.old) (D.counts folder.old))
+        (seen (D.files folder.new) (D.counts folder.new))) }
+    ensures left { IfErr result (Leaves (fade_command sheet.now back input.now output.now)
+        (seen (D.files folder.old) (D.counts folder.old))
+        (seen (D.files folder.new) (D.counts folder.new))) }
+    // Over a folder that tells nothing too.
+    ensures numbers { IfErr result (HasNumbers
+        (fade_command sheet.now back input.now output.now)) }
+    ensures names { (place : ℕ) → IsErrOf result (EditFault.EqualNames place)
+        ↔ (clash_of (fade_command sheet.now back input.now output.now) ≡ Some place) }
+    // The input is well-formed, and the output holds its stream with each frame's gains moved by its steps.
+    ensures streams { OnOk result (HoldsStreams (fade_command sheet.now back input.now output.now)
+        (D.files folder.old)) }
+    ensures counts { NoneFell (D.counts folder.old) (D.counts folder.new) }
+{
+    make_one(alloc, folder, &FadeEdit { input, sheet, back }, output)
+}

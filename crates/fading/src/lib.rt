@@ -1,0 +1,9 @@
+//! The command that fades: each frame's gains move by the steps that a sheet gives at its place.
+#![tactic(auto)]
+
+mod calls;
+mod edit;
+mod fade_change;
+
+pub use calls::fade;
+pub use edit::{FadeEdit, Work};
