@@ -51,8 +51,11 @@ curve_by s sheet = then_made (points_in sheet) (curve_on s)
 -- ---- the change
 
 -- each frame moves by the steps of the curve at its number, and no tag changes; or a gain would leave the range
+abbrev pub faded_by : (ℕ → Steps) → SurveyFields → Result Change EditFault
+faded_by steps s = unless (range_fault steps s.frames) (record { steps = steps; tag = None })
+
 abbrev pub faded : Bool → SurveyFields → List CurvePoint → Result Change EditFault
-faded back s curve = let steps = steps_over (Along curve back) s.frames in unless (range_fault steps s.frames) (record { steps = steps; tag = None })
+faded back s curve = faded_by (steps_over (Along curve back) s.frames) s
 
 -- what the bytes of a sheet change in a file with this survey
 unfoldable pub fade_in : List ℕ → Bool → SurveyFields → Result Change EditFault

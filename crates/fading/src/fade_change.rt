@@ -6,12 +6,10 @@ ghost use Rattle.sync_survey.specs.Faults.{tells};
 ghost use Rattle.sync_survey.specs.Survey.{IsLaidOut};
 ghost use Rattle.commands.specs.declared.fault.EditFault.TheVariants.{Memory};
 ghost use Rattle.commands.specs.Left.{seen, IsRefusal};
-ghost use Rattle.commands.specs.Refusing.{unless};
 ghost use Rattle.commands.specs.Sheet.{longest_sheet};
 ghost use Rattle.moved_gains.specs.Course.{steps_over};
 ghost use Rattle.moved_gains.specs.Change.{change_in};
-ghost use Rattle.gain_edits.specs.GainRange.{range_fault as range_fault_lem};
-ghost use Rattle.fading.specs.Fade.{points_in as points_in_lem, curve_by as curve_by_lem, choice_refuses, fade_in as fade_in_lem, fade_of};
+ghost use Rattle.fading.specs.Fade.{points_in as points_in_lem, curve_by as curve_by_lem, choice_refuses, faded_by, fade_in as fade_in_lem, fade_of};
 ghost use Rattle.fading.specs.Steps.{IsChangeFault, IsOfChange};
 
 use commands::{EditFault, Refusal, sheet_bytes};
@@ -58,13 +56,11 @@ fn curve_by(alloc: Global, sheet: &[u8], survey: &Survey) -> Result<Curve, EditF
 fn change_along(course: Course, survey: &Survey) -> Result<Change, EditFault>
     requires { IsLaidOut (tells survey.now) }
     ensures { MatchResult result
-        (λ change. unless (range_fault_lem (steps_over course (tells survey.now).frames)
-        (tells survey.now).frames)
-        (record { steps = steps_over course (tells survey.now).frames; tag = None })
+        (λ change. faded_by (steps_over course (tells survey.now).frames) (tells survey.now)
         ≡ Ok (change_in change (tells survey.now)))
         (λ fault. IsRefusal choice_refuses fault
-        × (range_fault_lem (steps_over course (tells survey.now).frames)
-        (tells survey.now).frames ≡ Some fault)) }
+        × (faded_by (steps_over course (tells survey.now).frames) (tells survey.now)
+        ≡ Err fault)) }
 {
     match range_fault(&course, survey) {
         Some(refusal) => Err(refusal.into()),

@@ -65,7 +65,7 @@ undo_change_late file s =
 -- ---- which there are
 
 -- all that this says is one of these
-abbrev May : (Refusal → Bool) → Option Refusal → Type 0
+abbrev pub May : (Refusal → Bool) → Option Refusal → Type 0
 May may o = IfSome o (λ refusal. may refusal ≡ true)
 
 or_may : (may : Refusal → Bool) (o later : Option Refusal) → May may o → May may later → May may (or_else o later)
@@ -85,7 +85,7 @@ module _ (may : Refusal → Bool) (range : (offset granule channel gain : ℕ) �
   stuck_may row (Some stuck) later is = range row.offset stuck.granule stuck.channel stuck.gain
   stuck_may row None later is = is
 
-  range_may : (steps : ℕ → Steps) (rows : List Row) → May may (range_fault steps rows)
+  pub range_may : (steps : ℕ → Steps) (rows : List Row) → May may (range_fault steps rows)
   unfolding range_fault
   range_may steps [] = tt
   range_may steps (row ∷ rows) = stuck_may row (stuck_of (steps row.offset) row) (range_fault steps rows) (range_may steps rows)
