@@ -1,5 +1,5 @@
 -- What a sheet changes, and its faults as those of the command.
-use Rattle.std.proofs.Common.{◌≡◌, ℕ, ◌≤◌, Bool, true, false, List, [], ◌∷◌, length, Option, Some, None, Result, Ok, Err, refl, sym, ◌∙◌, ap, subst, inl, inr, arith}
+use Rattle.std.proofs.Common.{◌≡◌, ℕ, ◌≤◌, Bool, true, false, List, length, Option, Some, None, Result, Ok, Err, refl, sym, ◌∙◌, ap, subst, inl, inr, arith}
 use Rattle.std.specs.Prelude.{◌⊎◌, ◌||◌, MatchResult, IfErr, IfOk, IfSome}
 use Rattle.bit_fields.specs.Bits.{AreBytes}
 use Rattle.outside.specs.Files.{Contents, Files, Holds, IsThere}
@@ -14,7 +14,7 @@ use Rattle.commands.specs.declared.fault.Refusal.{Refusal}
 use Rattle.commands.specs.Refusing.{unless, then_made}
 use Rattle.commands.specs.Left.{Why, Rejected, Missing, Unread, Shorter, Unwritten, Unsent, NoMemory, why_of, Seen, IsRefusal, IsOfInput}
 use Rattle.commands.specs.One.{Making, most_frames, made_where, file_task, Refuses, IsEarlyFaultBy, IsEarlyFault, IsOfInputs, IsInputFault, IsMaking}
-use Rattle.commands.specs.Sheet.{longest_sheet, sheet_read, sheet_refuses, IsSheetFaultBy, IsSheetFault, IsOfSheet}
+use Rattle.commands.specs.Sheet.{longest_sheet, sheet_refuses, IsSheetFaultBy, IsSheetFault, IsOfSheet}
 use Rattle.commands.proofs.InputLaws.{made-survey, input_is_early, refusal-of}
 use Rattle.commands.proofs.SheetLaws.{not-large}
 use Rattle.moved_gains.specs.declared.change.Change.{Change as CodeChange}
@@ -193,6 +193,10 @@ module _ (sheet : List ℕ) (back : Bool) (input : List ℕ) where
 
       pub change_early : (fault : EditFault) → IsChangeFault sheet back s old new fault → IsEarlyFault (fade_task sheet back input) old new fault
       change_early fault h = change_by fault (why_of fault) h
+
+      -- behind the survey, by which nothing changed
+      pub change_early_behind : (fault : EditFault) (mid : Seen) → mid ≡ old → IsChangeFault sheet back s mid new fault → IsEarlyFault (fade_task sheet back input) old new fault
+      change_early_behind fault mid stays h = change_early fault (subst (λ (m : Seen). IsChangeFault sheet back s m new fault) stays h)
 
     -- and the command accepts it
     pub fade_makes : (files : Files) (change : Change) → IsThere files input → ((bytes : List ℕ) → Holds files input bytes → survey_of bytes most_frames ≡ Ok s) → ((bytes : List ℕ) → Holds files input bytes → AreBytes bytes)

@@ -1,6 +1,5 @@
 -- The steps of the fade command.
 use Rattle.std.specs.Prelude.{◌≡◌, ◌≢◌, ℕ, Bool, true, List, Some, Ok, Err}
-use Rattle.bit_fields.specs.Bits.{AreBytes}
 use Rattle.outside.specs.Files.{Files, Holds, IsThere}
 use Rattle.sync_survey.specs.declared.survey_fault.SurveyFault.TheVariants.{Memory as NoRoom}
 use Rattle.sync_survey.specs.Faults.{SurveyFields, tells}

@@ -69,12 +69,7 @@ fn change_along(course: Course, survey: &Survey) -> Result<Change, EditFault>
 }
 
 /// What the bytes of a sheet change in a surveyed file: `Curve`, `CurveNotRising` and `GainRange`, the first of these.
-fn fade_in(
-    alloc: Global,
-    sheet: &[u8],
-    back: bool,
-    survey: &Survey,
-) -> Result<Change, EditFault>
+fn fade_in(alloc: Global, sheet: &[u8], back: bool, survey: &Survey) -> Result<Change, EditFault>
     requires few { length sheet.now ≤ longest_sheet }
     requires laid { IsLaidOut (tells survey.now) }
     ensures { MatchResult result

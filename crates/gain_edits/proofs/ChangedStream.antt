@@ -100,7 +100,7 @@ pub changed-stream : (of : Changing) (file new : List ℕ) (c : IsChanged of fil
 changed-stream of file new c all tags =
     subst (IsStreamMoved c.change.steps file) c.bytes (changed-moved file most_frames c.survey all (survey_of-parts file most_frames c.survey c.is).1 c.change tags)
 
-stream_of-survey : (file : List ℕ) (s : SurveyFields) → surveyed file (length file + 1) ≡ Ok s → stream_of file ≡ stream_of_survey file s
+pub stream_of-survey : (file : List ℕ) (s : SurveyFields) → surveyed file (length file + 1) ≡ Ok s → stream_of file ≡ stream_of_survey file s
 unfolding stream_of
 stream_of-survey file s is = ap (stream_by file) is
 

@@ -1,5 +1,5 @@
 -- The numbers of the frames of a file by their offsets.
-use Rattle.std.proofs.Common.{◌≡◌, ℕ, zero, suc, ◌+◌, ◌<◌, ◌≤◌, Bool, cond, List, [], ◌∷◌, length, get_or, Some, refl, ◌∙◌, ap, subst, arith}
+use Rattle.std.proofs.Common.{◌≡◌, sym, ℕ, zero, suc, ◌+◌, ◌<◌, ◌≤◌, Bool, cond, List, [], ◌∷◌, length, get_or, Some, Ok, refl, ◌∙◌, ap, subst, arith}
 use Rattle.std.specs.Prelude.{slice_get}
 use Rattle.std.proofs.lemmas.Bool.{lt-ltb, le-ltb}
 use Rattle.std.proofs.lemmas.Option.{slice_get_read}
@@ -8,11 +8,15 @@ use Rattle.frame_header.specs.Tables.{class_of, length_of}
 use Rattle.frame_header.proofs.HeaderLaws.{IsClass-class_of}
 use Rattle.frame_header.proofs.Lengths.{area_some}
 use Rattle.sync_survey.specs.declared.rows.Row.{Row}
-use Rattle.sync_survey.specs.Faults.{SurveyFields}
+use Rattle.sync_survey.specs.Runs.{frames_of}
+use Rattle.sync_survey.specs.Walk.{stream_run, numbered}
+use Rattle.sync_survey.specs.MainData.{rows_of, marked}
+use Rattle.sync_survey.proofs.SurveyLaws.{surveyed-is, walked}
+use Rattle.sync_survey.specs.Faults.{SurveyFields, surveyed}
 use Rattle.sync_survey.specs.Survey.{AreLaid, IsLaidOut}
 use Rattle.moved_gains.specs.declared.course.Course.{Course}
 use Rattle.moved_gains.specs.Course.{number_at, AreNumbered, steps_in, steps_over}
-use Rattle.moved_gains.proofs.LostOffsets.{AreRising, rising_less, rising_get}
+use Rattle.moved_gains.proofs.LostOffsets.{AreRising, rising_less, rising_get, marked_rising, walk_rising}
 
 -- ---- frames at rising offsets
 
@@ -70,3 +74,11 @@ out_few s laid = omega (arith, laid_few s.first s.frames s.length (λ i row is. 
 -- the steps of frame i are those of the frame at its offset
 pub frame_steps : (course : Course) (rows : List Row) (i : ℕ) (row : Row) → AreNumbered rows → i < length rows → row ≡ get_or rows i row → steps_over course rows row.offset ≡ steps_in course i
 frame_steps course rows i row numbered within is = ap (steps_in course) (numbered i row (slice_get_read rows (length rows) i row refl within is))
+
+-- the frames of any file that is surveyed
+pub survey_numbered : (file : List ℕ) (allowed : ℕ) (s : SurveyFields) → surveyed file allowed ≡ Ok s → AreNumbered s.frames
+survey_numbered file allowed s e =
+    let is = surveyed-is file allowed s e in
+    let walk = walked file allowed s is in
+    let frames = rows_of file (numbered s.head (frames_of (stream_run file is.start).items)) in
+    subst AreNumbered (sym walk.frames_are) (rising_numbered is.start.first.offset (marked s.head frames) (marked_rising s.head is.start.first.offset frames (walk_rising file is.start s.head)))

@@ -1,11 +1,8 @@
 -- A gain that would leave the range is refused.
-use Rattle.std.proofs.Common.{◌≡◌, Err, Some, sym, ◌∙◌, ap, subst, rules}
-use Rattle.std.specs.Prelude.{IfSome}
+use Rattle.std.proofs.Common.{◌≡◌, sym, ◌∙◌, rules}
 use Rattle.sync_survey.specs.Faults.{tells}
 use Rattle.commands.specs.declared.fault.EditFault.TheVariants.{Refused}
-use Rattle.commands.specs.Left.{IsRefusal}
 use Rattle.moved_gains.specs.Course.{steps_over}
-use Rattle.fading.specs.Fade.{choice_refuses}
 use Rattle.fading.proofs.FadeLaws.{along_refused}
 use Rattle.fading.proofs.fade_change.change_along.Goals as goal
 

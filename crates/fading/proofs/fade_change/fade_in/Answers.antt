@@ -1,6 +1,5 @@
 -- The curve, and then the change along it.
 use Rattle.std.proofs.lemmas.Result.{err_from_is_err_and}
-use Rattle.std.proofs.Common.{sym}
 use Rattle.sync_survey.specs.Faults.{tells}
 use Rattle.fading.proofs.FadeLaws.{curve_fault, along_answer}
 use Rattle.fading.proofs.fade_change.fade_in.Goals as goal

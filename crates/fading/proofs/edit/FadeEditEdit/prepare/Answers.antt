@@ -1,0 +1,55 @@
+-- The survey, the change and the memory, each with its faults.
+use Rattle.std.proofs.Common.{ap₂, sym, ◌∙◌, subst}
+use Rattle.std.proofs.lemmas.Result.{err_from_is_err_and}
+use Rattle.outside.specs.Files.{Holds, IsThere}
+use Rattle.sync_survey.specs.Faults.{tells}
+use Rattle.commands.specs.declared.fault.EditFault.TheVariants.{Memory}
+use Rattle.commands.specs.Left.{seen}
+use Rattle.moved_gains.specs.Change.{change_in}
+use Rattle.fading.specs.Fade.{fade_refuses}
+use Rattle.fading.proofs.FadeLaws.{making_in, input_early, input_numbers, change_early, change_early_behind, change_numbers, fade_makes}
+use Rattle.fading.proofs.edit.FadeEditEdit.prepare.Goals as goal
+
+pub returns-in_err-survey-clause-refused : goal.returns-in_err-survey-clause-refused
+returns-in_err-survey-clause-refused g c =
+    let edit = c.args.self.now in
+    let p = err_from_is_err_and c.from_residual.result c.from_residual.ensures.1 in
+    rw (p.1, p.2) (input_early edit.sheet.now edit.back edit.input.now _ _ _ (c.in_err-survey.ensures.refused (making_in edit.sheet.now edit.back edit.input.now (g.D.Folder.files c.args.folder.now))))
+
+pub returns-in_err-survey-clause-numbers : goal.returns-in_err-survey-clause-numbers
+returns-in_err-survey-clause-numbers g c =
+    let edit = c.args.self.now in
+    let p = err_from_is_err_and c.from_residual.result c.from_residual.ensures.1 in
+    rw (p.1, p.2) (input_numbers edit.sheet.now edit.back edit.input.now _ (c.in_err-survey.ensures.numbers fade_refuses))
+
+pub returns-in_err-change-clause-refused : goal.returns-in_err-change-clause-refused
+returns-in_err-change-clause-refused g c =
+    let edit = c.args.self.now in
+    let p = err_from_is_err_and c.from_residual-in_err-change.result c.from_residual-in_err-change.ensures.1 in
+    let old = seen (g.D.Folder.files c.args.folder.now) (g.D.Folder.counts c.args.folder.now) in
+    rw (p.1, p.2)
+    (change_early_behind edit.sheet.now edit.back edit.input.now (tells c.in_ok-survey.survey) old _ c.in_ok-survey.ensures.there c.in_ok-survey.ensures.surveyed _ _
+    (ap₂ seen c.survey_input.ensures.files c.in_ok-survey.ensures.done) c.in_err-change.ensures.refused)
+
+pub returns-in_err-change-clause-numbers : goal.returns-in_err-change-clause-numbers
+returns-in_err-change-clause-numbers g c =
+    let edit = c.args.self.now in
+    let p = err_from_is_err_and c.from_residual-in_err-change.result c.from_residual-in_err-change.ensures.1 in
+    rw (p.1, p.2) (change_numbers edit.sheet.now edit.back edit.input.now _ c.in_err-change.ensures.numbers)
+
+pub returns-in_err-buffers-clause-refused : goal.returns-in_err-buffers-clause-refused
+returns-in_err-buffers-clause-refused g c =
+    let edit = c.args.self.now in
+    let p = err_from_is_err_and c.from_residual-in_err-buffers.result c.from_residual-in_err-buffers.ensures.1 in
+    rw (p.1, p.2)
+    (change_early edit.sheet.now edit.back edit.input.now (tells c.in_ok-survey.survey) (seen (g.D.Folder.files c.args.folder.now) (g.D.Folder.counts c.args.folder.now)) _ c.in_ok-survey.ensures.there c.in_ok-survey.ensures.surveyed Memory
+    (ap₂ seen (c.fade_change.ensures.files ∙ c.survey_input.ensures.files) (c.in_ok-change.ensures.done ∙ c.in_ok-survey.ensures.done)))
+
+pub returns-clause-making : goal.returns-clause-making
+returns-clause-making g c =
+    let edit = c.args.self.now in
+    let s = tells c.in_ok-survey.survey in
+    let same = c.survey_input.ensures.files in
+    fade_makes edit.sheet.now edit.back edit.input.now s (g.D.Folder.files c.args.folder.now) (change_in c.in_ok-change.change s) c.in_ok-survey.ensures.there c.in_ok-survey.ensures.surveyed c.in_ok-survey.ensures.octets
+    (subst (λ f. IsThere f edit.sheet.now) same c.in_ok-change.ensures.there)
+    (λ bytes holds. c.in_ok-change.ensures.change bytes (subst (λ f. Holds f edit.sheet.now bytes) (sym same) holds))
