@@ -281,15 +281,16 @@ fn read_file<D: Folder>(alloc: Global, folder: &mut D, name: &str) -> Result<Dam
 
 /// What is read of a damaged file. The files stay.
 ///
-/// Blocks and zero bytes are passed at the front of the file. The first frame is the usable one that stands where they
-/// end, or the first usable one behind that is anchored. From there on the file is read item by item: usable
-/// frames, blocks and zero bytes. Where none of them stands whole a gap begins; it ends where the next usable frame
-/// stands that is anchored, or with the file. A frame is usable where it is whole, of the class of the first, and its
-/// check word is right where it has one; the first one may be a head with any check word.
+/// Blocks and zero bytes are passed at the front of the file. The first frame is the usable one that
+/// stands where they end, or the first usable one behind that is anchored. From there on the file is read
+/// item by item: usable frames, blocks and zero bytes. Where none of them stands whole a gap begins; it ends
+/// where the next usable frame stands that is anchored, or with the file. A frame is usable where it is
+/// whole, of the class of the first, and its check word is right where it has one; the first one may be a
+/// head with any check word.
 ///
-/// Refuses with `Absent`, `TooLong`, `Read`, `Shrunk` and `Memory` as `survey` does; with `NoFrame` and where the
-/// blocks and zero bytes at the front end, where there is no frame besides a head; and with `TooManyFrames` at the
-/// frame with number 2,900,000. With nothing else.
+/// Refuses with `Absent`, `TooLong`, `Read`, `Shrunk` and `Memory` as `survey` does; with `NoFrame` and where
+/// the blocks and zero bytes at the front end, where there is no frame besides a head; and with
+/// `TooManyFrames` at the frame with number 2,900,000. With nothing else.
 pub fn read_damaged<D: Folder>(
     alloc: Global,
     folder: &mut D,
