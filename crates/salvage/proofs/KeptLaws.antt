@@ -16,20 +16,20 @@ use Rattle.salvage.specs.Kept.{kept_end, end_of_kept, AreKeptWell, AreKeptTo}
 
 -- ---- a sound frame, by numbers
 
-record IsWithin (place ended : ℕ) (r : Row) : Type 0 where
-  begins : r.side.main_data_begin ≤ place
-  apart : ended ≤ place - r.side.main_data_begin
-  ends : (place - r.side.main_data_begin) + payload_bytes r.side ≤ place + own_area r.header
+pub record IsWithin (place ended : ℕ) (r : Row) : Type 0 where
+  pub begins : r.side.main_data_begin ≤ place
+  pub apart : ended ≤ place - r.side.main_data_begin
+  pub ends : (place - r.side.main_data_begin) + payload_bytes r.side ≤ place + own_area r.header
 
 not_true : (b : Bool) → not b ≡ true → b ≡ false
 not_true true is = absurd cc
 not_true false is = refl
 
-not_false : (b : Bool) → not b ≡ false → b ≡ true
+pub not_false : (b : Bool) → not b ≡ false → b ≡ true
 not_false true is = refl
 not_false false is = absurd cc
 
-sound_within : (place ended : ℕ) (r : Row) → is_sound place ended r ≡ true → IsWithin place ended r
+pub sound_within : (place ended : ℕ) (r : Row) → is_sound place ended r ≡ true → IsWithin place ended r
 sound_within place ended r is =
     let parts = both _ _ is in
     let front = both _ _ parts.0 in

@@ -8,3 +8,4 @@ pub mod ProgressLaws
 pub mod Results
 pub mod KeepsLaws
 pub mod KeptLaws
+pub mod StreamLaws

@@ -16,7 +16,7 @@ use Rattle.salvage.specs.Judged.{judged_by, before_next, none_before, rows_here,
 -- ---- one run
 
 -- the rows marked one behind the other
-abbrev judged_from : Before → List Row → List Row
+abbrev pub judged_from : Before → List Row → List Row
 judged_from b [] = []
 judged_from b (r ∷ rows) = judged_by b r ∷ judged_from (before_next b r) rows
 
@@ -63,7 +63,7 @@ module _ (head : Option Head) where
   unfolding end_of_sound
   behind-none = ap (λ n. record { place = n; ended = 0 }) (sym (place-none head))
 
-  judged-from : (rows : List Row) → judged head rows ≡ judged_from (record { place = head_area head; ended = 0 }) rows
+  pub judged-from : (rows : List Row) → judged head rows ≡ judged_from (record { place = head_area head; ended = 0 }) rows
   unfolding judged
   judged-from rows = judged_rest [] rows ∙ ap (λ b. judged_from b rows) behind-none
 

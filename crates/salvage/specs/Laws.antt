@@ -1,10 +1,22 @@
 -- What the definitions of this crate say together.
-use Rattle.std.specs.Prelude.{◌≡◌, ℕ, ◌≤◌, List, length, Ok}
-use Rattle.sync_survey.specs.Faults.{SurveyFields, surveyed}
-use Rattle.salvage.specs.Damaged.{damaged, gap_between, most_frames}
+use Rattle.std.specs.Prelude.{◌≡◌, ℕ, ◌≤◌, List, length, Ok, Some}
+use Rattle.sync_survey.specs.declared.places.PlacedFrame.{PlacedFrame}
+use Rattle.sync_survey.specs.Start.{front_end_of}
+use Rattle.sync_survey.specs.Faults.{SurveyFields, surveyed, stream_of_survey}
+use Rattle.salvage.specs.Walk.{first_frame}
+use Rattle.salvage.specs.Damaged.{DamagedFields, damaged, gap_between, most_frames}
+use Rattle.salvage.specs.Stream.{salvaged_stream}
+use Rattle.salvage.specs.Progress.{IsLaidOut}
 
 -- of a file without fault all is read that its survey tells, and nothing is missing but the junk before the first frame
 abbrev pub SalvageKeepsStreams : Type 0
 SalvageKeepsStreams =
     (file : List ℕ) (allowed : ℕ) (s : SurveyFields) → surveyed file allowed ≡ Ok s → length s.frames ≤ most_frames
     → damaged file ≡ Ok (record { survey = s; gaps = gap_between s.junk s.first })
+
+-- The stream that the survey of what is read tells is that of what is left, run by run: the main data of each frame that is kept are those
+-- of its run, and each other one is an empty frame.
+abbrev pub SalvageTellsStreams : Type 0
+SalvageTellsStreams =
+    (file : List ℕ) (d : DamagedFields) → damaged file ≡ Ok d → IsLaidOut d
+    → (first : PlacedFrame) × (first_frame file (front_end_of file) ≡ Some first) × (stream_of_survey file d.survey ≡ salvaged_stream file first)

@@ -12,5 +12,5 @@ mod usable;
 
 pub use damaged::Damaged;
 pub use gap::Gap;
-pub use laws::salvage_keeps_streams;
+pub use laws::{salvage_keeps_streams, salvage_tells_streams};
 pub use reading::read_damaged;
