@@ -9,10 +9,12 @@ use Rattle.sync_survey.specs.declared.survey_fault.SurveyFault.{SurveyFault}
 use Rattle.sync_survey.specs.declared.survey_fault.SurveyFault.TheVariants.{Absent, TooLong, NoFrame, LostSync, Truncated, FreeFormat, Mixed, CheckWord, BackPointer, Overlap, Overrun, TooManyFrames, Shrunk, Read, Memory}
 use Rattle.cue_sheet.specs.declared.cue_fault.CueFault.{CueFault}
 use Rattle.cue_sheet.specs.declared.cue_fault.CueFault.TheVariants.{Line, NotRising, NoTracks, Memory as NoSheetMemory}
+use Rattle.fade_plan.specs.declared.fault.EnvelopeFault.{EnvelopeFault}
+use Rattle.fade_plan.specs.declared.fault.EnvelopeFault.TheVariants.{Line as BadLine, NoPoints, Memory as NoCurveMemory}
 use Rattle.commands.specs.declared.fault.EditFault.{EditFault}
 use Rattle.commands.specs.declared.fault.EditFault.TheVariants.{EqualNames, Input, Refused, Write, Sent as NotSent, Memory as OutOfMemory}
 use Rattle.commands.specs.declared.fault.Refusal.{Refusal}
-use Rattle.commands.specs.declared.fault.Refusal.TheVariants.{GainRange, Mono, Joint, TagTooLarge, BadTag, NoUndo, BadUndo, UndoRange, OutputTooLong, Range, Differ, SheetTooLarge, Sheet}
+use Rattle.commands.specs.declared.fault.Refusal.TheVariants.{GainRange, Mono, Joint, TagTooLarge, BadTag, NoUndo, BadUndo, UndoRange, OutputTooLong, Range, NoRate, Unfit, Differ, SheetTooLarge, Sheet, Curve, CurveNotRising}
 
 abbrev pub status_by : Why → ℕ
 status_by Rejected = 1
@@ -55,7 +57,14 @@ sheet_parts NoTracks = Text (codes ": no tracks\n") ∷ []
 -- nor of a cue sheet
 sheet_parts NoSheetMemory = []
 
--- those of a refusal, by the names of the inputs; a cue sheet is input 1
+-- those of a fault of the sheet of a fade, behind its name
+abbrev pub curve_parts : EnvelopeFault → List Part
+curve_parts (BadLine number) = Text (codes ": bad line ") ∷ Number number ∷ Text (codes "\n") ∷ []
+curve_parts NoPoints = Text (codes ": no points\n") ∷ []
+-- nor of this one
+curve_parts NoCurveMemory = []
+
+-- those of a refusal, by the names of the inputs; a sheet is input 1
 abbrev pub refusal_parts : Refusal → List (List ℕ) → List Part
 refusal_parts (GainRange offset granule channel gain) inputs =
     Text (codes "gain ") ∷ Number gain ∷ Text (codes " out of range at ") ∷ Number offset ∷ Text (codes ", granule ") ∷ Number granule
@@ -70,9 +79,13 @@ refusal_parts (UndoRange sum) inputs = Text (codes "undo sum ") ∷ Signed sum �
 refusal_parts (OutputTooLong length) inputs = Text (codes "output too long, ") ∷ Number length ∷ Text (codes " bytes\n") ∷ []
 refusal_parts (Range from to frames) inputs =
     Text (codes "range ") ∷ Number from ∷ Text (codes " to ") ∷ Number to ∷ Text (codes " of ") ∷ Number frames ∷ Text (codes " frames\n") ∷ []
+refusal_parts (NoRate rate) inputs = Text (codes "no rate ") ∷ Number rate ∷ Text (codes "\n") ∷ []
+refusal_parts (Unfit frame) inputs = Text (codes "frame ") ∷ Number frame ∷ Text (codes " does not fit\n") ∷ []
 refusal_parts (Differ place) inputs = Name (name_in inputs place) ∷ Text (codes ": other class than the first input\n") ∷ []
 refusal_parts (SheetTooLarge size) inputs = Name (name_in inputs 1) ∷ Text (codes ": sheet too large, ") ∷ Number size ∷ Text (codes " bytes\n") ∷ []
 refusal_parts (Sheet fault) inputs = Name (name_in inputs 1) ∷ sheet_parts fault
+refusal_parts (Curve fault) inputs = Name (name_in inputs 1) ∷ curve_parts fault
+refusal_parts (CurveNotRising number) inputs = Name (name_in inputs 1) ∷ Text (codes ": not rising at line ") ∷ Number number ∷ Text (codes "\n") ∷ []
 
 -- those of a fault, by the names of the inputs and of the outputs
 abbrev pub fault_parts : EditFault → List (List ℕ) → List (List ℕ) → List Part

@@ -1,7 +1,7 @@
 //! The statuses that the program ends with, and the texts and lines that it writes.
 ghost use Rattle.std.specs.Prelude.{◌≡◌, ◌∷◌, IfErr, map, flat_map};
 ghost use Rattle.mp3_cli.specs.Lines.{Name, part_of};
-ghost use Rattle.mp3_cli.specs.Texts.{status_of, input_parts as input_parts_lem, sheet_parts as sheet_parts_lem, refusal_parts as refusal_parts_lem, fault_parts as fault_parts_lem, fault_line, bad_word_line, help_text, version_text, GotLine};
+ghost use Rattle.mp3_cli.specs.Texts.{status_of, input_parts as input_parts_lem, sheet_parts as sheet_parts_lem, curve_parts as curve_parts_lem, refusal_parts as refusal_parts_lem, fault_parts as fault_parts_lem, fault_line, bad_word_line, help_text, version_text, GotLine};
 ghost use Rattle.mp3_cli.specs.Names.{name_in as name_in_lem, names_in};
 ghost use Rattle.mp3_cli.specs.Run.{said_command};
 ghost use Rattle.outside.specs.Files.{Files};
@@ -11,6 +11,7 @@ use crate::output_names::Outputs;
 use crate::parts::{Line, Part, line, send_line, send_text, text_line};
 use cue_sheet::CueFault;
 use edits::{EditFault, Refusal};
+use fade_plan::EnvelopeFault;
 use outside::{Failed, Sink};
 use sync_survey::SurveyFault;
 
@@ -225,6 +226,22 @@ fn sheet_parts<'a>(name: &'a str, fault: &CueFault) -> Line<'a>
     }
 }
 
+// The parts of the line of a fault of the sheet of a fade with this name.
+fn curve_parts<'a>(name: &'a str, fault: &EnvelopeFault) -> Line<'a>
+    ensures { map part_of result.items ≡ Name name.now ∷ curve_parts_lem fault.now }
+{
+    match *fault {
+        EnvelopeFault::Line(number) => line(&[
+            Part::Name(name),
+            Part::Text(": bad line "),
+            Part::Number(u64::from(number)),
+            Part::Text("\n"),
+        ]),
+        EnvelopeFault::NoPoints => line(&[Part::Name(name), Part::Text(": no points\n")]),
+        EnvelopeFault::Memory => line(&[Part::Name(name)]),
+    }
+}
+
 // The name at a place, counted from 0.
 fn name_in<'a>(names: &[&'a str], place: u32) -> &'a str
     ensures { result.now ≡ name_in_lem (map (λ name. name.now) names.now) place }
@@ -232,7 +249,7 @@ fn name_in<'a>(names: &[&'a str], place: u32) -> &'a str
     names.get(place as usize).copied().unwrap_or("")
 }
 
-/// The place of the cue sheet among the inputs.
+/// The place of a sheet among the inputs.
 const SHEET: u32 = 1;
 
 // The parts of the line of a refusal, by the names of the inputs.
@@ -293,6 +310,16 @@ fn refusal_parts<'a>(refusal: &Refusal, inputs: &[&'a str]) -> Line<'a>
             Part::Number(frames),
             Part::Text(" frames\n"),
         ]),
+        Refusal::NoRate(rate) => line(&[
+            Part::Text("no rate "),
+            Part::Number(u64::from(rate)),
+            Part::Text("\n"),
+        ]),
+        Refusal::Unfit(frame) => line(&[
+            Part::Text("frame "),
+            Part::Number(u64::from(frame)),
+            Part::Text(" does not fit\n"),
+        ]),
         Refusal::Differ(place) => line(&[
             Part::Name(name_in(inputs, place)),
             Part::Text(": other class than the first input\n"),
@@ -304,6 +331,13 @@ fn refusal_parts<'a>(refusal: &Refusal, inputs: &[&'a str]) -> Line<'a>
             Part::Text(" bytes\n"),
         ]),
         Refusal::Sheet(fault) => sheet_parts(name_in(inputs, SHEET), &fault),
+        Refusal::Curve(fault) => curve_parts(name_in(inputs, SHEET), &fault),
+        Refusal::CurveNotRising(number) => line(&[
+            Part::Name(name_in(inputs, SHEET)),
+            Part::Text(": not rising at line "),
+            Part::Number(u64::from(number)),
+            Part::Text("\n"),
+        ]),
     }
 }
 
@@ -329,7 +363,7 @@ fn fault_parts<'a>(fault: &EditFault, inputs: &[&'a str], outputs: Outputs<'a>) 
 /// It stops at the first write that fails, and such a failure is not answered.
 ///
 /// NAME is that of the input or, for Write, of the output whose place the fault has; for SheetTooLarge and the faults of a
-/// cue sheet, Line, NotRising and NoTracks, it is that of input 1. O is an offset, N a number of bytes or frames, L a line's
+/// sheet, Line, NotRising, NoTracks and NoPoints, it is that of input 1. O is an offset, N a number of bytes or frames, L a line's
 /// number from 1, and S a number of steps with `-` before it where it is negative.
 ///
 /// | fault | line |
@@ -359,11 +393,14 @@ fn fault_parts<'a>(fault: &EditFault, inputs: &[&'a str], outputs: Outputs<'a>) 
 /// | UndoRange(S) | `undo sum S is out of range` |
 /// | OutputTooLong(N) | `output too long, N bytes` |
 /// | Range(F, T, N) | `range F to T of N frames` |
+/// | NoRate(B) | `no rate B`, B in kbit/s |
+/// | Unfit(I) | `frame I does not fit`, I the number of a frame |
 /// | Differ | `NAME: other class than the first input` |
 /// | SheetTooLarge(N) | `NAME: sheet too large, N bytes` |
 /// | Line(L) | `NAME: bad line L` |
 /// | NotRising(L) | `NAME: not rising at line L` |
 /// | NoTracks | `NAME: no tracks` |
+/// | NoPoints | `NAME: no points` |
 /// | Write | `NAME: write fault` |
 /// | Sent | `standard output: write fault` |
 /// | Memory | `out of memory` |
