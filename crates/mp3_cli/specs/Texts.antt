@@ -9,8 +9,8 @@ use Rattle.sync_survey.specs.declared.survey_fault.SurveyFault.{SurveyFault}
 use Rattle.sync_survey.specs.declared.survey_fault.SurveyFault.TheVariants.{Absent, TooLong, NoFrame, LostSync, Truncated, FreeFormat, Mixed, CheckWord, BackPointer, Overlap, Overrun, TooManyFrames, Shrunk, Read, Memory}
 use Rattle.cue_sheet.specs.declared.cue_fault.CueFault.{CueFault}
 use Rattle.cue_sheet.specs.declared.cue_fault.CueFault.TheVariants.{Line, NotRising, NoTracks, Memory as NoSheetMemory}
-use Rattle.fade_plan.specs.declared.fault.EnvelopeFault.{EnvelopeFault}
-use Rattle.fade_plan.specs.declared.fault.EnvelopeFault.TheVariants.{Line as BadLine, NoPoints, Memory as NoCurveMemory}
+use Rattle.fade_plan.specs.declared.envelope_fault.EnvelopeFault.{EnvelopeFault}
+use Rattle.fade_plan.specs.declared.envelope_fault.EnvelopeFault.TheVariants.{Line as BadLine, NoPoints, Memory as NoCurveMemory}
 use Rattle.commands.specs.declared.fault.EditFault.{EditFault}
 use Rattle.commands.specs.declared.fault.EditFault.TheVariants.{EqualNames, Input, Refused, Write, Sent as NotSent, Memory as OutOfMemory}
 use Rattle.commands.specs.declared.fault.Refusal.{Refusal}
