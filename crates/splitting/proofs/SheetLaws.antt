@@ -1,21 +1,28 @@
 -- What the bytes of a sheet say.
-use Rattle.std.proofs.Common.{◌≡◌, ℕ, ◌<◌, ◌≤◌, cond, List, [], ◌∷◌, ◌++◌, length, Ok, Err, refl, sym, ◌∙◌, ap, subst, arith}
+use Rattle.std.proofs.Common.{◌≡◌, ℕ, ◌<◌, ◌≤◌, Bool, true, false, cond, List, [], ◌∷◌, ◌++◌, length, Result, Ok, Err, sym, ◌∙◌, ap, arith}
+use Rattle.std.specs.Prelude.{nat_lt}
 use Rattle.std.proofs.lemmas.Bool.{lt-ltb, le-ltb}
-use Rattle.outside.specs.Files.{Files}
-use Rattle.outside.specs.Counts.{Counts, Rose, NothingFailed}
-use Rattle.outside.specs.Exact.{HasReadCause}
-use Rattle.outside.specs.declared.exact.ReadFault.{ReadFault}
-use Rattle.outside.specs.declared.exact.ReadFault.TheVariants.{Failed, Shrunk as ShrunkRead}
-use Rattle.sync_survey.specs.Kinds.{of_read}
 use Rattle.cue_sheet.specs.declared.cue_fault.CueFault.{CueFault}
 use Rattle.cue_sheet.specs.declared.place.Place.{Place}
 use Rattle.cue_sheet.specs.declared.place.Place.TheVariants.{End}
 use Rattle.cue_sheet.specs.Cues.{cue_of}
-use Rattle.commands.specs.declared.fault.EditFault.TheVariants.{Input, Refused}
+use Rattle.commands.specs.declared.fault.EditFault.{EditFault}
+use Rattle.commands.specs.declared.fault.EditFault.TheVariants.{EqualNames, Input, Refused, Write, Sent, Memory}
+use Rattle.commands.specs.declared.fault.Refusal.{Refusal}
 use Rattle.commands.specs.declared.fault.Refusal.TheVariants.{SheetTooLarge, Sheet}
-use Rattle.commands.specs.Left.{seen}
-use Rattle.splitting.specs.Split.{longest_sheet, with_end, places_in}
-use Rattle.splitting.specs.Steps.{IsSheetFault, IsOfSheet}
+use Rattle.commands.specs.Left.{Why, Rejected, Missing, Unread, Shorter, Unwritten, Unsent, NoMemory, why_of, Seen}
+use Rattle.commands.specs.Sheet.{sheet_read, IsSheetFaultBy as IsUnreadBy, IsSheetFault as IsUnread, IsOfSheet as IsOfRead, sheet_refuses as read_refuses}
+use Rattle.splitting.specs.Split.{longest_sheet, with_end, places_in, sheet_refuses}
+use Rattle.splitting.specs.Steps.{IsSheetFaultBy, IsSheetFault, IsOfSheet}
+
+abbrev read_err : EditFault → Result (List ℕ) EditFault
+read_err fault = Err fault
+
+abbrev places_err : EditFault → Result (List Place) EditFault
+places_err fault = Err fault
+
+same_read : (f g : EditFault) → read_err f ≡ read_err g → f ≡ g
+same_read f g e = cc
 
 pub too-large : (bytes : List ℕ) (size : ℕ) → size ≡ length bytes → longest_sheet < size → places_in bytes ≡ Err (Refused (SheetTooLarge size))
 too-large bytes size is large =
@@ -31,17 +38,35 @@ sheet-starts bytes starts places most cue is = not-large bytes most ∙ ap with_
 pub sheet-fault : (bytes : List ℕ) (fault : CueFault) → length bytes ≤ longest_sheet → cue_of bytes ≡ Err fault → places_in bytes ≡ Err (Refused (Sheet fault))
 sheet-fault bytes fault most cue = not-large bytes most ∙ ap with_end cue
 
--- a sheet that was found, and whose bytes aren't read
-module _ (sheet : List ℕ) (files mid last : Files) (before between after : Counts) (size : ℕ) (found : mid ≡ files) (stays : last ≡ mid) (same : between ≡ before) where
-  pub read-fault : (fault : ReadFault) → HasReadCause size mid between after fault → IsSheetFault sheet (seen files before) (seen last after) (Input 1 (of_read fault))
-  read-fault Failed cause = record { rose = subst (λ k. Rose k.read_faults after.read_faults) same cause.0; files = stays ∙ found }
-  read-fault (ShrunkRead first second) cause = record {
-    rose = subst (λ k. Rose k.ends after.ends) same cause.3;
-    counts = subst (λ k. NothingFailed k after) same cause.4;
-    untold_before = sym found ∙ cause.0;
-    untold_after = stays ∙ cause.0;
-  }
+-- a sheet whose bytes aren't read says no places
+read-places : (bytes : List ℕ) (fault : EditFault) → sheet_read bytes ≡ Err fault → places_in bytes ≡ Err fault
+read-places bytes fault is = at (nat_lt longest_sheet (length bytes)) is
+  where
+    at : (b : Bool) → cond b (Err (Refused (SheetTooLarge (length bytes)))) (Ok bytes) ≡ Err fault → cond b (Err (Refused (SheetTooLarge (length bytes)))) (with_end (cue_of bytes)) ≡ Err fault
+    at true e = ap places_err (same_read (Refused (SheetTooLarge (length bytes))) fault e)
+    at false e = absurd cc
 
-  pub read-number : (fault : ReadFault) → HasReadCause size mid between after fault → IsOfSheet (Input 1 (of_read fault))
-  read-number Failed cause = (refl, (λ e. cc), tt)
-  read-number (ShrunkRead first second) cause = (refl, (λ e. cc), cause.2)
+module _ (name : List ℕ) (old new : Seen) (fault : EditFault) where
+  unread_by : (why : Why) → IsUnreadBy name old new fault why → IsSheetFaultBy name old new fault why
+  unread_by Rejected h = record { there = h.there; bytes = λ bytes holds. read-places bytes fault (h.bytes bytes holds); stays = h.stays }
+  unread_by Missing h = record { is = h.is; missing = h.missing; rose = h.rose; files = h.files }
+  unread_by Unread h = h
+  unread_by Shorter h = h
+  unread_by (Unwritten k) h = absurd h
+  unread_by Unsent h = absurd h
+  unread_by NoMemory h = h
+
+  pub unread-fault : IsUnread name old new fault → IsSheetFault name old new fault
+  unread-fault h = unread_by (why_of fault) h
+
+of_read : (refusal : Refusal) → read_refuses refusal ≡ true → sheet_refuses refusal ≡ true
+of_read (SheetTooLarge size) is = is
+of_read _ is = absurd cc
+
+pub unread-number : (fault : EditFault) → IsOfRead fault → IsOfSheet fault
+unread-number (EqualNames place) h = absurd h
+unread-number (Input place fault) h = h
+unread-number (Refused refusal) h = of_read refusal h
+unread-number (Write place) h = absurd h
+unread-number Sent h = absurd h
+unread-number Memory h = tt

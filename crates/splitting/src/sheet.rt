@@ -8,61 +8,10 @@ ghost use Rattle.commands.specs.Left.{seen};
 ghost use Rattle.splitting.specs.Split.{longest_sheet, places_in as places_in_lem, places_where};
 ghost use Rattle.splitting.specs.Steps.{IsSheetFault, IsOfSheet};
 
-use commands::{EditFault, Refusal};
+use commands::{EditFault, Refusal, sheet_bytes};
 use cue_sheet::{Cue, CueFault, Place};
-use outside::{FindFault, Folder, read_exact};
+use outside::Folder;
 use std::alloc::Global;
-use sync_survey::SurveyFault;
-
-/// A cue sheet may have so many bytes.
-const LONGEST_SHEET: u64 = 65_536;
-
-/// The number of the sheet among the inputs.
-const SHEET: u32 = 1;
-
-/// The length of the sheet in bytes.
-fn sheet_length<D: Folder>(folder: &mut D, sheet: &str) -> Result<u64, EditFault>
-    ensures there { OnOk result (IsThere (D.files folder.old) sheet.now) }
-    ensures length { IfOk result (λ n. (bytes : List ℕ) → Holds (D.files folder.old) sheet.now bytes
-        → n ≡ length bytes) }
-    ensures most { IfOk result (λ n. n ≤ longest_sheet) }
-    ensures refused { IfErr result (IsSheetFault sheet.now
-        (seen (D.files folder.old) (D.counts folder.old))
-        (seen (D.files folder.new) (D.counts folder.new))) }
-    ensures numbers { IfErr result IsOfSheet }
-    ensures done { OnOk result (D.counts folder.new ≡ D.counts folder.old) }
-    ensures files { D.files folder.new ≡ D.files folder.old }
-    ensures counts { OnlyReads (D.counts folder.old) (D.counts folder.new) }
-{
-    match folder.find(sheet) {
-        Ok(length) if length > LONGEST_SHEET => Err(Refusal::SheetTooLarge(length).into()),
-        Ok(length) => Ok(length),
-        Err(FindFault::Absent) => Err(EditFault::Input(SHEET, SurveyFault::Absent)),
-        Err(FindFault::Failed) => Err(EditFault::Input(SHEET, SurveyFault::Read)),
-    }
-}
-
-/// The bytes of the sheet.
-fn sheet_bytes<D: Folder>(alloc: Global, folder: &mut D, sheet: &str) -> Result<Vec<u8>, EditFault>
-    ensures there { OnOk result (IsThere (D.files folder.old) sheet.now) }
-    ensures most { IfOk result (λ read. length read.items ≤ longest_sheet) }
-    ensures bytes { IfOk result (λ read. (bytes : List ℕ)
-        → Holds (D.files folder.old) sheet.now bytes → read.items ≡ bytes) }
-    ensures refused { IfErr result (IsSheetFault sheet.now
-        (seen (D.files folder.old) (D.counts folder.old))
-        (seen (D.files folder.new) (D.counts folder.new))) }
-    ensures numbers { IfErr result IsOfSheet }
-    ensures done { OnOk result (D.counts folder.new ≡ D.counts folder.old) }
-    ensures files { D.files folder.new ≡ D.files folder.old }
-    ensures counts { OnlyReads (D.counts folder.old) (D.counts folder.new) }
-{
-    let length = sheet_length(folder, sheet)?;
-    let mut bytes = vec![in alloc; 0; length as usize]?;
-    match read_exact(folder, sheet, length, 0, bytes.as_mut_slice()) {
-        Ok(()) => Ok(bytes),
-        Err(fault) => Err(EditFault::Input(SHEET, fault.into())),
-    }
-}
 
 /// The starts that the bytes of a sheet say, and the end behind them.
 fn places_in(alloc: Global, bytes: &[u8]) -> Result<Vec<Place>, EditFault>
