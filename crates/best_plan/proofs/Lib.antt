@@ -3,3 +3,4 @@ pub mod SumLaws
 pub mod WalkLaws
 pub mod PlanLaws
 pub mod ShortestLaw
+pub mod BestOfLaws

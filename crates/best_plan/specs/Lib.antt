@@ -1,4 +1,5 @@
 pub mod Best
+pub mod BestOf
 pub mod Laws
 pub mod Rows
 pub mod Table

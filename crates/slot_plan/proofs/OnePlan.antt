@@ -16,7 +16,7 @@ use Rattle.slot_plan.proofs.AreaLaws.{Ascend, one-slot, lead-ascend}
 
 -- ---- the least list is one
 
-equal_lists : (xs ys : List ℕ) → IsNotBehind xs ys → IsNotBehind ys xs → xs ≡ ys
+pub equal_lists : (xs ys : List ℕ) → IsNotBehind xs ys → IsNotBehind ys xs → xs ≡ ys
 unfolding IsNotBehind
 equal_lists [] [] first second = refl
 equal_lists [] (n ∷ ns) first second = absurd second
@@ -51,7 +51,7 @@ placed_same p q lead slot begin =
     ∙ ap (λ s. record { lead_in = q.lead_in; slot = s; begin = p.begin }) slot
     ∙ ap (λ n. record { lead_in = q.lead_in; slot = q.slot; begin = n }) begin
 
-one_placed : (items : List Item) (a b : List Placed) → AreOrdered items → AreFor items a → AreFor items b → areas_in items a ≡ areas_in items b → map (λ p. p.begin) a ≡ map (λ p. p.begin) b → a ≡ b
+pub one_placed : (items : List Item) (a b : List Placed) → AreOrdered items → AreFor items a → AreFor items b → areas_in items a ≡ areas_in items b → map (λ p. p.begin) a ≡ map (λ p. p.begin) b → a ≡ b
 unfolding AreFor areas_in
 one_placed [] [] [] ordered first second areas begins = refl
 one_placed [] [] (q ∷ b) ordered first second areas begins = absurd second
