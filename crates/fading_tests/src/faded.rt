@@ -76,21 +76,21 @@ static FLAT: [Frame; 4] = [AT_100, AT_100, AT_100, AT_100];
 /// A sheet, and the frames of the faded file.
 struct Fade {
     sheet: &'static [u8],
-    faded: [Frame; 4],
+    faded: &'static [Frame],
 }
 
 static FADES: [Fade; 3] = [
     Fade {
         sheet: b"0 0\n3 -10\n",
-        faded: [AT_100, AT_97, AT_94, AT_90],
+        faded: &[AT_100, AT_97, AT_94, AT_90],
     },
     Fade {
         sheet: b"0 0\nEOF -4",
-        faded: [AT_100, AT_99, AT_98, AT_97],
+        faded: &[AT_100, AT_99, AT_98, AT_97],
     },
     Fade {
         sheet: b"\xef\xbb\xbf# two points\r\n\r\n1 -1\r\n2 -2\r\n",
-        faded: [AT_99, AT_99, AT_98, AT_98],
+        faded: &[AT_99, AT_99, AT_98, AT_98],
     },
 ];
 
@@ -118,7 +118,7 @@ fn expect_fade<R: Abort + AllocGlobal>(
     row: &Fade,
 ) -> Result<(), AllocError> {
     let file = file_of(rt.alloc(), &FLAT)?;
-    let wanted = file_of(rt.alloc(), &row.faded)?;
+    let wanted = file_of(rt.alloc(), row.faded)?;
     let answer = fade_and_back(rt.alloc(), folder, row, &file)?;
     assert_eq!(rt; answer, Ok(()));
     assert_eq!(rt; folder.get("out"), Some(wanted.as_slice()));
@@ -138,61 +138,81 @@ fn each_frame_moves_by_its_own_steps_and_back(rt: HostRuntime) -> Result<(), Fai
 /// The input, the output and the sheet of a command that is refused. `in` holds four frames, `s` the text,
 /// `long` 65,537 bytes, and nothing else is there.
 struct Refused {
-    names: [&'static str; 3],
+    input: &'static str,
+    output: &'static str,
+    sheet: &'static str,
     text: &'static [u8],
     fault: EditFault,
 }
 
-const NAMES: [&str; 3] = ["in", "out", "s"];
-
 static REFUSALS: [Refused; 10] = [
     Refused {
-        names: ["in", "in", "s"],
+        input: "in",
+        output: "in",
+        sheet: "s",
         text: b"",
         fault: EditFault::EqualNames(0),
     },
     Refused {
-        names: ["in", "s", "s"],
+        input: "in",
+        output: "s",
+        sheet: "s",
         text: b"",
         fault: EditFault::EqualNames(1),
     },
     Refused {
-        names: ["none", "out", "none"],
+        input: "none",
+        output: "out",
+        sheet: "none",
         text: b"",
         fault: EditFault::Input(0, SurveyFault::Absent),
     },
     Refused {
-        names: ["in", "out", "none"],
+        input: "in",
+        output: "out",
+        sheet: "none",
         text: b"",
         fault: EditFault::Input(1, SurveyFault::Absent),
     },
     Refused {
-        names: ["in", "out", "long"],
+        input: "in",
+        output: "out",
+        sheet: "long",
         text: b"",
         fault: EditFault::Refused(Refusal::SheetTooLarge(65_537)),
     },
     Refused {
-        names: NAMES,
+        input: "in",
+        output: "out",
+        sheet: "s",
         text: b"",
         fault: EditFault::Refused(Refusal::Curve(EnvelopeFault::NoPoints)),
     },
     Refused {
-        names: NAMES,
+        input: "in",
+        output: "out",
+        sheet: "s",
         text: b"1 5\n1 6\n3\n",
         fault: EditFault::Refused(Refusal::Curve(EnvelopeFault::Line(3))),
     },
     Refused {
-        names: NAMES,
+        input: "in",
+        output: "out",
+        sheet: "s",
         text: b"1 -101\n1 6\n",
         fault: EditFault::Refused(Refusal::CurveNotRising(2)),
     },
     Refused {
-        names: NAMES,
+        input: "in",
+        output: "out",
+        sheet: "s",
         text: b"0 -101\n",
         fault: EditFault::Refused(Refusal::GainRange(0, 0, 0, 100)),
     },
     Refused {
-        names: NAMES,
+        input: "in",
+        output: "out",
+        sheet: "s",
         text: b"1 155\n2 156\n",
         fault: EditFault::Refused(Refusal::GainRange(834, 0, 0, 100)),
     },
@@ -206,16 +226,24 @@ fn put_files(alloc: Global, folder: &mut MemFolder, text: &[u8]) -> Result<(), A
     folder.put("long", &long)
 }
 
+fn answer_of(
+    alloc: Global,
+    folder: &mut MemFolder,
+    row: &Refused,
+) -> Result<Result<(), EditFault>, AllocError> {
+    put_files(alloc, folder, row.text)?;
+    Ok(fade(alloc, folder, row.input, row.output, row.sheet, false))
+}
+
 fn expect_refusal<R: Abort + AllocGlobal>(
     rt: &R,
     folder: &mut MemFolder,
     row: &Refused,
 ) -> Result<(), AllocError> {
-    put_files(rt.alloc(), folder, row.text)?;
-    let [input, output, sheet] = row.names;
-    let answer = fade(rt.alloc(), folder, input, output, sheet, false);
-    assert_eq!(rt; answer, Err(row.fault));
-    assert_eq!(rt; folder.get("out"), None);
+    let answer = answer_of(rt.alloc(), folder, row)?;
+    let fault = row.fault;
+    assert_eq!(rt; answer, Err(fault));
+    assert!(rt; folder.get("out").is_none());
     Ok(())
 }
 
