@@ -4,8 +4,8 @@ use Rattle.commands.specs.Command.{Command}
 use Rattle.commands.specs.One.{Task, one_command}
 use Rattle.frame_edits.specs.declared.chosen.Slots.TheVariants.{Least as LeastSlots}
 use Rattle.frame_edits.specs.Chosen.{chosen_task, all_choice, pack_refuses}
-use Rattle.packing.specs.declared.mode.PackMode.{PackMode}
-use Rattle.packing.specs.declared.mode.PackMode.TheVariants.{Least, Constant, Floor}
+use Rattle.pack_mode.specs.declared.mode.PackMode.{PackMode}
+use Rattle.pack_mode.specs.declared.mode.PackMode.TheVariants.{Least, Constant, Floor}
 use Rattle.packing.specs.declared.mode.Rates.{Rates}
 use Rattle.packing.specs.declared.mode.Rates.TheVariants.{Only, From}
 use Rattle.packing.specs.Packing.{packed_task}

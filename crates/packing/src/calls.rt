@@ -7,10 +7,11 @@ ghost use Rattle.commands.specs.One.{one_command};
 ghost use Rattle.packing.specs.Modes.{rates_task, pack_mode_command};
 
 use crate::edit::RatesEdit;
-use crate::mode::{PackMode, Rates};
+use crate::mode::Rates;
 use commands::{EditFault, make_one};
 use frame_edits::pack;
 use outside::Folder;
+use pack_mode::PackMode;
 use std::alloc::Global;
 
 /// Packs with slots of some bit rates alone.

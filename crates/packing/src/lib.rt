@@ -11,4 +11,5 @@ mod plans;
 pub use calls::pack_with;
 pub use edit::{RatesEdit, Work};
 pub use laws::floors_fit;
-pub use mode::{PackMode, Rates};
+pub use mode::Rates;
+pub use pack_mode::PackMode;
