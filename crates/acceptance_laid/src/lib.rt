@@ -22,6 +22,8 @@ mod pieces;
 #[cfg(test)]
 mod places;
 #[cfg(test)]
+mod rates;
+#[cfg(test)]
 mod refusals;
 #[cfg(test)]
 mod sheets;

@@ -161,6 +161,46 @@ static SEVERAL: [Bad; 12] = [
     },
 ];
 
+/// Words of packings in a mode.
+static RATES: [Bad; 9] = [
+    Bad {
+        words: &["pack", "--constant"],
+        place: 3,
+    },
+    Bad {
+        words: &["pack", "--constant", "", "a", "b"],
+        place: 3,
+    },
+    Bad {
+        words: &["pack", "--constant", "1000", "a", "b"],
+        place: 3,
+    },
+    Bad {
+        words: &["pack", "--constant", "+96", "a", "b"],
+        place: 3,
+    },
+    Bad {
+        words: &["pack", "--constant", "96", "a"],
+        place: 5,
+    },
+    Bad {
+        words: &["pack", "--constant", "96", "--floor", "32", "a", "b"],
+        place: 4,
+    },
+    Bad {
+        words: &["pack", "--floor", "a", "b"],
+        place: 3,
+    },
+    Bad {
+        words: &["pack", "--floor", "32", "-a", "b"],
+        place: 4,
+    },
+    Bad {
+        words: &["pack", "--floor", "32", "a", "b", "c"],
+        place: 6,
+    },
+];
+
 /// Words of the other forms, and of none.
 static OTHERS: [Bad; 13] = [
     Bad {
@@ -235,6 +275,12 @@ fn gains(rt: HostRuntime) -> Result<(), Fail> {
 #[test]
 fn splits_and_joins(rt: HostRuntime) -> Result<(), Fail> {
     expect(&rt, &SEVERAL)?;
+    Ok(())
+}
+
+#[test]
+fn packings_in_a_mode(rt: HostRuntime) -> Result<(), Fail> {
+    expect(&rt, &RATES)?;
     Ok(())
 }
 

@@ -168,6 +168,20 @@ static LINES: [Line; 15] = [
     },
 ];
 
+/// Those of bit rates that frames are to have.
+static RATE_LINES: [Line; 2] = [
+    Line {
+        fault: EditFault::Refused(Refusal::NoRate(100)),
+        status: 1,
+        line: b"no rate 100\n",
+    },
+    Line {
+        fault: EditFault::Refused(Refusal::Unfit(2_899_999)),
+        status: 1,
+        line: b"frame 2899999 does not fit\n",
+    },
+];
+
 /// Those of commands with several files.
 static SEVERAL_LINES: [Line; 6] = [
     Line {
@@ -235,6 +249,14 @@ fn lines_of_inputs(rt: HostRuntime) -> Result<(), Fail> {
 #[test]
 fn lines(rt: HostRuntime) -> Result<(), Fail> {
     for case in &LINES {
+        expect_line(&rt, case)?;
+    }
+    Ok(())
+}
+
+#[test]
+fn lines_of_bit_rates(rt: HostRuntime) -> Result<(), Fail> {
+    for case in &RATE_LINES {
         expect_line(&rt, case)?;
     }
     Ok(())

@@ -20,6 +20,9 @@ const USAGE: &[u8] = b"usage: mp3edit COMMAND
                          FROM, TO: a frame's number from 0, a time (M.S or M.S.H) or EOF
                          --least: each frame with the least bit rate that has room for it
   pack IN OUT            write all frames of IN to OUT, each with the least bit rate that has room for it
+  pack --constant B IN OUT
+                         the same with the bit rate of B kbit/s alone, which may be too low for some frame
+  pack --floor B IN OUT  the same with bit rates of B kbit/s and more
   split IN PREFIX P1 P2 [P3 to P100]
                          write the frames of IN from P1 on and before P2 to PREFIX01.mp3, those from P2 on and
                          before P3 to PREFIX02.mp3, and so on; places as FROM and TO of cut

@@ -3,7 +3,7 @@
 use crate::reading::{join_words, owned, split_words};
 use arrayvec::ArrayVec;
 use cue_sheet::Place;
-use edits::{Channels, Shift};
+use edits::{Channels, PackMode, Shift};
 use mp3_cli::{Job, job};
 use std::alloc::{AllocError, AllocGlobal};
 use std::process::Abort;
@@ -173,10 +173,50 @@ fn an_undo(rt: HostRuntime) -> Result<(), Fail> {
 fn files_to_list_and_pack(rt: HostRuntime) -> Result<(), Fail> {
     expect(&rt, &["list", "a"], Job::List { input: "a" })?;
     let pack = Job::Pack {
+        mode: PackMode::Least,
         input: "a",
         output: "b",
     };
     expect(&rt, &["pack", "a", "b"], pack)?;
+    Ok(())
+}
+
+/// The words of a packing with bit rates, and its mode.
+struct RateWords {
+    words: &'static [&'static str],
+    mode: PackMode,
+}
+
+/// Any number of one to three digits is a word for a bit rate.
+static RATES: [RateWords; 4] = [
+    RateWords {
+        words: &["pack", "--constant", "96", "a", "b"],
+        mode: PackMode::Constant(96),
+    },
+    RateWords {
+        words: &["pack", "--constant", "0", "a", "b"],
+        mode: PackMode::Constant(0),
+    },
+    RateWords {
+        words: &["pack", "--floor", "008", "a", "b"],
+        mode: PackMode::Floor(8),
+    },
+    RateWords {
+        words: &["pack", "--floor", "999", "a", "b"],
+        mode: PackMode::Floor(999),
+    },
+];
+
+#[test]
+fn packings_in_a_mode(rt: HostRuntime) -> Result<(), Fail> {
+    for case in &RATES {
+        let wanted = Job::Pack {
+            mode: case.mode,
+            input: "a",
+            output: "b",
+        };
+        expect(&rt, case.words, wanted)?;
+    }
     Ok(())
 }
 

@@ -13,8 +13,8 @@ use Rattle.cue_sheet.specs.declared.place.Place.TheVariants.{Frame, End}
 use Rattle.cue_sheet.specs.Digits.{number_in}
 use Rattle.cue_sheet.specs.Places.{is_dot, frame_number, time_in, seconds_in, hundredths_in, time_of, place_of, IsPlace}
 use Rattle.job_words.specs.declared.flags.Flag.{Flag}
-use Rattle.job_words.specs.Kinds.{Kind, Fixed, Name, Steps, Channel, Place, Said, Itself, NameSaid, StepsSaid, ChannelSaid, PlaceSaid, is_name, step_count, steps_of, channel_of, said, said_first, fits_kind, steps_said, place_said, name_at, said_at, values_of}
-use Rattle.job_words.specs.Forms.{Form, Shape, forms, help, short_help, version, list_form, gain_form, channel_form, undo_form, cut_form, pack_form, split_form, sheet_form, join_form, kinds_behind, front_of, reads_of, asked_of}
+use Rattle.job_words.specs.Kinds.{Kind, Fixed, Name, Steps, Channel, Place, Rate, Said, Itself, NameSaid, StepsSaid, ChannelSaid, PlaceSaid, RateSaid, is_name, step_count, steps_of, channel_of, rate_in, said, said_first, fits_kind, steps_said, place_said, name_at, said_at, values_of}
+use Rattle.job_words.specs.Forms.{Form, Shape, forms, help, short_help, version, list_form, gain_form, channel_form, undo_form, cut_form, pack_form, constant_form, floor_form, split_form, sheet_form, join_form, kinds_behind, front_of, reads_of, asked_of}
 use Rattle.job_words.specs.Words.{have_kinds, kinds_in, IsName, IsStepCount, IsSound}
 use Rattle.job_words.proofs.Lists.{rest_agrees}
 
@@ -100,6 +100,7 @@ said_in_range Name word = elim (is_name word) as (λ b. IfSome (cond b (Some (Na
 said_in_range Steps word = steps_said_in_range (steps_of word) (steps_in_range word)
 said_in_range Channel word = elim (channel_of word) as (λ o. IfSome (option_map ChannelSaid o) IsInRange) [ Some channel ↦ record { steps = no_steps; place = tt } | None ↦ tt ]
 said_in_range Place word = place_said_in_range (place_of word) (place_in_range word)
+said_in_range Rate word = elim (rate_in word) as (λ o. IfSome (option_map RateSaid o) IsInRange) [ Some rate ↦ record { steps = no_steps; place = tt } | None ↦ tt ]
 
 values_in_range : (kinds : List Kind) (words : List (List ℕ)) → All IsInRange (values_of kinds words)
 values_in_range [] words = All-nil IsInRange
@@ -207,6 +208,12 @@ cut_is_sound given words h =
 pack_is_sound : AreSoundOf pack_form pack_form.kinds
 pack_is_sound given words h = (name_there pack_form.kinds words 0 h (omega arith) refl, name_there pack_form.kinds words 1 h (omega arith) refl)
 
+constant_is_sound : AreSoundOf constant_form constant_form.kinds
+constant_is_sound given words h = (name_there constant_form.kinds words 2 h (omega arith) refl, name_there constant_form.kinds words 3 h (omega arith) refl)
+
+floor_is_sound : AreSoundOf floor_form floor_form.kinds
+floor_is_sound given words h = (name_there floor_form.kinds words 2 h (omega arith) refl, name_there floor_form.kinds words 3 h (omega arith) refl)
+
 sheet_is_sound : AreSoundOf sheet_form sheet_form.kinds
 sheet_is_sound given words h =
     (name_there sheet_form.kinds words 0 h (omega arith) refl, name_there sheet_form.kinds words 1 h (omega arith) refl, name_there sheet_form.kinds words 3 h (omega arith) refl)
@@ -271,12 +278,18 @@ forms_are_sound =
                     (
                       once pack_form refl pack_is_sound,
                       (
-                        split_is_sound,
+                        once constant_form refl constant_is_sound,
                         (
-                          once sheet_form refl sheet_is_sound,
+                          once floor_form refl floor_is_sound,
                           (
-                            join_is_sound,
-                            tt,
+                            split_is_sound,
+                            (
+                              once sheet_form refl sheet_is_sound,
+                              (
+                                join_is_sound,
+                                tt,
+                              ),
+                            ),
                           ),
                         ),
                       ),

@@ -2,6 +2,7 @@
 use Rattle.std.specs.Prelude.{ℕ, Bool, List}
 use Rattle.cue_sheet.specs.declared.place.Place.{Place}
 use Rattle.moved_gains.specs.declared.shift.Shift.{Shift}
+use Rattle.pack_mode.specs.declared.mode.PackMode.{PackMode}
 
 pub data Asked : Type 0 where
   Help : Asked
@@ -14,8 +15,8 @@ pub data Asked : Type 0 where
   Undo : List ℕ → List ℕ → Asked
   -- the place of the first frame and that of the first behind them, whether each has the least slot, the names of the input and of the output
   Cut : Place → Place → Bool → List ℕ → List ℕ → Asked
-  -- the names of the input and of the output
-  Pack : List ℕ → List ℕ → Asked
+  -- which bit rates are allowed, the names of the input and of the output
+  Pack : PackMode → List ℕ → List ℕ → Asked
   -- the name of the input, what the names of the outputs begin with, and the places
   SplitAt : List ℕ → List ℕ → List Place → Asked
   -- the name of the input, what the names of the outputs begin with, and the name of the cue sheet

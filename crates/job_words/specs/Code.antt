@@ -7,7 +7,7 @@ use Rattle.job_words.specs.declared.kinds.Value.TheVariants as value
 use Rattle.job_words.specs.declared.forms.Form.{Form as CodeForm}
 use Rattle.job_words.specs.declared.jobs.Job.{Job}
 use Rattle.job_words.specs.declared.jobs.Job.TheVariants as job
-use Rattle.job_words.specs.Kinds.{Kind, Fixed, Name, Steps, Channel, Place, Said, Itself, NameSaid, StepsSaid, ChannelSaid, PlaceSaid}
+use Rattle.job_words.specs.Kinds.{Kind, Fixed, Name, Steps, Channel, Place, Rate, Said, Itself, NameSaid, StepsSaid, ChannelSaid, PlaceSaid, RateSaid}
 use Rattle.job_words.specs.Forms.{Form}
 use Rattle.job_words.specs.Asked.{Asked, Help, Version, ListFile, Gain, Undo, Cut, Pack, SplitAt, SplitBy, Join}
 
@@ -17,6 +17,7 @@ word_kind code.Name = Name
 word_kind code.Steps = Steps
 word_kind code.Channel = Channel
 word_kind code.Place = Place
+word_kind code.Rate = Rate
 
 abbrev pub value_said : Value → Said
 value_said value.Fixed = Itself
@@ -24,6 +25,7 @@ value_said (value.Name name) = NameSaid name.now
 value_said (value.Steps steps) = StepsSaid steps
 value_said (value.Channel channel) = ChannelSaid channel
 value_said (value.Place place) = PlaceSaid place
+value_said (value.Rate rate) = RateSaid rate
 
 abbrev pub form_given : CodeForm → Form
 form_given form = record { command = form.command.now; flags = form.flags.now; kinds = map word_kind form.kinds.now; more = form.more; asks = form.asks }
@@ -35,7 +37,7 @@ asked (job.List input) = ListFile input.now
 asked (job.Gain shift tags input output) = Gain shift tags input.now output.now
 asked (job.Undo input output) = Undo input.now output.now
 asked (job.Cut from to least input output) = Cut from to least input.now output.now
-asked (job.Pack input output) = Pack input.now output.now
+asked (job.Pack mode input output) = Pack mode input.now output.now
 asked (job.SplitAt input prefix places) = SplitAt input.now prefix.now places.items
 asked (job.SplitBy input prefix sheet) = SplitBy input.now prefix.now sheet.now
 asked (job.Join output inputs) = Join output.now (map string_bytes inputs.now)

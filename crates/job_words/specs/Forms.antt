@@ -3,11 +3,13 @@ use Rattle.std.specs.Prelude.{◌≡◌, ◌≤◌, ℕ, ◌+◌, ◌-◌, min, 
 use Rattle.std.specs.List.{flat_map, list_all}
 use Rattle.moved_gains.specs.declared.shift.Channels.{Channels}
 use Rattle.moved_gains.specs.declared.shift.Channels.TheVariants.{Both}
+use Rattle.pack_mode.specs.declared.mode.PackMode.{PackMode}
+use Rattle.pack_mode.specs.declared.mode.PackMode.TheVariants.{Least as LeastMode, Constant, Floor}
 use Rattle.job_words.specs.declared.flags.Flag.{Flag}
 use Rattle.job_words.specs.declared.flags.Flag.TheVariants.{Tagless, Wrapping, Least}
 use Rattle.job_words.specs.declared.forms.Asks.{Asks}
 use Rattle.job_words.specs.declared.forms.Asks.TheVariants as asks
-use Rattle.job_words.specs.Kinds.{Kind, Fixed, Name, Steps, Channel, Place, Said, fits_kind, name_at, said_at, steps_said, channels_said, place_said, values_of}
+use Rattle.job_words.specs.Kinds.{Kind, Fixed, Name, Steps, Channel, Place, Rate, Said, fits_kind, name_at, said_at, steps_said, channels_said, place_said, rate_said, values_of}
 use Rattle.job_words.specs.Flags.{given_kinds, first_word, is_given, orders}
 use Rattle.job_words.specs.Asked.{Asked, Help, Version, ListFile, Gain, Undo, Cut, Pack, SplitAt, SplitBy, Join}
 
@@ -56,6 +58,14 @@ cut_form = record { command = codes "cut"; flags = Least ∷ []; kinds = Name �
 abbrev pub pack_form : Form
 pack_form = record { command = codes "pack"; flags = []; kinds = Name ∷ Name ∷ []; more = 0; asks = asks.Pack }
 
+-- `pack --constant B IN OUT`
+abbrev pub constant_form : Form
+constant_form = record { command = codes "pack"; flags = []; kinds = Fixed (codes "--constant") ∷ Rate ∷ Name ∷ Name ∷ []; more = 0; asks = asks.ConstantPack }
+
+-- `pack --floor B IN OUT`
+abbrev pub floor_form : Form
+floor_form = record { command = codes "pack"; flags = []; kinds = Fixed (codes "--floor") ∷ Rate ∷ Name ∷ Name ∷ []; more = 0; asks = asks.FloorPack }
+
 -- `split IN PREFIX P1 P2 [P3 to P100]`
 abbrev pub split_form : Form
 split_form = record { command = codes "split"; flags = []; kinds = Name ∷ Name ∷ Place ∷ Place ∷ []; more = 98; asks = asks.SplitAt }
@@ -71,8 +81,8 @@ join_form = record { command = codes "join"; flags = []; kinds = Name ∷ Name �
 -- all of them
 abbrev pub forms : List Form
 forms =
-    help ∷ short_help ∷ version ∷ list_form ∷ gain_form ∷ channel_form ∷ undo_form ∷ cut_form ∷ pack_form ∷ split_form ∷ sheet_form
-    ∷ join_form ∷ []
+    help ∷ short_help ∷ version ∷ list_form ∷ gain_form ∷ channel_form ∷ undo_form ∷ cut_form ∷ pack_form ∷ constant_form ∷ floor_form
+    ∷ split_form ∷ sheet_form ∷ join_form ∷ []
 
 -- ---- the kinds of a form's words
 
@@ -119,6 +129,10 @@ gain_asked channels given values place =
     Gain (record { channels = channels; steps = steps_said (said_at values place); wrap = is_given given Wrapping })
     (not (is_given given Tagless)) (name_at values (place + 1)) (name_at values (place + 2))
 
+-- a packing in this mode, of the files that stand from this place on
+abbrev pub pack_asked : PackMode → List Said → ℕ → Asked
+pack_asked mode values place = Pack mode (name_at values place) (name_at values (place + 1))
+
 -- by the flags that are given, by what the words behind them say, and by these words themselves
 abbrev pub reads_of : Asks → List Flag → List Said → List (List ℕ) → Asked
 reads_of asks.Help given values words = Help
@@ -129,7 +143,9 @@ reads_of asks.ChannelGain given values words = gain_asked (channels_said (said_a
 reads_of asks.Undo given values words = Undo (name_at values 1) (name_at values 2)
 reads_of asks.Cut given values words =
     Cut (place_said (said_at values 1)) (place_said (said_at values 2)) (is_given given Least) (name_at values 0) (name_at values 3)
-reads_of asks.Pack given values words = Pack (name_at values 0) (name_at values 1)
+reads_of asks.Pack given values words = pack_asked LeastMode values 0
+reads_of asks.ConstantPack given values words = pack_asked (Constant (rate_said (said_at values 1))) values 2
+reads_of asks.FloorPack given values words = pack_asked (Floor (rate_said (said_at values 1))) values 2
 reads_of asks.SplitAt given values words = SplitAt (name_at values 0) (name_at values 1) (map place_said (drop 2 values))
 reads_of asks.SplitBy given values words = SplitBy (name_at values 0) (name_at values 1) (name_at values 3)
 reads_of asks.Join given values words = Join (name_at values 0) (drop 1 words)

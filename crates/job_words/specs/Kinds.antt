@@ -4,6 +4,7 @@ use Rattle.std.specs.Str.{all_ascii_digits}
 use Rattle.std.specs.Str.Parse.{digits_value}
 use Rattle.cue_sheet.specs.declared.place.Place.{Place as StreamPlace}
 use Rattle.cue_sheet.specs.declared.place.Place.TheVariants.{End}
+use Rattle.cue_sheet.specs.Digits.{number_in}
 use Rattle.cue_sheet.specs.Places.{place_of}
 use Rattle.moved_gains.specs.declared.shift.Channels.{Channels}
 use Rattle.moved_gains.specs.declared.shift.Channels.TheVariants.{Both, Left, Right}
@@ -20,6 +21,8 @@ pub data Kind : Type 0 where
   Channel : Kind
   -- a place in a stream
   Place : Kind
+  -- a bit rate
+  Rate : Kind
 
 -- a name isn't empty, and doesn't begin with `-`
 abbrev pub is_name : List ℕ → Bool
@@ -43,6 +46,10 @@ steps_of (first ∷ rest) =
 abbrev pub channel_of : List ℕ → Option Channels
 channel_of word = if bytes_eq word (codes "0") then Some Left else if bytes_eq word (codes "1") then Some Right else None
 
+-- one to three digits
+abbrev pub rate_in : List ℕ → Option ℕ
+rate_in digits = number_in 1 3 999 digits
+
 -- what a word says
 pub data Said : Type 0 where
   -- nothing but itself
@@ -55,6 +62,8 @@ pub data Said : Type 0 where
   ChannelSaid : Channels → Said
   -- a place in a stream
   PlaceSaid : StreamPlace → Said
+  -- a bit rate in kbit/s
+  RateSaid : ℕ → Said
 
 -- what a word of the kind says; none for a word that isn't of the kind
 abbrev pub said : Kind → List ℕ → Option Said
@@ -63,6 +72,7 @@ said Name word = if is_name word then Some (NameSaid word) else None
 said Steps word = option_map StepsSaid (steps_of word)
 said Channel word = option_map ChannelSaid (channel_of word)
 said Place word = option_map PlaceSaid (place_of word)
+said Rate word = option_map RateSaid (rate_in word)
 
 -- the word is of the kind
 abbrev pub fits_kind : Kind → List ℕ → Bool
@@ -83,6 +93,10 @@ channels_said _ = Both
 abbrev pub place_said : Said → StreamPlace
 place_said (PlaceSaid place) = place
 place_said _ = End
+
+abbrev pub rate_said : Said → ℕ
+rate_said (RateSaid rate) = rate
+rate_said _ = 0
 
 -- one value before those that follow it, where there is one
 abbrev pub said_first : Option Said → List Said → List Said

@@ -2,7 +2,7 @@
 ghost use Rattle.std.specs.Prelude.{◌≡◌, ◌≤◌, ◌+◌, ◌++◌, length, map, replicate, string_bytes, IfErr};
 ghost use Rattle.job_words.specs.Kinds.{said_at, name_at as name_at_lem, place_said, values_of};
 ghost use Rattle.job_words.specs.Flags.{flag_kinds};
-ghost use Rattle.job_words.specs.Forms.{shape_with, shapes_of, last_kind, kinds_behind, kinds_for, front_kinds as front_kinds_lem, gain_asked, reads_of, IsReadable};
+ghost use Rattle.job_words.specs.Forms.{shape_with, shapes_of, last_kind, kinds_behind, kinds_for, front_kinds as front_kinds_lem, gain_asked, pack_asked, reads_of, IsReadable};
 ghost use Rattle.job_words.specs.Words.{reading};
 ghost use Rattle.job_words.specs.Code.{word_kind, value_said, form_given, asked, answer};
 
@@ -12,6 +12,7 @@ use crate::kinds::{Value, WordKind};
 use arrayvec::ArrayVec;
 use cue_sheet::Place;
 use moved_gains::{Channels, Shift};
+use pack_mode::PackMode;
 
 /// What words of a form ask for.
 #[derive(Clone, Copy)]
@@ -24,6 +25,8 @@ pub(crate) enum Asks {
     Undo,
     Cut,
     Pack,
+    ConstantPack,
+    FloorPack,
     SplitAt,
     SplitBy,
     Join,
@@ -38,8 +41,8 @@ pub(crate) struct Form {
     pub(crate) asks: Asks,
 }
 
-/// The forms. C is a channel, N a number of steps, P1 to P100, FROM and TO are places; all others are names.
-pub(crate) static FORMS: [Form; 12] = [
+/// The forms. C is a channel, N a number of steps, B a bit rate, P1 to P100, FROM and TO are places; all others are names.
+pub(crate) static FORMS: [Form; 14] = [
     // `--help`
     Form {
         command: "--help",
@@ -127,6 +130,32 @@ pub(crate) static FORMS: [Form; 12] = [
         kinds: &[WordKind::Name, WordKind::Name],
         more: 0,
         asks: Asks::Pack,
+    },
+    // `pack --constant B IN OUT`
+    Form {
+        command: "pack",
+        flags: &[],
+        kinds: &[
+            WordKind::Fixed("--constant"),
+            WordKind::Rate,
+            WordKind::Name,
+            WordKind::Name,
+        ],
+        more: 0,
+        asks: Asks::ConstantPack,
+    },
+    // `pack --floor B IN OUT`
+    Form {
+        command: "pack",
+        flags: &[],
+        kinds: &[
+            WordKind::Fixed("--floor"),
+            WordKind::Rate,
+            WordKind::Name,
+            WordKind::Name,
+        ],
+        more: 0,
+        asks: Asks::FloorPack,
     },
     // `split IN PREFIX P1 P2 [P3 to P100]`
     Form {
@@ -216,6 +245,18 @@ fn gain<'a>(channels: Channels, given: &[Flag], values: &[Value<'a>], place: usi
     }
 }
 
+// A packing in this mode of the files that stand from a place on, counted from 0.
+fn pack<'a>(mode: PackMode, values: &[Value<'a>], place: usize) -> Job<'a>
+    requires { place ≤ 2 }
+    ensures { asked result ≡ pack_asked mode (map value_said values.now) place }
+{
+    Job::Pack {
+        mode,
+        input: name_at(values, place),
+        output: name_at(values, place + 1),
+    }
+}
+
 impl Asks {
     /// What is asked for by these flags, by what the words behind them say, and by these words themselves.
     pub(crate) fn job<'a>(
@@ -247,10 +288,9 @@ impl Asks {
                 input: name_at(values, 0),
                 output: name_at(values, 3),
             },
-            Asks::Pack => Job::Pack {
-                input: name_at(values, 0),
-                output: name_at(values, 1),
-            },
+            Asks::Pack => pack(PackMode::Least, values, 0),
+            Asks::ConstantPack => pack(PackMode::Constant(value_at(values, 1).rate()), values, 2),
+            Asks::FloorPack => pack(PackMode::Floor(value_at(values, 1).rate()), values, 2),
             Asks::SplitAt => Job::SplitAt {
                 input: name_at(values, 0),
                 prefix: name_at(values, 1),

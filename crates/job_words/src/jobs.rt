@@ -3,6 +3,7 @@
 use arrayvec::ArrayVec;
 use cue_sheet::Place;
 use moved_gains::Shift;
+use pack_mode::PackMode;
 
 /// What a list of words asks for. Names are the words themselves.
 #[derive(Debug, PartialEq, Eq, Drop)]
@@ -47,8 +48,11 @@ pub enum Job<'a> {
         /// The name of the file to write.
         output: &'a str,
     },
-    /// Write all frames of the file `input` to `output`, each with the least bit rate and padding with room for it.
+    /// Write all frames of the file `input` to `output`, each with the least bit rate and padding that the mode allows and that
+    /// has room for it.
     Pack {
+        /// Which bit rates are allowed. A rate is as the word says it, 0 to 999.
+        mode: PackMode,
         /// The name of the file to read.
         input: &'a str,
         /// The name of the file to write.

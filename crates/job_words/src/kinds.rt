@@ -1,9 +1,10 @@
 //! What a single word can be, and what it says.
 ghost use Rattle.std.specs.Prelude.{◌≡◌, option_map, pos};
-ghost use Rattle.job_words.specs.Kinds.{is_name, step_count, steps_of, channel_of, said, name_said, steps_said, channels_said, place_said};
+ghost use Rattle.job_words.specs.Kinds.{is_name, step_count, steps_of, channel_of, rate_in, said, name_said, steps_said, channels_said, place_said, rate_said};
 ghost use Rattle.job_words.specs.Code.{word_kind, value_said};
 
 use cue_sheet::Place;
+use cue_sheet::digits::read_number;
 use moved_gains::Channels;
 
 /// What a word of a form is.
@@ -19,6 +20,8 @@ pub(crate) enum WordKind {
     Channel,
     /// A place in a stream.
     Place,
+    /// A bit rate.
+    Rate,
 }
 
 impl Default for WordKind {
@@ -41,6 +44,8 @@ pub(crate) enum Value<'a> {
     Channel(Channels),
     /// This place.
     Place(Place),
+    /// This bit rate in kbit/s, 0 to 999.
+    Rate(u16),
 }
 
 impl Default for Value<'_> {
@@ -96,6 +101,13 @@ fn read_channel(word: &str) -> Option<Channels>
     }
 }
 
+// One to three digits.
+fn read_rate(word: &str) -> Option<u16>
+    ensures { result ≡ rate_in word.now }
+{
+    read_number(word.as_bytes(), 1, 3, 999).map(|rate| rate as u16)
+}
+
 impl WordKind {
     /// What a word of this kind says. `None` for a word that isn't of the kind.
     pub(crate) fn read<'a>(&self, word: &'a str) -> Option<Value<'a>>
@@ -107,6 +119,7 @@ impl WordKind {
             WordKind::Steps => Some(Value::Steps(read_steps(word)?)),
             WordKind::Channel => Some(Value::Channel(read_channel(word)?)),
             WordKind::Place => Some(Value::Place(Place::read(word)?)),
+            WordKind::Rate => Some(Value::Rate(read_rate(word)?)),
             _ => None,
         }
     }
@@ -150,6 +163,16 @@ impl<'a> Value<'a> {
         match self {
             Value::Place(place) => place,
             _ => Place::End,
+        }
+    }
+
+    /// The bit rate; 0 for any other value.
+    pub(crate) fn rate(self) -> u16
+        ensures { result ≡ rate_said (value_said self.entry) }
+    {
+        match self {
+            Value::Rate(rate) => rate,
+            _ => 0,
         }
     }
 }

@@ -8,7 +8,8 @@ use Rattle.commands.specs.Left.{Seen, IsDone, Leaves, HasNumbers}
 use Rattle.commands.specs.Said.{Heard, Says}
 use Rattle.gain_edits.specs.Gain.{gain_command}
 use Rattle.gain_edits.specs.Undo.{undo_command}
-use Rattle.frame_edits.specs.Chosen.{cut_command, pack_command}
+use Rattle.frame_edits.specs.Chosen.{cut_command}
+use Rattle.packing.specs.Modes.{pack_mode_command}
 use Rattle.listing.specs.Listing.{list_command}
 use Rattle.splitting.specs.Split.{split_at_command, split_by_command}
 use Rattle.joining.specs.Join.{join_command}
@@ -36,7 +37,7 @@ command_of (ListFile input) = list_command input
 command_of (Gain shift tags input output) = gain_command shift tags input output
 command_of (Undo input output) = undo_command input output
 command_of (Cut from to least input output) = cut_command from to least input output
-command_of (Pack input output) = pack_command input output
+command_of (Pack mode input output) = pack_mode_command mode input output
 command_of (SplitAt input prefix places) = split_at_command places input prefix
 command_of (SplitBy input prefix sheet) = split_by_command input sheet prefix
 command_of (Join output inputs) = join_command output inputs

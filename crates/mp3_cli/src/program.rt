@@ -14,7 +14,7 @@ ghost use Rattle.mp3_cli.specs.Run.{command_of, always_of, fault_status, result_
 use crate::output_names::Outputs;
 use crate::texts::{say_help, say_version, send_bad_word, send_fault, status};
 use arrayvec::ArrayVec;
-use edits::{EditFault, Points, cut, gain, join, list, pack, split, undo};
+use edits::{EditFault, Points, cut, gain, join, list, pack_with, split, undo};
 use job_words::{Job, job};
 use outside::{Folder, Sink};
 use std::alloc::Global;
@@ -106,8 +106,12 @@ fn run_job<D: Folder, T: Sink, E: Sink>(
             let done = cut(alloc, folder, input, &from, &to, least, output);
             report(err, done, &[input], &Outputs::One(output))
         }
-        Job::Pack { input, output } => {
-            let done = pack(alloc, folder, input, output);
+        Job::Pack {
+            mode,
+            input,
+            output,
+        } => {
+            let done = pack_with(alloc, folder, input, output, &mode);
             report(err, done, &[input], &Outputs::One(output))
         }
         Job::SplitAt {

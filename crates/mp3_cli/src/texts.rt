@@ -40,7 +40,7 @@ pub fn status(fault: &EditFault) -> u8
 }
 
 /// What the program does, form by form, and the statuses.
-static HELP: [&str; 24] = [
+static HELP: [&str; 27] = [
     "usage: mp3edit COMMAND\n",
     "  list IN                say what stands in the MP3 file IN: tags, junk, head and frames\n",
     "  gain [-s s] [-w] -g N IN OUT\n",
@@ -55,6 +55,9 @@ static HELP: [&str; 24] = [
     "                         FROM, TO: a frame's number from 0, a time (M.S or M.S.H) or EOF\n",
     "                         --least: each frame with the least bit rate that has room for it\n",
     "  pack IN OUT            write all frames of IN to OUT, each with the least bit rate that has room for it\n",
+    "  pack --constant B IN OUT\n",
+    "                         the same with the bit rate of B kbit/s alone, which may be too low for some frame\n",
+    "  pack --floor B IN OUT  the same with bit rates of B kbit/s and more\n",
     "  split IN PREFIX P1 P2 [P3 to P100]\n",
     "                         write the frames of IN from P1 on and before P2 to PREFIX01.mp3, those from P2 on and\n",
     "                         before P3 to PREFIX02.mp3, and so on; places as FROM and TO of cut\n",
@@ -364,7 +367,8 @@ fn fault_parts<'a>(fault: &EditFault, inputs: &[&'a str], outputs: Outputs<'a>) 
 ///
 /// NAME is that of the input or, for Write, of the output whose place the fault has; for SheetTooLarge and the faults of a
 /// sheet, Line, NotRising, NoTracks and NoPoints, it is that of input 1. O is an offset, N a number of bytes or frames, L a line's
-/// number from 1, and S a number of steps with `-` before it where it is negative.
+/// number from 1, S a number of steps with `-` before it where it is negative, B a bit rate in kbit/s as it was asked for, and I
+/// the number of a frame from 0.
 ///
 /// | fault | line |
 /// |---|---|
@@ -393,8 +397,8 @@ fn fault_parts<'a>(fault: &EditFault, inputs: &[&'a str], outputs: Outputs<'a>) 
 /// | UndoRange(S) | `undo sum S is out of range` |
 /// | OutputTooLong(N) | `output too long, N bytes` |
 /// | Range(F, T, N) | `range F to T of N frames` |
-/// | NoRate(B) | `no rate B`, B in kbit/s |
-/// | Unfit(I) | `frame I does not fit`, I the number of a frame |
+/// | NoRate(B) | `no rate B` |
+/// | Unfit(I) | `frame I does not fit` |
 /// | Differ | `NAME: other class than the first input` |
 /// | SheetTooLarge(N) | `NAME: sheet too large, N bytes` |
 /// | Line(L) | `NAME: bad line L` |

@@ -1,10 +1,13 @@
 -- The answers of texts that are said, and of commands without a text.
-use Rattle.std.proofs.Common.{◌≢◌, ℕ, List, [], ◌∷◌, map, string_bytes, Some, Bor, ap, subst, ◌∙◌}
+use Rattle.std.proofs.Common.{◌≡◌, ◌≢◌, ℕ, List, [], ◌∷◌, map, string_bytes, Some, Bor, refl, sym, ap, subst, ◌∙◌}
 use Rattle.commands.specs.Left.{seen}
 use Rattle.commands.specs.Said.{heard, fault_of}
 use Rattle.gain_edits.specs.Gain.{gain_command}
 use Rattle.gain_edits.specs.Undo.{undo_command}
-use Rattle.frame_edits.specs.Chosen.{cut_command, pack_command}
+use Rattle.frame_edits.specs.Chosen.{cut_command}
+use Rattle.pack_mode.specs.declared.mode.PackMode.{PackMode}
+use Rattle.pack_mode.specs.declared.mode.PackMode.TheVariants.{Least, Constant, Floor}
+use Rattle.packing.specs.Modes.{pack_task, pack_mode_command}
 use Rattle.splitting.specs.Split.{split_at_command, split_by_command, given, told_by}
 use Rattle.joining.specs.Join.{join_command}
 use Rattle.mp3_cli.specs.Texts.{help_text, version_text}
@@ -53,12 +56,25 @@ returns-in-Cut-clause-answers g c =
     (seen (g.D.Folder.files c.args.folder.now) (g.D.Folder.counts c.args.folder.now)) (seen (g.D.Folder.files c.cut-done.new.folder) (g.D.Folder.counts c.cut-done.new.folder))
     _ _ _ _ c.cut-done.ensures.done c.cut-done.ensures.left c.cut-done.ensures.numbers c.cut-done.ensures.names c.report-in-Cut.ensures.status c.report-in-Cut.ensures.line)
 
+-- in each mode the input alone is read
+packed_inputs : (mode : PackMode) (input output : List ℕ) → (pack_mode_command mode input output).inputs ≡ input ∷ []
+packed_inputs Least input output = refl
+packed_inputs (Constant rate) input output = refl
+packed_inputs (Floor rate) input output = refl
+
 pub returns-in-Pack-clause-answers : goal.returns-in-Pack-clause-answers
 returns-in-Pack-clause-answers g c =
+    let mode = c.in-Pack.mode in
+    let input = c.in-Pack.input.now in
+    let output = c.in-Pack.output.now in
+    let command = pack_mode_command mode input output in
+    let line : GetsLine (heard (g.E.Sink.sent c.args.err.now) (g.E.Sink.faults c.args.err.now)) (heard (g.E.Sink.sent c.report-in-Pack.new.err) (g.E.Sink.faults c.report-in-Pack.new.err)) (line_of command (fault_of c.pack_with-done.result)) =
+    subst (λ (names : List (List ℕ)). GetsLine (heard (g.E.Sink.sent c.args.err.now) (g.E.Sink.faults c.args.err.now)) (heard (g.E.Sink.sent c.report-in-Pack.new.err) (g.E.Sink.faults c.report-in-Pack.new.err)) (result_line names (output ∷ []) (fault_of c.pack_with-done.result)))
+    (sym (packed_inputs mode input output)) c.report-in-Pack.ensures.line in
     rw c.in-Pack.is
-    (command_answers (pack_command c.in-Pack.input.now c.in-Pack.output.now) (one_silent _ c.in-Pack.output.now) c.pack-done.result
-    (seen (g.D.Folder.files c.args.folder.now) (g.D.Folder.counts c.args.folder.now)) (seen (g.D.Folder.files c.pack-done.new.folder) (g.D.Folder.counts c.pack-done.new.folder))
-    _ _ _ _ c.pack-done.ensures.done c.pack-done.ensures.left c.pack-done.ensures.numbers c.pack-done.ensures.names c.report-in-Pack.ensures.status c.report-in-Pack.ensures.line)
+    (command_answers command (one_silent (pack_task mode input) output) c.pack_with-done.result
+    (seen (g.D.Folder.files c.args.folder.now) (g.D.Folder.counts c.args.folder.now)) (seen (g.D.Folder.files c.pack_with-done.new.folder) (g.D.Folder.counts c.pack_with-done.new.folder))
+    _ _ _ _ c.pack_with-done.ensures.done c.pack_with-done.ensures.left c.pack_with-done.ensures.numbers c.pack_with-done.ensures.names c.report-in-Pack.ensures.status line)
 
 pub returns-in-SplitAt-clause-answers : goal.returns-in-SplitAt-clause-answers
 returns-in-SplitAt-clause-answers g c =
