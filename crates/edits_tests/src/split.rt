@@ -57,7 +57,7 @@ fn put_with_sheet(
     put_file(alloc, folder, "sheet", &[sheet])
 }
 
-fn split(
+fn split_at(
     alloc: Global,
     folder: &mut MemFolder,
     input: &str,
@@ -102,7 +102,7 @@ fn expect_pieces<R: Abort + AllocGlobal>(rt: &R, folder: &mut MemFolder) -> Resu
         Place::Frame(3),
         Place::End,
     ];
-    let done = split(alloc, folder, "a", &places);
+    let done = split_at(alloc, folder, "a", &places);
     assert_eq!(rt; done, Ok(()));
     assert_eq!(rt; is_cut(alloc, folder, "p01.mp3", 0, 1), Ok(true));
     assert_eq!(rt; is_cut(alloc, folder, "p02.mp3", 1, 3), Ok(true));
@@ -137,10 +137,10 @@ fn expect_order<R: Abort + AllocGlobal>(rt: &R, folder: &mut MemFolder) -> Resul
     let alloc = rt.alloc();
     put_four(alloc, folder)?;
     let places = [Place::Frame(0), Place::Frame(2), Place::Frame(2)];
-    let equal = split(alloc, folder, "a", &places);
+    let equal = split_at(alloc, folder, "a", &places);
     assert_eq!(rt; equal, Err(EditFault::Refused(Refusal::Range(2, 2, 4))));
     let places = [Place::Frame(0), Place::Frame(5), Place::Frame(2)];
-    let behind = split(alloc, folder, "a", &places);
+    let behind = split_at(alloc, folder, "a", &places);
     assert_eq!(rt; behind, Err(EditFault::Refused(Refusal::Range(0, 5, 4))));
     assert_eq!(rt; length_of(folder, "p01.mp3"), None);
     Ok(())
@@ -155,7 +155,7 @@ fn places_out_of_order(rt: HostRuntime) -> Result<(), Fail> {
 fn expect_names<R: Abort + AllocGlobal>(rt: &R, folder: &mut MemFolder) -> Result<(), Fail> {
     let alloc = rt.alloc();
     let places = [Place::Frame(0), Place::End];
-    let input = split(alloc, folder, "p99.mp3", &places);
+    let input = split_at(alloc, folder, "p99.mp3", &places);
     assert_eq!(rt; input, Err(EditFault::EqualNames(0)));
     let sheet = split_tracks(alloc, folder, "p00.mp3", "p99.mp3");
     assert_eq!(rt; sheet, Err(EditFault::EqualNames(1)));
@@ -234,7 +234,7 @@ fn expect_first_piece<R: Abort + AllocGlobal>(rt: &R, folder: &mut MemFolder) ->
     put_four(alloc, folder)?;
     folder.fail(Call::Create, 2)?;
     let places = [Place::Frame(0), Place::Frame(1), Place::End];
-    let done = split(alloc, folder, "a", &places);
+    let done = split_at(alloc, folder, "a", &places);
     assert_eq!(rt; done, Err(EditFault::Write(1)));
     assert_eq!(rt; length_of(folder, "p02.mp3"), None);
     assert_eq!(rt; is_cut(alloc, folder, "p01.mp3", 0, 1), Ok(true));
