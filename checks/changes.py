@@ -340,6 +340,14 @@ def mode(random, data):
     return wraps + random.choice((["-g"], ["-g"], ["-g"], ["-l", "0"], ["-l", "1"])) + [f"{steps:{random.choice(('', '+', '03'))}}"]
 
 
+def bit_rate(random, found):
+    """A word for a bit rate: mostly one of a frame or of another of its version."""
+    if not isinstance(found, frames.Survey) or random.random() < 0.1:
+        return random.choice(("0", "8", "100", "144", "256", "999", "032", "1000", "-1", "x"))
+    it = random.choice(found.frames)
+    return str(random.choice((it.rate, *it.version.rates)))
+
+
 def commands(random, files):
     data = files["x"]
     found = results.survey_or_fault(data)
@@ -351,6 +359,8 @@ def commands(random, files):
     yield ["cut", "x", *places(random, 2, count), "o"]
     yield ["cut", "--least", "x", *places(random, 2, count), "o"]
     yield ["pack", "x", "o"]
+    yield ["pack", "--constant", bit_rate(random, found), "x", "o"]
+    yield ["pack", "--floor", bit_rate(random, found), "x", "o"]
     yield ["split", "x", "p", *places(random, random.choice((2, 3, 3, 5, 9)), count)]
     yield ["split", "x", "p", "-c", "s"]
     yield ["join", "o", *random.choice((["x", "y"], ["y", "x"], ["x", "x", "y"], ["y", "x", "y", "x"]))]

@@ -4,13 +4,16 @@
   laid.py cut IN FROM TO OUT      writes OUT: the frames of IN from number FROM on and before TO, in their own slots
   laid.py least IN FROM TO OUT    the same, each in the least slot with which all main data have room
   laid.py pack IN OUT             so all frames of IN, with the quality and the extension of its head
+  laid.py constant B IN OUT       the same in slots of B kbit/s alone, of frames and lead-in alike
+  laid.py floor B IN OUT          the same in slots of at least B kbit/s
   laid.py join OUT IN..           all frames of these, in their own slots, with the lead-ins that each has alone; no tags but ID3v2 of
                                   the first in front
 
 A slot is a bit rate and a padding bit. Of the lists of slots in which all main data have room the first in the order of the areas
 is taken; a lead-in, one empty frame, stands in front where the frames alone have no such list. Main data begin as early as they
 may, at most 511 bytes (MPEG-1) or 255 before the frame's own area (main_data_begin; ISO/IEC 11172-3 and 13818-3, 2.4.2.7). What
-frames.py calls a lost frame is an empty one here. The Info frame in front has the number of frames, the bytes from its first to the
+frames.py calls a lost frame is an empty one here. In slots of some bit rates alone a frame may have no room: the first up to which
+there is none, even with the greatest slots and a lead-in. The Info frame in front has the number of frames, the bytes from its first to the
 last frame's last, and of these the 256th parts that stand before each hundredth of the frames. Tags follow the frames, but for ID3v2
 in front.
 """
@@ -46,9 +49,9 @@ class Need:
     def __post_init__(self):
         self.protected = not self.header[1] & 1
 
-    def shapes(self, least):
-        slots = SLOTS if least else [slot_of(self.header)]
-        return [in_slot(self.header, slot, self.protected) for slot in slots]
+    def shapes(self, slots):
+        """The frame in these slots, or in its own."""
+        return [in_slot(self.header, slot, self.protected) for slot in slots or [slot_of(self.header)]]
 
 
 def main_data(data, found):
@@ -69,11 +72,26 @@ def main_data(data, found):
     return needs
 
 
-def reserves(needs, least):
+def slots_with(header, allowed):
+    """The slots whose bit rate is allowed."""
+    return [slot for slot in SLOTS if allowed(in_slot(header, slot, False).rate)]
+
+
+def judge_room(needs, slots, window):
+    """Refuses the first frame up to which the main data have no room, even behind a lead-in."""
+    free = min(window, max(in_slot(needs[0].header, slot, False).area for slot in slots))
+    for number, need in enumerate(needs):
+        room = free + max(it.area for it in need.shapes(slots))
+        if room < len(need.data):
+            raise frames.Unfit(f"frame {number} does not fit")
+        free = min(window, room - len(need.data))
+
+
+def reserves(needs, slots):
     """The free bytes that are needed before each frame and behind the last."""
     found = [0]
     for need in reversed(needs):
-        found.append(max(0, found[-1] + len(need.data) - max(it.area for it in need.shapes(least))))
+        found.append(max(0, found[-1] + len(need.data) - max(it.area for it in need.shapes(slots))))
     return found[::-1]
 
 
@@ -81,19 +99,21 @@ def first_with(shapes, area):
     return next(it for it in shapes if it.area >= area)
 
 
-def placed(parts, least):
-    """Shape, main_data_begin, side information and main data of each frame, a lead-in before each part that needs one. Only one part may
-    have the least slots."""
+def placed(parts, slots, lead_in_slots):
+    """Shape, main_data_begin, side information and main data of each frame in one of the slots, or in its own, a lead-in before each part
+    that needs one. Only one part may have other slots than its own."""
     window = (1 << frames.Frame(parts[0][0].header, 0).version.begin_bits) - 1
     found, free = [], 0
     for needs in parts:
-        wanted = reserves(needs, least)
+        if slots:
+            judge_room(needs, slots, window)
+        wanted = reserves(needs, slots)
         if wanted[0]:
-            shape = first_with([in_slot(needs[0].header, slot, False) for slot in SLOTS], wanted[0])
+            shape = first_with([in_slot(needs[0].header, slot, False) for slot in lead_in_slots], wanted[0])
             found.append((shape, free, 0, b""))
             free = min(window, free + shape.area)
         for need, behind in zip(needs, wanted[1:]):
-            shape = first_with(need.shapes(least), len(need.data) + behind - free)
+            shape = first_with(need.shapes(slots), len(need.data) + behind - free)
             found.append((shape, free, need.side, need.data))
             free = min(window, free + shape.area - len(need.data))
     return found
@@ -151,10 +171,10 @@ def front_blocks(found):
     return [it for it in found.blocks if it.kind == "ID3v2" and it.offset < begin]
 
 
-def laid_file(data, found, first, end, least, keeps_head=False):
+def laid_file(data, found, first, end, slots, keeps_head=False):
     """The bytes of the frames from one number on and before another, and how many frames are written."""
     quality, extension = head_fields(data, found.head if keeps_head else None)
-    places = placed([main_data(data, found)[first:end]], least)
+    places = placed([main_data(data, found)[first:end]], slots, slots or SLOTS)
     written = laid(places)
     fronts = front_blocks(found)
     backs = [it for it in found.blocks if it not in fronts]
@@ -166,16 +186,35 @@ def laid_file(data, found, first, end, least, keeps_head=False):
 
 def joined_file(files, surveys):
     """The bytes of all frames of the files, and how many frames are written."""
-    places = placed([main_data(data, found) for data, found in zip(files, surveys)], False)
+    places = placed([main_data(data, found) for data, found in zip(files, surveys)], None, SLOTS)
     written = laid(places)
     parts = [files[0][it.offset : it.end] for it in front_blocks(surveys[0])]
     parts += [info_frame(places, written, bytes(4), bytes(36)), *written]
     return b"".join(parts), len(written)
 
 
-def write(name, output, first, end, least, keeps_head):
+def menu_of(found, mode, rate):
+    """The slots of a file's class by a mode of packing; none where the bit rate isn't one of the class."""
+    header = found.frames[0].header
+    if not slots_with(header, lambda it: it == rate):
+        return []
+    return slots_with(header, lambda it: it == rate if mode == "constant" else it >= rate)
+
+
+def pack(mode, rate, name, output):
+    found = frames.survey_of(frames.bytes_of(name))
+    slots = menu_of(found, mode, int(rate))
+    if not slots:
+        sys.exit(f"no rate {int(rate)}")
+    try:
+        write(name, output, 0, None, slots, True)
+    except frames.Unfit as it:
+        sys.exit(str(it))
+
+
+def write(name, output, first, end, slots, keeps_head):
     data = frames.bytes_of(name)
-    new, count = laid_file(data, frames.survey_of(data), first, end, least, keeps_head)
+    new, count = laid_file(data, frames.survey_of(data), first, end, slots, keeps_head)
     frames.write(output, new)
     print(f"{len(data)} bytes, {len(new)} written, {count} frames")
 
@@ -189,9 +228,11 @@ def join(output, names):
 
 def main(words):
     if len(words) == 5 and words[0] in ("cut", "least"):
-        write(words[1], words[4], int(words[2]), int(words[3]), words[0] == "least", False)
+        write(words[1], words[4], int(words[2]), int(words[3]), SLOTS if words[0] == "least" else None, False)
     elif len(words) == 3 and words[0] == "pack":
-        write(words[1], words[2], 0, None, True, True)
+        write(words[1], words[2], 0, None, SLOTS, True)
+    elif len(words) == 4 and words[0] in ("constant", "floor"):
+        pack(*words)
     elif len(words) > 2 and words[0] == "join":
         join(words[1], words[2:])
     else:

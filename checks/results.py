@@ -52,6 +52,10 @@ def channel(word):
     return word in ("0", "1")
 
 
+def rate(word):
+    return re.fullmatch(r"[0-9]{1,3}", word)
+
+
 def place(word):
     """A frame's number, a pair of a time and its parts of a second, or 'EOF'; or None."""
     time = re.fullmatch(r"([0-9]{1,4})\.([0-9]{1,2})(?:\.([0-9]{1,2}))?", word)
@@ -76,6 +80,8 @@ FORMS += [
     (["cut", name, is_place, is_place, name], 1),
     (["cut", "--least", name, is_place, is_place, name], 1),
     (["pack", name, name], 1),
+    (["pack", "--constant", rate, name, name], 1),
+    (["pack", "--floor", rate, name, name], 1),
     (["split", name, name, is_place, is_place], 99),
     (["split", name, name, "-c", name], 1),
     (["join", name, name], 64),
@@ -225,15 +231,18 @@ def cut(words, files):
     judge_names([source], [output])
     found = surveyed(source, files)
     [(first, end)] = ranges_of([place(first), place(end)], found)
-    new = laid.laid_file(files[source], found, first, end, words[1] == "--least")[0]
+    new = laid.laid_file(files[source], found, first, end, laid.SLOTS if words[1] == "--least" else None)[0]
     return Result(outputs={output: new}, chosen={output: [(source, first, end)]})
 
 
 def pack(words, files):
-    _, source, output = words
+    *mode, source, output = words[1:]
     judge_names([source], [output])
     found = surveyed(source, files)
-    new = laid.laid_file(files[source], found, 0, None, True, True)[0]
+    slots = laid.menu_of(found, mode[0].removeprefix("--"), int(mode[1])) if mode else laid.SLOTS
+    if not slots:
+        raise Answer(1, f"no rate {int(mode[1])}")
+    new = laid.laid_file(files[source], found, 0, None, slots, True)[0]
     return Result(outputs={output: new}, chosen={output: [(source, 0, len(found.frames))]})
 
 
@@ -246,7 +255,7 @@ def split(words, files):
     done = Result()
     for number, (first, end) in enumerate(ranges, 1):
         piece = f"{prefix}{number:02}.mp3"
-        done.outputs[piece] = laid.laid_file(files[source], found, first, end, False)[0]
+        done.outputs[piece] = laid.laid_file(files[source], found, first, end, None)[0]
         done.chosen[piece] = [(source, first, end)]
     return done
 
