@@ -1,0 +1,10 @@
+//! Laws that the streams of written files are exactly the chosen frames: each part of an output is at most one silent
+//! lead-in and then the chosen frames, as they are in the streams of the inputs. Nothing here runs.
+#![tactic(auto)]
+
+mod laws;
+
+pub use laws::{
+    chosen_plans_are_first, chosen_streams_are_exact, joined_plans_are_first,
+    joined_streams_are_exact, packed_streams_are_exact, planned_streams_are_exact,
+};
