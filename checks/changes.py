@@ -146,7 +146,7 @@ def block(random):
 
 
 def letters(random):
-    """Bytes that are no part of a stream, up to a little more than may stand before it."""
+    """Bytes that are no part of a stream, up to a little more than may be before it."""
     most = random.choice((3, 40, 500, 500))
     if random.random() < 0.1:
         return b"U" * random.randint(65_535, 65_537)
@@ -154,7 +154,7 @@ def letters(random):
 
 
 def frame_places(pieces):
-    """Where whole frames stand among the pieces."""
+    """Where whole frames are among the pieces."""
     found = [(at, frames.header_at(it, 0), len(it)) for at, it in enumerate(pieces)]
     return [at for at, it, length in found if isinstance(it, frames.Frame) and it.length <= length]
 
@@ -199,7 +199,7 @@ def double(random, pieces, _):
 
 
 def put_head(random, pieces, _):
-    """A head before the first frame, whose text may stand at either place, or the first frame made one."""
+    """A head before the first frame, whose text may be at either place, or the first frame made one."""
     places = frame_places(pieces)
     if places:
         at = places[0]

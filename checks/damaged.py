@@ -7,10 +7,10 @@
 Both say 'no frame at O' or 'too many frames at O', with status 1, where nothing is read.
 
 The first frame is the usable one at the offset where the blocks and zero bytes at the front of the file end, or the first usable one
-behind it that is anchored. From there on usable frames, whole blocks and zero bytes are read, end to end. Where none of them stands a gap
+after it that is anchored. From there on usable frames, whole blocks and zero bytes are read, end to end. Where there is none of them a gap
 begins, and it ends at the next usable frame that is anchored, or with the file. A frame is usable where it is whole, of the class of the
-first, and its check word is right where it has one; the first may be a head with any check word. Behind each gap the main data are
-counted anew. A frame whose main data begin before them, or before the end of those of an earlier sound frame, or end behind its own area,
+first, and its check word is right where it has one; the first may be a head with any check word. After each gap main data are
+counted from 0. A frame whose main data begin before them, or before the end of those of an earlier sound frame, or end after its own area,
 becomes an empty one.
 """
 import sys

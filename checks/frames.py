@@ -1,15 +1,15 @@
 #!/usr/bin/env python3
 """Reads MP3 files (Layer III of MPEG-1, MPEG-2 and MPEG-2.5), apart from the program that it helps to check.
 
-  frames.py survey FILE            what stands in the file; or why it is refused, and status 1
+  frames.py survey FILE            what is in the file; or why it is refused, and status 1
   frames.py list FILE              what 'mp3edit list FILE' sends to standard output
   frames.py heard LISTING WAV      compares the last line of a listing with what mpg123 made of the file, without leaving out a sample
   frames.py counted LISTING HZ,CHANNELS,PACKETS   compares it with what ffprobe tells of the file
-  frames.py refusal FILE           of a file that is refused: what the program's line says behind the name
+  frames.py refusal FILE           of a file that is refused: what the program's line says after the name
   frames.py past FILE N            'gain V out of range at O, granule G, channel C' for the first gain that N steps lead out of 0 to 255
-  frames.py ends FILE              the least and the greatest gain, but for the silent ones and those of lost frames
+  frames.py ends FILE              the least and the greatest gain, except silent ones and those of lost frames
   frames.py moved IN N OUT         writes OUT: IN with each gain moved by N, but the silent ones and those of lost frames, with right
-                                   check words, and without junk; and says what stands in IN
+                                   check words, and without junk; and says what is in IN
   frames.py wrapped IN C N OUT     the same where gains wrap, of channel C alone (0 or 1), or of 'both'
   frames.py noted IN C N W OUT     the same of both or of one, where gains wrap if W is 'W', and not if it is 'N', with the change noted in the tag
   frames.py undone IN OUT          the same with all changes taken back that the tag notes, and without the note
@@ -21,14 +21,14 @@
   frames.py differ A B N           says where A and B differ; status 1 where B is not A with the gains of silent granules and of lost
                                    frames alone moved by N, and with the check words that are right for them
   frames.py sounds WHOLE LISTING FROM TO WAV   the frames of WAV, listed so, are a lead-in or none and the frames of WHOLE from FROM on and
-                                   before TO: within 1 they sound as there, from frame 0 on or behind a granule and 480 samples
+                                   before TO: within 1 they sound as there, from frame 0 on or after a granule and 480 samples
   frames.py beside WAV LISTING FROM TO BEGIN OTHER   the frames of WAV, listed so, are a lead-in or none and those of a stream from FROM on and
                                    before TO: within 1 they sound from sample BEGIN of the stream on as OTHER does
   frames.py decoded A B FACTOR     compares two WAV files of 16 bits: B is A times FACTOR, within rounding, and A is not silent
 
 Layout of frames: ISO/IEC 11172-3 and 13818-3, 2.4.1 and 2.4.2; of blocks: ID3v2, ID3v1 and APEv2. The tag is the
 first APEv2 block. Its item MP3GAIN_UNDO has the steps that take all changes back, left and right, and W where gains wrap. A granule of a channel is
-silent where its part2_3_length is 0. The main bytes of a file are the areas of its frames (what is left of a frame behind
+silent where its part2_3_length is 0. The main bytes of a file are the areas of its frames (what is left of a frame after
 header, check word and side information) end to end; a frame's main data begin main_data_begin bytes before its own area there.
 A frame is lost where that is before the first area, and no frame before it has main data, but lost ones: a plain cutter left it.
 """
@@ -87,7 +87,7 @@ MPEG_2_5 = replace(MPEG_2, name="MPEG-2.5", frequencies=(11025, 12000, 8000))
 
 
 class Refused(Exception):
-    """What the program's line says behind the name of the file."""
+    """What the program's line says after the name of the file."""
 
 
 class Unfit(Exception):
@@ -104,12 +104,12 @@ def check_word(data):
     return word
 
 
-# ---- what stands at an offset
+# ---- what is at an offset
 
 
 @dataclass
 class Granule:
-    """One granule of a channel: part2_3_length, global_gain, and how many bits of the side information stand behind the gain."""
+    """One granule of a channel: part2_3_length, global_gain, and how many bits of the side information follow the gain."""
 
     granule: int
     channel: int
@@ -141,7 +141,7 @@ class Frame:
         self.area = self.end - self.side_end
 
     def is_head(self, data):
-        """Whether 'Xing' or 'Info' stands behind the side information, or where it would if there were no check word."""
+        """Whether 'Xing' or 'Info' is after the side information, or where it would be if there were no check word."""
         places = {self.side_end, self.offset + 4 + self.side_size}
         return any(data[at : min(at + 4, self.end)] in (b"Xing", b"Info") for at in places)
 
@@ -271,7 +271,7 @@ class Tag:
         return ends[0] + items + ends[1]
 
     def place_of_note(self):
-        """How many items stand before the undo item, or None where there is none."""
+        """How many items are before the undo item, or None where there is none."""
         return next((place for place, it in enumerate(self.items) if it[0].upper() == UNDO_KEY), None)
 
     def note(self):
@@ -305,7 +305,7 @@ class Tag:
 
 @dataclass
 class Survey:
-    """What stands in a file: the frames without the head, and where the junk before the first of them is."""
+    """What is in a file: the frames without the head, and where the junk before the first of them is."""
 
     frames: list
     head: object = None
@@ -334,7 +334,7 @@ class Survey:
 
 
 def passed(data, at, blocks):
-    """Behind the blocks and zero bytes that stand from an offset on."""
+    """The offset after the blocks and zero bytes that are there from an offset on."""
     while at < len(data):
         block = block_at(data, at)
         if block and block.end > len(data):
@@ -394,7 +394,7 @@ def stream_from(data, first, blocks):
 
 
 def judge_main_data(frame, before, ended):
-    """Where the main data end behind the frame, whose own area begins behind so many main bytes; or what is at fault in them."""
+    """Where the main data end with the frame, whose own area begins after so many main bytes; or what is at fault in them."""
     at = frame.offset
     if frame.begin > before:
         raise Refused(f"back pointer at {at} is {frame.begin}, present {before}")
@@ -572,7 +572,7 @@ def undone(name, output):
 
 
 def tag_of(data, found):
-    """The tag, and where it stands or would stand."""
+    """The tag, and where it is or would be."""
     for it in found.blocks:
         if it.kind == "APEv2":
             if it.end - it.offset > LONGEST_TAG:
@@ -637,7 +637,7 @@ def note(name):
 
 
 def with_gains(data, found, steps, wraps, tag):
-    """The file with moved gains, without junk, and with other bytes where the tag stands."""
+    """The file with moved gains, without junk, and with other bytes where the tag is."""
     new = bytearray(data)
     for frame in found.frames:
         side = side_of(frame, steps, wraps)
@@ -651,7 +651,7 @@ def with_gains(data, found, steps, wraps, tag):
 
 
 def change(name, output, how, *words):
-    """Writes the file as it is changed, and tells what stands in it."""
+    """Writes the file as it is changed, and tells what is in it."""
     data = bytes_of(name)
     found = survey_of(data)
     write(output, how(data, found, *words))

@@ -1,5 +1,5 @@
 #!/usr/bin/env python3
-"""Writes the frames of an MP3 file with all main data laid anew, apart from the program that it helps to check.
+"""Writes the frames of an MP3 file with all main data laid into new areas, apart from the program that it helps to check.
 
   laid.py cut IN FROM TO OUT      writes OUT: the frames of IN from number FROM on and before TO, in their own slots
   laid.py least IN FROM TO OUT    the same, each in the least slot with which all main data have room
@@ -10,11 +10,11 @@
                                   the first in front
 
 A slot is a bit rate and a padding bit. Of the lists of slots in which all main data have room the first in the order of the areas
-is taken; a lead-in, one empty frame, stands in front where the frames alone have no such list. Main data begin as early as they
+is taken; a lead-in, one empty frame, comes first where the frames alone have no such list. Main data begin as early as they
 may, at most 511 bytes (MPEG-1) or 255 before the frame's own area (main_data_begin; ISO/IEC 11172-3 and 13818-3, 2.4.2.7). What
 frames.py calls a lost frame is an empty one here. In slots of some bit rates alone a frame may have no room: the first up to which
 there is none, even with the greatest slots and a lead-in. The Info frame in front has the number of frames, the bytes from its first to the
-last frame's last, and of these the 256th parts that stand before each hundredth of the frames. Tags follow the frames, but for ID3v2
+last frame's last, and of these the 256th parts that are before each hundredth of the frames. Tags follow the frames, except ID3v2
 in front.
 """
 import sys
@@ -78,7 +78,7 @@ def slots_with(header, allowed):
 
 
 def judge_room(needs, slots, window):
-    """Refuses the first frame up to which the main data have no room, even behind a lead-in."""
+    """Refuses the first frame up to which the main data have no room, even after a lead-in."""
     free = min(window, max(in_slot(needs[0].header, slot, False).area for slot in slots))
     for number, need in enumerate(needs):
         room = free + max(it.area for it in need.shapes(slots))
@@ -88,7 +88,7 @@ def judge_room(needs, slots, window):
 
 
 def reserves(needs, slots):
-    """The free bytes that are needed before each frame and behind the last."""
+    """The free bytes that are needed before each frame and after the last."""
     found = [0]
     for need in reversed(needs):
         found.append(max(0, found[-1] + len(need.data) - max(it.area for it in need.shapes(slots))))

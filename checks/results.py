@@ -5,7 +5,7 @@
                          status of the program
 
 The words are those of README's "Usage", the lines and their order those of its "Statuses and lines". Files are bytes by name.
-frames.py says what stands in a file and moves gains, laid.py lays main data.
+frames.py says what is in a file and moves gains, laid.py lays main data.
 """
 import re
 import sys
@@ -70,7 +70,7 @@ def is_place(word):
     return place(word) is not None
 
 
-# The kinds of the words of each form, a fixed word by itself, and how often the last of them may stand.
+# The kinds of the words of each form, a fixed word by itself, and how often the last of them may come.
 FRONTS = [[], ["-s", "s"], ["-w"], ["-s", "s", "-w"], ["-w", "-s", "s"]]
 MODES = [["-g", steps], ["-l", channel, steps]]
 FORMS = [(["gain", *front, *mode, name, name], 1) for front in FRONTS for mode in MODES]
@@ -89,7 +89,7 @@ FORMS += [
 
 
 def judge_words(words):
-    """Refuses the first word that no form takes, or the place behind the last word where one is missing."""
+    """Refuses the first word that no form takes, or the place after the last word where one is missing."""
     longest = 0
     for kinds, most in FORMS:
         kinds_of_words = kinds + kinds[-1:] * (most - 1)
