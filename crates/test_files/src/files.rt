@@ -14,12 +14,53 @@ pub enum Stretch {
     Bytes(&'static [u8]),
     /// One byte, so many times.
     Fill(u8, usize),
+    /// These bytes, and then one byte so many times.
+    Filled(&'static [u8], u8, usize),
+    /// These bytes around this value.
+    Valued(&'static Ends, &'static [u8]),
+    /// These bytes, with another one at this place.
+    Changed(&'static [u8], usize, u8),
     /// A frame of 417 bytes, the last 381 of them for main data: MPEG-1, 44,100 Hz, 128 kbit/s, stereo, without check word.
     /// Its main_data_begin, and the bits of its first granule's first channel; every other field is 0.
     Frame(u16, u16),
     /// So many frames of 417 bytes that begin with these, and end with 0x5a.
     Copies(&'static [u8], usize),
 }
+
+/// What is before a value, and what is behind it.
+pub struct Ends(pub &'static [u8], pub &'static [u8]);
+
+/// An ID3v2 block of 40 bytes: the flag of a footer, and size 20.
+pub const ID3V2_BLOCK: Stretch = Stretch::Filled(b"ID3\x04\0\x10\0\0\0\x14", 0x11, 30);
+
+/// An ID3v1 block of 128 bytes.
+pub const ID3V1_BLOCK: Stretch = Stretch::Filled(b"TAG", 0x20, 125);
+
+/// The header and the side information of an Info frame of MPEG-1, 44,100 Hz, 64 kbit/s, stereo: 36 of its 208 bytes.
+pub const INFO_FRONT: Stretch = Stretch::Filled(&[0xff, 0xfb, 0x50, 0x00], 0, 32);
+
+/// The same of a frame of 128 kbit/s, of 417 bytes, with 300 bytes of main data from its own area on.
+pub const OF_300: Stretch = Stretch::Filled(
+    &[0xff, 0xfb, 0x90, 0x00, 0x00, 0x00, 0x09, 0x60],
+    0,
+    28,
+);
+
+/// The same with 400 bytes of main data, which begin 81 bytes before its area.
+pub const OF_400: Stretch = Stretch::Filled(
+    &[0xff, 0xfb, 0x90, 0x00, 0x28, 0x80, 0x0c, 0x80],
+    0,
+    28,
+);
+
+/// Two such frames, with areas of 381 bytes: the first 81 bytes of the second's main data stand behind those of the first.
+pub const TWO: &[Stretch] = &[
+    OF_300,
+    Stretch::Fill(0x11, 300),
+    Stretch::Fill(0x22, 81),
+    OF_400,
+    Stretch::Fill(0x22, 381),
+];
 
 /// The first 10 bytes of an ID3v2 block of 40: the flag of a footer, and size 20.
 pub const ID3V2: Stretch = Stretch::Bytes(&[b'I', b'D', b'3', 4, 0, 0x10, 0, 0, 0, 20]);
@@ -41,6 +82,29 @@ pub const ID3V1_REST: Stretch = Stretch::Fill(0x20, 125);
 fn push_fill(file: &mut Vec<u8>, byte: u8, count: usize) -> Result<(), AllocError> {
     for _ in 0..count {
         file.push(byte)?;
+    }
+    Ok(())
+}
+
+fn push_filled(file: &mut Vec<u8>, front: &[u8], byte: u8, count: usize) -> Result<(), AllocError> {
+    file.extend_from_slice(front)?;
+    push_fill(file, byte, count)
+}
+
+fn push_valued(file: &mut Vec<u8>, ends: &Ends, value: &[u8]) -> Result<(), AllocError> {
+    file.extend_from_slice(ends.0)?;
+    file.extend_from_slice(value)?;
+    file.extend_from_slice(ends.1)
+}
+
+fn push_changed(
+    file: &mut Vec<u8>,
+    bytes: &[u8],
+    place: usize,
+    byte: u8,
+) -> Result<(), AllocError> {
+    for (at, own) in bytes.iter().enumerate() {
+        file.push(if at == place { byte } else { *own })?;
     }
     Ok(())
 }
@@ -83,6 +147,9 @@ impl Stretch {
             Stretch::Repeated(frames, times) => push_repeated(alloc, file, frames, *times),
             Stretch::Bytes(bytes) => file.extend_from_slice(bytes),
             Stretch::Fill(byte, count) => push_fill(file, *byte, *count),
+            Stretch::Filled(front, byte, count) => push_filled(file, front, *byte, *count),
+            Stretch::Valued(ends, value) => push_valued(file, ends, value),
+            Stretch::Changed(bytes, place, byte) => push_changed(file, bytes, *place, *byte),
             Stretch::Frame(begin, bits) => push_frame(file, *begin, *bits),
             Stretch::Copies(front, count) => push_copies(file, front, *count),
         }

@@ -2,6 +2,7 @@
 //! program mp3check finds right.
 ghost use Rattle.std.specs.Prelude.{◌≤◌};
 
+use crate::frame;
 use std::alloc::{AllocError, Global};
 
 /// A frame: its header, its check word where it has one, what stands behind them, and its length in
@@ -24,353 +25,177 @@ const PROTECTED: [u8; 4] = [0xff, 0xfa, 0x90, 0x00];
 const AREA: [u8; 4] = [0x11, 0x22, 0x33, 0x44];
 
 /// All bytes behind the header are 0: its granules are silent.
-pub const Z: Frame = Frame {
-    header: PLAIN,
-    word: None,
-    side: &[],
-    area: &[],
-    length: 417,
-};
+pub const Z: Frame = frame! { header: PLAIN, word: None, side: &[], area: &[], length: 417 };
 
 /// Each granule's channel has 8 bits; the gains are 100, 101, 255, 90.
 pub const G: Frame = Frame {
     header: PLAIN,
     word: None,
-    side: &[
-        0x00, 0x00, 0x00, 0x08, 0x00, 0x32, 0x00, 0x00, 0x00, 0x00, 0x01, 0x00, 0x06, 0x50, 0x00,
-        0x00, 0x00, 0x00, 0x20, 0x01, 0xfe, 0x00, 0x00, 0x00, 0x00, 0x04, 0x00, 0x16, 0x80, 0x00,
-        0x00, 0x00,
-    ],
+    side: b"\0\0\0\x08\0\x32\0\0\0\0\x01\0\x06\x50\0\0\0\0\x20\x01\xfe\0\0\0\0\x04\0\x16\x80",
     area: &AREA,
     length: 417,
 };
 
 /// G with the gains 95, 96, 250, 85.
-pub const G_LOWER: Frame = Frame {
-    side: &[
-        0x00, 0x00, 0x00, 0x08, 0x00, 0x2f, 0x80, 0x00, 0x00, 0x00, 0x01, 0x00, 0x06, 0x00, 0x00,
-        0x00, 0x00, 0x00, 0x20, 0x01, 0xf4, 0x00, 0x00, 0x00, 0x00, 0x04, 0x00, 0x15, 0x40, 0x00,
-        0x00, 0x00,
-    ],
-    ..G
-};
+pub const G_LOWER: Frame =
+    frame! { side: b"\0\0\0\x08\0\x2f\x80\0\0\0\x01\0\x06\0\0\0\0\0\x20\x01\xf4\0\0\0\0\x04\0\x15\x40", ..G };
 
 /// G with the gains 10, 20, 30, 40, and with a text that only in the first frame is a head's.
-pub const QUIET: Frame = Frame {
-    side: &[
-        0x00, 0x00, 0x00, 0x08, 0x00, 0x05, 0x00, 0x00, 0x00, 0x00, 0x01, 0x00, 0x01, 0x40, 0x00,
-        0x00, 0x00, 0x00, 0x20, 0x00, 0x3c, 0x00, 0x00, 0x00, 0x00, 0x04, 0x00, 0x0a, 0x00, 0x00,
-        0x00, 0x00,
-    ],
-    area: b"Xing",
-    ..G
-};
+pub const QUIET: Frame =
+    frame! { side: b"\0\0\0\x08\0\x05\0\0\0\0\x01\0\x01\x40\0\0\0\0\x20\0\x3c\0\0\0\0\x04\0\x0a", area: b"Xing", ..G };
 
 /// The same with the gains 5, 15, 25, 35.
-pub const QUIETER: Frame = Frame {
-    side: &[
-        0x00, 0x00, 0x00, 0x08, 0x00, 0x02, 0x80, 0x00, 0x00, 0x00, 0x01, 0x00, 0x00, 0xf0, 0x00,
-        0x00, 0x00, 0x00, 0x20, 0x00, 0x32, 0x00, 0x00, 0x00, 0x00, 0x04, 0x00, 0x08, 0xc0, 0x00,
-        0x00, 0x00,
-    ],
-    area: b"Xing",
-    ..G
-};
+pub const QUIETER: Frame =
+    frame! { side: b"\0\0\0\x08\0\x02\x80\0\0\0\x01\0\0\xf0\0\0\0\0\x20\0\x32\0\0\0\0\x04\0\x08\xc0", area: b"Xing", ..G };
 
 /// G with the gains 100, 254, 255, 90.
-pub const LOUD: Frame = Frame {
-    side: &[
-        0x00, 0x00, 0x00, 0x08, 0x00, 0x32, 0x00, 0x00, 0x00, 0x00, 0x01, 0x00, 0x0f, 0xe0, 0x00,
-        0x00, 0x00, 0x00, 0x20, 0x01, 0xfe, 0x00, 0x00, 0x00, 0x00, 0x04, 0x00, 0x16, 0x80, 0x00,
-        0x00, 0x00,
-    ],
-    ..G
-};
+pub const LOUD: Frame =
+    frame! { side: b"\0\0\0\x08\0\x32\0\0\0\0\x01\0\x0f\xe0\0\0\0\0\x20\x01\xfe\0\0\0\0\x04\0\x16\x80", ..G };
 
 /// G with the gains 100, 101, 250, 4.
-pub const LOW: Frame = Frame {
-    side: &[
-        0x00, 0x00, 0x00, 0x08, 0x00, 0x32, 0x00, 0x00, 0x00, 0x00, 0x01, 0x00, 0x06, 0x50, 0x00,
-        0x00, 0x00, 0x00, 0x20, 0x01, 0xf4, 0x00, 0x00, 0x00, 0x00, 0x04, 0x00, 0x01, 0x00, 0x00,
-        0x00, 0x00,
-    ],
-    ..G
-};
+pub const LOW: Frame =
+    frame! { side: b"\0\0\0\x08\0\x32\0\0\0\0\x01\0\x06\x50\0\0\0\0\x20\x01\xf4\0\0\0\0\x04\0\x01", ..G };
 
 /// The second channel has no bits; the gains are 100, 255, 200, 0.
-pub const LEFT_ALONE: Frame = Frame {
-    side: &[
-        0x00, 0x00, 0x00, 0x08, 0x00, 0x32, 0x00, 0x00, 0x00, 0x00, 0x00, 0x00, 0x0f, 0xf0, 0x00,
-        0x00, 0x00, 0x00, 0x20, 0x01, 0x90, 0x00, 0x00, 0x00, 0x00, 0x00, 0x00, 0x00, 0x00, 0x00,
-        0x00, 0x00,
-    ],
-    ..G
-};
+pub const LEFT_ALONE: Frame =
+    frame! { side: b"\0\0\0\x08\0\x32\0\0\0\0\0\0\x0f\xf0\0\0\0\0\x20\x01\x90", ..G };
 
 /// The same with the gains 155, 255, 255, 0.
-pub const LEFT_ALONE_LOUDER: Frame = Frame {
-    side: &[
-        0x00, 0x00, 0x00, 0x08, 0x00, 0x4d, 0x80, 0x00, 0x00, 0x00, 0x00, 0x00, 0x0f, 0xf0, 0x00,
-        0x00, 0x00, 0x00, 0x20, 0x01, 0xfe, 0x00, 0x00, 0x00, 0x00, 0x00, 0x00, 0x00, 0x00, 0x00,
-        0x00, 0x00,
-    ],
-    ..G
-};
+pub const LEFT_ALONE_LOUDER: Frame =
+    frame! { side: b"\0\0\0\x08\0\x4d\x80\0\0\0\0\0\x0f\xf0\0\0\0\0\x20\x01\xfe", ..G };
 
 /// Padded. The granules' channels have 8, 16, 24 and 32 bits and the gains 5, 6, 7, 8; every other bit of
 /// the side information but main_data_begin is 1.
 pub const PADDED: Frame = Frame {
     header: [0xff, 0xfb, 0x92, 0x00],
-    side: &[
-        0x00, 0x7f, 0xf0, 0x08, 0xff, 0x82, 0xff, 0xff, 0xff, 0xfe, 0x02, 0x1f, 0xf0, 0x6f, 0xff,
-        0xff, 0xff, 0xc0, 0x63, 0xfe, 0x0f, 0xff, 0xff, 0xff, 0xf8, 0x10, 0x7f, 0xc2, 0x3f, 0xff,
-        0xff, 0xff,
-    ],
+    side: b"\0\x7f\xf0\x08\xff\x82\xff\xff\xff\xfe\x02\x1f\xf0\x6f\xff\xff\xff\xc0\x63\xfe\x0f\xff\xff\xff\xf8\x10\x7f\xc2\x3f\xff\xff\xff",
     length: 418,
     ..G
 };
 
 /// The same with the gains 0, 1, 2, 3.
 pub const PADDED_LOWER: Frame = Frame {
-    side: &[
-        0x00, 0x7f, 0xf0, 0x08, 0xff, 0x80, 0x7f, 0xff, 0xff, 0xfe, 0x02, 0x1f, 0xf0, 0x1f, 0xff,
-        0xff, 0xff, 0xc0, 0x63, 0xfe, 0x05, 0xff, 0xff, 0xff, 0xf8, 0x10, 0x7f, 0xc0, 0xff, 0xff,
-        0xff, 0xff,
-    ],
+    side: b"\0\x7f\xf0\x08\xff\x80\x7f\xff\xff\xfe\x02\x1f\xf0\x1f\xff\xff\xff\xc0\x63\xfe\x05\xff\xff\xff\xf8\x10\x7f\xc0\xff\xff\xff\xff",
     ..PADDED
 };
 
 /// One channel, with 17 bytes of side information. The granules have 8 and 16 bits and the gains 100 and
 /// 200; scfsi is 1010, and every other bit but main_data_begin is 1.
-pub const MONO: Frame = Frame {
-    header: [0xff, 0xfb, 0x90, 0xc0],
-    side: &[
-        0x00, 0x7e, 0x80, 0x23, 0xfe, 0xc9, 0xff, 0xff, 0xff, 0xf8, 0x08, 0x7f, 0xf2, 0x3f, 0xff,
-        0xff, 0xff,
-    ],
-    ..G
-};
+pub const MONO: Frame =
+    frame! { header: [0xff, 0xfb, 0x90, 0xc0], side: b"\0\x7e\x80\x23\xfe\xc9\xff\xff\xff\xf8\x08\x7f\xf2\x3f\xff\xff\xff", ..G };
 
 /// The same with the gains 95 and 195.
-pub const MONO_LOWER: Frame = Frame {
-    side: &[
-        0x00, 0x7e, 0x80, 0x23, 0xfe, 0xbf, 0xff, 0xff, 0xff, 0xf8, 0x08, 0x7f, 0xf0, 0xff, 0xff,
-        0xff, 0xff,
-    ],
-    ..MONO
-};
+pub const MONO_LOWER: Frame =
+    frame! { side: b"\0\x7e\x80\x23\xfe\xbf\xff\xff\xff\xf8\x08\x7f\xf0\xff\xff\xff\xff", ..MONO };
 
 /// Four times 762 bits, which fill the area of 381 bytes; all gains are 100.
-pub const FULL: Frame = Frame {
-    side: &[
-        0x00, 0x00, 0x02, 0xfa, 0x00, 0x32, 0x00, 0x00, 0x00, 0x00, 0x5f, 0x40, 0x06, 0x40, 0x00,
-        0x00, 0x00, 0x0b, 0xe8, 0x00, 0xc8, 0x00, 0x00, 0x00, 0x01, 0x7d, 0x00, 0x19, 0x00, 0x00,
-        0x00, 0x00,
-    ],
-    ..G
-};
+pub const FULL: Frame =
+    frame! { side: b"\0\0\x02\xfa\0\x32\0\0\0\0\x5f\x40\x06\x40\0\0\0\x0b\xe8\0\xc8\0\0\0\x01\x7d\0\x19", ..G };
 
 /// The same with all gains 101.
-pub const FULL_LOUDER: Frame = Frame {
-    side: &[
-        0x00, 0x00, 0x02, 0xfa, 0x00, 0x32, 0x80, 0x00, 0x00, 0x00, 0x5f, 0x40, 0x06, 0x50, 0x00,
-        0x00, 0x00, 0x0b, 0xe8, 0x00, 0xca, 0x00, 0x00, 0x00, 0x01, 0x7d, 0x00, 0x19, 0x40, 0x00,
-        0x00, 0x00,
-    ],
-    ..G
-};
+pub const FULL_LOUDER: Frame =
+    frame! { side: b"\0\0\x02\xfa\0\x32\x80\0\0\0\x5f\x40\x06\x50\0\0\0\x0b\xe8\0\xca\0\0\0\x01\x7d\0\x19\x40", ..G };
 
 /// The same as FULL with one bit more, which the area has no byte for.
-pub const OVERFULL: Frame = Frame {
-    side: &[
-        0x00, 0x00, 0x02, 0xfa, 0x00, 0x32, 0x00, 0x00, 0x00, 0x00, 0x5f, 0x40, 0x06, 0x40, 0x00,
-        0x00, 0x00, 0x0b, 0xe8, 0x00, 0xc8, 0x00, 0x00, 0x00, 0x01, 0x7d, 0x80, 0x19, 0x00, 0x00,
-        0x00, 0x00,
-    ],
-    ..G
-};
+pub const OVERFULL: Frame =
+    frame! { side: b"\0\0\x02\xfa\0\x32\0\0\0\0\x5f\x40\x06\x40\0\0\0\x0b\xe8\0\xc8\0\0\0\x01\x7d\x80\x19", ..G };
 
 /// main_data_begin is 10, and all else is as in Z.
-pub const BACK_POINTER: Frame = Frame {
-    side: &[0x05, 0x00],
-    ..Z
-};
+pub const BACK_POINTER: Frame = frame! { side: &[0x05, 0x00], ..Z };
 
 /// G at 48 kHz.
-pub const G_AT_48_KHZ: Frame = Frame {
-    header: [0xff, 0xfb, 0x94, 0x00],
-    length: 384,
-    ..G
-};
+pub const G_AT_48_KHZ: Frame = frame! { header: [0xff, 0xfb, 0x94, 0x00], length: 384, ..G };
 
 /// The same with the gains 95, 96, 250, 85.
-pub const G_AT_48_KHZ_LOWER: Frame = Frame {
-    header: [0xff, 0xfb, 0x94, 0x00],
-    length: 384,
-    ..G_LOWER
-};
+pub const G_AT_48_KHZ_LOWER: Frame =
+    frame! { header: [0xff, 0xfb, 0x94, 0x00], length: 384, ..G_LOWER };
 
 /// G at 32 kHz.
-pub const G_AT_32_KHZ: Frame = Frame {
-    header: [0xff, 0xfb, 0x98, 0x00],
-    length: 576,
-    ..G
-};
+pub const G_AT_32_KHZ: Frame = frame! { header: [0xff, 0xfb, 0x98, 0x00], length: 576, ..G };
 
 /// The same with the gains 95, 96, 250, 85.
-pub const G_AT_32_KHZ_LOWER: Frame = Frame {
-    header: [0xff, 0xfb, 0x98, 0x00],
-    length: 576,
-    ..G_LOWER
-};
+pub const G_AT_32_KHZ_LOWER: Frame =
+    frame! { header: [0xff, 0xfb, 0x98, 0x00], length: 576, ..G_LOWER };
 
 /// G at 160 kbit/s, with a text one byte behind the place of a head's.
-pub const LONG: Frame = Frame {
-    header: [0xff, 0xfb, 0xa0, 0x00],
-    area: b"-Info",
-    length: 522,
-    ..G
-};
+pub const LONG: Frame =
+    frame! { header: [0xff, 0xfb, 0xa0, 0x00], area: b"-Info", length: 522, ..G };
 
 /// The same with the gains 95, 96, 250, 85.
-pub const LONG_LOWER: Frame = Frame {
-    header: [0xff, 0xfb, 0xa0, 0x00],
-    area: b"-Info",
-    length: 522,
-    ..G_LOWER
-};
+pub const LONG_LOWER: Frame =
+    frame! { header: [0xff, 0xfb, 0xa0, 0x00], area: b"-Info", length: 522, ..G_LOWER };
 
 /// Z with the text of a head.
 pub const HEAD: Frame = Frame { area: b"Info", ..Z };
 
 /// MONO with the text of a head.
-pub const MONO_HEAD: Frame = Frame {
-    area: b"Info",
-    ..MONO
-};
+pub const MONO_HEAD: Frame = frame! { area: b"Info", ..MONO };
 
 /// The same with the gains 95 and 195.
-pub const MONO_HEAD_LOWER: Frame = Frame {
-    area: b"Info",
-    ..MONO_LOWER
-};
+pub const MONO_HEAD_LOWER: Frame = frame! { area: b"Info", ..MONO_LOWER };
 
 /// G with a wrong check word, and with the text of a head behind the side information.
-pub const PROTECTED_HEAD: Frame = Frame {
-    header: PROTECTED,
-    word: Some(0x0000),
-    area: b"Info",
-    ..G
-};
+pub const PROTECTED_HEAD: Frame =
+    frame! { header: PROTECTED, word: Some(0x0000), area: b"Info", ..G };
 
 /// The same with the text where a frame without a check word has it. Its first two bytes are the last two
 /// of the side information.
 pub const EARLY_HEAD: Frame = Frame {
     header: PROTECTED,
     word: Some(0x0000),
-    side: &[
-        0x00, 0x00, 0x00, 0x08, 0x00, 0x32, 0x00, 0x00, 0x00, 0x00, 0x01, 0x00, 0x06, 0x50, 0x00,
-        0x00, 0x00, 0x00, 0x20, 0x01, 0xfe, 0x00, 0x00, 0x00, 0x00, 0x04, 0x00, 0x16, 0x80, 0x00,
-        b'X', b'i',
-    ],
+    side: b"\0\0\0\x08\0\x32\0\0\0\0\x01\0\x06\x50\0\0\0\0\x20\x01\xfe\0\0\0\0\x04\0\x16\x80\0\x58\x69",
     area: b"ng",
     length: 417,
 };
 
 /// Z with a check word.
-pub const PROTECTED_Z: Frame = Frame {
-    header: PROTECTED,
-    word: Some(0xc05c),
-    ..Z
-};
+pub const PROTECTED_Z: Frame = frame! { header: PROTECTED, word: Some(0xc05c), ..Z };
 
 /// G with a check word.
-pub const PROTECTED_G: Frame = Frame {
-    header: PROTECTED,
-    word: Some(0x11a2),
-    ..G
-};
+pub const PROTECTED_G: Frame = frame! { header: PROTECTED, word: Some(0x11a2), ..G };
 
 /// The same with the gains 95, 96, 250, 85.
-pub const PROTECTED_G_LOWER: Frame = Frame {
-    header: PROTECTED,
-    word: Some(0x9476),
-    ..G_LOWER
-};
+pub const PROTECTED_G_LOWER: Frame = frame! { header: PROTECTED, word: Some(0x9476), ..G_LOWER };
 
 /// MPEG-2, 22,050 Hz, 64 kbit/s, padded, two channels, with 17 bytes of side information. The channels
 /// have 8 and 16 bits and the gains 100 and 200; every other bit but main_data_begin is 1.
 pub const LOWER: Frame = Frame {
     header: [0xff, 0xf3, 0x82, 0x00],
     word: None,
-    side: &[
-        0x00, 0xc0, 0x23, 0xfe, 0xc9, 0xff, 0xff, 0xff, 0xff, 0x80, 0x87, 0xff, 0x23, 0xff, 0xff,
-        0xff, 0xff,
-    ],
+    side: b"\0\xc0\x23\xfe\xc9\xff\xff\xff\xff\x80\x87\xff\x23\xff\xff\xff\xff",
     area: &AREA,
     length: 209,
 };
 
 /// The same with the gains 95 and 195.
-pub const LOWER_QUIETER: Frame = Frame {
-    side: &[
-        0x00, 0xc0, 0x23, 0xfe, 0xbf, 0xff, 0xff, 0xff, 0xff, 0x80, 0x87, 0xff, 0x0f, 0xff, 0xff,
-        0xff, 0xff,
-    ],
-    ..LOWER
-};
+pub const LOWER_QUIETER: Frame =
+    frame! { side: b"\0\xc0\x23\xfe\xbf\xff\xff\xff\xff\x80\x87\xff\x0f\xff\xff\xff\xff", ..LOWER };
 
 /// LOWER with a check word.
-pub const PROTECTED_LOWER: Frame = Frame {
-    header: [0xff, 0xf2, 0x82, 0x00],
-    word: Some(0x4fa8),
-    ..LOWER
-};
+pub const PROTECTED_LOWER: Frame =
+    frame! { header: [0xff, 0xf2, 0x82, 0x00], word: Some(0x4fa8), ..LOWER };
 
 /// The same with the gains 95 and 195.
-pub const PROTECTED_LOWER_QUIETER: Frame = Frame {
-    header: [0xff, 0xf2, 0x82, 0x00],
-    word: Some(0x2bff),
-    ..LOWER_QUIETER
-};
+pub const PROTECTED_LOWER_QUIETER: Frame =
+    frame! { header: [0xff, 0xf2, 0x82, 0x00], word: Some(0x2bff), ..LOWER_QUIETER };
 
 /// MPEG-2, 22,050 Hz, 64 kbit/s, all bytes behind the header 0.
-pub const MPEG_2: Frame = Frame {
-    header: [0xff, 0xf3, 0x80, 0x00],
-    length: 208,
-    ..Z
-};
+pub const MPEG_2: Frame = frame! { header: [0xff, 0xf3, 0x80, 0x00], length: 208, ..Z };
 
 /// The same with the version that the standard reserves.
-pub const RESERVED_VERSION: Frame = Frame {
-    header: [0xff, 0xeb, 0x80, 0x00],
-    length: 208,
-    ..Z
-};
+pub const RESERVED_VERSION: Frame = frame! { header: [0xff, 0xeb, 0x80, 0x00], length: 208, ..Z };
 
 /// Z with the bits of layer II.
-pub const LAYER_2: Frame = Frame {
-    header: [0xff, 0xfd, 0x90, 0x00],
-    ..Z
-};
+pub const LAYER_2: Frame = frame! { header: [0xff, 0xfd, 0x90, 0x00], ..Z };
 
 /// Z in free format.
-pub const FREE: Frame = Frame {
-    header: [0xff, 0xfb, 0x00, 0x00],
-    ..Z
-};
+pub const FREE: Frame = frame! { header: [0xff, 0xfb, 0x00, 0x00], ..Z };
 
 /// Z with the forbidden bit rate.
-pub const FORBIDDEN_RATE: Frame = Frame {
-    header: [0xff, 0xfb, 0xf0, 0x00],
-    ..Z
-};
+pub const FORBIDDEN_RATE: Frame = frame! { header: [0xff, 0xfb, 0xf0, 0x00], ..Z };
 
 /// Z with the reserved frequency.
-pub const RESERVED_FREQUENCY: Frame = Frame {
-    header: [0xff, 0xfb, 0x9c, 0x00],
-    ..Z
-};
+pub const RESERVED_FREQUENCY: Frame = frame! { header: [0xff, 0xfb, 0x9c, 0x00], ..Z };
 
 /// The frames end to end.
 pub fn file_of(alloc: Global, frames: &[Frame]) -> Result<Vec<u8>, AllocError> {
