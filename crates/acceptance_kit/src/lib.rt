@@ -4,3 +4,4 @@
 pub mod rows;
 pub mod running;
 pub mod steps;
+pub mod tables;

@@ -1,7 +1,10 @@
 //! Whole commands as rows of a table, and one runner for all of them.
+//!
+//! Tables are written with the macros of `tables`, a row on one line or few.
 
+use crate::failing;
 use crate::running::{Ended, run_with_room};
-use outside::{Call, MemFolder};
+use outside::{Call, Folder, MemFolder};
 use std::alloc::{AllocError, Global};
 use test_files::files::{Stretch, bytes_of};
 
@@ -64,6 +67,31 @@ pub const MORE: More = More {
     text: None,
     others: None,
     absent: None,
+};
+
+/// The first call of `find` is to fail, and so on.
+pub const FIRST_FIND: More = failing!(Find 1);
+
+pub const SECOND_FIND: More = failing!(Find 2);
+
+pub const FIRST_READ: More = failing!(Read 1);
+
+pub const SECOND_READ: More = failing!(Read 2);
+
+pub const THIRD_READ: More = failing!(Read 3);
+
+pub const FIRST_CREATE: More = failing!(Create 1);
+
+pub const SECOND_CREATE: More = failing!(Create 2);
+
+pub const FIRST_WRITE: More = failing!(Write 1);
+
+pub const SECOND_WRITE: More = failing!(Write 2);
+
+/// No file `x` is created.
+pub const NO_X: More = More {
+    absent: Some(&["x"]),
+    ..MORE
 };
 
 static NO_MORE: More = MORE;
@@ -278,6 +306,18 @@ fn difference_of_end(
         return Ok(Some(Found::Status(ended.status)));
     }
     Ok(None)
+}
+
+/// How the words end otherwise than with this status and line, and without text.
+pub fn other_end<D: Folder>(
+    alloc: Global,
+    folder: &mut D,
+    words: &str,
+    status: u8,
+    line: &'static str,
+) -> Result<Option<Found>, AllocError> {
+    let ended = run_with_room(alloc, folder, words)?;
+    difference_of_end(alloc, &ended, status, line, "")
 }
 
 /// Whether the command told want of memory.

@@ -1,5 +1,6 @@
 //! Commands of which one call fails: the first of its kind, the second and so on, until none does.
 
+use crate::kinds;
 use crate::rows::{File, difference_of_files, put_files, wants_memory};
 use crate::running::{Ended, run_with_room};
 use outside::{Call, MemFolder};
@@ -18,6 +19,14 @@ pub struct Kind {
     /// So many bytes at least were written when the last one is made.
     pub written: usize,
 }
+
+/// The calls of a command from `u` to `o`.
+pub const FROM_U_TO_O: &[Kind] = kinds! {
+    Find 1 "u: read fault\n";
+    Read 1 "u: read fault\n";
+    Create 1 "o: write fault\n";
+    Write 1 "o: write fault\n";
+};
 
 /// A command over these files, and what it writes, in this order.
 pub struct Steps {
