@@ -1,8 +1,10 @@
 //! Frames with check words: what is refused of them, and in which order.
 
-use acceptance_kit::rows::{File, ROW, Row, first_difference};
+use acceptance_kit::rows::{Row, first_difference};
+use acceptance_kit::{done, refused};
 use std::test::Fail;
-use test_files::files::Stretch;
+use test_files::files::Stretch::{Bytes, Frames};
+use test_files::frame;
 use test_files::frames::{Frame, LOUD, PROTECTED_G, Z};
 
 /// MPEG-2, 24,000 Hz, 8 kbit/s, one channel, with a check word: 8 bits of main data in an area of 9 bytes,
@@ -24,18 +26,9 @@ pub const WRONG_M: [u8; 24] = [
     0x00, 0x00, 0x00, 0x00, 0x00, 0x00, 0x00, 0x00,
 ];
 
-static RENEWED: [Row; 1] = [Row {
-    files: &[File {
-        name: "m",
-        bytes: &[Stretch::Bytes(&M)],
-    }],
-    words: &["gain -s s -g 1 m o"],
-    after: &[File {
-        name: "o",
-        bytes: &[Stretch::Bytes(&M_LOUDER)],
-    }],
-    ..ROW
-}];
+static RENEWED: [Row; 1] = done! {
+    "gain -s s -g 1 m o", "m" = &[Bytes(&M)] => "o" = &[Bytes(&M_LOUDER)];
+};
 
 #[test]
 fn the_check_word_is_renewed(rt: HostRuntime) -> Result<(), Fail> {
@@ -43,16 +36,9 @@ fn the_check_word_is_renewed(rt: HostRuntime) -> Result<(), Fail> {
     Ok(())
 }
 
-static TOLD: [Row; 1] = [Row {
-    files: &[File {
-        name: "m",
-        bytes: &[Stretch::Bytes(&WRONG_M)],
-    }],
-    words: &["gain -s s -g 1 m o"],
-    status: 1,
-    line: "m: check word at 0 is e953, right is e952\n",
-    ..ROW
-}];
+static TOLD: [Row; 1] = refused! {
+    "gain -s s -g 1 m o", "m" = &[Bytes(&WRONG_M)] => 1 "m: check word at 0 is e953, right is e952\n";
+};
 
 #[test]
 fn a_wrong_check_word_is_told(rt: HostRuntime) -> Result<(), Fail> {
@@ -61,10 +47,7 @@ fn a_wrong_check_word_is_told(rt: HostRuntime) -> Result<(), Fail> {
 }
 
 /// PROTECTED_G with a wrong check word.
-const WRONG_G: Frame = Frame {
-    word: Some(0x01a2),
-    ..PROTECTED_G
-};
+const WRONG_G: Frame = frame! { word: Some(0x01a2), ..PROTECTED_G };
 
 /// The frame M with main_data_begin 1.
 pub const BACK_POINTER: Frame = Frame {
@@ -76,89 +59,24 @@ pub const BACK_POINTER: Frame = Frame {
 };
 
 /// The same with the check word of M.
-const WRONG_BACK_POINTER: Frame = Frame {
-    word: Some(0xe952),
-    ..BACK_POINTER
-};
+const WRONG_BACK_POINTER: Frame = frame! { word: Some(0xe952), ..BACK_POINTER };
 
 /// The frame M with 73 bits, which pass its area, but not that of a frame without a check word.
-const OVERFULL: Frame = Frame {
-    word: Some(0x41dd),
-    side: &[0x00, 0x02, 0x48, 0x01, 0x90],
-    ..BACK_POINTER
-};
+const OVERFULL: Frame =
+    frame! { word: Some(0x41dd), side: &[0x00, 0x02, 0x48, 0x01, 0x90], ..BACK_POINTER };
 
-static REFUSED: [Row; 6] = [
-    Row {
-        what: "a wrong word, later, and a gain out of range before",
-        files: &[File {
-            name: "a",
-            bytes: &[Stretch::Frames(&[LOUD, WRONG_G])],
-        }],
-        words: &["gain -s s -g 5 a o"],
-        status: 1,
-        line: "a: check word at 417 is 01a2, right is 11a2\n",
-        ..ROW
-    },
-    Row {
-        what: "a wrong word in a lost frame",
-        files: &[File {
-            name: "a",
-            bytes: &[Stretch::Frames(&[WRONG_BACK_POINTER])],
-        }],
-        words: &["gain -s s -g 5 a o"],
-        status: 1,
-        line: "a: check word at 0 is e952, right is 6f31\n",
-        ..ROW
-    },
-    Row {
-        what: "main data past the area",
-        files: &[File {
-            name: "a",
-            bytes: &[Stretch::Frames(&[OVERFULL])],
-        }],
-        words: &["gain -s s -g 5 a o"],
-        status: 1,
-        line: "a: overrun at 0, bits 73, room 72\n",
-        ..ROW
-    },
-    Row {
-        what: "a wrong word behind a frame that is at fault",
-        files: &[File {
-            name: "a",
-            bytes: &[Stretch::Frames(&[OVERFULL, WRONG_BACK_POINTER])],
-        }],
-        words: &["gain -s s -g 5 a o"],
-        status: 1,
-        line: "a: overrun at 0, bits 73, room 72\n",
-        ..ROW
-    },
-    Row {
-        what: "a wrong word in a frame of another class",
-        files: &[File {
-            name: "a",
-            bytes: &[Stretch::Frames(&[Z, WRONG_BACK_POINTER])],
-        }],
-        words: &["gain -s s -g 5 a o"],
-        status: 1,
-        line: "a: mixed class at 417\n",
-        ..ROW
-    },
-    Row {
-        what: "a wrong word in a frame that is cut short",
-        files: &[File {
-            name: "a",
-            bytes: &[Stretch::Frames(&[Frame {
-                length: 416,
-                ..WRONG_G
-            }])],
-        }],
-        words: &["gain -s s -g 5 a o"],
-        status: 1,
-        line: "a: truncated at 0\n",
-        ..ROW
-    },
-];
+static REFUSED: [Row; 6] = refused! {
+    "gain -s s -g 5 a o", "a";
+    "a wrong word, later, and a gain out of range before":
+        &[Frames(&[LOUD, WRONG_G])] => "a: check word at 417 is 01a2, right is 11a2\n";
+    "a wrong word in a lost frame": &[Frames(&[WRONG_BACK_POINTER])] => "a: check word at 0 is e952, right is 6f31\n";
+    "main data past the area": &[Frames(&[OVERFULL])] => "a: overrun at 0, bits 73, room 72\n";
+    "a wrong word behind a frame that is at fault":
+        &[Frames(&[OVERFULL, WRONG_BACK_POINTER])] => "a: overrun at 0, bits 73, room 72\n";
+    "a wrong word in a frame of another class": &[Frames(&[Z, WRONG_BACK_POINTER])] => "a: mixed class at 417\n";
+    "a wrong word in a frame that is cut short":
+        &[Frames(&[Frame { length: 416, ..WRONG_G }])] => "a: truncated at 0\n";
+};
 
 #[test]
 fn frames_with_check_words(rt: HostRuntime) -> Result<(), Fail> {

@@ -1,136 +1,39 @@
 //! Calls of the outside that fail.
 
 use crate::check_words::WRONG_M;
-use acceptance_kit::rows::{Failing, File, MORE, More, ROW, Row, first_difference};
+use acceptance_kit::rows::{
+    FIRST_CREATE, FIRST_FIND, FIRST_READ, FIRST_WRITE, MORE, More, Row, SECOND_CREATE, SECOND_FIND,
+    SECOND_READ, SECOND_WRITE, THIRD_READ, first_difference,
+};
 use acceptance_kit::running::{Ended, folder_of_frames, run_over, sink};
-use outside::{Call, MemFolder, MemSink};
+use acceptance_kit::{done, refused};
+use outside::{MemFolder, MemSink};
 use std::alloc::{AllocError, AllocGlobal, Global};
 use std::process::Abort;
 use std::test::Fail;
-use test_files::files::{APE, ID3V1, ID3V1_REST, ID3V2, ID3V2_REST, Stretch};
+use test_files::files::Stretch::{Bytes, Fill, Frames};
+use test_files::files::{APE, ID3V1_BLOCK, ID3V2_BLOCK, Stretch};
 use test_files::frames::{G, G_LOWER, HEAD, PROTECTED_G, PROTECTED_G_LOWER, Z};
-
-const WORDS: &str = "gain -s s -g -5 g o";
+use test_files::{end_to_end, table};
 
 /// A file in which everything stands that a file may have.
-const FILE: &[Stretch] = &[
-    ID3V2,
-    ID3V2_REST,
-    Stretch::Fill(0, 2),
-    Stretch::Fill(0x55, 10),
-    Stretch::Frames(&[HEAD, G, Z, PROTECTED_G]),
-    APE,
-    ID3V1,
-    ID3V1_REST,
-];
+const FILE: &[Stretch] = &end_to_end! {
+    ID3V2_BLOCK, Fill(0, 2), Fill(0x55, 10), Frames(&[HEAD, G, Z, PROTECTED_G]), APE, ID3V1_BLOCK
+};
 
 /// The same with the gains 5 less, without its junk.
-const LOWER_FILE: &[Stretch] = &[
-    ID3V2,
-    ID3V2_REST,
-    Stretch::Fill(0, 2),
-    Stretch::Frames(&[HEAD, G_LOWER, Z, PROTECTED_G_LOWER]),
-    APE,
-    ID3V1,
-    ID3V1_REST,
-];
+const LOWER_FILE: &[Stretch] = &end_to_end! {
+    ID3V2_BLOCK, Fill(0, 2), Frames(&[HEAD, G_LOWER, Z, PROTECTED_G_LOWER]), APE, ID3V1_BLOCK
+};
 
-static FAILING: [Row; 5] = [
-    Row {
-        files: &[File {
-            name: "g",
-            bytes: FILE,
-        }],
-        words: &[WORDS],
-        status: 3,
-        line: "g: read fault\n",
-        more: Some(&More {
-            fails: Some(&[Failing {
-                call: Call::Find,
-                number: 1,
-            }]),
-            ..MORE
-        }),
-        ..ROW
-    },
-    Row {
-        files: &[File {
-            name: "g",
-            bytes: FILE,
-        }],
-        words: &[WORDS],
-        status: 3,
-        line: "g: read fault\n",
-        more: Some(&More {
-            fails: Some(&[Failing {
-                call: Call::Read,
-                number: 1,
-            }]),
-            ..MORE
-        }),
-        ..ROW
-    },
+static FAILING: [Row; 5] = refused! {
+    "gain -s s -g -5 g o" with FIRST_FIND, "g" = FILE => 3 "g: read fault\n";
+    "gain -s s -g -5 g o" with FIRST_READ, "g" = FILE => 3 "g: read fault\n";
     // The input is read once more when the output is there.
-    Row {
-        files: &[File {
-            name: "g",
-            bytes: FILE,
-        }],
-        words: &[WORDS],
-        status: 3,
-        line: "g: read fault\n",
-        after: &[File {
-            name: "o",
-            bytes: &[],
-        }],
-        more: Some(&More {
-            fails: Some(&[Failing {
-                call: Call::Read,
-                number: 2,
-            }]),
-            ..MORE
-        }),
-        ..ROW
-    },
-    Row {
-        files: &[File {
-            name: "g",
-            bytes: FILE,
-        }],
-        words: &[WORDS],
-        status: 3,
-        line: "o: write fault\n",
-        more: Some(&More {
-            fails: Some(&[Failing {
-                call: Call::Create,
-                number: 1,
-            }]),
-            ..MORE
-        }),
-        ..ROW
-    },
-    Row {
-        files: &[File {
-            name: "g",
-            bytes: FILE,
-        }],
-        words: &[WORDS],
-        status: 3,
-        line: "o: write fault\n",
-        after: &[File {
-            name: "o",
-            bytes: &[],
-        }],
-        more: Some(&More {
-            fails: Some(&[Failing {
-                call: Call::Write,
-                number: 1,
-            }]),
-            ..MORE
-        }),
-        ..ROW
-    },
-];
+    "gain -s s -g -5 g o" with SECOND_READ, "g" = FILE => 3 "g: read fault\n" leaves "o" = &[];
+    "gain -s s -g -5 g o" with FIRST_CREATE, "g" = FILE => 3 "o: write fault\n";
+    "gain -s s -g -5 g o" with FIRST_WRITE, "g" = FILE => 3 "o: write fault\n" leaves "o" = &[];
+};
 
 #[test]
 fn each_call_fails_once(rt: HostRuntime) -> Result<(), Fail> {
@@ -138,84 +41,12 @@ fn each_call_fails_once(rt: HostRuntime) -> Result<(), Fail> {
     Ok(())
 }
 
-static FURTHER: [Row; 4] = [
-    Row {
-        files: &[File {
-            name: "g",
-            bytes: FILE,
-        }],
-        words: &[WORDS],
-        after: &[File {
-            name: "o",
-            bytes: LOWER_FILE,
-        }],
-        more: Some(&More {
-            fails: Some(&[Failing {
-                call: Call::Find,
-                number: 2,
-            }]),
-            ..MORE
-        }),
-        ..ROW
-    },
-    Row {
-        files: &[File {
-            name: "g",
-            bytes: FILE,
-        }],
-        words: &[WORDS],
-        after: &[File {
-            name: "o",
-            bytes: LOWER_FILE,
-        }],
-        more: Some(&More {
-            fails: Some(&[Failing {
-                call: Call::Read,
-                number: 3,
-            }]),
-            ..MORE
-        }),
-        ..ROW
-    },
-    Row {
-        files: &[File {
-            name: "g",
-            bytes: FILE,
-        }],
-        words: &[WORDS],
-        after: &[File {
-            name: "o",
-            bytes: LOWER_FILE,
-        }],
-        more: Some(&More {
-            fails: Some(&[Failing {
-                call: Call::Create,
-                number: 2,
-            }]),
-            ..MORE
-        }),
-        ..ROW
-    },
-    Row {
-        files: &[File {
-            name: "g",
-            bytes: FILE,
-        }],
-        words: &[WORDS],
-        after: &[File {
-            name: "o",
-            bytes: LOWER_FILE,
-        }],
-        more: Some(&More {
-            fails: Some(&[Failing {
-                call: Call::Write,
-                number: 2,
-            }]),
-            ..MORE
-        }),
-        ..ROW
-    },
-];
+static FURTHER: [Row; 4] = done! {
+    "gain -s s -g -5 g o" with SECOND_FIND, "g" = FILE => "o" = LOWER_FILE;
+    "gain -s s -g -5 g o" with THIRD_READ, "g" = FILE => "o" = LOWER_FILE;
+    "gain -s s -g -5 g o" with SECOND_CREATE, "g" = FILE => "o" = LOWER_FILE;
+    "gain -s s -g -5 g o" with SECOND_WRITE, "g" = FILE => "o" = LOWER_FILE;
+};
 
 #[test]
 fn no_more_calls_are_made(rt: HostRuntime) -> Result<(), Fail> {
@@ -223,58 +54,10 @@ fn no_more_calls_are_made(rt: HostRuntime) -> Result<(), Fail> {
     Ok(())
 }
 
-static THERE: [Row; 2] = [
-    Row {
-        files: &[
-            File {
-                name: "g",
-                bytes: &[Stretch::Frames(&[G])],
-            },
-            File {
-                name: "o",
-                bytes: &[Stretch::Bytes(b"old")],
-            },
-        ],
-        words: &[WORDS],
-        status: 3,
-        line: "o: write fault\n",
-        more: Some(&More {
-            fails: Some(&[Failing {
-                call: Call::Create,
-                number: 1,
-            }]),
-            ..MORE
-        }),
-        ..ROW
-    },
-    Row {
-        files: &[
-            File {
-                name: "g",
-                bytes: &[Stretch::Frames(&[G])],
-            },
-            File {
-                name: "o",
-                bytes: &[Stretch::Bytes(b"old")],
-            },
-        ],
-        words: &[WORDS],
-        status: 3,
-        line: "o: write fault\n",
-        after: &[File {
-            name: "o",
-            bytes: &[],
-        }],
-        more: Some(&More {
-            fails: Some(&[Failing {
-                call: Call::Write,
-                number: 1,
-            }]),
-            ..MORE
-        }),
-        ..ROW
-    },
-];
+static THERE: [Row; 2] = refused! {
+    "gain -s s -g -5 g o" with FIRST_CREATE, "g" = &[Frames(&[G])], "o" = &[Bytes(b"old")] => 3 "o: write fault\n";
+    "gain -s s -g -5 g o" with FIRST_WRITE, "g" = &[Frames(&[G])], "o" = &[Bytes(b"old")] => 3 "o: write fault\n" leaves "o" = &[];
+};
 
 #[test]
 fn an_output_that_was_there(rt: HostRuntime) -> Result<(), Fail> {
@@ -282,37 +65,19 @@ fn an_output_that_was_there(rt: HostRuntime) -> Result<(), Fail> {
     Ok(())
 }
 
-static NO_ROOM: [Row; 2] = [
-    Row {
-        files: &[File {
-            name: "g",
-            bytes: &[Stretch::Frames(&[G])],
-        }],
-        words: &[WORDS],
-        status: 3,
-        line: "o: write fault\n",
-        after: &[File {
-            name: "o",
-            bytes: &[],
-        }],
-        more: Some(&More { room: 416, ..MORE }),
-        ..ROW
-    },
-    Row {
-        files: &[File {
-            name: "g",
-            bytes: &[Stretch::Frames(&[G])],
-        }],
-        words: &["gain -s s -g -5 g p"],
-        status: 3,
-        line: "p: write fault\n",
-        more: Some(&More {
-            absent: Some(&["p"]),
-            ..MORE
-        }),
-        ..ROW
-    },
-];
+/// A byte less than the output has.
+const TIGHT: More = More { room: 416, ..MORE };
+
+/// The output is `p`, and isn't there.
+const NO_P: More = More {
+    absent: Some(&["p"]),
+    ..MORE
+};
+
+static NO_ROOM: [Row; 2] = refused! {
+    "gain -s s -g -5 g o" with TIGHT, "g" = &[Frames(&[G])] => 3 "o: write fault\n" leaves "o" = &[];
+    "gain -s s -g -5 g p" with NO_P, "g" = &[Frames(&[G])] => 3 "p: write fault\n";
+};
 
 #[test]
 fn no_room_for_the_output(rt: HostRuntime) -> Result<(), Fail> {
@@ -327,33 +92,14 @@ struct Told {
     line: &'static str,
 }
 
-static TOLD: [Told; 5] = [
-    Told {
-        words: "gain -s s",
-        status: 2,
-        line: "bad word 4\n",
-    },
-    Told {
-        words: "gain -s s -g 1 g o",
-        status: 1,
-        line: "gain 255 out of range at 0, granule 1, channel 0\n",
-    },
-    Told {
-        words: "gain -s s -g 1 a o",
-        status: 3,
-        line: "a: absent\n",
-    },
-    Told {
-        words: "gain -s s -g 1 m o",
-        status: 1,
-        line: "m: check word at 0 is e953, right is e952\n",
-    },
-    Told {
-        words: "gain -s s -g 0 g p",
-        status: 3,
-        line: "p: write fault\n",
-    },
-];
+static TOLD: [Told; 5] = table! {
+    Told { words, status, line }
+    ("gain -s s", 2, "bad word 4\n")
+    ("gain -s s -g 1 g o", 1, "gain 255 out of range at 0, granule 1, channel 0\n")
+    ("gain -s s -g 1 a o", 3, "a: absent\n")
+    ("gain -s s -g 1 m o", 1, "m: check word at 0 is e953, right is e952\n")
+    ("gain -s s -g 0 g p", 3, "p: write fault\n")
+};
 
 /// A folder with the file `g`, and the file `m` with a wrong check word.
 fn folder_of_two(alloc: Global) -> Result<MemFolder, AllocError> {
@@ -403,18 +149,9 @@ fn standard_error_fails(rt: HostRuntime) -> Result<(), Fail> {
     Ok(())
 }
 
-static WHOLE: [Row; 1] = [Row {
-    files: &[File {
-        name: "g",
-        bytes: FILE,
-    }],
-    words: &[WORDS],
-    after: &[File {
-        name: "o",
-        bytes: LOWER_FILE,
-    }],
-    ..ROW
-}];
+static WHOLE: [Row; 1] = done! {
+    "gain -s s -g -5 g o", "g" = FILE => "o" = LOWER_FILE;
+};
 
 #[test]
 fn want_of_memory_is_told_before_the_output_is_created(rt: HostRuntime) -> Result<(), Fail> {

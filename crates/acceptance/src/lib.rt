@@ -6,8 +6,6 @@ mod channels;
 #[cfg(test)]
 mod check_words;
 #[cfg(test)]
-mod expected;
-#[cfg(test)]
 mod faults;
 #[cfg(test)]
 mod gains;

@@ -1,124 +1,62 @@
 //! What stands in a file, line by line. The lines are worked out by hand from the frames' bytes.
 
 use crate::reservoirs::{FIRST, NEARER, SECOND};
-use acceptance_kit::rows::{Failing, File, MORE, More, ROW, Row, first_difference};
+use acceptance_kit::rows::{FIRST_FIND, FIRST_READ, MORE, More, NO_X, ROW, Row, first_difference};
 use acceptance_kit::running::{folder_of_file, list_to};
-use outside::{Call, MemFolder};
+use acceptance_kit::{files, refused};
+use outside::MemFolder;
 use std::alloc::{AllocError, AllocGlobal};
 use std::process::Abort;
 use std::test::Fail;
-use test_files::files::{APE, ID3V1, ID3V1_REST, ID3V2, ID3V2_REST, Stretch};
+use test_files::files::Stretch::{Bytes, Fill, Frames, Repeated};
+use test_files::files::{APE, ID3V1_BLOCK, ID3V2, ID3V2_BLOCK, Stretch};
 use test_files::frames::{EARLY_HEAD, HEAD, LOWER, MONO, PADDED, PROTECTED_Z, Z};
 
-static CASES: [Row; 8] = [
-    Row {
-        what: "the bit reservoir",
-        files: &[File {
-            name: "a",
-            bytes: &[Stretch::Frames(&[FIRST, SECOND])],
-        }],
-        words: &["list a"],
-        more: Some(&More {
-            text: Some(
-                "frame 0 at 0: 128 kbit/s, begin 0, bits 2400
+/// What is tried, the file `a`, and what its list says.
+macro_rules! listed {
+    ($($what:literal: $bytes:expr => $text:literal;)+) => {
+        [$(Row {
+            what: $what,
+            files: files!("a" = $bytes),
+            words: &["list a"],
+            more: Some(&More { text: Some($text), ..MORE }),
+            ..ROW
+        }),+]
+    };
+}
+
+static CASES: [Row; 8] = listed! {
+    "the bit reservoir":
+        &[Frames(&[FIRST, SECOND])] =>
+"frame 0 at 0: 128 kbit/s, begin 0, bits 2400
 frame 1 at 417: 128 kbit/s, begin 81, bits 3200
 2 frames, MPEG-1, 44100 Hz, 2 channels, 0.00.05
-",
-            ),
-            ..MORE
-        }),
-        ..ROW
-    },
-    Row {
-        what: "a head, whose area counts",
-        files: &[File {
-            name: "a",
-            bytes: &[Stretch::Frames(&[HEAD, NEARER])],
-        }],
-        words: &["list a"],
-        more: Some(&More {
-            text: Some(
-                "head at 0: 417 bytes
+";
+    "a head, whose area counts":
+        &[Frames(&[HEAD, NEARER])] =>
+"head at 0: 417 bytes
 frame 0 at 417: 128 kbit/s, begin 40, bits 3200
 1 frames, MPEG-1, 44100 Hz, 2 channels, 0.00.02
-",
-            ),
-            ..MORE
-        }),
-        ..ROW
-    },
-    Row {
-        what: "a first frame whose main data were cut off",
-        files: &[File {
-            name: "a",
-            bytes: &[Stretch::Frames(&[SECOND])],
-        }],
-        words: &["list a"],
-        more: Some(&More {
-            text: Some(
-                "frame 0 at 0: 128 kbit/s, begin 81, bits 3200, lost
+";
+    "a first frame whose main data were cut off":
+        &[Frames(&[SECOND])] =>
+"frame 0 at 0: 128 kbit/s, begin 81, bits 3200, lost
 1 frames, MPEG-1, 44100 Hz, 2 channels, 0.00.02
-",
-            ),
-            ..MORE
-        }),
-        ..ROW
-    },
+";
     // The false frame in the junk isn't anchored: zeros stand at its end.
-    Row {
-        what: "blocks, zeros and junk",
-        files: &[File {
-            name: "a",
-            bytes: &[
-                ID3V2,
-                ID3V2_REST,
-                Stretch::Fill(0, 2),
-                Stretch::Fill(0x55, 100),
-                Stretch::Bytes(&[0xff, 0xfb, 0x90, 0x00]),
-                Stretch::Fill(0x55, 196),
-                Stretch::Frames(&[Z, Z]),
-                APE,
-                ID3V1,
-                ID3V1_REST,
-            ],
-        }],
-        words: &["list a"],
-        more: Some(&More {
-            text: Some(
-                "block ID3v2 at 0: 40 bytes
+    "blocks, zeros and junk":
+        &[ID3V2_BLOCK, Fill(0, 2), Fill(0x55, 100), Bytes(&[0xff, 0xfb, 0x90, 0x00]), Fill(0x55, 196), Frames(&[Z, Z]), APE, ID3V1_BLOCK] =>
+"block ID3v2 at 0: 40 bytes
 junk at 42: 300 bytes
 frame 0 at 342: 128 kbit/s, begin 0, bits 0
 frame 1 at 759: 128 kbit/s, begin 0, bits 0
 block APEv2 at 1176: 79 bytes
 block ID3v1 at 1255: 128 bytes
 2 frames, MPEG-1, 44100 Hz, 2 channels, 0.00.05
-",
-            ),
-            ..MORE
-        }),
-        ..ROW
-    },
-    Row {
-        what: "a protected head, and blocks and zeros between frames",
-        files: &[File {
-            name: "a",
-            bytes: &[
-                APE,
-                Stretch::Frames(&[EARLY_HEAD, Z]),
-                ID3V2,
-                ID3V2_REST,
-                Stretch::Fill(0, 3),
-                Stretch::Frames(&[PADDED]),
-                ID3V1,
-                ID3V1_REST,
-                Stretch::Frames(&[PROTECTED_Z]),
-                Stretch::Fill(0, 1),
-            ],
-        }],
-        words: &["list a"],
-        more: Some(&More {
-            text: Some(
-                "block APEv2 at 0: 79 bytes
+";
+    "a protected head, and blocks and zeros between frames":
+        &[APE, Frames(&[EARLY_HEAD, Z]), ID3V2_BLOCK, Fill(0, 3), Frames(&[PADDED]), ID3V1_BLOCK, Frames(&[PROTECTED_Z]), Fill(0, 1)] =>
+"block APEv2 at 0: 79 bytes
 head at 79: 417 bytes
 frame 0 at 496: 128 kbit/s, begin 0, bits 0
 block ID3v2 at 913: 40 bytes
@@ -126,71 +64,25 @@ frame 1 at 956: 128 kbit/s padded, begin 0, bits 80
 block ID3v1 at 1374: 128 bytes
 frame 2 at 1502: 128 kbit/s, begin 0, bits 0
 3 frames, MPEG-1, 44100 Hz, 2 channels, 0.00.07
-",
-            ),
-            ..MORE
-        }),
-        ..ROW
-    },
-    Row {
-        what: "one channel",
-        files: &[File {
-            name: "a",
-            bytes: &[Stretch::Frames(&[MONO])],
-        }],
-        words: &["list a"],
-        more: Some(&More {
-            text: Some(
-                "frame 0 at 0: 128 kbit/s, begin 0, bits 24
+";
+    "one channel":
+        &[Frames(&[MONO])] =>
+"frame 0 at 0: 128 kbit/s, begin 0, bits 24
 1 frames, MPEG-1, 44100 Hz, 1 channels, 0.00.02
-",
-            ),
-            ..MORE
-        }),
-        ..ROW
-    },
-    Row {
-        what: "MPEG-2",
-        files: &[File {
-            name: "a",
-            bytes: &[Stretch::Frames(&[LOWER])],
-        }],
-        words: &["list a"],
-        more: Some(&More {
-            text: Some(
-                "frame 0 at 0: 64 kbit/s padded, begin 0, bits 24
+";
+    "MPEG-2":
+        &[Frames(&[LOWER])] =>
+"frame 0 at 0: 64 kbit/s padded, begin 0, bits 24
 1 frames, MPEG-2, 22050 Hz, 2 channels, 0.00.02
-",
-            ),
-            ..MORE
-        }),
-        ..ROW
-    },
+";
     // 8,000 Hz, 8 kbit/s, one channel, all bytes behind the header 0: 72 bytes and 72 ms each.
-    Row {
-        what: "MPEG-2.5",
-        files: &[File {
-            name: "a",
-            bytes: &[
-                Stretch::Bytes(&[0xff, 0xe3, 0x18, 0xc0]),
-                Stretch::Fill(0, 68),
-                Stretch::Bytes(&[0xff, 0xe3, 0x18, 0xc0]),
-                Stretch::Fill(0, 68),
-            ],
-        }],
-        words: &["list a"],
-        more: Some(&More {
-            text: Some(
-                "frame 0 at 0: 8 kbit/s, begin 0, bits 0
+    "MPEG-2.5":
+        &[Bytes(&[0xff, 0xe3, 0x18, 0xc0]), Fill(0, 68), Bytes(&[0xff, 0xe3, 0x18, 0xc0]), Fill(0, 68)] =>
+"frame 0 at 0: 8 kbit/s, begin 0, bits 0
 frame 1 at 72: 8 kbit/s, begin 0, bits 0
 2 frames, MPEG-2.5, 8000 Hz, 1 channels, 0.00.14
-",
-            ),
-            ..MORE
-        }),
-        ..ROW
-    },
-];
+";
+};
 
 #[test]
 fn a_line_for_each_thing(rt: HostRuntime) -> Result<(), Fail> {
@@ -198,76 +90,13 @@ fn a_line_for_each_thing(rt: HostRuntime) -> Result<(), Fail> {
     Ok(())
 }
 
-static REFUSED: [Row; 5] = [
-    Row {
-        files: &[File {
-            name: "a",
-            bytes: &[],
-        }],
-        words: &["list a"],
-        status: 1,
-        line: "a: no frame at 0\n",
-        ..ROW
-    },
-    Row {
-        files: &[File {
-            name: "a",
-            bytes: &[],
-        }],
-        words: &["list x"],
-        status: 3,
-        line: "x: absent\n",
-        more: Some(&More {
-            absent: Some(&["x"]),
-            ..MORE
-        }),
-        ..ROW
-    },
-    Row {
-        files: &[File {
-            name: "a",
-            bytes: &[],
-        }],
-        words: &["list a"],
-        status: 3,
-        line: "a: read fault\n",
-        more: Some(&More {
-            fails: Some(&[Failing {
-                call: Call::Find,
-                number: 1,
-            }]),
-            ..MORE
-        }),
-        ..ROW
-    },
-    Row {
-        files: &[File {
-            name: "a",
-            bytes: &[Stretch::Frames(&[Z]), ID3V2],
-        }],
-        words: &["list a"],
-        status: 1,
-        line: "a: truncated at 417\n",
-        ..ROW
-    },
-    Row {
-        files: &[File {
-            name: "a",
-            bytes: &[Stretch::Frames(&[Z]), ID3V2],
-        }],
-        words: &["list a"],
-        status: 3,
-        line: "a: read fault\n",
-        more: Some(&More {
-            fails: Some(&[Failing {
-                call: Call::Read,
-                number: 1,
-            }]),
-            ..MORE
-        }),
-        ..ROW
-    },
-];
+static REFUSED: [Row; 5] = refused! {
+    "list a", "a" = &[] => 1 "a: no frame at 0\n";
+    "list x" with NO_X, "a" = &[] => 3 "x: absent\n";
+    "list a" with FIRST_FIND, "a" = &[] => 3 "a: read fault\n";
+    "list a", "a" = &[Frames(&[Z]), ID3V2] => 1 "a: truncated at 417\n";
+    "list a" with FIRST_READ, "a" = &[Frames(&[Z]), ID3V2] => 3 "a: read fault\n";
+};
 
 // Nothing goes to standard output.
 #[test]
@@ -333,7 +162,7 @@ fn each_write_fails_once(rt: HostRuntime) -> Result<(), Fail> {
     Ok(())
 }
 
-const THOUSAND: Stretch = Stretch::Repeated(&[Z], 1000);
+const THOUSAND: Stretch = Repeated(&[Z], 1000);
 
 /// So many frames that their lines take three writes.
 static MANY: [Stretch; 3] = [THOUSAND, THOUSAND, THOUSAND];

@@ -4,95 +4,32 @@ use crate::reservoirs::{
     FIRST, OVERFULL_BEHIND, OVERLAPPING, OVERLAPPING_AND_OVERFULL, SECOND, SILENT_BACK_POINTER,
     SILENT_TOO_FAR, TOO_FAR,
 };
-use acceptance_kit::rows::{Failing, File, MORE, More, ROW, Row, first_difference};
-use outside::Call;
+use acceptance_kit::rows::{MORE, More, ROW, Row, first_difference};
+use acceptance_kit::{failing, files, refused};
 use std::test::Fail;
-use test_files::files::{ID3V1, ID3V2, Stretch};
+use test_files::files::Stretch::{Bytes, Fill, Frames};
+use test_files::files::{ID3V1, ID3V2};
+use test_files::frame;
 use test_files::frames::{
     FORBIDDEN_RATE, FREE, Frame, G, G_AT_48_KHZ, HEAD, LAYER_2, MONO, MPEG_2, OVERFULL,
     RESERVED_FREQUENCY, RESERVED_VERSION, Z,
 };
 
 /// SECOND without its last byte.
-const SHORT: Frame = Frame {
-    length: 416,
-    ..SECOND
-};
+const SHORT: Frame = frame! { length: 416, ..SECOND };
 
 /// G_AT_48_KHZ without its last byte.
-const SHORT_AT_48_KHZ: Frame = Frame {
-    length: 383,
-    ..G_AT_48_KHZ
-};
+const SHORT_AT_48_KHZ: Frame = frame! { length: 383, ..G_AT_48_KHZ };
 
-static NO_FRAME: [Row; 6] = [
-    Row {
-        what: "an empty file",
-        files: &[File {
-            name: "a",
-            bytes: &[],
-        }],
-        words: &["gain -s s -g 0 a o"],
-        status: 1,
-        line: "a: no frame at 0\n",
-        ..ROW
-    },
-    Row {
-        what: "fewer bytes than a header has",
-        files: &[File {
-            name: "a",
-            bytes: &[Stretch::Bytes(b"\xff\xfb\x90")],
-        }],
-        words: &["gain -s s -g 0 a o"],
-        status: 1,
-        line: "a: no frame at 0\n",
-        ..ROW
-    },
-    Row {
-        what: "zero bytes alone",
-        files: &[File {
-            name: "a",
-            bytes: &[Stretch::Fill(0, 3)],
-        }],
-        words: &["gain -s s -g 0 a o"],
-        status: 1,
-        line: "a: no frame at 3\n",
-        ..ROW
-    },
-    Row {
-        what: "a head alone",
-        files: &[File {
-            name: "a",
-            bytes: &[Stretch::Frames(&[HEAD])],
-        }],
-        words: &["gain -s s -g 0 a o"],
-        status: 1,
-        line: "a: no frame at 417\n",
-        ..ROW
-    },
-    Row {
-        what: "the reserved version",
-        files: &[File {
-            name: "a",
-            bytes: &[Stretch::Frames(&[RESERVED_VERSION, RESERVED_VERSION])],
-        }],
-        words: &["gain -s s -g 0 a o"],
-        status: 1,
-        line: "a: no frame at 0\n",
-        ..ROW
-    },
-    Row {
-        what: "one byte of junk more than there may be",
-        files: &[File {
-            name: "a",
-            bytes: &[Stretch::Fill(0x55, 65_537), Stretch::Frames(&[Z])],
-        }],
-        words: &["gain -s s -g 0 a o"],
-        status: 1,
-        line: "a: no frame at 0\n",
-        ..ROW
-    },
-];
+static NO_FRAME: [Row; 6] = refused! {
+    "gain -s s -g 0 a o", "a";
+    "an empty file": &[] => "a: no frame at 0\n";
+    "fewer bytes than a header has": &[Bytes(b"\xff\xfb\x90")] => "a: no frame at 0\n";
+    "zero bytes alone": &[Fill(0, 3)] => "a: no frame at 3\n";
+    "a head alone": &[Frames(&[HEAD])] => "a: no frame at 417\n";
+    "the reserved version": &[Frames(&[RESERVED_VERSION, RESERVED_VERSION])] => "a: no frame at 0\n";
+    "one byte of junk more than there may be": &[Fill(0x55, 65_537), Frames(&[Z])] => "a: no frame at 0\n";
+};
 
 #[test]
 fn files_without_a_frame(rt: HostRuntime) -> Result<(), Fail> {
@@ -101,66 +38,14 @@ fn files_without_a_frame(rt: HostRuntime) -> Result<(), Fail> {
 }
 
 /// What is at fault in the input `a`: bytes behind a frame that are no item.
-static NO_ITEM: [Row; 5] = [
-    Row {
-        what: "bytes that are no item",
-        files: &[File {
-            name: "a",
-            bytes: &[
-                Stretch::Frames(&[FIRST, SECOND]),
-                Stretch::Bytes(b"\x00\x41"),
-            ],
-        }],
-        words: &["gain -s s -g 0 a o"],
-        status: 1,
-        line: "a: lost synchronisation at 835\n",
-        ..ROW
-    },
-    Row {
-        what: "the beginning of a header",
-        files: &[File {
-            name: "a",
-            bytes: &[Stretch::Frames(&[Z, Z]), Stretch::Bytes(b"\xff\xfb\x90")],
-        }],
-        words: &["gain -s s -g 0 a o"],
-        status: 1,
-        line: "a: lost synchronisation at 834\n",
-        ..ROW
-    },
-    Row {
-        what: "layer II, later",
-        files: &[File {
-            name: "a",
-            bytes: &[Stretch::Frames(&[Z, LAYER_2])],
-        }],
-        words: &["gain -s s -g 0 a o"],
-        status: 1,
-        line: "a: lost synchronisation at 417\n",
-        ..ROW
-    },
-    Row {
-        what: "the forbidden rate, later",
-        files: &[File {
-            name: "a",
-            bytes: &[Stretch::Frames(&[Z, FORBIDDEN_RATE])],
-        }],
-        words: &["gain -s s -g 0 a o"],
-        status: 1,
-        line: "a: lost synchronisation at 417\n",
-        ..ROW
-    },
-    Row {
-        what: "the reserved frequency, later",
-        files: &[File {
-            name: "a",
-            bytes: &[Stretch::Frames(&[Z, RESERVED_FREQUENCY])],
-        }],
-        words: &["gain -s s -g 0 a o"],
-        status: 1,
-        line: "a: lost synchronisation at 417\n",
-        ..ROW
-    },
-];
+static NO_ITEM: [Row; 5] = refused! {
+    "gain -s s -g 0 a o", "a";
+    "bytes that are no item": &[Frames(&[FIRST, SECOND]), Bytes(b"\x00\x41")] => "a: lost synchronisation at 835\n";
+    "the beginning of a header": &[Frames(&[Z, Z]), Bytes(b"\xff\xfb\x90")] => "a: lost synchronisation at 834\n";
+    "layer II, later": &[Frames(&[Z, LAYER_2])] => "a: lost synchronisation at 417\n";
+    "the forbidden rate, later": &[Frames(&[Z, FORBIDDEN_RATE])] => "a: lost synchronisation at 417\n";
+    "the reserved frequency, later": &[Frames(&[Z, RESERVED_FREQUENCY])] => "a: lost synchronisation at 417\n";
+};
 
 #[test]
 fn bytes_that_are_no_item(rt: HostRuntime) -> Result<(), Fail> {
@@ -169,63 +54,14 @@ fn bytes_that_are_no_item(rt: HostRuntime) -> Result<(), Fail> {
 }
 
 /// What is at fault in the input `a`: an item that passes the end of the file.
-static CUT_SHORT: [Row; 5] = [
-    Row {
-        what: "a frame without its last byte",
-        files: &[File {
-            name: "a",
-            bytes: &[Stretch::Frames(&[FIRST, SHORT])],
-        }],
-        words: &["gain -s s -g 0 a o"],
-        status: 1,
-        line: "a: truncated at 417\n",
-        ..ROW
-    },
-    Row {
-        what: "a header alone",
-        files: &[File {
-            name: "a",
-            bytes: &[Stretch::Bytes(b"\xff\xfb\x90\x00")],
-        }],
-        words: &["gain -s s -g 0 a o"],
-        status: 1,
-        line: "a: truncated at 0\n",
-        ..ROW
-    },
-    Row {
-        what: "a frame of another class without its last byte",
-        files: &[File {
-            name: "a",
-            bytes: &[Stretch::Frames(&[Z, SHORT_AT_48_KHZ])],
-        }],
-        words: &["gain -s s -g 0 a o"],
-        status: 1,
-        line: "a: truncated at 417\n",
-        ..ROW
-    },
-    Row {
-        what: "a block at the front without its last byte",
-        files: &[File {
-            name: "a",
-            bytes: &[Stretch::Fill(0, 2), ID3V2, Stretch::Fill(0x11, 29)],
-        }],
-        words: &["gain -s s -g 0 a o"],
-        status: 1,
-        line: "a: truncated at 2\n",
-        ..ROW
-    },
-    Row {
-        what: "a block behind a frame without its last byte",
-        files: &[File {
-            name: "a",
-            bytes: &[Stretch::Frames(&[Z]), ID3V1, Stretch::Fill(0x20, 124)],
-        }],
-        words: &["gain -s s -g 0 a o"],
-        status: 1,
-        line: "a: truncated at 417\n",
-        ..ROW
-    },
-];
+static CUT_SHORT: [Row; 5] = refused! {
+    "gain -s s -g 0 a o", "a";
+    "a frame without its last byte": &[Frames(&[FIRST, SHORT])] => "a: truncated at 417\n";
+    "a header alone": &[Bytes(b"\xff\xfb\x90\x00")] => "a: truncated at 0\n";
+    "a frame of another class without its last byte": &[Frames(&[Z, SHORT_AT_48_KHZ])] => "a: truncated at 417\n";
+    "a block at the front without its last byte": &[Fill(0, 2), ID3V2, Fill(0x11, 29)] => "a: truncated at 2\n";
+    "a block behind a frame without its last byte": &[Frames(&[Z]), ID3V1, Fill(0x20, 124)] => "a: truncated at 417\n";
+};
 
 #[test]
 fn items_that_are_cut_short(rt: HostRuntime) -> Result<(), Fail> {
@@ -234,63 +70,14 @@ fn items_that_are_cut_short(rt: HostRuntime) -> Result<(), Fail> {
 }
 
 /// What is at fault in the input `a`: free format, or frames of two classes.
-static OTHER_FRAMES: [Row; 5] = [
-    Row {
-        what: "free format",
-        files: &[File {
-            name: "a",
-            bytes: &[Stretch::Frames(&[FREE, SECOND])],
-        }],
-        words: &["gain -s s -g 0 a o"],
-        status: 1,
-        line: "a: free format at 0\n",
-        ..ROW
-    },
-    Row {
-        what: "free format, later",
-        files: &[File {
-            name: "a",
-            bytes: &[Stretch::Frames(&[Z, FREE])],
-        }],
-        words: &["gain -s s -g 0 a o"],
-        status: 1,
-        line: "a: free format at 417\n",
-        ..ROW
-    },
-    Row {
-        what: "MPEG-1, later",
-        files: &[File {
-            name: "a",
-            bytes: &[Stretch::Frames(&[MPEG_2, Z])],
-        }],
-        words: &["gain -s s -g 0 a o"],
-        status: 1,
-        line: "a: mixed class at 208\n",
-        ..ROW
-    },
-    Row {
-        what: "another frequency, later",
-        files: &[File {
-            name: "a",
-            bytes: &[Stretch::Frames(&[Z, G_AT_48_KHZ])],
-        }],
-        words: &["gain -s s -g 0 a o"],
-        status: 1,
-        line: "a: mixed class at 417\n",
-        ..ROW
-    },
-    Row {
-        what: "one channel, later",
-        files: &[File {
-            name: "a",
-            bytes: &[Stretch::Frames(&[G, MONO])],
-        }],
-        words: &["gain -s s -g 0 a o"],
-        status: 1,
-        line: "a: mixed class at 417\n",
-        ..ROW
-    },
-];
+static OTHER_FRAMES: [Row; 5] = refused! {
+    "gain -s s -g 0 a o", "a";
+    "free format": &[Frames(&[FREE, SECOND])] => "a: free format at 0\n";
+    "free format, later": &[Frames(&[Z, FREE])] => "a: free format at 417\n";
+    "MPEG-1, later": &[Frames(&[MPEG_2, Z])] => "a: mixed class at 208\n";
+    "another frequency, later": &[Frames(&[Z, G_AT_48_KHZ])] => "a: mixed class at 417\n";
+    "one channel, later": &[Frames(&[G, MONO])] => "a: mixed class at 417\n";
+};
 
 #[test]
 fn frames_in_free_format_and_of_another_class(rt: HostRuntime) -> Result<(), Fail> {
@@ -299,85 +86,17 @@ fn frames_in_free_format_and_of_another_class(rt: HostRuntime) -> Result<(), Fai
 }
 
 /// What is at fault in the input `a`: where main data begin or end.
-static MAIN_DATA: [Row; 7] = [
-    Row {
-        what: "main data before the stream, behind a frame that has some",
-        files: &[File {
-            name: "a",
-            bytes: &[Stretch::Frames(&[FIRST, TOO_FAR])],
-        }],
-        words: &["gain -s s -g 0 a o"],
-        status: 1,
-        line: "a: back pointer at 417 is 382, present 381\n",
-        ..ROW
-    },
-    Row {
-        what: "the same of a silent frame",
-        files: &[File {
-            name: "a",
-            bytes: &[Stretch::Frames(&[FIRST, SILENT_TOO_FAR])],
-        }],
-        words: &["gain -s s -g 0 a o"],
-        status: 1,
-        line: "a: back pointer at 417 is 382, present 381\n",
-        ..ROW
-    },
-    Row {
-        what: "main data within those of the frame before",
-        files: &[File {
-            name: "a",
-            bytes: &[Stretch::Frames(&[FIRST, OVERLAPPING])],
-        }],
-        words: &["gain -s s -g 0 a o"],
-        status: 1,
-        line: "a: overlap at 417\n",
-        ..ROW
-    },
-    Row {
-        what: "the same of a silent frame",
-        files: &[File {
-            name: "a",
-            bytes: &[Stretch::Frames(&[FIRST, SILENT_BACK_POINTER])],
-        }],
-        words: &["gain -s s -g 0 a o"],
-        status: 1,
-        line: "a: overlap at 417\n",
-        ..ROW
-    },
-    Row {
-        what: "the same, and past the area",
-        files: &[File {
-            name: "a",
-            bytes: &[Stretch::Frames(&[FIRST, OVERLAPPING_AND_OVERFULL])],
-        }],
-        words: &["gain -s s -g 0 a o"],
-        status: 1,
-        line: "a: overlap at 417\n",
-        ..ROW
-    },
-    Row {
-        what: "main data past the area",
-        files: &[File {
-            name: "a",
-            bytes: &[Stretch::Frames(&[OVERFULL])],
-        }],
-        words: &["gain -s s -g 0 a o"],
-        status: 1,
-        line: "a: overrun at 0, bits 3049, room 3048\n",
-        ..ROW
-    },
-    Row {
-        what: "the same with a back pointer",
-        files: &[File {
-            name: "a",
-            bytes: &[Stretch::Frames(&[Z, OVERFULL_BEHIND])],
-        }],
-        words: &["gain -s s -g 0 a o"],
-        status: 1,
-        line: "a: overrun at 417, bits 3372, room 3368\n",
-        ..ROW
-    },
-];
+static MAIN_DATA: [Row; 7] = refused! {
+    "gain -s s -g 0 a o", "a";
+    "main data before the stream, behind a frame that has some":
+        &[Frames(&[FIRST, TOO_FAR])] => "a: back pointer at 417 is 382, present 381\n";
+    "the same of a silent frame": &[Frames(&[FIRST, SILENT_TOO_FAR])] => "a: back pointer at 417 is 382, present 381\n";
+    "main data within those of the frame before": &[Frames(&[FIRST, OVERLAPPING])] => "a: overlap at 417\n";
+    "the same of a silent frame": &[Frames(&[FIRST, SILENT_BACK_POINTER])] => "a: overlap at 417\n";
+    "the same, and past the area": &[Frames(&[FIRST, OVERLAPPING_AND_OVERFULL])] => "a: overlap at 417\n";
+    "main data past the area": &[Frames(&[OVERFULL])] => "a: overrun at 0, bits 3049, room 3048\n";
+    "the same with a back pointer": &[Frames(&[Z, OVERFULL_BEHIND])] => "a: overrun at 417, bits 3372, room 3368\n";
+};
 
 #[test]
 fn main_data_at_fault(rt: HostRuntime) -> Result<(), Fail> {
@@ -386,34 +105,13 @@ fn main_data_at_fault(rt: HostRuntime) -> Result<(), Fail> {
 }
 
 /// Two faults in the input `a`, of which the first is told.
-static TWO_FAULTS: [Row; 2] = [
-    Row {
-        what: "a frame at fault before bytes that are no item",
-        files: &[File {
-            name: "a",
-            bytes: &[Stretch::Frames(&[OVERFULL]), Stretch::Bytes(b"\x41")],
-        }],
-        words: &["gain -s s -g 0 a o"],
-        status: 1,
-        line: "a: overrun at 0, bits 3049, room 3048\n",
-        ..ROW
-    },
-    Row {
-        what: "bytes that are no item before a frame at fault",
-        files: &[File {
-            name: "a",
-            bytes: &[
-                Stretch::Frames(&[Z]),
-                Stretch::Bytes(b"\x41"),
-                Stretch::Frames(&[OVERFULL]),
-            ],
-        }],
-        words: &["gain -s s -g 0 a o"],
-        status: 1,
-        line: "a: lost synchronisation at 417\n",
-        ..ROW
-    },
-];
+static TWO_FAULTS: [Row; 2] = refused! {
+    "gain -s s -g 0 a o", "a";
+    "a frame at fault before bytes that are no item":
+        &[Frames(&[OVERFULL]), Bytes(b"\x41")] => "a: overrun at 0, bits 3049, room 3048\n";
+    "bytes that are no item before a frame at fault":
+        &[Frames(&[Z]), Bytes(b"\x41"), Frames(&[OVERFULL])] => "a: lost synchronisation at 417\n";
+};
 
 #[test]
 fn the_first_of_two_faults(rt: HostRuntime) -> Result<(), Fail> {
@@ -423,92 +121,33 @@ fn the_first_of_two_faults(rt: HostRuntime) -> Result<(), Fail> {
 
 /// A folder where every call is to fail.
 const CLOSED: Row = Row {
-    files: &[File {
-        name: "a",
-        bytes: &[Stretch::Frames(&[G])],
-    }],
+    files: files!("a" = &[Frames(&[G])]),
     more: Some(&More {
         outputs: Some(&["b"]),
-        fails: Some(&[
-            Failing {
-                call: Call::Find,
-                number: 1,
-            },
-            Failing {
-                call: Call::Read,
-                number: 1,
-            },
-            Failing {
-                call: Call::Create,
-                number: 1,
-            },
-            Failing {
-                call: Call::Write,
-                number: 1,
-            },
-        ]),
-        ..MORE
+        ..failing!(Find 1, Read 1, Create 1, Write 1)
     }),
     ..ROW
 };
 
+/// Words, and the status and the line, where each call would fail.
+macro_rules! refused_at_once {
+    ($($words:literal => $status:literal $line:literal;)+) => {
+        [$(Row { words: &[$words], status: $status, line: $line, ..CLOSED }),+]
+    };
+}
+
 /// Words that are refused before any call of the folder, where there is the input `a` alone.
-static REFUSED: [Row; 9] = [
-    Row {
-        words: &[""],
-        status: 2,
-        line: "bad word 1\n",
-        ..CLOSED
-    },
-    Row {
-        words: &["loud"],
-        status: 2,
-        line: "bad word 1\n",
-        ..CLOSED
-    },
-    Row {
-        words: &["gain"],
-        status: 2,
-        line: "bad word 2\n",
-        ..CLOSED
-    },
-    Row {
-        words: &["gain -t -g 5 a b"],
-        status: 2,
-        line: "bad word 2\n",
-        ..CLOSED
-    },
-    Row {
-        words: &["gain -s s -g 300 a b"],
-        status: 2,
-        line: "bad word 5\n",
-        ..CLOSED
-    },
-    Row {
-        words: &["gain -s s -g 3 -a b"],
-        status: 2,
-        line: "bad word 6\n",
-        ..CLOSED
-    },
-    Row {
-        words: &["gain -s s -g 3 a"],
-        status: 2,
-        line: "bad word 7\n",
-        ..CLOSED
-    },
-    Row {
-        words: &["gain -s s -g 3 a b c"],
-        status: 2,
-        line: "bad word 8\n",
-        ..CLOSED
-    },
-    Row {
-        words: &["gain -s s -g 5 a a"],
-        status: 1,
-        line: "a: input is an output\n",
-        ..CLOSED
-    },
-];
+static REFUSED: [Row; 9] = refused_at_once! {
+    "" => 2 "bad word 1\n";
+    "loud" => 2 "bad word 1\n";
+    "gain" => 2 "bad word 2\n";
+    "gain -t -g 5 a b" => 2 "bad word 2\n";
+    "gain -s s -g 300 a b" => 2 "bad word 5\n";
+    "gain -s s -g 3 -a b" => 2 "bad word 6\n";
+    "gain -s s -g 3 a" => 2 "bad word 7\n";
+    "gain -s s -g 3 a b c" => 2 "bad word 8\n";
+    "gain -s s -g 5 a a" => 1 "a: input is an output\n";
+};
 
 #[test]
 fn bad_words_and_equal_names_come_before_any_call(rt: HostRuntime) -> Result<(), Fail> {
@@ -516,36 +155,16 @@ fn bad_words_and_equal_names_come_before_any_call(rt: HostRuntime) -> Result<(),
     Ok(())
 }
 
-static ABSENT: [Row; 2] = [
-    Row {
-        files: &[File {
-            name: "g",
-            bytes: &[Stretch::Frames(&[G])],
-        }],
-        words: &["gain -s s -g 5 a o"],
-        status: 3,
-        line: "a: absent\n",
-        more: Some(&More {
-            absent: Some(&["a"]),
-            ..MORE
-        }),
-        ..ROW
-    },
-    Row {
-        files: &[File {
-            name: "g",
-            bytes: &[Stretch::Frames(&[G])],
-        }],
-        words: &["gain -s s -g 5 a a"],
-        status: 1,
-        line: "a: input is an output\n",
-        more: Some(&More {
-            absent: Some(&["a"]),
-            ..MORE
-        }),
-        ..ROW
-    },
-];
+/// No file `a` is created.
+const NO_A: More = More {
+    absent: Some(&["a"]),
+    ..MORE
+};
+
+static ABSENT: [Row; 2] = refused! {
+    "gain -s s -g 5 a o" with NO_A, "g" = &[Frames(&[G])] => 3 "a: absent\n";
+    "gain -s s -g 5 a a" with NO_A, "g" = &[Frames(&[G])] => 1 "a: input is an output\n";
+};
 
 #[test]
 fn an_absent_input(rt: HostRuntime) -> Result<(), Fail> {

@@ -1,10 +1,11 @@
 //! Inputs that a folder finds with another length than it reads, and inputs that are too long.
 
-use crate::expected::expect;
+use acceptance_kit::rows::other_end;
 use outside::{Failed, FindFault, Folder};
 use std::alloc::{AllocError, AllocGlobal};
 use std::process::Abort;
 use std::test::Fail;
+use test_files::table;
 
 /// A folder whose files are all found with one length and end at another when they are read. It tells
 /// nothing of them, and none can be written.
@@ -55,30 +56,13 @@ struct Case {
     ends: u64,
 }
 
-static CASES: [Case; 3] = [
-    Case {
-        found: 834,
-        there: 417,
-        status: 3,
-        line: "a: shrunk from 834 to 417\n",
-        ends: 1,
-    },
-    Case {
-        found: 1,
-        there: 0,
-        status: 3,
-        line: "a: shrunk from 1 to 0\n",
-        ends: 1,
-    },
+static CASES: [Case; 3] = table! {
+    Case { found, there, status, line, ends }
+    (834, 417, 3, "a: shrunk from 834 to 417\n", 1)
+    (1, 0, 3, "a: shrunk from 1 to 0\n", 1)
     // Nothing of it is read.
-    Case {
-        found: 1_073_741_825,
-        there: 0,
-        status: 1,
-        line: "a: too long, 1073741825 bytes\n",
-        ends: 0,
-    },
-];
+    (1_073_741_825, 0, 1, "a: too long, 1073741825 bytes\n", 0)
+};
 
 /// Asserts how the command ends, how often the end was met, and that nothing was written.
 fn expect_case<R: Abort + AllocGlobal>(rt: &R, case: &Case) -> Result<(), AllocError> {
@@ -88,13 +72,9 @@ fn expect_case<R: Abort + AllocGlobal>(rt: &R, case: &Case) -> Result<(), AllocE
         ends: 0,
         write_faults: 0,
     };
-    expect(
-        rt,
-        &mut folder,
-        "gain -s s -g 1 a o",
-        case.status,
-        case.line,
-    )?;
+    let words = "gain -s s -g 1 a o";
+    let other = other_end(rt.alloc(), &mut folder, words, case.status, case.line)?;
+    assert_eq!(rt; other, None, "{}", case.line);
     assert_eq!(rt; folder.ends, case.ends, "{}", case.line);
     assert_eq!(rt; folder.write_faults, 0, "{}", case.line);
     Ok(())
