@@ -1,80 +1,56 @@
 //! Frames and Info frames that the tests of several files use. Their bytes were worked out by hand from the standard's tables.
 
 use test_files::files::Stretch;
+use test_files::files::Stretch::{Bytes, Fill, Frames};
+use test_files::frame;
 use test_files::frames::{Frame, Z};
 
 /// MPEG-1, 44,100 Hz, 128 kbit/s, stereo, with an area of 381 bytes: 4 times 600 bits of main data, which are 300 bytes. All
 /// gains of these files are 100, and all bytes of main data 55 (hex). Behind its own main data are the first 81 bytes of A_1's.
-pub const A_0: Frame = Frame {
-    side: &[
-        0x00, 0x00, 0x02, 0x58, 0x00, 0x32, 0x00, 0x00, 0x00, 0x00, 0x4b, 0x00, 0x06, 0x40, 0x00,
-        0x00, 0x00, 0x09, 0x60, 0x00, 0xc8, 0x00, 0x00, 0x00, 0x01, 0x2c, 0x00, 0x19,
-    ],
-    area: &[0x55; 381],
-    ..Z
-};
+pub const A_0: Frame =
+    frame! { side: b"\0\0\x02\x58\0\x32\0\0\0\0\x4b\0\x06\x40\0\0\0\x09\x60\0\xc8\0\0\0\x01\x2c\0\x19", area: &[0x55; 381], ..Z };
 
 /// The same with its own main data alone.
-pub const A_0_ALONE: Frame = Frame {
-    area: &[0x55; 300],
-    ..A_0
-};
+pub const A_0_ALONE: Frame = frame! { area: &[0x55; 300], ..A_0 };
 
 /// 4 times 800 bits of main data, 400 bytes, which begin 81 bytes before its own area.
 pub const A_1: Frame = Frame {
-    side: &[
-        0x28, 0x80, 0x03, 0x20, 0x00, 0x32, 0x00, 0x00, 0x00, 0x00, 0x64, 0x00, 0x06, 0x40, 0x00,
-        0x00, 0x00, 0x0c, 0x80, 0x00, 0xc8, 0x00, 0x00, 0x00, 0x01, 0x90, 0x00, 0x19,
-    ],
+    side: b"\x28\x80\x03\x20\0\x32\0\0\0\0\x64\0\x06\x40\0\0\0\x0c\x80\0\xc8\0\0\0\x01\x90\0\x19",
     area: &[0x55; 319],
     ..Z
 };
 
 /// The same where they begin 68 bytes before it.
 pub const A_1_FROM_68: Frame = Frame {
-    side: &[
-        0x22, 0x00, 0x03, 0x20, 0x00, 0x32, 0x00, 0x00, 0x00, 0x00, 0x64, 0x00, 0x06, 0x40, 0x00,
-        0x00, 0x00, 0x0c, 0x80, 0x00, 0xc8, 0x00, 0x00, 0x00, 0x01, 0x90, 0x00, 0x19,
-    ],
+    side: b"\x22\0\x03\x20\0\x32\0\0\0\0\x64\0\x06\x40\0\0\0\x0c\x80\0\xc8\0\0\0\x01\x90\0\x19",
     area: &[0x55; 332],
     ..Z
 };
 
 /// A lead-in of 32 kbit/s, whose area of 68 bytes has main data of the frame behind it.
-pub const LEAD_IN: Frame = Frame {
-    header: [0xff, 0xfb, 0x10, 0x00],
-    area: &[0x55; 68],
-    length: 104,
-    ..Z
-};
+pub const LEAD_IN: Frame =
+    frame! { header: [0xff, 0xfb, 0x10, 0x00], area: &[0x55; 68], length: 104, ..Z };
 
 /// Z at 32 kbit/s.
-pub const LEAST: Frame = Frame {
-    header: [0xff, 0xfb, 0x10, 0x00],
-    length: 104,
-    ..Z
-};
+pub const LEAST: Frame = frame! { header: [0xff, 0xfb, 0x10, 0x00], length: 104, ..Z };
 
 /// Z at 32 kbit/s, where main data could begin 68 bytes before the area.
-pub const LEAST_FROM_68: Frame = Frame {
-    side: &[0x22],
-    ..LEAST
-};
+pub const LEAST_FROM_68: Frame = frame! { side: &[0x22], ..LEAST };
 
 /// The file A.
-pub const A: Stretch = Stretch::Frames(&[A_0, A_1]);
+pub const A: Stretch = Frames(&[A_0, A_1]);
 
 /// The header of an Info frame of MPEG-1, 44,100 Hz, two channels: 64 kbit/s, 208 bytes.
-pub const INFO: Stretch = Stretch::Bytes(&[0xff, 0xfb, 0x50, 0x00]);
+pub const INFO: Stretch = Bytes(&[0xff, 0xfb, 0x50, 0x00]);
 
 /// Side information that is all 0, of MPEG-1 with two channels.
-pub const NO_SIDE: Stretch = Stretch::Fill(0, 32);
+pub const NO_SIDE: Stretch = Fill(0, 32);
 
 /// The quality 0 and 36 bytes of extension behind the table, and the 16 bytes behind the 156 of the fields.
-pub const INFO_REST: Stretch = Stretch::Fill(0, 56);
+pub const INFO_REST: Stretch = Fill(0, 56);
 
 /// The fields in front of the table of an Info frame: `cut a 1 2 o` of the file A.
-pub const TWO_OF_729: Stretch = Stretch::Bytes(b"Xing\0\0\0\x0f\0\0\0\x02\0\0\x02\xd9");
+pub const TWO_OF_729: Stretch = Bytes(b"Xing\0\0\0\x0f\0\0\0\x02\0\0\x02\xd9");
 
 /// The same of both frames of A.
-pub const TWO_OF_1042: Stretch = Stretch::Bytes(b"Info\0\0\0\x0f\0\0\0\x02\0\0\x04\x12");
+pub const TWO_OF_1042: Stretch = Bytes(b"Info\0\0\0\x0f\0\0\0\x02\0\0\x04\x12");
