@@ -6,8 +6,6 @@ mod blocks;
 #[cfg(test)]
 mod calls;
 #[cfg(test)]
-mod expected;
-#[cfg(test)]
 mod faulty_tags;
 #[cfg(test)]
 mod long_tags;

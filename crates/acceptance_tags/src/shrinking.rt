@@ -1,13 +1,15 @@
 //! A file that becomes shorter behind the survey: while its tag is read, or in the second pass.
 
-use crate::blocks::{UNDO_BACK, UNDO_FRONT};
-use crate::expected::expect;
+use crate::blocks::UNDO;
+use acceptance_kit::rows::other_end;
 use outside::{Failed, FindFault, Folder};
 use std::alloc::{AllocError, AllocGlobal};
 use std::process::Abort;
 use std::test::Fail;
+use test_files::files::Stretch::{Frames, Valued};
 use test_files::files::{Stretch, bytes_of};
 use test_files::frames::G_LOWER;
+use test_files::table;
 
 /// A folder whose files all have these bytes for so many reads, and then no more than the shorter length. It tells
 /// nothing of them. What is written is counted.
@@ -60,12 +62,7 @@ impl Folder for Shrinking {
 }
 
 /// 513 bytes, of which the last 96 are the tag.
-static NOTED: [Stretch; 4] = [
-    Stretch::Frames(&[G_LOWER]),
-    UNDO_FRONT,
-    Stretch::Bytes(b"+005,+005,N"),
-    UNDO_BACK,
-];
+static NOTED: [Stretch; 2] = [Frames(&[G_LOWER]), Valued(&UNDO, b"+005,+005,N")];
 
 /// How many reads find the file whole, its length afterwards, the line, and how many outputs are created.
 struct Case {
@@ -76,38 +73,14 @@ struct Case {
 }
 
 // The survey makes the first read, and the tag is read by the second.
-static CASES: [Case; 5] = [
-    Case {
-        whole_reads: 0,
-        shorter: 500,
-        line: "a: shrunk from 513 to 500\n",
-        created: 0,
-    },
-    Case {
-        whole_reads: 1,
-        shorter: 512,
-        line: "a: shrunk from 513 to 512\n",
-        created: 0,
-    },
-    Case {
-        whole_reads: 1,
-        shorter: 417,
-        line: "a: shrunk from 513 to 417\n",
-        created: 0,
-    },
-    Case {
-        whole_reads: 1,
-        shorter: 100,
-        line: "a: shrunk from 513 to 417\n",
-        created: 0,
-    },
-    Case {
-        whole_reads: 2,
-        shorter: 100,
-        line: "a: shrunk from 513 to 100\n",
-        created: 1,
-    },
-];
+static CASES: [Case; 5] = table! {
+    Case { whole_reads, shorter, line, created }
+    (0, 500, "a: shrunk from 513 to 500\n", 0)
+    (1, 512, "a: shrunk from 513 to 512\n", 0)
+    (1, 417, "a: shrunk from 513 to 417\n", 0)
+    (1, 100, "a: shrunk from 513 to 417\n", 0)
+    (2, 100, "a: shrunk from 513 to 100\n", 1)
+};
 
 /// Asserts how the words end, how many outputs were created, and that the end was met once.
 fn expect_case<R: Abort + AllocGlobal>(rt: &R, case: &Case, words: &str) -> Result<(), AllocError> {
@@ -118,7 +91,8 @@ fn expect_case<R: Abort + AllocGlobal>(rt: &R, case: &Case, words: &str) -> Resu
         ends: 0,
         created: 0,
     };
-    expect(rt, &mut folder, words, 3, case.line)?;
+    let other = other_end(rt.alloc(), &mut folder, words, 3, case.line)?;
+    assert_eq!(rt; other, None, "{}", case.line);
     assert_eq!(rt; folder.created, case.created, "{}", case.line);
     assert_eq!(rt; folder.ends, 1, "{}", case.line);
     Ok(())

@@ -2,146 +2,33 @@
 
 use crate::blocks::{
     G_LEFT_LOWER, G_RIGHT_LOUDER, G_WRAPPED_DOWN, G_WRAPPED_UP, LOST, LOWEST, LOWEST_LOUDER, M,
-    M_LOUDER, NONE, THREE_BACK, THREE_FRONT, TWO, TWO_AND_UNDO_BACK, TWO_AND_UNDO_FRONT, UNDO_BACK,
-    UNDO_FRONT,
+    M_LOUDER, NONE, THREE, TWO, TWO_AND_UNDO, UNDO,
 };
-use acceptance_kit::rows::{File, MORE, More, ROW, Row, first_difference};
+use acceptance_kit::rows::{MORE, More, Row, first_difference};
+use acceptance_kit::{done, refused};
 use std::test::Fail;
-use test_files::files::{ID3V1, ID3V1_REST, ID3V2, ID3V2_REST, Stretch};
+use test_files::files::Stretch::{Fill, Frames, Valued};
+use test_files::files::{ID3V1_BLOCK, ID3V2_BLOCK, Stretch};
 use test_files::frames::{
     G, G_LOWER, HEAD, LONG, LONG_LOWER, LOWER, LOWER_QUIETER, MONO, MONO_LOWER, PROTECTED_G,
     PROTECTED_G_LOWER, Z,
 };
 
 /// Files of one frame, with and without a tag that has the undo item alone.
-static CHANGES: [Row; 7] = [
-    Row {
-        what: "both channels, and 255 wraps",
-        files: &[File {
-            name: "a",
-            bytes: &[Stretch::Frames(&[G])],
-        }],
-        words: &["gain -w -g 1 a o"],
-        after: &[File {
-            name: "o",
-            bytes: &[
-                Stretch::Frames(&[G_WRAPPED_UP]),
-                UNDO_FRONT,
-                Stretch::Bytes(b"-001,-001,W"),
-                UNDO_BACK,
-            ],
-        }],
-        ..ROW
-    },
-    Row {
-        what: "both channels, and 100 and 90 wrap",
-        files: &[File {
-            name: "a",
-            bytes: &[Stretch::Frames(&[G])],
-        }],
-        words: &["gain -w -g -101 a o"],
-        after: &[File {
-            name: "o",
-            bytes: &[
-                Stretch::Frames(&[G_WRAPPED_DOWN]),
-                UNDO_FRONT,
-                Stretch::Bytes(b"+101,+101,W"),
-                UNDO_BACK,
-            ],
-        }],
-        ..ROW
-    },
-    Row {
-        what: "the right channel",
-        files: &[File {
-            name: "a",
-            bytes: &[Stretch::Frames(&[G])],
-        }],
-        words: &["gain -l 1 1 a o"],
-        after: &[File {
-            name: "o",
-            bytes: &[
-                Stretch::Frames(&[G_RIGHT_LOUDER]),
-                UNDO_FRONT,
-                Stretch::Bytes(b"+000,-001,N"),
-                UNDO_BACK,
-            ],
-        }],
-        ..ROW
-    },
-    Row {
-        what: "the left channel",
-        files: &[File {
-            name: "a",
-            bytes: &[Stretch::Frames(&[G])],
-        }],
-        words: &["gain -l 0 -1 a o"],
-        after: &[File {
-            name: "o",
-            bytes: &[
-                Stretch::Frames(&[G_LEFT_LOWER]),
-                UNDO_FRONT,
-                Stretch::Bytes(b"+001,+000,N"),
-                UNDO_BACK,
-            ],
-        }],
-        ..ROW
-    },
-    Row {
-        what: "silent granules",
-        files: &[File {
-            name: "a",
-            bytes: &[Stretch::Frames(&[Z])],
-        }],
-        words: &["gain -g 255 a o"],
-        after: &[File {
-            name: "o",
-            bytes: &[
-                Stretch::Frames(&[Z]),
-                UNDO_FRONT,
-                Stretch::Bytes(b"-255,-255,N"),
-                UNDO_BACK,
-            ],
-        }],
-        ..ROW
-    },
-    Row {
-        what: "no step",
-        files: &[File {
-            name: "a",
-            bytes: &[Stretch::Frames(&[G])],
-        }],
-        words: &["gain -g 0 a o"],
-        after: &[File {
-            name: "o",
-            bytes: &[
-                Stretch::Frames(&[G]),
-                UNDO_FRONT,
-                Stretch::Bytes(b"+000,+000,N"),
-                UNDO_BACK,
-            ],
-        }],
-        ..ROW
-    },
-    Row {
-        what: "no step, and no gain wraps",
-        files: &[File {
-            name: "a",
-            bytes: &[Stretch::Frames(&[G])],
-        }],
-        words: &["gain -w -g 0 a o"],
-        after: &[File {
-            name: "o",
-            bytes: &[
-                Stretch::Frames(&[G]),
-                UNDO_FRONT,
-                Stretch::Bytes(b"+000,+000,W"),
-                UNDO_BACK,
-            ],
-        }],
-        ..ROW
-    },
-];
+static CHANGES: [Row; 7] = done! {
+    "both channels, and 255 wraps":
+        "gain -w -g 1 a o", "a" = &[Frames(&[G])] => "o" = &[Frames(&[G_WRAPPED_UP]), Valued(&UNDO, b"-001,-001,W")];
+    "both channels, and 100 and 90 wrap": "gain -w -g -101 a o", "a" = &[Frames(&[G])] =>
+        "o" = &[Frames(&[G_WRAPPED_DOWN]), Valued(&UNDO, b"+101,+101,W")];
+    "the right channel":
+        "gain -l 1 1 a o", "a" = &[Frames(&[G])] => "o" = &[Frames(&[G_RIGHT_LOUDER]), Valued(&UNDO, b"+000,-001,N")];
+    "the left channel":
+        "gain -l 0 -1 a o", "a" = &[Frames(&[G])] => "o" = &[Frames(&[G_LEFT_LOWER]), Valued(&UNDO, b"+001,+000,N")];
+    "silent granules": "gain -g 255 a o", "a" = &[Frames(&[Z])] => "o" = &[Frames(&[Z]), Valued(&UNDO, b"-255,-255,N")];
+    "no step": "gain -g 0 a o", "a" = &[Frames(&[G])] => "o" = &[Frames(&[G]), Valued(&UNDO, b"+000,+000,N")];
+    "no step, and no gain wraps":
+        "gain -w -g 0 a o", "a" = &[Frames(&[G])] => "o" = &[Frames(&[G]), Valued(&UNDO, b"+000,+000,W")];
+};
 
 #[test]
 fn what_the_note_says(rt: HostRuntime) -> Result<(), Fail> {
@@ -150,98 +37,18 @@ fn what_the_note_says(rt: HostRuntime) -> Result<(), Fail> {
 }
 
 /// Each kind of file.
-static KINDS: [Row; 5] = [
-    Row {
-        what: "MPEG-1, one channel",
-        files: &[File {
-            name: "a",
-            bytes: &[Stretch::Frames(&[MONO])],
-        }],
-        words: &["gain -g -5 a o"],
-        after: &[File {
-            name: "o",
-            bytes: &[
-                Stretch::Frames(&[MONO_LOWER]),
-                UNDO_FRONT,
-                Stretch::Bytes(b"+005,+005,N"),
-                UNDO_BACK,
-            ],
-        }],
-        ..ROW
-    },
-    Row {
-        what: "MPEG-2, two channels",
-        files: &[File {
-            name: "a",
-            bytes: &[Stretch::Frames(&[LOWER])],
-        }],
-        words: &["gain -g -5 a o"],
-        after: &[File {
-            name: "o",
-            bytes: &[
-                Stretch::Frames(&[LOWER_QUIETER]),
-                UNDO_FRONT,
-                Stretch::Bytes(b"+005,+005,N"),
-                UNDO_BACK,
-            ],
-        }],
-        ..ROW
-    },
-    Row {
-        what: "MPEG-2, one channel, protected",
-        files: &[File {
-            name: "a",
-            bytes: &[Stretch::Frames(&[M])],
-        }],
-        words: &["gain -g 1 a o"],
-        after: &[File {
-            name: "o",
-            bytes: &[
-                Stretch::Frames(&[M_LOUDER]),
-                UNDO_FRONT,
-                Stretch::Bytes(b"-001,-001,N"),
-                UNDO_BACK,
-            ],
-        }],
-        ..ROW
-    },
-    Row {
-        what: "MPEG-2.5",
-        files: &[File {
-            name: "a",
-            bytes: &[Stretch::Frames(&[LOWEST])],
-        }],
-        words: &["gain -g 1 a o"],
-        after: &[File {
-            name: "o",
-            bytes: &[
-                Stretch::Frames(&[LOWEST_LOUDER]),
-                UNDO_FRONT,
-                Stretch::Bytes(b"-001,-001,N"),
-                UNDO_BACK,
-            ],
-        }],
-        ..ROW
-    },
-    Row {
-        what: "MPEG-1, two channels, protected",
-        files: &[File {
-            name: "a",
-            bytes: &[Stretch::Frames(&[PROTECTED_G_LOWER])],
-        }],
-        words: &["gain -g 5 a o"],
-        after: &[File {
-            name: "o",
-            bytes: &[
-                Stretch::Frames(&[PROTECTED_G]),
-                UNDO_FRONT,
-                Stretch::Bytes(b"-005,-005,N"),
-                UNDO_BACK,
-            ],
-        }],
-        ..ROW
-    },
-];
+static KINDS: [Row; 5] = done! {
+    "MPEG-1, one channel":
+        "gain -g -5 a o", "a" = &[Frames(&[MONO])] => "o" = &[Frames(&[MONO_LOWER]), Valued(&UNDO, b"+005,+005,N")];
+    "MPEG-2, two channels":
+        "gain -g -5 a o", "a" = &[Frames(&[LOWER])] => "o" = &[Frames(&[LOWER_QUIETER]), Valued(&UNDO, b"+005,+005,N")];
+    "MPEG-2, one channel, protected":
+        "gain -g 1 a o", "a" = &[Frames(&[M])] => "o" = &[Frames(&[M_LOUDER]), Valued(&UNDO, b"-001,-001,N")];
+    "MPEG-2.5":
+        "gain -g 1 a o", "a" = &[Frames(&[LOWEST])] => "o" = &[Frames(&[LOWEST_LOUDER]), Valued(&UNDO, b"-001,-001,N")];
+    "MPEG-1, two channels, protected": "gain -g 5 a o", "a" = &[Frames(&[PROTECTED_G_LOWER])] =>
+        "o" = &[Frames(&[PROTECTED_G]), Valued(&UNDO, b"-005,-005,N")];
+};
 
 #[test]
 fn what_the_note_says_in_each_kind_of_file(rt: HostRuntime) -> Result<(), Fail> {
@@ -250,100 +57,18 @@ fn what_the_note_says_in_each_kind_of_file(rt: HostRuntime) -> Result<(), Fail> 
 }
 
 /// Files that have a note already.
-static NOTED_BEFORE: [Row; 4] = [
-    Row {
-        what: "a note that stands there",
-        files: &[File {
-            name: "a",
-            bytes: &[
-                Stretch::Frames(&[G]),
-                UNDO_FRONT,
-                Stretch::Bytes(b"-003,+010,N"),
-                UNDO_BACK,
-            ],
-        }],
-        words: &["gain -g -5 a o"],
-        after: &[File {
-            name: "o",
-            bytes: &[
-                Stretch::Frames(&[G_LOWER]),
-                UNDO_FRONT,
-                Stretch::Bytes(b"+002,+015,N"),
-                UNDO_BACK,
-            ],
-        }],
-        ..ROW
-    },
-    Row {
-        what: "the same of the right channel, and W from now on",
-        files: &[File {
-            name: "a",
-            bytes: &[
-                Stretch::Frames(&[G]),
-                UNDO_FRONT,
-                Stretch::Bytes(b"-003,+010,N"),
-                UNDO_BACK,
-            ],
-        }],
-        words: &["gain -w -l 1 1 a o"],
-        after: &[File {
-            name: "o",
-            bytes: &[
-                Stretch::Frames(&[G_RIGHT_LOUDER]),
-                UNDO_FRONT,
-                Stretch::Bytes(b"-003,+009,W"),
-                UNDO_BACK,
-            ],
-        }],
-        ..ROW
-    },
-    Row {
-        what: "W stays",
-        files: &[File {
-            name: "a",
-            bytes: &[
-                Stretch::Frames(&[G]),
-                UNDO_FRONT,
-                Stretch::Bytes(b"-001,-999,W"),
-                UNDO_BACK,
-            ],
-        }],
-        words: &["gain -g -5 a o"],
-        after: &[File {
-            name: "o",
-            bytes: &[
-                Stretch::Frames(&[G_LOWER]),
-                UNDO_FRONT,
-                Stretch::Bytes(b"+004,-994,W"),
-                UNDO_BACK,
-            ],
-        }],
-        ..ROW
-    },
-    Row {
-        what: "the least and the greatest sum",
-        files: &[File {
-            name: "a",
-            bytes: &[
-                Stretch::Frames(&[G_WRAPPED_UP]),
-                UNDO_FRONT,
-                Stretch::Bytes(b"-999,+998,N"),
-                UNDO_BACK,
-            ],
-        }],
-        words: &["gain -w -g -1 a o"],
-        after: &[File {
-            name: "o",
-            bytes: &[
-                Stretch::Frames(&[G]),
-                UNDO_FRONT,
-                Stretch::Bytes(b"-998,+999,W"),
-                UNDO_BACK,
-            ],
-        }],
-        ..ROW
-    },
-];
+static NOTED_BEFORE: [Row; 4] = done! {
+    "a note that stands there": "gain -g -5 a o", "a" = &[Frames(&[G]), Valued(&UNDO, b"-003,+010,N")] =>
+        "o" = &[Frames(&[G_LOWER]), Valued(&UNDO, b"+002,+015,N")];
+    "the same of the right channel, and W from now on":
+        "gain -w -l 1 1 a o", "a" = &[Frames(&[G]), Valued(&UNDO, b"-003,+010,N")] =>
+        "o" = &[Frames(&[G_RIGHT_LOUDER]), Valued(&UNDO, b"-003,+009,W")];
+    "W stays": "gain -g -5 a o", "a" = &[Frames(&[G]), Valued(&UNDO, b"-001,-999,W")] =>
+        "o" = &[Frames(&[G_LOWER]), Valued(&UNDO, b"+004,-994,W")];
+    "the least and the greatest sum":
+        "gain -w -g -1 a o", "a" = &[Frames(&[G_WRAPPED_UP]), Valued(&UNDO, b"-999,+998,N")] =>
+        "o" = &[Frames(&[G]), Valued(&UNDO, b"-998,+999,W")];
+};
 
 #[test]
 fn what_a_note_that_stands_becomes(rt: HostRuntime) -> Result<(), Fail> {
@@ -351,285 +76,36 @@ fn what_a_note_that_stands_becomes(rt: HostRuntime) -> Result<(), Fail> {
     Ok(())
 }
 
-static PLACES: [Row; 12] = [
-    Row {
-        what: "items before and behind the undo item, whose key and flags stay",
-        files: &[File {
-            name: "a",
-            bytes: &[
-                Stretch::Frames(&[G]),
-                THREE_FRONT,
-                Stretch::Bytes(b"-003,-003,N"),
-                THREE_BACK,
-            ],
-        }],
-        words: &["gain -g -5 a o"],
-        after: &[File {
-            name: "o",
-            bytes: &[
-                Stretch::Frames(&[G_LOWER]),
-                THREE_FRONT,
-                Stretch::Bytes(b"+002,+002,N"),
-                THREE_BACK,
-            ],
-        }],
-        ..ROW
-    },
-    Row {
-        what: "a tag without undo item, which gets it last",
-        files: &[File {
-            name: "a",
-            bytes: &[Stretch::Frames(&[G]), TWO],
-        }],
-        words: &["gain -g -5 a o"],
-        after: &[File {
-            name: "o",
-            bytes: &[
-                Stretch::Frames(&[G_LOWER]),
-                TWO_AND_UNDO_FRONT,
-                Stretch::Bytes(b"+005,+005,N"),
-                TWO_AND_UNDO_BACK,
-            ],
-        }],
-        ..ROW
-    },
-    Row {
-        what: "a tag without items",
-        files: &[File {
-            name: "a",
-            bytes: &[Stretch::Frames(&[G]), NONE],
-        }],
-        words: &["gain -g -5 a o"],
-        after: &[File {
-            name: "o",
-            bytes: &[
-                Stretch::Frames(&[G_LOWER]),
-                UNDO_FRONT,
-                Stretch::Bytes(b"+005,+005,N"),
-                UNDO_BACK,
-            ],
-        }],
-        ..ROW
-    },
-    Row {
-        what: "a tag at the front",
-        files: &[File {
-            name: "a",
-            bytes: &[
-                THREE_FRONT,
-                Stretch::Bytes(b"-003,-003,N"),
-                THREE_BACK,
-                Stretch::Frames(&[G]),
-            ],
-        }],
-        words: &["gain -g -5 a o"],
-        after: &[File {
-            name: "o",
-            bytes: &[
-                THREE_FRONT,
-                Stretch::Bytes(b"+002,+002,N"),
-                THREE_BACK,
-                Stretch::Frames(&[G_LOWER]),
-            ],
-        }],
-        ..ROW
-    },
-    Row {
-        what: "a tag between frames",
-        files: &[File {
-            name: "a",
-            bytes: &[Stretch::Frames(&[G]), TWO, Stretch::Frames(&[G])],
-        }],
-        words: &["gain -g -5 a o"],
-        after: &[File {
-            name: "o",
-            bytes: &[
-                Stretch::Frames(&[G_LOWER]),
-                TWO_AND_UNDO_FRONT,
-                Stretch::Bytes(b"+005,+005,N"),
-                TWO_AND_UNDO_BACK,
-                Stretch::Frames(&[G_LOWER]),
-            ],
-        }],
-        ..ROW
-    },
-    Row {
-        what: "a tag that isn't the first block",
-        files: &[File {
-            name: "a",
-            bytes: &[
-                ID3V2,
-                ID3V2_REST,
-                Stretch::Frames(&[G]),
-                ID3V1,
-                ID3V1_REST,
-                TWO,
-            ],
-        }],
-        words: &["gain -g -5 a o"],
-        after: &[File {
-            name: "o",
-            bytes: &[
-                ID3V2,
-                ID3V2_REST,
-                Stretch::Frames(&[G_LOWER]),
-                ID3V1,
-                ID3V1_REST,
-                TWO_AND_UNDO_FRONT,
-                Stretch::Bytes(b"+005,+005,N"),
-                TWO_AND_UNDO_BACK,
-            ],
-        }],
-        ..ROW
-    },
-    Row {
-        what: "two tags, of which the first is read and changed",
-        files: &[File {
-            name: "a",
-            bytes: &[
-                Stretch::Frames(&[G]),
-                TWO,
-                UNDO_FRONT,
-                Stretch::Bytes(b"-003,-003,N"),
-                UNDO_BACK,
-            ],
-        }],
-        words: &["gain -g -5 a o"],
-        after: &[File {
-            name: "o",
-            bytes: &[
-                Stretch::Frames(&[G_LOWER]),
-                TWO_AND_UNDO_FRONT,
-                Stretch::Bytes(b"+005,+005,N"),
-                TWO_AND_UNDO_BACK,
-                UNDO_FRONT,
-                Stretch::Bytes(b"-003,-003,N"),
-                UNDO_BACK,
-            ],
-        }],
-        ..ROW
-    },
-    Row {
-        what: "a new tag before a block behind the frames",
-        files: &[File {
-            name: "a",
-            bytes: &[Stretch::Frames(&[G]), ID3V1, ID3V1_REST],
-        }],
-        words: &["gain -g -5 a o"],
-        after: &[File {
-            name: "o",
-            bytes: &[
-                Stretch::Frames(&[G_LOWER]),
-                UNDO_FRONT,
-                Stretch::Bytes(b"+005,+005,N"),
-                UNDO_BACK,
-                ID3V1,
-                ID3V1_REST,
-            ],
-        }],
-        ..ROW
-    },
-    Row {
-        what: "a new tag before zero bytes behind the frames",
-        files: &[File {
-            name: "a",
-            bytes: &[
-                Stretch::Frames(&[G]),
-                Stretch::Fill(0, 3),
-                ID3V1,
-                ID3V1_REST,
-            ],
-        }],
-        words: &["gain -g -5 a o"],
-        after: &[File {
-            name: "o",
-            bytes: &[
-                Stretch::Frames(&[G_LOWER]),
-                UNDO_FRONT,
-                Stretch::Bytes(b"+005,+005,N"),
-                UNDO_BACK,
-                Stretch::Fill(0, 3),
-                ID3V1,
-                ID3V1_REST,
-            ],
-        }],
-        ..ROW
-    },
-    Row {
-        what: "a new tag behind the last frame, where a block stands between frames",
-        files: &[File {
-            name: "a",
-            bytes: &[
-                Stretch::Frames(&[G]),
-                ID3V1,
-                ID3V1_REST,
-                Stretch::Frames(&[G]),
-            ],
-        }],
-        words: &["gain -g -5 a o"],
-        after: &[File {
-            name: "o",
-            bytes: &[
-                Stretch::Frames(&[G_LOWER]),
-                ID3V1,
-                ID3V1_REST,
-                Stretch::Frames(&[G_LOWER]),
-                UNDO_FRONT,
-                Stretch::Bytes(b"+005,+005,N"),
-                UNDO_BACK,
-            ],
-        }],
-        ..ROW
-    },
-    Row {
-        what: "a head, zero bytes, and junk, which is dropped",
-        files: &[File {
-            name: "a",
-            bytes: &[
-                ID3V2,
-                ID3V2_REST,
-                Stretch::Fill(0, 2),
-                Stretch::Fill(0x55, 10),
-                Stretch::Frames(&[HEAD, G, PROTECTED_G]),
-                THREE_FRONT,
-                Stretch::Bytes(b"-003,-003,N"),
-                THREE_BACK,
-            ],
-        }],
-        words: &["gain -g -5 a o"],
-        after: &[File {
-            name: "o",
-            bytes: &[
-                ID3V2,
-                ID3V2_REST,
-                Stretch::Fill(0, 2),
-                Stretch::Frames(&[HEAD, G_LOWER, PROTECTED_G_LOWER]),
-                THREE_FRONT,
-                Stretch::Bytes(b"+002,+002,N"),
-                THREE_BACK,
-            ],
-        }],
-        ..ROW
-    },
-    Row {
-        what: "lost frames, which stay",
-        files: &[File {
-            name: "a",
-            bytes: &[Stretch::Frames(&[LOST, G, LONG])],
-        }],
-        words: &["gain -g -5 a o"],
-        after: &[File {
-            name: "o",
-            bytes: &[
-                Stretch::Frames(&[LOST, G_LOWER, LONG_LOWER]),
-                UNDO_FRONT,
-                Stretch::Bytes(b"+005,+005,N"),
-                UNDO_BACK,
-            ],
-        }],
-        ..ROW
-    },
-];
+static PLACES: [Row; 12] = done! {
+    "items before and behind the undo item, whose key and flags stay":
+        "gain -g -5 a o", "a" = &[Frames(&[G]), Valued(&THREE, b"-003,-003,N")] =>
+        "o" = &[Frames(&[G_LOWER]), Valued(&THREE, b"+002,+002,N")];
+    "a tag without undo item, which gets it last": "gain -g -5 a o", "a" = &[Frames(&[G]), TWO] =>
+        "o" = &[Frames(&[G_LOWER]), Valued(&TWO_AND_UNDO, b"+005,+005,N")];
+    "a tag without items":
+        "gain -g -5 a o", "a" = &[Frames(&[G]), NONE] => "o" = &[Frames(&[G_LOWER]), Valued(&UNDO, b"+005,+005,N")];
+    "a tag at the front": "gain -g -5 a o", "a" = &[Valued(&THREE, b"-003,-003,N"), Frames(&[G])] =>
+        "o" = &[Valued(&THREE, b"+002,+002,N"), Frames(&[G_LOWER])];
+    "a tag between frames": "gain -g -5 a o", "a" = &[Frames(&[G]), TWO, Frames(&[G])] =>
+        "o" = &[Frames(&[G_LOWER]), Valued(&TWO_AND_UNDO, b"+005,+005,N"), Frames(&[G_LOWER])];
+    "a tag that isn't the first block": "gain -g -5 a o", "a" = &[ID3V2_BLOCK, Frames(&[G]), ID3V1_BLOCK, TWO] =>
+        "o" = &[ID3V2_BLOCK, Frames(&[G_LOWER]), ID3V1_BLOCK, Valued(&TWO_AND_UNDO, b"+005,+005,N")];
+    "two tags, of which the first is read and changed":
+        "gain -g -5 a o", "a" = &[Frames(&[G]), TWO, Valued(&UNDO, b"-003,-003,N")] =>
+        "o" = &[Frames(&[G_LOWER]), Valued(&TWO_AND_UNDO, b"+005,+005,N"), Valued(&UNDO, b"-003,-003,N")];
+    "a new tag before a block behind the frames": "gain -g -5 a o", "a" = &[Frames(&[G]), ID3V1_BLOCK] =>
+        "o" = &[Frames(&[G_LOWER]), Valued(&UNDO, b"+005,+005,N"), ID3V1_BLOCK];
+    "a new tag before zero bytes behind the frames": "gain -g -5 a o", "a" = &[Frames(&[G]), Fill(0, 3), ID3V1_BLOCK] =>
+        "o" = &[Frames(&[G_LOWER]), Valued(&UNDO, b"+005,+005,N"), Fill(0, 3), ID3V1_BLOCK];
+    "a new tag behind the last frame, where a block stands between frames":
+        "gain -g -5 a o", "a" = &[Frames(&[G]), ID3V1_BLOCK, Frames(&[G])] =>
+        "o" = &[Frames(&[G_LOWER]), ID3V1_BLOCK, Frames(&[G_LOWER]), Valued(&UNDO, b"+005,+005,N")];
+    "a head, zero bytes, and junk, which is dropped":
+        "gain -g -5 a o", "a" = &[ID3V2_BLOCK, Fill(0, 2), Fill(0x55, 10), Frames(&[HEAD, G, PROTECTED_G]), Valued(&THREE, b"-003,-003,N")] =>
+        "o" = &[ID3V2_BLOCK, Fill(0, 2), Frames(&[HEAD, G_LOWER, PROTECTED_G_LOWER]), Valued(&THREE, b"+002,+002,N")];
+    "lost frames, which stay": "gain -g -5 a o", "a" = &[Frames(&[LOST, G, LONG])] =>
+        "o" = &[Frames(&[LOST, G_LOWER, LONG_LOWER]), Valued(&UNDO, b"+005,+005,N")];
+};
 
 #[test]
 fn where_the_note_stands(rt: HostRuntime) -> Result<(), Fail> {
@@ -638,70 +114,31 @@ fn where_the_note_stands(rt: HostRuntime) -> Result<(), Fail> {
 }
 
 /// What a change by 255 steps makes of a silent frame.
-const FIRST_LOUDER: &[Stretch] = &[
-    Stretch::Frames(&[Z]),
-    UNDO_FRONT,
-    Stretch::Bytes(b"-255,-255,N"),
-    UNDO_BACK,
-];
+const FIRST_LOUDER: &[Stretch] = &[Frames(&[Z]), Valued(&UNDO, b"-255,-255,N")];
 
 /// What two make of it.
-const SECOND_LOUDER: &[Stretch] = &[
-    Stretch::Frames(&[Z]),
-    UNDO_FRONT,
-    Stretch::Bytes(b"-510,-510,N"),
-    UNDO_BACK,
-];
+const SECOND_LOUDER: &[Stretch] = &[Frames(&[Z]), Valued(&UNDO, b"-510,-510,N")];
 
 /// What three make of it.
-const LOUDEST: &[Stretch] = &[
-    Stretch::Frames(&[Z]),
-    UNDO_FRONT,
-    Stretch::Bytes(b"-765,-765,N"),
-    UNDO_BACK,
-];
+const LOUDEST: &[Stretch] = &[Frames(&[Z]), Valued(&UNDO, b"-765,-765,N")];
 
-static SUMS: [Row; 2] = [
-    Row {
-        files: &[File {
-            name: "z",
-            bytes: &[Stretch::Frames(&[Z])],
-        }],
-        words: &["gain -g 255 z a", "gain -g 255 a b", "gain -g 255 b c"],
-        after: &[
-            File {
-                name: "a",
-                bytes: FIRST_LOUDER,
-            },
-            File {
-                name: "b",
-                bytes: SECOND_LOUDER,
-            },
-            File {
-                name: "c",
-                bytes: LOUDEST,
-            },
-        ],
-        more: Some(&More {
-            outputs: Some(&["a", "b", "c", "o"]),
-            ..MORE
-        }),
-        ..ROW
-    },
-    Row {
-        files: &[File {
-            name: "c",
-            bytes: LOUDEST,
-        }],
-        words: &["gain -g 255 c o"],
-        status: 1,
-        line: "undo sum -1020 is out of range\n",
-        ..ROW
-    },
-];
+const TO_A_B_C: More = More {
+    outputs: Some(&["a", "b", "c", "o"]),
+    ..MORE
+};
+
+static SUMS: [Row; 1] = done! {
+    "gain -g 255 z a" then "gain -g 255 a b" then "gain -g 255 b c" with TO_A_B_C, "z" = &[Frames(&[Z])] =>
+        "a" = FIRST_LOUDER, "b" = SECOND_LOUDER, "c" = LOUDEST;
+};
+
+static TOO_MUCH: [Row; 1] = refused! {
+    "gain -g 255 c o", "c" = LOUDEST => 1 "undo sum -1020 is out of range\n";
+};
 
 #[test]
 fn a_sum_of_more_than_three_digits(rt: HostRuntime) -> Result<(), Fail> {
     assert_eq!(rt; first_difference(rt.alloc(), &SUMS)?, None);
+    assert_eq!(rt; first_difference(rt.alloc(), &TOO_MUCH)?, None);
     Ok(())
 }

@@ -1,147 +1,39 @@
 //! Changes that are taken back.
 
 use crate::blocks::{
-    G_WRAPPED_DOWN, G_WRAPPED_UP, JOINT, LOST, LOWEST, LOWEST_LOUDER, M, M_LOUDER, THREE_BACK,
-    THREE_FRONT, TWO, UNDO_BACK, UNDO_FRONT,
+    G_WRAPPED_DOWN, G_WRAPPED_UP, JOINT, LOST, LOWEST, LOWEST_LOUDER, M, M_LOUDER, THREE, TWO, UNDO,
 };
-use acceptance_kit::rows::{File, MORE, More, ROW, Row, first_difference};
+use acceptance_kit::rows::{MORE, More, ROW, Row, first_difference};
+use acceptance_kit::{done, files, refused};
 use std::test::Fail;
-use test_files::files::{ID3V1, ID3V1_REST, ID3V2, ID3V2_REST, Stretch};
+use test_files::files::Stretch::{Fill, Frames, Valued};
+use test_files::files::{ID3V1_BLOCK, ID3V2_BLOCK, Stretch};
 use test_files::frames::{
     Frame, G, G_LOWER, HEAD, LONG, LONG_LOWER, LOWER, LOWER_QUIETER, MONO, MONO_LOWER, PADDED,
     PROTECTED_G, PROTECTED_G_LOWER, PROTECTED_LOWER, Z,
 };
+use test_files::{end_to_end, frame};
 
 /// G with the gains 75, 126, 230, 115: modulo 256 these are 999 more of 100 and 255, and 999 less of 101 and 90.
-const G_FAR: Frame = Frame {
-    side: &[
-        0x00, 0x00, 0x00, 0x08, 0x00, 0x25, 0x80, 0x00, 0x00, 0x00, 0x01, 0x00, 0x07, 0xe0, 0x00,
-        0x00, 0x00, 0x00, 0x20, 0x01, 0xcc, 0x00, 0x00, 0x00, 0x00, 0x04, 0x00, 0x1c, 0xc0, 0x00,
-        0x00, 0x00,
-    ],
-    ..G
-};
+const G_FAR: Frame =
+    frame! { side: b"\0\0\0\x08\0\x25\x80\0\0\0\x01\0\x07\xe0\0\0\0\0\x20\x01\xcc\0\0\0\0\x04\0\x1c\xc0", ..G };
 
 /// G with the gains 104, 96, 3, 85: 4 steps up on the left, where 255 wraps, and 5 down on the right.
-const G_LOUDER_LOWER: Frame = Frame {
-    side: &[
-        0x00, 0x00, 0x00, 0x08, 0x00, 0x34, 0x00, 0x00, 0x00, 0x00, 0x01, 0x00, 0x06, 0x00, 0x00,
-        0x00, 0x00, 0x00, 0x20, 0x00, 0x06, 0x00, 0x00, 0x00, 0x00, 0x04, 0x00, 0x15, 0x40, 0x00,
-        0x00, 0x00,
-    ],
-    ..G
-};
+const G_LOUDER_LOWER: Frame =
+    frame! { side: b"\0\0\0\x08\0\x34\0\0\0\0\x01\0\x06\0\0\0\0\0\x20\0\x06\0\0\0\0\x04\0\x15\x40", ..G };
 
-static UNDONE_GAINS: [Row; 6] = [
-    Row {
-        what: "gains that wrapped at the top",
-        files: &[File {
-            name: "a",
-            bytes: &[
-                Stretch::Frames(&[G_WRAPPED_UP]),
-                UNDO_FRONT,
-                Stretch::Bytes(b"-001,-001,W"),
-                UNDO_BACK,
-            ],
-        }],
-        words: &["gain -u a o"],
-        after: &[File {
-            name: "o",
-            bytes: &[Stretch::Frames(&[G])],
-        }],
-        ..ROW
-    },
-    Row {
-        what: "gains that wrapped at the bottom",
-        files: &[File {
-            name: "a",
-            bytes: &[
-                Stretch::Frames(&[G_WRAPPED_DOWN]),
-                UNDO_FRONT,
-                Stretch::Bytes(b"+101,+101,W"),
-                UNDO_BACK,
-            ],
-        }],
-        words: &["gain -u a o"],
-        after: &[File {
-            name: "o",
-            bytes: &[Stretch::Frames(&[G])],
-        }],
-        ..ROW
-    },
-    Row {
-        what: "gains that wrap now",
-        files: &[File {
-            name: "a",
-            bytes: &[
-                Stretch::Frames(&[G]),
-                UNDO_FRONT,
-                Stretch::Bytes(b"+999,-999,W"),
-                UNDO_BACK,
-            ],
-        }],
-        words: &["gain -u a o"],
-        after: &[File {
-            name: "o",
-            bytes: &[Stretch::Frames(&[G_FAR])],
-        }],
-        ..ROW
-    },
-    Row {
-        what: "the channels by their own steps",
-        files: &[File {
-            name: "a",
-            bytes: &[
-                Stretch::Frames(&[G_LOUDER_LOWER]),
-                UNDO_FRONT,
-                Stretch::Bytes(b"-004,+005,W"),
-                UNDO_BACK,
-            ],
-        }],
-        words: &["gain -u a o"],
-        after: &[File {
-            name: "o",
-            bytes: &[Stretch::Frames(&[G])],
-        }],
-        ..ROW
-    },
-    Row {
-        what: "no step",
-        files: &[File {
-            name: "a",
-            bytes: &[
-                Stretch::Frames(&[G]),
-                UNDO_FRONT,
-                Stretch::Bytes(b"+000,-000,N"),
-                UNDO_BACK,
-            ],
-        }],
-        words: &["gain -u a o"],
-        after: &[File {
-            name: "o",
-            bytes: &[Stretch::Frames(&[G])],
-        }],
-        ..ROW
-    },
-    Row {
-        what: "silent granules",
-        files: &[File {
-            name: "a",
-            bytes: &[
-                Stretch::Frames(&[Z]),
-                UNDO_FRONT,
-                Stretch::Bytes(b"+999,-999,N"),
-                UNDO_BACK,
-            ],
-        }],
-        words: &["gain -u a o"],
-        after: &[File {
-            name: "o",
-            bytes: &[Stretch::Frames(&[Z])],
-        }],
-        ..ROW
-    },
-];
+static UNDONE_GAINS: [Row; 6] = done! {
+    "gains that wrapped at the top":
+        "gain -u a o", "a" = &[Frames(&[G_WRAPPED_UP]), Valued(&UNDO, b"-001,-001,W")] => "o" = &[Frames(&[G])];
+    "gains that wrapped at the bottom":
+        "gain -u a o", "a" = &[Frames(&[G_WRAPPED_DOWN]), Valued(&UNDO, b"+101,+101,W")] => "o" = &[Frames(&[G])];
+    "gains that wrap now":
+        "gain -u a o", "a" = &[Frames(&[G]), Valued(&UNDO, b"+999,-999,W")] => "o" = &[Frames(&[G_FAR])];
+    "the channels by their own steps":
+        "gain -u a o", "a" = &[Frames(&[G_LOUDER_LOWER]), Valued(&UNDO, b"-004,+005,W")] => "o" = &[Frames(&[G])];
+    "no step": "gain -u a o", "a" = &[Frames(&[G]), Valued(&UNDO, b"+000,-000,N")] => "o" = &[Frames(&[G])];
+    "silent granules": "gain -u a o", "a" = &[Frames(&[Z]), Valued(&UNDO, b"+999,-999,N")] => "o" = &[Frames(&[Z])];
+};
 
 #[test]
 fn what_an_undo_makes_of_gains(rt: HostRuntime) -> Result<(), Fail> {
@@ -150,116 +42,21 @@ fn what_an_undo_makes_of_gains(rt: HostRuntime) -> Result<(), Fail> {
 }
 
 /// The same of each kind of file.
-static UNDONE_KINDS: [Row; 6] = [
-    Row {
-        what: "MPEG-1, one channel, which is the left one",
-        files: &[File {
-            name: "a",
-            bytes: &[
-                Stretch::Frames(&[MONO_LOWER]),
-                UNDO_FRONT,
-                Stretch::Bytes(b"+005,-999,N"),
-                UNDO_BACK,
-            ],
-        }],
-        words: &["gain -u a o"],
-        after: &[File {
-            name: "o",
-            bytes: &[Stretch::Frames(&[MONO])],
-        }],
-        ..ROW
-    },
-    Row {
-        what: "MPEG-2, two channels",
-        files: &[File {
-            name: "a",
-            bytes: &[
-                Stretch::Frames(&[LOWER_QUIETER]),
-                UNDO_FRONT,
-                Stretch::Bytes(b"+005,+005,N"),
-                UNDO_BACK,
-            ],
-        }],
-        words: &["gain -u a o"],
-        after: &[File {
-            name: "o",
-            bytes: &[Stretch::Frames(&[LOWER])],
-        }],
-        ..ROW
-    },
-    Row {
-        what: "MPEG-2, one channel, protected",
-        files: &[File {
-            name: "a",
-            bytes: &[
-                Stretch::Frames(&[M_LOUDER]),
-                UNDO_FRONT,
-                Stretch::Bytes(b"-001,-001,N"),
-                UNDO_BACK,
-            ],
-        }],
-        words: &["gain -u a o"],
-        after: &[File {
-            name: "o",
-            bytes: &[Stretch::Frames(&[M])],
-        }],
-        ..ROW
-    },
-    Row {
-        what: "MPEG-2.5",
-        files: &[File {
-            name: "a",
-            bytes: &[
-                Stretch::Frames(&[LOWEST_LOUDER]),
-                UNDO_FRONT,
-                Stretch::Bytes(b"-001,-001,N"),
-                UNDO_BACK,
-            ],
-        }],
-        words: &["gain -u a o"],
-        after: &[File {
-            name: "o",
-            bytes: &[Stretch::Frames(&[LOWEST])],
-        }],
-        ..ROW
-    },
-    Row {
-        what: "MPEG-1, two channels, protected",
-        files: &[File {
-            name: "a",
-            bytes: &[
-                Stretch::Frames(&[PROTECTED_G_LOWER]),
-                UNDO_FRONT,
-                Stretch::Bytes(b"+005,+005,N"),
-                UNDO_BACK,
-            ],
-        }],
-        words: &["gain -u a o"],
-        after: &[File {
-            name: "o",
-            bytes: &[Stretch::Frames(&[PROTECTED_G])],
-        }],
-        ..ROW
-    },
-    Row {
-        what: "joint stereo",
-        files: &[File {
-            name: "a",
-            bytes: &[
-                Stretch::Frames(&[JOINT]),
-                UNDO_FRONT,
-                Stretch::Bytes(b"+005,-005,N"),
-                UNDO_BACK,
-            ],
-        }],
-        words: &["gain -u a o"],
-        after: &[File {
-            name: "o",
-            bytes: &[Stretch::Frames(&[JOINT])],
-        }],
-        ..ROW
-    },
-];
+static UNDONE_KINDS: [Row; 6] = done! {
+    "MPEG-1, one channel, which is the left one":
+        "gain -u a o", "a" = &[Frames(&[MONO_LOWER]), Valued(&UNDO, b"+005,-999,N")] => "o" = &[Frames(&[MONO])];
+    "MPEG-2, two channels":
+        "gain -u a o", "a" = &[Frames(&[LOWER_QUIETER]), Valued(&UNDO, b"+005,+005,N")] => "o" = &[Frames(&[LOWER])];
+    "MPEG-2, one channel, protected":
+        "gain -u a o", "a" = &[Frames(&[M_LOUDER]), Valued(&UNDO, b"-001,-001,N")] => "o" = &[Frames(&[M])];
+    "MPEG-2.5":
+        "gain -u a o", "a" = &[Frames(&[LOWEST_LOUDER]), Valued(&UNDO, b"-001,-001,N")] => "o" = &[Frames(&[LOWEST])];
+    "MPEG-1, two channels, protected":
+        "gain -u a o", "a" = &[Frames(&[PROTECTED_G_LOWER]), Valued(&UNDO, b"+005,+005,N")] =>
+        "o" = &[Frames(&[PROTECTED_G])];
+    "joint stereo":
+        "gain -u a o", "a" = &[Frames(&[JOINT]), Valued(&UNDO, b"+005,-005,N")] => "o" = &[Frames(&[JOINT])];
+};
 
 #[test]
 fn what_an_undo_makes_of_each_kind_of_file(rt: HostRuntime) -> Result<(), Fail> {
@@ -268,140 +65,24 @@ fn what_an_undo_makes_of_each_kind_of_file(rt: HostRuntime) -> Result<(), Fail> 
 }
 
 /// The same of tags and of what else stands in a file.
-static UNDONE_TAGS: [Row; 6] = [
-    Row {
-        what: "the item alone goes, with a key in other letters",
-        files: &[File {
-            name: "a",
-            bytes: &[
-                Stretch::Frames(&[G_LOWER]),
-                THREE_FRONT,
-                Stretch::Bytes(b"+005,+005,N"),
-                THREE_BACK,
-            ],
-        }],
-        words: &["gain -u a o"],
-        after: &[File {
-            name: "o",
-            bytes: &[Stretch::Frames(&[G]), TWO],
-        }],
-        ..ROW
-    },
-    Row {
-        what: "a tag at the front",
-        files: &[File {
-            name: "a",
-            bytes: &[
-                THREE_FRONT,
-                Stretch::Bytes(b"+005,+005,N"),
-                THREE_BACK,
-                Stretch::Frames(&[G_LOWER]),
-            ],
-        }],
-        words: &["gain -u a o"],
-        after: &[File {
-            name: "o",
-            bytes: &[TWO, Stretch::Frames(&[G])],
-        }],
-        ..ROW
-    },
-    Row {
-        what: "a tag that would have no item goes, before a block",
-        files: &[File {
-            name: "a",
-            bytes: &[
-                ID3V2,
-                ID3V2_REST,
-                Stretch::Frames(&[G_LOWER]),
-                UNDO_FRONT,
-                Stretch::Bytes(b"+005,+005,N"),
-                UNDO_BACK,
-                ID3V1,
-                ID3V1_REST,
-            ],
-        }],
-        words: &["gain -u a o"],
-        after: &[File {
-            name: "o",
-            bytes: &[ID3V2, ID3V2_REST, Stretch::Frames(&[G]), ID3V1, ID3V1_REST],
-        }],
-        ..ROW
-    },
-    Row {
-        what: "two tags, of which the second stays",
-        files: &[File {
-            name: "a",
-            bytes: &[
-                Stretch::Frames(&[G_LOWER]),
-                UNDO_FRONT,
-                Stretch::Bytes(b"+005,+005,N"),
-                UNDO_BACK,
-                UNDO_FRONT,
-                Stretch::Bytes(b"+007,+007,N"),
-                UNDO_BACK,
-            ],
-        }],
-        words: &["gain -u a o"],
-        after: &[File {
-            name: "o",
-            bytes: &[
-                Stretch::Frames(&[G]),
-                UNDO_FRONT,
-                Stretch::Bytes(b"+007,+007,N"),
-                UNDO_BACK,
-            ],
-        }],
-        ..ROW
-    },
-    Row {
-        what: "a head, zero bytes, and junk, which is dropped",
-        files: &[File {
-            name: "a",
-            bytes: &[
-                ID3V2,
-                ID3V2_REST,
-                Stretch::Fill(0, 2),
-                Stretch::Fill(0x55, 10),
-                Stretch::Frames(&[HEAD, G_LOWER, PROTECTED_G_LOWER]),
-                Stretch::Fill(0, 3),
-                THREE_FRONT,
-                Stretch::Bytes(b"+005,+005,N"),
-                THREE_BACK,
-            ],
-        }],
-        words: &["gain -u a o"],
-        after: &[File {
-            name: "o",
-            bytes: &[
-                ID3V2,
-                ID3V2_REST,
-                Stretch::Fill(0, 2),
-                Stretch::Frames(&[HEAD, G, PROTECTED_G]),
-                Stretch::Fill(0, 3),
-                TWO,
-            ],
-        }],
-        ..ROW
-    },
-    Row {
-        what: "lost frames, which stay",
-        files: &[File {
-            name: "a",
-            bytes: &[
-                Stretch::Frames(&[LOST, G_LOWER, LONG_LOWER]),
-                UNDO_FRONT,
-                Stretch::Bytes(b"+005,+005,N"),
-                UNDO_BACK,
-            ],
-        }],
-        words: &["gain -u a o"],
-        after: &[File {
-            name: "o",
-            bytes: &[Stretch::Frames(&[LOST, G, LONG])],
-        }],
-        ..ROW
-    },
-];
+static UNDONE_TAGS: [Row; 6] = done! {
+    "the item alone goes, with a key in other letters":
+        "gain -u a o", "a" = &[Frames(&[G_LOWER]), Valued(&THREE, b"+005,+005,N")] => "o" = &[Frames(&[G]), TWO];
+    "a tag at the front":
+        "gain -u a o", "a" = &[Valued(&THREE, b"+005,+005,N"), Frames(&[G_LOWER])] => "o" = &[TWO, Frames(&[G])];
+    "a tag that would have no item goes, before a block":
+        "gain -u a o", "a" = &[ID3V2_BLOCK, Frames(&[G_LOWER]), Valued(&UNDO, b"+005,+005,N"), ID3V1_BLOCK] =>
+        "o" = &[ID3V2_BLOCK, Frames(&[G]), ID3V1_BLOCK];
+    "two tags, of which the second stays":
+        "gain -u a o", "a" = &[Frames(&[G_LOWER]), Valued(&UNDO, b"+005,+005,N"), Valued(&UNDO, b"+007,+007,N")] =>
+        "o" = &[Frames(&[G]), Valued(&UNDO, b"+007,+007,N")];
+    "a head, zero bytes, and junk, which is dropped":
+        "gain -u a o", "a" = &[ID3V2_BLOCK, Fill(0, 2), Fill(0x55, 10), Frames(&[HEAD, G_LOWER, PROTECTED_G_LOWER]), Fill(0, 3), Valued(&THREE, b"+005,+005,N")] =>
+        "o" = &[ID3V2_BLOCK, Fill(0, 2), Frames(&[HEAD, G, PROTECTED_G]), Fill(0, 3), TWO];
+    "lost frames, which stay":
+        "gain -u a o", "a" = &[Frames(&[LOST, G_LOWER, LONG_LOWER]), Valued(&UNDO, b"+005,+005,N")] =>
+        "o" = &[Frames(&[LOST, G, LONG])];
+};
 
 #[test]
 fn what_an_undo_makes_of_tags(rt: HostRuntime) -> Result<(), Fail> {
@@ -409,372 +90,55 @@ fn what_an_undo_makes_of_tags(rt: HostRuntime) -> Result<(), Fail> {
     Ok(())
 }
 
-static CHAINS: [Row; 9] = [
-    Row {
-        what: "both channels",
-        files: &[File {
-            name: "a",
-            bytes: &[Stretch::Frames(&[G, Z, PROTECTED_G])],
-        }],
-        words: &[
-            "gain -g -5 a b",
-            "gain -g 3 b c",
-            "gain -g -88 c d",
-            "gain -u d o",
-        ],
-        after: &[File {
-            name: "o",
-            bytes: &[Stretch::Frames(&[G, Z, PROTECTED_G])],
-        }],
-        more: Some(&More {
-            outputs: Some(&["b", "c", "d", "o"]),
-            others: Some(&[
-                File {
-                    name: "b",
-                    bytes: &[Stretch::Frames(&[G, Z, PROTECTED_G])],
-                },
-                File {
-                    name: "c",
-                    bytes: &[Stretch::Frames(&[G, Z, PROTECTED_G])],
-                },
-                File {
-                    name: "d",
-                    bytes: &[Stretch::Frames(&[G, Z, PROTECTED_G])],
-                },
-            ]),
-            ..MORE
-        }),
-        ..ROW
-    },
-    Row {
-        what: "each channel, and gains that wrap in the midst",
-        files: &[File {
-            name: "a",
-            bytes: &[Stretch::Frames(&[G, PADDED])],
-        }],
-        words: &[
-            "gain -l 0 -5 a b",
-            "gain -w -g 255 b c",
-            "gain -l 1 -3 c d",
-            "gain -u d o",
-        ],
-        after: &[File {
-            name: "o",
-            bytes: &[Stretch::Frames(&[G, PADDED])],
-        }],
-        more: Some(&More {
-            outputs: Some(&["b", "c", "d", "o"]),
-            others: Some(&[
-                File {
-                    name: "b",
-                    bytes: &[Stretch::Frames(&[G, PADDED])],
-                },
-                File {
-                    name: "c",
-                    bytes: &[Stretch::Frames(&[G, PADDED])],
-                },
-                File {
-                    name: "d",
-                    bytes: &[Stretch::Frames(&[G, PADDED])],
-                },
-            ]),
-            ..MORE
-        }),
-        ..ROW
-    },
-    Row {
-        what: "a tag with other items and an ID3v1 block",
-        files: &[File {
-            name: "a",
-            bytes: &[Stretch::Frames(&[G, LONG]), TWO, ID3V1, ID3V1_REST],
-        }],
-        words: &[
-            "gain -g -1 a b",
-            "gain -w -g 1 b c",
-            "gain -g -2 c d",
-            "gain -u d o",
-        ],
-        after: &[File {
-            name: "o",
-            bytes: &[Stretch::Frames(&[G, LONG]), TWO, ID3V1, ID3V1_REST],
-        }],
-        more: Some(&More {
-            outputs: Some(&["b", "c", "d", "o"]),
-            others: Some(&[
-                File {
-                    name: "b",
-                    bytes: &[Stretch::Frames(&[G, LONG]), TWO, ID3V1, ID3V1_REST],
-                },
-                File {
-                    name: "c",
-                    bytes: &[Stretch::Frames(&[G, LONG]), TWO, ID3V1, ID3V1_REST],
-                },
-                File {
-                    name: "d",
-                    bytes: &[Stretch::Frames(&[G, LONG]), TWO, ID3V1, ID3V1_REST],
-                },
-            ]),
-            ..MORE
-        }),
-        ..ROW
-    },
-    Row {
-        what: "a tag at the front",
-        files: &[File {
-            name: "a",
-            bytes: &[TWO, Stretch::Frames(&[G])],
-        }],
-        words: &[
-            "gain -g -1 a b",
-            "gain -l 0 1 b c",
-            "gain -g -2 c d",
-            "gain -u d o",
-        ],
-        after: &[File {
-            name: "o",
-            bytes: &[TWO, Stretch::Frames(&[G])],
-        }],
-        more: Some(&More {
-            outputs: Some(&["b", "c", "d", "o"]),
-            others: Some(&[
-                File {
-                    name: "b",
-                    bytes: &[TWO, Stretch::Frames(&[G])],
-                },
-                File {
-                    name: "c",
-                    bytes: &[TWO, Stretch::Frames(&[G])],
-                },
-                File {
-                    name: "d",
-                    bytes: &[TWO, Stretch::Frames(&[G])],
-                },
-            ]),
-            ..MORE
-        }),
-        ..ROW
-    },
-    Row {
-        what: "no tag, an ID3v1 block and zero bytes",
-        files: &[File {
-            name: "a",
-            bytes: &[
-                ID3V2,
-                ID3V2_REST,
-                Stretch::Fill(0, 2),
-                Stretch::Frames(&[HEAD, G]),
-                Stretch::Fill(0, 3),
-                ID3V1,
-                ID3V1_REST,
-            ],
-        }],
-        words: &[
-            "gain -g -1 a b",
-            "gain -g -1 b c",
-            "gain -l 1 2 c d",
-            "gain -u d o",
-        ],
-        after: &[File {
-            name: "o",
-            bytes: &[
-                ID3V2,
-                ID3V2_REST,
-                Stretch::Fill(0, 2),
-                Stretch::Frames(&[HEAD, G]),
-                Stretch::Fill(0, 3),
-                ID3V1,
-                ID3V1_REST,
-            ],
-        }],
-        more: Some(&More {
-            outputs: Some(&["b", "c", "d", "o"]),
-            others: Some(&[
-                File {
-                    name: "b",
-                    bytes: &[
-                        ID3V2,
-                        ID3V2_REST,
-                        Stretch::Fill(0, 2),
-                        Stretch::Frames(&[HEAD, G]),
-                        Stretch::Fill(0, 3),
-                        ID3V1,
-                        ID3V1_REST,
-                    ],
-                },
-                File {
-                    name: "c",
-                    bytes: &[
-                        ID3V2,
-                        ID3V2_REST,
-                        Stretch::Fill(0, 2),
-                        Stretch::Frames(&[HEAD, G]),
-                        Stretch::Fill(0, 3),
-                        ID3V1,
-                        ID3V1_REST,
-                    ],
-                },
-                File {
-                    name: "d",
-                    bytes: &[
-                        ID3V2,
-                        ID3V2_REST,
-                        Stretch::Fill(0, 2),
-                        Stretch::Frames(&[HEAD, G]),
-                        Stretch::Fill(0, 3),
-                        ID3V1,
-                        ID3V1_REST,
-                    ],
-                },
-            ]),
-            ..MORE
-        }),
-        ..ROW
-    },
-    Row {
-        what: "MPEG-2",
-        files: &[File {
-            name: "a",
-            bytes: &[Stretch::Frames(&[LOWER, PROTECTED_LOWER])],
-        }],
-        words: &[
-            "gain -g -5 a b",
-            "gain -w -g 100 b c",
-            "gain -l 1 3 c d",
-            "gain -u d o",
-        ],
-        after: &[File {
-            name: "o",
-            bytes: &[Stretch::Frames(&[LOWER, PROTECTED_LOWER])],
-        }],
-        more: Some(&More {
-            outputs: Some(&["b", "c", "d", "o"]),
-            others: Some(&[
-                File {
-                    name: "b",
-                    bytes: &[Stretch::Frames(&[LOWER, PROTECTED_LOWER])],
-                },
-                File {
-                    name: "c",
-                    bytes: &[Stretch::Frames(&[LOWER, PROTECTED_LOWER])],
-                },
-                File {
-                    name: "d",
-                    bytes: &[Stretch::Frames(&[LOWER, PROTECTED_LOWER])],
-                },
-            ]),
-            ..MORE
-        }),
-        ..ROW
-    },
-    Row {
-        what: "MPEG-2, one channel",
-        files: &[File {
-            name: "a",
-            bytes: &[Stretch::Frames(&[M, M_LOUDER])],
-        }],
-        words: &[
-            "gain -g -5 a b",
-            "gain -w -g 200 b c",
-            "gain -g -9 c d",
-            "gain -u d o",
-        ],
-        after: &[File {
-            name: "o",
-            bytes: &[Stretch::Frames(&[M, M_LOUDER])],
-        }],
-        more: Some(&More {
-            outputs: Some(&["b", "c", "d", "o"]),
-            others: Some(&[
-                File {
-                    name: "b",
-                    bytes: &[Stretch::Frames(&[M, M_LOUDER])],
-                },
-                File {
-                    name: "c",
-                    bytes: &[Stretch::Frames(&[M, M_LOUDER])],
-                },
-                File {
-                    name: "d",
-                    bytes: &[Stretch::Frames(&[M, M_LOUDER])],
-                },
-            ]),
-            ..MORE
-        }),
-        ..ROW
-    },
-    Row {
-        what: "MPEG-2.5",
-        files: &[File {
-            name: "a",
-            bytes: &[Stretch::Frames(&[LOWEST])],
-        }],
-        words: &[
-            "gain -g 155 a b",
-            "gain -w -g 1 b c",
-            "gain -w -g 255 c d",
-            "gain -u d o",
-        ],
-        after: &[File {
-            name: "o",
-            bytes: &[Stretch::Frames(&[LOWEST])],
-        }],
-        more: Some(&More {
-            outputs: Some(&["b", "c", "d", "o"]),
-            others: Some(&[
-                File {
-                    name: "b",
-                    bytes: &[Stretch::Frames(&[LOWEST])],
-                },
-                File {
-                    name: "c",
-                    bytes: &[Stretch::Frames(&[LOWEST])],
-                },
-                File {
-                    name: "d",
-                    bytes: &[Stretch::Frames(&[LOWEST])],
-                },
-            ]),
-            ..MORE
-        }),
-        ..ROW
-    },
-    Row {
-        what: "lost frames",
-        files: &[File {
-            name: "a",
-            bytes: &[Stretch::Frames(&[LOST, G])],
-        }],
-        words: &[
-            "gain -g -5 a b",
-            "gain -g 3 b c",
-            "gain -g -88 c d",
-            "gain -u d o",
-        ],
-        after: &[File {
-            name: "o",
-            bytes: &[Stretch::Frames(&[LOST, G])],
-        }],
-        more: Some(&More {
-            outputs: Some(&["b", "c", "d", "o"]),
-            others: Some(&[
-                File {
-                    name: "b",
-                    bytes: &[Stretch::Frames(&[LOST, G])],
-                },
-                File {
-                    name: "c",
-                    bytes: &[Stretch::Frames(&[LOST, G])],
-                },
-                File {
-                    name: "d",
-                    bytes: &[Stretch::Frames(&[LOST, G])],
-                },
-            ]),
-            ..MORE
-        }),
-        ..ROW
-    },
-];
+const TWO_CHANNELS: &[Stretch] = &[Frames(&[G, Z, PROTECTED_G])];
+
+const PADDED_LAST: &[Stretch] = &[Frames(&[G, PADDED])];
+
+const TAGGED: &[Stretch] = &[Frames(&[G, LONG]), TWO, ID3V1_BLOCK];
+
+const TAG_IN_FRONT: &[Stretch] = &[TWO, Frames(&[G])];
+
+const UNTAGGED: &[Stretch] = &end_to_end! {
+    ID3V2_BLOCK, Fill(0, 2), Frames(&[HEAD, G]), Fill(0, 3), ID3V1_BLOCK
+};
+
+const LOWER_FILE: &[Stretch] = &[Frames(&[LOWER, PROTECTED_LOWER])];
+
+const M_FILE: &[Stretch] = &[Frames(&[M, M_LOUDER])];
+
+const LOWEST_FILE: &[Stretch] = &[Frames(&[LOWEST])];
+
+const LOST_FIRST: &[Stretch] = &[Frames(&[LOST, G])];
+
+/// What is tried, three changes of the file, from `a` to `b`, `c` and `d`, and the file. All of them are taken back.
+macro_rules! taken_back {
+    ($($what:literal: $first:literal then $second:literal then $third:literal, $file:expr;)+) => {
+        [$(Row {
+            what: $what,
+            files: files!("a" = $file),
+            words: &[$first, $second, $third, "gain -u d o"],
+            after: files!("o" = $file),
+            more: Some(&More {
+                outputs: Some(&["b", "c", "d", "o"]),
+                others: Some(files!("b" = $file, "c" = $file, "d" = $file)),
+                ..MORE
+            }),
+            ..ROW
+        }),+]
+    };
+}
+
+static CHAINS: [Row; 9] = taken_back! {
+    "both channels": "gain -g -5 a b" then "gain -g 3 b c" then "gain -g -88 c d", TWO_CHANNELS;
+    "each channel, and gains that wrap in the midst": "gain -l 0 -5 a b" then "gain -w -g 255 b c" then "gain -l 1 -3 c d", PADDED_LAST;
+    "a tag with other items and an ID3v1 block": "gain -g -1 a b" then "gain -w -g 1 b c" then "gain -g -2 c d", TAGGED;
+    "a tag at the front": "gain -g -1 a b" then "gain -l 0 1 b c" then "gain -g -2 c d", TAG_IN_FRONT;
+    "no tag, an ID3v1 block and zero bytes": "gain -g -1 a b" then "gain -g -1 b c" then "gain -l 1 2 c d", UNTAGGED;
+    "MPEG-2": "gain -g -5 a b" then "gain -w -g 100 b c" then "gain -l 1 3 c d", LOWER_FILE;
+    "MPEG-2, one channel": "gain -g -5 a b" then "gain -w -g 200 b c" then "gain -g -9 c d", M_FILE;
+    "MPEG-2.5": "gain -g 155 a b" then "gain -w -g 1 b c" then "gain -w -g 255 c d", LOWEST_FILE;
+    "lost frames": "gain -g -5 a b" then "gain -g 3 b c" then "gain -g -88 c d", LOST_FIRST;
+};
 
 #[test]
 fn three_changes_are_taken_back(rt: HostRuntime) -> Result<(), Fail> {
@@ -782,152 +146,24 @@ fn three_changes_are_taken_back(rt: HostRuntime) -> Result<(), Fail> {
     Ok(())
 }
 
+const TO_B: More = More {
+    outputs: Some(&["b"]),
+    ..MORE
+};
+
 /// The same files without any change.
-static UNCHANGED: [Row; 9] = [
-    Row {
-        what: "both channels",
-        files: &[File {
-            name: "a",
-            bytes: &[Stretch::Frames(&[G, Z, PROTECTED_G])],
-        }],
-        words: &["gain -u a b"],
-        status: 1,
-        line: "no undo item\n",
-        more: Some(&More {
-            outputs: Some(&["b"]),
-            ..MORE
-        }),
-        ..ROW
-    },
-    Row {
-        what: "each channel, and gains that wrap in the midst",
-        files: &[File {
-            name: "a",
-            bytes: &[Stretch::Frames(&[G, PADDED])],
-        }],
-        words: &["gain -u a b"],
-        status: 1,
-        line: "no undo item\n",
-        more: Some(&More {
-            outputs: Some(&["b"]),
-            ..MORE
-        }),
-        ..ROW
-    },
-    Row {
-        what: "a tag with other items and an ID3v1 block",
-        files: &[File {
-            name: "a",
-            bytes: &[Stretch::Frames(&[G, LONG]), TWO, ID3V1, ID3V1_REST],
-        }],
-        words: &["gain -u a b"],
-        status: 1,
-        line: "no undo item\n",
-        more: Some(&More {
-            outputs: Some(&["b"]),
-            ..MORE
-        }),
-        ..ROW
-    },
-    Row {
-        what: "a tag at the front",
-        files: &[File {
-            name: "a",
-            bytes: &[TWO, Stretch::Frames(&[G])],
-        }],
-        words: &["gain -u a b"],
-        status: 1,
-        line: "no undo item\n",
-        more: Some(&More {
-            outputs: Some(&["b"]),
-            ..MORE
-        }),
-        ..ROW
-    },
-    Row {
-        what: "no tag, an ID3v1 block and zero bytes",
-        files: &[File {
-            name: "a",
-            bytes: &[
-                ID3V2,
-                ID3V2_REST,
-                Stretch::Fill(0, 2),
-                Stretch::Frames(&[HEAD, G]),
-                Stretch::Fill(0, 3),
-                ID3V1,
-                ID3V1_REST,
-            ],
-        }],
-        words: &["gain -u a b"],
-        status: 1,
-        line: "no undo item\n",
-        more: Some(&More {
-            outputs: Some(&["b"]),
-            ..MORE
-        }),
-        ..ROW
-    },
-    Row {
-        what: "MPEG-2",
-        files: &[File {
-            name: "a",
-            bytes: &[Stretch::Frames(&[LOWER, PROTECTED_LOWER])],
-        }],
-        words: &["gain -u a b"],
-        status: 1,
-        line: "no undo item\n",
-        more: Some(&More {
-            outputs: Some(&["b"]),
-            ..MORE
-        }),
-        ..ROW
-    },
-    Row {
-        what: "MPEG-2, one channel",
-        files: &[File {
-            name: "a",
-            bytes: &[Stretch::Frames(&[M, M_LOUDER])],
-        }],
-        words: &["gain -u a b"],
-        status: 1,
-        line: "no undo item\n",
-        more: Some(&More {
-            outputs: Some(&["b"]),
-            ..MORE
-        }),
-        ..ROW
-    },
-    Row {
-        what: "MPEG-2.5",
-        files: &[File {
-            name: "a",
-            bytes: &[Stretch::Frames(&[LOWEST])],
-        }],
-        words: &["gain -u a b"],
-        status: 1,
-        line: "no undo item\n",
-        more: Some(&More {
-            outputs: Some(&["b"]),
-            ..MORE
-        }),
-        ..ROW
-    },
-    Row {
-        what: "lost frames",
-        files: &[File {
-            name: "a",
-            bytes: &[Stretch::Frames(&[LOST, G])],
-        }],
-        words: &["gain -u a b"],
-        status: 1,
-        line: "no undo item\n",
-        more: Some(&More {
-            outputs: Some(&["b"]),
-            ..MORE
-        }),
-        ..ROW
-    },
-];
+static UNCHANGED: [Row; 9] = refused! {
+    "gain -u a b" with TO_B, "a";
+    "both channels": TWO_CHANNELS => "no undo item\n";
+    "each channel, and gains that wrap in the midst": PADDED_LAST => "no undo item\n";
+    "a tag with other items and an ID3v1 block": TAGGED => "no undo item\n";
+    "a tag at the front": TAG_IN_FRONT => "no undo item\n";
+    "no tag, an ID3v1 block and zero bytes": UNTAGGED => "no undo item\n";
+    "MPEG-2": LOWER_FILE => "no undo item\n";
+    "MPEG-2, one channel": M_FILE => "no undo item\n";
+    "MPEG-2.5": LOWEST_FILE => "no undo item\n";
+    "lost frames": LOST_FIRST => "no undo item\n";
+};
 
 #[test]
 fn no_change_is_taken_back(rt: HostRuntime) -> Result<(), Fail> {
