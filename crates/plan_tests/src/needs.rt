@@ -11,6 +11,7 @@ use std::process::Abort;
 use std::test::Fail;
 use sync_survey::{Survey, survey};
 use test_files::files::{Stretch, bytes_of};
+use test_files::table;
 
 /// The index of 128 kbit/s, and that of 32.
 const OWN: u8 = 9;
@@ -63,29 +64,14 @@ struct Case {
     placed: &'static [Planned],
 }
 
-static CASES: [Case; 3] = [
+static CASES: [Case; 3] = table! {
+    Case { from, to, placed }
     // The lost frame is empty, so the next one's main data begin in its area, and so on.
-    Case {
-        from: 0,
-        to: 3,
-        placed: &[
-            Planned(false, OWN, 0),
-            Planned(false, OWN, 381),
-            Planned(false, OWN, 461),
-        ],
-    },
-    Case {
-        from: 1,
-        to: 3,
-        placed: &[Planned(false, OWN, 0), Planned(false, OWN, 80)],
-    },
+    (0, 3, &[Planned(false, OWN, 0), Planned(false, OWN, 381), Planned(false, OWN, 461)])
+    (1, 3, &[Planned(false, OWN, 0), Planned(false, OWN, 80)])
     // 19 bytes are missing: a lead-in of area 68.
-    Case {
-        from: 2,
-        to: 3,
-        placed: &[Planned(true, LEAST, 0), Planned(false, OWN, 68)],
-    },
-];
+    (2, 3, &[Planned(true, LEAST, 0), Planned(false, OWN, 68)])
+};
 
 /// Asserts that the plan has these frames.
 fn expect_placed(rt: &impl Abort, placed: &[Placed], case: &Case) {

@@ -1,28 +1,15 @@
 //! `rate_plan`, called once it is seen that it may be.
 ghost use Rattle.std.specs.Prelude.{◌≡◌, ◌<◌, ◌≤◌, IsTrue, AllPairs, length};
-ghost use Rattle.slot_plan.specs.Parts.{areas_with, AreOfOneClass};
+ghost use Rattle.slot_plan.specs.Parts.{areas_with};
 ghost use Rattle.rate_plan.specs.Menus.{IsMenu};
 
 use arrayvec::ArrayVec;
-use frame_header::{Class, Header, Slot};
+use frame_header::{Class, Slot};
+use plan_kit::checked::are_of_one_class;
 use rate_plan::{RateFault, rate_plan};
 use slot_plan::{Need, Plan};
 use std::alloc::AllocGlobal;
 use std::process::Abort;
-use std::test::Fail;
-
-fn are_of_one_class(needs: &[Need]) -> bool
-    requires { 0 < length needs.now }
-    ensures { IsTrue result → AreOfOneClass needs.now }
-{
-    let class = needs[0].header.class();
-    for need in needs {
-        if !need.header.class().is_same(class) {
-            return false;
-        }
-    }
-    true
-}
 
 /// Whether each area is greater than the one before.
 fn ascend(class: Class, protected: bool, menu: &[Slot]) -> bool
@@ -42,22 +29,6 @@ fn is_menu(needs: &[Need], menu: &[Slot]) -> bool
 {
     let class = needs[0].header.class();
     ascend(class, false, menu) && ascend(class, true, menu)
-}
-
-/// A frame's header, and the bytes of its main data.
-#[derive(Clone, Copy)]
-pub struct Asked(pub [u8; 4], pub u32);
-
-pub fn needs_of<R: AllocGlobal>(rt: &R, frames: &[Asked]) -> Result<Vec<Need>, Fail> {
-    let mut needs = Vec::with_capacity(rt.alloc(), frames.len())?;
-    for frame in frames {
-        let header = Header::read(frame.0)?;
-        needs.push(Need {
-            header,
-            bytes: frame.1,
-        })?;
-    }
-    Ok(needs)
 }
 
 /// The slots of the bit rates between two in kbit/s, these too.

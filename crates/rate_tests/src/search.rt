@@ -1,74 +1,19 @@
 //! A slow search for the plan of a short part: each list of slots from a menu is tried, in the order of the areas.
 
-use crate::checked::{Asked, needs_of, plan_of};
+use crate::checked::plan_of;
 use arrayvec::ArrayVec;
 use frame_header::Slot;
+use plan_kit::asked::{Asked, needs_of};
+use plan_kit::lists::{Found, count_of, laid, next, other_place};
 use rate_plan::RateFault;
-use slot_plan::{Need, Plan};
+use slot_plan::Need;
 use std::alloc::AllocGlobal;
 use std::process::Abort;
 use std::test::Fail;
 
-/// A list that has a layout.
-#[derive(Drop)]
-struct Found {
-    lead_ins: usize,
-    slots: ArrayVec<Slot, 5>,
-    begins: ArrayVec<u16, 5>,
-}
-
-/// The place of a frame's slot in the list of this number: the last frame's slot changes fastest.
-fn place_in(number: u64, slots: u64, behind: usize) -> usize {
-    let mut left = number;
-    for _ in 0..behind {
-        left = left.checked_div(slots).unwrap_or(0);
-    }
-    left.checked_rem(slots).unwrap_or(0) as usize
-}
-
-/// How many lists so many frames have.
-fn count_of(slots: u64, frames: usize) -> u64 {
-    let mut count: u64 = 1;
-    for _ in 0..frames {
-        count = count.saturating_mul(slots);
-    }
-    count
-}
-
-/// The list of this number, laid as early as may be behind so many lead-ins; none where some main data end behind
-/// their frame.
-fn laid(needs: &[Need], menu: &[Slot], lead_ins: usize, number: u64) -> Option<Found> {
-    let class = needs.first()?.header.class();
-    let frames = needs.len().saturating_add(lead_ins);
-    let mut found = Found {
-        lead_ins,
-        slots: ArrayVec::new(),
-        begins: ArrayVec::new(),
-    };
-    let mut before: u32 = 0;
-    let mut end: u32 = 0;
-    for at in 0..frames {
-        let slot = *menu.get(place_in(number, menu.len() as u64, frames - 1 - at))?;
-        let need = needs.get(at.saturating_sub(lead_ins))?;
-        let lead_in = at < lead_ins;
-        let bytes = if lead_in { 0 } else { need.bytes };
-        let area = class.area_of(slot, need.header.protected && !lead_in);
-        let start = end.max(before.saturating_sub(class.window()));
-        let begin = before.saturating_sub(start).min(511) as u16;
-        end = start.saturating_add(bytes);
-        before = before.saturating_add(area);
-        if end > before {
-            return None;
-        }
-        found.slots.try_push(slot).ok()?;
-        found.begins.try_push(begin).ok()?;
-    }
-    Some(found)
-}
-
 /// The first list behind so many lead-ins.
 fn first_list(needs: &[Need], menu: &[Slot], lead_ins: usize) -> Option<Found> {
-    for number in 0..count_of(menu.len() as u64, needs.len().saturating_add(lead_ins)) {
+    for number in 0..count_of(menu.len(), needs.len().saturating_add(lead_ins)) {
         if let Some(found) = laid(needs, menu, lead_ins, number) {
             return Some(found);
         }
@@ -82,16 +27,6 @@ fn searched(needs: &[Need], menu: &[Slot]) -> Option<Found> {
         return Some(found);
     }
     first_list(needs, menu, 1)
-}
-
-fn expect_found<R: Abort>(rt: &R, plan: &Plan, wanted: &Found, needs: &Vec<Need>) {
-    let placed = plan.placed();
-    assert_eq!(rt; placed.len(), wanted.slots.len(), "{needs:?}");
-    for (at, frame) in placed.iter().enumerate() {
-        assert_eq!(rt; frame.lead_in, at < wanted.lead_ins, "{needs:?}");
-        assert_eq!(rt; wanted.slots.get(at), Some(&frame.slot), "{needs:?}");
-        assert_eq!(rt; wanted.begins.get(at), Some(&frame.begin), "{needs:?}");
-    }
 }
 
 /// Up to this frame no list is found behind a lead-in, and up to each before it one is.
@@ -110,11 +45,11 @@ fn expect_searched<R: Abort + AllocGlobal>(
     frames: &[Asked],
     menu: &[Slot],
 ) -> Result<bool, Fail> {
-    let needs = needs_of(rt, frames)?;
+    let needs = needs_of(rt.alloc(), frames)?;
     let wanted = searched(needs.as_slice(), menu);
     match (plan_of(rt, needs.as_slice(), menu), wanted) {
         (Ok(plan), Some(wanted)) => {
-            expect_found(rt, &plan, &wanted, &needs);
+            assert_eq!(rt; other_place(plan.placed(), &wanted), None, "{needs:?}");
             Ok(true)
         }
         (Err(RateFault::Unfit(i)), None) => {
@@ -132,12 +67,6 @@ static HEADERS: [[u8; 4]; 3] = [
     [0xff, 0xfa, 0xe2, 0x00],
     [0xff, 0xf3, 0xe6, 0xc0],
 ];
-
-/// The next of a sequence of numbers without a pattern.
-fn next(state: &mut u32) -> u32 {
-    *state = state.wrapping_mul(1_664_525).wrapping_add(1_013_904_223);
-    *state / 65_536
-}
 
 /// Up to four slots, the areas ascending.
 fn some_slots(state: &mut u32) -> ArrayVec<Slot, 4> {

@@ -1,105 +1,10 @@
 //! `plan`, called once it is seen that it may be.
-ghost use Rattle.std.specs.Prelude.{◌+◌, ◌≡◌, ◌<◌, ◌≤◌, AllPairs, All, IsTrue, length, slice_index, map};
-ghost use Rattle.slot_plan.specs.Layouts.{IsFeasible};
-ghost use Rattle.slot_plan.specs.Parts.{own_frame, parts_of, AreOfOneClass, ArePartsFeasible};
-ghost use Rattle.slot_plan.specs.Reserve.{free_behind as free_behind_lem};
 
+use plan_kit::checked::{all_fit, are_of_one_class, are_within, ascend};
+use plan_kit::rows::{Row, other_frame};
 use slot_plan::{Need, Plan, Policy, plan};
 use std::alloc::{AllocError, AllocGlobal};
 use std::process::Abort;
-
-/// Where the part at this place ends.
-fn end_of(needs: &[Need], parts: &[u32], at: usize) -> usize
-    requires { at < length parts.now }
-    ensures next { at + 1 < length parts.now → result ≡ slice_index parts.now (at + 1) }
-    ensures last { length parts.now ≤ at + 1 → result ≡ length needs.now }
-{
-    if at + 1 < parts.len() {
-        parts[at + 1] as usize
-    } else {
-        needs.len()
-    }
-}
-
-/// The free bytes behind a frame: what it leaves of those before it and its own area, but no more than the window.
-fn free_behind(window: u32, free: u32, bytes: u32, area: u32) -> u32
-    requires window { window ≤ 511 }
-    requires free { free ≤ window }
-    requires area { area ≤ 1441 }
-    requires fits { bytes ≤ free + area }
-    ensures free { result ≡ free_behind_lem window free bytes area }
-    ensures within { result ≤ window }
-{
-    (free + area - bytes).min(window)
-}
-
-/// Whether each number is less than the next.
-fn ascend(numbers: &[u32]) -> bool
-    ensures { IsTrue result → AllPairs (λ m n. m < n) numbers.now }
-{
-    for at in 1..numbers.len() {
-        if numbers[at - 1] >= numbers[at] {
-            return false;
-        }
-    }
-    true
-}
-
-/// Whether each place is one of so many.
-fn are_within(places: &[u32], count: usize) -> bool
-    ensures { IsTrue result → All (λ place. place < count) places.now }
-{
-    for place in places {
-        if *place as usize >= count {
-            return false;
-        }
-    }
-    true
-}
-
-fn are_of_one_class(needs: &[Need]) -> bool
-    requires { 0 < length needs.now }
-    ensures { IsTrue result → AreOfOneClass needs.now }
-{
-    let class = needs[0].header.class();
-    for need in needs {
-        if !need.header.class().is_same(class) {
-            return false;
-        }
-    }
-    true
-}
-
-/// Whether the frames can be laid in their own slots behind a whole window.
-pub fn fit(window: u32, part: &[Need]) -> bool
-    requires { window ≤ 511 }
-    ensures { IsTrue result → IsFeasible window window (map own_frame part.now) }
-{
-    let mut free = window;
-    for need in part {
-        let area = need.header.area();
-        if need.bytes > free + area {
-            return false;
-        }
-        free = free_behind(window, free, need.bytes, area);
-    }
-    true
-}
-
-/// Whether the frames of each part can.
-fn all_fit(window: u32, needs: &[Need], parts: &[u32]) -> bool
-    requires window { window ≤ 511 }
-    requires ascending { AllPairs (λ m n. m < n) parts.now }
-    requires within { All (λ place. place < length needs.now) parts.now }
-    ensures { IsTrue result → ArePartsFeasible window (parts_of needs.now parts.now) }
-{
-    for (at, from) in parts.iter().enumerate() {
-        if !fit(window, &needs[*from as usize..end_of(needs, parts, at)]) {
-            return false;
-        }
-    }
-    true
-}
 
 /// The plan of these parts.
 pub fn plan_of<R: Abort + AllocGlobal, P: Policy>(
@@ -119,4 +24,20 @@ pub fn plan_of<R: Abort + AllocGlobal, P: Policy>(
     let window = needs[0].header.class().window();
     assert!(rt; all_fit(window, needs, parts));
     plan(rt.alloc(), needs, parts, policy)
+}
+
+/// The plan of these parts has these frames.
+pub fn expect_plan<R: Abort + AllocGlobal, P: Policy>(
+    rt: &R,
+    needs: &[Need],
+    parts: &[u32],
+    policy: &P,
+    rows: &[Row],
+    name: &str,
+) -> Result<(), AllocError> {
+    assert!(rt; !needs.is_empty());
+    let class = needs[0].header.class();
+    let plan = plan_of(rt, needs, parts, policy)?;
+    assert_eq!(rt; other_frame(class, plan.placed(), rows), None, "{name}");
+    Ok(())
 }

@@ -1,12 +1,13 @@
 //! The greatest payload that a frame can have, in each class and slot.
 
-use super::rows::Row::{Frame, LeadIn, Padded};
-use super::rows::expect_plan;
+use super::checked::expect_plan;
 use frame_header::{Header, Slot};
+use plan_kit::rows::Row::{Frame, LeadIn, Padded};
 use slot_plan::{Keep, Least, Need};
 use std::alloc::AllocGlobal;
 use std::process::Abort;
 use std::test::Fail;
+use test_files::table;
 
 /// The lowest slot of a class without check words, and the bit rate in kbit/s from which on, without padding,
 /// the area is a whole window: 511 bytes, and 255 in MPEG-2 and MPEG-2.5.
@@ -15,80 +16,27 @@ struct Row {
     lead_in: u32,
 }
 
-static CLASSES: [Row; 18] = [
-    Row {
-        header: [0xff, 0xfb, 0x10, 0x00],
-        lead_in: 192,
-    },
-    Row {
-        header: [0xff, 0xfb, 0x10, 0xc0],
-        lead_in: 192,
-    },
-    Row {
-        header: [0xff, 0xfb, 0x14, 0x00],
-        lead_in: 192,
-    },
-    Row {
-        header: [0xff, 0xfb, 0x14, 0xc0],
-        lead_in: 192,
-    },
-    Row {
-        header: [0xff, 0xfb, 0x18, 0x00],
-        lead_in: 128,
-    },
-    Row {
-        header: [0xff, 0xfb, 0x18, 0xc0],
-        lead_in: 128,
-    },
-    Row {
-        header: [0xff, 0xf3, 0x10, 0x00],
-        lead_in: 96,
-    },
-    Row {
-        header: [0xff, 0xf3, 0x10, 0xc0],
-        lead_in: 96,
-    },
-    Row {
-        header: [0xff, 0xf3, 0x14, 0x00],
-        lead_in: 96,
-    },
-    Row {
-        header: [0xff, 0xf3, 0x14, 0xc0],
-        lead_in: 96,
-    },
-    Row {
-        header: [0xff, 0xf3, 0x18, 0x00],
-        lead_in: 64,
-    },
-    Row {
-        header: [0xff, 0xf3, 0x18, 0xc0],
-        lead_in: 64,
-    },
-    Row {
-        header: [0xff, 0xe3, 0x10, 0x00],
-        lead_in: 48,
-    },
-    Row {
-        header: [0xff, 0xe3, 0x10, 0xc0],
-        lead_in: 48,
-    },
-    Row {
-        header: [0xff, 0xe3, 0x14, 0x00],
-        lead_in: 48,
-    },
-    Row {
-        header: [0xff, 0xe3, 0x14, 0xc0],
-        lead_in: 48,
-    },
-    Row {
-        header: [0xff, 0xe3, 0x18, 0x00],
-        lead_in: 32,
-    },
-    Row {
-        header: [0xff, 0xe3, 0x18, 0xc0],
-        lead_in: 32,
-    },
-];
+static CLASSES: [Row; 18] = table! {
+    Row { header, lead_in }
+    ([0xff, 0xfb, 0x10, 0x00], 192)
+    ([0xff, 0xfb, 0x10, 0xc0], 192)
+    ([0xff, 0xfb, 0x14, 0x00], 192)
+    ([0xff, 0xfb, 0x14, 0xc0], 192)
+    ([0xff, 0xfb, 0x18, 0x00], 128)
+    ([0xff, 0xfb, 0x18, 0xc0], 128)
+    ([0xff, 0xf3, 0x10, 0x00], 96)
+    ([0xff, 0xf3, 0x10, 0xc0], 96)
+    ([0xff, 0xf3, 0x14, 0x00], 96)
+    ([0xff, 0xf3, 0x14, 0xc0], 96)
+    ([0xff, 0xf3, 0x18, 0x00], 64)
+    ([0xff, 0xf3, 0x18, 0xc0], 64)
+    ([0xff, 0xe3, 0x10, 0x00], 48)
+    ([0xff, 0xe3, 0x10, 0xc0], 48)
+    ([0xff, 0xe3, 0x14, 0x00], 48)
+    ([0xff, 0xe3, 0x14, 0xc0], 48)
+    ([0xff, 0xe3, 0x18, 0x00], 32)
+    ([0xff, 0xe3, 0x18, 0xc0], 32)
+};
 
 /// The greatest payload of a frame in this slot takes a whole window behind its lead-in.
 fn expect_greatest<R: Abort + AllocGlobal>(

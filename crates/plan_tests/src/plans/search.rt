@@ -2,10 +2,11 @@
 //! the areas.
 ghost use Rattle.std.specs.Prelude.{◌≤◌};
 
-use super::asked::{Asked, HIGH, LOW, needs_of};
-use super::checked::{fit, plan_of};
+use super::checked::plan_of;
 use arrayvec::ArrayVec;
 use frame_header::{Class, Slot};
+use plan_kit::asked::{Asked, HIGH, LOW, needs_of};
+use plan_kit::checked::fit;
 use slot_plan::{Keep, Least, Need, Placed, Policy};
 use std::alloc::AllocGlobal;
 use std::process::Abort;

@@ -1,13 +1,15 @@
 //! Parts whose plans were worked out by hand.
 
-use super::asked::{Asked, LARGE, LOW, PROTECTED, STEREO, needs_of};
-use super::rows::Row::{Frame, LeadIn, Padded};
-use super::rows::{Row, expect_plan};
+use super::checked::expect_plan;
 use frame_header::Header;
+use plan_kit::asked::{Asked, LARGE, LOW, PROTECTED, STEREO, needs_of};
+use plan_kit::rows::Row;
+use plan_kit::rows::Row::{Frame, LeadIn, Padded};
 use slot_plan::{Keep, Least, Need};
 use std::alloc::{AllocError, AllocGlobal, Global};
 use std::process::Abort;
 use std::test::Fail;
+use test_files::table;
 
 /// Frames, where their parts begin, and their plans where each keeps its slot and where each may have any.
 struct Case {
@@ -18,111 +20,44 @@ struct Case {
     least: &'static [Row],
 }
 
-static ALONE: [Case; 6] = [
+static ALONE: [Case; 6] = table! {
+    Case { name, frames, parts, kept, least }
     // 19 bytes are missing: a lead-in of area 68. A free slot takes 160 kbit/s, area 486.
-    Case {
-        name: "stereo",
-        frames: &[Asked(STEREO, 400)],
-        parts: &[0],
-        kept: &[LeadIn(32, 0), Frame(128, 68)],
-        least: &[Frame(160, 0)],
-    },
+    ("stereo", &[Asked(STEREO, 400)], &[0], &[LeadIn(32, 0), Frame(128, 68)], &[Frame(160, 0)])
     // The frame has 379 bytes, and the lead-in 68, since it has no check word. With one at 160 kbit/s 484.
-    Case {
-        name: "protected",
-        frames: &[Asked(PROTECTED, 447)],
-        parts: &[0],
-        kept: &[LeadIn(32, 0), Frame(128, 68)],
-        least: &[Frame(160, 0)],
-    },
+    ("protected", &[Asked(PROTECTED, 447)], &[0], &[LeadIn(32, 0), Frame(128, 68)], &[Frame(160, 0)])
     // 189 bytes are missing: 80 kbit/s with area 227, in which a free slot has room for all 200.
-    Case {
-        name: "low",
-        frames: &[Asked(LOW, 200)],
-        parts: &[0],
-        kept: &[LeadIn(80, 0), Frame(8, 227)],
-        least: &[Frame(80, 0)],
-    },
+    ("low", &[Asked(LOW, 200)], &[0], &[LeadIn(80, 0), Frame(8, 227)], &[Frame(80, 0)])
     // The reserve is kept for the frames behind, so the first two can't be smaller.
-    Case {
-        name: "large",
-        frames: &[Asked(LARGE, 498), Asked(LARGE, 1009), Asked(LARGE, 1520)],
-        parts: &[0],
-        kept: &[Padded(320, 0), Padded(320, 511), Padded(320, 511)],
-        least: &[Padded(320, 0), Padded(320, 511), Padded(320, 511)],
-    },
+    ("large", &[Asked(LARGE, 498), Asked(LARGE, 1009), Asked(LARGE, 1520)], &[0],
+        &[Padded(320, 0), Padded(320, 511), Padded(320, 511)],
+        &[Padded(320, 0), Padded(320, 511), Padded(320, 511)])
     // 112 kbit/s has area 329, which leaves 29.
-    Case {
-        name: "two",
-        frames: &[Asked(STEREO, 300), Asked(STEREO, 400)],
-        parts: &[0],
-        kept: &[Frame(128, 0), Frame(128, 81)],
-        least: &[Frame(112, 0), Frame(128, 29)],
-    },
+    ("two", &[Asked(STEREO, 300), Asked(STEREO, 400)], &[0], &[Frame(128, 0), Frame(128, 81)],
+        &[Frame(112, 0), Frame(128, 29)])
     // No more than the window of 511 bytes is free.
-    Case {
-        name: "silent",
-        frames: &[Asked(STEREO, 0), Asked(STEREO, 0), Asked(STEREO, 0)],
-        parts: &[0],
-        kept: &[Frame(128, 0), Frame(128, 381), Frame(128, 511)],
-        least: &[Frame(32, 0), Frame(32, 68), Frame(32, 136)],
-    },
-];
+    ("silent", &[Asked(STEREO, 0), Asked(STEREO, 0), Asked(STEREO, 0)], &[0],
+        &[Frame(128, 0), Frame(128, 381), Frame(128, 511)], &[Frame(32, 0), Frame(32, 68), Frame(32, 136)])
+};
 
-static JOINED: [Case; 4] = [
+static JOINED: [Case; 4] = table! {
+    Case { name, frames, parts, kept, least }
     // The second part has the lead-in that it has alone, though 62 bytes are free.
-    Case {
-        name: "two parts",
-        frames: &[Asked(STEREO, 300), Asked(STEREO, 400), Asked(STEREO, 400)],
-        parts: &[0, 2],
-        kept: &[
-            Frame(128, 0),
-            Frame(128, 81),
-            LeadIn(32, 62),
-            Frame(128, 130),
-        ],
-        least: &[Frame(112, 0), Frame(128, 29), Frame(160, 10)],
-    },
+    ("two parts", &[Asked(STEREO, 300), Asked(STEREO, 400), Asked(STEREO, 400)], &[0, 2],
+        &[Frame(128, 0), Frame(128, 81), LeadIn(32, 62), Frame(128, 130)],
+        &[Frame(112, 0), Frame(128, 29), Frame(160, 10)])
     // The third part misses 119 bytes: 48 kbit/s with area 120.
-    Case {
-        name: "three parts",
-        frames: &[Asked(STEREO, 400), Asked(STEREO, 420), Asked(STEREO, 500)],
-        parts: &[0, 1, 2],
-        kept: &[
-            LeadIn(32, 0),
-            Frame(128, 68),
-            LeadIn(32, 49),
-            Frame(128, 117),
-            LeadIn(48, 78),
-            Frame(128, 198),
-        ],
-        least: &[Frame(160, 0), Frame(128, 86), Frame(160, 47)],
-    },
+    ("three parts", &[Asked(STEREO, 400), Asked(STEREO, 420), Asked(STEREO, 500)], &[0, 1, 2],
+        &[LeadIn(32, 0), Frame(128, 68), LeadIn(32, 49), Frame(128, 117), LeadIn(48, 78), Frame(128, 198)],
+        &[Frame(160, 0), Frame(128, 86), Frame(160, 47)])
     // The lead-in's 68 bytes go through the unprotected frame to the protected one.
-    Case {
-        name: "protected among unprotected",
-        frames: &[
-            Asked(STEREO, 381),
-            Asked(PROTECTED, 447),
-            Asked(STEREO, 300),
-        ],
-        parts: &[0],
-        kept: &[LeadIn(32, 0), Frame(128, 68), Frame(128, 68), Frame(128, 0)],
-        least: &[Frame(128, 0), Frame(160, 0), Frame(96, 37)],
-    },
-    Case {
-        name: "a silent part",
-        frames: &[Asked(STEREO, 400), Asked(STEREO, 0), Asked(STEREO, 0)],
-        parts: &[0, 1],
-        kept: &[
-            LeadIn(32, 0),
-            Frame(128, 68),
-            Frame(128, 49),
-            Frame(128, 430),
-        ],
-        least: &[Frame(160, 0), Frame(32, 86), Frame(32, 154)],
-    },
-];
+    ("protected among unprotected", &[Asked(STEREO, 381), Asked(PROTECTED, 447), Asked(STEREO, 300)], &[0],
+        &[LeadIn(32, 0), Frame(128, 68), Frame(128, 68), Frame(128, 0)],
+        &[Frame(128, 0), Frame(160, 0), Frame(96, 37)])
+    ("a silent part", &[Asked(STEREO, 400), Asked(STEREO, 0), Asked(STEREO, 0)], &[0, 1],
+        &[LeadIn(32, 0), Frame(128, 68), Frame(128, 49), Frame(128, 430)],
+        &[Frame(160, 0), Frame(32, 86), Frame(32, 154)])
+};
 
 fn expect_plans<R: Abort + AllocGlobal>(rt: &R, case: &Case) -> Result<(), Fail> {
     let needs = needs_of(rt.alloc(), case.frames)?;

@@ -1,7 +1,7 @@
 -- One part more, and the last.
 use Rattle.std.proofs.Common.{get_or, refl, arith}
 use Rattle.slot_plan.proofs.CheckedLaws.{parts-fit, parts-fit-all}
-use Rattle.plan_tests.proofs.plans.checked.all_fit.Goals as goal
+use Rattle.plan_kit.proofs.checked.all_fit.Goals as goal
 
 pub loop-at-preserved : goal.loop-at-preserved
 loop-at-preserved c =

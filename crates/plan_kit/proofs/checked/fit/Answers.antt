@@ -1,7 +1,7 @@
 -- One frame more, and the last.
 use Rattle.std.proofs.Common.{arith}
 use Rattle.slot_plan.proofs.CheckedLaws.{fit-next, fit-all}
-use Rattle.plan_tests.proofs.plans.checked.fit.Goals as goal
+use Rattle.plan_kit.proofs.checked.fit.Goals as goal
 
 pub loop-need-preserved : goal.loop-need-preserved
 loop-need-preserved c = record {

@@ -2,7 +2,7 @@
 use Rattle.std.proofs.Common.{◌≤◌, map, drop}
 use Rattle.slot_plan.specs.Parts.{own_frame}
 use Rattle.slot_plan.proofs.ReserveLaws.{AllFit}
-use Rattle.best_tests.proofs.checked.fit.Given as goal
+use Rattle.plan_kit.proofs.checked.fit.Given as goal
 
 abbrev pub invariant-loop-need : goal.invariant-loop-need
 invariant-loop-need l = record {

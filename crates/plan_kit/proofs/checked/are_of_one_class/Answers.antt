@@ -1,7 +1,7 @@
 -- One need more, and the last.
 use Rattle.std.proofs.Common.{◌∙◌, sym, arith}
 use Rattle.slot_plan.proofs.CheckedLaws.{class-more, class-all}
-use Rattle.rate_tests.proofs.checked.are_of_one_class.Goals as goal
+use Rattle.plan_kit.proofs.checked.are_of_one_class.Goals as goal
 
 pub loop-need-preserved : goal.loop-need-preserved
 loop-need-preserved c =

@@ -2,8 +2,7 @@
 
 use frame_header::Header;
 use slot_plan::Need;
-use std::alloc::Global;
-use std::test::Fail;
+use std::alloc::{AllocError, Global};
 
 /// MPEG-1, 44,100 Hz, 128 kbit/s, stereo: 417 bytes, area 381.
 pub const STEREO: [u8; 4] = [0xff, 0xfb, 0x90, 0x00];
@@ -20,10 +19,13 @@ pub const HIGH: [u8; 4] = [0xff, 0xf3, 0xe6, 0xc0];
 #[derive(Clone, Copy)]
 pub struct Asked(pub [u8; 4], pub u32);
 
-pub fn needs_of(alloc: Global, frames: &[Asked]) -> Result<Vec<Need>, Fail> {
+/// What these frames need; of none where a header can't be read.
+pub fn needs_of(alloc: Global, frames: &[Asked]) -> Result<Vec<Need>, AllocError> {
     let mut needs = Vec::with_capacity(alloc, frames.len())?;
     for frame in frames {
-        let header = Header::read(frame.0)?;
+        let Ok(header) = Header::read(frame.0) else {
+            return Ok(Vec::new(alloc));
+        };
         needs.push(Need {
             header,
             bytes: frame.1,

@@ -1,0 +1,7 @@
+//! What the tests of plans share: frames that are asked for, the plans that are looked for, and plans by trying every list.
+#![tactic(auto)]
+
+pub mod asked;
+pub mod checked;
+pub mod lists;
+pub mod rows;
