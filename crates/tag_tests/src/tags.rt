@@ -8,6 +8,7 @@ mod undo;
 
 use byteorder::{ByteOrder, LittleEndian};
 use tag_blocks::*;
+use test_files::table;
 
 /// Bytes at the front of a block.
 struct Begins {
@@ -17,62 +18,25 @@ struct Begins {
     length: u64,
 }
 
-static BLOCKS: [Begins; 9] = [
-    Begins {
-        what: "ID3v2 with a footer",
-        front: b"ID3\x04\x00\x10\x00\x00\x00\x14",
-        kind: Kind::Id3v2,
-        length: 40,
-    },
-    Begins {
-        what: "ID3v2 with all flags but the footer's",
-        front: b"ID3\x03\x00\xef\x00\x00\x02\x01",
-        kind: Kind::Id3v2,
-        length: 267,
-    },
-    Begins {
-        what: "ID3v2 of the greatest size and versions",
-        front: b"ID3\xfe\xfe\x00\x7f\x7f\x7f\x7f",
-        kind: Kind::Id3v2,
-        length: 268_435_465,
-    },
-    Begins {
-        what: "ID3v2 with its first bytes",
-        front: b"ID3\x03\x00\x00\x01\x02\x03\x04TIT2\x00\x00\x00\x02\x00\x00\x00x",
-        kind: Kind::Id3v2,
-        length: 2_130_318,
-    },
-    Begins {
-        what: "ID3v1",
-        front: b"TAG",
-        kind: Kind::Id3v1,
-        length: 128,
-    },
-    Begins {
-        what: "ID3v1, more than 32 bytes of it",
-        front: b"TAGxxxxxxxxxxxxxxxxxxxxxxxxxxxxxxxxxxxxx",
-        kind: Kind::Id3v1,
-        length: 128,
-    },
-    Begins {
-        what: "APEv2",
-        front: b"APETAGEX\xd0\x07\x00\x00\x40\x00\x00\x00\x01\x00\x00\x00\x00\x00\x00\xa0\x00\x00\x00\x00\x00\x00\x00\x00",
-        kind: Kind::Ape,
-        length: 96,
-    },
-    Begins {
-        what: "APEv2 without items",
-        front: b"APETAGEX\xd0\x07\x00\x00\x20\x00\x00\x00\x00\x00\x00\x00\x00\x00\x00\xa0\x00\x00\x00\x00\x00\x00\x00\x00",
-        kind: Kind::Ape,
-        length: 64,
-    },
-    Begins {
-        what: "APEv2 of the greatest numbers",
-        front: b"APETAGEX\xd0\x07\x00\x00\xff\xff\xff\xff\xff\xff\xff\xff\xff\xff\xff\xff\xff\xff\xff\xff\xff\xff\xff\xff",
-        kind: Kind::Ape,
-        length: 4_294_967_327,
-    },
-];
+static BLOCKS: [Begins; 9] = table! {
+    Begins { what, front, kind, length }
+    ("ID3v2 with a footer", b"ID3\x04\x00\x10\x00\x00\x00\x14", Kind::Id3v2, 40)
+    ("ID3v2 with all flags but the footer's", b"ID3\x03\x00\xef\x00\x00\x02\x01", Kind::Id3v2, 267)
+    ("ID3v2 of the greatest size and versions", b"ID3\xfe\xfe\x00\x7f\x7f\x7f\x7f", Kind::Id3v2, 268_435_465)
+    ("ID3v2 with its first bytes", b"ID3\x03\x00\x00\x01\x02\x03\x04TIT2\x00\x00\x00\x02\x00\x00\x00x",
+        Kind::Id3v2, 2_130_318)
+    ("ID3v1", b"TAG", Kind::Id3v1, 128)
+    ("ID3v1, more than 32 bytes of it", b"TAGxxxxxxxxxxxxxxxxxxxxxxxxxxxxxxxxxxxxx", Kind::Id3v1, 128)
+    ("APEv2",
+        b"APETAGEX\xd0\x07\x00\x00\x40\x00\x00\x00\x01\x00\x00\x00\x00\x00\x00\xa0\x00\x00\x00\x00\x00\x00\x00\x00",
+        Kind::Ape, 96)
+    ("APEv2 without items",
+        b"APETAGEX\xd0\x07\x00\x00\x20\x00\x00\x00\x00\x00\x00\x00\x00\x00\x00\xa0\x00\x00\x00\x00\x00\x00\x00\x00",
+        Kind::Ape, 64)
+    ("APEv2 of the greatest numbers",
+        b"APETAGEX\xd0\x07\x00\x00\xff\xff\xff\xff\xff\xff\xff\xff\xff\xff\xff\xff\xff\xff\xff\xff\xff\xff\xff\xff",
+        Kind::Ape, 4_294_967_327)
+};
 
 #[test]
 fn blocks(rt: HostRuntime) {
@@ -91,76 +55,32 @@ struct Other {
     front: &'static [u8],
 }
 
-static OTHERS: [Other; 17] = [
-    Other {
-        what: "nothing",
-        front: b"",
-    },
-    Other {
-        what: "a zero byte",
-        front: b"\x00TAG",
-    },
-    Other {
-        what: "a header",
-        front: b"\xff\xfb\x90\x00",
-    },
-    Other {
-        what: "ID3v2, nine bytes",
-        front: b"ID3\x04\x00\x00\x00\x00\x00",
-    },
-    Other {
-        what: "ID3v2, another text",
-        front: b"ID4\x04\x00\x00\x00\x00\x00\x14",
-    },
-    Other {
-        what: "ID3v2, version ff",
-        front: b"ID3\xff\x00\x00\x00\x00\x00\x14",
-    },
-    Other {
-        what: "ID3v2, revision ff",
-        front: b"ID3\x04\xff\x00\x00\x00\x00\x14",
-    },
-    Other {
-        what: "ID3v2, size 80 in the first byte",
-        front: b"ID3\x04\x00\x00\x80\x00\x00\x14",
-    },
-    Other {
-        what: "ID3v2, size 80 in the last byte",
-        front: b"ID3\x04\x00\x00\x00\x00\x00\x80",
-    },
-    Other {
-        what: "ID3v1, two bytes",
-        front: b"TA",
-    },
-    Other {
-        what: "ID3v1, another text",
-        front: b"TAB",
-    },
-    Other {
-        what: "APEv2, 31 bytes",
-        front: b"APETAGEX\xd0\x07\x00\x00\x40\x00\x00\x00\x01\x00\x00\x00\x00\x00\x00\xa0\x00\x00\x00\x00\x00\x00\x00",
-    },
-    Other {
-        what: "APEv2, another text",
-        front: b"APETAGEY\xd0\x07\x00\x00\x40\x00\x00\x00\x01\x00\x00\x00\x00\x00\x00\xa0\x00\x00\x00\x00\x00\x00\x00\x00",
-    },
-    Other {
-        what: "APEv2, version 1000",
-        front: b"APETAGEX\xe8\x03\x00\x00\x40\x00\x00\x00\x01\x00\x00\x00\x00\x00\x00\xa0\x00\x00\x00\x00\x00\x00\x00\x00",
-    },
-    Other {
-        what: "APEv2, size 31",
-        front: b"APETAGEX\xd0\x07\x00\x00\x1f\x00\x00\x00\x01\x00\x00\x00\x00\x00\x00\xa0\x00\x00\x00\x00\x00\x00\x00\x00",
-    },
-    Other {
-        what: "APEv2, no header by flag 31",
-        front: b"APETAGEX\xd0\x07\x00\x00\x40\x00\x00\x00\x01\x00\x00\x00\x00\x00\x00\x20\x00\x00\x00\x00\x00\x00\x00\x00",
-    },
-    Other {
-        what: "APEv2, a footer by flag 29",
-        front: b"APETAGEX\xd0\x07\x00\x00\x40\x00\x00\x00\x01\x00\x00\x00\x00\x00\x00\x80\x00\x00\x00\x00\x00\x00\x00\x00",
-    },
-];
+static OTHERS: [Other; 17] = table! {
+    Other { what, front }
+    ("nothing", b"")
+    ("a zero byte", b"\x00TAG")
+    ("a header", b"\xff\xfb\x90\x00")
+    ("ID3v2, nine bytes", b"ID3\x04\x00\x00\x00\x00\x00")
+    ("ID3v2, another text", b"ID4\x04\x00\x00\x00\x00\x00\x14")
+    ("ID3v2, version ff", b"ID3\xff\x00\x00\x00\x00\x00\x14")
+    ("ID3v2, revision ff", b"ID3\x04\xff\x00\x00\x00\x00\x14")
+    ("ID3v2, size 80 in the first byte", b"ID3\x04\x00\x00\x80\x00\x00\x14")
+    ("ID3v2, size 80 in the last byte", b"ID3\x04\x00\x00\x00\x00\x00\x80")
+    ("ID3v1, two bytes", b"TA")
+    ("ID3v1, another text", b"TAB")
+    ("APEv2, 31 bytes",
+        b"APETAGEX\xd0\x07\x00\x00\x40\x00\x00\x00\x01\x00\x00\x00\x00\x00\x00\xa0\x00\x00\x00\x00\x00\x00\x00")
+    ("APEv2, another text",
+        b"APETAGEY\xd0\x07\x00\x00\x40\x00\x00\x00\x01\x00\x00\x00\x00\x00\x00\xa0\x00\x00\x00\x00\x00\x00\x00\x00")
+    ("APEv2, version 1000",
+        b"APETAGEX\xe8\x03\x00\x00\x40\x00\x00\x00\x01\x00\x00\x00\x00\x00\x00\xa0\x00\x00\x00\x00\x00\x00\x00\x00")
+    ("APEv2, size 31",
+        b"APETAGEX\xd0\x07\x00\x00\x1f\x00\x00\x00\x01\x00\x00\x00\x00\x00\x00\xa0\x00\x00\x00\x00\x00\x00\x00\x00")
+    ("APEv2, no header by flag 31",
+        b"APETAGEX\xd0\x07\x00\x00\x40\x00\x00\x00\x01\x00\x00\x00\x00\x00\x00\x20\x00\x00\x00\x00\x00\x00\x00\x00")
+    ("APEv2, a footer by flag 29",
+        b"APETAGEX\xd0\x07\x00\x00\x40\x00\x00\x00\x01\x00\x00\x00\x00\x00\x00\x80\x00\x00\x00\x00\x00\x00\x00\x00")
+};
 
 #[test]
 fn bytes_of_no_block(rt: HostRuntime) {

@@ -3,6 +3,7 @@
 use cue_sheet::{Cue, CueFault, Place};
 use std::process::Abort;
 use std::test::Fail;
+use test_files::table;
 
 struct Sheet {
     what: &'static str,
@@ -10,48 +11,29 @@ struct Sheet {
     starts: &'static [Place],
 }
 
-static SHEETS: [Sheet; 8] = [
-    Sheet {
-        what: "two tracks",
-        text: b"FILE \"a.mp3\" MP3\nTRACK 01 AUDIO\nINDEX 01 00:00:00\nTRACK 02 AUDIO\nINDEX 01 00:02:00\n",
-        starts: &[Place::Time(0, 75), Place::Time(150, 75)],
-    },
-    Sheet {
-        what: "INDEX 00 is no start, nor is INDEX 02",
-        text: b"TRACK 01 AUDIO\nINDEX 00 00:00:00\nINDEX 01 00:00:33\nINDEX 02 00:01:00\nTRACK 02 AUDIO\nINDEX 00 09:59:74\nINDEX 1 10:00:00",
-        starts: &[Place::Time(33, 75), Place::Time(45_000, 75)],
-    },
-    Sheet {
-        what: "carriage returns, tabs and blanks at both ends",
-        text: b"TRACK\t01 \tAUDIO\r\n  INDEX 01\t00:00:01 \r\n\r\n",
-        starts: &[Place::Time(1, 75)],
-    },
-    Sheet {
-        what: "a byte order mark, and a carriage return at the end",
-        text: b"\xef\xbb\xbfFILE a MP3\nTRACK 1 AUDIO\nINDEX 01 9999:59:74\r",
-        starts: &[Place::Time(44_999_999, 75)],
-    },
-    Sheet {
-        what: "lower-case keywords",
-        text: b"file a\ntrack 01 audio\nIndex 01 00:00:02",
-        starts: &[Place::Time(2, 75)],
-    },
-    Sheet {
-        what: "numbers of tracks that fall and repeat",
-        text: b"TRACK 09 AUDIO\nINDEX 01 00:00:00\nTRACK 02 AUDIO\nINDEX 01 00:00:01\nTRACK 02 AUDIO\nINDEX 01 00:00:02",
-        starts: &[Place::Time(0, 75), Place::Time(1, 75), Place::Time(2, 75)],
-    },
-    Sheet {
-        what: "a track without a start",
-        text: b"TRACK 01 AUDIO\nTRACK 02 AUDIO\nINDEX 00 00:00:07\nTRACK 03 AUDIO\nINDEX 01 00:00:05",
-        starts: &[Place::Time(5, 75)],
-    },
-    Sheet {
-        what: "other lines aren't read",
-        text: b"REM INDEX 01 x\nTITLE \"TRACK\"\n\xff\x00\nTRACK 01 AUDIO\nFLAGS DCP\nTRACKS\nINDEX 01 00:00:00",
-        starts: &[Place::Time(0, 75)],
-    },
-];
+static SHEETS: [Sheet; 8] = table! {
+    Sheet { what, text, starts }
+    ("two tracks",
+        b"FILE \"a.mp3\" MP3\nTRACK 01 AUDIO\nINDEX 01 00:00:00\nTRACK 02 AUDIO\nINDEX 01 00:02:00\n",
+        &[Place::Time(0, 75), Place::Time(150, 75)])
+    ("INDEX 00 is no start, nor is INDEX 02",
+        b"TRACK 01 AUDIO\nINDEX 00 00:00:00\nINDEX 01 00:00:33\nINDEX 02 00:01:00\nTRACK 02 AUDIO\nINDEX 00 09:59:74\nINDEX 1 10:00:00",
+        &[Place::Time(33, 75), Place::Time(45_000, 75)])
+    ("carriage returns, tabs and blanks at both ends", b"TRACK\t01 \tAUDIO\r\n  INDEX 01\t00:00:01 \r\n\r\n",
+        &[Place::Time(1, 75)])
+    ("a byte order mark, and a carriage return at the end",
+        b"\xef\xbb\xbfFILE a MP3\nTRACK 1 AUDIO\nINDEX 01 9999:59:74\r", &[Place::Time(44_999_999, 75)])
+    ("lower-case keywords", b"file a\ntrack 01 audio\nIndex 01 00:00:02", &[Place::Time(2, 75)])
+    ("numbers of tracks that fall and repeat",
+        b"TRACK 09 AUDIO\nINDEX 01 00:00:00\nTRACK 02 AUDIO\nINDEX 01 00:00:01\nTRACK 02 AUDIO\nINDEX 01 00:00:02",
+        &[Place::Time(0, 75), Place::Time(1, 75), Place::Time(2, 75)])
+    ("a track without a start",
+        b"TRACK 01 AUDIO\nTRACK 02 AUDIO\nINDEX 00 00:00:07\nTRACK 03 AUDIO\nINDEX 01 00:00:05",
+        &[Place::Time(5, 75)])
+    ("other lines aren't read",
+        b"REM INDEX 01 x\nTITLE \"TRACK\"\n\xff\x00\nTRACK 01 AUDIO\nFLAGS DCP\nTRACKS\nINDEX 01 00:00:00",
+        &[Place::Time(0, 75)])
+};
 
 #[test]
 fn sheets(rt: HostRuntime) -> Result<(), Fail> {
@@ -68,80 +50,27 @@ struct Refused {
     fault: CueFault,
 }
 
-static REFUSED: [Refused; 18] = [
-    Refused {
-        text: b"TRACK 01 AUDIO\nREM\nINDEX 01 00:60:00",
-        fault: CueFault::Line(3),
-    },
-    Refused {
-        text: b"TRACK 01 AUDIO\nINDEX 01 00:00:75",
-        fault: CueFault::Line(2),
-    },
-    Refused {
-        text: b"TRACK 01 AUDIO\nINDEX 01 0:00:00",
-        fault: CueFault::Line(2),
-    },
-    Refused {
-        text: b"TRACK 01 AUDIO\nINDEX 01 00:00",
-        fault: CueFault::Line(2),
-    },
-    Refused {
-        text: b"TRACK 01 AUDIO\nINDEX 01 00:00:00:00",
-        fault: CueFault::Line(2),
-    },
-    Refused {
-        text: b"TRACK 01 AUDIO\nINDEX 01 00:00:00 x",
-        fault: CueFault::Line(2),
-    },
-    Refused {
-        text: b"TRACK 01 AUDIO\nINDEX 001 00:00:00",
-        fault: CueFault::Line(2),
-    },
-    Refused {
-        text: b"TRACK 01 AUDIO\nINDEX 01 00:00:00\nINDEX 01 00:00:01",
-        fault: CueFault::Line(3),
-    },
-    Refused {
-        text: b"INDEX 01 00:00:00",
-        fault: CueFault::Line(1),
-    },
-    Refused {
-        text: b"INDEX 00 00:00:00",
-        fault: CueFault::Line(1),
-    },
-    Refused {
-        text: b"\nTRACK 00 AUDIO",
-        fault: CueFault::Line(2),
-    },
-    Refused {
-        text: b"TRACK 01",
-        fault: CueFault::Line(1),
-    },
-    Refused {
-        text: b"TRACK 01 MODE1/2352",
-        fault: CueFault::Line(1),
-    },
-    Refused {
-        text: b"TRACK 01 AUDIO\r\r",
-        fault: CueFault::Line(1),
-    },
-    Refused {
-        text: b"FILE a\nFILE b",
-        fault: CueFault::Line(2),
-    },
-    Refused {
-        text: b"FILE a\nTRACK 01 AUDIO\nINDEX 01 00:00:00\nTRACK 02 AUDIO\nINDEX 01 00:00:00",
-        fault: CueFault::NotRising(5),
-    },
-    Refused {
-        text: b"FILE \"a.mp3\" MP3\n",
-        fault: CueFault::NoTracks,
-    },
-    Refused {
-        text: b"",
-        fault: CueFault::NoTracks,
-    },
-];
+static REFUSED: [Refused; 18] = table! {
+    Refused { text, fault }
+    (b"TRACK 01 AUDIO\nREM\nINDEX 01 00:60:00", CueFault::Line(3))
+    (b"TRACK 01 AUDIO\nINDEX 01 00:00:75", CueFault::Line(2))
+    (b"TRACK 01 AUDIO\nINDEX 01 0:00:00", CueFault::Line(2))
+    (b"TRACK 01 AUDIO\nINDEX 01 00:00", CueFault::Line(2))
+    (b"TRACK 01 AUDIO\nINDEX 01 00:00:00:00", CueFault::Line(2))
+    (b"TRACK 01 AUDIO\nINDEX 01 00:00:00 x", CueFault::Line(2))
+    (b"TRACK 01 AUDIO\nINDEX 001 00:00:00", CueFault::Line(2))
+    (b"TRACK 01 AUDIO\nINDEX 01 00:00:00\nINDEX 01 00:00:01", CueFault::Line(3))
+    (b"INDEX 01 00:00:00", CueFault::Line(1))
+    (b"INDEX 00 00:00:00", CueFault::Line(1))
+    (b"\nTRACK 00 AUDIO", CueFault::Line(2))
+    (b"TRACK 01", CueFault::Line(1))
+    (b"TRACK 01 MODE1/2352", CueFault::Line(1))
+    (b"TRACK 01 AUDIO\r\r", CueFault::Line(1))
+    (b"FILE a\nFILE b", CueFault::Line(2))
+    (b"FILE a\nTRACK 01 AUDIO\nINDEX 01 00:00:00\nTRACK 02 AUDIO\nINDEX 01 00:00:00", CueFault::NotRising(5))
+    (b"FILE \"a.mp3\" MP3\n", CueFault::NoTracks)
+    (b"", CueFault::NoTracks)
+};
 
 #[test]
 fn first_faults(rt: HostRuntime) -> Result<(), Fail> {

@@ -4,62 +4,28 @@ use cue_sheet::Place;
 use frame_header::{Class, Version};
 use std::process::Abort;
 use std::test::Fail;
+use test_files::table;
 
 struct Word {
     text: &'static str,
     says: Option<Place>,
 }
 
-static WORDS: [Word; 12] = [
-    Word {
-        text: "EOF",
-        says: Some(Place::End),
-    },
-    Word {
-        text: "0",
-        says: Some(Place::Frame(0)),
-    },
-    Word {
-        text: "0000076",
-        says: Some(Place::Frame(76)),
-    },
-    Word {
-        text: "9999999",
-        says: Some(Place::Frame(9_999_999)),
-    },
-    Word {
-        text: "1.00.00",
-        says: Some(Place::Time(6_000, 100)),
-    },
-    Word {
-        text: "1.5",
-        says: Some(Place::Time(6_500, 100)),
-    },
-    Word {
-        text: "0.0.5",
-        says: Some(Place::Time(5, 100)),
-    },
-    Word {
-        text: "0.0.50",
-        says: Some(Place::Time(50, 100)),
-    },
-    Word {
-        text: "9999.59.99",
-        says: Some(Place::Time(59_999_999, 100)),
-    },
-    Word {
-        text: "0071.07",
-        says: Some(Place::Time(426_700, 100)),
-    },
-    Word {
-        text: "00.59",
-        says: Some(Place::Time(5_900, 100)),
-    },
-    Word {
-        text: "10.09.08",
-        says: Some(Place::Time(60_908, 100)),
-    },
-];
+static WORDS: [Word; 12] = table! {
+    Word { text, says }
+    ("EOF", Some(Place::End))
+    ("0", Some(Place::Frame(0)))
+    ("0000076", Some(Place::Frame(76)))
+    ("9999999", Some(Place::Frame(9_999_999)))
+    ("1.00.00", Some(Place::Time(6_000, 100)))
+    ("1.5", Some(Place::Time(6_500, 100)))
+    ("0.0.5", Some(Place::Time(5, 100)))
+    ("0.0.50", Some(Place::Time(50, 100)))
+    ("9999.59.99", Some(Place::Time(59_999_999, 100)))
+    ("0071.07", Some(Place::Time(426_700, 100)))
+    ("00.59", Some(Place::Time(5_900, 100)))
+    ("10.09.08", Some(Place::Time(60_908, 100)))
+};
 
 static OTHERS: [&'static str; 20] = [
     "", "eof", "EO", "EOF ", "00000000", "-1", "+1", "1a", ".", "1.", ".30", "1.60", "1.000",
@@ -89,54 +55,20 @@ struct At {
     frame: u64,
 }
 
-static FRAMES: [At; 7] = [
+static FRAMES: [At; 7] = table! {
+    At { version, frequency_index, place, frame }
     // 60 * 44100 / 1152 is 2296.875.
-    At {
-        version: Version::One,
-        frequency_index: 0,
-        place: Place::Time(6_000, 100),
-        frame: 2_296,
-    },
+    (Version::One, 0, Place::Time(6_000, 100), 2_296)
     // 2 * 44100 / 1152 is 76.56.
-    At {
-        version: Version::One,
-        frequency_index: 0,
-        place: Place::Time(150, 75),
-        frame: 76,
-    },
+    (Version::One, 0, Place::Time(150, 75), 76)
     // 60 * 22050 / 576 and 60 * 11025 / 576
-    At {
-        version: Version::Two,
-        frequency_index: 0,
-        place: Place::Time(6_000, 100),
-        frame: 2_296,
-    },
-    At {
-        version: Version::TwoFive,
-        frequency_index: 0,
-        place: Place::Time(6_000, 100),
-        frame: 1_148,
-    },
+    (Version::Two, 0, Place::Time(6_000, 100), 2_296)
+    (Version::TwoFive, 0, Place::Time(6_000, 100), 1_148)
     // A frame takes 24 ms: 2.4 s are 100 frames.
-    At {
-        version: Version::One,
-        frequency_index: 1,
-        place: Place::Time(240, 100),
-        frame: 100,
-    },
-    At {
-        version: Version::One,
-        frequency_index: 0,
-        place: Place::Frame(200),
-        frame: 200,
-    },
-    At {
-        version: Version::One,
-        frequency_index: 0,
-        place: Place::End,
-        frame: 100,
-    },
-];
+    (Version::One, 1, Place::Time(240, 100), 100)
+    (Version::One, 0, Place::Frame(200), 200)
+    (Version::One, 0, Place::End, 100)
+};
 
 #[test]
 fn frames_of_places(rt: HostRuntime) -> Result<(), Fail> {
