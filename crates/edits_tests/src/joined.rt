@@ -1,7 +1,6 @@
 //! Files that are joined; the bytes were worked out by hand.
 
 use crate::files::{are_same, expect_file, expect_part, length_of, put_file};
-use crate::two::TWO;
 use cue_sheet::Place;
 use edits::{EditFault, Refusal, cut, join};
 use outside::{Call, MemFolder};
@@ -9,81 +8,48 @@ use std::alloc::{AllocError, AllocGlobal, Global};
 use std::process::Abort;
 use std::test::Fail;
 use sync_survey::SurveyFault;
-use test_files::files::{Stretch, bytes_of};
+use test_files::files::Stretch::{Bytes, Fill, Filled};
+use test_files::files::{INFO_FRONT, OF_300, OF_400, Stretch, TWO, bytes_of};
+use test_files::{end_to_end, table};
 
 /// A head, whose area has 40 bytes of the main data of the one frame behind it, and that frame, of 400 bytes.
-static HEADED: [Stretch; 8] = [
-    Stretch::Bytes(&[0xff, 0xfb, 0x90, 0x00]),
-    Stretch::Fill(0, 32),
-    Stretch::Bytes(b"Info"),
-    Stretch::Fill(0, 337),
-    Stretch::Fill(0x33, 40),
-    Stretch::Bytes(&[0xff, 0xfb, 0x90, 0x00, 0x14, 0x00, 0x0c, 0x80]),
-    Stretch::Fill(0, 28),
-    Stretch::Fill(0x33, 360 + 21),
-];
+static HEADED: [Stretch; 6] = end_to_end! {
+    Filled(&[0xff, 0xfb, 0x90, 0x00], 0, 32), Bytes(b"Info"), Fill(0, 337), Fill(0x33, 40),
+    Filled(&[0xff, 0xfb, 0x90, 0x00, 0x14, 0x00, 0x0c, 0x80], 0, 28), Fill(0x33, 360 + 21)
+};
 
 /// A frame of 48,000 Hz, of 384 bytes.
-static FAST: [Stretch; 2] = [
-    Stretch::Bytes(&[0xff, 0xfb, 0x94, 0x00]),
-    Stretch::Fill(0, 380),
-];
+static FAST: [Stretch; 1] = [Filled(&[0xff, 0xfb, 0x94, 0x00], 0, 380)];
 
 /// An ID3v2 block of 12 bytes.
-static BLOCK: [Stretch; 1] = [Stretch::Bytes(&[b'I', b'D', b'3', 3, 0, 0, 0, 0, 0, 2, 0x41, 0x42])];
+static BLOCK: [Stretch; 1] = [Bytes(&[b'I', b'D', b'3', 3, 0, 0, 0, 0, 0, 2, 0x41, 0x42])];
 
 /// An Info frame of 64 kbit/s of four frames and 1,876 bytes.
-static FOUR: [Stretch; 9] = [
-    Stretch::Bytes(&[0xff, 0xfb, 0x50, 0x00]),
-    Stretch::Fill(0, 32),
-    Stretch::Bytes(b"Info"),
-    Stretch::Bytes(&[0, 0, 0, 15, 0, 0, 0, 4, 0, 0, 0x07, 0x54]),
-    Stretch::Fill(28, 25),
-    Stretch::Fill(85, 25),
-    Stretch::Fill(142, 25),
-    Stretch::Fill(199, 25),
-    Stretch::Fill(0, 56),
-];
+static FOUR: [Stretch; 8] = end_to_end! {
+    INFO_FRONT, Bytes(b"Info"), Bytes(&[0, 0, 0, 15, 0, 0, 0, 4, 0, 0, 0x07, 0x54]), Fill(28, 25),
+    Fill(85, 25), Fill(142, 25), Fill(199, 25), Fill(0, 56)
+};
 
 /// The frames of the first file twice. The main data of the third begin in the 62 bytes that the second leaves, those of
 /// the fourth in 143.
-static TWICE: [Stretch; 16] = [
-    Stretch::Bytes(&[0xff, 0xfb, 0x90, 0x00, 0x00, 0x00, 0x09, 0x60]),
-    Stretch::Fill(0, 28),
-    Stretch::Fill(0x11, 300),
-    Stretch::Fill(0x22, 81),
-    Stretch::Bytes(&[0xff, 0xfb, 0x90, 0x00, 0x28, 0x80, 0x0c, 0x80]),
-    Stretch::Fill(0, 28),
-    Stretch::Fill(0x22, 319),
-    Stretch::Fill(0x11, 62),
-    Stretch::Bytes(&[0xff, 0xfb, 0x90, 0x00, 0x1f, 0x00, 0x09, 0x60]),
-    Stretch::Fill(0, 28),
-    Stretch::Fill(0x11, 238),
-    Stretch::Fill(0x22, 143),
-    Stretch::Bytes(&[0xff, 0xfb, 0x90, 0x00, 0x47, 0x80, 0x0c, 0x80]),
-    Stretch::Fill(0, 28),
-    Stretch::Fill(0x22, 257),
-    Stretch::Fill(0, 124),
-];
+static TWICE: [Stretch; 12] = end_to_end! {
+    OF_300, Fill(0x11, 300), Fill(0x22, 81),
+    OF_400, Fill(0x22, 319), Fill(0x11, 62),
+    Filled(&[0xff, 0xfb, 0x90, 0x00, 0x1f, 0x00, 0x09, 0x60], 0, 28), Fill(0x11, 238), Fill(0x22, 143),
+    Filled(&[0xff, 0xfb, 0x90, 0x00, 0x47, 0x80, 0x0c, 0x80], 0, 28), Fill(0x22, 257), Fill(0, 124)
+};
 
 /// A lead-in of 32 kbit/s, with an area of 68, behind the first two of these, and the frame of the headed file. Its main data
 /// begin 130 bytes before its own area.
-static BEHIND: [Stretch; 10] = [
-    Stretch::Bytes(&[0xff, 0xfb, 0x90, 0x00, 0x28, 0x80, 0x0c, 0x80]),
-    Stretch::Fill(0, 28),
-    Stretch::Fill(0x22, 319),
-    Stretch::Fill(0x33, 62),
-    Stretch::Bytes(&[0xff, 0xfb, 0x10, 0x00, 0x1f, 0x00]),
-    Stretch::Fill(0, 30),
-    Stretch::Fill(0x33, 68),
-    Stretch::Bytes(&[0xff, 0xfb, 0x90, 0x00, 0x41, 0x00, 0x0c, 0x80]),
-    Stretch::Fill(0, 28),
-    Stretch::Fill(0x33, 270),
-];
+static BEHIND: [Stretch; 7] = end_to_end! {
+    OF_400, Fill(0x22, 319), Fill(0x33, 62),
+    Filled(&[0xff, 0xfb, 0x10, 0x00, 0x1f, 0x00], 0, 30), Fill(0x33, 68),
+    Filled(&[0xff, 0xfb, 0x90, 0x00, 0x41, 0x00, 0x0c, 0x80], 0, 28), Fill(0x33, 270)
+};
 
 /// Puts the file of two frames as `a`, the headed one as `b` and the fast one as `f`, and room for `o`.
 fn put_files(alloc: Global, folder: &mut MemFolder) -> Result<(), AllocError> {
-    put_file(alloc, folder, "a", &[&TWO])?;
+    put_file(alloc, folder, "a", &[TWO])?;
     put_file(alloc, folder, "b", &[&HEADED])?;
     put_file(alloc, folder, "f", &[&FAST])?;
     folder.reserve("o", 4000)
@@ -91,7 +57,7 @@ fn put_files(alloc: Global, folder: &mut MemFolder) -> Result<(), AllocError> {
 
 /// Puts the file of two frames behind a block in front, and room for `o` and `p`.
 fn put_block(alloc: Global, folder: &mut MemFolder) -> Result<(), AllocError> {
-    put_file(alloc, folder, "a", &[&BLOCK, &TWO])?;
+    put_file(alloc, folder, "a", &[&BLOCK, TWO])?;
     folder.reserve("o", 4000)?;
     folder.reserve("p", 4000)
 }
@@ -208,32 +174,13 @@ struct Case {
     fault: EditFault,
 }
 
-static CASES: [Case; 4] = [
-    Case {
-        output: "o",
-        first: "a",
-        second: "f",
-        fault: EditFault::Refused(Refusal::Differ(1)),
-    },
-    Case {
-        output: "a",
-        first: "x",
-        second: "a",
-        fault: EditFault::EqualNames(1),
-    },
-    Case {
-        output: "o",
-        first: "a",
-        second: "x",
-        fault: EditFault::Input(1, SurveyFault::Absent),
-    },
-    Case {
-        output: "o",
-        first: "x",
-        second: "f",
-        fault: EditFault::Input(0, SurveyFault::Absent),
-    },
-];
+static CASES: [Case; 4] = table! {
+    Case { output, first, second, fault }
+    ("o", "a", "f", EditFault::Refused(Refusal::Differ(1)))
+    ("a", "x", "a", EditFault::EqualNames(1))
+    ("o", "a", "x", EditFault::Input(1, SurveyFault::Absent))
+    ("o", "x", "f", EditFault::Input(0, SurveyFault::Absent))
+};
 
 fn expect_refused<R: Abort + AllocGlobal>(rt: &R, folder: &mut MemFolder, case: &Case) {
     let names = [case.first, case.second];

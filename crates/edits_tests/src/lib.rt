@@ -9,5 +9,3 @@ mod files;
 mod joined;
 #[cfg(test)]
 mod split;
-#[cfg(test)]
-mod two;

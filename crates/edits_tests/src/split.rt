@@ -12,29 +12,21 @@ use std::alloc::{AllocError, AllocGlobal, Global};
 use std::process::Abort;
 use std::test::Fail;
 use sync_survey::SurveyFault;
-use test_files::files::Stretch;
+use test_files::files::Stretch::{Bytes, Fill};
+use test_files::files::{OF_300, OF_400, Stretch};
+use test_files::{end_to_end, table};
 
 /// Twice two frames of MPEG-1, 44,100 Hz, 128 kbit/s, stereo, of 417 bytes with an area of 381. The first has 300 bytes of
 /// main data in its area; those of the second, 400, begin 81 bytes before its own.
-static FOUR: [Stretch; 14] = [
-    Stretch::Bytes(&[0xff, 0xfb, 0x90, 0x00, 0x00, 0x00, 0x09, 0x60]),
-    Stretch::Fill(0, 28),
-    Stretch::Fill(0x11, 300),
-    Stretch::Fill(0x22, 81),
-    Stretch::Bytes(&[0xff, 0xfb, 0x90, 0x00, 0x28, 0x80, 0x0c, 0x80]),
-    Stretch::Fill(0, 28),
-    Stretch::Fill(0x22, 381),
-    Stretch::Bytes(&[0xff, 0xfb, 0x90, 0x00, 0x00, 0x00, 0x09, 0x60]),
-    Stretch::Fill(0, 28),
-    Stretch::Fill(0x33, 300),
-    Stretch::Fill(0x44, 81),
-    Stretch::Bytes(&[0xff, 0xfb, 0x90, 0x00, 0x28, 0x80, 0x0c, 0x80]),
-    Stretch::Fill(0, 28),
-    Stretch::Fill(0x44, 381),
-];
+static FOUR: [Stretch; 10] = end_to_end! {
+    OF_300, Fill(0x11, 300), Fill(0x22, 81),
+    OF_400, Fill(0x22, 381),
+    OF_300, Fill(0x33, 300), Fill(0x44, 81),
+    OF_400, Fill(0x44, 381)
+};
 
 /// A sheet of two tracks. The start of the second, at 2/75 second, is in the frame with number 1.
-static TRACKS: [Stretch; 1] = [Stretch::Bytes(
+static TRACKS: [Stretch; 1] = [Bytes(
     b"TRACK 01 AUDIO\nINDEX 01 00:00:00\nTRACK 02 AUDIO\nINDEX 01 00:00:02\n",
 )];
 
@@ -176,20 +168,12 @@ struct Sheet {
     fault: EditFault,
 }
 
-static SHEETS: [Sheet; 3] = [
-    Sheet {
-        stretches: &[Stretch::Fill(b' ', 65_536)],
-        fault: EditFault::Refused(Refusal::Sheet(CueFault::NoTracks)),
-    },
-    Sheet {
-        stretches: &[Stretch::Fill(b' ', 65_537)],
-        fault: EditFault::Refused(Refusal::SheetTooLarge(65_537)),
-    },
-    Sheet {
-        stretches: &[Stretch::Bytes(b"\nTRACK 1")],
-        fault: EditFault::Refused(Refusal::Sheet(CueFault::Line(2))),
-    },
-];
+static SHEETS: [Sheet; 3] = table! {
+    Sheet { stretches, fault }
+    (&[Fill(b' ', 65_536)], EditFault::Refused(Refusal::Sheet(CueFault::NoTracks)))
+    (&[Fill(b' ', 65_537)], EditFault::Refused(Refusal::SheetTooLarge(65_537)))
+    (&[Bytes(b"\nTRACK 1")], EditFault::Refused(Refusal::Sheet(CueFault::Line(2))))
+};
 
 fn expect_sheet<R: Abort + AllocGlobal>(
     rt: &R,

@@ -14,53 +14,36 @@ use std::alloc::{AllocError, AllocGlobal};
 use std::process::Abort;
 use std::test::Fail;
 use sync_survey::{Row, survey};
+use test_files::end_to_end;
+use test_files::files::Stretch::{Bytes, Fill};
 use test_files::files::{ID3V1, Stretch};
 
 /// The front of an ID3v2 block of 7,010 bytes: the size in its header is 54 * 128 + 88 (ID3v2.3.0, 3.1).
-const LONG_BLOCK: Stretch = Stretch::Bytes(b"ID3\x03\x00\x00\x00\x00\x36\x58");
+const LONG_BLOCK: Stretch = Bytes(b"ID3\x03\x00\x00\x00\x00\x36\x58");
 
 /// An ID3v2 block of 14 bytes.
-const SHORT_BLOCK: Stretch = Stretch::Bytes(b"ID3\x03\x00\x00\x00\x00\x00\x04abcd");
+const SHORT_BLOCK: Stretch = Bytes(b"ID3\x03\x00\x00\x00\x00\x00\x04abcd");
 
 /// The rest of an ID3v1 block.
-const LAST_REST: Stretch = Stretch::Fill(0x66, 125);
+const LAST_REST: Stretch = Fill(0x66, 125);
 
 /// The front of a frame with 300 bytes of main data. Their bits are the bits of the side information from the 21st to the
 /// 32nd.
-const FRAME: Stretch = Stretch::Bytes(&[0xff, 0xfb, 0x90, 0x00, 0x00, 0x00, 0x09, 0x60]);
+const FRAME: Stretch = Bytes(&[0xff, 0xfb, 0x90, 0x00, 0x00, 0x00, 0x09, 0x60]);
 
 /// A block in front of two frames, and two behind them.
-static INPUT: [Stretch; 14] = [
-    LONG_BLOCK,
-    Stretch::Fill(0x44, 3000),
-    Stretch::Fill(0x55, 4000),
-    FRAME,
-    Stretch::Fill(0, 28),
-    Stretch::Fill(0x11, 300),
-    Stretch::Fill(0x22, 81),
-    FRAME,
-    Stretch::Fill(0, 28),
-    Stretch::Fill(0x11, 300),
-    Stretch::Fill(0x22, 81),
-    SHORT_BLOCK,
-    ID3V1,
-    LAST_REST,
-];
+static INPUT: [Stretch; 14] = end_to_end! {
+    LONG_BLOCK, Fill(0x44, 3000), Fill(0x55, 4000), FRAME, Fill(0, 28), Fill(0x11, 300), Fill(0x22, 81),
+    FRAME, Fill(0, 28), Fill(0x11, 300), Fill(0x22, 81),
+    SHORT_BLOCK, ID3V1, LAST_REST
+};
 
 /// The same blocks, around four bytes in place of an Info frame and the first frame, in which 0 stands behind its main data.
-static OUTPUT: [Stretch; 11] = [
-    LONG_BLOCK,
-    Stretch::Fill(0x44, 3000),
-    Stretch::Fill(0x55, 4000),
-    Stretch::Bytes(b"info"),
-    FRAME,
-    Stretch::Fill(0, 28),
-    Stretch::Fill(0x11, 300),
-    Stretch::Fill(0, 81),
-    SHORT_BLOCK,
-    ID3V1,
-    LAST_REST,
-];
+static OUTPUT: [Stretch; 11] = end_to_end! {
+    LONG_BLOCK, Fill(0x44, 3000), Fill(0x55, 4000), Bytes(b"info"), FRAME, Fill(0, 28), Fill(0x11, 300),
+    Fill(0, 81),
+    SHORT_BLOCK, ID3V1, LAST_REST
+};
 
 /// A frame in its own slot, with its main data in its own area.
 #[tactic(auto, unfolding(laying::specs::Fits::FitsFrom))]

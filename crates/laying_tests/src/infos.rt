@@ -10,7 +10,9 @@ use std::alloc::{AllocError, Global};
 use std::process::Abort;
 use std::test::Fail;
 use sync_survey::survey;
+use test_files::files::Stretch::{Bytes, Fill};
 use test_files::files::{Stretch, bytes_of};
+use test_files::table;
 
 /// MPEG-1, 128 kbit/s at 44,100 Hz in two channels: 417 bytes, of which 4 and 32 stand before the area.
 const PLAIN: [u8; 4] = [0xff, 0xfb, 0x90, 0x00];
@@ -94,82 +96,29 @@ struct Case {
     wanted: Kept,
 }
 
-const HEADER: Stretch = Stretch::Bytes(&PLAIN);
+const HEADER: Stretch = Bytes(&PLAIN);
 
-const QUALITY: Stretch = Stretch::Bytes(b"\0\0\0\x39");
+const QUALITY: Stretch = Bytes(b"\0\0\0\x39");
 
-const EXTENSION_BYTES: Stretch = Stretch::Bytes(&EXTENSION);
+const EXTENSION_BYTES: Stretch = Bytes(&EXTENSION);
 
 const SILENT: Stretch = Stretch::Frame(0, 0);
 
-static CASES: [Case; 4] = [
-    Case {
-        name: "all fields",
-        file: &[
-            HEADER,
-            Stretch::Fill(0, 32),
-            Stretch::Bytes(b"Info\0\0\0\x0f"),
-            Stretch::Fill(0, 108),
-            QUALITY,
-            EXTENSION_BYTES,
-            Stretch::Fill(0, 225),
-            SILENT,
-        ],
-        wanted: Kept {
-            quality: Some(57),
-            extension: EXTENSION,
-        },
-    },
-    Case {
-        name: "a quality alone",
-        file: &[
-            HEADER,
-            Stretch::Fill(0, 32),
-            Stretch::Bytes(b"Xing\0\0\0\x08"),
-            QUALITY,
-            EXTENSION_BYTES,
-            Stretch::Fill(0, 333),
-            SILENT,
-        ],
-        wanted: Kept {
-            quality: Some(57),
-            extension: EXTENSION,
-        },
-    },
-    Case {
-        name: "no quality",
-        file: &[
-            HEADER,
-            Stretch::Fill(0, 32),
-            Stretch::Bytes(b"Info\0\0\0\x07"),
-            Stretch::Fill(0, 108),
-            EXTENSION_BYTES,
-            Stretch::Fill(0, 229),
-            SILENT,
-        ],
-        wanted: Kept {
-            quality: None,
-            extension: EXTENSION,
-        },
-    },
-    Case {
-        name: "no head",
-        file: &[
-            HEADER,
-            Stretch::Fill(0, 32),
-            Stretch::Bytes(b"Inf0\0\0\0\x0f"),
-            Stretch::Fill(0, 108),
-            QUALITY,
-            EXTENSION_BYTES,
-            Stretch::Fill(0, 225),
-            SILENT,
-        ],
-        wanted: Kept {
-            quality: None,
-            extension: [0; 36],
-        },
-    },
-];
+static CASES: [Case; 4] = table! {
+    Case { name, file, wanted }
+    ("all fields",
+        &[HEADER, Fill(0, 32), Bytes(b"Info\0\0\0\x0f"), Fill(0, 108), QUALITY, EXTENSION_BYTES, Fill(0, 225), SILENT],
+        Kept { quality: Some(57), extension: EXTENSION })
+    ("a quality alone",
+        &[HEADER, Fill(0, 32), Bytes(b"Xing\0\0\0\x08"), QUALITY, EXTENSION_BYTES, Fill(0, 333), SILENT],
+        Kept { quality: Some(57), extension: EXTENSION })
+    ("no quality",
+        &[HEADER, Fill(0, 32), Bytes(b"Info\0\0\0\x07"), Fill(0, 108), EXTENSION_BYTES, Fill(0, 229), SILENT],
+        Kept { quality: None, extension: EXTENSION })
+    ("no head",
+        &[HEADER, Fill(0, 32), Bytes(b"Inf0\0\0\0\x0f"), Fill(0, 108), QUALITY, EXTENSION_BYTES, Fill(0, 225), SILENT],
+        Kept { quality: None, extension: [0; 36] })
+};
 
 /// Of the file `a`; none where its survey can't be read.
 fn kept_of<D: Folder>(alloc: Global, folder: &mut D) -> Option<Result<Kept, PassFault>> {

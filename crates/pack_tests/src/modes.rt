@@ -8,81 +8,36 @@ use std::alloc::AllocGlobal;
 use std::process::Abort;
 use std::test::Fail;
 use sync_survey::SurveyFault;
-use test_files::files::{Stretch, bytes_of};
-
-/// Two frames of MPEG-1, 44,100 Hz, 128 kbit/s, stereo, of 417 bytes with an area of 381. The first has 300 bytes of main
-/// data in its area; those of the second, 400, begin 81 bytes before its own.
-const TWO: &[Stretch] = &[
-    Stretch::Bytes(&[0xff, 0xfb, 0x90, 0x00, 0x00, 0x00, 0x09, 0x60]),
-    Stretch::Fill(0, 28),
-    Stretch::Fill(0x11, 300),
-    Stretch::Fill(0x22, 81),
-    Stretch::Bytes(&[0xff, 0xfb, 0x90, 0x00, 0x28, 0x80, 0x0c, 0x80]),
-    Stretch::Fill(0, 28),
-    Stretch::Fill(0x22, 319 + 62),
-];
+use test_files::files::Stretch::{Bytes, Fill, Filled};
+use test_files::files::{INFO_FRONT, OF_300, OF_400, Stretch, TWO, bytes_of};
+use test_files::{end_to_end, table};
 
 /// What stands in the output before, and still does where nothing is written.
-const OLD: &[Stretch] = &[Stretch::Bytes(b"old")];
+const OLD: &[Stretch] = &[Bytes(b"old")];
 
 /// A lead-in and two frames of 313 bytes with areas of 277: without the lead-in the main data have no room. The first main
 /// data begin with the lead-in's area, the second 254 bytes before their frame's own.
-const ALL_OF_96: &[Stretch] = &[
-    Stretch::Bytes(&[0xff, 0xfb, 0x50, 0x00]),
-    Stretch::Fill(0, 32),
-    Stretch::Bytes(b"Info\0\0\0\x0f\0\0\0\x03\0\0\x04\x7b"),
-    Stretch::Fill(46, 34),
-    Stretch::Fill(116, 33),
-    Stretch::Fill(186, 33),
-    Stretch::Fill(0, 56),
-    Stretch::Bytes(&[0xff, 0xfb, 0x70, 0x00]),
-    Stretch::Fill(0, 32),
-    Stretch::Fill(0x11, 277),
-    Stretch::Bytes(&[0xff, 0xfb, 0x70, 0x00, 0x8a, 0x80, 0x09, 0x60]),
-    Stretch::Fill(0, 28),
-    Stretch::Fill(0x11, 23),
-    Stretch::Fill(0x22, 254),
-    Stretch::Bytes(&[0xff, 0xfb, 0x70, 0x00, 0x7f, 0x00, 0x0c, 0x80]),
-    Stretch::Fill(0, 28),
-    Stretch::Fill(0x22, 146),
-    Stretch::Fill(0, 131),
-];
+const ALL_OF_96: &[Stretch] = &end_to_end! {
+    INFO_FRONT, Bytes(b"Info\0\0\0\x0f\0\0\0\x03\0\0\x04\x7b"), Fill(46, 34), Fill(116, 33), Fill(186, 33),
+    Fill(0, 56),
+    Filled(&[0xff, 0xfb, 0x70, 0x00], 0, 32), Fill(0x11, 277),
+    Filled(&[0xff, 0xfb, 0x70, 0x00, 0x8a, 0x80, 0x09, 0x60], 0, 28), Fill(0x11, 23), Fill(0x22, 254),
+    Filled(&[0xff, 0xfb, 0x70, 0x00, 0x7f, 0x00, 0x0c, 0x80], 0, 28), Fill(0x22, 146), Fill(0, 131)
+};
 
 /// Both frames of 128 kbit/s, as they were.
-const FROM_128: &[Stretch] = &[
-    Stretch::Bytes(&[0xff, 0xfb, 0x50, 0x00]),
-    Stretch::Fill(0, 32),
-    Stretch::Bytes(b"Info\0\0\0\x0f\0\0\0\x02\0\0\x04\x12"),
-    Stretch::Fill(51, 50),
-    Stretch::Fill(153, 50),
-    Stretch::Fill(0, 56),
-    Stretch::Bytes(&[0xff, 0xfb, 0x90, 0x00, 0x00, 0x00, 0x09, 0x60]),
-    Stretch::Fill(0, 28),
-    Stretch::Fill(0x11, 300),
-    Stretch::Fill(0x22, 81),
-    Stretch::Bytes(&[0xff, 0xfb, 0x90, 0x00, 0x28, 0x80, 0x0c, 0x80]),
-    Stretch::Fill(0, 28),
-    Stretch::Fill(0x22, 319),
-    Stretch::Fill(0, 62),
-];
+const FROM_128: &[Stretch] = &end_to_end! {
+    INFO_FRONT, Bytes(b"Info\0\0\0\x0f\0\0\0\x02\0\0\x04\x12"), Fill(51, 50), Fill(153, 50), Fill(0, 56),
+    OF_300, Fill(0x11, 300), Fill(0x22, 81),
+    OF_400, Fill(0x22, 319), Fill(0, 62)
+};
 
 /// The first of 112 kbit/s, with an area of 329 of which 29 are left for the second of 128 kbit/s: 990 bytes.
-const LEAST: &[Stretch] = &[
-    Stretch::Bytes(&[0xff, 0xfb, 0x50, 0x00]),
-    Stretch::Fill(0, 32),
-    Stretch::Bytes(b"Xing\0\0\0\x0f\0\0\0\x02\0\0\x03\xde"),
-    Stretch::Fill(53, 50),
-    Stretch::Fill(148, 50),
-    Stretch::Fill(0, 56),
-    Stretch::Bytes(&[0xff, 0xfb, 0x80, 0x00, 0x00, 0x00, 0x09, 0x60]),
-    Stretch::Fill(0, 28),
-    Stretch::Fill(0x11, 300),
-    Stretch::Fill(0x22, 29),
-    Stretch::Bytes(&[0xff, 0xfb, 0x90, 0x00, 0x0e, 0x80, 0x0c, 0x80]),
-    Stretch::Fill(0, 28),
-    Stretch::Fill(0x22, 371),
-    Stretch::Fill(0, 10),
-];
+const LEAST: &[Stretch] = &end_to_end! {
+    INFO_FRONT, Bytes(b"Xing\0\0\0\x0f\0\0\0\x02\0\0\x03\xde"), Fill(53, 50), Fill(148, 50), Fill(0, 56),
+    Filled(&[0xff, 0xfb, 0x80, 0x00, 0x00, 0x00, 0x09, 0x60], 0, 28), Fill(0x11, 300), Fill(0x22, 29),
+    Filled(&[0xff, 0xfb, 0x90, 0x00, 0x0e, 0x80, 0x0c, 0x80], 0, 28), Fill(0x22, 371), Fill(0, 10)
+};
 
 /// A mode, its answer, and what stands in the output then.
 struct Row {
@@ -91,59 +46,20 @@ struct Row {
     after: &'static [Stretch],
 }
 
-static ROWS: [Row; 10] = [
-    Row {
-        mode: PackMode::Least,
-        answer: Ok(()),
-        after: LEAST,
-    },
-    Row {
-        mode: PackMode::Constant(96),
-        answer: Ok(()),
-        after: ALL_OF_96,
-    },
-    Row {
-        mode: PackMode::Constant(128),
-        answer: Ok(()),
-        after: FROM_128,
-    },
-    Row {
-        mode: PackMode::Constant(64),
-        answer: Err(EditFault::Refused(Refusal::Unfit(1))),
-        after: OLD,
-    },
-    Row {
-        mode: PackMode::Constant(32),
-        answer: Err(EditFault::Refused(Refusal::Unfit(0))),
-        after: OLD,
-    },
-    Row {
-        mode: PackMode::Constant(100),
-        answer: Err(EditFault::Refused(Refusal::NoRate(100))),
-        after: OLD,
-    },
-    Row {
-        mode: PackMode::Floor(32),
-        answer: Ok(()),
-        after: LEAST,
-    },
-    Row {
-        mode: PackMode::Floor(128),
-        answer: Ok(()),
-        after: FROM_128,
-    },
+static ROWS: [Row; 10] = table! {
+    Row { mode, answer, after }
+    (PackMode::Least, Ok(()), LEAST)
+    (PackMode::Constant(96), Ok(()), ALL_OF_96)
+    (PackMode::Constant(128), Ok(()), FROM_128)
+    (PackMode::Constant(64), Err(EditFault::Refused(Refusal::Unfit(1))), OLD)
+    (PackMode::Constant(32), Err(EditFault::Refused(Refusal::Unfit(0))), OLD)
+    (PackMode::Constant(100), Err(EditFault::Refused(Refusal::NoRate(100))), OLD)
+    (PackMode::Floor(32), Ok(()), LEAST)
+    (PackMode::Floor(128), Ok(()), FROM_128)
     // Bit rates of MPEG-2 alone, and of none.
-    Row {
-        mode: PackMode::Floor(8),
-        answer: Err(EditFault::Refused(Refusal::NoRate(8))),
-        after: OLD,
-    },
-    Row {
-        mode: PackMode::Floor(0),
-        answer: Err(EditFault::Refused(Refusal::NoRate(0))),
-        after: OLD,
-    },
-];
+    (PackMode::Floor(8), Err(EditFault::Refused(Refusal::NoRate(8))), OLD)
+    (PackMode::Floor(0), Err(EditFault::Refused(Refusal::NoRate(0))), OLD)
+};
 
 fn expect_row<R: Abort + AllocGlobal>(
     rt: &R,

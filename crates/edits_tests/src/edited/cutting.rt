@@ -1,39 +1,29 @@
 //! Files that are cut and packed; the bytes were worked out by hand.
 
 use crate::files::{expect_file, expect_part, put_file};
-use crate::two::TWO;
 use cue_sheet::Place;
 use edits::{EditFault, Refusal, cut, pack};
 use outside::MemFolder;
 use std::alloc::{AllocError, AllocGlobal, Global};
 use std::process::Abort;
 use std::test::Fail;
-use test_files::files::Stretch;
+use test_files::end_to_end;
+use test_files::files::Stretch::{Bytes, Fill, Filled};
+use test_files::files::{INFO_FRONT, Stretch, TWO};
 
 /// An Info frame of 64 kbit/s with its table of 100 entries, no quality, and an extension that is all 0: `Xing`, since the
 /// bit rates differ. Then a lead-in of 32 kbit/s, with an area of 68, and the second frame, whose main data begin 68 bytes
 /// before its own area.
-static SECOND: [Stretch; 13] = [
-    Stretch::Bytes(&[0xff, 0xfb, 0x50, 0x00]),
-    Stretch::Fill(0, 32),
-    Stretch::Bytes(&[
-        b'X', b'i', b'n', b'g', 0, 0, 0, 15, 0, 0, 0, 2, 0, 0, 0x02, 0xd9,
-    ]),
-    Stretch::Fill(73, 50),
-    Stretch::Fill(109, 50),
-    Stretch::Fill(0, 56),
-    Stretch::Bytes(&[0xff, 0xfb, 0x10, 0x00]),
-    Stretch::Fill(0, 32),
-    Stretch::Fill(0x22, 68),
-    Stretch::Bytes(&[0xff, 0xfb, 0x90, 0x00, 0x22, 0x00, 0x0c, 0x80]),
-    Stretch::Fill(0, 28),
-    Stretch::Fill(0x22, 332),
-    Stretch::Fill(0, 49),
-];
+static SECOND: [Stretch; 10] = end_to_end! {
+    INFO_FRONT, Bytes(&[b'X', b'i', b'n', b'g', 0, 0, 0, 15, 0, 0, 0, 2, 0, 0, 0x02, 0xd9]), Fill(73, 50),
+    Fill(109, 50), Fill(0, 56),
+    Filled(&[0xff, 0xfb, 0x10, 0x00], 0, 32), Fill(0x22, 68),
+    Filled(&[0xff, 0xfb, 0x90, 0x00, 0x22, 0x00, 0x0c, 0x80], 0, 28), Fill(0x22, 332), Fill(0, 49)
+};
 
 /// Puts the file of two frames as `a`, and room for `b`.
 fn put_two(alloc: Global, folder: &mut MemFolder) -> Result<(), AllocError> {
-    put_file(alloc, folder, "a", &[&TWO])?;
+    put_file(alloc, folder, "a", &[TWO])?;
     folder.reserve("b", 2000)
 }
 

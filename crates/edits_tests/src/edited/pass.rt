@@ -8,7 +8,9 @@ use std::alloc::{AllocError, AllocGlobal, Global};
 use std::process::Abort;
 use std::test::Fail;
 use sync_survey::SurveyFault;
+use test_files::files::Stretch::{Bytes, Copies, Fill};
 use test_files::files::{Stretch, bytes_of};
+use test_files::{end_to_end, table};
 
 /// One step louder, where 255 comes in again as 0.
 const LOUDER: Shift = Shift {
@@ -58,37 +60,22 @@ const ID3V2: &[u8] = &[b'I', b'D', b'3', 3, 0, 0, 0, 0, 0, 20];
 
 /// ID3v2, 3 zero bytes, 7 bytes of junk, a head at 40, 120 frames without check word, ID3v2, 5 zero bytes, 60
 /// frames with check words, a silent frame, and ID3v1: 76,097 bytes.
-static QUIET: [Stretch; 13] = [
-    Stretch::Bytes(ID3V2),
-    Stretch::Fill(0x41, 20),
-    Stretch::Fill(0, 3),
-    Stretch::Fill(0x55, 7),
-    Stretch::Copies(HEAD, 1),
-    Stretch::Copies(PLAIN, 120),
-    Stretch::Bytes(ID3V2),
-    Stretch::Fill(0x42, 20),
-    Stretch::Fill(0, 5),
-    Stretch::Copies(PROTECTED, 60),
-    Stretch::Copies(SILENT, 1),
-    Stretch::Bytes(b"TAG"),
-    Stretch::Fill(0x20, 125),
-];
+static QUIET: [Stretch; 13] = end_to_end! {
+    Bytes(ID3V2), Fill(0x41, 20), Fill(0, 3), Fill(0x55, 7),
+    Copies(HEAD, 1),
+    Copies(PLAIN, 120), Bytes(ID3V2), Fill(0x42, 20), Fill(0, 5),
+    Copies(PROTECTED, 60),
+    Copies(SILENT, 1), Bytes(b"TAG"), Fill(0x20, 125)
+};
 
 /// The same with other gains, and without the junk.
-static LOUD: [Stretch; 12] = [
-    Stretch::Bytes(ID3V2),
-    Stretch::Fill(0x41, 20),
-    Stretch::Fill(0, 3),
-    Stretch::Copies(HEAD, 1),
-    Stretch::Copies(PLAIN_LOUDER, 120),
-    Stretch::Bytes(ID3V2),
-    Stretch::Fill(0x42, 20),
-    Stretch::Fill(0, 5),
-    Stretch::Copies(PROTECTED_LOUDER, 60),
-    Stretch::Copies(SILENT, 1),
-    Stretch::Bytes(b"TAG"),
-    Stretch::Fill(0x20, 125),
-];
+static LOUD: [Stretch; 12] = end_to_end! {
+    Bytes(ID3V2), Fill(0x41, 20), Fill(0, 3),
+    Copies(HEAD, 1),
+    Copies(PLAIN_LOUDER, 120), Bytes(ID3V2), Fill(0x42, 20), Fill(0, 5),
+    Copies(PROTECTED_LOUDER, 60),
+    Copies(SILENT, 1), Bytes(b"TAG"), Fill(0x20, 125)
+};
 
 /// Makes the file `quiet` louder, as `loud`.
 fn gain_quiet<D: Folder>(alloc: Global, folder: &mut D) -> Result<(), EditFault> {
@@ -117,28 +104,13 @@ struct Case {
     written: usize,
 }
 
-static CASES: [Case; 4] = [
-    Case {
-        trouble: Trouble::Nothing,
-        answer: Ok(()),
-        written: 76_090,
-    },
-    Case {
-        trouble: Trouble::Unread(70_000),
-        answer: Err(EditFault::Input(0, SurveyFault::Read)),
-        written: 65_536,
-    },
-    Case {
-        trouble: Trouble::Shorter(70_000),
-        answer: Err(EditFault::Input(0, SurveyFault::Shrunk(76_097, 70_000))),
-        written: 65_536,
-    },
-    Case {
-        trouble: Trouble::Unwritten(70_000),
-        answer: Err(EditFault::Write(0)),
-        written: 70_436,
-    },
-];
+static CASES: [Case; 4] = table! {
+    Case { trouble, answer, written }
+    (Trouble::Nothing, Ok(()), 76_090)
+    (Trouble::Unread(70_000), Err(EditFault::Input(0, SurveyFault::Read)), 65_536)
+    (Trouble::Shorter(70_000), Err(EditFault::Input(0, SurveyFault::Shrunk(76_097, 70_000))), 65_536)
+    (Trouble::Unwritten(70_000), Err(EditFault::Write(0)), 70_436)
+};
 
 /// Asserts what is answered, and that so many bytes were written, which are the first of these.
 fn expect_case<R: Abort + AllocGlobal>(rt: &R, case: &Case, loud: &[u8]) -> Result<(), AllocError> {
