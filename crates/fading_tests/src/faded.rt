@@ -10,66 +10,31 @@ use std::rt::HostRuntime;
 use std::test::Fail;
 use sync_survey::SurveyFault;
 use test_files::frames::{Frame, G, file_of};
+use test_files::{frame, table};
 
 /// All four gains are 100.
-const AT_100: Frame = Frame {
-    side: &[
-        0x00, 0x00, 0x00, 0x08, 0x00, 0x32, 0x00, 0x00, 0x00, 0x00, 0x01, 0x00, 0x06, 0x40, 0x00,
-        0x00, 0x00, 0x00, 0x20, 0x00, 0xc8, 0x00, 0x00, 0x00, 0x00, 0x04, 0x00, 0x19, 0x00, 0x00,
-        0x00, 0x00,
-    ],
-    ..G
-};
+const AT_100: Frame =
+    frame! { side: b"\0\0\0\x08\0\x32\0\0\0\0\x01\0\x06\x40\0\0\0\0\x20\0\xc8\0\0\0\0\x04\0\x19", ..G };
 
 /// 99.
-const AT_99: Frame = Frame {
-    side: &[
-        0x00, 0x00, 0x00, 0x08, 0x00, 0x31, 0x80, 0x00, 0x00, 0x00, 0x01, 0x00, 0x06, 0x30, 0x00,
-        0x00, 0x00, 0x00, 0x20, 0x00, 0xc6, 0x00, 0x00, 0x00, 0x00, 0x04, 0x00, 0x18, 0xc0, 0x00,
-        0x00, 0x00,
-    ],
-    ..G
-};
+const AT_99: Frame =
+    frame! { side: b"\0\0\0\x08\0\x31\x80\0\0\0\x01\0\x06\x30\0\0\0\0\x20\0\xc6\0\0\0\0\x04\0\x18\xc0", ..G };
 
 /// 98.
-const AT_98: Frame = Frame {
-    side: &[
-        0x00, 0x00, 0x00, 0x08, 0x00, 0x31, 0x00, 0x00, 0x00, 0x00, 0x01, 0x00, 0x06, 0x20, 0x00,
-        0x00, 0x00, 0x00, 0x20, 0x00, 0xc4, 0x00, 0x00, 0x00, 0x00, 0x04, 0x00, 0x18, 0x80, 0x00,
-        0x00, 0x00,
-    ],
-    ..G
-};
+const AT_98: Frame =
+    frame! { side: b"\0\0\0\x08\0\x31\0\0\0\0\x01\0\x06\x20\0\0\0\0\x20\0\xc4\0\0\0\0\x04\0\x18\x80", ..G };
 
 /// 97.
-const AT_97: Frame = Frame {
-    side: &[
-        0x00, 0x00, 0x00, 0x08, 0x00, 0x30, 0x80, 0x00, 0x00, 0x00, 0x01, 0x00, 0x06, 0x10, 0x00,
-        0x00, 0x00, 0x00, 0x20, 0x00, 0xc2, 0x00, 0x00, 0x00, 0x00, 0x04, 0x00, 0x18, 0x40, 0x00,
-        0x00, 0x00,
-    ],
-    ..G
-};
+const AT_97: Frame =
+    frame! { side: b"\0\0\0\x08\0\x30\x80\0\0\0\x01\0\x06\x10\0\0\0\0\x20\0\xc2\0\0\0\0\x04\0\x18\x40", ..G };
 
 /// 94.
-const AT_94: Frame = Frame {
-    side: &[
-        0x00, 0x00, 0x00, 0x08, 0x00, 0x2f, 0x00, 0x00, 0x00, 0x00, 0x01, 0x00, 0x05, 0xe0, 0x00,
-        0x00, 0x00, 0x00, 0x20, 0x00, 0xbc, 0x00, 0x00, 0x00, 0x00, 0x04, 0x00, 0x17, 0x80, 0x00,
-        0x00, 0x00,
-    ],
-    ..G
-};
+const AT_94: Frame =
+    frame! { side: b"\0\0\0\x08\0\x2f\0\0\0\0\x01\0\x05\xe0\0\0\0\0\x20\0\xbc\0\0\0\0\x04\0\x17\x80", ..G };
 
 /// 90.
-const AT_90: Frame = Frame {
-    side: &[
-        0x00, 0x00, 0x00, 0x08, 0x00, 0x2d, 0x00, 0x00, 0x00, 0x00, 0x01, 0x00, 0x05, 0xa0, 0x00,
-        0x00, 0x00, 0x00, 0x20, 0x00, 0xb4, 0x00, 0x00, 0x00, 0x00, 0x04, 0x00, 0x16, 0x80, 0x00,
-        0x00, 0x00,
-    ],
-    ..G
-};
+const AT_90: Frame =
+    frame! { side: b"\0\0\0\x08\0\x2d\0\0\0\0\x01\0\x05\xa0\0\0\0\0\x20\0\xb4\0\0\0\0\x04\0\x16\x80", ..G };
 
 static FLAT: [Frame; 4] = [AT_100, AT_100, AT_100, AT_100];
 
@@ -79,20 +44,12 @@ struct Fade {
     faded: &'static [Frame],
 }
 
-static FADES: [Fade; 3] = [
-    Fade {
-        sheet: b"0 0\n3 -10\n",
-        faded: &[AT_100, AT_97, AT_94, AT_90],
-    },
-    Fade {
-        sheet: b"0 0\nEOF -4",
-        faded: &[AT_100, AT_99, AT_98, AT_97],
-    },
-    Fade {
-        sheet: b"\xef\xbb\xbf# two points\r\n\r\n1 -1\r\n2 -2\r\n",
-        faded: &[AT_99, AT_99, AT_98, AT_98],
-    },
-];
+static FADES: [Fade; 3] = table! {
+    Fade { sheet, faded }
+    (b"0 0\n3 -10\n", &[AT_100, AT_97, AT_94, AT_90])
+    (b"0 0\nEOF -4", &[AT_100, AT_99, AT_98, AT_97])
+    (b"\xef\xbb\xbf# two points\r\n\r\n1 -1\r\n2 -2\r\n", &[AT_99, AT_99, AT_98, AT_98])
+};
 
 /// The files of a fade, from `in` to `out` by the sheet `s`, and back to `back`.
 fn fade_and_back(
@@ -145,78 +102,19 @@ struct Refused {
     fault: EditFault,
 }
 
-static REFUSALS: [Refused; 10] = [
-    Refused {
-        input: "in",
-        output: "in",
-        sheet: "s",
-        text: b"",
-        fault: EditFault::EqualNames(0),
-    },
-    Refused {
-        input: "in",
-        output: "s",
-        sheet: "s",
-        text: b"",
-        fault: EditFault::EqualNames(1),
-    },
-    Refused {
-        input: "none",
-        output: "out",
-        sheet: "none",
-        text: b"",
-        fault: EditFault::Input(0, SurveyFault::Absent),
-    },
-    Refused {
-        input: "in",
-        output: "out",
-        sheet: "none",
-        text: b"",
-        fault: EditFault::Input(1, SurveyFault::Absent),
-    },
-    Refused {
-        input: "in",
-        output: "out",
-        sheet: "long",
-        text: b"",
-        fault: EditFault::Refused(Refusal::SheetTooLarge(65_537)),
-    },
-    Refused {
-        input: "in",
-        output: "out",
-        sheet: "s",
-        text: b"",
-        fault: EditFault::Refused(Refusal::Curve(EnvelopeFault::NoPoints)),
-    },
-    Refused {
-        input: "in",
-        output: "out",
-        sheet: "s",
-        text: b"1 5\n1 6\n3\n",
-        fault: EditFault::Refused(Refusal::Curve(EnvelopeFault::Line(3))),
-    },
-    Refused {
-        input: "in",
-        output: "out",
-        sheet: "s",
-        text: b"1 -101\n1 6\n",
-        fault: EditFault::Refused(Refusal::CurveNotRising(2)),
-    },
-    Refused {
-        input: "in",
-        output: "out",
-        sheet: "s",
-        text: b"0 -101\n",
-        fault: EditFault::Refused(Refusal::GainRange(0, 0, 0, 100)),
-    },
-    Refused {
-        input: "in",
-        output: "out",
-        sheet: "s",
-        text: b"1 155\n2 156\n",
-        fault: EditFault::Refused(Refusal::GainRange(834, 0, 0, 100)),
-    },
-];
+static REFUSALS: [Refused; 10] = table! {
+    Refused { input, output, sheet, text, fault }
+    ("in", "in", "s", b"", EditFault::EqualNames(0))
+    ("in", "s", "s", b"", EditFault::EqualNames(1))
+    ("none", "out", "none", b"", EditFault::Input(0, SurveyFault::Absent))
+    ("in", "out", "none", b"", EditFault::Input(1, SurveyFault::Absent))
+    ("in", "out", "long", b"", EditFault::Refused(Refusal::SheetTooLarge(65_537)))
+    ("in", "out", "s", b"", EditFault::Refused(Refusal::Curve(EnvelopeFault::NoPoints)))
+    ("in", "out", "s", b"1 5\n1 6\n3\n", EditFault::Refused(Refusal::Curve(EnvelopeFault::Line(3))))
+    ("in", "out", "s", b"1 -101\n1 6\n", EditFault::Refused(Refusal::CurveNotRising(2)))
+    ("in", "out", "s", b"0 -101\n", EditFault::Refused(Refusal::GainRange(0, 0, 0, 100)))
+    ("in", "out", "s", b"1 155\n2 156\n", EditFault::Refused(Refusal::GainRange(834, 0, 0, 100)))
+};
 
 fn put_files(alloc: Global, folder: &mut MemFolder, text: &[u8]) -> Result<(), AllocError> {
     folder.put("in", &file_of(alloc, &FLAT)?)?;

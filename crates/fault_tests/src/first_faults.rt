@@ -8,7 +8,9 @@ use std::alloc::{AllocError, AllocGlobal};
 use std::process::Abort;
 use std::test::Fail;
 use sync_survey::SurveyFault;
+use test_files::files::Stretch::{Bytes, Fill};
 use test_files::files::{Stretch, bytes_of};
+use test_files::{end_to_end, table};
 
 /// A file, how many frames it may have, and its first fault.
 struct Case {
@@ -22,444 +24,209 @@ struct Case {
 const MANY: u32 = 100;
 
 /// The front of a frame with four times 600 bits.
-const FRONT_0: Stretch = Stretch::Bytes(&[
+const FRONT_0: Stretch = Bytes(&[
     0xff, 0xfb, 0x90, 0x00, 0x00, 0x00, 0x02, 0x58, 0x00, 0x32, 0x00, 0x00, 0x00, 0x00, 0x4b, 0x00,
     0x06, 0x40, 0x00, 0x00, 0x00, 0x09, 0x60, 0x00, 0xc8, 0x00, 0x00, 0x00, 0x01, 0x2c, 0x00, 0x19,
     0x00, 0x00, 0x00, 0x00,
 ]);
 
 /// The front of a frame with main_data_begin 81 and four times 800 bits.
-const FRONT_1: Stretch = Stretch::Bytes(&[
+const FRONT_1: Stretch = Bytes(&[
     0xff, 0xfb, 0x90, 0x00, 0x28, 0x80, 0x03, 0x20, 0x00, 0x32, 0x00, 0x00, 0x00, 0x00, 0x64, 0x00,
     0x06, 0x40, 0x00, 0x00, 0x00, 0x0c, 0x80, 0x00, 0xc8, 0x00, 0x00, 0x00, 0x01, 0x90, 0x00, 0x19,
     0x00, 0x00, 0x00, 0x00,
 ]);
 
 /// Two frames with 300 and 400 bytes of main data, one behind the other, each 55.
-const TWO_FRAMES: &[Stretch] = &[
-    FRONT_0,
-    Stretch::Fill(0x55, 381),
-    FRONT_1,
-    Stretch::Fill(0x55, 319),
-    Stretch::Fill(0, 62),
-];
+const TWO_FRAMES: &[Stretch] = &end_to_end! {
+    FRONT_0, Fill(0x55, 381),
+    FRONT_1, Fill(0x55, 319), Fill(0, 62)
+};
 
 /// The front of a frame with 762, 762, 762 and 763 bits.
-const FRONT_OF_3049: Stretch = Stretch::Bytes(&[
+const FRONT_OF_3049: Stretch = Bytes(&[
     0xff, 0xfb, 0x90, 0x00, 0x00, 0x00, 0x02, 0xfa, 0x00, 0x32, 0x00, 0x00, 0x00, 0x00, 0x5f, 0x40,
     0x06, 0x40, 0x00, 0x00, 0x00, 0x0b, 0xe8, 0x00, 0xc8, 0x00, 0x00, 0x00, 0x01, 0x7d, 0x80, 0x19,
     0x00, 0x00, 0x00, 0x00,
 ]);
 
 /// As `SHORT` with main_data_begin 12 and 352 bits, more than 23 bytes.
-const SHORT_TOO_LONG: Stretch = Stretch::Bytes(&[
+const SHORT_TOO_LONG: Stretch = Bytes(&[
     0xff, 0xf3, 0x14, 0xc0, 0x0c, 0x0b, 0, 0, 0, 0, 0, 0, 0, 0, 0, 0, 0, 0, 0, 0, 0, 0, 0, 0,
 ]);
 
 /// As `SHORT` with a check word, so an area of 9 bytes, and with 8 bits of gain 100. The right words here were
 /// worked out apart, by long division.
-const PROTECTED: Stretch = Stretch::Bytes(&[
+const PROTECTED: Stretch = Bytes(&[
     0xff, 0xf2, 0x14, 0xc0, 0xe9, 0x52, 0x00, 0x00, 0x40, 0x01, 0x90, 0, 0, 0, 0, 0, 0, 0, 0, 0, 0,
     0, 0, 0,
 ]);
 
 /// As `SHORT` with a check word.
-const PROTECTED_SILENT: Stretch = Stretch::Bytes(&[
+const PROTECTED_SILENT: Stretch = Bytes(&[
     0xff, 0xf2, 0x14, 0xc0, 0xee, 0xd2, 0, 0, 0, 0, 0, 0, 0, 0, 0, 0, 0, 0, 0, 0, 0, 0, 0, 0,
 ]);
 
 /// As `PROTECTED` with a wrong word.
-const WRONG: Stretch = Stretch::Bytes(&[
+const WRONG: Stretch = Bytes(&[
     0xff, 0xf2, 0x14, 0xc0, 0xe9, 0x53, 0x00, 0x00, 0x40, 0x01, 0x90, 0, 0, 0, 0, 0, 0, 0, 0, 0, 0,
     0, 0, 0,
 ]);
 
 /// As `PROTECTED` with main_data_begin 1, for which its word is wrong.
-const WRONG_AND_BACK: Stretch = Stretch::Bytes(&[
+const WRONG_AND_BACK: Stretch = Bytes(&[
     0xff, 0xf2, 0x14, 0xc0, 0xe9, 0x52, 0x01, 0x00, 0x40, 0x01, 0x90, 0, 0, 0, 0, 0, 0, 0, 0, 0, 0,
     0, 0, 0,
 ]);
 
 /// As `PROTECTED` with 73 bits.
-const PROTECTED_OF_73: Stretch = Stretch::Bytes(&[
+const PROTECTED_OF_73: Stretch = Bytes(&[
     0xff, 0xf2, 0x14, 0xc0, 0x41, 0xdd, 0x00, 0x02, 0x48, 0x01, 0x90, 0, 0, 0, 0, 0, 0, 0, 0, 0, 0,
     0, 0, 0,
 ]);
 
 /// As `PROTECTED` with main_data_begin 9 and 144 bits, which is two areas.
-const PROTECTED_OF_144: Stretch = Stretch::Bytes(&[
+const PROTECTED_OF_144: Stretch = Bytes(&[
     0xff, 0xf2, 0x14, 0xc0, 0x50, 0x2a, 0x09, 0x04, 0x80, 0x01, 0x90, 0, 0, 0, 0, 0, 0, 0, 0, 0, 0,
     0, 0, 0,
 ]);
 
 /// As `PROTECTED` with main_data_begin 10 and 80 bits.
-const PROTECTED_AND_10_BACK: Stretch = Stretch::Bytes(&[
+const PROTECTED_AND_10_BACK: Stretch = Bytes(&[
     0xff, 0xf2, 0x14, 0xc0, 0x3a, 0x9e, 0x0a, 0x02, 0x80, 0x01, 0x90, 0, 0, 0, 0, 0, 0, 0, 0, 0, 0,
     0, 0, 0,
 ]);
 
 /// The fronts of frames of MPEG-1, 48,000 Hz, 32 kbit/s, one channel: 96 bytes, with an area of 75. The
 /// granules have 300 and 300 bits, and 300 and 301.
-const MONO_OF_600: Stretch = Stretch::Bytes(&[
+const MONO_OF_600: Stretch = Bytes(&[
     0xff, 0xfb, 0x14, 0xc0, 0x00, 0x00, 0x04, 0xb0, 0x00, 0x00, 0x00, 0x00, 0x00, 0x00, 0x96, 0x00,
     0x00, 0x00, 0x00, 0x00, 0x00,
 ]);
 
-const MONO_OF_601: Stretch = Stretch::Bytes(&[
+const MONO_OF_601: Stretch = Bytes(&[
     0xff, 0xfb, 0x14, 0xc0, 0x00, 0x00, 0x04, 0xb0, 0x00, 0x00, 0x00, 0x00, 0x00, 0x00, 0x96, 0x80,
     0x00, 0x00, 0x00, 0x00, 0x00,
 ]);
 
 /// Frames of MPEG-2, 24,000 Hz, 8 kbit/s, stereo: 24 bytes, with an area of 3. The channels have 8 and 16
 /// bits, and 8 and 17.
-const LOWER_OF_24: Stretch = Stretch::Bytes(&[
+const LOWER_OF_24: Stretch = Bytes(&[
     0xff, 0xf3, 0x14, 0x00, 0x00, 0x00, 0x20, 0x00, 0x00, 0x00, 0x00, 0x00, 0x00, 0x00, 0x80, 0x00,
     0x00, 0x00, 0x00, 0x00, 0x00, 0, 0, 0,
 ]);
 
-const LOWER_OF_25: Stretch = Stretch::Bytes(&[
+const LOWER_OF_25: Stretch = Bytes(&[
     0xff, 0xf3, 0x14, 0x00, 0x00, 0x00, 0x20, 0x00, 0x00, 0x00, 0x00, 0x00, 0x00, 0x00, 0x88, 0x00,
     0x00, 0x00, 0x00, 0x00, 0x00, 0, 0, 0,
 ]);
 
 /// Frames of MPEG-2.5, 12,000 Hz, 8 kbit/s, one channel: 48 bytes, with an area of 35. The first has 280 bits.
-const SLOW_OF_280: Stretch = Stretch::Bytes(&[0xff, 0xe3, 0x14, 0xc0, 0x00, 0x08, 0xc0]);
+const SLOW_OF_280: Stretch = Bytes(&[0xff, 0xe3, 0x14, 0xc0, 0x00, 0x08, 0xc0]);
 
-const SLOW_OF_281: Stretch = Stretch::Bytes(&[0xff, 0xe3, 0x14, 0xc0, 0x00, 0x08, 0xc8]);
+const SLOW_OF_281: Stretch = Bytes(&[0xff, 0xe3, 0x14, 0xc0, 0x00, 0x08, 0xc8]);
 
-const SLOW_REST: Stretch = Stretch::Fill(0, 41);
+const SLOW_REST: Stretch = Fill(0, 41);
 
 /// The front of a protected head, whose area has 379 bytes. Its check word is wrong.
-const PROTECTED_HEAD_FRONT: Stretch = Stretch::Bytes(
+const PROTECTED_HEAD_FRONT: Stretch = Bytes(
     b"\xff\xfa\x90\0\x12\x34\0\0\0\0\0\0\0\0\0\0\0\0\0\0\0\0\0\0\0\0\0\0\0\0\0\0\0\0\0\0\0\0Xing",
 );
 
-const PROTECTED_HEAD_REST: Stretch = Stretch::Fill(0, 375);
+const PROTECTED_HEAD_REST: Stretch = Fill(0, 375);
 
 /// Where main data may begin, and heads.
-static BEGINS: [Case; 11] = [
-    Case {
-        name: "main data one behind the other",
-        file: TWO_FRAMES,
-        allowed: MANY,
-        answer: None,
-    },
-    Case {
-        name: "a lost frame counts",
-        file: &[Stretch::Frame(10, 0), Z],
-        allowed: 1,
-        answer: Some(SurveyFault::TooManyFrames(417)),
-    },
-    Case {
-        name: "main data that begin with the first area",
-        file: &[Z, Stretch::Frame(381, 8)],
-        allowed: MANY,
-        answer: None,
-    },
-    Case {
-        name: "a silent frame that points too far behind main data",
-        file: &[Stretch::Frame(0, 8), Stretch::Frame(382, 0)],
-        allowed: MANY,
-        answer: Some(SurveyFault::BackPointer(417, 382, 381)),
-    },
-    Case {
-        name: "header and check word are no main data",
-        file: &[PROTECTED, PROTECTED_AND_10_BACK],
-        allowed: MANY,
-        answer: Some(SurveyFault::BackPointer(24, 10, 9)),
-    },
-    Case {
-        name: "the area of a head is main data",
-        file: &[HEAD, Stretch::Frame(381, 8)],
-        allowed: MANY,
-        answer: None,
-    },
-    Case {
-        name: "the class of a lost frame",
-        file: &[SHORT, Stretch::Frame(382, 8)],
-        allowed: MANY,
-        answer: Some(SurveyFault::Mixed(24)),
-    },
-    Case {
-        name: "the area of a protected head, whose check word may be wrong",
-        file: &[
-            PROTECTED_HEAD_FRONT,
-            PROTECTED_HEAD_REST,
-            Stretch::Frame(379, 8),
-        ],
-        allowed: MANY,
-        answer: None,
-    },
-    Case {
-        name: "behind a lost frame main data are judged",
-        file: &[SHORT_OF_FOUR, SHORT_LOUD, SHORT_OF_FOUR],
-        allowed: MANY,
-        answer: Some(SurveyFault::BackPointer(48, 33, 22)),
-    },
-    Case {
-        name: "a head alone",
-        file: &[HEAD],
-        allowed: 0,
-        answer: Some(SurveyFault::NoFrame(417)),
-    },
-    Case {
-        name: "a head alone, with zero bytes behind it",
-        file: &[HEAD, Stretch::Fill(0, 3)],
-        allowed: 0,
-        answer: Some(SurveyFault::NoFrame(420)),
-    },
-];
+static BEGINS: [Case; 11] = table! {
+    Case { name, file, allowed, answer }
+    ("main data one behind the other", TWO_FRAMES, MANY, None)
+    ("a lost frame counts", &[Stretch::Frame(10, 0), Z], 1, Some(SurveyFault::TooManyFrames(417)))
+    ("main data that begin with the first area", &[Z, Stretch::Frame(381, 8)], MANY, None)
+    ("a silent frame that points too far behind main data", &[Stretch::Frame(0, 8), Stretch::Frame(382, 0)],
+        MANY, Some(SurveyFault::BackPointer(417, 382, 381)))
+    ("header and check word are no main data", &[PROTECTED, PROTECTED_AND_10_BACK], MANY,
+        Some(SurveyFault::BackPointer(24, 10, 9)))
+    ("the area of a head is main data", &[HEAD, Stretch::Frame(381, 8)], MANY, None)
+    ("the class of a lost frame", &[SHORT, Stretch::Frame(382, 8)], MANY, Some(SurveyFault::Mixed(24)))
+    ("the area of a protected head, whose check word may be wrong",
+        &[PROTECTED_HEAD_FRONT, PROTECTED_HEAD_REST, Stretch::Frame(379, 8)], MANY, None)
+    ("behind a lost frame main data are judged", &[SHORT_OF_FOUR, SHORT_LOUD, SHORT_OF_FOUR], MANY,
+        Some(SurveyFault::BackPointer(48, 33, 22)))
+    ("a head alone", &[HEAD], 0, Some(SurveyFault::NoFrame(417)))
+    ("a head alone, with zero bytes behind it", &[HEAD, Fill(0, 3)], 0,
+        Some(SurveyFault::NoFrame(420)))
+};
 
 /// Where main data may begin and end.
-static ENDS: [Case; 19] = [
-    Case {
-        name: "main data that begin one byte before those before end",
-        file: &[FRONT_0, Stretch::Fill(0x55, 381), Stretch::Frame(82, 3200)],
-        allowed: MANY,
-        answer: Some(SurveyFault::Overlap(417)),
-    },
-    Case {
-        name: "a silent frame is judged",
-        file: &[Stretch::Frame(0, 3048), Stretch::Frame(1, 0)],
-        allowed: MANY,
-        answer: Some(SurveyFault::Overlap(417)),
-    },
-    Case {
-        name: "a silent frame moves no end",
-        file: &[Stretch::Frame(0, 2400), Z, Stretch::Frame(462, 8)],
-        allowed: MANY,
-        answer: None,
-    },
-    Case {
-        name: "nor hides one",
-        file: &[Stretch::Frame(0, 2400), Z, Stretch::Frame(463, 8)],
-        allowed: MANY,
-        answer: Some(SurveyFault::Overlap(834)),
-    },
-    Case {
-        name: "bits that fill no byte end a byte",
-        file: &[Stretch::Frame(0, 2401), Stretch::Frame(81, 8)],
-        allowed: MANY,
-        answer: Some(SurveyFault::Overlap(417)),
-    },
-    Case {
-        name: "an area filled",
-        file: &[Stretch::Frame(0, 3048)],
-        allowed: MANY,
-        answer: None,
-    },
-    Case {
-        name: "one bit more",
-        file: &[FRONT_OF_3049, Stretch::Fill(0x55, 381)],
-        allowed: MANY,
-        answer: Some(SurveyFault::Overrun(0, 3049, 3048)),
-    },
-    Case {
-        name: "the room before the own area is filled",
-        file: &[Z, Stretch::Frame(19, 3200)],
-        allowed: MANY,
-        answer: None,
-    },
-    Case {
-        name: "one byte less of it",
-        file: &[Z, Stretch::Frame(18, 3200)],
-        allowed: MANY,
-        answer: Some(SurveyFault::Overrun(417, 3200, 3192)),
-    },
-    Case {
-        name: "one channel, MPEG-2: four areas filled",
-        file: &[SHORT, SHORT, SHORT, SHORT_OF_FOUR],
-        allowed: MANY,
-        answer: None,
-    },
-    Case {
-        name: "the same with an area less",
-        file: &[SHORT_LOUD, SHORT, SHORT_OF_FOUR],
-        allowed: MANY,
-        answer: Some(SurveyFault::BackPointer(48, 33, 22)),
-    },
-    Case {
-        name: "two areas without their check words, filled",
-        file: &[PROTECTED_SILENT, PROTECTED_OF_144],
-        allowed: MANY,
-        answer: None,
-    },
-    Case {
-        name: "two granules of one channel that fill the area",
-        file: &[MONO_OF_600, Stretch::Fill(0x55, 75)],
-        allowed: MANY,
-        answer: None,
-    },
-    Case {
-        name: "one bit more in the second",
-        file: &[MONO_OF_601, Stretch::Fill(0x55, 75)],
-        allowed: MANY,
-        answer: Some(SurveyFault::Overrun(0, 601, 600)),
-    },
-    Case {
-        name: "two channels of one granule that fill the area",
-        file: &[LOWER_OF_24],
-        allowed: MANY,
-        answer: None,
-    },
-    Case {
-        name: "one bit more in the second",
-        file: &[LOWER_OF_25],
-        allowed: MANY,
-        answer: Some(SurveyFault::Overrun(0, 25, 24)),
-    },
-    Case {
-        name: "MPEG-2.5: an area filled",
-        file: &[SLOW_OF_280, SLOW_REST],
-        allowed: MANY,
-        answer: None,
-    },
-    Case {
-        name: "one bit more",
-        file: &[SLOW_OF_281, SLOW_REST],
-        allowed: MANY,
-        answer: Some(SurveyFault::Overrun(0, 281, 280)),
-    },
-    Case {
-        name: "MPEG-2.5 behind MPEG-2",
-        file: &[SHORT, SLOW_OF_280, SLOW_REST],
-        allowed: MANY,
-        answer: Some(SurveyFault::Mixed(24)),
-    },
-];
+static ENDS: [Case; 19] = table! {
+    Case { name, file, allowed, answer }
+    ("main data that begin one byte before those before end",
+        &[FRONT_0, Fill(0x55, 381), Stretch::Frame(82, 3200)], MANY, Some(SurveyFault::Overlap(417)))
+    ("a silent frame is judged", &[Stretch::Frame(0, 3048), Stretch::Frame(1, 0)], MANY,
+        Some(SurveyFault::Overlap(417)))
+    ("a silent frame moves no end", &[Stretch::Frame(0, 2400), Z, Stretch::Frame(462, 8)], MANY, None)
+    ("nor hides one", &[Stretch::Frame(0, 2400), Z, Stretch::Frame(463, 8)], MANY,
+        Some(SurveyFault::Overlap(834)))
+    ("bits that fill no byte end a byte", &[Stretch::Frame(0, 2401), Stretch::Frame(81, 8)], MANY,
+        Some(SurveyFault::Overlap(417)))
+    ("an area filled", &[Stretch::Frame(0, 3048)], MANY, None)
+    ("one bit more", &[FRONT_OF_3049, Fill(0x55, 381)], MANY,
+        Some(SurveyFault::Overrun(0, 3049, 3048)))
+    ("the room before the own area is filled", &[Z, Stretch::Frame(19, 3200)], MANY, None)
+    ("one byte less of it", &[Z, Stretch::Frame(18, 3200)], MANY, Some(SurveyFault::Overrun(417, 3200, 3192)))
+    ("one channel, MPEG-2: four areas filled", &[SHORT, SHORT, SHORT, SHORT_OF_FOUR], MANY, None)
+    ("the same with an area less", &[SHORT_LOUD, SHORT, SHORT_OF_FOUR], MANY,
+        Some(SurveyFault::BackPointer(48, 33, 22)))
+    ("two areas without their check words, filled", &[PROTECTED_SILENT, PROTECTED_OF_144], MANY, None)
+    ("two granules of one channel that fill the area", &[MONO_OF_600, Fill(0x55, 75)], MANY, None)
+    ("one bit more in the second", &[MONO_OF_601, Fill(0x55, 75)], MANY,
+        Some(SurveyFault::Overrun(0, 601, 600)))
+    ("two channels of one granule that fill the area", &[LOWER_OF_24], MANY, None)
+    ("one bit more in the second", &[LOWER_OF_25], MANY, Some(SurveyFault::Overrun(0, 25, 24)))
+    ("MPEG-2.5: an area filled", &[SLOW_OF_280, SLOW_REST], MANY, None)
+    ("one bit more", &[SLOW_OF_281, SLOW_REST], MANY, Some(SurveyFault::Overrun(0, 281, 280)))
+    ("MPEG-2.5 behind MPEG-2", &[SHORT, SLOW_OF_280, SLOW_REST], MANY, Some(SurveyFault::Mixed(24)))
+};
 
 /// Check words, classes, and how many frames there may be.
-static FRAMES: [Case; 9] = [
-    Case {
-        name: "a wrong check word",
-        file: &[PROTECTED, WRONG],
-        allowed: MANY,
-        answer: Some(SurveyFault::CheckWord(24, 0xe953, 0xe952)),
-    },
-    Case {
-        name: "73 bits in 9 bytes",
-        file: &[PROTECTED_OF_73],
-        allowed: MANY,
-        answer: Some(SurveyFault::Overrun(0, 73, 72)),
-    },
-    Case {
-        name: "a second class in the middle",
-        file: &[Z, OTHER_CLASS, Stretch::Fill(0, 380), Z],
-        allowed: MANY,
-        answer: Some(SurveyFault::Mixed(417)),
-    },
-    Case {
-        name: "a class other than the head's",
-        file: &[
-            HEAD,
-            OTHER_CLASS,
-            Stretch::Fill(0, 380),
-            OTHER_CLASS,
-            Stretch::Fill(0, 380),
-        ],
-        allowed: MANY,
-        answer: Some(SurveyFault::Mixed(417)),
-    },
-    Case {
-        name: "two frames of none",
-        file: &[Z, Z],
-        allowed: 0,
-        answer: Some(SurveyFault::TooManyFrames(0)),
-    },
-    Case {
-        name: "two frames of one",
-        file: &[Z, Z],
-        allowed: 1,
-        answer: Some(SurveyFault::TooManyFrames(417)),
-    },
-    Case {
-        name: "two frames of two",
-        file: &[Z, Z],
-        allowed: 2,
-        answer: None,
-    },
-    Case {
-        name: "a head is no frame",
-        file: &[HEAD, Z],
-        allowed: 1,
-        answer: None,
-    },
-    Case {
-        name: "a frame behind a head",
-        file: &[HEAD, Z],
-        allowed: 0,
-        answer: Some(SurveyFault::TooManyFrames(417)),
-    },
-];
+static FRAMES: [Case; 9] = table! {
+    Case { name, file, allowed, answer }
+    ("a wrong check word", &[PROTECTED, WRONG], MANY, Some(SurveyFault::CheckWord(24, 0xe953, 0xe952)))
+    ("73 bits in 9 bytes", &[PROTECTED_OF_73], MANY, Some(SurveyFault::Overrun(0, 73, 72)))
+    ("a second class in the middle", &[Z, OTHER_CLASS, Fill(0, 380), Z], MANY,
+        Some(SurveyFault::Mixed(417)))
+    ("a class other than the head's",
+        &[HEAD, OTHER_CLASS, Fill(0, 380), OTHER_CLASS, Fill(0, 380)], MANY,
+        Some(SurveyFault::Mixed(417)))
+    ("two frames of none", &[Z, Z], 0, Some(SurveyFault::TooManyFrames(0)))
+    ("two frames of one", &[Z, Z], 1, Some(SurveyFault::TooManyFrames(417)))
+    ("two frames of two", &[Z, Z], 2, None)
+    ("a head is no frame", &[HEAD, Z], 1, None)
+    ("a frame behind a head", &[HEAD, Z], 0, Some(SurveyFault::TooManyFrames(417)))
+};
 
 /// Files of several faults.
-static ORDERS: [Case; 10] = [
-    Case {
-        name: "Truncated before Mixed",
-        file: &[Z, OTHER_CLASS, Stretch::Fill(0, 379)],
-        allowed: MANY,
-        answer: Some(SurveyFault::Truncated(417)),
-    },
-    Case {
-        name: "Mixed before CheckWord",
-        file: &[Z, WRONG_AND_BACK],
-        allowed: MANY,
-        answer: Some(SurveyFault::Mixed(417)),
-    },
-    Case {
-        name: "the check word of a lost frame",
-        file: &[WRONG_AND_BACK],
-        allowed: MANY,
-        answer: Some(SurveyFault::CheckWord(0, 0xe952, 0x6f31)),
-    },
-    Case {
-        name: "BackPointer before Overlap",
-        file: &[Stretch::Frame(0, 8), Stretch::Frame(382, 8)],
-        allowed: MANY,
-        answer: Some(SurveyFault::BackPointer(417, 382, 381)),
-    },
-    Case {
-        name: "BackPointer before Overrun",
-        file: &[SHORT_LOUD, SHORT_TOO_LONG],
-        allowed: MANY,
-        answer: Some(SurveyFault::BackPointer(24, 12, 11)),
-    },
-    Case {
-        name: "Overlap before Overrun",
-        file: &[Stretch::Frame(0, 3048), Stretch::Frame(1, 4000)],
-        allowed: MANY,
-        answer: Some(SurveyFault::Overlap(417)),
-    },
-    Case {
-        name: "Overrun before TooManyFrames",
-        file: &[Z, Stretch::Frame(0, 3049)],
-        allowed: 1,
-        answer: Some(SurveyFault::Overrun(417, 3049, 3048)),
-    },
-    Case {
-        name: "a frame before what stops the walk",
-        file: &[Z, Stretch::Frame(0, 3049), Stretch::Bytes(b"\0A")],
-        allowed: MANY,
-        answer: Some(SurveyFault::Overrun(417, 3049, 3048)),
-    },
-    Case {
-        name: "a later frame that is worse",
-        file: &[
-            Z,
-            Stretch::Frame(0, 3049),
-            OTHER_CLASS,
-            Stretch::Fill(0, 380),
-        ],
-        allowed: MANY,
-        answer: Some(SurveyFault::Overrun(417, 3049, 3048)),
-    },
-    Case {
-        name: "too many frames before a later fault",
-        file: &[Z, Z, OTHER_CLASS, Stretch::Fill(0, 380)],
-        allowed: 1,
-        answer: Some(SurveyFault::TooManyFrames(417)),
-    },
-];
+static ORDERS: [Case; 10] = table! {
+    Case { name, file, allowed, answer }
+    ("Truncated before Mixed", &[Z, OTHER_CLASS, Fill(0, 379)], MANY,
+        Some(SurveyFault::Truncated(417)))
+    ("Mixed before CheckWord", &[Z, WRONG_AND_BACK], MANY, Some(SurveyFault::Mixed(417)))
+    ("the check word of a lost frame", &[WRONG_AND_BACK], MANY,
+        Some(SurveyFault::CheckWord(0, 0xe952, 0x6f31)))
+    ("BackPointer before Overlap", &[Stretch::Frame(0, 8), Stretch::Frame(382, 8)], MANY,
+        Some(SurveyFault::BackPointer(417, 382, 381)))
+    ("BackPointer before Overrun", &[SHORT_LOUD, SHORT_TOO_LONG], MANY,
+        Some(SurveyFault::BackPointer(24, 12, 11)))
+    ("Overlap before Overrun", &[Stretch::Frame(0, 3048), Stretch::Frame(1, 4000)], MANY,
+        Some(SurveyFault::Overlap(417)))
+    ("Overrun before TooManyFrames", &[Z, Stretch::Frame(0, 3049)], 1,
+        Some(SurveyFault::Overrun(417, 3049, 3048)))
+    ("a frame before what stops the walk", &[Z, Stretch::Frame(0, 3049), Bytes(b"\0A")], MANY,
+        Some(SurveyFault::Overrun(417, 3049, 3048)))
+    ("a later frame that is worse", &[Z, Stretch::Frame(0, 3049), OTHER_CLASS, Fill(0, 380)], MANY,
+        Some(SurveyFault::Overrun(417, 3049, 3048)))
+    ("too many frames before a later fault", &[Z, Z, OTHER_CLASS, Fill(0, 380)], 1,
+        Some(SurveyFault::TooManyFrames(417)))
+};
 
 /// Asserts that both the plain reading and the survey find this first fault, or none.
 fn expect<R: Abort + AllocGlobal>(
@@ -527,52 +294,20 @@ struct Cut {
     answer: Option<SurveyFault>,
 }
 
-static CUTS: [Cut; 11] = [
-    Cut {
-        length: 0,
-        answer: Some(SurveyFault::NoFrame(0)),
-    },
-    Cut {
-        length: 3,
-        answer: Some(SurveyFault::NoFrame(0)),
-    },
-    Cut {
-        length: 4,
-        answer: Some(SurveyFault::Truncated(0)),
-    },
-    Cut {
-        length: 416,
-        answer: Some(SurveyFault::Truncated(0)),
-    },
-    Cut {
-        length: 417,
-        answer: None,
-    },
-    Cut {
-        length: 418,
-        answer: Some(SurveyFault::LostSync(417)),
-    },
-    Cut {
-        length: 420,
-        answer: Some(SurveyFault::LostSync(417)),
-    },
-    Cut {
-        length: 421,
-        answer: Some(SurveyFault::Truncated(417)),
-    },
-    Cut {
-        length: 500,
-        answer: Some(SurveyFault::Truncated(417)),
-    },
-    Cut {
-        length: 833,
-        answer: Some(SurveyFault::Truncated(417)),
-    },
-    Cut {
-        length: 834,
-        answer: None,
-    },
-];
+static CUTS: [Cut; 11] = table! {
+    Cut { length, answer }
+    (0, Some(SurveyFault::NoFrame(0)))
+    (3, Some(SurveyFault::NoFrame(0)))
+    (4, Some(SurveyFault::Truncated(0)))
+    (416, Some(SurveyFault::Truncated(0)))
+    (417, None)
+    (418, Some(SurveyFault::LostSync(417)))
+    (420, Some(SurveyFault::LostSync(417)))
+    (421, Some(SurveyFault::Truncated(417)))
+    (500, Some(SurveyFault::Truncated(417)))
+    (833, Some(SurveyFault::Truncated(417)))
+    (834, None)
+};
 
 #[test]
 fn files_cut_short(rt: HostRuntime) -> Result<(), Fail> {
@@ -592,124 +327,33 @@ struct Change {
     answer: Option<SurveyFault>,
 }
 
-static CHANGES: [Change; 23] = [
-    Change {
-        at: 417,
-        value: 0x00,
-        answer: Some(SurveyFault::LostSync(418)),
-    },
-    Change {
-        at: 417,
-        value: 0xfe,
-        answer: Some(SurveyFault::LostSync(417)),
-    },
-    Change {
-        at: 418,
-        value: 0xfa,
-        answer: Some(SurveyFault::CheckWord(417, 0x2880, 0x2ede)),
-    },
-    Change {
-        at: 418,
-        value: 0xf2,
-        answer: Some(SurveyFault::Mixed(417)),
-    },
-    Change {
-        at: 418,
-        value: 0xf3,
-        answer: Some(SurveyFault::Mixed(417)),
-    },
+static CHANGES: [Change; 23] = table! {
+    Change { at, value, answer }
+    (417, 0x00, Some(SurveyFault::LostSync(418)))
+    (417, 0xfe, Some(SurveyFault::LostSync(417)))
+    (418, 0xfa, Some(SurveyFault::CheckWord(417, 0x2880, 0x2ede)))
+    (418, 0xf2, Some(SurveyFault::Mixed(417)))
+    (418, 0xf3, Some(SurveyFault::Mixed(417)))
     // MPEG-2.5, in which the frame would have 522 bytes.
-    Change {
-        at: 418,
-        value: 0xe2,
-        answer: Some(SurveyFault::Truncated(417)),
-    },
-    Change {
-        at: 418,
-        value: 0xe3,
-        answer: Some(SurveyFault::Truncated(417)),
-    },
-    Change {
-        at: 418,
-        value: 0xfd,
-        answer: Some(SurveyFault::LostSync(417)),
-    },
-    Change {
-        at: 419,
-        value: 0xf0,
-        answer: Some(SurveyFault::LostSync(417)),
-    },
-    Change {
-        at: 419,
-        value: 0x9c,
-        answer: Some(SurveyFault::LostSync(417)),
-    },
-    Change {
-        at: 419,
-        value: 0x00,
-        answer: Some(SurveyFault::FreeFormat(417)),
-    },
-    Change {
-        at: 419,
-        value: 0x08,
-        answer: Some(SurveyFault::FreeFormat(417)),
-    },
-    Change {
-        at: 419,
-        value: 0x92,
-        answer: Some(SurveyFault::Truncated(417)),
-    },
-    Change {
-        at: 419,
-        value: 0xa4,
-        answer: Some(SurveyFault::Truncated(417)),
-    },
-    Change {
-        at: 419,
-        value: 0x94,
-        answer: Some(SurveyFault::Mixed(417)),
-    },
-    Change {
-        at: 419,
-        value: 0x18,
-        answer: Some(SurveyFault::Mixed(417)),
-    },
-    Change {
-        at: 419,
-        value: 0x10,
-        answer: Some(SurveyFault::Overrun(417, 3200, 1192)),
-    },
-    Change {
-        at: 419,
-        value: 0x72,
-        answer: Some(SurveyFault::Overrun(417, 3200, 2872)),
-    },
-    Change {
-        at: 419,
-        value: 0x80,
-        answer: None,
-    },
-    Change {
-        at: 419,
-        value: 0x91,
-        answer: None,
-    },
-    Change {
-        at: 420,
-        value: 0xc0,
-        answer: Some(SurveyFault::Mixed(417)),
-    },
-    Change {
-        at: 420,
-        value: 0xff,
-        answer: Some(SurveyFault::Mixed(417)),
-    },
-    Change {
-        at: 420,
-        value: 0xbf,
-        answer: None,
-    },
-];
+    (418, 0xe2, Some(SurveyFault::Truncated(417)))
+    (418, 0xe3, Some(SurveyFault::Truncated(417)))
+    (418, 0xfd, Some(SurveyFault::LostSync(417)))
+    (419, 0xf0, Some(SurveyFault::LostSync(417)))
+    (419, 0x9c, Some(SurveyFault::LostSync(417)))
+    (419, 0x00, Some(SurveyFault::FreeFormat(417)))
+    (419, 0x08, Some(SurveyFault::FreeFormat(417)))
+    (419, 0x92, Some(SurveyFault::Truncated(417)))
+    (419, 0xa4, Some(SurveyFault::Truncated(417)))
+    (419, 0x94, Some(SurveyFault::Mixed(417)))
+    (419, 0x18, Some(SurveyFault::Mixed(417)))
+    (419, 0x10, Some(SurveyFault::Overrun(417, 3200, 1192)))
+    (419, 0x72, Some(SurveyFault::Overrun(417, 3200, 2872)))
+    (419, 0x80, None)
+    (419, 0x91, None)
+    (420, 0xc0, Some(SurveyFault::Mixed(417)))
+    (420, 0xff, Some(SurveyFault::Mixed(417)))
+    (420, 0xbf, None)
+};
 
 #[test]
 fn changed_headers(rt: HostRuntime) -> Result<(), Fail> {

@@ -5,6 +5,7 @@ use crate::stretches::Z;
 use std::test::Fail;
 use sync_survey::{Piece, SurveyFault};
 use tag_blocks::{Block, Kind};
+use test_files::files::Stretch::{Bytes, Fill};
 use test_files::files::{Stretch, bytes_of};
 
 /// ID3v2 with 100,000 bytes behind its header: 6 * 16,384 + 13 * 128 + 32.
@@ -31,11 +32,11 @@ fn a_block_longer_than_the_buffer(rt: HostRuntime) -> Result<(), Fail> {
     let file = bytes_of(
         rt.alloc(),
         &[
-            Stretch::Bytes(LONG_ID3V2),
-            Stretch::Fill(0x11, 100_000),
+            Bytes(LONG_ID3V2),
+            Fill(0x11, 100_000),
             Z,
-            Stretch::Bytes(LONG_ID3V2),
-            Stretch::Fill(0xff, 100_000),
+            Bytes(LONG_ID3V2),
+            Fill(0xff, 100_000),
             Z,
         ],
     )?;
@@ -52,10 +53,7 @@ fn a_block_longer_than_the_buffer(rt: HostRuntime) -> Result<(), Fail> {
 
 #[test]
 fn zero_bytes_over_several_buffers(rt: HostRuntime) -> Result<(), Fail> {
-    let file = bytes_of(
-        rt.alloc(),
-        &[Stretch::Fill(0, 200_000), Z, Stretch::Fill(0, 150_000), Z],
-    )?;
+    let file = bytes_of(rt.alloc(), &[Fill(0, 200_000), Z, Fill(0, 150_000), Z])?;
     let answer = Ok(Shape {
         front_end: 200_000,
         first: 200_000,
@@ -73,12 +71,7 @@ fn a_frame_across_the_end_of_the_buffer(rt: HostRuntime) -> Result<(), Fail> {
     for offset in 65_490..65_540 {
         let file = bytes_of(
             rt.alloc(),
-            &[
-                Stretch::Fill(0, offset - 417),
-                Z,
-                Stretch::Frame(0, 3049),
-                Z,
-            ],
+            &[Fill(0, offset - 417), Z, Stretch::Frame(0, 3049), Z],
         )?;
         let answer = Err(SurveyFault::Overrun(offset as u64, 3049, 3048));
         expect(&rt, "a frame across the end", &file, &answer)?;

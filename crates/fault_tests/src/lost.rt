@@ -7,10 +7,12 @@ use std::alloc::AllocGlobal;
 use std::process::Abort;
 use std::test::Fail;
 use sync_survey::Survey;
+use test_files::files::Stretch::Bytes;
 use test_files::files::{Stretch, bytes_of};
+use test_files::table;
 
 /// As `SHORT` with main_data_begin 12.
-const SHORT_SILENT_BACK: Stretch = Stretch::Bytes(&[
+const SHORT_SILENT_BACK: Stretch = Bytes(&[
     0xff, 0xf3, 0x14, 0xc0, 0x0c, 0, 0, 0, 0, 0, 0, 0, 0, 0, 0, 0, 0, 0, 0, 0, 0, 0, 0, 0,
 ]);
 
@@ -21,63 +23,23 @@ struct Case {
     lost: &'static [bool],
 }
 
-static CASES: [Case; 11] = [
-    Case {
-        name: "a frame that begins the file",
-        file: &[Stretch::Frame(81, 3200)],
-        lost: &[true],
-    },
-    Case {
-        name: "a silent one",
-        file: &[Stretch::Frame(10, 0)],
-        lost: &[true],
-    },
-    Case {
-        name: "more bits than there is room for",
-        file: &[Stretch::Frame(1, 4000)],
-        lost: &[true],
-    },
-    Case {
-        name: "up to the first area behind a silent frame",
-        file: &[Z, Stretch::Frame(381, 8)],
-        lost: &[false, false],
-    },
-    Case {
-        name: "one byte further",
-        file: &[Z, Stretch::Frame(382, 8)],
-        lost: &[false, true],
-    },
-    Case {
-        name: "up to the area of a head",
-        file: &[HEAD, Stretch::Frame(381, 8)],
-        lost: &[false],
-    },
-    Case {
-        name: "one byte further than a head",
-        file: &[HEAD, Stretch::Frame(382, 8)],
-        lost: &[true],
-    },
-    Case {
-        name: "behind several silent frames",
-        file: &[SHORT, SHORT, SHORT_OF_FOUR],
-        lost: &[false, false, true],
-    },
-    Case {
-        name: "a silent frame that points too far is lost, and the stretch goes on",
-        file: &[SHORT, SHORT_SILENT_BACK, SHORT_OF_FOUR, SHORT_LOUD, SHORT],
-        lost: &[false, true, true, false, false],
-    },
-    Case {
-        name: "a lost frame before one that isn't silent and points into its area",
-        file: &[Stretch::Frame(10, 800), Stretch::Frame(381, 8)],
-        lost: &[true, false],
-    },
-    Case {
-        name: "frames behind a lost one that point no further than the stream",
-        file: &[Stretch::Frame(500, 8), Z, Stretch::Frame(381, 8)],
-        lost: &[true, false, false],
-    },
-];
+static CASES: [Case; 11] = table! {
+    Case { name, file, lost }
+    ("a frame that begins the file", &[Stretch::Frame(81, 3200)], &[true])
+    ("a silent one", &[Stretch::Frame(10, 0)], &[true])
+    ("more bits than there is room for", &[Stretch::Frame(1, 4000)], &[true])
+    ("up to the first area behind a silent frame", &[Z, Stretch::Frame(381, 8)], &[false, false])
+    ("one byte further", &[Z, Stretch::Frame(382, 8)], &[false, true])
+    ("up to the area of a head", &[HEAD, Stretch::Frame(381, 8)], &[false])
+    ("one byte further than a head", &[HEAD, Stretch::Frame(382, 8)], &[true])
+    ("behind several silent frames", &[SHORT, SHORT, SHORT_OF_FOUR], &[false, false, true])
+    ("a silent frame that points too far is lost, and the stretch goes on",
+        &[SHORT, SHORT_SILENT_BACK, SHORT_OF_FOUR, SHORT_LOUD, SHORT], &[false, true, true, false, false])
+    ("a lost frame before one that isn't silent and points into its area",
+        &[Stretch::Frame(10, 800), Stretch::Frame(381, 8)], &[true, false])
+    ("frames behind a lost one that point no further than the stream",
+        &[Stretch::Frame(500, 8), Z, Stretch::Frame(381, 8)], &[true, false, false])
+};
 
 /// Asserts that these frames are lost.
 fn expect_marks<R: Abort>(rt: &R, survey: &Survey, case: &Case) {

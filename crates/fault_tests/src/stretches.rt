@@ -1,34 +1,35 @@
 //! Stretches of files that several tests are made of.
 
 use test_files::files::Stretch;
+use test_files::files::Stretch::{Bytes, Fill, Frames};
 use test_files::frames;
 
 /// The header of a frame of 417 bytes: MPEG-1, 44,100 Hz, 128 kbit/s, stereo, without check word.
-pub const HEADER: Stretch = Stretch::Bytes(&[0xff, 0xfb, 0x90, 0x00]);
+pub const HEADER: Stretch = Bytes(&[0xff, 0xfb, 0x90, 0x00]);
 
 /// What stands behind that header in a silent frame.
-pub const SILENCE: Stretch = Stretch::Fill(0, 413);
+pub const SILENCE: Stretch = Fill(0, 413);
 
 /// A silent frame.
 pub const Z: Stretch = Stretch::Frame(0, 0);
 
 /// A head: a silent frame with its text.
-pub const HEAD: Stretch = Stretch::Frames(&[frames::HEAD]);
+pub const HEAD: Stretch = Frames(&[frames::HEAD]);
 
 /// MPEG-2, 24,000 Hz, 8 kbit/s, one channel: 24 bytes, with an area of 11. Silent.
-pub const SHORT: Stretch = Stretch::Bytes(&[
+pub const SHORT: Stretch = Bytes(&[
     0xff, 0xf3, 0x14, 0xc0, 0, 0, 0, 0, 0, 0, 0, 0, 0, 0, 0, 0, 0, 0, 0, 0, 0, 0, 0, 0,
 ]);
 
 /// The same with 8 bits.
-pub const SHORT_LOUD: Stretch = Stretch::Bytes(&[
+pub const SHORT_LOUD: Stretch = Bytes(&[
     0xff, 0xf3, 0x14, 0xc0, 0, 0, 0x40, 0, 0, 0, 0, 0, 0, 0, 0, 0, 0, 0, 0, 0, 0, 0, 0, 0,
 ]);
 
 /// The same with main_data_begin 33 and 352 bits, which is four areas.
-pub const SHORT_OF_FOUR: Stretch = Stretch::Bytes(&[
+pub const SHORT_OF_FOUR: Stretch = Bytes(&[
     0xff, 0xf3, 0x14, 0xc0, 0x21, 0x0b, 0, 0, 0, 0, 0, 0, 0, 0, 0, 0, 0, 0, 0, 0, 0, 0, 0, 0,
 ]);
 
 /// The header of a frame of 417 bytes' kind at 48,000 Hz, where it has 384.
-pub const OTHER_CLASS: Stretch = Stretch::Bytes(&[0xff, 0xfb, 0x94, 0x00]);
+pub const OTHER_CLASS: Stretch = Bytes(&[0xff, 0xfb, 0x94, 0x00]);

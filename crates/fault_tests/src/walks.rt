@@ -8,7 +8,9 @@ use std::process::Abort;
 use std::test::Fail;
 use sync_survey::{Piece, SurveyFault};
 use tag_blocks::{Block, Kind};
+use test_files::files::Stretch::{Bytes, Fill};
 use test_files::files::{APE, ID3V1, ID3V1_REST, ID3V2, ID3V2_REST, Stretch, bytes_of};
+use test_files::table;
 
 /// A file, and the answer.
 pub struct Case {
@@ -20,218 +22,47 @@ pub struct Case {
 /// Two silent frames.
 const TWO_FRAMES: &[Stretch] = &[Z, Z];
 
-pub static CASES: [Case; 20] = [
-    Case {
-        name: "an empty file",
-        file: &[],
-        answer: Err(SurveyFault::NoFrame(0)),
-    },
-    Case {
-        name: "zero bytes alone",
-        file: &[Stretch::Fill(0, 3)],
-        answer: Err(SurveyFault::NoFrame(3)),
-    },
-    Case {
-        name: "two frames",
-        file: &[Z, Z],
-        answer: Ok(Shape {
-            front_end: 0,
-            first: 0,
-            text_at: None,
-            frames: &[0, 417],
-            blocks: &[],
-        }),
-    },
-    Case {
-        name: "a false frame in junk, which ends at 559 on a zero byte",
-        file: &[
-            ID3V2,
-            ID3V2_REST,
-            Stretch::Fill(0, 2),
-            Stretch::Fill(0x55, 100),
-            HEADER,
-            Stretch::Fill(0x55, 196),
-            Z,
-            Z,
-            APE,
-            ID3V1,
-            ID3V1_REST,
-        ],
-        answer: Ok(Shape {
-            front_end: 42,
-            first: 342,
-            text_at: None,
-            frames: &[342, 759],
-            blocks: &[
-                Piece {
-                    offset: 0,
-                    block: Block {
-                        kind: Kind::Id3v2,
-                        length: 40,
-                    },
-                },
-                Piece {
-                    offset: 1176,
-                    block: Block {
-                        kind: Kind::Ape,
-                        length: 79,
-                    },
-                },
-                Piece {
-                    offset: 1255,
-                    block: Block {
-                        kind: Kind::Id3v1,
-                        length: 128,
-                    },
-                },
-            ],
-        }),
-    },
-    Case {
-        name: "zero bytes between frames, and a block of 40 bytes",
-        file: &[Z, Stretch::Fill(0, 3), Z, ID3V2, ID3V2_REST, Z],
-        answer: Ok(Shape {
-            front_end: 0,
-            first: 0,
-            text_at: None,
-            frames: &[0, 420, 877],
-            blocks: &[Piece {
-                offset: 837,
-                block: Block {
-                    kind: Kind::Id3v2,
-                    length: 40,
-                },
-            }],
-        }),
-    },
-    Case {
-        name: "frames of one channel, MPEG-2",
-        file: &[
-            Stretch::Bytes(&[0xff, 0xf3, 0x14, 0xc0]),
-            Stretch::Fill(0, 20),
-            Stretch::Bytes(&[0xff, 0xf3, 0x14, 0xc0]),
-            Stretch::Fill(0, 20),
-        ],
-        answer: Ok(Shape {
-            front_end: 0,
-            first: 0,
-            text_at: None,
-            frames: &[0, 24],
-            blocks: &[],
-        }),
-    },
-    Case {
-        name: "a byte 41 behind a zero byte",
-        file: &[Z, Z, Stretch::Bytes(&[0x00, 0x41])],
-        answer: Err(SurveyFault::LostSync(835)),
-    },
-    Case {
-        name: "free format in the first frame",
-        file: &[Stretch::Bytes(&[0xff, 0xfb, 0x00, 0x00]), SILENCE, Z],
-        answer: Err(SurveyFault::FreeFormat(0)),
-    },
-    Case {
-        name: "a head alone",
-        file: &[HEAD],
-        answer: Err(SurveyFault::NoFrame(417)),
-    },
-    Case {
-        name: "a head and a frame",
-        file: &[HEAD, Z],
-        answer: Ok(Shape {
-            front_end: 0,
-            first: 0,
-            text_at: Some(36),
-            frames: &[417],
-            blocks: &[],
-        }),
-    },
-    Case {
-        name: "a protected head with its text behind the check word",
-        file: &[
-            Stretch::Bytes(&[0xff, 0xfa, 0x90, 0x00]),
-            Stretch::Fill(0, 34),
-            Stretch::Bytes(b"Xing"),
-            Stretch::Fill(0, 375),
-            Z,
-        ],
-        answer: Ok(Shape {
-            front_end: 0,
-            first: 0,
-            text_at: Some(38),
-            frames: &[417],
-            blocks: &[],
-        }),
-    },
-    Case {
-        name: "the text in the second frame",
-        file: &[Z, HEAD],
-        answer: Ok(Shape {
-            front_end: 0,
-            first: 0,
-            text_at: None,
-            frames: &[0, 417],
-            blocks: &[],
-        }),
-    },
-    Case {
-        name: "a block at the front that passes the end",
-        file: &[Stretch::Fill(0, 2), ID3V2, Stretch::Fill(0x11, 29)],
-        answer: Err(SurveyFault::Truncated(2)),
-    },
-    Case {
-        name: "a block behind a frame that passes the end",
-        file: &[Z, ID3V1, Stretch::Fill(0x20, 124)],
-        answer: Err(SurveyFault::Truncated(417)),
-    },
-    Case {
-        name: "a frame at the front needs no anchor",
-        file: &[Z, Stretch::Fill(0x55, 4)],
-        answer: Err(SurveyFault::LostSync(417)),
-    },
-    Case {
-        name: "a frame in junk that ends on another class, which the file's end anchors",
-        file: &[
-            Stretch::Fill(0x55, 10),
-            Z,
-            OTHER_CLASS,
-            Stretch::Fill(0, 380),
-        ],
-        answer: Ok(Shape {
-            front_end: 0,
-            first: 427,
-            text_at: None,
-            frames: &[427],
-            blocks: &[],
-        }),
-    },
-    Case {
-        name: "an anchor that is the beginning of a block",
-        file: &[Stretch::Fill(0x55, 10), Z, ID3V1],
-        answer: Err(SurveyFault::Truncated(427)),
-    },
-    Case {
-        name: "an anchor that is the beginning of a frame",
-        file: &[Stretch::Fill(0x55, 10), Z, HEADER],
-        answer: Err(SurveyFault::Truncated(427)),
-    },
-    Case {
-        name: "a frame at the last offset behind junk",
-        file: &[Stretch::Fill(0x55, 65_536), Z],
-        answer: Ok(Shape {
-            front_end: 0,
-            first: 65536,
-            text_at: None,
-            frames: &[65536],
-            blocks: &[],
-        }),
-    },
-    Case {
-        name: "a frame one byte later",
-        file: &[Stretch::Fill(0x55, 65_537), Z],
-        answer: Err(SurveyFault::NoFrame(0)),
-    },
-];
+pub static CASES: [Case; 20] = table! {
+    Case { name, file, answer }
+    ("an empty file", &[], Err(SurveyFault::NoFrame(0)))
+    ("zero bytes alone", &[Fill(0, 3)], Err(SurveyFault::NoFrame(3)))
+    ("two frames", &[Z, Z],
+        Ok(Shape { front_end: 0, first: 0, text_at: None, frames: &[0, 417], blocks: &[] }))
+    ("a false frame in junk, which ends at 559 on a zero byte",
+        &[ID3V2, ID3V2_REST, Fill(0, 2), Fill(0x55, 100), HEADER, Fill(0x55, 196), Z, Z, APE, ID3V1, ID3V1_REST],
+        Ok(Shape { front_end: 42, first: 342, text_at: None, frames: &[342, 759], blocks: &[Piece { offset: 0, block: Block { kind: Kind::Id3v2, length: 40 } }, Piece { offset: 1176, block: Block { kind: Kind::Ape, length: 79 } }, Piece { offset: 1255, block: Block { kind: Kind::Id3v1, length: 128 } }] }))
+    ("zero bytes between frames, and a block of 40 bytes", &[Z, Fill(0, 3), Z, ID3V2, ID3V2_REST, Z],
+        Ok(Shape { front_end: 0, first: 0, text_at: None, frames: &[0, 420, 877], blocks: &[Piece { offset: 837, block: Block { kind: Kind::Id3v2, length: 40 } }] }))
+    ("frames of one channel, MPEG-2",
+        &[Bytes(&[0xff, 0xf3, 0x14, 0xc0]), Fill(0, 20), Bytes(&[0xff, 0xf3, 0x14, 0xc0]), Fill(0, 20)],
+        Ok(Shape { front_end: 0, first: 0, text_at: None, frames: &[0, 24], blocks: &[] }))
+    ("a byte 41 behind a zero byte", &[Z, Z, Bytes(&[0x00, 0x41])], Err(SurveyFault::LostSync(835)))
+    ("free format in the first frame", &[Bytes(&[0xff, 0xfb, 0x00, 0x00]), SILENCE, Z],
+        Err(SurveyFault::FreeFormat(0)))
+    ("a head alone", &[HEAD], Err(SurveyFault::NoFrame(417)))
+    ("a head and a frame", &[HEAD, Z],
+        Ok(Shape { front_end: 0, first: 0, text_at: Some(36), frames: &[417], blocks: &[] }))
+    ("a protected head with its text behind the check word",
+        &[Bytes(&[0xff, 0xfa, 0x90, 0x00]), Fill(0, 34), Bytes(b"Xing"), Fill(0, 375), Z],
+        Ok(Shape { front_end: 0, first: 0, text_at: Some(38), frames: &[417], blocks: &[] }))
+    ("the text in the second frame", &[Z, HEAD],
+        Ok(Shape { front_end: 0, first: 0, text_at: None, frames: &[0, 417], blocks: &[] }))
+    ("a block at the front that passes the end", &[Fill(0, 2), ID3V2, Fill(0x11, 29)],
+        Err(SurveyFault::Truncated(2)))
+    ("a block behind a frame that passes the end", &[Z, ID3V1, Fill(0x20, 124)],
+        Err(SurveyFault::Truncated(417)))
+    ("a frame at the front needs no anchor", &[Z, Fill(0x55, 4)], Err(SurveyFault::LostSync(417)))
+    ("a frame in junk that ends on another class, which the file's end anchors",
+        &[Fill(0x55, 10), Z, OTHER_CLASS, Fill(0, 380)],
+        Ok(Shape { front_end: 0, first: 427, text_at: None, frames: &[427], blocks: &[] }))
+    ("an anchor that is the beginning of a block", &[Fill(0x55, 10), Z, ID3V1],
+        Err(SurveyFault::Truncated(427)))
+    ("an anchor that is the beginning of a frame", &[Fill(0x55, 10), Z, HEADER],
+        Err(SurveyFault::Truncated(427)))
+    ("a frame at the last offset behind junk", &[Fill(0x55, 65_536), Z],
+        Ok(Shape { front_end: 0, first: 65536, text_at: None, frames: &[65536], blocks: &[] }))
+    ("a frame one byte later", &[Fill(0x55, 65_537), Z], Err(SurveyFault::NoFrame(0)))
+};
 
 #[test]
 fn files(rt: HostRuntime) -> Result<(), Fail> {

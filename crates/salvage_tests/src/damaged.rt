@@ -6,7 +6,9 @@ use std::alloc::{AllocError, Global};
 use std::process::Abort;
 use std::test::Fail;
 use sync_survey::{Head, Piece, Row, SurveyFault};
+use test_files::files::Stretch::{Bytes, Fill, Frames};
 use test_files::files::{APE, ID3V1, ID3V1_REST, ID3V2, ID3V2_REST, Stretch, bytes_of};
+use test_files::frame;
 use test_files::frames::{Frame, HEAD, OVERFULL, PROTECTED_G, PROTECTED_HEAD, PROTECTED_Z, Z};
 
 /// A damaged file, and what is read of it.
@@ -28,11 +30,7 @@ const SECOND: Stretch = Stretch::Frame(81, 3200);
 
 /// The first frame's third byte is 00, so that its main data are lost to the second.
 static NO_FIRST: Case = Case {
-    file: &[
-        Stretch::Bytes(&[0xff, 0xfb, 0x00, 0x00]),
-        Stretch::Fill(0, 413),
-        SECOND,
-    ],
+    file: &[Bytes(&[0xff, 0xfb, 0x00, 0x00]), Fill(0, 413), SECOND],
     frames: &[(417, true)],
     gaps: &[Gap {
         offset: 0,
@@ -44,11 +42,7 @@ static NO_FIRST: Case = Case {
 
 /// The second frame has one byte less.
 static TRUNCATED: Case = Case {
-    file: &[
-        FIRST,
-        Stretch::Bytes(&[0xff, 0xfb, 0x90, 0x00]),
-        Stretch::Fill(0, 412),
-    ],
+    file: &[FIRST, Bytes(&[0xff, 0xfb, 0x90, 0x00]), Fill(0, 412)],
     frames: &[(0, false)],
     gaps: &[Gap {
         offset: 417,
@@ -60,12 +54,7 @@ static TRUNCATED: Case = Case {
 
 /// Junk at the end, in which neither a frame nor a block begins.
 static GAP_AT_END: Case = Case {
-    file: &[
-        FIRST,
-        SECOND,
-        Stretch::Fill(0, 7),
-        Stretch::Fill(0x55, 70_000),
-    ],
+    file: &[FIRST, SECOND, Fill(0, 7), Fill(0x55, 70_000)],
     frames: &[(0, false), (417, false)],
     gaps: &[Gap {
         offset: 841,
@@ -79,10 +68,10 @@ static GAP_AT_END: Case = Case {
 static BETWEEN: Case = Case {
     file: &[
         FIRST,
-        Stretch::Fill(0x55, 100),
+        Fill(0x55, 100),
         SECOND,
         APE,
-        Stretch::Fill(0x55, 5),
+        Fill(0x55, 5),
         FIRST,
         SECOND,
     ],
@@ -105,7 +94,7 @@ static BETWEEN: Case = Case {
 static BLOCK_IN_GAP: Case = Case {
     file: &[
         FIRST,
-        Stretch::Fill(0x55, 3),
+        Fill(0x55, 3),
         ID3V2,
         ID3V2_REST,
         FIRST,
@@ -124,7 +113,7 @@ static BLOCK_IN_GAP: Case = Case {
 
 /// A protected frame whose check word is wrong.
 static WRONG_WORD: Case = Case {
-    file: &[Stretch::Frames(&[
+    file: &[Frames(&[
         PROTECTED_Z,
         PROTECTED_G,
         Frame {
@@ -148,8 +137,8 @@ static HEADS: Case = Case {
     file: &[
         ID3V2,
         ID3V2_REST,
-        Stretch::Fill(0x55, 9),
-        Stretch::Frames(&[PROTECTED_HEAD, HEAD, Z]),
+        Fill(0x55, 9),
+        Frames(&[PROTECTED_HEAD, HEAD, Z]),
     ],
     frames: &[(466, false), (883, false)],
     gaps: &[Gap {
@@ -167,7 +156,7 @@ static UNSOUND: Case = Case {
         FIRST,
         Stretch::Frame(82, 3200),
         Stretch::Frame(462, 3200),
-        Stretch::Frames(&[OVERFULL, Z]),
+        Frames(&[OVERFULL, Z]),
     ],
     frames: &[
         (0, false),
@@ -182,25 +171,17 @@ static UNSOUND: Case = Case {
 };
 
 /// MPEG-2, 24,000 Hz, 8 kbit/s, mono: 11 bytes of main data, and main_data_begin is 0, or 11.
-const SHORT: Frame = Frame {
-    header: [0xff, 0xf3, 0x14, 0xc0],
-    word: None,
-    side: &[],
-    area: &[],
-    length: 24,
-};
+const SHORT: Frame =
+    frame! { header: [0xff, 0xf3, 0x14, 0xc0], word: None, side: &[], area: &[], length: 24 };
 
-const SHORT_BACK: Frame = Frame {
-    side: &[11],
-    ..SHORT
-};
+const SHORT_BACK: Frame = frame! { side: &[11], ..SHORT };
 
 /// A frame of MPEG-1 between them isn't one of the stream's.
 static MPEG_2: Case = Case {
     file: &[
-        Stretch::Frames(&[SHORT, SHORT_BACK]),
-        Stretch::Fill(0x55, 3),
-        Stretch::Frames(&[SHORT_BACK, SHORT_BACK, Z, SHORT]),
+        Frames(&[SHORT, SHORT_BACK]),
+        Fill(0x55, 3),
+        Frames(&[SHORT_BACK, SHORT_BACK, Z, SHORT]),
     ],
     frames: &[
         (0, false),
@@ -224,22 +205,14 @@ static MPEG_2: Case = Case {
 };
 
 /// MPEG-2.5, 8,000 Hz, 8 kbit/s, mono, without a check word and with the right one.
-const SLOW: Frame = Frame {
-    header: [0xff, 0xe3, 0x18, 0xc0],
-    word: None,
-    side: &[],
-    area: &[],
-    length: 72,
-};
+const SLOW: Frame =
+    frame! { header: [0xff, 0xe3, 0x18, 0xc0], word: None, side: &[], area: &[], length: 72 };
 
-const SLOW_PROTECTED: Frame = Frame {
-    header: [0xff, 0xe2, 0x18, 0xc0],
-    word: Some(0x11d2),
-    ..SLOW
-};
+const SLOW_PROTECTED: Frame =
+    frame! { header: [0xff, 0xe2, 0x18, 0xc0], word: Some(0x11d2), ..SLOW };
 
 static MPEG_2_5: Case = Case {
-    file: &[Stretch::Frames(&[
+    file: &[Frames(&[
         SLOW,
         SLOW_PROTECTED,
         Frame {
@@ -260,23 +233,10 @@ static MPEG_2_5: Case = Case {
 /// Files of which nothing is read, and where the blocks and zero bytes at their front end.
 static NOTHING: [(&[Stretch], u64); 4] = [
     (&[], 0),
-    (&[Stretch::Fill(0x55, 70_000)], 0),
+    (&[Fill(0x55, 70_000)], 0),
+    (&[ID3V2, ID3V2_REST, Fill(0, 2), Frames(&[HEAD])], 42),
     (
-        &[
-            ID3V2,
-            ID3V2_REST,
-            Stretch::Fill(0, 2),
-            Stretch::Frames(&[HEAD]),
-        ],
-        42,
-    ),
-    (
-        &[
-            ID3V2,
-            ID3V2_REST,
-            Stretch::Frames(&[HEAD]),
-            Stretch::Fill(0x55, 70_000),
-        ],
+        &[ID3V2, ID3V2_REST, Frames(&[HEAD]), Fill(0x55, 70_000)],
         40,
     ),
 ];

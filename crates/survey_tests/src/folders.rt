@@ -8,46 +8,23 @@ use std::process::Abort;
 use std::test::Fail;
 use sync_survey::{Head, Piece, Row, Survey, SurveyFault, survey};
 use tag_blocks::{Block, Kind};
-use test_files::files::{APE, ID3V1, ID3V1_REST, ID3V2, ID3V2_REST, Stretch, bytes_of};
+use test_files::files::Stretch::{Fill, Frames};
+use test_files::files::{APE, ID3V1_BLOCK, ID3V2_BLOCK, Stretch, bytes_of};
 use test_files::frames::{HEAD, Z};
+use test_files::{end_to_end, table};
 
 /// ID3v2, 2 zero bytes, 300 bytes of junk, a head at 342, two frames at 759 and 1,176, and at 1,593 and
 /// 1,672 APEv2 and ID3v1: 1,800 bytes.
-static SONG: [Stretch; 9] = [
-    ID3V2,
-    ID3V2_REST,
-    Stretch::Fill(0, 2),
-    Stretch::Fill(0x55, 300),
-    Stretch::Frames(&[HEAD, Z]),
-    Stretch::Frame(200, 2400),
-    APE,
-    ID3V1,
-    ID3V1_REST,
-];
+static SONG: [Stretch; 7] = end_to_end! {
+    ID3V2_BLOCK, Fill(0, 2), Fill(0x55, 300), Frames(&[HEAD, Z]), Stretch::Frame(200, 2400), APE, ID3V1_BLOCK
+};
 
-static BLOCKS: [Piece; 3] = [
-    Piece {
-        offset: 0,
-        block: Block {
-            kind: Kind::Id3v2,
-            length: 40,
-        },
-    },
-    Piece {
-        offset: 1593,
-        block: Block {
-            kind: Kind::Ape,
-            length: 79,
-        },
-    },
-    Piece {
-        offset: 1672,
-        block: Block {
-            kind: Kind::Id3v1,
-            length: 128,
-        },
-    },
-];
+static BLOCKS: [Piece; 3] = table! {
+    Piece { offset, block }
+    (0, Block { kind: Kind::Id3v2, length: 40 })
+    (1593, Block { kind: Kind::Ape, length: 79 })
+    (1672, Block { kind: Kind::Id3v1, length: 128 })
+};
 
 /// MPEG-1, 44,100 Hz, 128 kbit/s, stereo.
 const HEADER: Header = Header {
@@ -221,31 +198,16 @@ struct Ending {
     fault: SurveyFault,
 }
 
-static ENDINGS: [Ending; 4] = [
-    Ending {
-        found: 839,
-        length: 834,
-        fault: SurveyFault::Shrunk(839, 834),
-    },
-    Ending {
-        found: 1,
-        length: 0,
-        fault: SurveyFault::Shrunk(1, 0),
-    },
-    Ending {
-        found: 200_000,
-        length: 150_000,
-        fault: SurveyFault::Shrunk(200_000, 150_000),
-    },
-    Ending {
-        found: 4,
-        length: 5,
-        fault: SurveyFault::NoFrame(4),
-    },
-];
+static ENDINGS: [Ending; 4] = table! {
+    Ending { found, length, fault }
+    (839, 834, SurveyFault::Shrunk(839, 834))
+    (1, 0, SurveyFault::Shrunk(1, 0))
+    (200_000, 150_000, SurveyFault::Shrunk(200_000, 150_000))
+    (4, 5, SurveyFault::NoFrame(4))
+};
 
 fn fault_of_ending(alloc: Global, ending: &Ending) -> Result<Option<SurveyFault>, AllocError> {
-    let file = bytes_of(alloc, &[Stretch::Fill(0, ending.length)])?;
+    let file = bytes_of(alloc, &[Fill(0, ending.length)])?;
     let mut folder = Untold::new(ending.found, &file, &file);
     Ok(fault_of(alloc, &mut folder, "a", 2))
 }

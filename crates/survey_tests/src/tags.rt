@@ -8,16 +8,18 @@ use std::process::Abort;
 use std::test::Fail;
 use sync_survey::{SurveyFault, survey};
 use tag_blocks::Tag;
+use test_files::files::Stretch::{Bytes, Fill};
 use test_files::files::{APE, Stretch, bytes_of};
+use test_files::table;
 
 /// A silent frame of 24 bytes: MPEG-2, 24,000 Hz, 8 kbit/s, one channel.
-const FRAME: Stretch = Stretch::Bytes(b"\xff\xf3\x14\xc0\0\0\0\0\0\0\0\0\0\0\0\0\0\0\0\0\0\0\0\0");
+const FRAME: Stretch = Bytes(b"\xff\xf3\x14\xc0\0\0\0\0\0\0\0\0\0\0\0\0\0\0\0\0\0\0\0\0");
 
 /// A zero byte.
-const ZERO: Stretch = Stretch::Bytes(b"\0");
+const ZERO: Stretch = Bytes(b"\0");
 
 /// ID3v2 without a byte behind its header: 10 bytes.
-const ID3V2: Stretch = Stretch::Bytes(b"ID3\x04\0\0\0\0\0\0");
+const ID3V2: Stretch = Bytes(b"ID3\x04\0\0\0\0\0\0");
 
 /// APEv2 with the item `Title`, `x`: 32 bytes, 15 bytes and 32 bytes.
 const TITLE: &[u8] =
@@ -28,15 +30,15 @@ const EMPTY: &[u8] =
     b"APETAGEX\xd0\x07\0\0\x20\0\0\0\0\0\0\0\0\0\0\xa0\0\0\0\0\0\0\0\0APETAGEX\xd0\x07\0\0\x20\0\0\0\0\0\0\0\0\0\0\x80\0\0\0\0\0\0\0\0";
 
 /// The same as a stretch.
-const EMPTY_BLOCK: Stretch = Stretch::Bytes(EMPTY);
+const EMPTY_BLOCK: Stretch = Bytes(EMPTY);
 
 /// `TITLE`, with two items by its header.
-const TWO_ITEMS: Stretch = Stretch::Bytes(
+const TWO_ITEMS: Stretch = Bytes(
     b"APETAGEX\xd0\x07\0\0\x2f\0\0\0\x02\0\0\0\0\0\0\xa0\0\0\0\0\0\0\0\0\x01\0\0\0\0\0\0\0Title\0xAPETAGEX\xd0\x07\0\0\x2f\0\0\0\x01\0\0\0\0\0\0\x80\0\0\0\0\0\0\0\0",
 );
 
 /// `EMPTY`, with a byte 1 at 24, the first of the header's last 8.
-const NOT_RESERVED: Stretch = Stretch::Bytes(
+const NOT_RESERVED: Stretch = Bytes(
     b"APETAGEX\xd0\x07\0\0\x20\0\0\0\0\0\0\0\0\0\0\xa0\x01\0\0\0\0\0\0\0APETAGEX\xd0\x07\0\0\x20\0\0\0\0\0\0\0\0\0\0\x80\0\0\0\0\0\0\0\0",
 );
 
@@ -91,64 +93,17 @@ struct Case {
     tag: &'static [u8],
 }
 
-static CASES: [Case; 8] = [
-    Case {
-        name: "in front",
-        parts: &[APE, FRAME, FRAME],
-        offset: 0,
-        length: 79,
-        tag: TITLE,
-    },
-    Case {
-        name: "behind another block and a zero byte",
-        parts: &[ID3V2, ZERO, APE, FRAME],
-        offset: 11,
-        length: 79,
-        tag: TITLE,
-    },
-    Case {
-        name: "between frames",
-        parts: &[FRAME, APE, FRAME],
-        offset: 24,
-        length: 79,
-        tag: TITLE,
-    },
-    Case {
-        name: "at the end",
-        parts: &[FRAME, FRAME, APE],
-        offset: 48,
-        length: 79,
-        tag: TITLE,
-    },
-    Case {
-        name: "the first of two",
-        parts: &[FRAME, EMPTY_BLOCK, ID3V2, APE],
-        offset: 24,
-        length: 64,
-        tag: EMPTY,
-    },
-    Case {
-        name: "none",
-        parts: &[FRAME, FRAME],
-        offset: 48,
-        length: 0,
-        tag: EMPTY,
-    },
-    Case {
-        name: "none, a zero byte and another block at the end",
-        parts: &[FRAME, FRAME, ZERO, ID3V2],
-        offset: 48,
-        length: 0,
-        tag: EMPTY,
-    },
-    Case {
-        name: "none, another block in front",
-        parts: &[ID3V2, FRAME],
-        offset: 34,
-        length: 0,
-        tag: EMPTY,
-    },
-];
+static CASES: [Case; 8] = table! {
+    Case { name, parts, offset, length, tag }
+    ("in front", &[APE, FRAME, FRAME], 0, 79, TITLE)
+    ("behind another block and a zero byte", &[ID3V2, ZERO, APE, FRAME], 11, 79, TITLE)
+    ("between frames", &[FRAME, APE, FRAME], 24, 79, TITLE)
+    ("at the end", &[FRAME, FRAME, APE], 48, 79, TITLE)
+    ("the first of two", &[FRAME, EMPTY_BLOCK, ID3V2, APE], 24, 64, EMPTY)
+    ("none", &[FRAME, FRAME], 48, 0, EMPTY)
+    ("none, a zero byte and another block at the end", &[FRAME, FRAME, ZERO, ID3V2], 48, 0, EMPTY)
+    ("none, another block in front", &[ID3V2, FRAME], 34, 0, EMPTY)
+};
 
 /// The tag of a file of these stretches.
 fn tag_in(alloc: Global, parts: &[Stretch]) -> Result<Result<Found, NoTag>, AllocError> {
@@ -206,36 +161,22 @@ struct Refused {
 
 /// APEv2 without items by its header, of the longest size that may be, and of one byte more: 1,048,544 and 1,048,545 bytes
 /// behind the header's 32.
-const LONGEST_HEADER: Stretch = Stretch::Bytes(
+const LONGEST_HEADER: Stretch = Bytes(
     b"APETAGEX\xd0\x07\0\0\xe0\xff\x0f\0\0\0\0\0\0\0\0\xa0\0\0\0\0\0\0\0\0",
 );
 
-const TOO_LONG_HEADER: Stretch = Stretch::Bytes(
+const TOO_LONG_HEADER: Stretch = Bytes(
     b"APETAGEX\xd0\x07\0\0\xe1\xff\x0f\0\0\0\0\0\0\0\0\xa0\0\0\0\0\0\0\0\0",
 );
 
-static REFUSED: [Refused; 4] = [
-    Refused {
-        name: "a reserved byte that isn't 0",
-        parts: &[FRAME, NOT_RESERVED, FRAME],
-        fault: FileTagFault::Bad(48),
-    },
-    Refused {
-        name: "an item more by the header",
-        parts: &[FRAME, TWO_ITEMS],
-        fault: FileTagFault::Bad(71),
-    },
-    Refused {
-        name: "the longest block",
-        parts: &[FRAME, LONGEST_HEADER, Stretch::Fill(0, 1_048_544)],
-        fault: FileTagFault::Bad(56),
-    },
-    Refused {
-        name: "one byte more",
-        parts: &[FRAME, TOO_LONG_HEADER, Stretch::Fill(0, 1_048_545)],
-        fault: FileTagFault::TooLarge(1_048_577),
-    },
-];
+static REFUSED: [Refused; 4] = table! {
+    Refused { name, parts, fault }
+    ("a reserved byte that isn't 0", &[FRAME, NOT_RESERVED, FRAME], FileTagFault::Bad(48))
+    ("an item more by the header", &[FRAME, TWO_ITEMS], FileTagFault::Bad(71))
+    ("the longest block", &[FRAME, LONGEST_HEADER, Fill(0, 1_048_544)], FileTagFault::Bad(56))
+    ("one byte more", &[FRAME, TOO_LONG_HEADER, Fill(0, 1_048_545)],
+        FileTagFault::TooLarge(1_048_577))
+};
 
 /// Why no tag of a file of these stretches is read, where none is.
 fn reason_in(alloc: Global, parts: &[Stretch]) -> Result<Option<NoTag>, AllocError> {
@@ -290,24 +231,13 @@ struct Changed {
     fault: FileTagFault,
 }
 
-static CHANGED: [Changed; 4] = [
-    Changed {
-        later: &[FRAME, Stretch::Bytes(b"APE")],
-        fault: FileTagFault::Shrunk(103, 27),
-    },
-    Changed {
-        later: &[],
-        fault: FileTagFault::Shrunk(103, 24),
-    },
-    Changed {
-        later: &[FRAME, FRAME, APE],
-        fault: FileTagFault::Bad(24),
-    },
-    Changed {
-        later: &[FRAME, EMPTY_BLOCK, FRAME],
-        fault: FileTagFault::Bad(24),
-    },
-];
+static CHANGED: [Changed; 4] = table! {
+    Changed { later, fault }
+    (&[FRAME, Bytes(b"APE")], FileTagFault::Shrunk(103, 27))
+    (&[], FileTagFault::Shrunk(103, 24))
+    (&[FRAME, FRAME, APE], FileTagFault::Bad(24))
+    (&[FRAME, EMPTY_BLOCK, FRAME], FileTagFault::Bad(24))
+};
 
 fn reason_of_change(
     alloc: Global,
