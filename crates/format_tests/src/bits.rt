@@ -2,6 +2,7 @@
 
 use bit_fields::{Bits, number_at, put, put_byte};
 use std::process::Abort;
+use test_files::table;
 
 /// The first eight side bytes of an MPEG-1 frame of two channels, ISO/IEC 11172-3, 2.4.1.7.
 static SIDE: [u8; 8] = [0x00, 0x00, 0x00, 0x08, 0x00, 0x32, 0x00, 0x00];
@@ -14,44 +15,15 @@ struct Taken {
     place: usize,
 }
 
-static TAKEN: [Taken; 6] = [
-    Taken {
-        what: "begin, private bits and scfsi",
-        width: 20,
-        value: Some(0),
-        place: 20,
-    },
-    Taken {
-        what: "part2_3_length",
-        width: 12,
-        value: Some(8),
-        place: 32,
-    },
-    Taken {
-        what: "big_values",
-        width: 9,
-        value: Some(0),
-        place: 41,
-    },
-    Taken {
-        what: "global_gain",
-        width: 8,
-        value: Some(100),
-        place: 49,
-    },
-    Taken {
-        what: "more than there are",
-        width: 16,
-        value: None,
-        place: 49,
-    },
-    Taken {
-        what: "no bits",
-        width: 0,
-        value: Some(0),
-        place: 49,
-    },
-];
+static TAKEN: [Taken; 6] = table! {
+    Taken { what, width, value, place }
+    ("begin, private bits and scfsi", 20, Some(0), 20)
+    ("part2_3_length", 12, Some(8), 32)
+    ("big_values", 9, Some(0), 41)
+    ("global_gain", 8, Some(100), 49)
+    ("more than there are", 16, None, 49)
+    ("no bits", 0, Some(0), 49)
+};
 
 #[test]
 fn takes_the_first_fields_of_a_side_information(rt: HostRuntime) {

@@ -3,6 +3,7 @@
 use frame_header::*;
 use std::process::Abort;
 use std::test::Fail;
+use test_files::table;
 
 const MPEG_1: Version = Version::One;
 
@@ -20,88 +21,19 @@ struct Says {
     area: u32,
 }
 
-static HEADERS: [Says; 10] = [
-    Says {
-        bytes: [0xff, 0xfb, 0x90, 0x00],
-        version: MPEG_1,
-        channels: 2,
-        frequency: 44_100,
-        length: 417,
-        area: 381,
-    },
-    Says {
-        bytes: [0xff, 0xfa, 0x90, 0x40],
-        version: MPEG_1,
-        channels: 2,
-        frequency: 44_100,
-        length: 417,
-        area: 379,
-    },
-    Says {
-        bytes: [0xff, 0xfb, 0xe2, 0x00],
-        version: MPEG_1,
-        channels: 2,
-        frequency: 44_100,
-        length: 1045,
-        area: 1009,
-    },
-    Says {
-        bytes: [0xff, 0xfb, 0xea, 0x80],
-        version: MPEG_1,
-        channels: 2,
-        frequency: 32_000,
-        length: 1441,
-        area: 1405,
-    },
-    Says {
-        bytes: [0xff, 0xfb, 0x14, 0xc0],
-        version: MPEG_1,
-        channels: 1,
-        frequency: 48_000,
-        length: 96,
-        area: 75,
-    },
-    Says {
-        bytes: [0xff, 0xf3, 0x14, 0xc0],
-        version: MPEG_2,
-        channels: 1,
-        frequency: 24_000,
-        length: 24,
-        area: 11,
-    },
-    Says {
-        bytes: [0xff, 0xf2, 0x14, 0xc0],
-        version: MPEG_2,
-        channels: 1,
-        frequency: 24_000,
-        length: 24,
-        area: 9,
-    },
-    Says {
-        bytes: [0xff, 0xe3, 0x18, 0xc0],
-        version: MPEG_2_5,
-        channels: 1,
-        frequency: 8_000,
-        length: 72,
-        area: 59,
-    },
-    Says {
-        bytes: [0xff, 0xe3, 0x16, 0x00],
-        version: MPEG_2_5,
-        channels: 2,
-        frequency: 12_000,
-        length: 49,
-        area: 28,
-    },
-    Says {
-        bytes: [0xff, 0xe2, 0x90, 0x40],
-        version: MPEG_2_5,
-        channels: 2,
-        frequency: 11_025,
-        length: 522,
-        area: 499,
-    },
-];
+static HEADERS: [Says; 10] = table! {
+    Says { bytes, version, channels, frequency, length, area }
+    ([0xff, 0xfb, 0x90, 0x00], MPEG_1, 2, 44_100, 417, 381)
+    ([0xff, 0xfa, 0x90, 0x40], MPEG_1, 2, 44_100, 417, 379)
+    ([0xff, 0xfb, 0xe2, 0x00], MPEG_1, 2, 44_100, 1045, 1009)
+    ([0xff, 0xfb, 0xea, 0x80], MPEG_1, 2, 32_000, 1441, 1405)
+    ([0xff, 0xfb, 0x14, 0xc0], MPEG_1, 1, 48_000, 96, 75)
+    ([0xff, 0xf3, 0x14, 0xc0], MPEG_2, 1, 24_000, 24, 11)
+    ([0xff, 0xf2, 0x14, 0xc0], MPEG_2, 1, 24_000, 24, 9)
+    ([0xff, 0xe3, 0x18, 0xc0], MPEG_2_5, 1, 8_000, 72, 59)
+    ([0xff, 0xe3, 0x16, 0x00], MPEG_2_5, 2, 12_000, 49, 28)
+    ([0xff, 0xe2, 0x90, 0x40], MPEG_2_5, 2, 11_025, 522, 499)
+};
 
 fn expect_class(rt: &impl Abort, class: Class, row: &Says) {
     assert_eq!(rt; class.version, row.version, "{:?}", row.bytes);
@@ -156,53 +88,21 @@ struct Refused {
     why: NotHeader,
 }
 
-static REFUSED: [Refused; 11] = [
-    Refused {
-        bytes: [0xff, 0xfb, 0x00, 0x00],
-        why: NotHeader::Free,
-    },
-    Refused {
-        bytes: [0xff, 0xf2, 0x08, 0xc0],
-        why: NotHeader::Free,
-    },
-    Refused {
-        bytes: [0xff, 0xe3, 0x08, 0xc0],
-        why: NotHeader::Free,
-    },
+static REFUSED: [Refused; 11] = table! {
+    Refused { bytes, why }
+    ([0xff, 0xfb, 0x00, 0x00], NotHeader::Free)
+    ([0xff, 0xf2, 0x08, 0xc0], NotHeader::Free)
+    ([0xff, 0xe3, 0x08, 0xc0], NotHeader::Free)
     // The twelfth bit is 0 and ID is 1.
-    Refused {
-        bytes: [0xff, 0xeb, 0x90, 0x00],
-        why: NotHeader::No,
-    },
-    Refused {
-        bytes: [0xff, 0xe5, 0x90, 0x00],
-        why: NotHeader::No,
-    },
-    Refused {
-        bytes: [0xff, 0xd3, 0x90, 0x00],
-        why: NotHeader::No,
-    },
-    Refused {
-        bytes: [0x7f, 0xfb, 0x90, 0x00],
-        why: NotHeader::No,
-    },
-    Refused {
-        bytes: [0xff, 0xfd, 0x90, 0x00],
-        why: NotHeader::No,
-    },
-    Refused {
-        bytes: [0xff, 0xfb, 0xf0, 0x00],
-        why: NotHeader::No,
-    },
-    Refused {
-        bytes: [0xff, 0xfb, 0x9c, 0x00],
-        why: NotHeader::No,
-    },
-    Refused {
-        bytes: [0x49, 0x44, 0x33, 0x03],
-        why: NotHeader::No,
-    },
-];
+    ([0xff, 0xeb, 0x90, 0x00], NotHeader::No)
+    ([0xff, 0xe5, 0x90, 0x00], NotHeader::No)
+    ([0xff, 0xd3, 0x90, 0x00], NotHeader::No)
+    ([0x7f, 0xfb, 0x90, 0x00], NotHeader::No)
+    ([0xff, 0xfd, 0x90, 0x00], NotHeader::No)
+    ([0xff, 0xfb, 0xf0, 0x00], NotHeader::No)
+    ([0xff, 0xfb, 0x9c, 0x00], NotHeader::No)
+    ([0x49, 0x44, 0x33, 0x03], NotHeader::No)
+};
 
 #[test]
 fn bytes_that_are_no_header(rt: HostRuntime) {
@@ -220,80 +120,18 @@ struct ClassLengths {
     lengths: [u16; 14],
 }
 
-static ALL_LENGTHS: [ClassLengths; 9] = [
-    ClassLengths {
-        version: MPEG_1,
-        frequency_index: 0,
-        frequency: 44_100,
-        lengths: [
-            104, 130, 156, 182, 208, 261, 313, 365, 417, 522, 626, 731, 835, 1044,
-        ],
-    },
-    ClassLengths {
-        version: MPEG_1,
-        frequency_index: 1,
-        frequency: 48_000,
-        lengths: [
-            96, 120, 144, 168, 192, 240, 288, 336, 384, 480, 576, 672, 768, 960,
-        ],
-    },
-    ClassLengths {
-        version: MPEG_1,
-        frequency_index: 2,
-        frequency: 32_000,
-        lengths: [
-            144, 180, 216, 252, 288, 360, 432, 504, 576, 720, 864, 1008, 1152, 1440,
-        ],
-    },
-    ClassLengths {
-        version: MPEG_2,
-        frequency_index: 0,
-        frequency: 22_050,
-        lengths: [
-            26, 52, 78, 104, 130, 156, 182, 208, 261, 313, 365, 417, 470, 522,
-        ],
-    },
-    ClassLengths {
-        version: MPEG_2,
-        frequency_index: 1,
-        frequency: 24_000,
-        lengths: [
-            24, 48, 72, 96, 120, 144, 168, 192, 240, 288, 336, 384, 432, 480,
-        ],
-    },
-    ClassLengths {
-        version: MPEG_2,
-        frequency_index: 2,
-        frequency: 16_000,
-        lengths: [
-            36, 72, 108, 144, 180, 216, 252, 288, 360, 432, 504, 576, 648, 720,
-        ],
-    },
-    ClassLengths {
-        version: MPEG_2_5,
-        frequency_index: 0,
-        frequency: 11_025,
-        lengths: [
-            52, 104, 156, 208, 261, 313, 365, 417, 522, 626, 731, 835, 940, 1044,
-        ],
-    },
-    ClassLengths {
-        version: MPEG_2_5,
-        frequency_index: 1,
-        frequency: 12_000,
-        lengths: [
-            48, 96, 144, 192, 240, 288, 336, 384, 480, 576, 672, 768, 864, 960,
-        ],
-    },
-    ClassLengths {
-        version: MPEG_2_5,
-        frequency_index: 2,
-        frequency: 8_000,
-        lengths: [
-            72, 144, 216, 288, 360, 432, 504, 576, 720, 864, 1008, 1152, 1296, 1440,
-        ],
-    },
-];
+static ALL_LENGTHS: [ClassLengths; 9] = table! {
+    ClassLengths { version, frequency_index, frequency, lengths }
+    (MPEG_1, 0, 44_100, [104, 130, 156, 182, 208, 261, 313, 365, 417, 522, 626, 731, 835, 1044])
+    (MPEG_1, 1, 48_000, [96, 120, 144, 168, 192, 240, 288, 336, 384, 480, 576, 672, 768, 960])
+    (MPEG_1, 2, 32_000, [144, 180, 216, 252, 288, 360, 432, 504, 576, 720, 864, 1008, 1152, 1440])
+    (MPEG_2, 0, 22_050, [26, 52, 78, 104, 130, 156, 182, 208, 261, 313, 365, 417, 470, 522])
+    (MPEG_2, 1, 24_000, [24, 48, 72, 96, 120, 144, 168, 192, 240, 288, 336, 384, 432, 480])
+    (MPEG_2, 2, 16_000, [36, 72, 108, 144, 180, 216, 252, 288, 360, 432, 504, 576, 648, 720])
+    (MPEG_2_5, 0, 11_025, [52, 104, 156, 208, 261, 313, 365, 417, 522, 626, 731, 835, 940, 1044])
+    (MPEG_2_5, 1, 12_000, [48, 96, 144, 192, 240, 288, 336, 384, 480, 576, 672, 768, 864, 960])
+    (MPEG_2_5, 2, 8_000, [72, 144, 216, 288, 360, 432, 504, 576, 720, 864, 1008, 1152, 1296, 1440])
+};
 
 /// Each slot of the class has its length.
 fn expect_lengths(rt: &impl Abort, class: Class, lengths: &[u16; 14]) {
@@ -334,28 +172,12 @@ struct VersionRates {
 
 const LOWER_RATES: [u16; 14] = [8, 16, 24, 32, 40, 48, 56, 64, 80, 96, 112, 128, 144, 160];
 
-static RATES: [VersionRates; 3] = [
-    VersionRates {
-        version: MPEG_1,
-        rates: [
-            32, 40, 48, 56, 64, 80, 96, 112, 128, 160, 192, 224, 256, 320,
-        ],
-        samples: 1152,
-        window: 511,
-    },
-    VersionRates {
-        version: MPEG_2,
-        rates: LOWER_RATES,
-        samples: 576,
-        window: 255,
-    },
-    VersionRates {
-        version: MPEG_2_5,
-        rates: LOWER_RATES,
-        samples: 576,
-        window: 255,
-    },
-];
+static RATES: [VersionRates; 3] = table! {
+    VersionRates { version, rates, samples, window }
+    (MPEG_1, [32, 40, 48, 56, 64, 80, 96, 112, 128, 160, 192, 224, 256, 320], 1152, 511)
+    (MPEG_2, LOWER_RATES, 576, 255)
+    (MPEG_2_5, LOWER_RATES, 576, 255)
+};
 
 /// Each bit rate index of the class has its rate.
 fn expect_rates(rt: &impl Abort, class: Class, rates: &[u16; 14]) {

@@ -3,6 +3,7 @@ use frame_header::{Class, Header, Version};
 use side_info::{Granule, Side, check_word, check_word_of_bytes, put_gains, word_of_bytes};
 use std::process::Abort;
 use std::test::Fail;
+use test_files::table;
 
 // The side bytes of an MPEG-1 frame of two channels: four granules of 8 bits, with the gains 100, 101, 255 and 90.
 const BEFORE: [u8; 32] = [
@@ -226,20 +227,12 @@ struct Checked {
     word: u16,
 }
 
-static WORDS: [Checked; 3] = [
-    Checked {
-        bytes: [0; 9],
-        word: 0xeed2,
-    },
-    Checked {
-        bytes: MONO_BEFORE,
-        word: 0xe952,
-    },
-    Checked {
-        bytes: MONO_AFTER,
-        word: 0x68b1,
-    },
-];
+static WORDS: [Checked; 3] = table! {
+    Checked { bytes, word }
+    ([0; 9], 0xeed2)
+    (MONO_BEFORE, 0xe952)
+    (MONO_AFTER, 0x68b1)
+};
 
 #[test]
 #[tactic(auto, unfolding(frame_header::specs::Tables::side_size_of))]

@@ -9,6 +9,7 @@ use frame_header::Header;
 use info_header::head_text;
 use std::alloc::{AllocError, Global};
 use std::test::Fail;
+use test_files::table;
 
 /// A frame of zero bytes behind its header, but for a text.
 struct Case {
@@ -20,137 +21,26 @@ struct Case {
     wanted: Option<u32>,
 }
 
-static CASES: [Case; 16] = [
-    Case {
-        what: "MPEG-1, two channels",
-        header: [0xff, 0xfb, 0x90, 0x00],
-        length: 417,
-        text: *b"Info",
-        at: 36,
-        wanted: Some(36),
-    },
-    Case {
-        what: "MPEG-1, one channel",
-        header: [0xff, 0xfb, 0x90, 0xc0],
-        length: 417,
-        text: *b"Xing",
-        at: 21,
-        wanted: Some(21),
-    },
-    Case {
-        what: "MPEG-2, two channels",
-        header: [0xff, 0xf3, 0x40, 0x00],
-        length: 104,
-        text: *b"Xing",
-        at: 21,
-        wanted: Some(21),
-    },
-    Case {
-        what: "MPEG-2, one channel",
-        header: [0xff, 0xf3, 0x14, 0xc0],
-        length: 24,
-        text: *b"Info",
-        at: 13,
-        wanted: Some(13),
-    },
-    Case {
-        what: "protected, as if there were no check word",
-        header: [0xff, 0xfa, 0x90, 0x00],
-        length: 417,
-        text: *b"Xing",
-        at: 36,
-        wanted: Some(36),
-    },
-    Case {
-        what: "protected, behind the check word",
-        header: [0xff, 0xfa, 0x90, 0x00],
-        length: 417,
-        text: *b"Info",
-        at: 38,
-        wanted: Some(38),
-    },
-    Case {
-        what: "protected, MPEG-2, one channel",
-        header: [0xff, 0xf2, 0x14, 0xc0],
-        length: 24,
-        text: *b"Xing",
-        at: 15,
-        wanted: Some(15),
-    },
-    Case {
-        what: "unprotected, two bytes late",
-        header: [0xff, 0xfb, 0x90, 0x00],
-        length: 417,
-        text: *b"Info",
-        at: 38,
-        wanted: None,
-    },
-    Case {
-        what: "one byte late",
-        header: [0xff, 0xfa, 0x90, 0x00],
-        length: 417,
-        text: *b"Xing",
-        at: 37,
-        wanted: None,
-    },
-    Case {
-        what: "the place of two channels",
-        header: [0xff, 0xfb, 0x90, 0xc0],
-        length: 417,
-        text: *b"Info",
-        at: 36,
-        wanted: None,
-    },
-    Case {
-        what: "another text",
-        header: [0xff, 0xfb, 0x90, 0x00],
-        length: 417,
-        text: *b"xing",
-        at: 36,
-        wanted: None,
-    },
-    Case {
-        what: "VBRI",
-        header: [0xff, 0xfb, 0x90, 0x00],
-        length: 417,
-        text: *b"VBRI",
-        at: 36,
-        wanted: None,
-    },
-    Case {
-        what: "no text",
-        header: [0xff, 0xfb, 0x90, 0x00],
-        length: 417,
-        text: [0; 4],
-        at: 36,
-        wanted: None,
-    },
+static CASES: [Case; 16] = table! {
+    Case { what, header, length, text, at, wanted }
+    ("MPEG-1, two channels", [0xff, 0xfb, 0x90, 0x00], 417, *b"Info", 36, Some(36))
+    ("MPEG-1, one channel", [0xff, 0xfb, 0x90, 0xc0], 417, *b"Xing", 21, Some(21))
+    ("MPEG-2, two channels", [0xff, 0xf3, 0x40, 0x00], 104, *b"Xing", 21, Some(21))
+    ("MPEG-2, one channel", [0xff, 0xf3, 0x14, 0xc0], 24, *b"Info", 13, Some(13))
+    ("protected, as if there were no check word", [0xff, 0xfa, 0x90, 0x00], 417, *b"Xing", 36, Some(36))
+    ("protected, behind the check word", [0xff, 0xfa, 0x90, 0x00], 417, *b"Info", 38, Some(38))
+    ("protected, MPEG-2, one channel", [0xff, 0xf2, 0x14, 0xc0], 24, *b"Xing", 15, Some(15))
+    ("unprotected, two bytes late", [0xff, 0xfb, 0x90, 0x00], 417, *b"Info", 38, None)
+    ("one byte late", [0xff, 0xfa, 0x90, 0x00], 417, *b"Xing", 37, None)
+    ("the place of two channels", [0xff, 0xfb, 0x90, 0xc0], 417, *b"Info", 36, None)
+    ("another text", [0xff, 0xfb, 0x90, 0x00], 417, *b"xing", 36, None)
+    ("VBRI", [0xff, 0xfb, 0x90, 0x00], 417, *b"VBRI", 36, None)
+    ("no text", [0xff, 0xfb, 0x90, 0x00], 417, [0; 4], 36, None)
     // The shortest frames of two channels in MPEG-2 end within the text.
-    Case {
-        what: "a text that passes the end by a byte",
-        header: [0xff, 0xf3, 0x14, 0x00],
-        length: 24,
-        text: *b"Xing",
-        at: 21,
-        wanted: None,
-    },
-    Case {
-        what: "a text that ends with the frame",
-        header: [0xff, 0xf3, 0x16, 0x00],
-        length: 25,
-        text: *b"Xing",
-        at: 21,
-        wanted: Some(21),
-    },
-    Case {
-        what: "a text that passes the end behind the check word",
-        header: [0xff, 0xf2, 0x16, 0x00],
-        length: 25,
-        text: *b"Info",
-        at: 23,
-        wanted: None,
-    },
-];
+    ("a text that passes the end by a byte", [0xff, 0xf3, 0x14, 0x00], 24, *b"Xing", 21, None)
+    ("a text that ends with the frame", [0xff, 0xf3, 0x16, 0x00], 25, *b"Xing", 21, Some(21))
+    ("a text that passes the end behind the check word", [0xff, 0xf2, 0x16, 0x00], 25, *b"Info", 23, None)
+};
 
 /// The frame of a case; a text that passes its end is cut off there.
 fn frame_of(alloc: Global, case: &Case) -> Result<Vec<u8>, AllocError> {

@@ -5,6 +5,7 @@ use reservoir::*;
 use std::alloc::AllocGlobal;
 use std::process::Abort;
 use std::test::Fail;
+use test_files::table;
 
 /// As many main bytes as the longest case has.
 const MANY: usize = 4260;
@@ -175,24 +176,13 @@ struct Pushed {
     held: usize,
 }
 
-static PUSHED: [Pushed; 4] = [
-    Pushed {
-        length: 1420,
-        held: 1420,
-    },
-    Pushed {
-        length: 628,
-        held: 2048,
-    },
-    Pushed {
-        length: 1,
-        held: 2048,
-    },
-    Pushed {
-        length: 1441,
-        held: 2048,
-    },
-];
+static PUSHED: [Pushed; 4] = table! {
+    Pushed { length, held }
+    (1420, 1420)
+    (628, 2048)
+    (1, 2048)
+    (1441, 2048)
+};
 
 #[test]
 fn a_window_forgets(rt: HostRuntime) -> Result<(), Fail> {

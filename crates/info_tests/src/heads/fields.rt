@@ -2,6 +2,7 @@
 
 use info_header::{Info, entry};
 use std::test::Fail;
+use test_files::table;
 
 /// A head that has what is named.
 const NONE: Info = Info {
@@ -24,80 +25,21 @@ struct Case {
     extension: [u8; 3],
 }
 
-static CASES: [Case; 9] = [
-    Case {
-        what: "no flags",
-        bytes: b"Info\0\0\0\0abc",
-        frames: None,
-        length: None,
-        quality: None,
-        extension: *b"abc",
-    },
-    Case {
-        what: "text alone",
-        bytes: b"Info",
-        frames: None,
-        length: None,
-        quality: None,
-        extension: [0; 3],
-    },
-    Case {
-        what: "flags that aren't whole",
-        bytes: b"Info\0\0\0",
-        frames: None,
-        length: None,
-        quality: None,
-        extension: [0; 3],
-    },
-    Case {
-        what: "frames and bytes",
-        bytes: b"Info\0\0\0\x03\0\0\x23\xf0\x01\x02\x03\x04abc",
-        frames: Some(9200),
-        length: Some(0x0102_0304),
-        quality: None,
-        extension: *b"abc",
-    },
-    Case {
-        what: "frames and quality, and flags without a meaning",
-        bytes: b"Info\x80\0\x01\xf9\0\0\0\x02\0\0\0\x4eab",
-        frames: Some(2),
-        length: None,
-        quality: Some(78),
-        extension: *b"ab\0",
-    },
-    Case {
-        what: "quality alone, and it ends with the bytes",
-        bytes: b"Info\0\0\0\x08\0\0\0\x4e",
-        frames: None,
-        length: None,
-        quality: Some(78),
-        extension: [0; 3],
-    },
-    Case {
-        what: "bytes that pass the end by a byte",
-        bytes: b"Info\0\0\0\x03\0\0\0\x02\0\0\0",
-        frames: Some(2),
-        length: None,
-        quality: None,
-        extension: [0; 3],
-    },
-    Case {
-        what: "a table that passes the end, and no quality behind it",
-        bytes: b"Info\0\0\0\x0d\0\0\0\x02\0\0\0\x4eabcdefgh",
-        frames: Some(2),
-        length: None,
-        quality: None,
-        extension: [0; 3],
-    },
-    Case {
-        what: "frames that pass the end, and a flag behind them",
-        bytes: b"Info\0\0\0\x09\0\0",
-        frames: None,
-        length: None,
-        quality: None,
-        extension: [0; 3],
-    },
-];
+static CASES: [Case; 9] = table! {
+    Case { what, bytes, frames, length, quality, extension }
+    ("no flags", b"Info\0\0\0\0abc", None, None, None, *b"abc")
+    ("text alone", b"Info", None, None, None, [0; 3])
+    ("flags that aren't whole", b"Info\0\0\0", None, None, None, [0; 3])
+    ("frames and bytes", b"Info\0\0\0\x03\0\0\x23\xf0\x01\x02\x03\x04abc", Some(9200), Some(0x0102_0304),
+        None, *b"abc")
+    ("frames and quality, and flags without a meaning", b"Info\x80\0\x01\xf9\0\0\0\x02\0\0\0\x4eab", Some(2),
+        None, Some(78), *b"ab\0")
+    ("quality alone, and it ends with the bytes", b"Info\0\0\0\x08\0\0\0\x4e", None, None, Some(78), [0; 3])
+    ("bytes that pass the end by a byte", b"Info\0\0\0\x03\0\0\0\x02\0\0\0", Some(2), None, None, [0; 3])
+    ("a table that passes the end, and no quality behind it", b"Info\0\0\0\x0d\0\0\0\x02\0\0\0\x4eabcdefgh",
+        Some(2), None, None, [0; 3])
+    ("frames that pass the end, and a flag behind them", b"Info\0\0\0\x09\0\0", None, None, None, [0; 3])
+};
 
 #[test]
 fn heads_without_a_table(rt: HostRuntime) {
@@ -150,63 +92,24 @@ struct Entry {
     wanted: u8,
 }
 
-static ENTRIES: [Entry; 10] = [
+static ENTRIES: [Entry; 10] = table! {
+    Entry { offset, bytes, wanted }
     // A lead-in and a frame behind an Info frame of 208 bytes.
-    Entry {
-        offset: 208,
-        bytes: 729,
-        wanted: 73,
-    },
-    Entry {
-        offset: 312,
-        bytes: 729,
-        wanted: 109,
-    },
+    (208, 729, 73)
+    (312, 729, 109)
     // Two frames of 417 bytes.
-    Entry {
-        offset: 208,
-        bytes: 1042,
-        wanted: 51,
-    },
-    Entry {
-        offset: 625,
-        bytes: 1042,
-        wanted: 153,
-    },
+    (208, 1042, 51)
+    (625, 1042, 153)
     // The Info frame of MPEG-2 with one channel, 169 bytes, then 240 and 24.
-    Entry {
-        offset: 169,
-        bytes: 433,
-        wanted: 99,
-    },
-    Entry {
-        offset: 409,
-        bytes: 433,
-        wanted: 241,
-    },
-    Entry {
-        offset: 0,
-        bytes: 1,
-        wanted: 0,
-    },
+    (169, 433, 99)
+    (409, 433, 241)
+    (0, 1, 0)
     // 256 isn't an entry.
-    Entry {
-        offset: 433,
-        bytes: 433,
-        wanted: 255,
-    },
+    (433, 433, 255)
     // Products above 32 bits.
-    Entry {
-        offset: 3_000_000_000,
-        bytes: 4_000_000_000,
-        wanted: 192,
-    },
-    Entry {
-        offset: 0xffff_ffff,
-        bytes: 1,
-        wanted: 255,
-    },
-];
+    (3_000_000_000, 4_000_000_000, 192)
+    (0xffff_ffff, 1, 255)
+};
 
 #[test]
 fn entries(rt: HostRuntime) -> Result<(), Fail> {

@@ -5,6 +5,7 @@ use frame_header::{Class, Header, NotHeader, Slot};
 use info_header::info_over;
 use std::process::Abort;
 use std::test::Fail;
+use test_files::table;
 
 /// MPEG-1, 44,100 Hz, two channels, at 32, 112 and 128 kbit/s: 104, 365 and 417 bytes. The Info frame has 208.
 const RATE_32: [u8; 4] = [0xff, 0xfb, 0x10, 0x00];
@@ -32,71 +33,21 @@ struct Entry {
     value: u8,
 }
 
-static CASES: [Case; 7] = [
-    Case {
-        frames: &[RATE_128, RATE_128],
-        vbr: false,
-        bytes: 1042,
-        entries: &[
-            Entry { at: 0, value: 51 },
-            Entry { at: 49, value: 51 },
-            Entry { at: 50, value: 153 },
-            Entry { at: 99, value: 153 },
-        ],
-    },
-    Case {
-        frames: &[RATE_32, RATE_128],
-        vbr: true,
-        bytes: 729,
-        entries: &[
-            Entry { at: 0, value: 73 },
-            Entry { at: 49, value: 73 },
-            Entry { at: 50, value: 109 },
-            Entry { at: 99, value: 109 },
-        ],
-    },
-    Case {
-        frames: &[RATE_32, RATE_32],
-        vbr: false,
-        bytes: 416,
-        entries: &[Entry { at: 49, value: 128 }, Entry { at: 50, value: 192 }],
-    },
-    Case {
-        frames: &[RATE_112, RATE_128],
-        vbr: true,
-        bytes: 990,
-        entries: &[Entry { at: 49, value: 53 }, Entry { at: 50, value: 148 }],
-    },
-    Case {
-        frames: &[RATE_128, RATE_128, RATE_32, RATE_128],
-        vbr: true,
-        bytes: 1563,
-        entries: &[
-            Entry { at: 24, value: 34 },
-            Entry { at: 25, value: 102 },
-            Entry { at: 50, value: 170 },
-            Entry { at: 75, value: 187 },
-        ],
-    },
+static CASES: [Case; 7] = table! {
+    Case { frames, vbr, bytes, entries }
+    (&[RATE_128, RATE_128], false, 1042,
+        &[Entry { at: 0, value: 51 }, Entry { at: 49, value: 51 }, Entry { at: 50, value: 153 }, Entry { at: 99, value: 153 }])
+    (&[RATE_32, RATE_128], true, 729,
+        &[Entry { at: 0, value: 73 }, Entry { at: 49, value: 73 }, Entry { at: 50, value: 109 }, Entry { at: 99, value: 109 }])
+    (&[RATE_32, RATE_32], false, 416, &[Entry { at: 49, value: 128 }, Entry { at: 50, value: 192 }])
+    (&[RATE_112, RATE_128], true, 990, &[Entry { at: 49, value: 53 }, Entry { at: 50, value: 148 }])
+    (&[RATE_128, RATE_128, RATE_32, RATE_128], true, 1563,
+        &[Entry { at: 24, value: 34 }, Entry { at: 25, value: 102 }, Entry { at: 50, value: 170 }, Entry { at: 75, value: 187 }])
     // A third of the entries each: place 33 is the last of frame 0, and 67 the first of frame 2.
-    Case {
-        frames: &[RATE_128, RATE_128, RATE_128],
-        vbr: false,
-        bytes: 1459,
-        entries: &[
-            Entry { at: 33, value: 36 },
-            Entry { at: 34, value: 109 },
-            Entry { at: 66, value: 109 },
-            Entry { at: 67, value: 182 },
-        ],
-    },
-    Case {
-        frames: &[LOW_80, LOW_8],
-        vbr: true,
-        bytes: 433,
-        entries: &[Entry { at: 49, value: 99 }, Entry { at: 50, value: 241 }],
-    },
-];
+    (&[RATE_128, RATE_128, RATE_128], false, 1459,
+        &[Entry { at: 33, value: 36 }, Entry { at: 34, value: 109 }, Entry { at: 66, value: 109 }, Entry { at: 67, value: 182 }])
+    (&[LOW_80, LOW_8], true, 433, &[Entry { at: 49, value: 99 }, Entry { at: 50, value: 241 }])
+};
 
 /// The class of the last of these frames, and their slots.
 fn slots_of(frames: &[[u8; 4]]) -> Result<(Class, ArrayVec<Slot, 4>), NotHeader> {

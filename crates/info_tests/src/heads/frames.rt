@@ -4,7 +4,9 @@ use arrayvec::ArrayVec;
 use frame_header::{Header, NotHeader};
 use info_header::{Info, head_text, info_slot, write_info};
 use std::test::Fail;
-use test_files::files::{Stretch, bytes_of};
+use test_files::files::Stretch::{Bytes, Fill};
+use test_files::files::{INFO_FRONT, Stretch, bytes_of};
+use test_files::{end_to_end, table};
 
 /// A header of a class, and the bit rate index, the padding and the length of its Info frame.
 struct Case {
@@ -14,122 +16,33 @@ struct Case {
     length: u32,
 }
 
-static CASES: [Case; 18] = [
+static CASES: [Case; 18] = table! {
+    Case { header, rate_index, padding, length }
     // MPEG-1, two channels: 36 bytes before the area, so 192 bytes at least.
-    Case {
-        header: [0xff, 0xfb, 0x90, 0x00],
-        rate_index: 5,
-        padding: false,
-        length: 208,
-    },
-    Case {
-        header: [0xff, 0xfb, 0x94, 0x00],
-        rate_index: 5,
-        padding: false,
-        length: 192,
-    },
-    Case {
-        header: [0xff, 0xfb, 0x98, 0x00],
-        rate_index: 3,
-        padding: false,
-        length: 216,
-    },
+    ([0xff, 0xfb, 0x90, 0x00], 5, false, 208)
+    ([0xff, 0xfb, 0x94, 0x00], 5, false, 192)
+    ([0xff, 0xfb, 0x98, 0x00], 3, false, 216)
     // One channel: 177 bytes.
-    Case {
-        header: [0xff, 0xfb, 0x90, 0xc0],
-        rate_index: 4,
-        padding: false,
-        length: 182,
-    },
-    Case {
-        header: [0xff, 0xfb, 0x94, 0xc0],
-        rate_index: 5,
-        padding: false,
-        length: 192,
-    },
-    Case {
-        header: [0xff, 0xfb, 0x98, 0xc0],
-        rate_index: 2,
-        padding: false,
-        length: 180,
-    },
+    ([0xff, 0xfb, 0x90, 0xc0], 4, false, 182)
+    ([0xff, 0xfb, 0x94, 0xc0], 5, false, 192)
+    ([0xff, 0xfb, 0x98, 0xc0], 2, false, 180)
     // MPEG-2, two channels: 177 bytes.
-    Case {
-        header: [0xff, 0xf3, 0x90, 0x00],
-        rate_index: 7,
-        padding: false,
-        length: 182,
-    },
-    Case {
-        header: [0xff, 0xf3, 0x94, 0x00],
-        rate_index: 8,
-        padding: false,
-        length: 192,
-    },
-    Case {
-        header: [0xff, 0xf3, 0x98, 0x00],
-        rate_index: 5,
-        padding: false,
-        length: 180,
-    },
+    ([0xff, 0xf3, 0x90, 0x00], 7, false, 182)
+    ([0xff, 0xf3, 0x94, 0x00], 8, false, 192)
+    ([0xff, 0xf3, 0x98, 0x00], 5, false, 180)
     // One channel: 169 bytes.
-    Case {
-        header: [0xff, 0xf3, 0x90, 0xc0],
-        rate_index: 7,
-        padding: false,
-        length: 182,
-    },
-    Case {
-        header: [0xff, 0xf3, 0x14, 0xc0],
-        rate_index: 7,
-        padding: true,
-        length: 169,
-    },
-    Case {
-        header: [0xff, 0xf3, 0x98, 0xc0],
-        rate_index: 5,
-        padding: false,
-        length: 180,
-    },
+    ([0xff, 0xf3, 0x90, 0xc0], 7, false, 182)
+    ([0xff, 0xf3, 0x14, 0xc0], 7, true, 169)
+    ([0xff, 0xf3, 0x98, 0xc0], 5, false, 180)
     // MPEG-2.5, two channels: 177 bytes.
-    Case {
-        header: [0xff, 0xe3, 0x90, 0x00],
-        rate_index: 4,
-        padding: false,
-        length: 208,
-    },
-    Case {
-        header: [0xff, 0xe3, 0x94, 0x00],
-        rate_index: 4,
-        padding: false,
-        length: 192,
-    },
-    Case {
-        header: [0xff, 0xe3, 0x98, 0x00],
-        rate_index: 3,
-        padding: false,
-        length: 216,
-    },
+    ([0xff, 0xe3, 0x90, 0x00], 4, false, 208)
+    ([0xff, 0xe3, 0x94, 0x00], 4, false, 192)
+    ([0xff, 0xe3, 0x98, 0x00], 3, false, 216)
     // One channel: 169 bytes.
-    Case {
-        header: [0xff, 0xe3, 0x90, 0xc0],
-        rate_index: 4,
-        padding: false,
-        length: 208,
-    },
-    Case {
-        header: [0xff, 0xe3, 0x94, 0xc0],
-        rate_index: 4,
-        padding: false,
-        length: 192,
-    },
-    Case {
-        header: [0xff, 0xe3, 0x98, 0xc0],
-        rate_index: 3,
-        padding: false,
-        length: 216,
-    },
-];
+    ([0xff, 0xe3, 0x90, 0xc0], 4, false, 208)
+    ([0xff, 0xe3, 0x94, 0xc0], 4, false, 192)
+    ([0xff, 0xe3, 0x98, 0xc0], 3, false, 216)
+};
 
 #[test]
 fn slots_of_each_class(rt: HostRuntime) -> Result<(), NotHeader> {
@@ -147,17 +60,10 @@ fn slots_of_each_class(rt: HostRuntime) -> Result<(), NotHeader> {
 
 /// The Info frame of two frames of 417 bytes, 208 bytes long: 2 frames, 1042 bytes, the table, no quality, and the
 /// extension.
-static BEFORE_TWO: [Stretch; 9] = [
-    Stretch::Bytes(&[0xff, 0xfb, 0x50, 0x00]),
-    Stretch::Fill(0, 32),
-    Stretch::Bytes(b"Info\0\0\0\x0f"),
-    Stretch::Bytes(&[0, 0, 0, 2, 0, 0, 0x04, 0x12]),
-    Stretch::Fill(51, 50),
-    Stretch::Fill(153, 50),
-    Stretch::Fill(0, 4),
-    Stretch::Fill(9, 36),
-    Stretch::Fill(0, 16),
-];
+static BEFORE_TWO: [Stretch; 8] = end_to_end! {
+    INFO_FRONT, Bytes(b"Info\0\0\0\x0f"), Bytes(&[0, 0, 0, 2, 0, 0, 0x04, 0x12]), Fill(51, 50), Fill(153, 50),
+    Fill(0, 4), Fill(9, 36), Fill(0, 16)
+};
 
 #[test]
 fn a_frame_before_two_frames_of_128_kbit(rt: HostRuntime) -> Result<(), Fail> {
