@@ -4,6 +4,7 @@ use crate::reading::{bad_word, join_words, owned, split_words};
 use std::alloc::{AllocError, AllocGlobal};
 use std::process::Abort;
 use std::test::Fail;
+use test_files::table;
 
 /// Words, and the place of the first bad one, counted from 1.
 struct Bad {
@@ -30,232 +31,77 @@ fn no_steps(rt: HostRuntime) -> Result<(), Fail> {
 }
 
 /// Words of gains and of undoing them.
-static GAINS: [Bad; 19] = [
-    Bad {
-        words: &["gain"],
-        place: 2,
-    },
-    Bad {
-        words: &["gain", "-g", "300", "a", "b"],
-        place: 3,
-    },
-    Bad {
-        words: &["gain", "-s", "t", "-g", "3", "a", "b"],
-        place: 3,
-    },
-    Bad {
-        words: &["gain", "-s", "s", "-g", "3", "a"],
-        place: 7,
-    },
-    Bad {
-        words: &["gain", "-s", "s", "-g", "3", "-a", "b"],
-        place: 6,
-    },
-    Bad {
-        words: &["gain", "-s", "s", "-g", "3", "a", ""],
-        place: 7,
-    },
-    Bad {
-        words: &["gain", "-s", "s", "-g", "3", "a", "b", "c"],
-        place: 8,
-    },
-    Bad {
-        words: &["gain", "-w", "-w", "-g", "1", "a", "b"],
-        place: 3,
-    },
-    Bad {
-        words: &["gain", "-s", "s", "-s", "s", "-g", "1", "a", "b"],
-        place: 4,
-    },
-    Bad {
-        words: &["gain", "-g", "1", "-w", "a", "b"],
-        place: 4,
-    },
-    Bad {
-        words: &["gain", "-w", "-s", "s", "-w", "-g", "1", "a", "b"],
-        place: 5,
-    },
-    Bad {
-        words: &["gain", "-s", "s", "-l", "2", "1", "a", "b"],
-        place: 5,
-    },
-    Bad {
-        words: &["gain", "-w", "-s"],
-        place: 4,
-    },
-    Bad {
-        words: &["gain", "-s", "-w", "-g", "1", "a", "b"],
-        place: 3,
-    },
-    Bad {
-        words: &["gain", "-w", "-u", "a", "b"],
-        place: 3,
-    },
-    Bad {
-        words: &["gain", "-s", "s", "-u", "a", "b"],
-        place: 4,
-    },
-    Bad {
-        words: &["gain", "-u", "-w", "a", "b"],
-        place: 3,
-    },
-    Bad {
-        words: &["gain", "-u", "a"],
-        place: 4,
-    },
-    Bad {
-        words: &["gain", "-u", "a", "b", "c"],
-        place: 5,
-    },
-];
+static GAINS: [Bad; 19] = table! {
+    Bad { words, place }
+    (&["gain"], 2)
+    (&["gain", "-g", "300", "a", "b"], 3)
+    (&["gain", "-s", "t", "-g", "3", "a", "b"], 3)
+    (&["gain", "-s", "s", "-g", "3", "a"], 7)
+    (&["gain", "-s", "s", "-g", "3", "-a", "b"], 6)
+    (&["gain", "-s", "s", "-g", "3", "a", ""], 7)
+    (&["gain", "-s", "s", "-g", "3", "a", "b", "c"], 8)
+    (&["gain", "-w", "-w", "-g", "1", "a", "b"], 3)
+    (&["gain", "-s", "s", "-s", "s", "-g", "1", "a", "b"], 4)
+    (&["gain", "-g", "1", "-w", "a", "b"], 4)
+    (&["gain", "-w", "-s", "s", "-w", "-g", "1", "a", "b"], 5)
+    (&["gain", "-s", "s", "-l", "2", "1", "a", "b"], 5)
+    (&["gain", "-w", "-s"], 4)
+    (&["gain", "-s", "-w", "-g", "1", "a", "b"], 3)
+    (&["gain", "-w", "-u", "a", "b"], 3)
+    (&["gain", "-s", "s", "-u", "a", "b"], 4)
+    (&["gain", "-u", "-w", "a", "b"], 3)
+    (&["gain", "-u", "a"], 4)
+    (&["gain", "-u", "a", "b", "c"], 5)
+};
 
 /// Words of splits and joins.
-static SEVERAL: [Bad; 12] = [
-    Bad {
-        words: &["split"],
-        place: 2,
-    },
-    Bad {
-        words: &["split", "a", "-p", "0", "1"],
-        place: 3,
-    },
-    Bad {
-        words: &["split", "a", "p"],
-        place: 4,
-    },
-    Bad {
-        words: &["split", "a", "p", "0"],
-        place: 5,
-    },
-    Bad {
-        words: &["split", "a", "p", "0", "x"],
-        place: 5,
-    },
-    Bad {
-        words: &["split", "a", "p", "0", "1", "-c"],
-        place: 6,
-    },
-    Bad {
-        words: &["split", "a", "p", "-c"],
-        place: 5,
-    },
-    Bad {
-        words: &["split", "a", "p", "-c", "-s"],
-        place: 5,
-    },
-    Bad {
-        words: &["split", "a", "p", "-c", "s", "t"],
-        place: 6,
-    },
-    Bad {
-        words: &["join"],
-        place: 2,
-    },
-    Bad {
-        words: &["join", "o"],
-        place: 3,
-    },
-    Bad {
-        words: &["join", "o", "a", "-b"],
-        place: 4,
-    },
-];
+static SEVERAL: [Bad; 12] = table! {
+    Bad { words, place }
+    (&["split"], 2)
+    (&["split", "a", "-p", "0", "1"], 3)
+    (&["split", "a", "p"], 4)
+    (&["split", "a", "p", "0"], 5)
+    (&["split", "a", "p", "0", "x"], 5)
+    (&["split", "a", "p", "0", "1", "-c"], 6)
+    (&["split", "a", "p", "-c"], 5)
+    (&["split", "a", "p", "-c", "-s"], 5)
+    (&["split", "a", "p", "-c", "s", "t"], 6)
+    (&["join"], 2)
+    (&["join", "o"], 3)
+    (&["join", "o", "a", "-b"], 4)
+};
 
 /// Words of packings in a mode.
-static RATES: [Bad; 9] = [
-    Bad {
-        words: &["pack", "--constant"],
-        place: 3,
-    },
-    Bad {
-        words: &["pack", "--constant", "", "a", "b"],
-        place: 3,
-    },
-    Bad {
-        words: &["pack", "--constant", "1000", "a", "b"],
-        place: 3,
-    },
-    Bad {
-        words: &["pack", "--constant", "+96", "a", "b"],
-        place: 3,
-    },
-    Bad {
-        words: &["pack", "--constant", "96", "a"],
-        place: 5,
-    },
-    Bad {
-        words: &["pack", "--constant", "96", "--floor", "32", "a", "b"],
-        place: 4,
-    },
-    Bad {
-        words: &["pack", "--floor", "a", "b"],
-        place: 3,
-    },
-    Bad {
-        words: &["pack", "--floor", "32", "-a", "b"],
-        place: 4,
-    },
-    Bad {
-        words: &["pack", "--floor", "32", "a", "b", "c"],
-        place: 6,
-    },
-];
+static RATES: [Bad; 9] = table! {
+    Bad { words, place }
+    (&["pack", "--constant"], 3)
+    (&["pack", "--constant", "", "a", "b"], 3)
+    (&["pack", "--constant", "1000", "a", "b"], 3)
+    (&["pack", "--constant", "+96", "a", "b"], 3)
+    (&["pack", "--constant", "96", "a"], 5)
+    (&["pack", "--constant", "96", "--floor", "32", "a", "b"], 4)
+    (&["pack", "--floor", "a", "b"], 3)
+    (&["pack", "--floor", "32", "-a", "b"], 4)
+    (&["pack", "--floor", "32", "a", "b", "c"], 6)
+};
 
 /// Words of the other forms, and of none.
-static OTHERS: [Bad; 13] = [
-    Bad {
-        words: &[],
-        place: 1,
-    },
-    Bad {
-        words: &["lisp", "a"],
-        place: 1,
-    },
-    Bad {
-        words: &["-v"],
-        place: 1,
-    },
-    Bad {
-        words: &["--help", "list"],
-        place: 2,
-    },
-    Bad {
-        words: &["list"],
-        place: 2,
-    },
-    Bad {
-        words: &["list", "-a"],
-        place: 2,
-    },
-    Bad {
-        words: &["list", "a", "b"],
-        place: 3,
-    },
-    Bad {
-        words: &["cut", "a", "0"],
-        place: 4,
-    },
-    Bad {
-        words: &["cut", "a", "0", "1.60", "b"],
-        place: 4,
-    },
-    Bad {
-        words: &["cut", "--least", "a", "0", "b"],
-        place: 5,
-    },
-    Bad {
-        words: &["cut", "--least", "--least", "a", "0", "1", "b"],
-        place: 3,
-    },
-    Bad {
-        words: &["pack", "--least", "a", "b"],
-        place: 2,
-    },
-    Bad {
-        words: &["pack", "a"],
-        place: 3,
-    },
-];
+static OTHERS: [Bad; 13] = table! {
+    Bad { words, place }
+    (&[], 1)
+    (&["lisp", "a"], 1)
+    (&["-v"], 1)
+    (&["--help", "list"], 2)
+    (&["list"], 2)
+    (&["list", "-a"], 2)
+    (&["list", "a", "b"], 3)
+    (&["cut", "a", "0"], 4)
+    (&["cut", "a", "0", "1.60", "b"], 4)
+    (&["cut", "--least", "a", "0", "b"], 5)
+    (&["cut", "--least", "--least", "a", "0", "1", "b"], 3)
+    (&["pack", "--least", "a", "b"], 2)
+    (&["pack", "a"], 3)
+};
 
 /// Each of these is refused at its first bad word.
 fn expect<R: Abort + AllocGlobal>(rt: &R, table: &[Bad]) -> Result<(), AllocError> {

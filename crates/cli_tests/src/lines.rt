@@ -7,6 +7,7 @@ use std::alloc::{AllocError, AllocGlobal, Global};
 use std::process::Abort;
 use std::test::Fail;
 use sync_survey::SurveyFault;
+use test_files::table;
 
 /// A fault, with its status and its line.
 struct Line {
@@ -16,157 +17,47 @@ struct Line {
 }
 
 /// Faults of an input.
-static INPUT_LINES: [Line; 14] = [
-    Line {
-        fault: EditFault::Input(0, SurveyFault::Absent),
-        status: 3,
-        line: b"a.mp3: absent\n",
-    },
-    Line {
-        fault: EditFault::Input(0, SurveyFault::TooLong(1_073_741_825)),
-        status: 1,
-        line: b"a.mp3: too long, 1073741825 bytes\n",
-    },
-    Line {
-        fault: EditFault::Input(0, SurveyFault::NoFrame(0)),
-        status: 1,
-        line: b"a.mp3: no frame at 0\n",
-    },
-    Line {
-        fault: EditFault::Input(0, SurveyFault::LostSync(30417)),
-        status: 1,
-        line: b"a.mp3: lost synchronisation at 30417\n",
-    },
-    Line {
-        fault: EditFault::Input(0, SurveyFault::Truncated(417)),
-        status: 1,
-        line: b"a.mp3: truncated at 417\n",
-    },
-    Line {
-        fault: EditFault::Input(0, SurveyFault::FreeFormat(9)),
-        status: 1,
-        line: b"a.mp3: free format at 9\n",
-    },
-    Line {
-        fault: EditFault::Input(0, SurveyFault::Mixed(834)),
-        status: 1,
-        line: b"a.mp3: mixed class at 834\n",
-    },
-    Line {
-        fault: EditFault::Input(0, SurveyFault::CheckWord(417, 0x0a0f, 0xe952)),
-        status: 1,
-        line: b"a.mp3: check word at 417 is 0a0f, right is e952\n",
-    },
-    Line {
-        fault: EditFault::Input(0, SurveyFault::BackPointer(0, 10, 0)),
-        status: 1,
-        line: b"a.mp3: back pointer at 0 is 10, present 0\n",
-    },
-    Line {
-        fault: EditFault::Input(0, SurveyFault::Overlap(417)),
-        status: 1,
-        line: b"a.mp3: overlap at 417\n",
-    },
-    Line {
-        fault: EditFault::Input(0, SurveyFault::Overrun(0, 3049, 3048)),
-        status: 1,
-        line: b"a.mp3: overrun at 0, bits 3049, room 3048\n",
-    },
-    Line {
-        fault: EditFault::Input(0, SurveyFault::TooManyFrames(7)),
-        status: 1,
-        line: b"a.mp3: too many frames at 7\n",
-    },
-    Line {
-        fault: EditFault::Input(0, SurveyFault::Shrunk(834, 417)),
-        status: 3,
-        line: b"a.mp3: shrunk from 834 to 417\n",
-    },
-    Line {
-        fault: EditFault::Input(0, SurveyFault::Read),
-        status: 3,
-        line: b"a.mp3: read fault\n",
-    },
-];
+static INPUT_LINES: [Line; 14] = table! {
+    Line { fault, status, line }
+    (EditFault::Input(0, SurveyFault::Absent), 3, b"a.mp3: absent\n")
+    (EditFault::Input(0, SurveyFault::TooLong(1_073_741_825)), 1, b"a.mp3: too long, 1073741825 bytes\n")
+    (EditFault::Input(0, SurveyFault::NoFrame(0)), 1, b"a.mp3: no frame at 0\n")
+    (EditFault::Input(0, SurveyFault::LostSync(30417)), 1, b"a.mp3: lost synchronisation at 30417\n")
+    (EditFault::Input(0, SurveyFault::Truncated(417)), 1, b"a.mp3: truncated at 417\n")
+    (EditFault::Input(0, SurveyFault::FreeFormat(9)), 1, b"a.mp3: free format at 9\n")
+    (EditFault::Input(0, SurveyFault::Mixed(834)), 1, b"a.mp3: mixed class at 834\n")
+    (EditFault::Input(0, SurveyFault::CheckWord(417, 0x0a0f, 0xe952)), 1,
+        b"a.mp3: check word at 417 is 0a0f, right is e952\n")
+    (EditFault::Input(0, SurveyFault::BackPointer(0, 10, 0)), 1,
+        b"a.mp3: back pointer at 0 is 10, present 0\n")
+    (EditFault::Input(0, SurveyFault::Overlap(417)), 1, b"a.mp3: overlap at 417\n")
+    (EditFault::Input(0, SurveyFault::Overrun(0, 3049, 3048)), 1,
+        b"a.mp3: overrun at 0, bits 3049, room 3048\n")
+    (EditFault::Input(0, SurveyFault::TooManyFrames(7)), 1, b"a.mp3: too many frames at 7\n")
+    (EditFault::Input(0, SurveyFault::Shrunk(834, 417)), 3, b"a.mp3: shrunk from 834 to 417\n")
+    (EditFault::Input(0, SurveyFault::Read), 3, b"a.mp3: read fault\n")
+};
 
 /// All others.
-static LINES: [Line; 15] = [
-    Line {
-        fault: EditFault::EqualNames(0),
-        status: 1,
-        line: b"a.mp3: input is an output\n",
-    },
-    Line {
-        fault: EditFault::Refused(Refusal::Mono),
-        status: 1,
-        line: b"one channel only\n",
-    },
-    Line {
-        fault: EditFault::Refused(Refusal::Joint(30417)),
-        status: 1,
-        line: b"joint stereo at 30417\n",
-    },
-    Line {
-        fault: EditFault::Refused(Refusal::TagTooLarge(1_048_577)),
-        status: 1,
-        line: b"tag too large, 1048577\n",
-    },
-    Line {
-        fault: EditFault::Refused(Refusal::BadTag(441)),
-        status: 1,
-        line: b"bad tag at 441\n",
-    },
-    Line {
-        fault: EditFault::Refused(Refusal::NoUndo),
-        status: 1,
-        line: b"no undo item\n",
-    },
-    Line {
-        fault: EditFault::Refused(Refusal::BadUndo(449)),
-        status: 1,
-        line: b"bad undo item at 449\n",
-    },
-    Line {
-        fault: EditFault::Refused(Refusal::UndoRange(-1020)),
-        status: 1,
-        line: b"undo sum -1020 is out of range\n",
-    },
-    Line {
-        fault: EditFault::Refused(Refusal::UndoRange(1254)),
-        status: 1,
-        line: b"undo sum 1254 is out of range\n",
-    },
-    Line {
-        fault: EditFault::Refused(Refusal::OutputTooLong(1_073_741_920)),
-        status: 1,
-        line: b"output too long, 1073741920 bytes\n",
-    },
-    Line {
-        fault: EditFault::Sent,
-        status: 3,
-        line: b"standard output: write fault\n",
-    },
-    Line {
-        fault: EditFault::Refused(Refusal::GainRange(417, 1, 0, 255)),
-        status: 1,
-        line: b"gain 255 out of range at 417, granule 1, channel 0\n",
-    },
-    Line {
-        fault: EditFault::Refused(Refusal::Range(2, 2, 2)),
-        status: 1,
-        line: b"range 2 to 2 of 2 frames\n",
-    },
-    Line {
-        fault: EditFault::Write(0),
-        status: 3,
-        line: b"b.mp3: write fault\n",
-    },
-    Line {
-        fault: EditFault::Memory,
-        status: 4,
-        line: b"out of memory\n",
-    },
-];
+static LINES: [Line; 15] = table! {
+    Line { fault, status, line }
+    (EditFault::EqualNames(0), 1, b"a.mp3: input is an output\n")
+    (EditFault::Refused(Refusal::Mono), 1, b"one channel only\n")
+    (EditFault::Refused(Refusal::Joint(30417)), 1, b"joint stereo at 30417\n")
+    (EditFault::Refused(Refusal::TagTooLarge(1_048_577)), 1, b"tag too large, 1048577\n")
+    (EditFault::Refused(Refusal::BadTag(441)), 1, b"bad tag at 441\n")
+    (EditFault::Refused(Refusal::NoUndo), 1, b"no undo item\n")
+    (EditFault::Refused(Refusal::BadUndo(449)), 1, b"bad undo item at 449\n")
+    (EditFault::Refused(Refusal::UndoRange(-1020)), 1, b"undo sum -1020 is out of range\n")
+    (EditFault::Refused(Refusal::UndoRange(1254)), 1, b"undo sum 1254 is out of range\n")
+    (EditFault::Refused(Refusal::OutputTooLong(1_073_741_920)), 1, b"output too long, 1073741920 bytes\n")
+    (EditFault::Sent, 3, b"standard output: write fault\n")
+    (EditFault::Refused(Refusal::GainRange(417, 1, 0, 255)), 1,
+        b"gain 255 out of range at 417, granule 1, channel 0\n")
+    (EditFault::Refused(Refusal::Range(2, 2, 2)), 1, b"range 2 to 2 of 2 frames\n")
+    (EditFault::Write(0), 3, b"b.mp3: write fault\n")
+    (EditFault::Memory, 4, b"out of memory\n")
+};
 
 /// Those of bit rates that frames are to have.
 static RATE_LINES: [Line; 2] = [
@@ -183,38 +74,15 @@ static RATE_LINES: [Line; 2] = [
 ];
 
 /// Those of commands with several files.
-static SEVERAL_LINES: [Line; 6] = [
-    Line {
-        fault: EditFault::Refused(Refusal::Differ(1)),
-        status: 1,
-        line: b"c.mp3: other class than the first input\n",
-    },
-    Line {
-        fault: EditFault::Refused(Refusal::SheetTooLarge(65_537)),
-        status: 1,
-        line: b"c.mp3: sheet too large, 65537 bytes\n",
-    },
-    Line {
-        fault: EditFault::Refused(Refusal::Sheet(CueFault::Line(12))),
-        status: 1,
-        line: b"c.mp3: bad line 12\n",
-    },
-    Line {
-        fault: EditFault::Refused(Refusal::Sheet(CueFault::NotRising(9))),
-        status: 1,
-        line: b"c.mp3: not rising at line 9\n",
-    },
-    Line {
-        fault: EditFault::Refused(Refusal::Sheet(CueFault::NoTracks)),
-        status: 1,
-        line: b"c.mp3: no tracks\n",
-    },
-    Line {
-        fault: EditFault::EqualNames(1),
-        status: 1,
-        line: b"c.mp3: input is an output\n",
-    },
-];
+static SEVERAL_LINES: [Line; 6] = table! {
+    Line { fault, status, line }
+    (EditFault::Refused(Refusal::Differ(1)), 1, b"c.mp3: other class than the first input\n")
+    (EditFault::Refused(Refusal::SheetTooLarge(65_537)), 1, b"c.mp3: sheet too large, 65537 bytes\n")
+    (EditFault::Refused(Refusal::Sheet(CueFault::Line(12))), 1, b"c.mp3: bad line 12\n")
+    (EditFault::Refused(Refusal::Sheet(CueFault::NotRising(9))), 1, b"c.mp3: not rising at line 9\n")
+    (EditFault::Refused(Refusal::Sheet(CueFault::NoTracks)), 1, b"c.mp3: no tracks\n")
+    (EditFault::EqualNames(1), 1, b"c.mp3: input is an output\n")
+};
 
 /// A sink of 100 bytes.
 fn new_sink(alloc: Global) -> Result<MemSink, AllocError> {
@@ -277,24 +145,13 @@ struct PieceLine {
 }
 
 /// Names of pieces are counted from 1, and an output that isn't one of them has no name.
-static PIECES: [PieceLine; 4] = [
-    PieceLine {
-        piece: 0,
-        line: b"p01.mp3: write fault\n",
-    },
-    PieceLine {
-        piece: 9,
-        line: b"p10.mp3: write fault\n",
-    },
-    PieceLine {
-        piece: 98,
-        line: b"p99.mp3: write fault\n",
-    },
-    PieceLine {
-        piece: 99,
-        line: b": write fault\n",
-    },
-];
+static PIECES: [PieceLine; 4] = table! {
+    PieceLine { piece, line }
+    (0, b"p01.mp3: write fault\n")
+    (9, b"p10.mp3: write fault\n")
+    (98, b"p99.mp3: write fault\n")
+    (99, b": write fault\n")
+};
 
 #[test]
 fn lines_of_pieces(rt: HostRuntime) -> Result<(), Fail> {

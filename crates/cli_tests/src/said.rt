@@ -5,6 +5,7 @@ use mp3_cli::run;
 use outside::{MemFolder, MemSink};
 use std::alloc::{AllocError, Global};
 use std::test::Fail;
+use test_files::table;
 
 const USAGE: &[u8] = b"usage: mp3edit COMMAND
   list IN                say what stands in the MP3 file IN: tags, junk, head and frames
@@ -46,50 +47,15 @@ struct Said {
 
 const FAULT: &[u8] = b"standard output: write fault\n";
 
-static SAID: [Said; 6] = [
-    Said {
-        word: "--help",
-        is_failing: false,
-        status: 0,
-        text: USAGE,
-        line: b"",
-    },
-    Said {
-        word: "--help",
-        is_failing: true,
-        status: 3,
-        text: b"",
-        line: FAULT,
-    },
-    Said {
-        word: "-h",
-        is_failing: false,
-        status: 0,
-        text: USAGE,
-        line: b"",
-    },
-    Said {
-        word: "-h",
-        is_failing: true,
-        status: 3,
-        text: b"",
-        line: FAULT,
-    },
-    Said {
-        word: "--version",
-        is_failing: false,
-        status: 0,
-        text: b"mp3edit 0.1.0\n",
-        line: b"",
-    },
-    Said {
-        word: "--version",
-        is_failing: true,
-        status: 3,
-        text: b"",
-        line: FAULT,
-    },
-];
+static SAID: [Said; 6] = table! {
+    Said { word, is_failing, status, text, line }
+    ("--help", false, 0, USAGE, b"")
+    ("--help", true, 3, b"", FAULT)
+    ("-h", false, 0, USAGE, b"")
+    ("-h", true, 3, b"", FAULT)
+    ("--version", false, 0, b"mp3edit 0.1.0\n", b"")
+    ("--version", true, 3, b"", FAULT)
+};
 
 /// The status of a run of one word, and what it sent to both sinks.
 #[derive(Drop)]

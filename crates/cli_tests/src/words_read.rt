@@ -8,6 +8,7 @@ use mp3_cli::{Job, job};
 use std::alloc::{AllocError, AllocGlobal};
 use std::process::Abort;
 use std::test::Fail;
+use test_files::table;
 
 /// The words ask for this.
 fn expect<R: Abort + AllocGlobal>(rt: &R, words: &[&str], wanted: Job) -> Result<(), AllocError> {
@@ -22,32 +23,15 @@ struct StepWord {
     steps: i16,
 }
 
-static STEPS: [StepWord; 6] = [
-    StepWord {
-        word: "3",
-        steps: 3,
-    },
-    StepWord {
-        word: "+007",
-        steps: 7,
-    },
-    StepWord {
-        word: "-0",
-        steps: 0,
-    },
-    StepWord {
-        word: "255",
-        steps: 255,
-    },
-    StepWord {
-        word: "-255",
-        steps: -255,
-    },
-    StepWord {
-        word: "-12",
-        steps: -12,
-    },
-];
+static STEPS: [StepWord; 6] = table! {
+    StepWord { word, steps }
+    ("3", 3)
+    ("+007", 7)
+    ("-0", 0)
+    ("255", 255)
+    ("-255", -255)
+    ("-12", -12)
+};
 
 #[test]
 fn words_of_steps(rt: HostRuntime) -> Result<(), Fail> {
@@ -77,68 +61,19 @@ struct GainWords {
     tags: bool,
 }
 
-static GAINS: [GainWords; 10] = [
-    GainWords {
-        words: &["gain", "-g", "-7", "a", "b"],
-        channels: Channels::Both,
-        wrap: false,
-        tags: true,
-    },
-    GainWords {
-        words: &["gain", "-s", "s", "-g", "-7", "a", "b"],
-        channels: Channels::Both,
-        wrap: false,
-        tags: false,
-    },
-    GainWords {
-        words: &["gain", "-w", "-g", "-7", "a", "b"],
-        channels: Channels::Both,
-        wrap: true,
-        tags: true,
-    },
-    GainWords {
-        words: &["gain", "-s", "s", "-w", "-g", "-7", "a", "b"],
-        channels: Channels::Both,
-        wrap: true,
-        tags: false,
-    },
-    GainWords {
-        words: &["gain", "-w", "-s", "s", "-g", "-7", "a", "b"],
-        channels: Channels::Both,
-        wrap: true,
-        tags: false,
-    },
-    GainWords {
-        words: &["gain", "-l", "0", "-7", "a", "b"],
-        channels: Channels::Left,
-        wrap: false,
-        tags: true,
-    },
-    GainWords {
-        words: &["gain", "-s", "s", "-l", "0", "-7", "a", "b"],
-        channels: Channels::Left,
-        wrap: false,
-        tags: false,
-    },
-    GainWords {
-        words: &["gain", "-w", "-l", "0", "-7", "a", "b"],
-        channels: Channels::Left,
-        wrap: true,
-        tags: true,
-    },
-    GainWords {
-        words: &["gain", "-s", "s", "-w", "-l", "1", "-7", "a", "b"],
-        channels: Channels::Right,
-        wrap: true,
-        tags: false,
-    },
-    GainWords {
-        words: &["gain", "-w", "-s", "s", "-l", "1", "-7", "a", "b"],
-        channels: Channels::Right,
-        wrap: true,
-        tags: false,
-    },
-];
+static GAINS: [GainWords; 10] = table! {
+    GainWords { words, channels, wrap, tags }
+    (&["gain", "-g", "-7", "a", "b"], Channels::Both, false, true)
+    (&["gain", "-s", "s", "-g", "-7", "a", "b"], Channels::Both, false, false)
+    (&["gain", "-w", "-g", "-7", "a", "b"], Channels::Both, true, true)
+    (&["gain", "-s", "s", "-w", "-g", "-7", "a", "b"], Channels::Both, true, false)
+    (&["gain", "-w", "-s", "s", "-g", "-7", "a", "b"], Channels::Both, true, false)
+    (&["gain", "-l", "0", "-7", "a", "b"], Channels::Left, false, true)
+    (&["gain", "-s", "s", "-l", "0", "-7", "a", "b"], Channels::Left, false, false)
+    (&["gain", "-w", "-l", "0", "-7", "a", "b"], Channels::Left, true, true)
+    (&["gain", "-s", "s", "-w", "-l", "1", "-7", "a", "b"], Channels::Right, true, false)
+    (&["gain", "-w", "-s", "s", "-l", "1", "-7", "a", "b"], Channels::Right, true, false)
+};
 
 #[test]
 fn gains(rt: HostRuntime) -> Result<(), Fail> {
@@ -188,24 +123,13 @@ struct RateWords {
 }
 
 /// Any number of one to three digits is a word for a bit rate.
-static RATES: [RateWords; 4] = [
-    RateWords {
-        words: &["pack", "--constant", "96", "a", "b"],
-        mode: PackMode::Constant(96),
-    },
-    RateWords {
-        words: &["pack", "--constant", "0", "a", "b"],
-        mode: PackMode::Constant(0),
-    },
-    RateWords {
-        words: &["pack", "--floor", "008", "a", "b"],
-        mode: PackMode::Floor(8),
-    },
-    RateWords {
-        words: &["pack", "--floor", "999", "a", "b"],
-        mode: PackMode::Floor(999),
-    },
-];
+static RATES: [RateWords; 4] = table! {
+    RateWords { words, mode }
+    (&["pack", "--constant", "96", "a", "b"], PackMode::Constant(96))
+    (&["pack", "--constant", "0", "a", "b"], PackMode::Constant(0))
+    (&["pack", "--floor", "008", "a", "b"], PackMode::Floor(8))
+    (&["pack", "--floor", "999", "a", "b"], PackMode::Floor(999))
+};
 
 #[test]
 fn packings_in_a_mode(rt: HostRuntime) -> Result<(), Fail> {
