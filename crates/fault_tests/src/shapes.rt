@@ -29,7 +29,7 @@ fn expect_frames<R: Abort>(rt: &R, name: &str, survey: &Survey, offsets: &[u64])
     let rows = survey.frames();
     assert_eq!(rt; rows.len(), offsets.len(), "{name}");
     for (row, offset) in rows.iter().zip(offsets) {
-        assert_eq!(rt; row.offset, *offset, "{name}");
+        assert_eq!(rt; u64::from(row.offset), *offset, "{name}");
     }
 }
 

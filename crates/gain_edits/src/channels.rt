@@ -24,7 +24,7 @@ fn joint_at(row: &Row) -> Option<Refusal>
     ensures { result ≡ joint_at_lem row.now }
 {
     if row.header.mode == JOINT {
-        Some(Refusal::Joint(row.offset))
+        Some(Refusal::Joint(u64::from(row.offset)))
     } else {
         None
     }

@@ -36,7 +36,7 @@ fn first_fault(course: &Course, rows: &[Row]) -> Option<Refusal>
 {
     for (frame, row) in rows.iter().enumerate() {
         let steps = course.steps(frame as u32);
-        if let Some(fault) = fault_at(row.offset, stuck_of(&steps, row)) {
+        if let Some(fault) = fault_at(u64::from(row.offset), stuck_of(&steps, row)) {
             return Some(fault);
         }
     }

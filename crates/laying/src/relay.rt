@@ -138,7 +138,7 @@ impl<'a> Relay<'a> {
         ensures ready { IsReady self.now (D.files folder.new) feed.new }
     {
         let header = &row.header;
-        let at = row.offset + u64::from(overhead(header));
+        let at = u64::from(row.offset) + u64::from(overhead(header));
         self.pass.fill(folder, at, header.area() as usize, feed)?;
         window.push_area(feed.bytes());
         Ok(())

@@ -53,7 +53,7 @@ fn set_frame_line(line: &mut Line, number: u64, row: &Row)
     line.put(b" kbit/s");
     line.put_number(u64::from(row.header.class().rate(slot)));
     line.put(b": ");
-    line.put_number(row.offset);
+    line.put_number(u64::from(row.offset));
     line.put(b" at ");
     line.put_number(number);
     line.put(b"frame ");

@@ -27,7 +27,7 @@ impl Thing {
         match self {
             Thing::Block(piece) => piece.offset,
             Thing::Junk(at, _) | Thing::FirstHead(at, _) => *at,
-            Thing::Frame(_, row) => row.offset,
+            Thing::Frame(_, row) => u64::from(row.offset),
         }
     }
 }
@@ -104,7 +104,7 @@ impl<'a> Things<'a> {
             return Some(head.offset());
         }
         let row = self.frames.get(self.next_frame)?;
-        Some(row.offset)
+        Some(u64::from(row.offset))
     }
 
     /// The next thing that is no block.

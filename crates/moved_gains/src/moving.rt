@@ -233,9 +233,10 @@ impl<'a> GainPass<'a> {
         let Buffers { feed, waiting } = buffers;
         let row = moved.row;
         let length = frame_length(&row.header);
-        self.pass.fill(folder, row.offset, length as usize, feed)?;
+        let at = u64::from(row.offset);
+        self.pass.fill(folder, at, length as usize, feed)?;
         self.push_frame(folder, moved, feed.bytes(), waiting)?;
-        Ok(row.offset + u64::from(length))
+        Ok(at + u64::from(length))
     }
 
     /// Copies what stands from an offset on, and moves the gains of these frames.
@@ -265,7 +266,7 @@ impl<'a> GainPass<'a> {
     {
         let mut at = from;
         for (frame, row) in rows.iter().enumerate() {
-            self.copy(folder, at, row.offset, buffers)?;
+            self.copy(folder, at, u64::from(row.offset), buffers)?;
             let steps = self.course.steps(frame as u32);
             at = self.move_frame(folder, &MovedRow { row, steps }, buffers)?;
         }

@@ -3,6 +3,7 @@ ghost use Rattle.std.specs.Prelude.{◌≡◌, ◌⊎◌, ◌^◌, ◌≤◌, �
 ghost use Rattle.frame_header.specs.Fields.{HeaderFields};
 ghost use Rattle.frame_header.specs.Tables.{class_of};
 ghost use Rattle.side_info.specs.Side.{SideFits};
+ghost use Rattle.sync_survey.specs.Faults.{longest_file};
 ghost use Rattle.sync_survey.specs.Looks.{ReachArea, row_read};
 ghost use Rattle.salvage.specs.Damaged.{most_frames};
 ghost use Rattle.salvage.specs.Judged.{judged_by, before_next, AddsItem, AddsGap, IsPastMost};
@@ -53,6 +54,7 @@ impl Found {
     /// Judges the frame where the reading stands, and keeps it. The first of the bytes are its own.
     fn judge(&mut self, header: Header, bytes: &[u8]) -> Result<(), SurveyFault>
         requires room { ReachArea header bytes.now }
+        requires early { self.old.at ≤ longest_file }
         requires bound { self.old.before.place ≤ 2 ^ 62 }
         ensures kept { MatchResult result
             (λ _. AddsItem (Item.Frame header) 0 bytes.now self.old self.new)
@@ -67,10 +69,10 @@ impl Found {
         }
         // The row is read and judged where it stays, since to copy it takes as long as to read it.
         self.rows.push(Row {
-            offset: self.at,
+            offset: self.at as u32,
             header,
-            side: Side::empty(),
             lost: false,
+            side: Side::empty(),
         })?;
         let row = &mut self.rows[count];
         read_side(&header, bytes, &mut row.side);
@@ -81,6 +83,7 @@ impl Found {
     /// Keeps the item where the reading stands. The first of the bytes are its own.
     fn keep_item(&mut self, item: &Item, bytes: &[u8]) -> Result<(), SurveyFault>
         requires room { (h : HeaderFields) → item.now ≡ Item.Frame h → ReachArea h bytes.now }
+        requires early { self.old.at ≤ longest_file }
         requires bound { self.old.before.place ≤ 2 ^ 62 }
         ensures kept { MatchResult result
             (λ _. AddsItem item.now 0 bytes.now self.old self.new)
@@ -103,7 +106,7 @@ impl Found {
     pub(crate) fn keep(&mut self, item: &Item, size: u64, bytes: &[u8]) -> Result<(), SurveyFault>
         requires room { (h : HeaderFields) → item.now ≡ Item.Frame h → ReachArea h bytes.now }
         requires bound { self.old.before.place ≤ 2 ^ 62 }
-        requires short { self.old.at + size ≤ 2 ^ 62 }
+        requires short { self.old.at + size ≤ longest_file }
         ensures kept { MatchResult result
             (λ _. AddsItem item.now size bytes.now self.old self.new)
             (λ fault. (fault ≡ SurveyFault.Memory) ⊎ IsPastMost item.now self.old fault) }

@@ -65,7 +65,7 @@ fn expect_blocks<R: Abort>(rt: &R, blocks: &[Piece]) {
 }
 
 /// Asserts that the row is such a frame.
-fn expect_row<R: Abort>(rt: &R, row: &Row, offset: u64, begin: u16, bits: u32) {
+fn expect_row<R: Abort>(rt: &R, row: &Row, offset: u32, begin: u16, bits: u32) {
     assert_eq!(rt; row.offset, offset);
     assert_eq!(rt; row.header, HEADER);
     assert_eq!(rt; row.side.main_data_begin, begin);

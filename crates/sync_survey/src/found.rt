@@ -1,6 +1,7 @@
 //! What was found so far, and judged.
 ghost use Rattle.std.specs.Prelude.{◌≡◌, ◌⊎◌, ◌^◌, ◌≤◌, MatchResult};
 ghost use Rattle.frame_header.specs.Fields.{HeaderFields};
+ghost use Rattle.sync_survey.specs.Faults.{longest_file};
 ghost use Rattle.sync_survey.specs.Looks.{ReachArea, Keeps, IsFrameFault};
 
 use crate::items::{Item, is_same_class};
@@ -30,6 +31,7 @@ impl Found {
         allowed: u32,
     ) -> Result<(), SurveyFault>
         requires room { ReachArea header bytes.now }
+        requires early { offset ≤ longest_file }
         requires bound { self.old.before.place ≤ 2 ^ 62 }
         ensures { MatchResult result
             (λ _. Keeps class allowed offset (Item.Frame header) bytes.now self.old self.new)
@@ -42,10 +44,10 @@ impl Found {
         let count = self.rows.len();
         // The row is read and judged where it stays, since to copy it takes as long as to read it.
         self.rows.push(Row {
-            offset,
+            offset: offset as u32,
             header,
-            side: Side::empty(),
             lost: false,
+            side: Side::empty(),
         })?;
         let row = &mut self.rows[count];
         self.before = self
@@ -65,6 +67,7 @@ impl Found {
         allowed: u32,
     ) -> Result<(), SurveyFault>
         requires room { (h : HeaderFields) → item.now ≡ Item.Frame h → ReachArea h bytes.now }
+        requires early { offset ≤ longest_file }
         requires bound { self.old.before.place ≤ 2 ^ 62 }
         ensures { MatchResult result
             (λ _. Keeps class allowed offset item.now bytes.now self.old self.new)

@@ -11,16 +11,18 @@ use crate::survey_fault::SurveyFault;
 use frame_header::Header;
 use side_info::{Side, check_word, read_side, word_said};
 
-/// A frame of the stream: the offset of its header in bytes, its header, and its side information.
+/// A frame of the stream: the offset of its header in bytes, its header, and its side information. The fields stand in
+/// the order in which it takes 88 bytes.
 #[derive(Clone, Copy, Debug, PartialEq, Eq)]
 pub struct Row {
-    pub offset: u64,
+    /// Below 2^30, since a longer file is refused.
+    pub offset: u32,
     pub header: Header,
-    /// What stands in the file, also where the frame is lost.
-    pub side: Side,
     /// Whether the main data of the frame begin before the stream, and every frame before it is silent or lost
     /// too: they were cut off with the frames that stood before. Such a frame has no main data.
     pub lost: bool,
+    /// What stands in the file, also where the frame is lost.
+    pub side: Side,
 }
 
 /// The main data before a frame.
@@ -53,7 +55,7 @@ fn word_fault(row: &Row, bytes: &[u8]) -> Option<SurveyFault>
     if said == right {
         return None;
     }
-    Some(SurveyFault::CheckWord(row.offset, said, right))
+    Some(SurveyFault::CheckWord(u64::from(row.offset), said, right))
 }
 
 /// The fault of a frame that as many frames stand before as are allowed.
@@ -61,7 +63,7 @@ fn count_fault(row: &Row, count: u64, allowed: u64) -> Option<SurveyFault>
     ensures { result ≡ first_of (count_faults count allowed row.now) }
 {
     if count == allowed {
-        Some(SurveyFault::TooManyFrames(row.offset))
+        Some(SurveyFault::TooManyFrames(u64::from(row.offset)))
     } else {
         None
     }
@@ -93,19 +95,20 @@ impl Before {
                 before: Before { place, ended },
             });
         }
+        let offset = u64::from(row.offset);
         let begin = row.side.main_data_begin;
         if self.place < u64::from(begin) {
-            return Err(SurveyFault::BackPointer(row.offset, u32::from(begin), self.place));
+            return Err(SurveyFault::BackPointer(offset, u32::from(begin), self.place));
         }
         let start = self.place - u64::from(begin);
         if start < self.ended {
-            return Err(SurveyFault::Overlap(row.offset));
+            return Err(SurveyFault::Overlap(offset));
         }
         let bits = row.side.bits();
         let end = start + u64::from(row.side.payload_bytes());
         if place < end {
             let room = 8 * (u32::from(begin) + area);
-            return Err(SurveyFault::Overrun(row.offset, bits, room));
+            return Err(SurveyFault::Overrun(offset, bits, room));
         }
         let ended = if bits == 0 { self.ended } else { end };
         Ok(Behind {

@@ -72,7 +72,7 @@ fn file_around(alloc: Global, header: &Header, frames: &[u8]) -> Result<Vec<u8>,
     Ok(file)
 }
 
-fn expect_row(rt: &impl Abort, row: &Row, offset: u64, begin: u16, bits: u32) {
+fn expect_row(rt: &impl Abort, row: &Row, offset: u32, begin: u16, bits: u32) {
     assert!(rt; row.offset == offset && !row.lost);
     assert_eq!(rt; row.side.main_data_begin, begin);
     assert_eq!(rt; row.side.bits(), bits);

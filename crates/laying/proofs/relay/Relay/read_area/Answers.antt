@@ -13,13 +13,13 @@ pub overflow_add-at : goal.overflow_add-at
 overflow_add-at g c =
     let s = tells c.args.self.now.survey.now in
     let laid = c.requires.ready.laid in
-    omega (arith, laid-within s.first s.length s.frames c.args.i c.args.row.now laid.frames c.requires.found, laid.few, c.from.ensures, c.overhead.ensures.most)
+    omega (arith, laid-within s.first s.length s.frames c.args.i c.args.row.now laid.frames c.requires.found, laid.few, c.from.ensures, c.from-2.ensures, c.overhead.ensures.most)
 
 pub fill-requires-clause-within : goal.fill-requires-clause-within
 fill-requires-clause-within g c =
     let s = tells c.args.self.now.survey.now in
     let laid = c.requires.ready.laid in
-    omega (arith, laid-within s.first s.length s.frames c.args.i c.args.row.now laid.frames c.requires.found, c.requires.ready.length_is, c.from.ensures, c.overhead.ensures.overhead, c.area.ensures.whole)
+    omega (arith, laid-within s.first s.length s.frames c.args.i c.args.row.now laid.frames c.requires.found, c.requires.ready.length_is, c.from.ensures, c.from-2.ensures, c.overhead.ensures.overhead, c.area.ensures.whole)
 
 pub returns-clause-area : goal.returns-clause-area
 returns-clause-area g c =
@@ -33,7 +33,7 @@ returns-clause-area g c =
           let told : Holds (files c.args.folder.now) c.args.self.now.pass.input.now file = subst (λ f. Holds f c.args.self.now.pass.input.now file) c.fill.ensures.files holds in
           c.bytes.ensures
           ∙ c.in_ok-fill.ensures.bytes file told
-          ∙ ap₂ (λ m n. take m (drop (row.offset + n) file)) c.area.ensures.area (c.from.ensures ∙ c.overhead.ensures.overhead)
+          ∙ ap₂ (λ m n. take m (drop n file)) c.area.ensures.area (ap₂ (λ m n. m + n) c.from.ensures (c.from-2.ensures ∙ c.overhead.ensures.overhead))
           ∙ ap (take (own_area row.header)) (sym (drop-drop (overhead_of (class_of row.header) row.header.protected) row.offset file));
       held = c.push_area.ensures.main;
     }
