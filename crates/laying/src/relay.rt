@@ -418,7 +418,7 @@ impl<'a> Relay<'a> {
     /// `Read` where a read failed; `Shrunk`, the length that the input was found with and the one that it had when it was
     /// read, where a read gave no byte before that length; `Write` where a write failed. Then a prefix of what waited and
     /// the bytes, none to all of them, was appended.
-    pub fn lay<D: Folder>(
+    pub(crate) fn lay<D: Folder>(
         &self,
         folder: &mut D,
         section: &Section<'_>,
