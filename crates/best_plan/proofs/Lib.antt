@@ -4,3 +4,4 @@ pub mod WalkLaws
 pub mod PlanLaws
 pub mod ShortestLaw
 pub mod BestOfLaws
+pub mod ExistsLaw

@@ -24,11 +24,11 @@ without-lead : (window : ℕ) (choices : HeaderFields → List SlotFields) (need
 without-lead window choices needs placed best plan is = is.best.shortest (areas_in (map (item_of choices) needs) placed) plan.least.chosen plan.least.feasible
 
 -- a lead-in of one slot is one of all
-contains-one : (m n : ℕ) → Contains (m ∷ []) n → m ≡ n
+pub contains-one : (m n : ℕ) → Contains (m ∷ []) n → m ≡ n
 contains-one m n (zero, within, at) = at
 contains-one m n (suc i, within, at) = absurd (omega (arith, within))
 
-widened : (choices : HeaderFields → List SlotFields) (first : Need) (needs : List Need) (slot : SlotFields) (areas : List ℕ) → Contains all_slots slot
+pub widened : (choices : HeaderFields → List SlotFields) (first : Need) (needs : List Need) (slot : SlotFields) (areas : List ℕ) → Contains all_slots slot
     → AreChosen (map open_of (lead_in_of (class_of first.header) (slot ∷ []) ∷ map (item_of choices) (first ∷ needs))) areas → AreChosen (map open_of (lead_in_of (class_of first.header) all_slots ∷ map (item_of choices) (first ∷ needs))) areas
 unfolding AreChosen
 widened choices first needs slot [] has chosen = absurd chosen
@@ -36,7 +36,7 @@ widened choices first needs slot (area ∷ areas) has chosen =
     let class : ClassFields = class_of first.header in
     (subst (Contains (areas_with class false all_slots)) (contains-one (area_of class slot false) area chosen.0) (Contains-area class false all_slots slot has), chosen.1)
 
-same-frames : (choices : HeaderFields → List SlotFields) (first : Need) (needs : List Need) (slot : SlotFields) (areas : List ℕ)
+pub same-frames : (choices : HeaderFields → List SlotFields) (first : Need) (needs : List Need) (slot : SlotFields) (areas : List ℕ)
     → frames_of (map open_of (lead_in_of (class_of first.header) (slot ∷ []) ∷ map (item_of choices) (first ∷ needs))) areas ≡ frames_of (map open_of (lead_in_of (class_of first.header) all_slots ∷ map (item_of choices) (first ∷ needs))) areas
 unfolding frames_of
 same-frames choices first needs slot [] = refl
@@ -50,7 +50,7 @@ with-lead window choices first needs slot placed best has plan is =
     is.best.shortest areas (widened choices first needs slot areas has plan.least.chosen) (subst (IsFeasible window 0) (same-frames choices first needs slot areas) plan.least.feasible)
 
 -- one part
-whole-one : (choices : HeaderFields → List SlotFields) (needs : List Need) (lead_in : Option SlotFields) → whole_of choices (needs ∷ []) (lead_in ∷ []) ≡ items_of choices needs lead_in
+pub whole-one : (choices : HeaderFields → List SlotFields) (needs : List Need) (lead_in : Option SlotFields) → whole_of choices (needs ∷ []) (lead_in ∷ []) ≡ items_of choices needs lead_in
 unfolding whole_of
 whole-one choices needs lead_in = append-nil (items_of choices needs lead_in)
 

@@ -29,7 +29,7 @@ fold-add : (a : ℕ) (ns : List ℕ) → fold (λ m n. m + n) a ns ≡ a + fold 
 fold-add a [] = omega arith
 fold-add a (n ∷ ns) = omega (arith, fold-add (a + n) ns, fold-add (0 + n) ns)
 
-sum-cons : (n : ℕ) (ns : List ℕ) → sum (n ∷ ns) ≡ n + sum ns
+pub sum-cons : (n : ℕ) (ns : List ℕ) → sum (n ∷ ns) ≡ n + sum ns
 sum-cons n ns = omega (arith, fold-add (0 + n) ns)
 
 -- the least sum of all lists that fit behind so many free bytes

@@ -16,6 +16,12 @@ BestIsShortest =
     → ((is.lead_in ≡ false) ↔ (plan.lead_ins ≡ None ∷ []))
     × (sum (areas_in (items_behind is.lead_in choices needs) best) ≤ sum (areas_in (whole_of choices (needs ∷ []) plan.lead_ins) placed))
 
+-- Where a part has a plan it has a best plan.
+abbrev pub BestExists : Type 0
+BestExists =
+    (window : ℕ) (choices : HeaderFields → List SlotFields) (needs : List Need) (placed : List Placed) → IsPlan window choices (needs ∷ []) placed
+    → (best : List Placed) × (best_plan_of window choices needs ≡ Some best)
+
 -- The best plan of a part whose frames choose among ascending areas is that of the function.
 abbrev pub BestPlanIsThePlan : Type 0
 BestPlanIsThePlan =

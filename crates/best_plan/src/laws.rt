@@ -1,9 +1,14 @@
 //! Laws of the best plan. Each function does nothing: a proof that needs its law calls it.
-ghost use Rattle.best_plan.specs.Laws.{BestIsShortest, BestPlanIsThePlan};
+ghost use Rattle.best_plan.specs.Laws.{BestIsShortest, BestExists, BestPlanIsThePlan};
 
 /// The best plan of a part has a lead-in exactly where its plan has one, and the sum of its areas is never greater.
 pub fn best_is_shortest()
     ensures { BestIsShortest }
+{}
+
+/// Where a part has a plan it has a best plan.
+pub fn best_exists()
+    ensures { BestExists }
 {}
 
 /// The best plan of a part whose frames choose among ascending areas is that of a function: of all lists of slots whose main

@@ -7,5 +7,5 @@ mod shortest;
 mod table;
 mod walk;
 
-pub use laws::{best_is_shortest, best_plan_is_the_plan};
+pub use laws::{best_exists, best_is_shortest, best_plan_is_the_plan};
 pub use shortest::best;
