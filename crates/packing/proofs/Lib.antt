@@ -1,5 +1,8 @@
 -- The lemmas of this crate.
 pub mod MenuLaws
 pub mod PlanLaws
+pub mod BestLaws
+pub mod LimitLaws
 pub mod PackingLaws
+pub mod RuleLaws
 pub mod FloorLaw

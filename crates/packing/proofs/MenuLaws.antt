@@ -37,7 +37,7 @@ menu-ascends rates class sound = λ protected. menu-areas (allows rates class) c
 
 -- ---- they are slots
 
-all-slots : All IsSlot all_slots
+pub all-slots : All IsSlot all_slots
 all-slots = λ k d within. subst IsSlot (get_or_default all_slots k (slot_of 1 false) d within) (IsSlot-nth_slot k (omega (arith, within, length-all_slots)))
 
 pub menu-slots : (rates : Rates) (class : ClassFields) (slot : SlotFields) → Contains (menu_in rates class) slot → IsSlot slot

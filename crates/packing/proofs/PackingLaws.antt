@@ -26,13 +26,9 @@ use Rattle.frame_edits.specs.Laid.{Laid, file_laid, stream_laid}
 use Rattle.frame_edits.specs.Chosen.{Chosen, all_choice, laid_by}
 use Rattle.frame_edits.proofs.ChosenLaws.{all_late, all_right}
 use Rattle.frame_edits.proofs.LaidLaws.{laid-holds}
-use Rattle.packing.specs.declared.mode.Rates.{Rates}
 use Rattle.packing.specs.declared.edit.Work.{Work}
-use Rattle.packing.specs.Packing.{Planning, needs_of, laid_as, packed, packing, stream_with, stream_by, packed_stream, packed_task}
-use Rattle.packing.specs.Rates.{rates_plan, rates_refuse, IsPlanFault}
-use Rattle.packing.specs.Modes.{rates_task}
+use Rattle.packing.specs.Packing.{Planning, needs_of, laid_as, packed, packing, stream_with, stream_by, packed_stream, packed_task, IsPlanFault}
 use Rattle.packing.specs.Ready.{IsReady, packed_file}
-use Rattle.packing.proofs.PlanLaws.{rates-late, chosen-fitting}
 
 -- whatever the plan is made by, its refusals come late, and frames can be laid by it
 pub record IsPlanning (plan : Planning) : Type 0 where
@@ -78,15 +74,6 @@ module _ (plan : Planning) (is_planning : IsPlanning plan) where
   pub packed_proper : (refuses : Refusal → Bool) (input : List ℕ) → IsProper (packed_task plan refuses input)
   packed_proper refuses input = file_proper (packing plan) (packed_stream plan) packing_proper refuses input
 
-rates_planning : (rates : Rates) → IsPlanning (rates_plan rates)
-rates_planning rates = record {
-  late = rates-late rates;
-  fitting = λ chosen s well some within placed planned. (chosen-fitting chosen s well some within rates placed planned).fitting;
-}
-
-pub rates_proper : (rates : Rates) (input : List ℕ) → IsProper (rates_task rates input)
-rates_proper rates input = packed_proper (rates_plan rates) (rates_planning rates) (rates_refuse rates) input
-
 pub work_makes : (plan : Planning) (refuses : Refusal → Bool) (input : List ℕ) (work : Work) (files : Files) → IsReady input plan work files → IsMaking (packed_task plan refuses input) (packed_file work) files
 work_makes plan refuses input work files ready =
     file_makes (packing plan) (packed_stream plan) refuses input files (packed_file work) (tells work.survey) ready.there ready.surveyed ready.octets
@@ -99,33 +86,33 @@ pub input_moved : (make : Making) (name : List ℕ) (before old new : Seen) (fau
 input_moved make name before old new fault same is = subst (λ o. IsInputFault make name o new fault) same is
 
 -- the input was surveyed, its frames were chosen, and there is no plan of them
-module _ (rates : Rates) (name : List ℕ) (old new : Seen) (s : SurveyFields) (chosen : Chosen) (there : IsThere old.files name) (surveyed : (bytes : List ℕ) → Holds old.files name bytes → survey_of bytes most_frames ≡ Ok s)
+module _ (plan : Planning) (refuses : Refusal → Bool) (name : List ℕ) (old new : Seen) (s : SurveyFields) (chosen : Chosen) (there : IsThere old.files name) (surveyed : (bytes : List ℕ) → Holds old.files name bytes → survey_of bytes most_frames ≡ Ok s)
     (chose : (bytes : List ℕ) → Holds old.files name bytes → all_choice Least bytes s ≡ Ok chosen) (stays : new ≡ old) where
-  unplanned : (file : List ℕ) (fault : EditFault) → all_choice Least file s ≡ Ok chosen → rates_plan rates s.class (needs_of chosen s) ≡ Err fault → packing (rates_plan rates) file s ≡ Err fault
+  unplanned : (file : List ℕ) (fault : EditFault) → all_choice Least file s ≡ Ok chosen → plan s.class (needs_of chosen s) ≡ Err fault → packing plan file s ≡ Err fault
   unfolding packed
   unplanned file fault is none =
-      ap (λ r. then_made (then_made r (laid_as (rates_plan rates) s)) (λ laid. Ok (file_laid laid file s))) is
+      ap (λ r. then_made (then_made r (laid_as plan s)) (λ laid. Ok (file_laid laid file s))) is
       ∙ ap (λ r. then_made (then_made r (λ placed. Ok (laid_by chosen placed))) (λ laid. Ok (file_laid laid file s))) none
 
-  pub plan_is_input : (fault : EditFault) → IsPlanFault rates s.class (needs_of chosen s) fault → IsInputFault (packing (rates_plan rates)) name old new fault
+  pub plan_is_input : (fault : EditFault) → IsPlanFault plan refuses s.class (needs_of chosen s) fault → IsInputFault (packing plan) name old new fault
   plan_is_input (EqualNames place) is = absurd is
   plan_is_input (Input place fault) is = absurd is
-  plan_is_input (Refused refusal) is = refusal_is_input (packing (rates_plan rates)) name old new s refusal there surveyed (λ bytes holds. unplanned bytes (Refused refusal) (chose bytes holds) is.0) stays
+  plan_is_input (Refused refusal) is = refusal_is_input (packing plan) name old new s refusal there surveyed (λ bytes holds. unplanned bytes (Refused refusal) (chose bytes holds) is.0) stays
   plan_is_input (Write place) is = absurd is
   plan_is_input Sent is = absurd is
-  plan_is_input Memory is = memory_is_input (packing (rates_plan rates)) name old new s there surveyed stays
+  plan_is_input Memory is = memory_is_input (packing plan) name old new s there surveyed stays
 
-pub plan_numbers : (rates : Rates) (class : ClassFields) (needs : List Need) (fault : EditFault) → IsPlanFault rates class needs fault → IsOfInput (rates_refuse rates) fault
-plan_numbers rates class needs (EqualNames place) is = absurd is
-plan_numbers rates class needs (Input place fault) is = absurd is
-plan_numbers rates class needs (Refused refusal) is = is.1
-plan_numbers rates class needs (Write place) is = absurd is
-plan_numbers rates class needs Sent is = absurd is
-plan_numbers rates class needs Memory is = tt
+pub plan_numbers : (plan : Planning) (refuses : Refusal → Bool) (class : ClassFields) (needs : List Need) (fault : EditFault) → IsPlanFault plan refuses class needs fault → IsOfInput refuses fault
+plan_numbers plan refuses class needs (EqualNames place) is = absurd is
+plan_numbers plan refuses class needs (Input place fault) is = absurd is
+plan_numbers plan refuses class needs (Refused refusal) is = is.1
+plan_numbers plan refuses class needs (Write place) is = absurd is
+plan_numbers plan refuses class needs Sent is = absurd is
+plan_numbers plan refuses class needs Memory is = tt
 
 -- the frames that were chosen have their plan
-pub planned_is : (rates : Rates) (file : List ℕ) (s : SurveyFields) (chosen : Chosen) (placed : List Placed) → all_choice Least file s ≡ Ok chosen → rates_plan rates s.class (needs_of chosen s) ≡ Ok placed
-    → packed (rates_plan rates) file s ≡ Ok (laid_by chosen placed)
+pub planned_is : (plan : Planning) (file : List ℕ) (s : SurveyFields) (chosen : Chosen) (placed : List Placed) → all_choice Least file s ≡ Ok chosen → plan s.class (needs_of chosen s) ≡ Ok placed
+    → packed plan file s ≡ Ok (laid_by chosen placed)
 unfolding packed
-planned_is rates file s chosen placed is planned =
-    ap (λ r. then_made r (laid_as (rates_plan rates) s)) is ∙ ap (λ r. then_made r (λ placed. Ok (laid_by chosen placed))) planned
+planned_is plan file s chosen placed is planned =
+    ap (λ r. then_made r (laid_as plan s)) is ∙ ap (λ r. then_made r (λ placed. Ok (laid_by chosen placed))) planned

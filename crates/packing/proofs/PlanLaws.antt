@@ -33,8 +33,8 @@ use Rattle.frame_edits.specs.Chosen.{Chosen, chosen_rows}
 use Rattle.frame_edits.proofs.LaidLaws.{AreOpen, open-in_slots}
 use Rattle.packing.specs.declared.mode.Rates.{Rates}
 use Rattle.packing.specs.declared.mode.Rates.TheVariants.{Only, From}
-use Rattle.packing.specs.Packing.{needs_of}
-use Rattle.packing.specs.Rates.{named, is_rate, menu_in, no_rate, fitted, rates_plan, rates_refuse, of_rate, IsMenuFault, IsPlanFault}
+use Rattle.packing.specs.Packing.{needs_of, IsPlanFault}
+use Rattle.packing.specs.Rates.{named, is_rate, menu_in, no_rate, fitted, rates_plan, rates_refuse, of_rate, IsMenuFault}
 use Rattle.packing.proofs.MenuLaws.{menu-ascends, menu-slots, menu-some, floor-largest}
 
 -- ---- from a menu
@@ -62,7 +62,7 @@ from-length false menu needs = omega (arith, length-map needs (item_of (from_men
 from-length true menu [] = omega arith
 from-length true menu (first ∷ needs) = omega (arith, length-map needs (item_of (from_menu menu)))
 
-for-length : (items : List Item) (placed : List Placed) → AreFor items placed → length placed ≡ length items
+pub for-length : (items : List Item) (placed : List Placed) → AreFor items placed → length placed ≡ length items
 unfolding AreFor
 for-length [] [] for_items = refl
 for-length [] (p ∷ placed) for_items = absurd for_items
@@ -113,12 +113,12 @@ rates-fitting rates class needs placed sound same some planned =
 
 -- ---- what the planner answers
 
-one-class : (class : ClassFields) (needs : List Need) → AreOfClass class needs → AreOfOneClass needs
+pub one-class : (class : ClassFields) (needs : List Need) → AreOfClass class needs → AreOfOneClass needs
 unfolding AreOfClass
 one-class class [] same = tt
 one-class class (first ∷ needs) same = subst (λ c. AreOfClass c needs) (sym same.0) same.1
 
-window-is : (class : ClassFields) (needs : List Need) → AreOfClass class needs → 1 ≤ length needs → window_in needs ≡ window_of class.version
+pub window-is : (class : ClassFields) (needs : List Need) → AreOfClass class needs → 1 ≤ length needs → window_in needs ≡ window_of class.version
 unfolding AreOfClass
 window-is class [] same some = absurd (omega (arith, some))
 window-is class (first ∷ needs) same some = ap (λ (c : ClassFields). window_of c.version) same.0
@@ -226,20 +226,20 @@ module _ (chosen : Chosen) (s : SurveyFields) (placed : IsPlaced s) (some : chos
   plan-is rates plan none is = plan-by rates none ∙ ap fitted is
 
   pub plan-fault : (rates : Rates) (fault : RateFault) → no_rate rates s.class ≡ None → IsMenuFault (menu_plan (window_of s.class.version) (menu_in rates s.class) (needs_of chosen s)) fault
-      → IsPlanFault rates s.class (needs_of chosen s) (of_rate fault)
+      → IsPlanFault (rates_plan rates) (rates_refuse rates) s.class (needs_of chosen s) (of_rate fault)
   plan-fault rates (Unfit i) none is = (plan-by rates none ∙ ap fitted is, refuses-unfit rates i none is)
   plan-fault rates NoMemory none is = tt
 
   -- by what the code has of class, menu and frames
   module _ (rates : Rates) (class : ClassFields) (menu : List SlotFields) (frames : List Row) (class_is : class ≡ s.class) (menu_is : menu ≡ menu_in rates class) (frames_are : frames ≡ s.frames) (none : no_rate rates class ≡ None) where
-    pub menu-fault : (fault : RateFault) → IsMenuFault (menu_plan (window_of class.version) menu (map need_of (slice_range frames chosen.from chosen.to))) fault → IsPlanFault rates s.class (needs_of chosen s) (of_rate fault)
+    pub menu-fault : (fault : RateFault) → IsMenuFault (menu_plan (window_of class.version) menu (map need_of (slice_range frames chosen.from chosen.to))) fault → IsPlanFault (rates_plan rates) (rates_refuse rates) s.class (needs_of chosen s) (of_rate fault)
     menu-fault fault is =
         plan-fault rates fault (subst (λ k. no_rate rates k ≡ None) class_is none)
         (subst (λ (k : ClassFields). IsMenuFault (menu_plan (window_of k.version) (menu_in rates k) (needs_of chosen s)) fault) class_is
         (subst (λ m. IsMenuFault (menu_plan (window_of class.version) m (needs_of chosen s)) fault) menu_is
         (subst (λ l. IsMenuFault (menu_plan (window_of class.version) menu (map need_of (slice_range l chosen.from chosen.to))) fault) frames_are is)))
 
-  pub rate-fault : (rates : Rates) (refusal : Refusal) → no_rate rates s.class ≡ Some refusal → IsPlanFault rates s.class (needs_of chosen s) (Refused refusal)
+  pub rate-fault : (rates : Rates) (refusal : Refusal) → no_rate rates s.class ≡ Some refusal → IsPlanFault (rates_plan rates) (rates_refuse rates) s.class (needs_of chosen s) (Refused refusal)
   rate-fault rates refusal is = (
     ap (λ o. then_made (unless o (menu_in rates s.class)) (λ menu. fitted (menu_plan (window_of s.class.version) menu (needs_of chosen s)))) is,
     named-refused rates s.class refusal is,

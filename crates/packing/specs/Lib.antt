@@ -1,6 +1,7 @@
 -- What the contracts of this crate cite.
 pub mod Packing
 pub mod Rates
+pub mod Rules
 pub mod Modes
 pub mod Ready
 pub mod Laws

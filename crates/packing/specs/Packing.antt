@@ -1,5 +1,5 @@
 -- All frames of a file in the slots of a plan, by whichever rule it is made.
-use Rattle.std.specs.Prelude.{ℕ, Bool, List, [], map, Result, Ok, Err}
+use Rattle.std.specs.Prelude.{◌≡◌, ℕ, Bool, true, List, [], map, Result, Ok, Err}
 use Rattle.frame_header.specs.Fields.{ClassFields}
 use Rattle.slot_plan.specs.declared.needs.Need.{Need}
 use Rattle.slot_plan.specs.declared.needs.Placed.{Placed}
@@ -9,6 +9,7 @@ use Rattle.sync_survey.specs.MainData.{StreamFrame}
 use Rattle.sync_survey.specs.Faults.{SurveyFields}
 use Rattle.sync_survey.specs.Survey.{survey_of}
 use Rattle.commands.specs.declared.fault.EditFault.{EditFault}
+use Rattle.commands.specs.declared.fault.EditFault.TheVariants.{Refused, Memory}
 use Rattle.commands.specs.declared.fault.Refusal.{Refusal}
 use Rattle.commands.specs.Refusing.{then_made}
 use Rattle.commands.specs.One.{Making, most_frames, Task, file_task}
@@ -19,6 +20,12 @@ use Rattle.frame_edits.specs.Chosen.{Chosen, chosen_rows, all_choice, laid_by}
 -- the plan of frames of a class, or why there is none
 abbrev pub Planning : Type 0
 Planning = ClassFields → List Need → Result (List Placed) EditFault
+
+-- the fault of a plan: there is none, which may be refused so, or there was no memory
+abbrev pub IsPlanFault : Planning → (Refusal → Bool) → ClassFields → List Need → EditFault → Type 0
+IsPlanFault plan refuses class needs (Refused refusal) = (plan class needs ≡ Err (Refused refusal)) × (refuses refusal ≡ true)
+IsPlanFault plan refuses class needs Memory = Unit {0}
+IsPlanFault plan refuses class needs _ = ⊥
 
 -- what is planned
 abbrev pub needs_of : Chosen → SurveyFields → List Need

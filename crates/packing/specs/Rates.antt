@@ -63,9 +63,3 @@ of_rate NoMemory = Memory
 abbrev pub IsMenuFault : Result (List Placed) ℕ → RateFault → Type 0
 IsMenuFault r (UnfitFrame i) = r ≡ Err i
 IsMenuFault r NoMemory = Unit {0}
-
--- the fault of the plan: it has none, or there was no memory
-abbrev pub IsPlanFault : Rates → ClassFields → List Need → EditFault → Type 0
-IsPlanFault rates class needs (Refused refusal) = (rates_plan rates class needs ≡ Err (Refused refusal)) × (rates_refuse rates refusal ≡ true)
-IsPlanFault rates class needs Memory = Unit {0}
-IsPlanFault rates class needs _ = ⊥

@@ -4,50 +4,52 @@ ghost use Rattle.outside.specs.Counts.{NoneFell};
 ghost use Rattle.commands.specs.Command.{HoldsStreams, clash_of};
 ghost use Rattle.commands.specs.Left.{seen, IsDone, Leaves, HasNumbers};
 ghost use Rattle.commands.specs.One.{one_command};
-ghost use Rattle.packing.specs.Modes.{rates_task, pack_mode_command};
+ghost use Rattle.packing.specs.Modes.{pack_mode_command};
+ghost use Rattle.packing.specs.Rules.{rule_task};
 
-use crate::edit::RatesEdit;
-use crate::mode::Rates;
+use crate::edit::PackEdit;
+use crate::mode::{Rates, Rule};
 use commands::{EditFault, make_one};
 use frame_edits::pack;
 use outside::Folder;
 use pack_mode::PackMode;
 use std::alloc::Global;
 
-/// Packs with slots of some bit rates alone.
-fn pack_rates<D: Folder>(
+/// Packs by a rule.
+fn pack_by<D: Folder>(
     alloc: Global,
     folder: &mut D,
     input: &str,
     output: &str,
-    rates: Rates,
+    rule: Rule,
 ) -> Result<(), EditFault>
-    ensures done { OnOk result (IsDone (one_command (rates_task rates input.now) output.now)
+    ensures done { OnOk result (IsDone (one_command (rule_task rule input.now) output.now)
         (seen (D.files folder.old) (D.counts folder.old))
         (seen (D.files folder.new) (D.counts folder.new))) }
-    ensures left { IfErr result (Leaves (one_command (rates_task rates input.now) output.now)
+    ensures left { IfErr result (Leaves (one_command (rule_task rule input.now) output.now)
         (seen (D.files folder.old) (D.counts folder.old))
         (seen (D.files folder.new) (D.counts folder.new))) }
     ensures numbers { IfErr result (HasNumbers
-        (one_command (rates_task rates input.now) output.now)) }
+        (one_command (rule_task rule input.now) output.now)) }
     ensures names { (place : ℕ) → IsErrOf result (EditFault.EqualNames place)
-        ↔ (clash_of (one_command (rates_task rates input.now) output.now) ≡ Some place) }
+        ↔ (clash_of (one_command (rule_task rule input.now) output.now) ≡ Some place) }
     ensures streams { OnOk result (HoldsStreams
-        (one_command (rates_task rates input.now) output.now) (D.files folder.old)) }
+        (one_command (rule_task rule input.now) output.now) (D.files folder.old)) }
     ensures counts { NoneFell (D.counts folder.old) (D.counts folder.new) }
 {
-    make_one(alloc, folder, &RatesEdit { input, rates }, output)
+    make_one(alloc, folder, &PackEdit { input, rule }, output)
 }
 
 /// Writes the output, which is all frames of the input, each with the least bit rate and padding that the mode allows and with
 /// which all main data have room (ISO/IEC 11172-3, 2.4.2.7): its ID3v2 blocks that stand in front of the first frame, an
 /// Info frame with the quality and extension of the input's, the frames, and all other blocks. A lead-in, one empty frame,
-/// stands in front where the main data have no room without it.
+/// stands in front where the main data have no room without it. With `PackMode::Best` the frames have the bit rates and
+/// padding with which they take the fewest bytes in all, and of several such lists those of the first in the order of their areas.
 ///
 /// Refuses, in this order: `EqualNames(0)` where the names are equal, byte for byte; `Input(0, ..)` with the fault of the
-/// survey of the input, of which 2,900,000 frames are allowed; `NoRate` with the bit rate of the mode where it isn't one of
+/// survey of the input, of which 2,900,000 frames are allowed, and 200,000 with `PackMode::Best`; `NoRate` with the bit rate of the mode where it isn't one of
 /// the input's class; `Unfit` with the first frame up to which the main data have no room, even behind a lead-in.
-/// `PackMode::Least` is never refused these two, and `PackMode::Floor` is never `Unfit`. Then nothing was created.
+/// `PackMode::Least` and `PackMode::Best` are never refused these two, and `PackMode::Floor` is never `Unfit`. Then nothing was created.
 ///
 /// `Input` with `Read` and `Write(0)` come only where a call of that kind failed, `Input` with `Absent` only where the input
 /// isn't there, and every other answer only where none failed; after `Write(0)` the output is as it was or
@@ -77,7 +79,14 @@ pub fn pack_with<D: Folder>(
 {
     match *mode {
         PackMode::Least => pack(alloc, folder, input, output),
-        PackMode::Constant(rate) => pack_rates(alloc, folder, input, output, Rates::Only(rate)),
-        PackMode::Floor(rate) => pack_rates(alloc, folder, input, output, Rates::From(rate)),
+        PackMode::Best => pack_by(alloc, folder, input, output, Rule::Best),
+        PackMode::Constant(rate) => {
+            let rule = Rule::Rates(Rates::Only(rate));
+            pack_by(alloc, folder, input, output, rule)
+        }
+        PackMode::Floor(rate) => {
+            let rule = Rule::Rates(Rates::From(rate));
+            pack_by(alloc, folder, input, output, rule)
+        }
     }
 }

@@ -1,22 +1,22 @@
-//! Packing with slots of some bit rates as a case of the one body.
-ghost use Rattle.packing.specs.Modes.{rates_task};
-ghost use Rattle.packing.specs.Rates.{rates_plan};
+//! Packing by a rule as a case of the one body.
+ghost use Rattle.packing.specs.Rules.{plan_by, rule_task};
 ghost use Rattle.packing.specs.Ready.{IsReady as IsReadyWork, packed_file};
 
-use crate::mode::Rates;
+use crate::inputs::survey_packed;
+use crate::mode::Rule;
 use crate::plans::plan_packed;
-use commands::{Edit, EditFault, survey_input};
+use commands::{Edit, EditFault};
 use frame_edits::{Selection, Slots, all_choice, write_laid};
 use laying::{Buffers, Relay};
 use outside::{Folder, Pass, PassFault};
 use std::alloc::Global;
 use sync_survey::Survey;
 
-/// An input that is packed with slots of some bit rates.
+/// An input that is packed by a rule.
 #[derive(Clone, Copy)]
-pub struct RatesEdit<'a> {
+pub struct PackEdit<'a> {
     pub input: &'a str,
-    pub rates: Rates,
+    pub rule: Rule,
 }
 
 /// What is known of the input, all its frames with their plan, and the memory of the pass.
@@ -27,26 +27,26 @@ pub struct Work {
     buffers: Buffers,
 }
 
-impl<'a> Edit for RatesEdit<'a> {
+impl<'a> Edit for PackEdit<'a> {
     type Work = Work;
 
-    ghost task = { λ edit. rates_task edit.rates edit.input.now };
+    ghost task = { λ edit. rule_task edit.rule edit.input.now };
 
     ghost IsLegal = { λ edit. Unit {0} };
 
     ghost file_of = { λ work. packed_file work };
 
     ghost IsReady = { λ edit work files.
-        IsReadyWork edit.input.now (rates_plan edit.rates) work files };
+        IsReadyWork edit.input.now (plan_by edit.rule) work files };
 
     fn clash(&self, output: &str) -> Option<u32> {
         if self.input == output { Some(0) } else { None }
     }
 
     fn prepare<D: Folder>(&self, alloc: Global, folder: &mut D) -> Result<Work, EditFault> {
-        let survey = survey_input(alloc, folder, self.input)?;
+        let survey = survey_packed(alloc, folder, self.input, self.rule)?;
         let chosen = all_choice(folder, self.input, &survey, Slots::Least)?;
-        let planned = plan_packed(alloc, &survey, &chosen, self.rates)?;
+        let planned = plan_packed(alloc, &survey, &chosen, self.rule)?;
         let buffers = Buffers::new(alloc, survey.class())?;
         Ok(Work {
             survey,

@@ -1,15 +1,16 @@
-//! Packing with bounds: all frames of a file in slots of some bit rates alone.
+//! Packing with bounds: all frames of a file in slots of some bit rates alone, or in those that take the fewest bytes.
 #![tactic(auto)]
 
 mod calls;
 mod edit;
+mod inputs;
 mod laws;
 mod menu;
 mod mode;
 mod plans;
 
 pub use calls::pack_with;
-pub use edit::{RatesEdit, Work};
+pub use edit::{PackEdit, Work};
 pub use laws::floors_fit;
-pub use mode::Rates;
+pub use mode::{Rates, Rule};
 pub use pack_mode::PackMode;

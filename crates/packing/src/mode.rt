@@ -1,4 +1,4 @@
-//! The bit rates that frames may have.
+//! The bit rates that frames may have, and how their slots are chosen.
 
 /// Which bit rates the frames of a file and its lead-in may have, in kbit/s.
 #[derive(Clone, Copy, Debug, PartialEq, Eq)]
@@ -7,4 +7,13 @@ pub enum Rates {
     Only(u16),
     /// This one and all that are higher.
     From(u16),
+}
+
+/// How the frames of a file get their slots.
+#[derive(Clone, Copy, Debug, PartialEq, Eq)]
+pub enum Rule {
+    /// Each gets the least slot of these bit rates with which all main data have room.
+    Rates(Rates),
+    /// They get the slots that take the fewest bytes in all.
+    Best,
 }

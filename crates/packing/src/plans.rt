@@ -1,9 +1,13 @@
-//! The plan of all frames of a file with slots of some bit rates, and the Info frame in front of them.
-ghost use Rattle.std.specs.Prelude.{◌≡◌, ◌<◌, ◌≤◌, ℕ, List, length, map, Ok, IfOk, IfErr, MatchResult};
+//! The plan of all frames of a file by a rule, and the Info frame in front of them.
+ghost use Rattle.std.specs.Prelude.{◌≡◌, ◌<◌, ◌≤◌, ℕ, List, [], ◌∷◌, length, map, Some, Ok, IfOk, IfErr, MatchResult};
 ghost use Rattle.frame_header.specs.Tables.{window_of};
-ghost use Rattle.slot_plan.specs.Parts.{AreOfClass};
+ghost use Rattle.slot_plan.specs.Layouts.{IsFeasible};
+ghost use Rattle.slot_plan.specs.Parts.{AreOfClass, own_frame};
 ghost use Rattle.slot_plan.specs.Plans.{entries};
+ghost use Rattle.slot_plan.specs.Laws.{ChooseInOrder};
 ghost use Rattle.part_needs.specs.Needs.{need_of};
+ghost use Rattle.part_needs.specs.Fit.{any_choice};
+ghost use Rattle.best_plan.specs.BestOf.{best_plan_of};
 ghost use Rattle.rate_plan.specs.Menus.{AreAscending};
 ghost use Rattle.rate_plan.specs.MenuPlan.{menu_plan};
 ghost use Rattle.sync_survey.specs.Faults.{tells};
@@ -12,18 +16,20 @@ ghost use Rattle.commands.specs.One.{most_frames};
 ghost use Rattle.frame_edits.specs.Laid.{IsLaidInfo};
 ghost use Rattle.frame_edits.specs.Chosen.{chosen_in, laid_by};
 ghost use Rattle.laying.specs.Fits.{IsFitting};
-ghost use Rattle.packing.specs.Packing.{needs_of};
-ghost use Rattle.packing.specs.Rates.{no_rate as no_rate_lem, of_rate as of_rate_lem, rates_plan as rates_plan_lem, IsMenuFault, IsPlanFault};
+ghost use Rattle.packing.specs.Packing.{needs_of, IsPlanFault};
+ghost use Rattle.packing.specs.Rates.{no_rate as no_rate_lem, of_rate as of_rate_lem, rates_plan as rates_plan_lem, rates_refuse, IsMenuFault};
+ghost use Rattle.packing.specs.Rules.{allowed_by, plan_by as plan_by_lem, refuses_by};
 
 use crate::menu::menu_of;
-use crate::mode::Rates;
+use crate::mode::{Rates, Rule};
+use best_plan::best;
 use commands::{EditFault, Refusal};
 use frame_edits::{Chosen, Planned, info_bytes};
 use frame_header::{Class, Slot};
 use part_needs::Parts;
 use rate_plan::{RateFault, rate_plan};
-use slot_plan::Plan;
-use std::alloc::Global;
+use slot_plan::{Least, Plan};
+use std::alloc::{AllocError, Global};
 use sync_survey::{Row, Survey};
 
 /// `NoRate` where no slot of the class has the bit rate that is named.
@@ -81,7 +87,7 @@ fn plan_rates(
     ensures { MatchResult result
         (λ plan. rates_plan_lem rates (tells survey.now).class
         (needs_of (chosen_in chosen.now) (tells survey.now)) ≡ Ok (entries plan))
-        (IsPlanFault rates (tells survey.now).class
+        (IsPlanFault (rates_plan_lem rates) (rates_refuse rates) (tells survey.now).class
         (needs_of (chosen_in chosen.now) (tells survey.now))) }
 {
     let class = survey.class();
@@ -96,21 +102,63 @@ fn plan_rates(
     }
 }
 
-/// The plan of chosen frames with slots of some bit rates, and their Info frame.
+/// The best plan of frames.
+fn plan_best(alloc: Global, class: Class, rows: &[Row]) -> Result<Plan, AllocError>
+    requires class { AreOfClass class (map need_of rows.now) }
+    requires some { 1 ≤ length rows.now }
+    requires few { length rows.now ≤ 200000 }
+    requires feasible { IsFeasible (window_of class.version) (window_of class.version)
+        (map own_frame (map need_of rows.now)) }
+    requires order { ChooseInOrder any_choice (map need_of rows.now ∷ []) }
+    ensures { IfOk result (λ plan. best_plan_of (window_of class.version) any_choice
+        (map need_of rows.now) ≡ Some (entries plan)) }
+{
+    // All have its window.
+    let _ = &class.version;
+    let mut parts = Parts::new(alloc);
+    parts.push(rows)?;
+    best(alloc, parts.needs(), &Least)
+}
+
+/// The plan of chosen frames by a rule.
+fn plan_by(alloc: Global, survey: &Survey, chosen: &Chosen, rule: Rule) -> Result<Plan, EditFault>
+    requires laid { IsLaidOut (tells survey.now) }
+    requires few { length (tells survey.now).frames ≤ allowed_by rule }
+    requires some { chosen.now.from < chosen.now.to }
+    requires within { chosen.now.to ≤ length (tells survey.now).frames }
+    ensures { MatchResult result
+        (λ plan. plan_by_lem rule (tells survey.now).class
+        (needs_of (chosen_in chosen.now) (tells survey.now)) ≡ Ok (entries plan))
+        (IsPlanFault (plan_by_lem rule) (refuses_by rule) (tells survey.now).class
+        (needs_of (chosen_in chosen.now) (tells survey.now))) }
+{
+    match rule {
+        Rule::Rates(rates) => plan_rates(alloc, survey, chosen, rates),
+        Rule::Best => {
+            let rows = &survey.frames()[chosen.from..chosen.to];
+            match plan_best(alloc, survey.class(), rows) {
+                Ok(plan) => Ok(plan),
+                Err(_) => Err(EditFault::Memory),
+            }
+        }
+    }
+}
+
+/// The plan of chosen frames by a rule, and their Info frame.
 ///
 /// # Errors
-/// `NoRate` where the bit rate that is named isn't one of the class; `Unfit` where the frames don't fit; `Memory`.
+/// By bit rates `NoRate` where the one that is named isn't one of the class, and `Unfit` where the frames don't fit; `Memory`.
 pub(crate) fn plan_packed(
     alloc: Global,
     survey: &Survey,
     chosen: &Chosen,
-    rates: Rates,
+    rule: Rule,
 ) -> Result<Planned, EditFault>
     requires laid { IsLaidOut (tells survey.now) }
-    requires few { length (tells survey.now).frames ≤ 2900000 }
+    requires few { length (tells survey.now).frames ≤ allowed_by rule }
     requires some { chosen.now.from < chosen.now.to }
     requires within { chosen.now.to ≤ length (tells survey.now).frames }
-    ensures plan { IfOk result (λ p. rates_plan_lem rates (tells survey.now).class
+    ensures plan { IfOk result (λ p. plan_by_lem rule (tells survey.now).class
         (needs_of (chosen_in chosen.now) (tells survey.now)) ≡ Ok (entries p.plan)) }
     ensures fits { IfOk result (λ p. IsFitting (window_of (tells survey.now).class.version)
         (needs_of (chosen_in chosen.now) (tells survey.now)) (entries p.plan)) }
@@ -118,10 +166,10 @@ pub(crate) fn plan_packed(
         → survey_of file most_frames ≡ Ok (tells survey.now)
         → IsLaidInfo (laid_by (chosen_in chosen.now) (entries p.plan)) file (tells survey.now)
         p.info.items) }
-    ensures refused { IfErr result (IsPlanFault rates (tells survey.now).class
-        (needs_of (chosen_in chosen.now) (tells survey.now))) }
+    ensures refused { IfErr result (IsPlanFault (plan_by_lem rule) (refuses_by rule)
+        (tells survey.now).class (needs_of (chosen_in chosen.now) (tells survey.now))) }
 {
-    let plan = plan_rates(alloc, survey, chosen, rates)?;
+    let plan = plan_by(alloc, survey, chosen, rule)?;
     let info = info_bytes(survey, chosen, plan.placed());
     Ok(Planned { plan, info })
 }

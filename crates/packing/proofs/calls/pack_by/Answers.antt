@@ -1,6 +1,6 @@
 -- What the one body asks of the command.
-use Rattle.packing.proofs.PackingLaws.{rates_proper}
-use Rattle.packing.proofs.calls.pack_rates.Goals as goal
+use Rattle.packing.proofs.RuleLaws.{rule_proper}
+use Rattle.packing.proofs.calls.pack_by.Goals as goal
 
 pub make_one-requires-clause-proper : goal.make_one-requires-clause-proper
-make_one-requires-clause-proper g c = rates_proper c.args.rates c.args.input.now
+make_one-requires-clause-proper g c = rule_proper c.args.rule c.args.input.now

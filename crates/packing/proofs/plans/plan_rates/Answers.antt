@@ -4,8 +4,8 @@ use Rattle.slot_plan.specs.Parts.{AreOfClass}
 use Rattle.part_needs.specs.Needs.{need_of}
 use Rattle.sync_survey.specs.declared.rows.Row.{Row}
 use Rattle.sync_survey.specs.Faults.{tells}
-use Rattle.packing.specs.Rates.{no_rate, IsPlanFault}
-use Rattle.packing.specs.Packing.{needs_of}
+use Rattle.packing.specs.Rates.{no_rate, rates_plan, rates_refuse}
+use Rattle.packing.specs.Packing.{needs_of, IsPlanFault}
 use Rattle.frame_edits.specs.Chosen.{chosen_in}
 use Rattle.packing.proofs.MenuLaws.{menu-some}
 use Rattle.packing.proofs.PlanLaws.{rows-same, menu-fault}
@@ -28,6 +28,6 @@ returns-in-Err c =
     let s = tells c.args.survey.now in
     let chosen = chosen_in c.args.chosen.now in
     let none : no_rate c.args.rates c.class-class.result ≡ None = sym c.no_rate.ensures ∙ c.in_default.is in
-    subst (IsPlanFault c.args.rates s.class (needs_of chosen s)) (sym c.of_rate.ensures)
+    subst (IsPlanFault (rates_plan c.args.rates) (rates_refuse c.args.rates) s.class (needs_of chosen s)) (sym c.of_rate.ensures)
     (menu-fault chosen s c.requires.laid.placed c.requires.some c.requires.within c.args.rates c.class-class.result c.as_slice.result.now c.frames.result.now c.class-class.ensures (c.as_slice.ensures.value ∙ c.menu_of-menu.ensures.menu)
     c.frames.ensures none c.in-Err.fault c.in-Err.ensures)

@@ -6,75 +6,59 @@ use Rattle.slot_plan.specs.Plans.{entries}
 use Rattle.sync_survey.specs.Faults.{tells}
 use Rattle.commands.specs.declared.fault.EditFault.TheVariants.{Memory}
 use Rattle.commands.specs.Left.{seen}
-use Rattle.commands.proofs.InputLaws.{input_is_early, input_numbers, memory_is_input}
+use Rattle.commands.proofs.InputLaws.{memory_is_input}
 use Rattle.frame_edits.specs.Chosen.{chosen_in}
-use Rattle.packing.specs.Packing.{needs_of, packing, packed_stream}
-use Rattle.packing.specs.Rates.{rates_plan, rates_refuse}
-use Rattle.packing.proofs.PackingLaws.{input_moved, plan_is_input, plan_numbers, planned_is, work_makes}
-use Rattle.packing.proofs.edit.RatesEditEdit.prepare.Goals as goal
-
-pub returns-in_err-survey-clause-refused : goal.returns-in_err-survey-clause-refused
-returns-in_err-survey-clause-refused g c =
-    let edit = c.args.self.now in
-    let plan = rates_plan edit.rates in
-    let p = err_from_is_err_and c.from_residual.result c.from_residual.ensures.1 in
-    rw (p.1, p.2) (input_is_early (packing plan) (packed_stream plan) (rates_refuse edit.rates) edit.input.now _ _ _ (c.in_err-survey.ensures.refused (packing plan)))
-
-pub returns-in_err-survey-clause-numbers : goal.returns-in_err-survey-clause-numbers
-returns-in_err-survey-clause-numbers g c =
-    let edit = c.args.self.now in
-    let plan = rates_plan edit.rates in
-    let p = err_from_is_err_and c.from_residual.result c.from_residual.ensures.1 in
-    rw (p.1, p.2) (input_numbers (packing plan) (packed_stream plan) (rates_refuse edit.rates) edit.input.now _ (c.in_err-survey.ensures.numbers (rates_refuse edit.rates)))
+use Rattle.packing.specs.Packing.{needs_of, packing}
+use Rattle.packing.specs.Ready.{IsReady}
+use Rattle.packing.specs.Rules.{plan_by, refuses_by}
+use Rattle.packing.proofs.PackingLaws.{input_moved, plan_is_input, plan_numbers, planned_is}
+use Rattle.packing.proofs.RuleLaws.{rule_early, rule_numbers, rule_makes}
+use Rattle.packing.proofs.edit.PackEditEdit.prepare.Goals as goal
 
 pub returns-in_err-chosen-clause-refused : goal.returns-in_err-chosen-clause-refused
 returns-in_err-chosen-clause-refused g c =
     let edit = c.args.self.now in
-    let plan = rates_plan edit.rates in
+    let make = packing (plan_by edit.rule) in
     let old = seen (g.D.Folder.files c.args.folder.now) (g.D.Folder.counts c.args.folder.now) in
     let p = err_from_is_err_and c.from_residual-in_err-chosen.result c.from_residual-in_err-chosen.ensures.1 in
     rw (p.1, p.2)
-    (input_is_early (packing plan) (packed_stream plan) (rates_refuse edit.rates) edit.input.now old _ _
-    (input_moved (packing plan) edit.input.now _ old _ _ (ap₂ seen c.survey_input.ensures.files c.in_ok-survey.ensures.done) (c.in_err-chosen.ensures.refused (packing plan))))
+    (rule_early edit.rule edit.input.now old _ _ (λ file holds. (_, c.in_ok-survey.ensures.limited file holds))
+    (input_moved make edit.input.now _ old _ _ (ap₂ seen c.survey_packed.ensures.files c.in_ok-survey.ensures.done) (c.in_err-chosen.ensures.refused make)))
 
 pub returns-in_err-chosen-clause-numbers : goal.returns-in_err-chosen-clause-numbers
 returns-in_err-chosen-clause-numbers g c =
     let edit = c.args.self.now in
-    let plan = rates_plan edit.rates in
     let p = err_from_is_err_and c.from_residual-in_err-chosen.result c.from_residual-in_err-chosen.ensures.1 in
-    rw (p.1, p.2) (input_numbers (packing plan) (packed_stream plan) (rates_refuse edit.rates) edit.input.now _ (c.in_err-chosen.ensures.numbers (rates_refuse edit.rates)))
+    rw (p.1, p.2) (rule_numbers edit.rule edit.input.now _ (c.in_err-chosen.ensures.numbers (refuses_by edit.rule)))
 
 pub returns-in_err-planned-clause-refused : goal.returns-in_err-planned-clause-refused
 returns-in_err-planned-clause-refused g c =
     let edit = c.args.self.now in
-    let plan = rates_plan edit.rates in
     let old = seen (g.D.Folder.files c.args.folder.now) (g.D.Folder.counts c.args.folder.now) in
     let p = err_from_is_err_and c.from_residual-in_err-planned.result c.from_residual-in_err-planned.ensures.1 in
     rw (p.1, p.2)
-    (input_is_early (packing plan) (packed_stream plan) (rates_refuse edit.rates) edit.input.now old _ _
-    (plan_is_input edit.rates edit.input.now old _ (tells c.in_ok-survey.survey) (chosen_in c.in_ok-chosen.chosen) c.in_ok-survey.ensures.there c.in_ok-survey.ensures.surveyed
-    (λ bytes holds. c.in_ok-chosen.ensures.chosen bytes (subst (λ f. Holds f edit.input.now bytes) (sym c.survey_input.ensures.files) holds))
-    (ap₂ seen (c.all_choice.ensures.files ∙ c.survey_input.ensures.files) (c.in_ok-chosen.ensures.done ∙ c.in_ok-survey.ensures.done)) _ c.in_err-planned.ensures.refused))
+    (rule_early edit.rule edit.input.now old _ _ (λ file holds. (_, c.in_ok-survey.ensures.limited file holds))
+    (plan_is_input (plan_by edit.rule) (refuses_by edit.rule) edit.input.now old _ (tells c.in_ok-survey.survey) (chosen_in c.in_ok-chosen.chosen) c.in_ok-survey.ensures.there c.in_ok-survey.ensures.surveyed
+    (λ bytes holds. c.in_ok-chosen.ensures.chosen bytes (subst (λ f. Holds f edit.input.now bytes) (sym c.survey_packed.ensures.files) holds))
+    (ap₂ seen (c.all_choice.ensures.files ∙ c.survey_packed.ensures.files) (c.in_ok-chosen.ensures.done ∙ c.in_ok-survey.ensures.done)) _ c.in_err-planned.ensures.refused))
 
 pub returns-in_err-planned-clause-numbers : goal.returns-in_err-planned-clause-numbers
 returns-in_err-planned-clause-numbers g c =
     let edit = c.args.self.now in
-    let plan = rates_plan edit.rates in
     let s = tells c.in_ok-survey.survey in
     let p = err_from_is_err_and c.from_residual-in_err-planned.result c.from_residual-in_err-planned.ensures.1 in
     rw (p.1, p.2)
-    (input_numbers (packing plan) (packed_stream plan) (rates_refuse edit.rates) edit.input.now _ (plan_numbers edit.rates s.class (needs_of (chosen_in c.in_ok-chosen.chosen) s) _ c.in_err-planned.ensures.refused))
+    (rule_numbers edit.rule edit.input.now _ (plan_numbers (plan_by edit.rule) (refuses_by edit.rule) s.class (needs_of (chosen_in c.in_ok-chosen.chosen) s) _ c.in_err-planned.ensures.refused))
 
 pub returns-in_err-buffers-clause-refused : goal.returns-in_err-buffers-clause-refused
 returns-in_err-buffers-clause-refused g c =
     let edit = c.args.self.now in
-    let plan = rates_plan edit.rates in
     let old = seen (g.D.Folder.files c.args.folder.now) (g.D.Folder.counts c.args.folder.now) in
     let p = err_from_is_err_and c.from_residual-in_err-buffers.result c.from_residual-in_err-buffers.ensures.1 in
     rw (p.1, p.2)
-    (input_is_early (packing plan) (packed_stream plan) (rates_refuse edit.rates) edit.input.now old _ Memory
-    (memory_is_input (packing plan) edit.input.now old _ (tells c.in_ok-survey.survey) c.in_ok-survey.ensures.there c.in_ok-survey.ensures.surveyed
-    (ap₂ seen (c.all_choice.ensures.files ∙ c.survey_input.ensures.files) (c.in_ok-chosen.ensures.done ∙ c.in_ok-survey.ensures.done))))
+    (rule_early edit.rule edit.input.now old _ Memory (λ file holds. (_, c.in_ok-survey.ensures.limited file holds))
+    (memory_is_input (packing (plan_by edit.rule)) edit.input.now old _ (tells c.in_ok-survey.survey) c.in_ok-survey.ensures.there c.in_ok-survey.ensures.surveyed
+    (ap₂ seen (c.all_choice.ensures.files ∙ c.survey_packed.ensures.files) (c.in_ok-chosen.ensures.done ∙ c.in_ok-survey.ensures.done))))
 
 pub returns-clause-ready : goal.returns-clause-ready
 returns-clause-ready g c =
@@ -86,7 +70,7 @@ returns-clause-ready g c =
       surveyed = c.in_ok-survey.ensures.surveyed;
       octets = c.in_ok-survey.ensures.octets;
       planned = λ bytes holds.
-          planned_is edit.rates bytes (tells c.in_ok-survey.survey) (chosen_in chosen) (entries c.in_ok-planned.planned.plan) (c.in_ok-chosen.ensures.chosen bytes (subst (λ f. Holds f edit.input.now bytes) (sym c.survey_input.ensures.files) holds))
+          planned_is (plan_by edit.rule) bytes (tells c.in_ok-survey.survey) (chosen_in chosen) (entries c.in_ok-planned.planned.plan) (c.in_ok-chosen.ensures.chosen bytes (subst (λ f. Holds f edit.input.now bytes) (sym c.survey_packed.ensures.files) holds))
           c.in_ok-planned.ensures.plan;
       writable = record { some = c.in_ok-chosen.ensures.some; within = c.in_ok-chosen.ensures.within; fits = c.in_ok-planned.ensures.fits.fits; info = c.in_ok-planned.ensures.info };
       fed = c.in_ok-buffers.ensures.fed;
@@ -97,14 +81,16 @@ pub returns-clause-making : goal.returns-clause-making
 returns-clause-making g c =
     let edit = c.args.self.now in
     let chosen = c.in_ok-chosen.chosen in
-    work_makes (rates_plan edit.rates) (rates_refuse edit.rates) edit.input.now
-    (record { survey = c.in_ok-survey.survey; selection = record { chosen = chosen; planned = c.in_ok-planned.planned }; buffers = c.in_ok-buffers.buffers }) (g.D.Folder.files c.args.folder.now) (record {
+    rule_makes edit.rule edit.input.now
+    (record { survey = c.in_ok-survey.survey; selection = record { chosen = chosen; planned = c.in_ok-planned.planned }; buffers = c.in_ok-buffers.buffers }) (g.D.Folder.files c.args.folder.now)
+    (λ file holds. (_, c.in_ok-survey.ensures.limited file holds))
+    (record {
       there = c.in_ok-survey.ensures.there;
       laid = c.in_ok-survey.ensures.laid;
       surveyed = c.in_ok-survey.ensures.surveyed;
       octets = c.in_ok-survey.ensures.octets;
       planned = λ bytes holds.
-          planned_is edit.rates bytes (tells c.in_ok-survey.survey) (chosen_in chosen) (entries c.in_ok-planned.planned.plan) (c.in_ok-chosen.ensures.chosen bytes (subst (λ f. Holds f edit.input.now bytes) (sym c.survey_input.ensures.files) holds))
+          planned_is (plan_by edit.rule) bytes (tells c.in_ok-survey.survey) (chosen_in chosen) (entries c.in_ok-planned.planned.plan) (c.in_ok-chosen.ensures.chosen bytes (subst (λ f. Holds f edit.input.now bytes) (sym c.survey_packed.ensures.files) holds))
           c.in_ok-planned.ensures.plan;
       writable = record { some = c.in_ok-chosen.ensures.some; within = c.in_ok-chosen.ensures.within; fits = c.in_ok-planned.ensures.fits.fits; info = c.in_ok-planned.ensures.info };
       fed = c.in_ok-buffers.ensures.fed;

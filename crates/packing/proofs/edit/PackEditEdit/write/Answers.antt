@@ -1,7 +1,7 @@
 -- The output was created, and the input stayed.
 use Rattle.sync_survey.specs.Faults.{tells}
 use Rattle.frame_edits.proofs.LaidPass.{relay-ready, survey-still}
-use Rattle.packing.proofs.edit.RatesEditEdit.write.Goals as goal
+use Rattle.packing.proofs.edit.PackEditEdit.write.Goals as goal
 
 pub write_laid-requires-clause-ready : goal.write_laid-requires-clause-ready
 write_laid-requires-clause-ready g c =

@@ -1,0 +1,117 @@
+-- The frames of a well-formed file have a best plan, and can be laid by it.
+use Rattle.std.proofs.Common.{◌≡◌, ℕ, ◌+◌, ◌<◌, ◌≤◌, true, false, Bool, List, [], ◌∷◌, length, map, Contains, Option, Some, None, Result, Ok, Err, refl, sym, ◌∙◌, ap, subst, arith, get_or, append-nil}
+use Rattle.std.specs.Prelude.{unwrap_or, ◌↔◌, IfOk}
+use Rattle.std.proofs.lemmas.List.{length-map}
+use Rattle.frame_header.specs.Fields.{SlotFields, ClassFields, IsSlot}
+use Rattle.frame_header.specs.Tables.{window_of}
+use Rattle.frame_header.specs.Slots.{all_slots}
+use Rattle.slot_plan.specs.declared.needs.Need.{Need}
+use Rattle.slot_plan.specs.declared.needs.Placed.{Placed}
+use Rattle.slot_plan.specs.declared.needs.Plan.{Plan}
+use Rattle.slot_plan.specs.Layouts.{IsFeasible}
+use Rattle.slot_plan.specs.Parts.{item_of, own_frame, window_in, AreOfClass, AreOfOneClass}
+use Rattle.slot_plan.specs.Plans.{IsPlan, entries}
+use Rattle.slot_plan.specs.Laws.{ChooseInOrder}
+use Rattle.best_plan.specs.Best.{items_behind, IsBestPlan}
+use Rattle.best_plan.specs.BestOf.{best_plan_of}
+use Rattle.best_plan.proofs.BestOfLaws.{best-plan-of}
+use Rattle.best_plan.proofs.ExistsLaw.{best-exists}
+use Rattle.part_needs.specs.Needs.{need_of}
+use Rattle.part_needs.specs.Fit.{IsPlaced, any_choice}
+use Rattle.part_needs.proofs.PartsLaws.{parts_are}
+use Rattle.laying.proofs.FitLaws.{Asks, items-fit, asks-each}
+use Rattle.sync_survey.specs.Faults.{SurveyFields}
+use Rattle.frame_edits.specs.declared.chosen.Slots.TheVariants.{Least}
+use Rattle.frame_edits.specs.Chosen.{Chosen, chosen_rows, plan_of}
+use Rattle.frame_edits.proofs.ChosenLaws.{rows-fit, the-plan}
+use Rattle.frame_edits.proofs.LaidLaws.{AreOpen, open-in_slots}
+use Rattle.packing.specs.Packing.{needs_of}
+use Rattle.packing.specs.Rules.{best_planning}
+use Rattle.packing.proofs.MenuLaws.{all-slots}
+use Rattle.packing.proofs.PlanLaws.{IsFittingFew, for-length, one-class, window-is}
+
+-- ---- by a best plan frames can be laid
+
+asks-behind : (lead_in : Bool) (needs : List Need) → Asks (items_behind lead_in any_choice needs) needs
+unfolding items_behind
+asks-behind false needs = asks-each any_choice needs
+asks-behind true [] = tt
+asks-behind true (first ∷ needs) = ((refl, refl, refl), asks-each any_choice (first ∷ needs))
+
+any-slot : (slot : SlotFields) → Contains all_slots slot → IsSlot slot
+any-slot slot has = subst IsSlot has.2 (all-slots has.0 slot has.1)
+
+open-needs : (needs : List Need) → AreOpen (map (item_of any_choice) needs)
+open-needs [] = tt
+open-needs (need ∷ needs) = (any-slot, open-needs needs)
+
+open-behind : (lead_in : Bool) (needs : List Need) → AreOpen (items_behind lead_in any_choice needs)
+unfolding items_behind
+open-behind false needs = open-needs needs
+open-behind true [] = tt
+open-behind true (first ∷ needs) = (any-slot, open-needs (first ∷ needs))
+
+behind-length : (lead_in : Bool) (needs : List Need) → length (items_behind lead_in any_choice needs) ≤ length needs + 1
+unfolding items_behind
+behind-length false needs = omega (arith, length-map needs (item_of any_choice))
+behind-length true [] = omega arith
+behind-length true (first ∷ needs) = omega (arith, length-map needs (item_of any_choice))
+
+best-fits : (window : ℕ) (needs : List Need) (placed : List Placed) → IsBestPlan window any_choice needs placed → IsFittingFew window needs placed
+best-fits window needs placed is =
+    let whole = is.whole in
+    let items = items_behind is.lead_in any_choice needs in
+    record {
+      fitting = record {
+        fits = items-fit window items needs placed (asks-behind is.lead_in needs) whole.slots whole.best.feasible whole.begins;
+        slots = open-in_slots items placed (open-behind is.lead_in needs) whole.slots;
+      };
+      few = omega (arith, for-length items placed whole.slots, behind-length is.lead_in needs);
+    }
+
+-- ---- what the planner is given, and answers
+
+module _ (class : ClassFields) (needs given : List Need) (is : given ≡ needs) (same : AreOfClass class needs) where
+  pub given-one : AreOfOneClass given
+  given-one = subst AreOfOneClass (sym is) (one-class class needs same)
+
+  module _ (some : 1 ≤ length needs) where
+    pub given-feasible : IsFeasible (window_of class.version) (window_of class.version) (map own_frame needs) → IsFeasible (window_in given) (window_in given) (map own_frame given)
+    given-feasible feasible =
+        subst (λ (l : List Need). IsFeasible (window_in l) (window_in l) (map own_frame l)) (sym is)
+        (subst (λ w. IsFeasible w w (map own_frame needs)) (sym (window-is class needs same some)) feasible)
+
+    answered : (placed : List Placed) → ChooseInOrder any_choice (needs ∷ []) → IsBestPlan (window_in given) any_choice given placed → best_plan_of (window_of class.version) any_choice needs ≡ Some placed
+    answered placed order best =
+        (best-plan-of (window_of class.version) any_choice needs placed order).0
+        (subst (λ w. IsBestPlan w any_choice needs placed) (window-is class needs same some) (subst (λ (l : List Need). IsBestPlan (window_in l) any_choice l placed) is best))
+
+    pub best-says : {E : Type 0} (r : Result Plan E) → ChooseInOrder any_choice (needs ∷ []) → IfOk r (λ plan. IsBestPlan (window_in given) any_choice given (entries plan)) → IfOk r (λ plan. best_plan_of (window_of class.version) any_choice needs ≡ Some (entries plan))
+    best-says (Ok plan) order best = answered (entries plan) order best
+    best-says (Err e) order best = tt
+
+-- ---- chosen frames
+
+unwrapped : (o : Option (List Placed)) (best placed : List Placed) → o ≡ Some best → unwrap_or o [] ≡ placed → o ≡ Some placed
+unwrapped (Some other) best placed some is = ap Some is
+unwrapped None best placed some is = absurd cc
+
+module _ (chosen : Chosen) (s : SurveyFields) (placed : IsPlaced s) (some : chosen.from < chosen.to) (within : chosen.to ≤ length s.frames) where
+  pub in-order : ChooseInOrder any_choice (needs_of chosen s ∷ [])
+  in-order = subst (ChooseInOrder any_choice) (parts_are [] 0 (chosen_rows chosen s ∷ []) refl) (rows-fit chosen s placed some within).least
+
+  -- the plan of the plain packing
+  pub plain-plan : IsPlan (window_of s.class.version) any_choice (needs_of chosen s ∷ []) (plan_of (record chosen { slots = Least }) s)
+  plain-plan = the-plan (record chosen { slots = Least }) s placed some within
+
+  pub best-some : (best : List Placed) × (best_plan_of (window_of s.class.version) any_choice (needs_of chosen s) ≡ Some best)
+  best-some = best-exists (window_of s.class.version) any_choice (needs_of chosen s) (plan_of (record chosen { slots = Least }) s) plain-plan
+
+  pub best-is : (plan : List Placed) → best_planning s.class (needs_of chosen s) ≡ Ok plan → IsBestPlan (window_of s.class.version) any_choice (needs_of chosen s) plan
+  best-is plan planned =
+      let same : unwrap_or (best_plan_of (window_of s.class.version) any_choice (needs_of chosen s)) [] ≡ plan = cc in
+      (best-plan-of (window_of s.class.version) any_choice (needs_of chosen s) plan in-order).1
+      (unwrapped (best_plan_of (window_of s.class.version) any_choice (needs_of chosen s)) best-some.0 plan best-some.1 same)
+
+  pub best-fitting : (plan : List Placed) → best_planning s.class (needs_of chosen s) ≡ Ok plan → IsFittingFew (window_of s.class.version) (needs_of chosen s) plan
+  best-fitting plan planned = best-fits (window_of s.class.version) (needs_of chosen s) plan (best-is plan planned)

@@ -1,0 +1,156 @@
+-- A file of so many frames at most: its faults, and that where it has none it has none where more are allowed.
+use Rattle.std.proofs.Common.{◌≡◌, ℕ, ◌<◌, ◌≤◌, ◌==◌, false, List, [], length, Option, Some, None, Result, Ok, Err, refl, sym, ◌∙◌, ap, subst, inl, inr, arith, rules}
+use Rattle.std.specs.Prelude.{Bool, IfErr, IfSome, slice_get}
+use Rattle.std.proofs.lemmas.Option.{slice_get_within, slice_get_cases}
+use Rattle.std.proofs.lemmas.Bool.{ne_eqb}
+use Rattle.bit_fields.specs.Bits.{AreBytes}
+use Rattle.frame_header.specs.Fields.{ClassFields}
+use Rattle.outside.specs.Files.{Contents, Files, Holds, IsThere, IsMissing}
+use Rattle.outside.proofs.FilesLaws.{there_holds}
+use Rattle.sync_survey.specs.declared.places.Head.{Head}
+use Rattle.sync_survey.specs.declared.rows.Row.{Row}
+use Rattle.sync_survey.specs.declared.survey_fault.SurveyFault.{SurveyFault}
+use Rattle.sync_survey.specs.declared.survey_fault.SurveyFault.TheVariants.{Absent}
+use Rattle.sync_survey.specs.Walk.{head_of}
+use Rattle.sync_survey.specs.MainData.{StreamFrame, rows_of}
+use Rattle.sync_survey.specs.Faults.{SurveyFields, class_from, surveyed, longest_file, HoldsStream}
+use Rattle.sync_survey.specs.Survey.{survey_of}
+use Rattle.sync_survey.proofs.SurveyParts.{AreSound, frames_from, surveyed-parts, surveyed-told, all_faults-none_sound, sound-no_all_faults}
+use Rattle.sync_survey.proofs.SurveyedFiles.{survey_of-parts}
+use Rattle.sync_survey.proofs.BytesFaults.{surveyed_of_bytes}
+use Rattle.sync_survey.proofs.FoldersLaws.{survey_of-short}
+use Rattle.commands.specs.declared.fault.EditFault.{EditFault}
+use Rattle.commands.specs.declared.fault.EditFault.TheVariants.{EqualNames, Input, Refused, Write, Sent, Memory}
+use Rattle.commands.specs.declared.fault.Refusal.{Refusal}
+use Rattle.commands.specs.Command.{AreSound as SourcesAreSound}
+use Rattle.commands.specs.Left.{Why, Rejected, Missing, Unread, Shorter, Unwritten, Unsent, NoMemory, why_of, Seen, IsLate}
+use Rattle.commands.specs.One.{Making, made_where, Task, file_task, Refuses, IsFileFaultBy, IsFileFault, IsEarlyFaultBy, IsEarlyFault, IsOfInputs, IsMaking, IsProper}
+use Rattle.commands.proofs.InputLaws.{of_bytes_behind}
+use Rattle.packing.specs.Rules.{unless_fault, limited_by, limited}
+
+-- ---- where more frames are allowed
+
+same_count : (n : ℕ) → (n == n) ≡ false → ⊥
+same_count n is = search rules
+
+few-rows : (file : List ℕ) (head : Option Head) (class : ClassFields) (allowed : ℕ) (rows : List Row) → AreSound file head class allowed rows → length rows ≤ allowed
+few-rows file head class allowed rows sound =
+    elim (slice_get_cases rows allowed).1 as (λ _. length rows ≤ allowed) [
+      | inl found ↦ absurd (same_count allowed (sound allowed found.0 found.2).few)
+      | inr past ↦ past.0
+    ]
+
+sound-more : (file : List ℕ) (head : Option Head) (class : ClassFields) (allowed other : ℕ) (rows : List Row) → allowed ≤ other → AreSound file head class allowed rows → AreSound file head class other rows
+sound-more file head class allowed other rows more sound = λ i r is.
+    let here = sound i r is in
+    record { same = here.same; word = here.word; main = here.main; few = ne_eqb i other (λ e. omega (arith, few-rows file head class allowed rows sound, more, e, slice_get_within rows i r is)) }
+
+pub survey_of-more : (file : List ℕ) (allowed other : ℕ) (s : SurveyFields) → allowed ≤ other → survey_of file allowed ≡ Ok s → survey_of file other ≡ Ok s
+survey_of-more file allowed other s more e =
+    let whole = survey_of-parts file allowed s e in
+    let parts = surveyed-parts file allowed s whole.1 in
+    let start = parts.0 in
+    let read = parts.1 in
+    let rows = rows_of file (frames_from file start) in
+    let head = head_of file start.first in
+    survey_of-short file other whole.0
+    ∙ surveyed-told file other start (record {
+      start_is = read.start_is;
+      frames = sound-no_all_faults file head (class_from start) other rows (sound-more file head (class_from start) allowed other rows more (all_faults-none_sound file head (class_from start) allowed rows read.frames));
+      end = read.end;
+    })
+    ∙ ap Ok parts.2
+
+-- ---- where the source has no fault
+
+limited-sound : (allowed : ℕ) (o : Option (List ℕ)) (made : Result (List ℕ) EditFault) → ((file : List ℕ) → o ≡ Some file → (s : SurveyFields) × (survey_of file allowed ≡ Ok s)) → limited_by (Some allowed) o made ≡ made
+limited-sound allowed None made sound = refl
+limited-sound allowed (Some file) made sound = ap (λ r. unless_fault r made) (sound file refl).1
+
+limited-made : (allowed : ℕ) (o : Option (List ℕ)) (made : Result (List ℕ) EditFault) (new : List ℕ) → limited_by (Some allowed) o made ≡ Ok new → made ≡ Ok new
+limited-made allowed None made new is = is
+limited-made allowed (Some file) made new is = at (survey_of file allowed) is
+  where
+    at : (r : Result SurveyFields SurveyFault) → unless_fault r made ≡ Ok new → made ≡ Ok new
+    at (Err fault) is = absurd cc
+    at (Ok s) is = is
+
+limited-late : (allowed : ℕ) (file : List ℕ) (made : Result (List ℕ) EditFault) → length file ≤ longest_file → IfErr made IsLate → IfErr (limited_by (Some allowed) (Some file) made) IsLate
+limited-late allowed file made few late = at (survey_of file allowed) refl
+  where
+    at : (r : Result SurveyFields SurveyFault) → survey_of file allowed ≡ r → IfErr (unless_fault r made) IsLate
+    at (Err fault) is = of_bytes_behind fault (surveyed_of_bytes file allowed fault (sym (survey_of-short file allowed few) ∙ is))
+    at (Ok s) is = late
+
+module _ (allowed : ℕ) (task : Task) where
+  -- where the source is told, it has no fault
+  abbrev pub IsFaultless : Files → Type 0
+  IsFaultless files = (file : List ℕ) → Holds files task.source file → (s : SurveyFields) × (survey_of file allowed ≡ Ok s)
+
+  limited-refuses : (files : Files) (fault : EditFault) → IsFaultless files → Refuses task files fault → Refuses (limited (Some allowed) task) files fault
+  limited-refuses None fault sound is = tt
+  limited-refuses (Some f) fault sound is = limited-sound allowed (f task.source) (task.makes f) sound ∙ is
+
+  module _ (old new : Seen) (fault : EditFault) (sound : IsFaultless old.files) where
+    early-by : (why : Why) → IsEarlyFaultBy task old new fault why → IsEarlyFaultBy (limited (Some allowed) task) old new fault why
+    early-by Rejected h = record { defined = limited-refuses old.files fault sound h.defined; stays = h.stays }
+    early-by Missing h = record { defined = limited-refuses old.files fault sound h.defined; rose = h.rose; files = h.files }
+    early-by Unread h = h
+    early-by Shorter h = h
+    early-by (Unwritten k) h = absurd h
+    early-by Unsent h = absurd h
+    early-by NoMemory h = h
+
+    pub limited-early : IsEarlyFault task old new fault → IsEarlyFault (limited (Some allowed) task) old new fault
+    limited-early h = early-by (why_of fault) h
+
+  pub limited-numbers : (fault : EditFault) → IsOfInputs task fault → IsOfInputs (limited (Some allowed) task) fault
+  limited-numbers (EqualNames place) h = absurd h
+  limited-numbers (Input place fault) h = h
+  limited-numbers (Refused refusal) h = h
+  limited-numbers (Write place) h = absurd h
+  limited-numbers Sent h = absurd h
+  limited-numbers Memory h = tt
+
+  pub limited-making : (made : List ℕ → List ℕ) (files : Files) → IsFaultless files → IsMaking task made files → IsMaking (limited (Some allowed) task) made files
+  limited-making made files sound is = record { there = is.there; makes = at files sound is.makes }
+    where
+      at : (files : Files) → IsFaultless files → IfSome files (λ f. (bytes : List ℕ) → f task.source ≡ Some bytes → AreBytes bytes × (task.makes f ≡ Ok (made bytes)))
+          → IfSome files (λ f. (bytes : List ℕ) → f task.source ≡ Some bytes → AreBytes bytes × (limited_by (Some allowed) (f task.source) (task.makes f) ≡ Ok (made bytes)))
+      at None sound makes = tt
+      at (Some f) sound makes = λ bytes held. let m = makes bytes held in (m.0, limited-sound allowed (f task.source) (task.makes f) sound ∙ m.1)
+
+  pub limited-proper : IsProper task → IsProper (limited (Some allowed) task)
+  limited-proper proper = record {
+    late = λ f bytes held few. subst (λ o. IfErr (limited_by (Some allowed) o (task.makes f)) IsLate) (sym held) (limited-late allowed bytes (task.makes f) few (proper.late f bytes held few));
+    streams = λ f bytes new held octets is. proper.streams f bytes new held octets (limited-made allowed (f task.source) (task.makes f) new is);
+  }
+
+-- ---- a fault of the survey
+
+module _ (allowed : ℕ) (make : Making) (stream : List ℕ → List StreamFrame) (refuses : Refusal → Bool) (input : List ℕ) where
+  abbrev of_file : Task
+  of_file = file_task make stream refuses input
+
+  file-refused : (files : Files) (fault : SurveyFault) → IsThere files input → ((bytes : List ℕ) → Holds files input bytes → survey_of bytes allowed ≡ Err fault) → Refuses (limited (Some allowed) of_file) files (Input 0 fault)
+  file-refused None fault there is = tt
+  file-refused (Some f) fault there is =
+      let held = there_holds f input there in
+      ap (λ o. limited_by (Some allowed) o (made_where make (f input))) held.1 ∙ ap (λ r. unless_fault r (made_where make (f input))) (is held.0 held.1)
+
+  file-missing : (files : Files) → IsMissing files input → Refuses (limited (Some allowed) of_file) files (Input 0 Absent)
+  file-missing None missing = tt
+  file-missing (Some f) missing = ap (λ o. limited_by (Some allowed) o (made_where make o)) missing
+
+  module _ (old new : Seen) (fault : EditFault) where
+    survey-by : (why : Why) → IsFileFaultBy 0 allowed input old new fault why → IsEarlyFaultBy (limited (Some allowed) of_file) old new fault why
+    survey-by Rejected h = record { defined = subst (Refuses (limited (Some allowed) of_file) old.files) (sym h.1) (file-refused old.files h.0 h.2.there h.2.bytes); stays = h.2.stays }
+    survey-by Missing h = record { defined = subst (Refuses (limited (Some allowed) of_file) old.files) (sym h.0) (file-missing old.files h.1); rose = h.2; files = h.3 }
+    survey-by Unread h = h
+    survey-by Shorter h = h
+    survey-by (Unwritten k) h = absurd h
+    survey-by Unsent h = absurd h
+    survey-by NoMemory h = h
+
+    pub survey-early : IsFileFault 0 allowed input old new fault → IsEarlyFault (limited (Some allowed) of_file) old new fault
+    survey-early h = survey-by (why_of fault) h
