@@ -72,7 +72,7 @@ static SEVERAL: [Bad; 12] = table! {
 };
 
 /// Words of packings in a mode.
-static RATES: [Bad; 9] = table! {
+static RATES: [Bad; 11] = table! {
     Bad { words, place }
     (&["pack", "--constant"], 3)
     (&["pack", "--constant", "", "a", "b"], 3)
@@ -83,6 +83,8 @@ static RATES: [Bad; 9] = table! {
     (&["pack", "--floor", "a", "b"], 3)
     (&["pack", "--floor", "32", "-a", "b"], 4)
     (&["pack", "--floor", "32", "a", "b", "c"], 6)
+    (&["pack", "--best", "96", "a", "b"], 5)
+    (&["pack", "--best", "--floor", "32", "a", "b"], 3)
 };
 
 /// Words of the other forms, and of none.

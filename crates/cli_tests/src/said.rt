@@ -24,6 +24,7 @@ const USAGE: &[u8] = b"usage: mp3edit COMMAND
   pack --constant B IN OUT
                          the same with the bit rate of B kbit/s alone, which may be too low for some frame
   pack --floor B IN OUT  the same with bit rates of B kbit/s and more
+  pack --best IN OUT     the same with the bit rates that take the fewest bytes in all
   split IN PREFIX P1 P2 [P3 to P100]
                          write the frames of IN from P1 on and before P2 to PREFIX01.mp3, those from P2 on and
                          before P3 to PREFIX02.mp3, and so on; places as FROM and TO of cut

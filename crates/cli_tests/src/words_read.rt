@@ -123,12 +123,13 @@ struct RateWords {
 }
 
 /// Any number of one to three digits is a word for a bit rate.
-static RATES: [RateWords; 4] = table! {
+static RATES: [RateWords; 5] = table! {
     RateWords { words, mode }
     (&["pack", "--constant", "96", "a", "b"], PackMode::Constant(96))
     (&["pack", "--constant", "0", "a", "b"], PackMode::Constant(0))
     (&["pack", "--floor", "008", "a", "b"], PackMode::Floor(8))
     (&["pack", "--floor", "999", "a", "b"], PackMode::Floor(999))
+    (&["pack", "--best", "a", "b"], PackMode::Best)
 };
 
 #[test]

@@ -14,7 +14,7 @@ use Rattle.cue_sheet.specs.Digits.{number_in}
 use Rattle.cue_sheet.specs.Places.{is_dot, frame_number, time_in, seconds_in, hundredths_in, time_of, place_of, IsPlace}
 use Rattle.job_words.specs.declared.flags.Flag.{Flag}
 use Rattle.job_words.specs.Kinds.{Kind, Fixed, Name, Steps, Channel, Place, Rate, Said, Itself, NameSaid, StepsSaid, ChannelSaid, PlaceSaid, RateSaid, is_name, step_count, steps_of, channel_of, rate_in, said, said_first, fits_kind, steps_said, place_said, name_at, said_at, values_of}
-use Rattle.job_words.specs.Forms.{Form, Shape, forms, help, short_help, version, list_form, gain_form, channel_form, undo_form, cut_form, pack_form, constant_form, floor_form, split_form, sheet_form, join_form, kinds_behind, front_of, reads_of, asked_of}
+use Rattle.job_words.specs.Forms.{Form, Shape, forms, help, short_help, version, list_form, gain_form, channel_form, undo_form, cut_form, pack_form, constant_form, floor_form, best_form, split_form, sheet_form, join_form, kinds_behind, front_of, reads_of, asked_of}
 use Rattle.job_words.specs.Words.{have_kinds, kinds_in, IsName, IsStepCount, IsSound}
 use Rattle.job_words.proofs.Lists.{rest_agrees}
 
@@ -214,6 +214,9 @@ constant_is_sound given words h = (name_there constant_form.kinds words 2 h (ome
 floor_is_sound : AreSoundOf floor_form floor_form.kinds
 floor_is_sound given words h = (name_there floor_form.kinds words 2 h (omega arith) refl, name_there floor_form.kinds words 3 h (omega arith) refl)
 
+best_is_sound : AreSoundOf best_form best_form.kinds
+best_is_sound given words h = (name_there best_form.kinds words 1 h (omega arith) refl, name_there best_form.kinds words 2 h (omega arith) refl)
+
 sheet_is_sound : AreSoundOf sheet_form sheet_form.kinds
 sheet_is_sound given words h =
     (name_there sheet_form.kinds words 0 h (omega arith) refl, name_there sheet_form.kinds words 1 h (omega arith) refl, name_there sheet_form.kinds words 3 h (omega arith) refl)
@@ -282,12 +285,15 @@ forms_are_sound =
                         (
                           once floor_form refl floor_is_sound,
                           (
-                            split_is_sound,
+                            once best_form refl best_is_sound,
                             (
-                              once sheet_form refl sheet_is_sound,
+                              split_is_sound,
                               (
-                                join_is_sound,
-                                tt,
+                                once sheet_form refl sheet_is_sound,
+                                (
+                                  join_is_sound,
+                                  tt,
+                                ),
                               ),
                             ),
                           ),

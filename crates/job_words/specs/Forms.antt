@@ -4,7 +4,7 @@ use Rattle.std.specs.List.{flat_map, list_all}
 use Rattle.moved_gains.specs.declared.shift.Channels.{Channels}
 use Rattle.moved_gains.specs.declared.shift.Channels.TheVariants.{Both}
 use Rattle.pack_mode.specs.declared.mode.PackMode.{PackMode}
-use Rattle.pack_mode.specs.declared.mode.PackMode.TheVariants.{Least as LeastMode, Constant, Floor}
+use Rattle.pack_mode.specs.declared.mode.PackMode.TheVariants.{Least as LeastMode, Constant, Floor, Best}
 use Rattle.job_words.specs.declared.flags.Flag.{Flag}
 use Rattle.job_words.specs.declared.flags.Flag.TheVariants.{Tagless, Wrapping, Least}
 use Rattle.job_words.specs.declared.forms.Asks.{Asks}
@@ -66,6 +66,10 @@ constant_form = record { command = codes "pack"; flags = []; kinds = Fixed (code
 abbrev pub floor_form : Form
 floor_form = record { command = codes "pack"; flags = []; kinds = Fixed (codes "--floor") ∷ Rate ∷ Name ∷ Name ∷ []; more = 0; asks = asks.FloorPack }
 
+-- `pack --best IN OUT`
+abbrev pub best_form : Form
+best_form = record { command = codes "pack"; flags = []; kinds = Fixed (codes "--best") ∷ Name ∷ Name ∷ []; more = 0; asks = asks.BestPack }
+
 -- `split IN PREFIX P1 P2 [P3 to P100]`
 abbrev pub split_form : Form
 split_form = record { command = codes "split"; flags = []; kinds = Name ∷ Name ∷ Place ∷ Place ∷ []; more = 98; asks = asks.SplitAt }
@@ -82,7 +86,7 @@ join_form = record { command = codes "join"; flags = []; kinds = Name ∷ Name �
 abbrev pub forms : List Form
 forms =
     help ∷ short_help ∷ version ∷ list_form ∷ gain_form ∷ channel_form ∷ undo_form ∷ cut_form ∷ pack_form ∷ constant_form ∷ floor_form
-    ∷ split_form ∷ sheet_form ∷ join_form ∷ []
+    ∷ best_form ∷ split_form ∷ sheet_form ∷ join_form ∷ []
 
 -- ---- the kinds of a form's words
 
@@ -146,6 +150,7 @@ reads_of asks.Cut given values words =
 reads_of asks.Pack given values words = pack_asked LeastMode values 0
 reads_of asks.ConstantPack given values words = pack_asked (Constant (rate_said (said_at values 1))) values 2
 reads_of asks.FloorPack given values words = pack_asked (Floor (rate_said (said_at values 1))) values 2
+reads_of asks.BestPack given values words = pack_asked Best values 1
 reads_of asks.SplitAt given values words = SplitAt (name_at values 0) (name_at values 1) (map place_said (drop 2 values))
 reads_of asks.SplitBy given values words = SplitBy (name_at values 0) (name_at values 1) (name_at values 3)
 reads_of asks.Join given values words = Join (name_at values 0) (drop 1 words)

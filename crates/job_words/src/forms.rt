@@ -27,6 +27,7 @@ pub(crate) enum Asks {
     Pack,
     ConstantPack,
     FloorPack,
+    BestPack,
     SplitAt,
     SplitBy,
     Join,
@@ -42,7 +43,7 @@ pub(crate) struct Form {
 }
 
 /// The forms. C is a channel, N a number of steps, B a bit rate, P1 to P100, FROM and TO are places; all others are names.
-pub(crate) static FORMS: [Form; 14] = [
+pub(crate) static FORMS: [Form; 15] = [
     // `--help`
     Form {
         command: "--help",
@@ -156,6 +157,14 @@ pub(crate) static FORMS: [Form; 14] = [
         ],
         more: 0,
         asks: Asks::FloorPack,
+    },
+    // `pack --best IN OUT`
+    Form {
+        command: "pack",
+        flags: &[],
+        kinds: &[WordKind::Fixed("--best"), WordKind::Name, WordKind::Name],
+        more: 0,
+        asks: Asks::BestPack,
     },
     // `split IN PREFIX P1 P2 [P3 to P100]`
     Form {
@@ -291,6 +300,7 @@ impl Asks {
             Asks::Pack => pack(PackMode::Least, values, 0),
             Asks::ConstantPack => pack(PackMode::Constant(value_at(values, 1).rate()), values, 2),
             Asks::FloorPack => pack(PackMode::Floor(value_at(values, 1).rate()), values, 2),
+            Asks::BestPack => pack(PackMode::Best, values, 1),
             Asks::SplitAt => Job::SplitAt {
                 input: name_at(values, 0),
                 prefix: name_at(values, 1),

@@ -127,6 +127,7 @@ help_text =
     ++ (codes "  pack --constant B IN OUT\n"
     ++ (codes "                         the same with the bit rate of B kbit/s alone, which may be too low for some frame\n"
     ++ (codes "  pack --floor B IN OUT  the same with bit rates of B kbit/s and more\n"
+    ++ (codes "  pack --best IN OUT     the same with the bit rates that take the fewest bytes in all\n"
     ++ (codes "  split IN PREFIX P1 P2 [P3 to P100]\n"
     ++ (codes "                         write the frames of IN from P1 on and before P2 to PREFIX01.mp3, those from P2 on and\n"
     ++ (codes "                         before P3 to PREFIX02.mp3, and so on; places as FROM and TO of cut\n"
@@ -136,7 +137,7 @@ help_text =
     ++ (codes "  --help, -h             say this\n"
     ++ (codes "  --version              say which version this is\n"
     ++ (codes "status: 0 done; 1 refused; 2 bad word; 3 a file is absent, or reading or writing failed;\n"
-    ++ codes "        4 out of memory\n")))))))))))))))))))))))))
+    ++ codes "        4 out of memory\n"))))))))))))))))))))))))))
 
 -- the program's name and version
 unfoldable pub version_text : List ℕ

@@ -40,7 +40,7 @@ pub fn status(fault: &EditFault) -> u8
 }
 
 /// What the program does, form by form, and the statuses.
-static HELP: [&str; 27] = [
+static HELP: [&str; 28] = [
     "usage: mp3edit COMMAND\n",
     "  list IN                say what stands in the MP3 file IN: tags, junk, head and frames\n",
     "  gain [-s s] [-w] -g N IN OUT\n",
@@ -58,6 +58,7 @@ static HELP: [&str; 27] = [
     "  pack --constant B IN OUT\n",
     "                         the same with the bit rate of B kbit/s alone, which may be too low for some frame\n",
     "  pack --floor B IN OUT  the same with bit rates of B kbit/s and more\n",
+    "  pack --best IN OUT     the same with the bit rates that take the fewest bytes in all\n",
     "  split IN PREFIX P1 P2 [P3 to P100]\n",
     "                         write the frames of IN from P1 on and before P2 to PREFIX01.mp3, those from P2 on and\n",
     "                         before P3 to PREFIX02.mp3, and so on; places as FROM and TO of cut\n",

@@ -6,7 +6,7 @@ use Rattle.gain_edits.specs.Gain.{gain_command}
 use Rattle.gain_edits.specs.Undo.{undo_command}
 use Rattle.frame_edits.specs.Chosen.{cut_command}
 use Rattle.pack_mode.specs.declared.mode.PackMode.{PackMode}
-use Rattle.pack_mode.specs.declared.mode.PackMode.TheVariants.{Least, Constant, Floor}
+use Rattle.pack_mode.specs.declared.mode.PackMode.TheVariants.{Least, Constant, Floor, Best}
 use Rattle.packing.specs.Modes.{pack_task, pack_mode_command}
 use Rattle.splitting.specs.Split.{split_at_command, split_by_command, given, told_by}
 use Rattle.joining.specs.Join.{join_command}
@@ -61,6 +61,7 @@ packed_inputs : (mode : PackMode) (input output : List ℕ) → (pack_mode_comma
 packed_inputs Least input output = refl
 packed_inputs (Constant rate) input output = refl
 packed_inputs (Floor rate) input output = refl
+packed_inputs Best input output = refl
 
 pub returns-in-Pack-clause-answers : goal.returns-in-Pack-clause-answers
 returns-in-Pack-clause-answers g c =
