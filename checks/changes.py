@@ -361,6 +361,7 @@ def commands(random, files):
     yield ["pack", "x", "o"]
     yield ["pack", "--constant", bit_rate(random, found), "x", "o"]
     yield ["pack", "--floor", bit_rate(random, found), "x", "o"]
+    yield ["pack", "--best", "x", "o"]
     yield ["split", "x", "p", *places(random, random.choice((2, 3, 3, 5, 9)), count)]
     yield ["split", "x", "p", "-c", "s"]
     yield ["join", "o", *random.choice((["x", "y"], ["y", "x"], ["x", "x", "y"], ["y", "x", "y", "x"]))]

@@ -6,6 +6,8 @@
   laid.py pack IN OUT             so all frames of IN, with the quality and the extension of its head
   laid.py constant B IN OUT       the same in slots of B kbit/s alone, of frames and lead-in alike
   laid.py floor B IN OUT          the same in slots of at least B kbit/s
+  laid.py best IN OUT             the same in the slots that take the fewest bytes in all
+  laid.py tried N                 compares the two ways to find these for N random parts of one to four frames
   laid.py join OUT IN..           all frames of these, in their own slots, with the lead-ins that each has alone; no tags but ID3v2 of
                                   the first in front
 
@@ -13,10 +15,15 @@ A slot is a bit rate and a padding bit. Of the lists of slots in which all main 
 is taken; a lead-in, one empty frame, comes first where the frames alone have no such list. Main data begin as early as they
 may, at most 511 bytes (MPEG-1) or 255 before the frame's own area (main_data_begin; ISO/IEC 11172-3 and 13818-3, 2.4.2.7). What
 frames.py calls a lost frame is an empty one here. In slots of some bit rates alone a frame may have no room: the first up to which
-there is none, even with the greatest slots and a lead-in. The Info frame in front has the number of frames, the bytes from its first to the
+there is none, even with the greatest slots and a lead-in. The slots that take the fewest bytes are those of the list with the least
+sum of areas, and of several such lists of the first in the order of the areas; few frames are tried in all lists, and of more a table
+has the least sums after each number of free bytes. The Info frame in front has the number of frames, the bytes from its first to the
 last frame's last, and of these the 256th parts that are before each hundredth of the frames. Tags follow the frames, except ID3v2
 in front.
 """
+import itertools
+import math
+import random
 import sys
 from dataclasses import dataclass
 
@@ -25,6 +32,8 @@ import frames  # noqa: E402
 
 HEAD_BYTES = 156
 SLOTS = [(index, padding) for index in range(1, 15) for padding in (0, 1)]
+# In place of slots: those that take the fewest bytes.
+BEST = "best"
 
 
 def in_slot(header, slot, protected):
@@ -119,6 +128,93 @@ def placed(parts, slots, lead_in_slots):
     return found
 
 
+def has_room(areas, sizes, window):
+    """Whether main data of these sizes have room in these areas."""
+    free = 0
+    for area, size in zip(areas, sizes):
+        if free + area < size:
+            return False
+        free = min(window, free + area - size)
+    return True
+
+
+def best_by_trying(choices, sizes, window):
+    """Of each list of areas, which ascend, the place of one, so that main data of these sizes have room: those with the least sum, and of
+    several lists the first; nothing where there is none. Each list is tried, in the order of the areas."""
+    least, best = math.inf, None
+    for places in itertools.product(*(range(len(it)) for it in choices)):
+        areas = [it[at] for it, at in zip(choices, places)]
+        if sum(areas) < least and has_room(areas, sizes, window):
+            least, best = sum(areas), list(places)
+    return best
+
+
+def best_by_table(choices, sizes, window):
+    """The same by the least sums from each frame on, behind each number of free bytes."""
+    later, rows = [0] * (window + 1), []
+    for areas, size in zip(reversed(choices), reversed(sizes)):
+        sums, places = [], []
+        for free in range(window + 1):
+            least, place = math.inf, None
+            for at, area in enumerate(areas):
+                left = free + area - size
+                if left >= 0 and area + later[min(left, window)] < least:
+                    least, place = area + later[min(left, window)], at
+                if left >= window:
+                    break
+            sums.append(least)
+            places.append(place)
+        rows.append(places)
+        later = sums
+    if later[0] == math.inf:
+        return None
+    best, free = [], 0
+    for areas, size, places in zip(choices, sizes, reversed(rows)):
+        best.append(places[free])
+        free = min(window, free + areas[best[-1]] - size)
+    return best
+
+
+def best_placed(needs):
+    """As `placed`, of one part in the slots that take the fewest bytes."""
+    window = (1 << frames.Frame(needs[0].header, 0).version.begin_bits) - 1
+    lead_in = Need(bytes([needs[0].header[0], needs[0].header[1] | 1]) + needs[0].header[2:], 0, b"")
+    for front in [], [lead_in]:
+        items = front + needs
+        shapes = {it.header: it.shapes(SLOTS) for it in items}
+        choices = [[it.area for it in shapes[need.header]] for need in items]
+        search = best_by_trying if len(items) < 4 else best_by_table
+        best = search(choices, [len(it.data) for it in items], window)
+        if best is not None:
+            break
+    found, free = [], 0
+    for need, at in zip(items, best):
+        shape = shapes[need.header][at]
+        found.append((shape, free, need.side, need.data))
+        free = min(window, free + shape.area - len(need.data))
+    return found
+
+
+def try_parts(count):
+    """Both ways to find the best list for so many random parts: of one to four frames, each with some areas of a class."""
+    chance = random.Random(1)
+    headers = [bytes.fromhex(it) for it in ("fffb9000", "fffa9000", "fffb94c0", "fff398c0", "fff290c0")]
+    none = 0
+    for number in range(count):
+        header = chance.choice(headers)
+        window = (1 << frames.Frame(header, 0).version.begin_bits) - 1
+        areas = [it.area for it in Need(header, 0, b"").shapes(SLOTS)]
+        frames_of_part = chance.randint(1, 4)
+        many = (28, 28, 14, 8)[frames_of_part - 1]
+        choices = [sorted(chance.sample(areas, many)) for _ in range(frames_of_part)]
+        sizes = [chance.choice((0, chance.randint(0, 100), chance.randint(0, areas[-1] + window // 2))) for _ in choices]
+        tried = best_by_trying(choices, sizes, window)
+        none += tried is None
+        if best_by_table(choices, sizes, window) != tried:
+            sys.exit(f"part {number}: {choices}, {sizes}")
+    print(f"{count} parts, of which {none} have no room")
+
+
 def laid(found):
     """The bytes of frames that were placed."""
     main, place = bytearray(sum(it[0].area for it in found)), 0
@@ -172,9 +268,11 @@ def front_blocks(found):
 
 
 def laid_file(data, found, first, end, slots, keeps_head=False):
-    """The bytes of the frames from one number on and before another, and how many frames are written."""
+    """The bytes of the frames from one number on and before another in these slots, in their own, or in the best; and how many frames
+    are written."""
     quality, extension = head_fields(data, found.head if keeps_head else None)
-    places = placed([main_data(data, found)[first:end]], slots, slots or SLOTS)
+    needs = main_data(data, found)[first:end]
+    places = best_placed(needs) if slots == BEST else placed([needs], slots, slots or SLOTS)
     written = laid(places)
     fronts = front_blocks(found)
     backs = [it for it in found.blocks if it not in fronts]
@@ -233,6 +331,10 @@ def main(words):
         write(words[1], words[2], 0, None, SLOTS, True)
     elif len(words) == 4 and words[0] in ("constant", "floor"):
         pack(*words)
+    elif len(words) == 3 and words[0] == "best":
+        write(words[1], words[2], 0, None, BEST, True)
+    elif len(words) == 2 and words[0] == "tried":
+        try_parts(int(words[1]))
     elif len(words) > 2 and words[0] == "join":
         join(words[1], words[2:])
     else:

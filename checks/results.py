@@ -82,6 +82,7 @@ FORMS += [
     (["pack", name, name], 1),
     (["pack", "--constant", rate, name, name], 1),
     (["pack", "--floor", rate, name, name], 1),
+    (["pack", "--best", name, name], 1),
     (["split", name, name, is_place, is_place], 99),
     (["split", name, name, "-c", name], 1),
     (["join", name, name], 64),
@@ -239,7 +240,11 @@ def pack(words, files):
     *mode, source, output = words[1:]
     judge_names([source], [output])
     found = surveyed(source, files)
-    slots = laid.menu_of(found, mode[0].removeprefix("--"), int(mode[1])) if mode else laid.SLOTS
+    slots = laid.SLOTS
+    if mode == ["--best"]:
+        slots = laid.BEST
+    elif mode:
+        slots = laid.menu_of(found, mode[0].removeprefix("--"), int(mode[1]))
     if not slots:
         raise Answer(1, f"no rate {int(mode[1])}")
     new = laid.laid_file(files[source], found, 0, None, slots, True)[0]
