@@ -1,24 +1,22 @@
 -- A command that reads one file: the faults of its input, and what it makes of it.
-use Rattle.std.proofs.Common.{◌≡◌, ℕ, ◌≤◌, true, false, List, [], ◌∷◌, length, Option, Some, None, refl, sym, ◌∙◌, ap, ap₂, subst, Result, Ok, Err, arith}
+use Rattle.std.proofs.Common.{◌≡◌, ℕ, ◌≤◌, true, false, List, [], ◌∷◌, length, Option, Some, None, refl, sym, ◌∙◌, ap, subst, Result, Ok, Err, arith}
 use Rattle.std.specs.Prelude.{Bool, IfSome, IfErr, unwrap_or}
 use Rattle.bit_fields.specs.Bits.{AreBytes}
 use Rattle.outside.specs.Files.{Contents, Files, Holds, IsThere}
-use Rattle.outside.specs.Counts.{Counts}
 use Rattle.outside.proofs.FilesLaws.{there_holds}
 use Rattle.sync_survey.specs.declared.survey_fault.SurveyFault.{SurveyFault}
-use Rattle.sync_survey.specs.declared.survey_fault.SurveyFault.TheVariants.{Absent, TooLong, NoFrame, LostSync, Truncated, FreeFormat, Mixed, CheckWord, BackPointer, Overlap, Overrun, TooManyFrames, Shrunk, Read, Memory as NoRoom}
+use Rattle.sync_survey.specs.declared.survey_fault.SurveyFault.TheVariants.{Absent, TooLong}
 use Rattle.sync_survey.specs.MainData.{StreamFrame}
 use Rattle.sync_survey.specs.Faults.{longest_file, SurveyFields, surveyed, HoldsStream}
-use Rattle.sync_survey.specs.Survey.{survey_of, RefusesBytes as SurveyRefuses, IsSurveyFault}
+use Rattle.sync_survey.specs.Survey.{survey_of}
 use Rattle.sync_survey.proofs.BytesFaults.{IsOfBytes, surveyed_of_bytes}
 use Rattle.sync_survey.proofs.FoldersLaws.{survey_of-short}
 use Rattle.commands.specs.declared.fault.EditFault.{EditFault}
 use Rattle.commands.specs.declared.fault.EditFault.TheVariants.{EqualNames, Input, Refused, Write, Sent, Memory}
 use Rattle.commands.specs.declared.fault.Refusal.{Refusal}
-use Rattle.commands.specs.Kinds.{of_survey, HasRightNumbers}
-use Rattle.commands.specs.One.{Making, most_frames, made_by, made_file, made_where, file_task, Refuses, RefusesFile, RefusesInput, IsFileFaultBy, IsFileFault, IsInputFaultBy, IsInputFault, IsEarlyFaultBy, IsEarlyFault, IsOfInputs, IsMaking, IsProper}
+use Rattle.commands.specs.One.{Making, most_frames, made_by, made_file, made_where, file_task, Refuses, RefusesInput, IsFileFaultBy, IsFileFault, IsInputFaultBy, IsInputFault, IsEarlyFaultBy, IsEarlyFault, IsOfInputs, IsMaking, IsProper}
 use Rattle.commands.specs.Command.{AreSound}
-use Rattle.commands.specs.Left.{Why, Rejected, Missing, Unread, Shorter, Unwritten, Unsent, NoMemory, why_of, Seen, seen, is_before_memory, IsLate, IsOfSurvey, IsOfInput, IsRefusal}
+use Rattle.commands.specs.Left.{Why, Rejected, Missing, Unread, Shorter, Unwritten, Unsent, NoMemory, why_of, Seen, is_before_memory, IsLate, IsOfSurvey, IsOfInput, IsRefusal}
 use Rattle.sync_survey.proofs.SurveyedFiles.{survey_of-parts, survey_of-sound}
 
 -- ---- the survey of the input
@@ -30,45 +28,6 @@ made-fault make bytes fault is = ap (made_by make bytes) is
 pub made-survey : (make : Making) (bytes : List ℕ) (s : SurveyFields) → survey_of bytes most_frames ≡ Ok s → made_file make bytes ≡ make bytes s
 unfolding made_file
 made-survey make bytes s is = ap (made_by make bytes) is
-
-module _ (place allowed : ℕ) (name : List ℕ) (files new : Files) (before after : Counts) (same : new ≡ files) where
-  refused : (fault : SurveyFault) → SurveyRefuses name files allowed before after fault → (f : SurveyFault) × (Input place fault ≡ Input place f) × RefusesFile allowed name (seen files before) (seen new after) f
-  refused fault h = (fault, refl, record { there = h.there; bytes = h.bytes; stays = ap₂ seen same h.counts })
-
-  -- a fault of the survey is one of this input
-  pub survey_is_fault : (fault : SurveyFault) → IsSurveyFault name files allowed before after fault → IsFileFault place allowed name (seen files before) (seen new after) (of_survey place fault)
-  survey_is_fault Absent h = (refl, h.0, h.1, same)
-  survey_is_fault (TooLong size) h = refused (TooLong size) h
-  survey_is_fault (NoFrame at) h = refused (NoFrame at) h
-  survey_is_fault (LostSync at) h = refused (LostSync at) h
-  survey_is_fault (Truncated at) h = refused (Truncated at) h
-  survey_is_fault (FreeFormat at) h = refused (FreeFormat at) h
-  survey_is_fault (Mixed at) h = refused (Mixed at) h
-  survey_is_fault (CheckWord at said right) h = refused (CheckWord at said right) h
-  survey_is_fault (BackPointer at begin present) h = refused (BackPointer at begin present) h
-  survey_is_fault (Overlap at) h = refused (Overlap at) h
-  survey_is_fault (Overrun at bits room) h = refused (Overrun at bits room) h
-  survey_is_fault (TooManyFrames at) h = refused (TooManyFrames at) h
-  survey_is_fault (Shrunk first second) h = record { rose = h.ended; counts = h.counts; untold_before = h.nothing_told; untold_after = same ∙ h.nothing_told }
-  survey_is_fault Read h = record { rose = h; files = same }
-  survey_is_fault NoRoom h = record { there = h.there; few = h.few; stays = ap₂ seen same h.counts }
-
-pub survey_numbers : (place : ℕ) (fault : SurveyFault) → HasRightNumbers fault → IsOfSurvey place (of_survey place fault)
-survey_numbers place Absent right = (refl, (λ e. cc), right)
-survey_numbers place (TooLong size) right = (refl, (λ e. cc), right)
-survey_numbers place (NoFrame at) right = (refl, (λ e. cc), right)
-survey_numbers place (LostSync at) right = (refl, (λ e. cc), right)
-survey_numbers place (Truncated at) right = (refl, (λ e. cc), right)
-survey_numbers place (FreeFormat at) right = (refl, (λ e. cc), right)
-survey_numbers place (Mixed at) right = (refl, (λ e. cc), right)
-survey_numbers place (CheckWord at said word) right = (refl, (λ e. cc), right)
-survey_numbers place (BackPointer at begin present) right = (refl, (λ e. cc), right)
-survey_numbers place (Overlap at) right = (refl, (λ e. cc), right)
-survey_numbers place (Overrun at bits room) right = (refl, (λ e. cc), right)
-survey_numbers place (TooManyFrames at) right = (refl, (λ e. cc), right)
-survey_numbers place (Shrunk first second) right = (refl, (λ e. cc), right)
-survey_numbers place Read right = (refl, (λ e. cc), right)
-survey_numbers place NoRoom right = tt
 
 -- and so one of the only input, whatever the command makes of it
 module _ (make : Making) (name : List ℕ) (old new : Seen) (fault : EditFault) where
@@ -203,4 +162,4 @@ module _ (make : Making) (stream : List ℕ → List StreamFrame) (proper : IsPr
       (((bytes, held, survey_of-sound bytes most_frames parts.0 parts.1), tt), subst (λ o. HoldsStream new (stream (unwrap_or o []))) (sym held) (proper.streams bytes parts.0 new octets parts.1 parts.2))
 
   pub file_proper : (refuses : Refusal → Bool) (input : List ℕ) → IsProper (file_task make stream refuses input)
-  file_proper refuses input = record { late = λ f bytes held few. file_late (f input) bytes held few; streams = λ f bytes new held octets is. file_streams f input bytes new held octets is }
+  file_proper refuses input = record { some = omega arith; first = refl; late = λ f bytes held few. file_late (f input) bytes held few; streams = λ f bytes new held octets is. file_streams f input bytes new held octets is }

@@ -1,15 +1,16 @@
 -- A command that makes one file: what it leaves by its steps.
-use Rattle.std.proofs.Common.{◌≡◌, ℕ, ◌≤◌, List, [], ◌∷◌, length, Option, Some, None, refl, sym, ◌∙◌, ap, subst, Result, Ok, Err, inl, inr, arith}
-use Rattle.std.specs.Prelude.{IfSome, IfErr, OnOk, is_some}
+use Rattle.std.proofs.Common.{◌≡◌, ◌≢◌, ℕ, ◌≤◌, List, [], ◌∷◌, length, Option, Some, None, refl, sym, ◌∙◌, ap, subst, Result, Ok, Err, Bool, true, false, cond, inl, inr, arith}
+use Rattle.std.specs.Prelude.{IfSome, IfErr, OnOk, is_some, bytes_eq, ◌||◌}
+use Rattle.std.specs.List.{list_any}
 use Rattle.bit_fields.specs.Bits.{AreBytes}
 use Rattle.outside.specs.Files.{Contents, Files, Holds, IsThere}
-use Rattle.outside.proofs.FilesLaws.{there_holds}
+use Rattle.outside.proofs.FilesLaws.{bytes_eq_same, there_holds}
 use Rattle.sync_survey.specs.Faults.{longest_file, HoldsStream}
 use Rattle.commands.specs.declared.fault.EditFault.{EditFault}
-use Rattle.commands.specs.declared.fault.EditFault.TheVariants.{EqualNames, Input, Refused, Write, Sent, Memory}
-use Rattle.commands.specs.One.{Task, clash_in, made_result, made_of, one_command, holding, Refuses, IsEarlyFaultBy, IsEarlyFault, IsOfInputs, IsMaking, HoldsPrefix, IsPassFaultBy, IsPassFault}
-use Rattle.commands.specs.Command.{Made, Gives, written, written_to, AreSound, MakesStreams, HoldsStreams}
-use Rattle.commands.specs.Left.{Why, Rejected, Missing, Unread, Shorter, Unwritten, Unsent, NoMemory, why_of, Seen, IsLate, IsDone, IsWrittenTo, TakesMemory, LeavesBy, Leaves, HasNumbers, IsOfPass}
+use Rattle.commands.specs.declared.fault.EditFault.TheVariants.{EqualNames}
+use Rattle.commands.specs.One.{Task, first_input, clash_in, made_result, made_of, one_command, holding, Refuses, IsEarlyFaultBy, IsEarlyFault, IsMaking, HoldsPrefix, IsPassFaultBy, IsPassFault}
+use Rattle.commands.specs.Command.{Made, clash_from, Gives, written, written_to, AreSound, MakesStreams, HoldsStreams}
+use Rattle.commands.specs.Left.{Why, Rejected, Missing, Unread, Shorter, Unwritten, Unsent, NoMemory, why_of, Seen, IsLate, IsDone, IsWrittenTo, TakesMemory, LeavesBy, Leaves}
 
 abbrev pub ok_made : Made → Result Made EditFault
 ok_made made = Ok made
@@ -18,6 +19,25 @@ pub made-same : (a b : Made) → ok_made a ≡ ok_made b → a ≡ b
 made-same a b e = cc
 
 -- ---- names
+
+-- the first name is no output's, and no other is
+pub no_clash : (b : Bool) (place : ℕ) (o : Option ℕ) → cond b (Some place) o ≡ None → (b ≡ false) × (o ≡ None)
+no_clash true place o none = absurd cc
+no_clash false place o none = (refl, none)
+
+or_none : (a b : Bool) → (a || b) ≡ false → a ≡ false
+or_none true b none = absurd cc
+or_none false b none = refl
+
+-- a name that is none of these isn't the first of them
+pub other_name : (name output : List ℕ) (outputs : List (List ℕ)) → list_any (bytes_eq name) (output ∷ outputs) ≡ false → name ≢ output
+other_name name output outputs none same =
+    let both : true ≡ false = sym (ap (bytes_eq name) (sym same) ∙ bytes_eq_same name) ∙ or_none (bytes_eq name output) _ none in
+    absurd cc
+
+pub source_apart : (inputs : List (List ℕ)) (source output : List ℕ) → 1 ≤ length inputs → first_input inputs ≡ source → clash_from (output ∷ []) 0 inputs ≡ None → source ≢ output
+source_apart [] source output some first free = absurd (omega (arith, some))
+source_apart (name ∷ inputs) source output some first free = λ same. other_name name output [] (no_clash _ 0 _ free).0 (first ∙ same)
 
 made_result-clash : (task : Task) (output : List ℕ) (place : ℕ) (f : Contents) → clash_in task output ≡ Some place → made_result task output f ≡ Err (EqualNames place)
 unfolding made_result
@@ -33,24 +53,6 @@ gives_clash task output place (Some f) clash = ap (made_of output) (made_result-
 
 pub clash_left : (task : Task) (output : List ℕ) (place : ℕ) (now : Seen) → clash_in task output ≡ Some place → Leaves (one_command task output) now now (EqualNames place)
 clash_left task output place now clash = record { defined = gives_clash task output place now.files clash; stays = refl }
-
--- ---- numbers
-
-pub inputs_numbers : (task : Task) (output : List ℕ) (fault : EditFault) → IsOfInputs task fault → HasNumbers (one_command task output) fault
-inputs_numbers task output (EqualNames place) h = absurd h
-inputs_numbers task output (Input place fault) h = h
-inputs_numbers task output (Refused refusal) h = h
-inputs_numbers task output (Write place) h = absurd h
-inputs_numbers task output Sent h = absurd h
-inputs_numbers task output Memory h = tt
-
-pub pass_numbers : (task : Task) (output : List ℕ) (fault : EditFault) → IsOfPass fault → HasNumbers (one_command task output) fault
-pass_numbers task output (EqualNames place) h = absurd h
-pass_numbers task output (Input place fault) h = (omega (arith, h.0), h.1, h.2)
-pass_numbers task output (Refused refusal) h = absurd h
-pass_numbers task output (Write place) h = omega (arith, h)
-pass_numbers task output Sent h = absurd h
-pass_numbers task output Memory h = tt
 
 -- ---- before the output is created
 
@@ -153,15 +155,20 @@ module _ (task : Task) (output : List ℕ) (free : clash_in task output ≡ None
 
     -- ---- what the output holds
 
-    module _ (sound : (f : Contents) (bytes new : List ℕ) → f task.source ≡ Some bytes → AreBytes bytes → task.makes f ≡ Ok new → AreSound f task.sources × HoldsStream new (task.stream f)) where
-      streams_at : (f : Contents) → IsMaking task file (Some f) → (made : Made) → (one_command task output).makes f ≡ Ok made → MakesStreams (one_command task output) f made
-      streams_at f making made is =
-          let gives = gives_made f making in
-          let makes = making.makes gives.0 gives.1 in
-          let both = sound f gives.0 (file gives.0) gives.1 makes.0 makes.1 in
-          subst (MakesStreams (one_command task output) f) (made-same (whole_made gives.0) made (sym gives.2 ∙ is)) (record { sources = both.0; streams = (both.1, tt) })
+    abbrev Hold : Contents → Type 0
+    Hold f = (bytes : List ℕ) → f task.source ≡ Some bytes → AreSound f task.sources × HoldsStream (file bytes) (task.stream f)
 
-      pub one_streams : {T E : Type 0} (files : Files) → IsMaking task file files → (r : Result T E) → OnOk r (HoldsStreams (one_command task output) files)
-      one_streams None making (Ok x) = tt
-      one_streams (Some f) making (Ok x) = streams_at f making
-      one_streams files making (Err fault) = tt
+    pub proper_holds : ((f : Contents) (bytes new : List ℕ) → f task.source ≡ Some bytes → AreBytes bytes → task.makes f ≡ Ok new → AreSound f task.sources × HoldsStream new (task.stream f)) → (files : Files) → IsMaking task file files → IfSome files Hold
+    proper_holds sound None making = tt
+    proper_holds sound (Some f) making = λ bytes held. let made = making.makes bytes held in sound f bytes (file bytes) held made.0 made.1
+
+    streams_at : (f : Contents) → IsMaking task file (Some f) → Hold f → (made : Made) → (one_command task output).makes f ≡ Ok made → MakesStreams (one_command task output) f made
+    streams_at f making hold made is =
+        let gives = gives_made f making in
+        let both = hold gives.0 gives.1 in
+        subst (MakesStreams (one_command task output) f) (made-same (whole_made gives.0) made (sym gives.2 ∙ is)) (record { sources = both.0; streams = (both.1, tt) })
+
+    pub one_streams : {T E : Type 0} (files : Files) → IsMaking task file files → IfSome files Hold → (r : Result T E) → OnOk r (HoldsStreams (one_command task output) files)
+    one_streams None making hold (Ok x) = tt
+    one_streams (Some f) making hold (Ok x) = streams_at f making hold
+    one_streams files making hold (Err fault) = tt

@@ -1,12 +1,12 @@
 -- The output is created and then written by a pass over the input.
-use Rattle.std.proofs.Common.{◌≡◌, ◌≢◌, ℕ, List, [], ◌++◌, length, Option, Some, None, refl, sym, ◌∙◌, ap, subst, unwrap_or, is_some, inl, inr, arith}
+use Rattle.std.proofs.Common.{◌≡◌, ◌≢◌, ℕ, List, [], ◌++◌, length, Option, Some, None, refl, sym, ◌∙◌, ap, subst, unwrap_or, is_some, inr, arith}
 use Rattle.outside.specs.Files.{Files, untold, emptied, appended, with_file, Holds}
 use Rattle.outside.specs.Counts.{Counts, Rose, NoneFell, NothingFailed}
-use Rattle.outside.proofs.FilesLaws.{with_file_here, with_file_other, with_file_twice, emptied_told, appended_told}
+use Rattle.outside.proofs.FilesLaws.{with_file_here, with_file_twice, emptied_told, appended_told, emptied_holds_other}
 use Rattle.outside.specs.declared.pass.PassFault.{PassFault}
 use Rattle.outside.specs.declared.pass.PassFault.TheVariants.{Read, Shrunk, Write}
 use Rattle.commands.specs.One.{holding, IsBegun, IsPassFault}
-use Rattle.commands.specs.Left.{seen, IsOfPass}
+use Rattle.commands.specs.Left.{seen}
 use Rattle.outside.specs.Pass.{Appends, AppendsPrefix, HasPassCause}
 use Rattle.commands.specs.PassFaults.{of_pass}
 
@@ -21,17 +21,6 @@ appended-emptied (Some f) name bytes =
     some_files : (List ℕ → Option (List ℕ)) → Files
     some_files f = Some f
 
--- the input is as it was where another file was emptied
-pub emptied_held : (files : Files) (input output file : List ℕ) → input ≢ output → Holds (emptied files output) input file → Holds files input file
-unfolding emptied
-emptied_held None input output file apart holds = holds
-emptied_held (Some f) input output file apart holds = sym (with_file_other f output [] input apart) ∙ holds
-
-pub held_emptied : (files : Files) (input output file : List ℕ) → input ≢ output → Holds files input file → Holds (emptied files output) input file
-unfolding emptied
-held_emptied None input output file apart holds = holds
-held_emptied (Some f) input output file apart holds = with_file_other f output [] input apart ∙ holds
-
 untold_before : (files : Files) (name : List ℕ) → emptied files name ≡ untold → files ≡ untold
 unfolding emptied
 untold_before None name is = refl
@@ -42,11 +31,6 @@ unfolding appended
 appended_untold None name more is = refl
 appended_untold (Some f) name more is = absurd cc
 
-pub pass_of : (fault : PassFault) (size : ℕ) (files : Files) (before after : Counts) → HasPassCause size files before after fault → IsOfPass (of_pass fault)
-pass_of Read size files before after h = (refl, (λ e. cc), tt)
-pass_of (Shrunk first second) size files before after h = (refl, (λ e. cc), h.2)
-pass_of Write size files before after h = refl
-
 pub cause_counts : (fault : PassFault) (size : ℕ) (files : Files) (before after : Counts) → HasPassCause size files before after fault → NoneFell before after
 cause_counts Read size files before after h = record { misses = h.1.misses; ends = h.1.ends; read_faults = h.1.read_faults; write_faults = omega (arith, h.1.write_faults) }
 cause_counts (Shrunk first second) size files before after h =
@@ -56,7 +40,7 @@ cause_counts Write size files before after h = record { misses = h.1.misses; end
 -- the output was created, and then written to
 module _ (made : List ℕ → List ℕ) (input output : List ℕ) (apart : input ≢ output) (old mid new : Files) (created : mid ≡ emptied old output) where
   held_mid : (file : List ℕ) → Holds old input file → Holds mid input file
-  held_mid file holds = subst (λ f. Holds f input file) (sym created) (held_emptied old input output file apart holds)
+  held_mid file holds = subst (λ f. Holds f input file) (sym created) (emptied_holds_other old output input file apart holds)
 
   holding_new : (bytes : List ℕ) → new ≡ appended mid output bytes → new ≡ holding old output bytes
   holding_new bytes is = is ∙ ap (λ f. appended f output bytes) created ∙ appended-emptied old output bytes
@@ -88,7 +72,3 @@ module _ (made : List ℕ → List ℕ) (input output : List ℕ) (apart : input
         untold_after = part.files ∙ appended_untold mid output part.bytes h.0;
       }
   pass_fault Write size before between after same part h = (refl, record { rose = subst (λ c. Rose c.write_faults after.write_faults) same h.0; files = output_prefix part })
-
--- the output could not be created
-pub not_created : (made : List ℕ → List ℕ) (input output : List ℕ) (old new : Files) → new ≡ old → IsBegun made input output old new
-not_created made input output old new stays bytes holds = inl stays

@@ -1,6 +1,6 @@
 -- A command that makes one file.
 pub use Rattle.sync_survey.specs.Limits.{most_frames}
-use Rattle.std.specs.Prelude.{◌≡◌, ◌≢◌, ◌⊎◌, ℕ, ◌<◌, ◌≤◌, Bool, true, take, List, [], ◌∷◌, length, unwrap_or, Option, Some, None, Result, Ok, Err, IfSome, IfErr, option_map}
+use Rattle.std.specs.Prelude.{◌≡◌, ◌≢◌, ◌⊎◌, ℕ, ◌<◌, ◌≤◌, Bool, true, take, List, [], ◌∷◌, length, slice_get, unwrap_or, Option, Some, None, Result, Ok, Err, IfSome, IfErr, option_map}
 use Rattle.bit_fields.specs.Bits.{AreBytes}
 use Rattle.outside.specs.Files.{Contents, Files, untold, with_file, Holds, IsThere, IsMissing}
 use Rattle.outside.specs.Counts.{Rose, NothingFailed}
@@ -37,9 +37,9 @@ made_where make (Some file) = made_file make file
 -- What a command reads, what it makes of the files that are there, where no name is another's, the stream that this has to hold, and which
 -- refusals it can give.
 pub record Task : Type 0 where
-  -- the input that is read again while the output is written, and the others
+  -- the input that is read again while the output is written, of several the first, and all of them
   pub source : List ℕ
-  pub others : List (List ℕ)
+  pub inputs : List (List ℕ)
   -- those that it reads as streams of frames
   pub sources : List (List ℕ)
   pub makes : Contents → Result (List ℕ) EditFault
@@ -50,23 +50,25 @@ pub record Task : Type 0 where
 abbrev pub file_task : Making → (List ℕ → List StreamFrame) → (Refusal → Bool) → List ℕ → Task
 file_task make stream refuses input = record {
   source = input;
-  others = [];
+  inputs = input ∷ [];
   sources = input ∷ [];
   makes = λ files. made_where make (files input);
   stream = λ files. stream (unwrap_or (files input) []);
   refuses = refuses;
 }
 
-abbrev pub inputs_of : Task → List (List ℕ)
-inputs_of task = task.source ∷ task.others
-
 -- the first of them that has the output's name
 abbrev pub clash_in : Task → List ℕ → Option ℕ
-clash_in task output = clash_from (output ∷ []) 0 (inputs_of task)
+clash_in task output = clash_from (output ∷ []) 0 task.inputs
 
--- What has to hold of it: no file that may be read is refused before memory is taken for it, and what is made of sources that are bytes
--- holds the stream that it has to hold, and the sources are well-formed.
+abbrev pub first_input : List (List ℕ) → List ℕ
+first_input inputs = unwrap_or (slice_get inputs 0) []
+
+-- What has to hold of it: the source is the first input, no file that may be read is refused before memory is taken for it, and what is made of
+-- sources that are bytes holds the stream that it has to hold, and the sources are well-formed.
 pub record IsProper (task : Task) : Type 0 where
+  pub some : 1 ≤ length task.inputs
+  pub first : first_input task.inputs ≡ task.source
   pub late : (f : Contents) (bytes : List ℕ) → f task.source ≡ Some bytes → length bytes ≤ longest_file → IfErr (task.makes f) IsLate
   pub streams : (f : Contents) (bytes new : List ℕ) → f task.source ≡ Some bytes → AreBytes bytes → task.makes f ≡ Ok new → AreSound f task.sources × HoldsStream new (task.stream f)
 
@@ -85,7 +87,7 @@ made_of output (Err fault) = Err fault
 -- one file is made, and no text
 abbrev pub one_command : Task → List ℕ → Command
 one_command task output = record {
-  inputs = inputs_of task;
+  inputs = task.inputs;
   outputs = output ∷ [];
   sources = task.sources;
   always = Some [];
@@ -190,7 +192,7 @@ IsEarlyFault task old new fault = IsEarlyFaultBy task old new fault (why_of faul
 
 -- the fault is one of the inputs, a refusal that the command can give, or want of memory
 abbrev pub IsOfInputs : Task → EditFault → Type 0
-IsOfInputs task (Input place fault) = (place < length (inputs_of task)) × (fault ≢ NoRoom) × HasRightNumbers fault
+IsOfInputs task (Input place fault) = (place < length task.inputs) × (fault ≢ NoRoom) × HasRightNumbers fault
 IsOfInputs task (Refused refusal) = task.refuses refusal ≡ true
 IsOfInputs task Memory = Unit {0}
 IsOfInputs task _ = ⊥

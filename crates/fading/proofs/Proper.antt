@@ -128,6 +128,8 @@ module _ (sheet : Option (List ℕ)) (back : Bool) where
 
 pub fade_proper : (sheet : List ℕ) (back : Bool) (input : List ℕ) → IsProper (fade_task sheet back input)
 fade_proper sheet back input = record {
+  some = omega arith;
+  first = refl;
   late = λ f bytes held few. (file_proper (changing (fade_change (f sheet) back)) (faded_stream (f sheet) back) (fade_making (f sheet) back) fade_refuses input).late f bytes held few;
   streams = λ f bytes new held octets is. (file_proper (changing (fade_change (f sheet) back)) (faded_stream (f sheet) back) (fade_making (f sheet) back) fade_refuses input).streams f bytes new held octets is;
 }

@@ -106,7 +106,7 @@ fade_refuses refusal = choice_refuses refusal || sheet_refuses refusal
 abbrev pub fade_task : List ℕ → Bool → List ℕ → Task
 fade_task sheet back input = record {
   source = input;
-  others = sheet ∷ [];
+  inputs = input ∷ sheet ∷ [];
   sources = input ∷ [];
   makes = λ files. made_where (changing (fade_change (files sheet) back)) (files input);
   stream = λ files. faded_stream (files sheet) back (unwrap_or (files input) []);

@@ -1,8 +1,8 @@
 -- Frames that a command chooses of a surveyed file: they have a plan, and the file of them holds the stream that the command says.
-use Rattle.std.proofs.Common.{◌≡◌, ℕ, suc, ◌+◌, ◌-◌, ◌&&◌, Bool, true, false, cond, List, [], ◌∷◌, ◌++◌, length, get_or, map, drop, take, Option, Some, None, Result, Ok, Err, refl, sym, ◌∙◌, ap, subst, arith, rules, append-nil, length-append}
+use Rattle.std.proofs.Common.{◌≡◌, ℕ, ◌+◌, ◌-◌, ◌&&◌, Bool, true, false, cond, List, [], ◌∷◌, ◌++◌, length, get_or, map, drop, take, Option, Some, None, Result, Ok, Err, refl, sym, ◌∙◌, ap, subst, arith, rules, append-nil, length-append}
 use Rattle.std.specs.Prelude.{◌↔◌, ◌<◌, ◌≤◌, nat_lt, nat_le, IfErr, Contains, All, replicate}
 use Rattle.std.proofs.lemmas.Option.{slice_get-get_or}
-use Rattle.std.proofs.lemmas.List.{length-map, length-take}
+use Rattle.std.proofs.lemmas.List.{length-take}
 use Rattle.frame_header.specs.Fields.{SlotFields, HeaderFields, ClassFields, IsSlot}
 use Rattle.frame_header.specs.Tables.{class_of, length_of, window_of}
 use Rattle.frame_header.specs.Slots.{slot_of, all_slots}
@@ -12,9 +12,8 @@ use Rattle.cue_sheet.specs.Places.{frame_at}
 use Rattle.info_header.specs.Info.{info_in, flags_in, field_place}
 use Rattle.slot_plan.specs.declared.needs.Need.{Need}
 use Rattle.slot_plan.specs.declared.needs.Placed.{Placed}
-use Rattle.slot_plan.specs.Reserve.{needed, free_behind}
-use Rattle.slot_plan.specs.ThePlan.{first_with, lead_in_for, placed_from, the_plan}
-use Rattle.slot_plan.specs.Parts.{Item, area_in, open_of, item_of, items_of, whole_of, parts_of, window_in, ArePartsFeasible, AreOfClass}
+use Rattle.slot_plan.specs.ThePlan.{the_plan}
+use Rattle.slot_plan.specs.Parts.{parts_of, window_in, ArePartsFeasible, AreOfClass}
 use Rattle.slot_plan.specs.Plans.{IsPlan}
 use Rattle.slot_plan.specs.Laws.{ChooseInOrder}
 use Rattle.slot_plan.proofs.ThePlan.{plan-the_plan}
@@ -39,6 +38,7 @@ use Rattle.commands.specs.declared.fault.Refusal.TheVariants.{Range}
 use Rattle.frame_edits.specs.declared.chosen.Slots.{Slots}
 use Rattle.frame_edits.specs.declared.chosen.Slots.TheVariants.{Own, Least}
 use Rattle.frame_edits.specs.Chosen.{Chosen, laid_of, outside_fault, choices_by, chosen_rows, plan_of, laid_frames, chosen_file, chosen_stream, Choosing, laid_with, choosing, stream_with, stream_chosen_by, stream_chosen, chosen_with, cut_choice, all_choice}
+use Rattle.laying.proofs.PlacesLaws.{plan-length}
 use Rattle.commands.specs.One.{most_frames}
 use Rattle.sync_survey.proofs.SurveyedFiles.{survey_of-parts}
 use Rattle.commands.specs.Left.{IsLate}
@@ -48,22 +48,8 @@ use Rattle.commands.proofs.RefusingLaws.{unless_late}
 
 -- ---- how many places a plan of them has
 
-placed-length : (window : ℕ) (items : List Item) (free : ℕ) → length (placed_from window free items) ≡ length items
-unfolding placed_from
-placed-length window [] free = refl
-placed-length window (item ∷ items) free =
-    ap suc (placed-length window items (free_behind window free item.bytes (area_in item (first_with ((item.bytes + needed (map open_of items)) - free) item.class item.protected item.choices))))
-
-items-length : (choices : HeaderFields → List SlotFields) (part : List Need) (lead_in : Option SlotFields) → length (items_of choices part lead_in) ≤ length part + 1
-unfolding items_of
-items-length choices part None = omega (arith, length-map part (item_of choices))
-items-length choices [] (Some slot) = omega arith
-items-length choices (first ∷ part) (Some slot) = omega (arith, length-map part (item_of choices))
-
 pub plan-few : (window : ℕ) (choices : HeaderFields → List SlotFields) (part : List Need) → length (the_plan window choices (part ∷ [])) ≤ length part + 1
-unfolding the_plan whole_of
-plan-few window choices part =
-    omega (arith, placed-length window (whole_of choices (part ∷ []) (map (lead_in_for choices) (part ∷ []))) 0, items-length choices part (lead_in_for choices part), length-append (items_of choices part (lead_in_for choices part)) [])
+plan-few window choices part = omega (arith, plan-length window choices (part ∷ []), length-append part [])
 
 -- ---- the choice
 

@@ -4,12 +4,9 @@ use Rattle.std.specs.Prelude.{◌⊎◌, ◌<◌, ◌≤◌, slice_get, slice_ra
 use Rattle.std.specs.List.{concat}
 use Rattle.std.proofs.lemmas.Option.{slice_get_cases}
 use Rattle.outside.specs.Files.{Files, Holds, IsThere, emptied}
-use Rattle.outside.specs.Counts.{Counts}
 use Rattle.outside.specs.Feed.{Fed, IsFedFrom}
-use Rattle.outside.specs.declared.pass.PassFault.{PassFault}
-use Rattle.outside.specs.declared.pass.PassFault.TheVariants.{Read, Shrunk, Write}
-use Rattle.outside.specs.Pass.{Appends, AppendsPrefix, HasPassCause}
-use Rattle.outside.proofs.FilesLaws.{emptied_there, emptied_keeps}
+use Rattle.outside.specs.Pass.{Appends, AppendsPrefix}
+use Rattle.outside.proofs.FilesLaws.{emptied_there, emptied_keeps, emptied_held_other}
 use Rattle.frame_writer.specs.Frames.{frame_bytes}
 use Rattle.slot_plan.specs.declared.needs.Placed.{Placed}
 use Rattle.laid_files.specs.LaidFiles.{laid_file}
@@ -21,13 +18,10 @@ use Rattle.laying.proofs.ReadLaws.{survey-length}
 use Rattle.sync_survey.specs.declared.rows.Row.{Row}
 use Rattle.sync_survey.specs.Faults.{SurveyFields, tells}
 use Rattle.sync_survey.specs.Survey.{IsLaidOut}
-use Rattle.commands.specs.PassFaults.{of_pass}
 use Rattle.frame_edits.specs.Laid.{Laid, file_from, file_laid, IsLaidInfo}
 use Rattle.frame_edits.specs.Chosen.{Chosen, plan_of, laid_by, chosen_file}
 use Rattle.frame_edits.specs.Selected.{IsSurveyOf}
-use Rattle.commands.specs.One.{Making, IsInputFault, most_frames}
-use Rattle.commands.specs.Left.{seen}
-use Rattle.commands.proofs.OutputLaws.{emptied_held}
+use Rattle.commands.specs.One.{most_frames}
 
 -- the same, said otherwise
 pub appends-as : {input output : List ℕ} (made other : List ℕ → List ℕ) {old new : Files} → ((file : List ℕ) → Holds old input file → made file ≡ other file) → Appends input output made old new → Appends input output other old new
@@ -44,7 +38,7 @@ relay-ready relay old mid fed apart there laid surveyed long created fed_from =
     let input = relay.pass.input.now in
     let output = relay.pass.output.now in
     let s = tells relay.survey.now in
-    let held : (file : List ℕ) → Holds mid input file → Holds old input file = λ file holds. emptied_held old input output file apart (subst (λ f. Holds f input file) created holds) in
+    let held : (file : List ℕ) → Holds mid input file → Holds old input file = λ file holds. emptied_held_other old output input file apart (subst (λ f. Holds f input file) created holds) in
     record {
       pass = record {
         apart = apart;
@@ -61,14 +55,7 @@ relay-ready relay old mid fed apart there laid surveyed long created fed_from =
 
 -- and the survey is that of the input still
 pub survey-still : (input output : List ℕ) (s : SurveyFields) (old mid : Files) → input ≢ output → mid ≡ emptied old output → IsSurveyOf input s old → IsSurveyOf input s mid
-survey-still input output s old mid apart created surveyed = λ file holds. surveyed file (emptied_held old input output file apart (subst (λ f. Holds f input file) created holds))
-
--- a fault of reading before the output is created
-pub read_is_input : (make : Making) (name : List ℕ) (files new : Files) (before after : Counts) (same : new ≡ files) (fault : PassFault) (size : ℕ) → (fault ≡ Write → ⊥) → HasPassCause size files before after fault
-    → IsInputFault make name (seen files before) (seen new after) (of_pass fault)
-read_is_input make name files new before after same Read size reads h = record { rose = h.0; files = same }
-read_is_input make name files new before after same (Shrunk first second) size reads h = record { rose = h.3; counts = h.4; untold_before = h.0; untold_after = same ∙ h.0 }
-read_is_input make name files new before after same Write size reads h = absurd (reads refl)
+survey-still input output s old mid apart created surveyed = λ file holds. surveyed file (emptied_held_other old output input file apart (subst (λ f. Holds f input file) created holds))
 
 -- what is written is the file of the frames in the slots of the plan
 pub written-is : (laid : Laid) (file : List ℕ) (s : SurveyFields) (info : List ℕ) (placed : List Placed) → laid.from < length s.frames → placed ≡ laid.placed → IsLaidInfo laid file s info

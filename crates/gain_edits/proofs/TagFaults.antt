@@ -1,5 +1,5 @@
 -- Why the tag isn't read, and what is refused behind it, as a fault of the command.
-use Rattle.std.proofs.Common.{◌≡◌, ℕ, Bool, true, List, Result, Ok, Err, refl, sym, ◌∙◌, ap, ap₂, subst, inl, inr}
+use Rattle.std.proofs.Common.{◌≡◌, ℕ, Bool, List, Result, Ok, Err, sym, ◌∙◌, ap, ap₂, subst, inl, inr}
 use Rattle.std.specs.Prelude.{◌⊎◌, IfOk, IfErr, MatchResult}
 use Rattle.outside.specs.Files.{Files, Holds, IsThere}
 use Rattle.outside.specs.Counts.{Counts}
@@ -64,11 +64,3 @@ pub answer_numbers : (may : Refusal → Bool) (s : SurveyFields) (made : Result 
 answer_numbers may s made may_made (Ok change) is-made = tt
 answer_numbers may s made may_made (Err fault) (inl memory) = subst (IsOfInput may) (sym memory) tt
 answer_numbers may s made may_made (Err fault) (inr refused) = refusal_numbers may fault (of_err (IsRefusal may) made fault may_made refused)
-
-pub tag_numbers : (may : Refusal → Bool) → ((size : ℕ) → may (TagTooLarge size) ≡ true) → ((at : ℕ) → may (BadTag at) ≡ true) → (name : List ℕ) (files : Files) (s : SurveyFields) (before after : Counts) (fault : FileTagFault)
-    → IsTagCause name files s before after fault → IsOfInput may (of_tag fault)
-tag_numbers may large bad name files s before after (TooLarge size) h = large size
-tag_numbers may large bad name files s before after (Bad at) h = bad at
-tag_numbers may large bad name files s before after Read h = (refl, (λ e. cc), tt)
-tag_numbers may large bad name files s before after (Shrunk first second) h = (refl, (λ e. cc), h.2)
-tag_numbers may large bad name files s before after NoRoom h = tt

@@ -4,5 +4,4 @@ pub mod Orders
 pub mod Follow
 pub mod Places
 pub mod Reading
-pub mod Sizes
 pub mod Sound

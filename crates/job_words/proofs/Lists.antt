@@ -141,3 +141,13 @@ no_front e (x ∷ xs) = refl
 
 pub every : {X : Type 0} (P : X → Type 0) → ((x : X) → P x) → (xs : List X) → All P xs
 every P f xs = λ k d lt. f (get_or xs k d)
+
+-- ---- both of two tests
+
+pub and_first : (x d : Bool) → (x && d) ≡ true → x ≡ true
+and_first true d h = refl
+and_first false d h = absurd cc
+
+pub and_last : (x d : Bool) → (x && d) ≡ true → d ≡ true
+and_last true d h = h
+and_last false d h = absurd cc

@@ -18,7 +18,7 @@ use Rattle.job_words.specs.Flags.{given_kinds, given_in, first_word, orders}
 use Rattle.job_words.specs.Asked.{Asked}
 use Rattle.job_words.specs.Forms.{Form, Shape, forms, shape_with, shapes_of, shapes, last_kind, kinds_behind, kinds_for, asked_of, is_clear, IsReadable, front_kinds, reads_of}
 use Rattle.job_words.specs.Words.{have_kinds, kinds_in, followed, furthest, shape_in, read_as, reading}
-use Rattle.job_words.proofs.Lists.{found, none_is, contains_map, all_of_both, both_of_all, no_front, every, all_flat_map}
+use Rattle.job_words.proofs.Lists.{found, none_is, contains_map, all_of_both, both_of_all, no_front, every, all_flat_map, and_first, and_last}
 use Rattle.job_words.proofs.Orders.{kinds_by, AreClear, IsNoBetter, no_better, given_is_order}
 
 -- ---- the greatest of numbers
@@ -81,14 +81,6 @@ no_first (kind ∷ kinds) more word words other = (rw other refl, rw other refl)
 
 all_pass : {X : Type 0} (p : X → Bool) (xs : List X) (x : X) → list_all p xs ≡ true → Contains xs x → p x ≡ true
 all_pass p xs x all member = All-contains (λ y. p y ≡ true) xs x (AllPass-from_list_all p xs all) member
-
-and_last : (x d : Bool) → (x && d) ≡ true → d ≡ true
-and_last true d h = h
-and_last false d h = absurd cc
-
-and_first : (x d : Bool) → (x && d) ≡ true → x ≡ true
-and_first true d h = refl
-and_first false d h = absurd cc
 
 not_true : (b : Bool) → not b ≡ true → b ≡ false
 not_true true e = absurd cc

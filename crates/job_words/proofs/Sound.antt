@@ -1,5 +1,5 @@
 -- What is asked for is in range.
-use Rattle.std.proofs.Common.{◌≡◌, ℕ, zero, suc, ◌<◌, ◌≤◌, ◌&&◌, ◌==◌, Bool, true, false, cond, ◌+◌, ◌-◌, List, [], ◌∷◌, ◌++◌, length, get_or, drop, map, replicate, min, Option, Some, None, refl, sym, subst, leb, ℤ, pos, neg_ℤ, arith, rules, length-append, append-nil}
+use Rattle.std.proofs.Common.{◌≡◌, ℕ, zero, suc, ◌<◌, ◌≤◌, ◌&&◌, ◌==◌, true, false, cond, ◌+◌, ◌-◌, List, [], ◌∷◌, ◌++◌, length, get_or, drop, map, replicate, min, Option, Some, None, refl, sym, subst, leb, ℤ, pos, neg_ℤ, arith, rules, length-append, append-nil}
 use Rattle.std.specs.Prelude.{Contains, IfSome, option_map, option_and_then, codes, bytes_eq, is_some}
 use Rattle.std.specs.List.{All, before_first, after_first, position_or_len}
 use Rattle.std.specs.Str.{all_ascii_digits}
@@ -16,19 +16,12 @@ use Rattle.job_words.specs.declared.flags.Flag.{Flag}
 use Rattle.job_words.specs.Kinds.{Kind, Fixed, Name, Steps, Channel, Place, Rate, Said, Itself, NameSaid, StepsSaid, ChannelSaid, PlaceSaid, RateSaid, is_name, step_count, steps_of, channel_of, rate_in, said, said_first, fits_kind, steps_said, place_said, name_at, said_at, values_of}
 use Rattle.job_words.specs.Forms.{Form, Shape, forms, help, short_help, version, list_form, gain_form, channel_form, undo_form, cut_form, pack_form, constant_form, floor_form, best_form, split_form, sheet_form, join_form, kinds_behind, front_of, reads_of, asked_of}
 use Rattle.job_words.specs.Words.{have_kinds, kinds_in, IsName, IsStepCount, IsSound}
-use Rattle.job_words.proofs.Lists.{rest_agrees}
-
-and_last : (x d : Bool) → (x && d) ≡ true → d ≡ true
-and_last true d h = h
-and_last false d h = absurd cc
-
-and_first : (x d : Bool) → (x && d) ≡ true → x ≡ true
-and_first true d h = refl
-and_first false d h = absurd cc
+use Rattle.job_words.proofs.Lists.{rest_agrees, and_first, and_last}
 
 -- ---- steps and places
 
 size_small : (digits : List ℕ) → IfSome (step_count digits) (λ size. size ≤ 255)
+unfolding number_in
 size_small digits =
     let x = leb 1 (length digits) && leb (length digits) 3 && all_ascii_digits digits in
     let d = leb (digits_value 10 digits) 255 in
@@ -189,37 +182,46 @@ once form none sound count =
 ranged : (kinds : List Kind) (words : List (List ℕ)) (k : ℕ) → IsInRange (said_at (values_of kinds words) k)
 ranged kinds words k = at_in_range (values_of kinds words) (values_in_range kinds words) k
 
-list_is_sound : AreSoundOf list_form list_form.kinds
-list_is_sound given words h = name_there list_form.kinds words 0 h (omega arith) refl
+help_is_sound : AreSound help
+help_is_sound = once help refl (λ given words h. tt)
 
-gain_is_sound : AreSoundOf gain_form gain_form.kinds
-gain_is_sound given words h = (name_there gain_form.kinds words 2 h (omega arith) refl, name_there gain_form.kinds words 3 h (omega arith) refl, (ranged gain_form.kinds words 1).steps)
+short_is_sound : AreSound short_help
+short_is_sound = once short_help refl (λ given words h. tt)
 
-channel_is_sound : AreSoundOf channel_form channel_form.kinds
-channel_is_sound given words h = (name_there channel_form.kinds words 3 h (omega arith) refl, name_there channel_form.kinds words 4 h (omega arith) refl, (ranged channel_form.kinds words 2).steps)
+version_is_sound : AreSound version
+version_is_sound = once version refl (λ given words h. tt)
 
-undo_is_sound : AreSoundOf undo_form undo_form.kinds
-undo_is_sound given words h = (name_there undo_form.kinds words 1 h (omega arith) refl, name_there undo_form.kinds words 2 h (omega arith) refl)
+list_is_sound : AreSound list_form
+list_is_sound = once list_form refl (λ given words h. name_there list_form.kinds words 0 h (omega arith) refl)
 
-cut_is_sound : AreSoundOf cut_form cut_form.kinds
-cut_is_sound given words h =
-    (name_there cut_form.kinds words 0 h (omega arith) refl, name_there cut_form.kinds words 3 h (omega arith) refl, (ranged cut_form.kinds words 1).place, (ranged cut_form.kinds words 2).place)
+gain_is_sound : AreSound gain_form
+gain_is_sound = once gain_form refl (λ given words h. (name_there gain_form.kinds words 2 h (omega arith) refl, name_there gain_form.kinds words 3 h (omega arith) refl, (ranged gain_form.kinds words 1).steps))
 
-pack_is_sound : AreSoundOf pack_form pack_form.kinds
-pack_is_sound given words h = (name_there pack_form.kinds words 0 h (omega arith) refl, name_there pack_form.kinds words 1 h (omega arith) refl)
+channel_is_sound : AreSound channel_form
+channel_is_sound = once channel_form refl (λ given words h. (name_there channel_form.kinds words 3 h (omega arith) refl, name_there channel_form.kinds words 4 h (omega arith) refl, (ranged channel_form.kinds words 2).steps))
 
-constant_is_sound : AreSoundOf constant_form constant_form.kinds
-constant_is_sound given words h = (name_there constant_form.kinds words 2 h (omega arith) refl, name_there constant_form.kinds words 3 h (omega arith) refl)
+undo_is_sound : AreSound undo_form
+undo_is_sound = once undo_form refl (λ given words h. (name_there undo_form.kinds words 1 h (omega arith) refl, name_there undo_form.kinds words 2 h (omega arith) refl))
 
-floor_is_sound : AreSoundOf floor_form floor_form.kinds
-floor_is_sound given words h = (name_there floor_form.kinds words 2 h (omega arith) refl, name_there floor_form.kinds words 3 h (omega arith) refl)
+cut_is_sound : AreSound cut_form
+cut_is_sound = once cut_form refl (λ given words h.
+    (name_there cut_form.kinds words 0 h (omega arith) refl, name_there cut_form.kinds words 3 h (omega arith) refl, (ranged cut_form.kinds words 1).place, (ranged cut_form.kinds words 2).place))
 
-best_is_sound : AreSoundOf best_form best_form.kinds
-best_is_sound given words h = (name_there best_form.kinds words 1 h (omega arith) refl, name_there best_form.kinds words 2 h (omega arith) refl)
+pack_is_sound : AreSound pack_form
+pack_is_sound = once pack_form refl (λ given words h. (name_there pack_form.kinds words 0 h (omega arith) refl, name_there pack_form.kinds words 1 h (omega arith) refl))
 
-sheet_is_sound : AreSoundOf sheet_form sheet_form.kinds
-sheet_is_sound given words h =
-    (name_there sheet_form.kinds words 0 h (omega arith) refl, name_there sheet_form.kinds words 1 h (omega arith) refl, name_there sheet_form.kinds words 3 h (omega arith) refl)
+constant_is_sound : AreSound constant_form
+constant_is_sound = once constant_form refl (λ given words h. (name_there constant_form.kinds words 2 h (omega arith) refl, name_there constant_form.kinds words 3 h (omega arith) refl))
+
+floor_is_sound : AreSound floor_form
+floor_is_sound = once floor_form refl (λ given words h. (name_there floor_form.kinds words 2 h (omega arith) refl, name_there floor_form.kinds words 3 h (omega arith) refl))
+
+best_is_sound : AreSound best_form
+best_is_sound = once best_form refl (λ given words h. (name_there best_form.kinds words 1 h (omega arith) refl, name_there best_form.kinds words 2 h (omega arith) refl))
+
+sheet_is_sound : AreSound sheet_form
+sheet_is_sound = once sheet_form refl (λ given words h.
+    (name_there sheet_form.kinds words 0 h (omega arith) refl, name_there sheet_form.kinds words 1 h (omega arith) refl, name_there sheet_form.kinds words 3 h (omega arith) refl))
 
 -- so many kinds a form has behind its flags
 length-kinds_behind : (form : Form) (count : ℕ) → length (kinds_behind form count) ≡ length form.kinds + min form.more (count - length form.kinds)
@@ -262,52 +264,8 @@ join_is_sound count given words h =
 
 forms_are_sound : All AreSound forms
 forms_are_sound =
-    All-from_recursion AreSound forms (
-      once help refl (λ given words h. tt),
-      (
-        once short_help refl (λ given words h. tt),
-        (
-          once version refl (λ given words h. tt),
-          (
-            once list_form refl list_is_sound,
-            (
-              once gain_form refl gain_is_sound,
-              (
-                once channel_form refl channel_is_sound,
-                (
-                  once undo_form refl undo_is_sound,
-                  (
-                    once cut_form refl cut_is_sound,
-                    (
-                      once pack_form refl pack_is_sound,
-                      (
-                        once constant_form refl constant_is_sound,
-                        (
-                          once floor_form refl floor_is_sound,
-                          (
-                            once best_form refl best_is_sound,
-                            (
-                              split_is_sound,
-                              (
-                                once sheet_form refl sheet_is_sound,
-                                (
-                                  join_is_sound,
-                                  tt,
-                                ),
-                              ),
-                            ),
-                          ),
-                        ),
-                      ),
-                    ),
-                  ),
-                ),
-              ),
-            ),
-          ),
-        ),
-      ),
-    )
+    All-from_recursion AreSound forms
+    (help_is_sound, (short_is_sound, (version_is_sound, (list_is_sound, (gain_is_sound, (channel_is_sound, (undo_is_sound, (cut_is_sound, (pack_is_sound, (constant_is_sound, (floor_is_sound, (best_is_sound, (split_is_sound, (sheet_is_sound, (join_is_sound, tt)))))))))))))))
 
 -- ---- a shape of a form
 

@@ -1,7 +1,5 @@
 -- What a single word can be, and what it says.
-use Rattle.std.specs.Prelude.{ℕ, ◌==◌, Bool, false, not, ◌&&◌, nat_le, if◌then◌else◌, List, [], ◌∷◌, length, slice_index_or, Option, Some, None, option_map, is_some, ℤ, pos, neg_ℤ, codes, bytes_eq}
-use Rattle.std.specs.Str.{all_ascii_digits}
-use Rattle.std.specs.Str.Parse.{digits_value}
+use Rattle.std.specs.Prelude.{ℕ, ◌==◌, Bool, false, not, if◌then◌else◌, List, [], ◌∷◌, slice_index_or, Option, Some, None, option_map, is_some, ℤ, pos, neg_ℤ, codes, bytes_eq}
 use Rattle.cue_sheet.specs.declared.place.Place.{Place as StreamPlace}
 use Rattle.cue_sheet.specs.declared.place.Place.TheVariants.{End}
 use Rattle.cue_sheet.specs.Digits.{number_in}
@@ -31,9 +29,7 @@ is_name (first ∷ rest) = not (first == 45)
 
 -- one to three digits, of a number up to 255
 abbrev pub step_count : List ℕ → Option ℕ
-step_count digits =
-    if nat_le 1 (length digits) && nat_le (length digits) 3 && all_ascii_digits digits && nat_le (digits_value 10 digits) 255
-    then Some (digits_value 10 digits) else None
+step_count digits = number_in 1 3 255 digits
 
 -- such digits behind `+` or `-` or alone
 abbrev pub steps_of : List ℕ → Option ℤ

@@ -66,20 +66,11 @@ fn is_name(word: &str) -> bool
 fn read_size(digits: &[u8]) -> Option<i16>
     ensures { result ≡ option_map pos (step_count digits.now) }
 {
-    if digits.is_empty() || digits.len() > 3 {
-        return None;
-    }
-    let mut size: u16 = 0;
-    for digit in digits {
-        if !digit.is_ascii_digit() {
-            return None;
-        }
-        size = size * 10 + u16::from(*digit - b'0');
-    }
-    if size <= 255 { Some(size as i16) } else { None }
+    read_number(digits, 1, 3, 255).map(|size| size as i16)
 }
 
 // Such digits behind `+` or `-` or alone.
+#[tactic(auto, unfolding(cue_sheet::specs::Digits::number_in))]
 fn read_steps(word: &str) -> Option<i16>
     ensures { result ≡ steps_of word.now }
 {

@@ -1,7 +1,7 @@
 -- The surveys of the inputs, one after the other, and what is made of the inputs by them.
-use Rattle.std.proofs.Common.{◌≡◌, ℕ, zero, suc, pos, take, drop, ◌+◌, ◌-◌, ◌<◌, ◌≤◌, ◌==◌, Bool, true, false, cond, List, [], ◌∷◌, ◌++◌, length, Option, Some, None, Result, Ok, Err, refl, sym, ◌∙◌, ap, ap₂, subst, arith, inl, append-nil}
+use Rattle.std.proofs.Common.{◌≡◌, ℕ, zero, suc, take, drop, ◌+◌, ◌-◌, ◌<◌, ◌≤◌, ◌==◌, Bool, true, false, cond, List, [], ◌∷◌, ◌++◌, length, Option, Some, None, Result, Ok, Err, refl, sym, ◌∙◌, ap, ap₂, subst, arith, append-nil}
 use Rattle.std.specs.Prelude.{IfSome, IfErr, unwrap_or}
-use Rattle.outside.specs.Files.{Contents, Files, Holds, IsThere}
+use Rattle.outside.specs.Files.{Contents, Files}
 use Rattle.outside.proofs.FilesLaws.{there_holds}
 use Rattle.frame_header.specs.Fields.{ClassFields, same_class}
 use Rattle.laid_files.proofs.LaidFrames.{same-class}
@@ -13,16 +13,15 @@ use Rattle.sync_survey.specs.Survey.{survey_of}
 use Rattle.sync_survey.proofs.BytesFaults.{surveyed_of_bytes}
 use Rattle.sync_survey.proofs.FoldersLaws.{survey_of-short}
 use Rattle.commands.specs.declared.fault.EditFault.{EditFault}
-use Rattle.commands.specs.declared.fault.EditFault.TheVariants.{Input, Refused, Memory}
+use Rattle.commands.specs.declared.fault.EditFault.TheVariants.{Input, Refused}
 use Rattle.commands.specs.declared.fault.Refusal.TheVariants.{Differ}
 use Rattle.commands.specs.Refusing.{then_made}
-use Rattle.commands.specs.Command.{clash_from, Gives}
-use Rattle.commands.specs.One.{most_frames, NeedsMemory}
-use Rattle.commands.specs.Left.{Why, Rejected, Missing, Unread, Shorter, Unwritten, Unsent, NoMemory, why_of, Seen, IsLate, TakesMemory, LeavesBy, Leaves}
+use Rattle.commands.specs.One.{most_frames, NeedsMemory, Refuses, IsEarlyFaultBy, IsEarlyFault, first_input}
+use Rattle.commands.specs.Left.{Why, Rejected, Missing, Unread, Shorter, Unwritten, Unsent, NoMemory, why_of, Seen, IsLate}
 use Rattle.sync_survey.proofs.SurveyedFiles.{survey_of-parts}
 use Rattle.commands.proofs.InputLaws.{of_bytes_behind}
 use Rattle.commands.proofs.RefusingLaws.{then_late}
-use Rattle.joining.specs.Join.{whole_part, may_follow, part_by, part_of, parts_from, parts_of, join_made, join_command}
+use Rattle.joining.specs.Join.{whole_part, may_follow, part_by, part_of, parts_from, parts_of, joined_file, join_task}
 use Rattle.joining.specs.Inputs.{IsInput, IsPartFaultBy, IsPartFault, Follows, AreInputs, class_in, frames_of, parts_in}
 
 -- ---- one more
@@ -180,14 +179,6 @@ parts-late place first allowed f (name ∷ names) behind =
     (λ p. then_late (parts_from (place + 1) (Some (unwrap_or first p.survey.class)) (allowed - length p.survey.frames) f names) (λ parts. ok_parts (p ∷ parts))
     (parts-late (place + 1) (Some (unwrap_or first p.survey.class)) (allowed - length p.survey.frames) f names (not_first place)) (λ parts. tt))
 
--- the first input is there with a length that it may have
-pub record IsFound (files : Files) (names : List (List ℕ)) : Type 0 where
-  pub name : List ℕ
-  pub rest : List (List ℕ)
-  pub is : names ≡ name ∷ rest
-  pub there : IsThere files name
-  pub few : (bytes : List ℕ) → Holds files name bytes → length bytes ≤ longest_file
-
 first-late : (f : Contents) (name : List ℕ) (rest : List (List ℕ)) (file : List ℕ) → f name ≡ Some file → length file ≤ longest_file → IfErr (parts_of f (name ∷ rest)) IsLate
 unfolding parts_from
 first-late f name rest file holds few =
@@ -198,74 +189,49 @@ first-late f name rest file holds few =
     (λ p. then_late (parts_from (0 + 1) (Some (unwrap_or None p.survey.class)) (most_frames - length p.survey.frames) f rest) (λ parts. ok_parts (p ∷ parts))
     (parts-late (0 + 1) (Some (unwrap_or None p.survey.class)) (most_frames - length p.survey.frames) f rest (not_first 0)) (λ parts. tt))
 
-made-takes : (output : List ℕ) (clash : Option ℕ) (r : Result (List Part) EditFault) → clash ≡ None → IfErr r IsLate → TakesMemory (join_made output clash r)
-made-takes output None (Ok parts) none late = tt
-made-takes output None (Err fault) none late = late
-made-takes output (Some place) r none late = absurd cc
+-- no file that may be read is refused before memory is taken for it
+pub join-late : (names : List (List ℕ)) (f : Contents) (bytes : List ℕ) → f (first_input names) ≡ Some bytes → length bytes ≤ longest_file → IfErr ((join_task names).makes f) IsLate
+unfolding parts_from
+join-late [] f bytes held few = tt
+join-late (name ∷ rest) f bytes held few = then_late (parts_of f (name ∷ rest)) (λ parts. Ok (joined_file parts)) (first-late f name rest bytes held few) (λ parts. tt)
 
-pub takes-memory : (output : List ℕ) (names : List (List ℕ)) (files : Files) → clash_from (output ∷ []) 0 names ≡ None → IsFound files names → IfSome files (λ f. TakesMemory ((join_command output names).makes f))
-takes-memory output names None none found = tt
-takes-memory output names (Some f) none found =
-    let held = there_holds f found.name found.there in
-    made-takes output (clash_from (output ∷ []) 0 names) (parts_of f names) none
-    (subst (λ (l : List (List ℕ)). IfErr (parts_of f l) IsLate) (sym found.is) (first-late f found.name found.rest held.0 held.1 (found.few held.0 held.1)))
+-- the first input is there with a length that it may have
+pub found-input : (allowed : ℕ) (before after : List (List ℕ)) (ss : List SurveyFields) (old new : Seen) → AreInputs None allowed old.files before ss → 0 < length before → new ≡ old → NeedsMemory (first_input (before ++ after)) old new
+found-input allowed [] after ss old new are some stays = absurd (omega (arith, some))
+found-input allowed (name ∷ before) after [] old new are some stays = absurd are
+found-input allowed (name ∷ before) after (s ∷ ss) old new are some stays = record { there = are.0.there; few = λ bytes holds. (survey_of-parts bytes allowed s (are.0.exact bytes holds)).0; stays = stays }
 
--- the first of some inputs
-pub found-input : (allowed : ℕ) (files : Files) (before after : List (List ℕ)) (ss : List SurveyFields) → AreInputs None allowed files before ss → 0 < length before → IsFound files (before ++ after)
-found-input allowed files [] after ss are some = absurd (omega (arith, some))
-found-input allowed files (name ∷ before) after [] are some = absurd are
-found-input allowed files (name ∷ before) after (s ∷ ss) are some = record {
-  name = name;
-  rest = before ++ after;
-  is = refl;
-  there = are.0.there;
-  few = λ bytes holds. (survey_of-parts bytes allowed s (are.0.exact bytes holds)).0;
-}
+found-next : (before : List (List ℕ)) (name : List ℕ) (after : List (List ℕ)) (ss : List SurveyFields) (old new : Seen) → AreInputs None most_frames old.files before ss → NeedsMemory name old new → NeedsMemory (first_input (before ++ name ∷ after)) old new
+found-next [] name after ss old new are needs = needs
+found-next (n ∷ before) name after ss old new are needs = found-input most_frames (n ∷ before) (name ∷ after) ss old new are (omega arith) needs.stays
 
-found-next : (allowed : ℕ) (before : List (List ℕ)) (name : List ℕ) (after : List (List ℕ)) (ss : List SurveyFields) (old new : Seen) → AreInputs None allowed old.files before ss → NeedsMemory name old new → IsFound old.files (before ++ name ∷ after)
-found-next allowed [] name after ss old new are needs = record { name = name; rest = after; is = refl; there = needs.there; few = needs.few }
-found-next allowed (n ∷ before) name after ss old new are needs = found-input allowed old.files (n ∷ before) (name ∷ after) ss are (omega arith)
+-- ---- a fault of an input, behind those before it
 
--- ---- what is left
-
-made-err : (output : List ℕ) (clash : Option ℕ) (r : Result (List Part) EditFault) (fault : EditFault) → clash ≡ None → r ≡ Err fault → join_made output clash r ≡ Err fault
-made-err output clash r fault none is = ap₂ (join_made output) none is
-
--- there was no memory, once the first input was found
-pub memory-leaves : (output : List ℕ) (names : List (List ℕ)) (old new : Seen) → clash_from (output ∷ []) 0 names ≡ None → IsFound old.files names → new ≡ old → Leaves (join_command output names) old new Memory
-memory-leaves output names old new none found stays = record { names = none; takes = takes-memory output names old.files none found; stays = stays }
-
-module _ (output : List ℕ) (before : List (List ℕ)) (name : List ℕ) (after : List (List ℕ)) (ss : List SurveyFields) (none : clash_from (output ∷ []) 0 (before ++ name ∷ after) ≡ None) where
-  gives-fault : (files : Files) (fault : EditFault) → AreInputs None most_frames files before ss → IfSome files (λ f. part_of (length before) (class_after None ss) (most_frames - frames_of ss) (f name) ≡ Err fault)
-      → Gives (join_command output (before ++ name ∷ after)) files (Err fault)
-  gives-fault None fault are is = tt
-  gives-fault (Some f) fault are is = made-err output (clash_from (output ∷ []) 0 (before ++ name ∷ after)) (parts_of f (before ++ name ∷ after)) fault none (parts-fault f before name after ss fault are is)
+module _ (before : List (List ℕ)) (name : List ℕ) (after : List (List ℕ)) (ss : List SurveyFields) where
+  refuses-by : (files : Files) (fault : EditFault) → AreInputs None most_frames files before ss → IfSome files (λ f. part_of (length before) (class_after None ss) (most_frames - frames_of ss) (f name) ≡ Err fault) → Refuses (join_task (before ++ name ∷ after)) files fault
+  refuses-by None fault are is = tt
+  refuses-by (Some f) fault are is = ap (λ (r : Result (List Part) EditFault). then_made r (λ parts. Ok (joined_file parts))) (parts-fault f before name after ss fault are is)
 
   module _ (old new : Seen) (fault : EditFault) (are : AreInputs None most_frames old.files before ss) where
-    part-left_by : (why : Why) → IsPartFaultBy (length before) (class_after None ss) (most_frames - frames_of ss) name old new fault why → LeavesBy (join_command output (before ++ name ∷ after)) old new fault why
-    part-left_by Rejected h = record { defined = gives-fault old.files fault are h.0; stays = h.1 }
-    part-left_by Missing h = record { defined = gives-fault old.files fault are h.0; rose = h.1; files = h.2 }
-    part-left_by Unread h = record { rose = h.rose; files = inl h.files }
-    part-left_by Shorter h = record { rose = h.rose; counts = h.counts; before = h.untold_before; after = h.untold_after }
-    part-left_by (Unwritten k) h = absurd h
-    part-left_by Unsent h = absurd h
-    part-left_by NoMemory h = record { names = none; takes = takes-memory output (before ++ name ∷ after) old.files none (found-next most_frames before name after ss old new are h); stays = h.stays }
-
-    -- a fault of an input, behind those before it
-    pub part-left : IsPartFault (length before) (class_after None ss) (most_frames - frames_of ss) name old new fault → Leaves (join_command output (before ++ name ∷ after)) old new fault
-    part-left h = part-left_by (why_of fault) h
+    early-by : (why : Why) → IsPartFaultBy (length before) (class_after None ss) (most_frames - frames_of ss) name old new fault why → IsEarlyFaultBy (join_task (before ++ name ∷ after)) old new fault why
+    early-by Rejected h = record { defined = refuses-by old.files fault are h.0; stays = h.1 }
+    early-by Missing h = record { defined = refuses-by old.files fault are h.0; rose = h.1; files = h.2 }
+    early-by Unread h = h
+    early-by Shorter h = h
+    early-by (Unwritten k) h = absurd h
+    early-by Unsent h = absurd h
+    early-by NoMemory h = found-next before name after ss old new are h
 
 -- the same by the numbers of the code
-pub part-left_at : (output : List ℕ) (names before : List (List ℕ)) (name : List ℕ) (after : List (List ℕ)) (ss : List SurveyFields) (place allowed : ℕ) (first : Option ClassFields) (old mid new : Seen) (fault : EditFault)
-    → before ++ name ∷ after ≡ names → length before ≡ place → first ≡ class_in ss → allowed + frames_of ss ≡ most_frames → mid ≡ old → AreInputs None most_frames old.files before ss
-    → IsPartFault place first allowed name mid new fault → clash_from (output ∷ []) 0 names ≡ None → Leaves (join_command output names) old new fault
-part-left_at output names before name after ss place allowed first old mid new fault is long class many stays are h =
+pub part-early : (names before : List (List ℕ)) (name : List ℕ) (after : List (List ℕ)) (ss : List SurveyFields) (place allowed : ℕ) (first : Option ClassFields) (old mid new : Seen) (fault : EditFault) → before ++ name ∷ after ≡ names → length before ≡ place → first ≡ class_in ss
+    → allowed + frames_of ss ≡ most_frames → mid ≡ old → AreInputs None most_frames old.files before ss → IsPartFault place first allowed name mid new fault → IsEarlyFault (join_task names) old new fault
+part-early names before name after ss place allowed first old mid new fault is long class many stays are h =
     let left : allowed ≡ most_frames - frames_of ss = omega (arith, many) in
     let by_place = subst (λ n. IsPartFault n first allowed name mid new fault) (sym long) h in
     let by_class = subst (λ (o : Option ClassFields). IsPartFault (length before) o allowed name mid new fault) (class ∙ sym (after-none ss)) by_place in
     let by_left = subst (λ n. IsPartFault (length before) (class_after None ss) n name mid new fault) left by_class in
     let by_seen = subst (λ (m : Seen). IsPartFault (length before) (class_after None ss) (most_frames - frames_of ss) name m new fault) stays by_left in
-    subst (λ (l : List (List ℕ)). clash_from (output ∷ []) 0 l ≡ None → Leaves (join_command output l) old new fault) is (λ none. part-left output before name after ss none old new fault are by_seen)
+    subst (λ (l : List (List ℕ)). IsEarlyFault (join_task l) old new fault) is (early-by before name after ss old new fault are (why_of fault) by_seen)
 
 -- ---- a survey more
 

@@ -6,4 +6,3 @@ pub mod StreamLaws
 pub mod OutLaws
 pub mod CommandLaws
 pub mod StepLaws
-pub mod EndLaws

@@ -1,15 +1,14 @@
 -- The plan of all frames of several surveys.
-use Rattle.std.proofs.Common.{◌≡◌, ℕ, zero, suc, ◌+◌, ◌-◌, ◌<◌, ◌≤◌, List, [], ◌∷◌, length, get_or, map, take, All, Option, Some, None, refl, sym, ◌∙◌, ap, ap₂, subst, arith, length-append}
-use Rattle.std.specs.Prelude.{◌↔◌, slice_get, slice_range}
+use Rattle.std.proofs.Common.{◌≡◌, ℕ, zero, suc, ◌+◌, ◌-◌, ◌<◌, ◌≤◌, List, [], ◌∷◌, ◌++◌, length, get_or, map, take, All, Some, None, refl, sym, ◌∙◌, ap, ap₂, subst, arith, length-append}
+use Rattle.std.specs.Prelude.{◌↔◌, slice_get, flat_map}
 use Rattle.std.proofs.lemmas.List.{length-map, take-map}
 use Rattle.std.proofs.lemmas.List.Elements.{All-cons}
-use Rattle.frame_header.specs.Fields.{SlotFields, HeaderFields, ClassFields}
+use Rattle.frame_header.specs.Fields.{ClassFields}
 use Rattle.frame_header.specs.Tables.{window_of}
 use Rattle.slot_plan.specs.declared.needs.Need.{Need}
 use Rattle.slot_plan.specs.declared.needs.Placed.{Placed}
-use Rattle.slot_plan.specs.ThePlan.{first_with, lead_in_for, placed_from, the_plan}
-use Rattle.slot_plan.specs.Reserve.{needed, free_behind}
-use Rattle.slot_plan.specs.Parts.{Item, area_in, open_of, item_of, whole_of, items_of, parts_of, window_in, ArePartsFeasible, AreOfClass}
+use Rattle.slot_plan.specs.ThePlan.{the_plan}
+use Rattle.slot_plan.specs.Parts.{parts_of, window_in, ArePartsFeasible, AreOfClass}
 use Rattle.slot_plan.specs.Plans.{IsPlan}
 use Rattle.slot_plan.specs.Laws.{ChooseInOrder}
 use Rattle.slot_plan.proofs.ThePlan.{plan-the_plan}
@@ -20,6 +19,7 @@ use Rattle.frame_writer.specs.Frames.{Frame}
 use Rattle.info_header.specs.InfoFrame.{info_frame}
 use Rattle.laying.specs.Written.{slot_in, plain_info}
 use Rattle.laying.proofs.FitLaws.{plans-fit, asked-plans}
+use Rattle.laying.proofs.PlacesLaws.{range-whole, plan-length}
 use Rattle.sync_survey.specs.declared.rows.Row.{Row}
 use Rattle.sync_survey.specs.Faults.{SurveyFields}
 use Rattle.outside.specs.Files.{Files}
@@ -45,14 +45,7 @@ inputs-join files (name ∷ names) (s ∷ ss) are some few = (
   inputs-few None most_frames files (name ∷ names) (s ∷ ss) are,
 )
 
--- ---- lists
-
-take-all : {X : Type 0} (xs : List X) → take (length xs) xs ≡ xs
-take-all [] = refl
-take-all (x ∷ xs) = ap (λ l. x ∷ l) (take-all xs)
-
-pub range-whole : {X : Type 0} (xs : List X) → slice_range xs 0 (length xs) ≡ xs
-range-whole xs = let all : length xs - 0 ≡ length xs = omega arith in ap (λ n. take n xs) all ∙ take-all xs
+-- ---- how many frames and places
 
 needs-length : (ss : List SurveyFields) → length (needs_of (rows_of ss)) ≡ frames_of ss
 unfolding needs_of frames_of
@@ -120,44 +113,23 @@ module _ (first : SurveyFields) (ss : List SurveyFields) (can : CanBeJoined (fir
 
 -- ---- how many places it has
 
-placed-length : (window : ℕ) (items : List Item) (free : ℕ) → length (placed_from window free items) ≡ length items
-unfolding placed_from
-placed-length window [] free = refl
-placed-length window (item ∷ items) free =
-    ap suc (placed-length window items (free_behind window free item.bytes (area_in item (first_with ((item.bytes + needed (map open_of items)) - free) item.class item.protected item.choices))))
-
-items-length : (choices : HeaderFields → List SlotFields) (part : List Need) (lead_in : Option SlotFields) → length (items_of choices part lead_in) ≤ length part + 1
-unfolding items_of
-items-length choices part None = omega (arith, length-map part (item_of choices))
-items-length choices [] (Some slot) = omega arith
-items-length choices (first ∷ part) (Some slot) = omega (arith, length-map part (item_of choices))
-
-whole-length : (parts : List (List Row)) → length (whole_of own_choice (map (map need_of) parts) (map (lead_in_for own_choice) (map (map need_of) parts))) ≤ length (needs_of parts) + length parts
-unfolding whole_of needs_of
-whole-length [] = omega arith
-whole-length (rows ∷ parts) =
-    let needs : List Need = map need_of rows in
-    let lead_in : Option SlotFields = lead_in_for own_choice needs in
-    omega (
-      arith,
-      whole-length parts,
-      items-length own_choice needs lead_in,
-      length-append (items_of own_choice needs lead_in) (whole_of own_choice (map (map need_of) parts) (map (lead_in_for own_choice) (map (map need_of) parts))),
-      length-append needs (needs_of parts),
-    )
+needs-flat : (parts : List (List Row)) → flat_map (λ (part : List Need). part) (map (map need_of) parts) ≡ needs_of parts
+unfolding needs_of
+needs-flat [] = refl
+needs-flat (rows ∷ parts) = ap (λ (l : List Need). map need_of rows ++ l) (needs-flat parts)
 
 pub plan-few : (ss : List SurveyFields) → CanBeJoined ss → length (the_plan_of ss) ≤ 2900064
-unfolding the_plan_of the_plan
+unfolding the_plan_of
 plan-few [] can = absurd can
 plan-few (first ∷ ss) can =
-    let all : List SurveyFields = first ∷ ss in
-    let parts : List (List Row) = rows_of all in
+    let parts : List (List Row) = rows_of (first ∷ ss) in
     omega (
       arith,
-      placed-length (window_of first.class.version) (whole_of own_choice (map (map need_of) parts) (map (lead_in_for own_choice) (map (map need_of) parts))) 0,
-      whole-length parts,
-      needs-length all,
-      rows-length all,
+      plan-length (window_of first.class.version) own_choice (map (map need_of) parts),
+      ap length (needs-flat parts),
+      length-map parts (map need_of),
+      needs-length (first ∷ ss),
+      rows-length (first ∷ ss),
       can.1,
       can.2,
     )

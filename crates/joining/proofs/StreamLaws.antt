@@ -1,11 +1,11 @@
 -- What is written of well-formed inputs holds the lead-ins and the frames of their streams.
-use Rattle.std.proofs.Common.{◌≡◌, ◌≢◌, ℕ, ◌+◌, ◌-◌, ◌<◌, ◌≤◌, Bool, true, false, cond, List, [], ◌∷◌, length, get_or, map, Option, Some, None, refl, sym, ◌∙◌, ap, ap₂, subst, arith, bytes_eq}
-use Rattle.std.specs.Prelude.{slice_get, flat_map, Contains, unwrap_or, ◌||◌}
-use Rattle.std.specs.List.{range_with_len, list_any}
+use Rattle.std.proofs.Common.{◌≡◌, ℕ, ◌+◌, ◌-◌, ◌<◌, ◌≤◌, List, [], ◌∷◌, length, get_or, map, Option, Some, None, refl, sym, ◌∙◌, ap, ap₂, subst, arith}
+use Rattle.std.specs.Prelude.{slice_get, flat_map, Contains, unwrap_or}
+use Rattle.std.specs.List.{range_with_len}
 use Rattle.std.proofs.lemmas.List.{length-map}
 use Rattle.std.proofs.lemmas.List.FromFn.{length-range_with_len}
-use Rattle.outside.specs.Files.{Contents, Files, IsThere}
-use Rattle.outside.proofs.FilesLaws.{bytes_eq_same, there_holds}
+use Rattle.outside.specs.Files.{Contents, Files}
+use Rattle.outside.proofs.FilesLaws.{there_holds}
 use Rattle.frame_header.specs.Fields.{SlotFields, ClassFields, IsSlot, IsHeader}
 use Rattle.frame_header.specs.Tables.{class_of, window_of}
 use Rattle.slot_plan.specs.declared.needs.Need.{Need}
@@ -27,33 +27,24 @@ use Rattle.sync_survey.specs.declared.rows.Row.{Row}
 use Rattle.sync_survey.specs.MainData.{StreamFrame}
 use Rattle.sync_survey.specs.Faults.{SurveyFields, HoldsStream}
 use Rattle.commands.specs.Command.{clash_from}
+use Rattle.commands.proofs.MakeLaws.{no_clash, other_name}
 use Rattle.joining.specs.Join.{whole_part, plan_of, joined_frames, joined_from, joined_file, joined_stream}
 use Rattle.joining.specs.Inputs.{AreInputs, rows_of, AreAlike, CanBeJoined, parts_in}
-use Rattle.joining.specs.Laying.{the_plan_of, AreSources}
-use Rattle.joining.proofs.PlanLaws.{range-whole, the-plan}
+use Rattle.joining.specs.Laying.{the_plan_of, IsSource, AreSources}
+use Rattle.laying.proofs.PlacesLaws.{range-whole}
+use Rattle.joining.proofs.PlanLaws.{the-plan}
 
 -- ---- the inputs as sources
 
 -- no input has the output's name
-by_name : (b : Bool) (place : ℕ) (o : Option ℕ) → cond b (Some place) o ≡ None → (b ≡ false) × (o ≡ None)
-by_name true place o none = absurd cc
-by_name false place o none = (refl, none)
-
-or_none : (a b : Bool) → (a || b) ≡ false → a ≡ false
-or_none true b none = absurd cc
-or_none false b none = refl
-
-differs : (name output : List ℕ) → bytes_eq name output ≡ false → name ≢ output
-differs name output other same = let both : true ≡ false = sym (ap (bytes_eq name) (sym same) ∙ bytes_eq_same name) ∙ other in absurd cc
-
 pub sources-inputs : (class : ClassFields) (output : List ℕ) (place : ℕ) (first : Option ClassFields) (allowed : ℕ) (files : Files) (names : List (List ℕ)) (ss : List SurveyFields)
     → clash_from (output ∷ []) place names ≡ None → AreAlike class ss → AreInputs first allowed files names ss → AreSources class output files names ss
 sources-inputs class output place first allowed files [] [] none alike are = tt
 sources-inputs class output place first allowed files [] (s ∷ ss) none alike are = absurd are
 sources-inputs class output place first allowed files (name ∷ names) [] none alike are = absurd are
 sources-inputs class output place first allowed files (name ∷ names) (s ∷ ss) none alike are =
-    let other = by_name (list_any (bytes_eq name) (output ∷ [])) place (clash_from (output ∷ []) (place + 1) names) none in (
-      record { apart = differs name output (or_none (bytes_eq name output) false other.0); there = are.0.there; exact = λ file holds. (allowed, are.0.exact file holds); laid = are.0.laid },
+    let other = no_clash _ place (clash_from (output ∷ []) (place + 1) names) none in (
+      record { apart = other_name name output [] other.0; there = are.0.there; exact = λ file holds. (allowed, are.0.exact file holds); laid = are.0.laid },
       alike.2,
       sources-inputs class output (place + 1) _ (allowed - length s.frames) files names ss other.1 alike.3 are.2,
     )
@@ -64,16 +55,10 @@ sources-length class output files [] (s ∷ ss) are = absurd are
 sources-length class output files (n ∷ names) [] are = absurd are
 sources-length class output files (n ∷ names) (s ∷ ss) are = omega (arith, sources-length class output files names ss are.2)
 
--- any of them stands for the files that are told
-pub some-source : (class : ClassFields) (output : List ℕ) (files : Files) (names : List (List ℕ)) (ss : List SurveyFields) → 0 < length ss → AreSources class output files names ss → (name : List ℕ) × (name ≢ output) × IsThere files name
-some-source class output files [] [] some are = absurd (omega (arith, some))
-some-source class output files [] (s ∷ ss) some are = absurd are
-some-source class output files (name ∷ names) [] some are = absurd are
-some-source class output files (name ∷ names) (s ∷ ss) some are = (name, are.0.apart, are.0.there)
-
-pub can-alike : (ss : List SurveyFields) → CanBeJoined ss → (class : ClassFields) × AreAlike class ss
-can-alike [] can = absurd can
-can-alike (first ∷ ss) can = (first.class, can.0)
+-- the first of them
+pub first-source : (class : ClassFields) {output : List ℕ} {files : Files} {names later : List (List ℕ)} {ss behind : List SurveyFields} {name : List ℕ} {s : SurveyFields} → names ≡ name ∷ later → ss ≡ s ∷ behind → AreSources class output files names ss → IsSource output files name s
+first-source class {output} {files} {names} {later} {ss} {behind} {name} {s} names-are ss-are are =
+    (subst (λ (l : List (List ℕ)). AreSources class output files l (s ∷ behind)) names-are (subst (AreSources class output files names) ss-are are)).0
 
 -- ---- the inputs as parts
 

@@ -6,7 +6,7 @@ use Rattle.frame_header.specs.Fields.{ClassFields}
 use Rattle.sync_survey.specs.declared.rows.Row.{Row}
 use Rattle.sync_survey.specs.declared.survey_fault.SurveyFault.TheVariants.{Memory as NoRoom}
 use Rattle.sync_survey.specs.Faults.{SurveyFields}
-use Rattle.sync_survey.specs.Survey.{survey_of, IsLaidOut}
+use Rattle.sync_survey.specs.Survey.{HoldsOctets, survey_of, IsLaidOut}
 use Rattle.laying.specs.Relaid.{Part}
 use Rattle.commands.specs.declared.fault.EditFault.{EditFault}
 use Rattle.commands.specs.declared.fault.EditFault.TheVariants.{Input, Refused, Write, Memory}
@@ -24,6 +24,7 @@ pub record IsInput (allowed : ℕ) (files : Files) (name : List ℕ) (s : Survey
   pub laid : IsLaidOut s
   pub some : 0 < length s.frames
   pub few : length s.frames ≤ allowed
+  pub octets : HoldsOctets name files
 
 -- where the files are told, an input gives this refusal
 abbrev pub GivesFault : ℕ → Option ClassFields → ℕ → List ℕ → Files → EditFault → Type 0

@@ -17,12 +17,12 @@ use Rattle.sync_survey.specs.MainData.{StreamFrame}
 use Rattle.sync_survey.specs.Faults.{SurveyFields}
 use Rattle.sync_survey.specs.Survey.{survey_of}
 use Rattle.commands.specs.declared.fault.EditFault.{EditFault}
-use Rattle.commands.specs.declared.fault.EditFault.TheVariants.{EqualNames, Input, Refused}
+use Rattle.commands.specs.declared.fault.EditFault.TheVariants.{Input, Refused}
 use Rattle.commands.specs.declared.fault.Refusal.{Refusal}
 use Rattle.commands.specs.declared.fault.Refusal.TheVariants.{Differ}
 use Rattle.commands.specs.Refusing.{then_made}
-use Rattle.commands.specs.Command.{Made, Command, clash_from}
-use Rattle.commands.specs.One.{most_frames}
+use Rattle.commands.specs.Command.{Command}
+use Rattle.commands.specs.One.{Task, first_input, one_command, most_frames}
 
 -- ---- the inputs
 
@@ -83,12 +83,6 @@ joined_stream (part ∷ parts) = with_lead_ins (plan_of part.survey.class (part 
 
 -- ---- the command
 
--- what is made of the inputs, where none has the output's name
-abbrev pub join_made : List ℕ → Option ℕ → Result (List Part) EditFault → Result Made EditFault
-join_made output (Some place) parts = Err (EqualNames place)
-join_made output None (Err fault) = Err fault
-join_made output None (Ok parts) = Ok (record { outputs = record { name = output; bytes = joined_file parts } ∷ []; text = [] })
-
 abbrev pub join_stream : Result (List Part) EditFault → List StreamFrame
 join_stream (Err fault) = []
 join_stream (Ok parts) = joined_stream parts
@@ -98,13 +92,15 @@ abbrev pub join_refuses : ℕ → Refusal → Bool
 join_refuses count (Differ place) = nat_lt 0 place && nat_lt place count
 join_refuses count _ = false
 
-abbrev pub join_command : List ℕ → List (List ℕ) → Command
-join_command output inputs = record {
+abbrev pub join_task : List (List ℕ) → Task
+join_task inputs = record {
+  source = first_input inputs;
   inputs = inputs;
-  outputs = output ∷ [];
   sources = inputs;
-  always = Some [];
-  makes = λ files. join_made output (clash_from (output ∷ []) 0 inputs) (parts_of files inputs);
-  streams = λ files. join_stream (parts_of files inputs) ∷ [];
+  makes = λ files. then_made (parts_of files inputs) (λ parts. Ok (joined_file parts));
+  stream = λ files. join_stream (parts_of files inputs);
   refuses = join_refuses (length inputs);
 }
+
+abbrev pub join_command : List ℕ → List (List ℕ) → Command
+join_command output inputs = one_command (join_task inputs) output

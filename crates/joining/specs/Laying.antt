@@ -1,5 +1,5 @@
 -- The second pass over the inputs.
-use Rattle.std.specs.Prelude.{◌≡◌, ◌≢◌, ℕ, ◌<◌, zero, suc, Bool, true, false, List, [], ◌∷◌, length, map, flat_map, take, slice_get, slice_range, Some}
+use Rattle.std.specs.Prelude.{◌≡◌, ◌≢◌, ℕ, ◌<◌, List, [], ◌∷◌, map, flat_map, slice_get, Some}
 use Rattle.outside.specs.Files.{Files, Holds, IsThere}
 use Rattle.outside.specs.Counts.{Counts}
 use Rattle.frame_header.specs.Fields.{ClassFields}
@@ -7,14 +7,15 @@ use Rattle.frame_header.specs.Tables.{window_of}
 use Rattle.info_header.specs.InfoFrame.{info_frame}
 use Rattle.slot_plan.specs.declared.needs.Placed.{Placed}
 use Rattle.slot_plan.specs.ThePlan.{the_plan}
+use Rattle.slot_plan.specs.Plans.{entries}
 use Rattle.part_needs.specs.Needs.{need_of, needs_of}
 use Rattle.part_needs.specs.Fit.{own_choice}
 use Rattle.frame_writer.specs.Frames.{Frame}
 use Rattle.outside.specs.declared.pass.PassFault.{PassFault}
 use Rattle.outside.specs.declared.pass.PassFault.TheVariants.{Read, Shrunk, Write}
 use Rattle.outside.specs.Pass.{HasPassCause}
-use Rattle.laying.specs.Relaid.{all_frames, frames_in, relaid}
-use Rattle.laying.specs.Fits.{FitsFrom, last_reach}
+use Rattle.laying.specs.Relaid.{frames_in, relaid}
+use Rattle.laying.specs.Fits.{FitsFrom}
 use Rattle.laying.specs.Written.{slot_in, plain_info}
 use Rattle.laying.specs.Passing.{HasSurvey}
 use Rattle.sync_survey.specs.declared.rows.Row.{Row}
@@ -23,7 +24,8 @@ use Rattle.sync_survey.specs.Faults.{SurveyFields}
 use Rattle.sync_survey.specs.Survey.{IsLaidOut}
 use Rattle.commands.specs.declared.fault.EditFault.{EditFault}
 use Rattle.commands.specs.declared.fault.EditFault.TheVariants.{Input, Write as Unwritten}
-use Rattle.joining.specs.Inputs.{rows_of, told_parts}
+use Rattle.frame_edits.specs.declared.plans.Planned.{Planned}
+use Rattle.joining.specs.Inputs.{rows_of, CanBeJoined, told_parts}
 
 -- ---- the plan
 
@@ -43,28 +45,12 @@ IsJoinedInfo [] placed bytes = ⊥
 IsJoinedInfo (s ∷ ss) placed bytes =
     (frames : List Frame) → map slot_in frames ≡ map (λ (p : Placed). p.slot) placed → (first : Row) → slice_get s.frames 0 ≡ Some first → bytes ≡ info_frame first.header (plain_info s.class frames)
 
--- how many frames are left behind a lead-in, or behind one of one more
-abbrev pub frames_behind : Bool → ℕ → ℕ
-frames_behind true frames = suc frames
-frames_behind false frames = frames
-
--- how many places of a plan so many frames take, with their lead-ins
-unfoldable pub places_for : ℕ → List Placed → ℕ
-places_for frames [] = 0
-places_for zero (p ∷ placed) = 0
-places_for (suc frames) (p ∷ placed) = suc (places_for (frames_behind p.lead_in frames) placed)
-
--- these places
-abbrev pub own_places : ℕ → List Placed → List Placed
-own_places frames placed = take (places_for frames placed) placed
-
--- all frames of an input as they were planned
-abbrev pub input_frames : SurveyFields → List Placed → List ℕ → List Frame
-input_frames s placed file = relaid (slice_range (all_frames file s) 0 (length s.frames)) placed
-
--- how many bytes before the next area main data may begin behind them
-abbrev pub input_reach : ℕ → SurveyFields → List Placed → ℕ
-input_reach reach s placed = last_reach (window_of s.class.version) reach (map need_of s.frames) placed
+-- the inputs can be joined, and this is their plan, with the Info frame in front
+pub record IsPlanned (ss : List SurveyFields) (planned : Planned) : Type 0 where
+  pub joined : CanBeJoined ss
+  pub plan : entries planned.plan ≡ the_plan_of ss
+  pub fits : FitsAll ss (entries planned.plan)
+  pub info : IsJoinedInfo ss (entries planned.plan) planned.info.items
 
 -- where the inputs are told, all their frames as they were planned
 abbrev pub all_laid : Files → List (List ℕ) → List SurveyFields → List Placed → List ℕ → List Frame

@@ -5,6 +5,7 @@ ghost use Rattle.commands.specs.Command.{HoldsStreams, clash_of, clash_from};
 ghost use Rattle.commands.specs.Left.{seen, IsDone, Leaves, HasNumbers};
 ghost use Rattle.joining.specs.Join.{join_command};
 
+use crate::inputs::name_at;
 use crate::planned::plan_join;
 use crate::surveys::survey_all;
 use crate::written::write_joined;
@@ -18,7 +19,7 @@ fn clash(output: &str, inputs: &[String]) -> Option<u32>
     ensures { result ≡ clash_from (output.now ∷ []) 0 (map string_bytes inputs.now) }
 {
     for place in 0..inputs.len() {
-        if inputs[place].as_str() == output {
+        if name_at(inputs, place) == output {
             return Some(place as u32);
         }
     }

@@ -1,6 +1,7 @@
 //! One file of all frames of several.
 #![tactic(auto)]
 
+mod inputs;
 mod join_file;
 mod laid;
 mod planned;

@@ -4,7 +4,7 @@ ghost use Rattle.part_needs.specs.Needs.{asked_of};
 ghost use Rattle.slot_plan.specs.Plans.{entries};
 ghost use Rattle.sync_survey.specs.Faults.{tells};
 ghost use Rattle.joining.specs.Inputs.{rows_of, CanBeJoined};
-ghost use Rattle.joining.specs.Laying.{the_plan_of, FitsAll, IsJoinedInfo};
+ghost use Rattle.joining.specs.Laying.{the_plan_of, FitsAll, IsPlanned};
 
 use arrayvec::ArrayVec;
 use frame_edits::Planned;
@@ -40,10 +40,7 @@ fn plan_all(alloc: Global, surveys: &[Survey]) -> Result<Plan, AllocError>
 /// The plan of all frames, and the Info frame in front of them, which is like the first.
 pub(crate) fn plan_join(alloc: Global, surveys: &[Survey]) -> Result<Planned, AllocError>
     requires { CanBeJoined (map tells surveys.now) }
-    ensures plan { IfOk result (λ p. entries p.plan ≡ the_plan_of (map tells surveys.now)) }
-    ensures fits { IfOk result (λ p. FitsAll (map tells surveys.now) (entries p.plan)) }
-    ensures info { IfOk result (λ p. IsJoinedInfo (map tells surveys.now)
-        (entries p.plan) p.info.items) }
+    ensures { IfOk result (IsPlanned (map tells surveys.now)) }
 {
     let plan = plan_all(alloc, surveys)?;
     let first = &surveys[0];

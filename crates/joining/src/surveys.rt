@@ -1,13 +1,13 @@
 //! The surveys of all inputs.
-ghost use Rattle.std.specs.Prelude.{◌≡◌, ◌≢◌, ◌≤◌, ◌<◌, ◌+◌, true, None, List, ℕ, [], ◌∷◌, length, map, string_bytes, is_some, IfOk, IfErr, OnOk};
+ghost use Rattle.std.specs.Prelude.{◌≡◌, ◌≤◌, ◌<◌, ◌+◌, true, None, length, map, string_bytes, is_some, IfOk, IfErr, OnOk};
 ghost use Rattle.outside.specs.Counts.{OnlyReads};
 ghost use Rattle.sync_survey.specs.Faults.{tells};
-ghost use Rattle.commands.specs.Command.{clash_from};
-ghost use Rattle.commands.specs.One.{most_frames};
-ghost use Rattle.commands.specs.Left.{seen, Leaves};
-ghost use Rattle.joining.specs.Join.{may_follow as may_follow_lem, join_command};
+ghost use Rattle.commands.specs.One.{most_frames, IsEarlyFault};
+ghost use Rattle.commands.specs.Left.{seen};
+ghost use Rattle.joining.specs.Join.{may_follow as may_follow_lem, join_task};
 ghost use Rattle.joining.specs.Inputs.{IsInput, IsPartFault, IsOfJoin, Follows, AreInputs, class_in};
 
+use crate::inputs::name_at;
 use commands::{EditFault, MOST_FRAMES, Refusal, survey_at};
 use frame_header::Class;
 use outside::Folder;
@@ -80,11 +80,9 @@ pub(crate) fn survey_all<D: Folder>(
     requires few { length inputs.now ≤ 64 }
     ensures inputs { IfOk result (λ surveys. AreInputs None most_frames (D.files folder.old)
         (map string_bytes inputs.now) (map tells surveys.items)) }
-    ensures left { IfErr result (λ fault. (output : List ℕ)
-        → clash_from (output ∷ []) 0 (map string_bytes inputs.now) ≡ None
-        → Leaves (join_command output (map string_bytes inputs.now))
+    ensures refused { IfErr result (IsEarlyFault (join_task (map string_bytes inputs.now))
         (seen (D.files folder.old) (D.counts folder.old))
-        (seen (D.files folder.new) (D.counts folder.new)) fault) }
+        (seen (D.files folder.new) (D.counts folder.new))) }
     ensures numbers { IfErr result (IsOfJoin (length inputs.now)) }
     ensures done { OnOk result (D.counts folder.new ≡ D.counts folder.old) }
     ensures files { D.files folder.new ≡ D.files folder.old }
@@ -94,7 +92,7 @@ pub(crate) fn survey_all<D: Folder>(
     let mut left = MOST_FRAMES;
     for place in 0..inputs.len() {
         let first = first_class(&surveys);
-        let name = inputs[place].as_str();
+        let name = name_at(inputs, place);
         let survey = survey_part(alloc, folder, name, place as u32, first, left)?;
         left -= survey.frames().len() as u32;
         surveys.push(survey)?;

@@ -1,22 +1,20 @@
 //! The second pass of a join.
-ghost use Rattle.std.specs.Prelude.{◌≡◌, ◌≢◌, ◌≤◌, ◌++◌, List, ℕ, [], ◌∷◌, length, map, string_bytes, None, is_some, IfErr, OnOk, OnErr};
-ghost use Rattle.outside.specs.Files.{appended, IsThere};
-ghost use Rattle.outside.specs.Passed.{AppendedPrefix};
+ghost use Rattle.std.specs.Prelude.{◌≡◌, ◌≤◌, ◌++◌, List, ℕ, [], ◌∷◌, length, map, drop, string_bytes, None, is_some, IfErr, OnOk, OnErr};
+ghost use Rattle.outside.specs.Files.{IsThere, Holds};
 ghost use Rattle.outside.specs.Counts.{NoneFell};
 ghost use Rattle.std.specs.List.{concat};
-ghost use Rattle.frame_writer.specs.Writing.{waiting_bytes, IsNew};
+ghost use Rattle.outside.specs.Pass.{Appends, AppendsPrefix, HasPassCause};
 ghost use Rattle.laying.specs.Written.{front_blocks};
-ghost use Rattle.laying.specs.Passing.{IsReady, writing_in};
-ghost use Rattle.slot_plan.specs.Plans.{entries};
+ghost use Rattle.laying.specs.Passing.{IsReady, IsFresh};
 ghost use Rattle.sync_survey.specs.Faults.{tells};
-ghost use Rattle.commands.specs.One.{most_frames, holding, IsPassFault};
+ghost use Rattle.commands.specs.One.{most_frames, holding, IsPassFault, first_input};
 ghost use Rattle.commands.specs.Command.{clash_from};
 ghost use Rattle.commands.specs.Left.{seen};
-ghost use Rattle.outside.specs.Pass.{Appends, AppendsPrefix, HasPassCause};
 ghost use Rattle.joining.specs.Join.{joined_file};
-ghost use Rattle.joining.specs.Inputs.{IsOfJoin, AreInputs, CanBeJoined, told_parts};
-ghost use Rattle.joining.specs.Laying.{the_plan_of, FitsAll, IsJoinedInfo, AreSources, HasJoinCause};
+ghost use Rattle.joining.specs.Inputs.{IsOfJoin, AreInputs, told_parts};
+ghost use Rattle.joining.specs.Laying.{IsPlanned, AreSources, HasJoinCause};
 
+use crate::inputs::{known_at, name_at};
 use crate::laid::{lay_all, of_pass};
 use commands::EditFault;
 use frame_edits::Planned;
@@ -50,57 +48,34 @@ fn append_front<D: Folder>(
     relay.pass.finish(folder, &mut buffers.waiting)
 }
 
-/// Appends to the output all that waits.
-fn append_rest<D: Folder>(
-    relay: &Relay<'_>,
-    folder: &mut D,
-    buffers: &mut Buffers,
-) -> Result<(), PassFault>
-    requires { IsThere (D.files folder.old) relay.now.pass.output.now }
-    ensures appended { OnOk result (D.files folder.new ≡ appended (D.files folder.old)
-        relay.now.pass.output.now (waiting_bytes (writing_in buffers.old))) }
-    ensures prefix { OnErr result (AppendedPrefix relay.now.pass.output.now
-        (waiting_bytes (writing_in buffers.old)) (D.files folder.old) (D.files folder.new)) }
-    ensures done { OnOk result (D.counts folder.new ≡ D.counts folder.old) }
-    ensures cause { IfErr result (HasPassCause relay.now.pass.length (D.files folder.old)
-        (D.counts folder.old) (D.counts folder.new)) }
-{
-    relay.finish(folder, &mut buffers.writer, &mut buffers.waiting)?;
-    relay.pass.finish(folder, &mut buffers.waiting)
-}
-
-/// Appends the file of all frames to the output. The writer is new, nothing waits in front of the output, and what else the
-/// buffers hold may be of any file. It takes no memory.
+/// Appends the file of all frames to the output, beginning with what the first input has in front. It takes no memory.
 ///
 /// # Errors
 /// As at `Relay::write`, with the number of the input. Then a prefix of the file was appended.
 fn append_joined<'a, D: Folder>(
+    first: &Relay<'a>,
     folder: &mut D,
     inputs: &'a [String],
-    output: &'a str,
     surveys: &'a [Survey],
     planned: &Planned,
     buffers: &mut Buffers,
 ) -> Result<(), EditFault>
     requires few { length inputs.now ≤ 64 }
-    requires joined { CanBeJoined (map tells surveys.now) }
-    requires sources { AreSources buffers.old.writer.class output.now (D.files folder.old)
-        (map string_bytes inputs.now) (map tells surveys.now) }
-    requires target { IsThere (D.files folder.old) output.now }
-    requires plan { entries planned.now.plan ≡ the_plan_of (map tells surveys.now) }
-    requires fits { FitsAll (map tells surveys.now) (entries planned.now.plan) }
-    requires info { IsJoinedInfo (map tells surveys.now)
-        (entries planned.now.plan) planned.now.info.items }
-    requires new { IsNew buffers.old.writer.class buffers.old.writer }
-    requires unsent { buffers.old.waiting ≡ [] }
-    // Any name but the output's stands for the files that are told.
-    ensures written { OnOk result ((name : List ℕ) → name ≢ output.now
-        → Appends name output.now
+    requires names { map string_bytes inputs.now
+        ≡ first.now.pass.input.now ∷ drop 1 (map string_bytes inputs.now) }
+    requires known { map tells surveys.now
+        ≡ tells first.now.survey.now ∷ drop 1 (map tells surveys.now) }
+    requires length { first.now.pass.length ≡ (tells first.now.survey.now).length }
+    requires planned { IsPlanned (map tells surveys.now) planned.now }
+    requires sources { AreSources (tells first.now.survey.now).class first.now.pass.output.now
+        (D.files folder.old) (map string_bytes inputs.now) (map tells surveys.now) }
+    requires target { IsThere (D.files folder.old) first.now.pass.output.now }
+    requires fresh { IsFresh (tells first.now.survey.now).class buffers.old }
+    ensures written { OnOk result (Appends first.now.pass.input.now first.now.pass.output.now
         (λ _. joined_file (told_parts (D.files folder.old) (map string_bytes inputs.now)
         (map tells surveys.now)))
         (D.files folder.old) (D.files folder.new)) }
-    ensures prefix { OnErr result ((name : List ℕ) → name ≢ output.now
-        → AppendsPrefix name output.now
+    ensures prefix { OnErr result (AppendsPrefix first.now.pass.input.now first.now.pass.output.now
         (λ _. joined_file (told_parts (D.files folder.old) (map string_bytes inputs.now)
         (map tells surveys.now)))
         (D.files folder.old) (D.files folder.new)) }
@@ -108,20 +83,19 @@ fn append_joined<'a, D: Folder>(
     ensures cause { IfErr result (HasJoinCause (length inputs.now) (D.files folder.old)
         (D.counts folder.old) (D.counts folder.new)) }
 {
-    let survey = &surveys[0];
-    let pass = Pass {
-        input: inputs[0].as_str(),
-        output,
-        length: survey.length(),
-    };
-    let relay = Relay { pass, survey };
-    buffers.feed.clear();
-    if let Err(fault) = append_front(&relay, folder, planned.info.as_slice(), buffers) {
+    let info = planned.info.as_slice();
+    if let Err(fault) = append_front(first, folder, info, buffers) {
         return Err(of_pass(0, fault));
     }
-    let placed = planned.plan.placed();
-    lay_all(folder, inputs, output, surveys, placed, buffers)?;
-    match append_rest(&relay, folder, buffers) {
+    lay_all(
+        first,
+        folder,
+        inputs,
+        surveys,
+        planned.plan.placed(),
+        buffers,
+    )?;
+    match first.pass.finish(folder, &mut buffers.waiting) {
         Ok(()) => Ok(()),
         Err(fault) => Err(of_pass(0, fault)),
     }
@@ -136,31 +110,37 @@ pub(crate) fn write_joined<D: Folder>(
     surveys: &[Survey],
     planned: &Planned,
 ) -> Result<(), EditFault>
+    requires some { 1 ≤ length inputs.now }
     requires few { length inputs.now ≤ 64 }
-    requires joined { CanBeJoined (map tells surveys.now) }
     requires inputs { AreInputs None most_frames (D.files folder.old) (map string_bytes inputs.now)
         (map tells surveys.now) }
     requires apart { clash_from (output.now ∷ []) 0 (map string_bytes inputs.now) ≡ None }
-    requires plan { entries planned.now.plan ≡ the_plan_of (map tells surveys.now) }
-    requires fits { FitsAll (map tells surveys.now) (entries planned.now.plan) }
-    requires info { IsJoinedInfo (map tells surveys.now)
-        (entries planned.now.plan) planned.now.info.items }
-    ensures written { OnOk result (D.files folder.new ≡ holding (D.files folder.old) output.now
+    requires planned { IsPlanned (map tells surveys.now) planned.now }
+    ensures written { OnOk result ((bytes : List ℕ)
+        → Holds (D.files folder.old) (first_input (map string_bytes inputs.now)) bytes
+        → D.files folder.new ≡ holding (D.files folder.old) output.now
         (joined_file (told_parts (D.files folder.old) (map string_bytes inputs.now)
         (map tells surveys.now)))) }
     ensures told { is_some (D.files folder.new) ≡ is_some (D.files folder.old) }
     ensures done { OnOk result (D.counts folder.new ≡ D.counts folder.old) }
-    ensures left { IfErr result (λ fault. (name : List ℕ) → name ≢ output.now
-        → IsPassFault (λ _. joined_file (told_parts (D.files folder.old)
-        (map string_bytes inputs.now) (map tells surveys.now))) name output.now
+    ensures left { IfErr result (IsPassFault (λ _. joined_file (told_parts (D.files folder.old)
+        (map string_bytes inputs.now) (map tells surveys.now)))
+        (first_input (map string_bytes inputs.now)) output.now
         (seen (D.files folder.old) (D.counts folder.old))
-        (seen (D.files folder.new) (D.counts folder.new)) fault) }
+        (seen (D.files folder.new) (D.counts folder.new))) }
     ensures numbers { IfErr result (IsOfJoin (length inputs.now)) }
     ensures counts { NoneFell (D.counts folder.old) (D.counts folder.new) }
 {
-    let mut buffers = Buffers::new(alloc, surveys[0].class())?;
+    let survey = known_at(surveys, 0);
+    let pass = Pass {
+        input: name_at(inputs, 0),
+        output,
+        length: survey.length(),
+    };
+    let first = Relay { pass, survey };
+    let mut buffers = Buffers::new(alloc, survey.class())?;
     let Ok(()) = folder.create(output) else {
         return Err(EditFault::Write(0));
     };
-    append_joined(folder, inputs, output, surveys, planned, &mut buffers)
+    append_joined(&first, folder, inputs, surveys, planned, &mut buffers)
 }

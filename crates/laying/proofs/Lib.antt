@@ -11,3 +11,4 @@ pub mod InfoLaws
 pub mod KeptLaws
 pub mod CopyLaws
 pub mod FittingFrames
+pub mod PlacesLaws

@@ -5,3 +5,4 @@ pub mod Passing
 pub mod Copying
 pub mod Laws
 pub mod InfoLaws
+pub mod Places

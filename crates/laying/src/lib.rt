@@ -9,6 +9,7 @@ mod info_laws;
 mod laws;
 mod relay;
 mod section;
+mod whole;
 
 pub use buffers::Buffers;
 pub use info::{Kept, info_of, kept_fields};

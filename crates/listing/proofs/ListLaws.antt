@@ -5,18 +5,17 @@ use Rattle.outside.specs.Files.{Contents, Files, Holds, IsThere, IsMissing}
 use Rattle.outside.specs.Counts.{Counts}
 use Rattle.outside.proofs.FilesLaws.{there_holds}
 use Rattle.sync_survey.specs.declared.survey_fault.SurveyFault.{SurveyFault}
-use Rattle.sync_survey.specs.declared.survey_fault.SurveyFault.TheVariants.{Absent, TooLong, NoFrame, LostSync, Truncated, FreeFormat, Mixed, CheckWord, BackPointer, Overlap, Overrun, TooManyFrames, Shrunk, Read, Memory as NoRoom}
+use Rattle.sync_survey.specs.declared.survey_fault.SurveyFault.TheVariants.{Absent}
 use Rattle.sync_survey.specs.Faults.{SurveyFields, surveyed, longest_file, IsWellFormed}
-use Rattle.sync_survey.specs.Survey.{survey_of, RefusesBytes, IsSurveyFault}
+use Rattle.sync_survey.specs.Survey.{survey_of}
 use Rattle.sync_survey.proofs.BytesFaults.{IsOfBytes, surveyed_of_bytes}
 use Rattle.sync_survey.proofs.FoldersLaws.{survey_of-short}
 use Rattle.sync_survey.proofs.SurveyParts.{surveyed-allowed}
 use Rattle.commands.specs.declared.fault.EditFault.{EditFault}
-use Rattle.commands.specs.declared.fault.EditFault.TheVariants.{Input, Sent as NotSent, Memory}
-use Rattle.commands.specs.Kinds.{of_input}
-use Rattle.commands.specs.One.{most_frames}
+use Rattle.commands.specs.declared.fault.EditFault.TheVariants.{Input, Sent as NotSent}
+use Rattle.commands.specs.One.{most_frames, IsFileFaultBy, IsFileFault}
 use Rattle.commands.specs.Command.{Made, Gives, written, MakesStreams, HoldsStreams}
-use Rattle.commands.specs.Left.{seen, IsDone, IsRefused, TakesMemory, Leaves}
+use Rattle.commands.specs.Left.{Why, Rejected, Missing, Unread, Shorter, Unwritten, Unsent, NoMemory, why_of, Seen, seen, IsDone, TakesMemory, LeavesBy, Leaves}
 use Rattle.commands.specs.Said.{IsText}
 use Rattle.listing.specs.Listing.{listed_by, listed_where, listing, list_command}
 use Rattle.commands.proofs.InputLaws.{of_bytes_behind}
@@ -56,26 +55,18 @@ module _ (input : List ℕ) where
       let held = there_holds f input there in
       subst TakesMemory (sym (gives_survey f held.0 (surveyed held.0 most_frames) held.1 (survey_of-short held.0 most_frames (few held.0 held.1)))) (survey_takes (surveyed held.0 most_frames) (surveyed_of_bytes held.0 most_frames))
 
-  module _ (files new : Files) (counts after : Counts) (same : new ≡ files) where
-    refused : (fault : SurveyFault) → RefusesBytes input files most_frames counts after fault → IsRefused (list_command input) (seen files counts) (seen new after) (Input 0 fault)
-    refused fault h = record { defined = gives_bytes files (Err fault) h.there h.bytes; stays = ap₂ seen same h.counts }
+  module _ (old new : Seen) (fault : EditFault) where
+    survey_left_by : (why : Why) → IsFileFaultBy 0 most_frames input old new fault why → LeavesBy (list_command input) old new fault why
+    survey_left_by Rejected h = record { defined = subst (λ e. Gives (list_command input) old.files (Err e)) (sym h.1) (gives_bytes old.files (Err h.0) h.2.there h.2.bytes); stays = h.2.stays }
+    survey_left_by Missing h = record { defined = subst (λ e. Gives (list_command input) old.files (Err e)) (sym h.0) (gives_absent old.files h.1); rose = h.2; files = h.3 }
+    survey_left_by Unread h = record { rose = h.rose; files = inl h.files }
+    survey_left_by Shorter h = record { rose = h.rose; counts = h.counts; before = h.untold_before; after = h.untold_after }
+    survey_left_by (Unwritten k) h = absurd h
+    survey_left_by Unsent h = absurd h
+    survey_left_by NoMemory h = record { names = refl; takes = takes_memory old.files h.there h.few; stays = h.stays }
 
-    pub survey_left : (fault : SurveyFault) → IsSurveyFault input files most_frames counts after fault → Leaves (list_command input) (seen files counts) (seen new after) (of_input fault)
-    survey_left Absent h = record { defined = gives_absent files h.0; rose = h.1; files = same }
-    survey_left (TooLong size) h = refused (TooLong size) h
-    survey_left (NoFrame at) h = refused (NoFrame at) h
-    survey_left (LostSync at) h = refused (LostSync at) h
-    survey_left (Truncated at) h = refused (Truncated at) h
-    survey_left (FreeFormat at) h = refused (FreeFormat at) h
-    survey_left (Mixed at) h = refused (Mixed at) h
-    survey_left (CheckWord at said right) h = refused (CheckWord at said right) h
-    survey_left (BackPointer at begin present) h = refused (BackPointer at begin present) h
-    survey_left (Overlap at) h = refused (Overlap at) h
-    survey_left (Overrun at bits room) h = refused (Overrun at bits room) h
-    survey_left (TooManyFrames at) h = refused (TooManyFrames at) h
-    survey_left (Shrunk first second) h = record { rose = h.ended; counts = h.counts; before = h.nothing_told; after = same ∙ h.nothing_told }
-    survey_left Read h = record { rose = h; files = inl same }
-    survey_left NoRoom h = record { names = refl; takes = takes_memory files h.there h.few; stays = ap₂ seen same h.counts }
+    pub survey_left : IsFileFault 0 most_frames input old new fault → Leaves (list_command input) old new fault
+    survey_left h = survey_left_by (why_of fault) h
 
   -- ---- a file without fault
 
@@ -93,14 +84,6 @@ module _ (input : List ℕ) where
         at : (fs : Files) → new ≡ fs → Gives (list_command input) fs (Ok made_of) → IfSome fs (λ f. (made : Made) × ((list_command input).makes f ≡ Ok made) × (new ≡ Some (written made.outputs f)))
         at None e g = tt
         at (Some f) e g = (made_of, g, e)
-
-    -- memory is taken for it
-    pub out_of_memory : Leaves (list_command input) (seen files counts) (seen new after) Memory
-    out_of_memory = record { names = refl; takes = at files gives; stays = ap₂ seen same done }
-      where
-        at : (fs : Files) → Gives (list_command input) fs (Ok made_of) → IfSome fs (λ f. TakesMemory ((list_command input).makes f))
-        at None g = tt
-        at (Some f) g = subst TakesMemory (sym g) tt
 
     -- and nothing is refused where a write to standard output failed
     pub unsent : Leaves (list_command input) (seen files counts) (seen new after) NotSent

@@ -13,10 +13,10 @@ ghost use Rattle.commands.specs.Said.{heard, Says, fault_of};
 use crate::line::Line;
 use crate::lines::{set_line, set_summary};
 use crate::things::Things;
-use commands::{EditFault, MOST_FRAMES};
+use commands::{EditFault, MOST_FRAMES, survey_at};
 use outside::{Failed, Folder, SendBuffer, Sink};
 use std::alloc::Global;
-use sync_survey::{Survey, survey};
+use sync_survey::Survey;
 
 // Sends the lines of the file and its summary.
 fn send_listing<T: Sink>(survey: &Survey, mut buffer: SendBuffer, out: &mut T) -> Result<(), Failed>
@@ -83,7 +83,7 @@ pub fn list<D: Folder, T: Sink>(
     ensures files { D.files folder.new ≡ D.files folder.old }
     ensures counts { OnlyReads (D.counts folder.old) (D.counts folder.new) }
 {
-    let survey = survey(alloc, folder, input, MOST_FRAMES)?;
+    let survey = survey_at(alloc, folder, input, 0, MOST_FRAMES)?;
     let buffer = SendBuffer::new(alloc)?;
     match send_listing(&survey, buffer, out) {
         Ok(()) => Ok(()),

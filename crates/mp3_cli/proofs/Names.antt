@@ -1,8 +1,7 @@
 -- The names of pieces by their places.
-use Rattle.std.proofs.Common.{◌≡◌, ℕ, zero, suc, ◌+◌, ◌<◌, ◌≤◌, ◌≢◌, List, [], ◌∷◌, ◌++◌, map, refl, arith}
+use Rattle.std.proofs.Common.{◌≡◌, ℕ, zero, suc, ◌+◌, ◌<◌, ◌≤◌, ◌≢◌, List, [], ◌∷◌, map, refl, arith}
 use Rattle.std.specs.List.{range_with_len}
 use Rattle.std.proofs.Math.ListN.{get_or-eq_default}
-use Rattle.std.proofs.lemmas.List.{append-nil}
 use Rattle.std.proofs.lemmas.List.FromFn.{get_or-map-range_with_len, length-map-range_with_len}
 use Rattle.splitting.specs.Split.{piece_name, piece_names}
 use Rattle.mp3_cli.specs.Names.{name_in}
@@ -18,6 +17,3 @@ no_piece_at prefix place behind = get_or-eq_default (map (piece_name prefix) (ra
 pub none_behind_one : (name : List ℕ) (place : ℕ) → place ≢ 0 → name_in (name ∷ []) place ≡ []
 none_behind_one name zero other = absurd (other refl)
 none_behind_one name (suc k) other = refl
-
-pub no_name : (names : List (List ℕ)) (place : ℕ) (behind : List ℕ) → name_in names place ≡ [] → behind ++ [] ≡ name_in names place ++ behind
-no_name names place behind none = rw (none, append-nil behind) refl

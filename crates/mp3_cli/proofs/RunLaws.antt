@@ -9,7 +9,7 @@ use Rattle.commands.specs.declared.fault.EditFault.{EditFault}
 use Rattle.commands.specs.declared.fault.EditFault.TheVariants.{EqualNames, Input, Refused, Write, Sent as NotSent, Memory}
 use Rattle.commands.specs.Kinds.{InputKind, IsAbsent, IsUnread as NotRead, IsShorter as Shrank, IsTooMuch, IsRefused as AtFault, kind_of, by_kind}
 use Rattle.commands.specs.One.{Task, most_frames, made_result, made_of, one_command}
-use Rattle.commands.specs.Command.{Made, Command, clash_from, clash_of, written, Gives, MakesStreams, HoldsStreams}
+use Rattle.commands.specs.Command.{Made, Command, clash_from, clash_of, written, Gives, HoldsStreams}
 use Rattle.commands.specs.Refusing.{then_made}
 use Rattle.frame_edits.specs.Chosen.{Chosen}
 use Rattle.cue_sheet.specs.declared.place.Place.{Place}
@@ -17,13 +17,12 @@ use Rattle.sync_survey.specs.declared.survey_fault.SurveyFault.{SurveyFault}
 use Rattle.sync_survey.specs.Faults.{SurveyFields}
 use Rattle.sync_survey.specs.Survey.{survey_of}
 use Rattle.splitting.specs.Split.{piece_names, chosen_at, made_of as split_made, made_at, made_by, made_where, unless_equal, made_result as made_result_split, Placing, split_command}
-use Rattle.joining.specs.Join.{parts_of, join_made, join_command}
 use Rattle.commands.specs.Said.{Heard, IsText, SaysAll, Says, fault_of}
 use Rattle.commands.specs.Left.{Why, Rejected, Missing, Unread, Shorter, Unwritten, Unsent, NoMemory, why_of, Seen, IsDone, IsRefused, LeavesBy, Leaves, HasNumbers}
 use Rattle.job_words.specs.Asked.{Asked}
 use Rattle.job_words.specs.Words.{job_of}
 use Rattle.mp3_cli.specs.Texts.{status_by, bad_word_line, GotWhole, GotFront, GotLine}
-use Rattle.mp3_cli.specs.Run.{said_command, command_of, always_of, fault_status, line_of, GetsLine, world, Answers, made_outcome, command_outcome, job_outcome, outcome, IsOutcome, IsAcceptedBy, IsAccepted}
+use Rattle.mp3_cli.specs.Run.{said_command, command_of, fault_status, line_of, GetsLine, world, Answers, made_outcome, command_outcome, job_outcome, outcome, IsOutcome, IsAcceptedBy, IsAccepted}
 
 -- ---- statuses
 
@@ -89,20 +88,6 @@ module _ (command : Command) (old new : Seen) (out_old out_new err_old err_new :
       at : (o : Option EditFault) → all.fault ≡ o → status ≡ fault_status o → IfSome o (Leaves command old new) → Case
       at None e is left = Done is e
       at (Some fault) e is left = Failed fault (why_of fault) e is refl left
-
-  pub at_most_four : status ≤ 4
-  at_most_four = at case_of
-    where
-      at : Case → status ≤ 4
-      at (Done is e) = omega (arith, is)
-      at (Failed fault why e is w left) = omega (arith, is, (by_status why).1)
-
-  pub not_two : status ≢ 2
-  not_two two = at case_of
-    where
-      at : Case → ⊥
-      at (Done is e) = omega (arith, is, two)
-      at (Failed fault why e is w left) = (by_status why).2 (sym is ∙ two)
 
   -- a refusal and want of memory leave all as it was
   stays_by : (fault : EditFault) (why : Why) → status ≡ status_by why → status ≢ 3 → LeavesBy command old new fault why → new ≡ old
@@ -269,10 +254,6 @@ module _ (words : List (List ℕ)) (asked : Asked) (is : job_of words ≡ Ok ask
     (λ accepted. done_where_made (command_of asked) old new out_old out_new err_old err_new status all f told reads writes sends found (subst (IsAcceptedBy f) is accepted)),
   )
 
-  -- the text that is the same of all files
-  pub text_said : status ≡ 0 → IfSome (always_of (job_of words)) (λ text. out_new.sent ≡ sent_more out_old.sent text)
-  text_said zero_is = subst (λ r. IfSome (always_of r) (λ text. out_new.sent ≡ sent_more out_old.sent text)) (sym is) (always_said (command_of asked) old new out_old out_new err_old err_new status all zero_is)
-
 -- ---- a command without a text
 
 abbrev text_in : Result Made EditFault → List ℕ
@@ -383,16 +364,6 @@ module _ (prefix : List ℕ) where
     silent = λ f made is. named_silent (clash_from (piece_names prefix) 0 (input ∷ more)) (placing.places f) (f input) made is;
   }
 
-pub join_silent : (output : List ℕ) (inputs : List (List ℕ)) → IsSilent (join_command output inputs)
-join_silent output inputs = record {
-  always = refl;
-  silent = λ f made is.
-      elim (clash_from (output ∷ []) 0 inputs) as (λ clash. join_made output clash (parts_of f inputs) ≡ Ok made → made.text ≡ []) [
-        | Some place ↦ λ is'. absurd cc
-        | None ↦ elim (parts_of f inputs) as (λ parts. join_made output None parts ≡ Ok made → made.text ≡ []) [ Ok parts ↦ λ is'. sym (ap text_in is') | Err fault ↦ λ is'. absurd cc ]
-      ] is;
-}
-
 -- ---- a text that is said
 
 module _ (text : List ℕ) (some : Some text ≢ Some []) (now : Seen) where
@@ -409,12 +380,6 @@ module _ (text : List ℕ) (some : Some text ≢ Some []) (now : Seen) where
       at : (files : Files) → IfSome files (λ f. (made : Made) × ((said_command text).makes f ≡ Ok made))
       at None = tt
       at (Some f) = (record { outputs = []; text = text }, refl)
-
-  pub text_streams : HoldsStreams (said_command text) now.files
-  text_streams = at now.files
-    where
-      none : (f : Contents) (made : Made) → ok_made (record { outputs = []; text = text }) ≡ ok_made made → MakesStreams (said_command text) f made
-      none f made e = subst (MakesStreams (said_command text) f) (made_is (record { outputs = []; text = text }) made e) (record { sources = tt; streams = tt })
 
       at : (files : Files) → HoldsStreams (said_command text) files
       at None = tt

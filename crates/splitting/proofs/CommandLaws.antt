@@ -1,6 +1,6 @@
 -- What the command leaves, by its steps.
 use Rattle.std.proofs.Common.{◌≡◌, ℕ, ◌+◌, ◌<◌, ◌≤◌, true, false, cond, List, [], ◌∷◌, length, map, Option, Some, None, Result, Ok, Err, refl, sym, ◌∙◌, ap, subst, inl, inr, is_some}
-use Rattle.std.specs.Prelude.{nat_lt, IfSome, IfErr, OnOk}
+use Rattle.std.specs.Prelude.{◌⊎◌, nat_lt, IfSome, IfErr}
 use Rattle.bit_fields.specs.Bits.{AreBytes}
 use Rattle.outside.specs.Files.{Contents, Files, Holds, IsThere}
 use Rattle.outside.proofs.FilesLaws.{there_holds}
@@ -17,19 +17,23 @@ use Rattle.sync_survey.specs.Survey.{survey_of}
 use Rattle.sync_survey.proofs.BytesFaults.{IsOfBytes, surveyed_of_bytes}
 use Rattle.sync_survey.proofs.FoldersLaws.{survey_of-short}
 use Rattle.commands.specs.declared.fault.EditFault.{EditFault}
-use Rattle.commands.specs.declared.fault.EditFault.TheVariants.{EqualNames, Input, Refused}
+use Rattle.commands.specs.declared.fault.EditFault.TheVariants.{EqualNames, Input, Refused, Write, Sent, Memory}
 use Rattle.commands.specs.declared.fault.Refusal.TheVariants.{SheetTooLarge}
 use Rattle.frame_edits.specs.declared.chosen.Slots.TheVariants.{Own}
 use Rattle.commands.proofs.RefusingLaws.{unless_late, then_late, then_ok}
 use Rattle.commands.specs.Refusing.{then_made}
-use Rattle.frame_edits.specs.Chosen.{Chosen, chosen_file, chosen_stream, stream_with, stream_chosen_by, cut_choice, laid_with}
-use Rattle.commands.specs.Command.{Made, Command, clash_of, Gives, written, written_to, AreStreams, HoldsStreams}
-use Rattle.commands.specs.Left.{Why, Rejected, Missing, Unread, Shorter, Unwritten, Unsent, NoMemory, why_of, Seen, IsLate, IsDone, IsWrittenTo, TakesMemory, LeavesBy, Leaves}
+use Rattle.frame_edits.specs.Chosen.{Chosen, cut_refuses, chosen_file, chosen_stream, stream_with, stream_chosen_by, cut_choice, laid_with}
+use Rattle.commands.specs.Command.{Output, Made, Command, clash_of, Gives, written, written_to, AreStreams, HoldsStreams}
+use Rattle.commands.specs.Left.{Why, Rejected, Missing, Unread, Shorter, Unwritten, Unsent, NoMemory, why_of, Seen, IsLate, IsDone, IsWrittenTo, TakesMemory, LeavesBy, Leaves, IsRefusal}
 use Rattle.commands.specs.One.{most_frames, IsFileFaultBy, IsFileFault}
 use Rattle.sync_survey.proofs.SurveyedFiles.{survey_of-sound}
 use Rattle.frame_edits.proofs.ChosenLaws.{cut_proper}
-use Rattle.splitting.specs.Split.{longest_sheet, frames_between, with_first, chosen_from, chosen_at, pieces_from, made_of, made_at, made_by, made_where, unless_equal, made_result, streams_of, streams_at, streams_by, streams_where, Placing, split_command, given, with_end, places_in, places_where, told_by}
-use Rattle.splitting.specs.Steps.{IsSheetFaultBy, IsSheetFault, with_outputs, with_part, IsWrittenPart, IsMadeOf, IsSplitFaultBy, IsSplitFault}
+use Rattle.splitting.specs.Split.{longest_sheet, frames_between, with_first, chosen_from, chosen_at, pieces_from, made_of, made_at, made_by, made_where, unless_equal, made_result, streams_of, streams_at, streams_by, streams_where, Placing, split_command_of, given, with_end, places_in, places_where, told_by, placing_of}
+use Rattle.splitting.specs.declared.piece.Piece.{Piece}
+use Rattle.splitting.specs.declared.split_file.Points.{Points}
+use Rattle.splitting.specs.declared.split_file.Points.TheVariants.{Places, Sheet as InSheet}
+use Rattle.splitting.specs.Steps.{Says, IsPlacesFaultBy, IsPlacesFault, ArePieces, chosen_of, outputs_of, with_outputs, with_part, IsWrittenPart, IsPiecesFaultBy, IsPiecesFault}
+use Rattle.splitting.proofs.PiecesLaws.{outputs-are}
 
 -- ---- want of memory is no refusal that is found before any is taken
 
@@ -71,7 +75,7 @@ short-late prefix file places late few =
 abbrev pub AreLate : Placing → Type 0
 AreLate placing = (f : Contents) → IfErr (placing.places f) IsLate
 
-pub given-late : (places : List Place) → AreLate (given places)
+given-late : (places : List Place) → AreLate (given places)
 given-late places f = tt
 
 end-late : (r : Result (List Place) CueFault) → IfErr (with_end r) IsLate
@@ -85,8 +89,12 @@ where-late : (o : Option (List ℕ)) → IfErr (places_where o) IsLate
 where-late None = refl
 where-late (Some sheet) = in-late sheet
 
-pub told-late : (sheet : List ℕ) → AreLate (told_by sheet)
+told-late : (sheet : List ℕ) → AreLate (told_by sheet)
 told-late sheet f = where-late (f sheet)
+
+points-late : (points : Points) → AreLate (placing_of points)
+points-late (Places places) = given-late places.now
+points-late (InSheet sheet) = told-late sheet.now
 
 -- ---- the streams of the pieces
 
@@ -129,9 +137,12 @@ none-equal : (o : Option ℕ) (r : Result Made EditFault) → o ≡ None → unl
 none-equal (Some place) r e = absurd cc
 none-equal None r e = refl
 
-module _ (placing : Placing) (late : AreLate placing) (more : List (List ℕ)) (input prefix : List ℕ) where
+module _ (points : Points) (input prefix : List ℕ) where
+  abbrev placing : Placing
+  placing = placing_of points
+
   abbrev command : Command
-  command = split_command placing more input prefix
+  command = split_command_of points input prefix
 
   equal-made : (f : Contents) (place : ℕ) → clash_of command ≡ Some place → command.makes f ≡ Err (EqualNames place)
   unfolding made_result
@@ -166,7 +177,7 @@ module _ (placing : Placing) (late : AreLate placing) (more : List (List ℕ)) (
     input-takes None there few = tt
     input-takes (Some f) there few =
         let held = there_holds f input there in
-        subst TakesMemory (sym (makes-where f (Some held.0) held.1)) (takes (made_where prefix (placing.places f) (Some held.0)) (short-late prefix held.0 (placing.places f) (late f) (few held.0 held.1)))
+        subst TakesMemory (sym (makes-where f (Some held.0) held.1)) (takes (made_where prefix (placing.places f) (Some held.0)) (short-late prefix held.0 (placing.places f) (points-late points f) (few held.0 held.1)))
 
     module _ (old new : Seen) (fault : EditFault) where
       input-left-by : (why : Why) → IsFileFaultBy 0 most_frames input old new fault why → LeavesBy command old new fault why
@@ -200,7 +211,7 @@ module _ (placing : Placing) (late : AreLate placing) (more : List (List ℕ)) (
           at None told = tt
           at (Some f) told =
               let held = held-of f told in
-              subst TakesMemory (sym (makes-then f held.0 told held.1)) (takes (then_made (placing.places f) (made_at prefix held.0 s)) (made-late prefix held.0 s (placing.places f) (late f)))
+              subst TakesMemory (sym (makes-then f held.0 told held.1)) (takes (then_made (placing.places f) (made_at prefix held.0 s)) (made-late prefix held.0 s (placing.places f) (points-late points f)))
 
       -- no places
       pub places-refused : (fault : EditFault) → IfSome files (λ f. placing.places f ≡ Err fault) → Gives command files (Err fault)
@@ -214,10 +225,10 @@ module _ (placing : Placing) (late : AreLate placing) (more : List (List ℕ)) (
 
       -- ---- these places
 
-      module _ (places : List Place) (are : IfSome files (λ f. placing.places f ≡ Ok places)) where
+      module _ (places : List Place) (are : Says placing files (Ok places)) where
         makes-at : (f : Contents) (bytes : List ℕ) → files ≡ Some f → f input ≡ Some bytes → command.makes f ≡ made_at prefix bytes s places
         makes-at f bytes told holds =
-            let here : placing.places f ≡ Ok places = subst (λ fs. IfSome fs (λ g. placing.places g ≡ Ok places)) told are in
+            let here : placing.places f ≡ Ok places = subst (λ fs. Says placing fs (Ok places)) told are in
             makes-then f bytes told holds ∙ ap (λ p. then_made p (made_at prefix bytes s)) here
 
         range-refused : (fault : EditFault) → chosen_at s.class (length s.frames) places ≡ Err fault → Gives command files (Err fault)
@@ -230,28 +241,29 @@ module _ (placing : Placing) (late : AreLate placing) (more : List (List ℕ)) (
                 makes-at f held.0 told held.1 ∙ ap (λ r. then_made r (made_of prefix held.0 s)) none
 
         -- the pieces, of which all or some were written
-        module _ (cs : List Chosen) (chosen : chosen_at s.class (length s.frames) places ≡ Ok cs) where
+        module _ (pieces : List Piece) (named : ArePieces prefix s 1 pieces) (chosen : chosen_at s.class (length s.frames) places ≡ Ok (map chosen_of pieces)) where
           abbrev made : List ℕ → Made
-          made bytes = record { outputs = pieces_from prefix 1 bytes s cs; text = [] }
+          made bytes = record { outputs = outputs_of s pieces bytes; text = [] }
 
           makes-pieces : (f : Contents) (bytes : List ℕ) → files ≡ Some f → f input ≡ Some bytes → command.makes f ≡ Ok (made bytes)
-          makes-pieces f bytes told holds = makes-at f bytes told holds ∙ ap (λ r. then_made r (made_of prefix bytes s)) chosen
+          makes-pieces f bytes told holds =
+              makes-at f bytes told holds
+              ∙ ap (λ r. then_made r (made_of prefix bytes s)) chosen
+              ∙ ap (λ (outputs : List Output). Ok (record { outputs = outputs; text = [] })) (sym (outputs-are prefix s 1 pieces bytes named))
 
-          whole : (new : Files) → ((bytes : List ℕ) → Holds files input bytes → new ≡ with_outputs (pieces_from prefix 1 bytes s cs) files)
-              → IfSome files (λ f. (made : Made) × (command.makes f ≡ Ok made) × (new ≡ Some (written made.outputs f)))
+          whole : (new : Files) → ((bytes : List ℕ) → Holds files input bytes → new ≡ with_outputs (outputs_of s pieces bytes) files) → IfSome files (λ f. (made : Made) × (command.makes f ≡ Ok made) × (new ≡ Some (written made.outputs f)))
           unfolding with_outputs
           whole new all = at files refl all
             where
-              at : (fs : Files) → files ≡ fs → ((bytes : List ℕ) → Holds fs input bytes → new ≡ with_outputs (pieces_from prefix 1 bytes s cs) fs)
-                  → IfSome fs (λ f. (made : Made) × (command.makes f ≡ Ok made) × (new ≡ Some (written made.outputs f)))
+              at : (fs : Files) → files ≡ fs → ((bytes : List ℕ) → Holds fs input bytes → new ≡ with_outputs (outputs_of s pieces bytes) fs) → IfSome fs (λ f. (made : Made) × (command.makes f ≡ Ok made) × (new ≡ Some (written made.outputs f)))
               at None told all = tt
               at (Some f) told all = let held = held-of f told in (made held.0, makes-pieces f held.0 told held.1, all held.0 held.1)
 
-          part : (k : ℕ) (new : Files) → IsWrittenPart (λ bytes. pieces_from prefix 1 bytes s cs) input k files new → IsWrittenTo command k files new
+          part : (k : ℕ) (new : Files) → IsWrittenPart (outputs_of s pieces) input k files new → IsWrittenTo command k files new
           unfolding with_part
           part k new h = record { made = at files refl h.files; told = h.told }
             where
-              at : (fs : Files) → files ≡ fs → ((bytes : List ℕ) → Holds fs input bytes → (k < length (pieces_from prefix 1 bytes s cs)) × (count : Option ℕ) × (new ≡ with_part k count (pieces_from prefix 1 bytes s cs) fs))
+              at : (fs : Files) → files ≡ fs → ((bytes : List ℕ) → Holds fs input bytes → (k < length (outputs_of s pieces bytes)) × (count : Option ℕ) × (new ≡ with_part k count (outputs_of s pieces bytes) fs))
                   → IfSome fs (λ f. (made : Made) × (command.makes f ≡ Ok made) × (k < length made.outputs) × (count : Option ℕ) × (new ≡ Some (written_to k count made.outputs f)))
               at None told some = tt
               at (Some f) told some =
@@ -259,38 +271,59 @@ module _ (placing : Placing) (late : AreLate placing) (more : List (List ℕ)) (
                   let part = some held.0 held.1 in
                   (made held.0, makes-pieces f held.0 told held.1, part.0, part.1, part.2)
 
-    -- ---- what is left of a surveyed input
+    -- ---- what is left of a surveyed input, by a step behind those that left all as it was
 
-    module _ (s : SurveyFields) (places : List Place) (old new : Seen) (there : IsThere old.files input) (surveyed : (bytes : List ℕ) → Holds old.files input bytes → survey_of bytes most_frames ≡ Ok s) (are : IfSome old.files (λ f. placing.places f ≡ Ok places)) where
-      pub split-done : IsMadeOf input s places prefix old.files new.files → is_some new.files ≡ is_some old.files → new.counts ≡ old.counts → IsDone command old new
-      split-done h told counts = record { made = whole s old.files there surveyed places are h.chosen h.are new.files h.written; told = told; counts = counts }
+    module _ (s : SurveyFields) (old mid new : Seen) (stays : mid ≡ old) (there : IsThere old.files input) (surveyed : (bytes : List ℕ) → Holds old.files input bytes → survey_of bytes most_frames ≡ Ok s) where
+      places-left-by : (fault : EditFault) (why : Why) → IsPlacesFaultBy placing old new fault why → LeavesBy command old new fault why
+      places-left-by fault Rejected h = record { defined = places-refused s old.files there surveyed fault h.0; stays = h.1 }
+      places-left-by fault Missing h = record { defined = places-refused s old.files there surveyed fault h.0; rose = h.1; files = h.2 }
+      places-left-by fault Unread h = record { rose = h.rose; files = inl h.files }
+      places-left-by fault Shorter h = record { rose = h.rose; counts = h.counts; before = h.untold_before; after = h.untold_after }
+      places-left-by fault (Unwritten k) h = absurd h
+      places-left-by fault Unsent h = absurd h
+      places-left-by fault NoMemory h = record { names = apart; takes = behind-takes s old.files there surveyed; stays = h }
 
-      split-left-by : (fault : EditFault) (why : Why) → IsSplitFaultBy input s places prefix old new fault why → LeavesBy command old new fault why
-      split-left-by fault Rejected h = record { defined = range-refused s old.files there surveyed places are fault h.0; stays = h.1 }
-      split-left-by fault Missing h = absurd h
-      split-left-by fault Unread h =
-          record { rose = h.rose; files = inr (h.place, part s old.files there surveyed places are h.part.chosen h.part.are h.place new.files h.part.written) }
-      split-left-by fault Shorter h = record { rose = h.rose; counts = h.counts; before = h.untold_before; after = h.untold_after }
-      split-left-by fault (Unwritten k) h = record { rose = h.rose; files = part s old.files there surveyed places are h.part.chosen h.part.are k new.files h.part.written }
-      split-left-by fault Unsent h = absurd h
-      split-left-by fault NoMemory h = record { names = apart; takes = behind-takes s old.files there surveyed; stays = h }
+      -- there are no places
+      pub places-left : (fault : EditFault) → IsPlacesFault placing mid new fault → Leaves command old new fault
+      places-left fault h = places-left-by fault (why_of fault) (subst (λ (m : Seen). IsPlacesFault placing m new fault) stays h)
 
-      pub split-left : (fault : EditFault) → IsSplitFault input s places prefix old new fault → Leaves command old new fault
-      split-left fault h = split-left-by fault (why_of fault) h
+      pub memory-left : new ≡ mid → Leaves command old new Memory
+      memory-left same = record { names = apart; takes = behind-takes s old.files there surveyed; stays = same ∙ stays }
 
-    module _ {T : Type 0} (s : SurveyFields) (places : List Place) (old mid new : Seen) (stays : mid ≡ old) (there : IsThere old.files input) (surveyed : (bytes : List ℕ) → Holds old.files input bytes → survey_of bytes most_frames ≡ Ok s)
-        (are : IfSome old.files (λ f. placing.places f ≡ Ok places)) where
-      pub done-by : (r : Result T EditFault) → OnOk r (IsMadeOf input s places prefix mid.files new.files) → is_some new.files ≡ is_some mid.files → OnOk r (new.counts ≡ mid.counts) → OnOk r (IsDone command old new)
-      done-by (Ok x) h told counts =
-          split-done s places old new there surveyed are
-          (subst (λ (m : Seen). IsMadeOf input s places prefix m.files new.files) stays h)
-          (subst (λ (m : Seen). is_some new.files ≡ is_some m.files) stays told)
-          (subst (λ (m : Seen). new.counts ≡ m.counts) stays counts)
-      done-by (Err fault) h told counts = tt
+      module _ (places : List Place) (are : Says placing old.files (Ok places)) where
+        -- they aren't pieces
+        pub range-left : (fault : EditFault) → new ≡ mid → (fault ≡ Memory) ⊎ (IsRefusal cut_refuses fault × (chosen_at s.class (length s.frames) places ≡ Err fault)) → Leaves command old new fault
+        range-left fault same (inl is) = subst (Leaves command old new) (sym is) (memory-left same)
+        range-left (Refused refusal) same (inr h) = record { defined = range-refused s old.files there surveyed places are (Refused refusal) h.1; stays = same ∙ stays }
+        range-left (EqualNames place) same (inr h) = absurd h.0
+        range-left (Input place fault) same (inr h) = absurd h.0
+        range-left (Write place) same (inr h) = absurd h.0
+        range-left Sent same (inr h) = absurd h.0
+        range-left Memory same (inr h) = absurd h.0
 
-      pub left-by : (r : Result T EditFault) → IfErr r (IsSplitFault input s places prefix mid new) → IfErr r (Leaves command old new)
-      left-by (Ok x) h = tt
-      left-by (Err fault) h = split-left s places old new there surveyed are fault (subst (λ (m : Seen). IsSplitFault input s places prefix m new fault) stays h)
+        module _ (pieces : List Piece) (named : ArePieces prefix s 1 pieces) (chosen : chosen_at s.class (length s.frames) places ≡ Ok (map chosen_of pieces)) where
+          pub split-done : ((bytes : List ℕ) → Holds mid.files input bytes → new.files ≡ with_outputs (outputs_of s pieces bytes) mid.files) → is_some new.files ≡ is_some mid.files → new.counts ≡ mid.counts → IsDone command old new
+          split-done wrote told counts = record {
+            made = whole s old.files there surveyed places are pieces named chosen new.files (subst (λ (m : Seen). (bytes : List ℕ) → Holds m.files input bytes → new.files ≡ with_outputs (outputs_of s pieces bytes) m.files) stays wrote);
+            told = told ∙ ap (λ (m : Seen). is_some m.files) stays;
+            counts = counts ∙ ap (λ (m : Seen). m.counts) stays;
+          }
+
+          part-left : (k : ℕ) → IsWrittenPart (outputs_of s pieces) input k old.files new.files → IsWrittenTo command k old.files new.files
+          part-left k h = part s old.files there surveyed places are pieces named chosen k new.files h
+
+          split-left-by : (fault : EditFault) (why : Why) → IsPiecesFaultBy (outputs_of s pieces) input old new why → LeavesBy command old new fault why
+          split-left-by fault Rejected h = absurd h
+          split-left-by fault Missing h = absurd h
+          split-left-by fault Unread h = record { rose = h.rose; files = inr (h.place, part-left h.place h.files) }
+          split-left-by fault Shorter h = record { rose = h.rose; counts = h.counts; before = h.untold_before; after = h.untold_after }
+          split-left-by fault (Unwritten k) h = record { rose = h.rose; files = part-left k h.files }
+          split-left-by fault Unsent h = absurd h
+          split-left-by fault NoMemory h = absurd h
+
+          -- a fault of the second pass
+          pub split-left : (fault : EditFault) → IsPiecesFault (outputs_of s pieces) input mid new fault → Leaves command old new fault
+          split-left fault h = split-left-by fault (why_of fault) (subst (λ (m : Seen). IsPiecesFault (outputs_of s pieces) input m new fault) stays h)
 
     -- ---- the streams
 
@@ -301,7 +334,7 @@ module _ (placing : Placing) (late : AreLate placing) (more : List (List ℕ)) (
         ap (streams_where (placing.places f)) holds ∙ ap (streams_by (placing.places f) bytes) surveyed ∙ ap (streams_at bytes s) placed ∙ ap (streams_of bytes s) chosen
 
     pub split-streams : (s : SurveyFields) (places : List Place) (files : Files) → IsThere files input → ((bytes : List ℕ) → Holds files input bytes → survey_of bytes most_frames ≡ Ok s)
-        → ((bytes : List ℕ) → Holds files input bytes → AreBytes bytes) → IfSome files (λ f. placing.places f ≡ Ok places) → HoldsStreams command files
+        → ((bytes : List ℕ) → Holds files input bytes → AreBytes bytes) → Says placing files (Ok places) → HoldsStreams command files
     split-streams s places None there surveyed octets are = tt
     split-streams s places (Some f) there surveyed octets are = λ whole is.
         let held = there_holds f input there in
@@ -316,52 +349,3 @@ module _ (placing : Placing) (late : AreLate placing) (more : List (List ℕ)) (
               (subst (AreStreams (pieces_from prefix 1 bytes s parts.0)) (sym (streams-are f bytes s places parts.0 held.1 sound are parts.1))
               (at-hold prefix bytes s (octets bytes held.1) sound places parts.0 parts.1));
         }
-
-    pub streams-by_result : {T E : Type 0} (s : SurveyFields) (places : List Place) (files : Files) → IsThere files input → ((bytes : List ℕ) → Holds files input bytes → survey_of bytes most_frames ≡ Ok s)
-        → ((bytes : List ℕ) → Holds files input bytes → AreBytes bytes) → IfSome files (λ f. placing.places f ≡ Ok places) → (r : Result T E) → OnOk r (HoldsStreams command files)
-    streams-by_result s places files there surveyed octets are (Ok x) = split-streams s places files there surveyed octets are
-    streams-by_result s places files there surveyed octets are (Err e) = tt
-
--- places that are given, whatever is told
-pub given-are : (places : List Place) (files : Files) → IfSome files (λ f. (given places).places f ≡ Ok places)
-given-are places None = tt
-given-are places (Some f) = refl
-
--- ---- the sheet
-
-no-places : (sheet : List ℕ) (files : Files) (fault : EditFault) → IsThere files sheet → ((bytes : List ℕ) → Holds files sheet bytes → places_where (Some bytes) ≡ Err fault) → IfSome files (λ f. (told_by sheet).places f ≡ Err fault)
-no-places sheet None fault there none = tt
-no-places sheet (Some f) fault there none = let held = there_holds f sheet there in ap places_where held.1 ∙ none held.0 held.1
-
-no-sheet : (sheet : List ℕ) (files : Files) → IfSome files (λ f. f sheet ≡ None) → IfSome files (λ f. (told_by sheet).places f ≡ Err (Input 1 Absent))
-no-sheet sheet None missing = tt
-no-sheet sheet (Some f) missing = ap places_where missing
-
-pub sheet-places : (sheet : List ℕ) (files : Files) (places : List Place) → IsThere files sheet → ((bytes : List ℕ) → Holds files sheet bytes → places_where (Some bytes) ≡ Ok places) → IfSome files (λ f. (told_by sheet).places f ≡ Ok places)
-sheet-places sheet None places there are = tt
-sheet-places sheet (Some f) places there are = let held = there_holds f sheet there in ap places_where held.1 ∙ are held.0 held.1
-
-module _ (sheet input prefix : List ℕ) (apart : clash_of (split_command (told_by sheet) (sheet ∷ []) input prefix) ≡ None) (s : SurveyFields) (old new : Seen) (fault : EditFault) (there : IsThere old.files input)
-    (surveyed : (bytes : List ℕ) → Holds old.files input bytes → survey_of bytes most_frames ≡ Ok s) where
-  gives-none : (e : EditFault) → IfSome old.files (λ f. (told_by sheet).places f ≡ Err e) → Gives (split_command (told_by sheet) (sheet ∷ []) input prefix) old.files (Err e)
-  gives-none e none = places-refused (told_by sheet) (told-late sheet) (sheet ∷ []) input prefix apart s old.files there surveyed e none
-
-  sheet-left-by : (why : Why) → IsSheetFaultBy sheet old new fault why → LeavesBy (split_command (told_by sheet) (sheet ∷ []) input prefix) old new fault why
-  sheet-left-by Rejected h = record { defined = gives-none fault (no-places sheet old.files fault h.there h.bytes); stays = h.stays }
-  sheet-left-by Missing h = record {
-    defined = subst (λ e. Gives (split_command (told_by sheet) (sheet ∷ []) input prefix) old.files (Err e)) (sym h.is) (gives-none (Input 1 Absent) (no-sheet sheet old.files h.missing));
-    rose = h.rose;
-    files = h.files;
-  }
-  sheet-left-by Unread h = record { rose = h.rose; files = inl h.files }
-  sheet-left-by Shorter h = record { rose = h.rose; counts = h.counts; before = h.untold_before; after = h.untold_after }
-  sheet-left-by (Unwritten k) h = absurd h
-  sheet-left-by Unsent h = absurd h
-  sheet-left-by NoMemory h = record { names = apart; takes = behind-takes (told_by sheet) (told-late sheet) (sheet ∷ []) input prefix apart s old.files there surveyed; stays = h }
-
-  sheet-left : IsSheetFault sheet old new fault → Leaves (split_command (told_by sheet) (sheet ∷ []) input prefix) old new fault
-  sheet-left h = sheet-left-by (why_of fault) h
-
-  -- the same, of a step that began once the survey had left all as it was
-  pub sheet-left-behind : (mid : Seen) → mid ≡ old → IsSheetFault sheet mid new fault → Leaves (split_command (told_by sheet) (sheet ∷ []) input prefix) old new fault
-  sheet-left-behind mid stays h = sheet-left (subst (λ (m : Seen). IsSheetFault sheet m new fault) stays h)

@@ -5,4 +5,3 @@ pub mod PiecesLaws
 pub mod CommandLaws
 pub mod NumbersLaws
 pub mod SheetLaws
-pub mod SplitLaws

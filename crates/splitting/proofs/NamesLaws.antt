@@ -1,6 +1,6 @@
 -- The names of pieces, byte for byte.
-use Rattle.std.proofs.Common.{◌≡◌, ℕ, ◌+◌, ◌-◌, ◌/◌, ◌%◌, ◌||◌, codes, append_assoc, Bool, true, false, List, [], ◌∷◌, ◌++◌, length, take, drop, map, sym, ◌∙◌, ap, ap₂, bytes_eq, arith, length-append}
-use Rattle.std.specs.Prelude.{◌<◌, ◌≤◌}
+use Rattle.std.proofs.Common.{◌≡◌, ℕ, ◌+◌, ◌-◌, ◌/◌, ◌%◌, ◌||◌, codes, append_assoc, Bool, true, false, List, [], ◌∷◌, ◌++◌, length, take, drop, map, sym, ◌∙◌, ap, ap₂, bytes_eq, arith}
+use Rattle.std.specs.Prelude.{◌≤◌}
 use Rattle.std.specs.Bool.{one_answer}
 use Rattle.std.specs.List.{list_any, range_with_len}
 use Rattle.std.proofs.Math.Seq.{take-append_seam, drop-append_seam}
@@ -14,9 +14,6 @@ use Rattle.splitting.specs.Split.{piece_name, piece_names}
 
 tested : (name whole : List ℕ) (r : Bool) → (r ≡ true → name ≡ whole) → (name ≡ whole → r ≡ true) → r ≡ bytes_eq name whole
 tested name whole r there back = one_answer r (bytes_eq name whole) (there, back) (bytes_eq-Decides name whole)
-
-pub shorter-is_other : (name prefix tail : List ℕ) → length name < length prefix → false ≡ bytes_eq name (prefix ++ tail)
-shorter-is_other name prefix tail short = tested name (prefix ++ tail) false (λ e. absurd cc) (λ e. absurd (omega (arith, short, ap length e, length-append prefix tail)))
 
 pub front-is_other : (front name prefix tail : List ℕ) → front ≡ take (length prefix) name → bytes_eq front prefix ≡ false → false ≡ bytes_eq name (prefix ++ tail)
 front-is_other front name prefix tail is differ =

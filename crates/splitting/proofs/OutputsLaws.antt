@@ -4,9 +4,9 @@ use Rattle.std.specs.Prelude.{IfErr, OnOk, OnErr}
 use Rattle.std.proofs.Math.Seq.{take-append_seam, drop-append_seam}
 use Rattle.std.proofs.lemmas.List.{map-append, length-map}
 use Rattle.outside.specs.Files.{Contents, Files, untold, with_file, emptied, Holds, IsThere}
-use Rattle.outside.specs.Counts.{Counts, Rose, NoneFell, NothingFailed}
+use Rattle.outside.specs.Counts.{Counts, Rose, NothingFailed}
 use Rattle.outside.specs.Feed.{Fed, IsFedFrom}
-use Rattle.outside.proofs.FilesLaws.{there_holds, with_file_other}
+use Rattle.outside.proofs.FilesLaws.{there_holds, with_file_other, emptied_held_other}
 use Rattle.sync_survey.specs.Faults.{SurveyFields}
 use Rattle.outside.specs.declared.pass.PassFault.{PassFault}
 use Rattle.outside.specs.declared.pass.PassFault.TheVariants.{Read, Shrunk, Write}
@@ -16,9 +16,9 @@ use Rattle.commands.specs.One.{holding, HoldsPrefix, IsPassFault}
 use Rattle.commands.specs.Left.{seen}
 use Rattle.outside.specs.Pass.{Appends, AppendsPrefix, HasPassCause}
 use Rattle.commands.specs.PassFaults.{of_pass}
-use Rattle.commands.proofs.OutputLaws.{emptied_held, output_whole, told_whole, told_prefix, pass_fault, cause_counts}
+use Rattle.commands.proofs.OutputLaws.{output_whole, told_whole, told_prefix, pass_fault}
 use Rattle.splitting.specs.declared.piece.Piece.{Piece}
-use Rattle.splitting.specs.Steps.{output_of, outputs_of, with_outputs, with_part, IsWrittenPart, IsPiecesFault, of_piece, IsOfCopy}
+use Rattle.splitting.specs.Steps.{output_of, outputs_of, with_outputs, with_part, IsWrittenPart, IsPiecesFault, of_piece}
 
 -- ---- one output more
 
@@ -76,7 +76,7 @@ stands-beside input name made (Some f) (Some g) apart there is told =
 
 -- what is held of the input is of its bytes, also once an output was created
 pub fed-beside : (fed : Fed) (files new : Files) (input output : List ℕ) → input ≢ output → new ≡ emptied files output → IsFedFrom fed files input → IsFedFrom fed new input
-fed-beside fed files new input output apart created is = record { same = λ bytes holds. is.same bytes (emptied_held files input output bytes apart (subst (λ f. Holds f input bytes) created holds)) }
+fed-beside fed files new input output apart created is = record { same = λ bytes holds. is.same bytes (emptied_held_other files output input bytes apart (subst (λ f. Holds f input bytes) created holds)) }
 
 -- ---- one output that was created and then written to
 
@@ -107,19 +107,6 @@ module _ {T : Type 0} (made : List ℕ → List ℕ) (size : ℕ) (input output 
       at (Err fault) h k =
           subst (λ n. IsPassFault made input n (seen old before) (seen new after) (of_pass fault)) is
           (pass_fault made input output apart-from old mid new created fault size before between after same h k)
-
-pub copy-counts : {T : Type 0} (r : Result T PassFault) (size : ℕ) (files : Files) (before after : Counts) → OnOk r (after ≡ before) → IfErr r (HasPassCause size files before after) → NoneFell before after
-copy-counts (Ok x) size files before after same cause = subst (λ c. NoneFell before c) (sym same) (record { misses = omega arith; ends = omega arith; read_faults = omega arith; write_faults = omega arith })
-copy-counts (Err fault) size files before after same cause = cause_counts fault size files before after cause
-
-copy-numbers-of : (fault : PassFault) (size : ℕ) (files : Files) (before after : Counts) → HasPassCause size files before after fault → IsOfCopy fault
-copy-numbers-of Read size files before after h = tt
-copy-numbers-of (Shrunk first second) size files before after h = h.2
-copy-numbers-of Write size files before after h = tt
-
-pub copy-numbers : {T : Type 0} (r : Result T PassFault) (size : ℕ) (files : Files) (before after : Counts) → IfErr r (HasPassCause size files before after) → IfErr r IsOfCopy
-copy-numbers (Ok x) size files before after cause = tt
-copy-numbers (Err fault) size files before after cause = copy-numbers-of fault size files before after cause
 
 -- ---- pieces that were written
 

@@ -1,5 +1,5 @@
 -- Pieces one more at a time, from the places and for the outputs.
-use Rattle.std.proofs.Common.{◌≡◌, ◌≢◌, ℕ, ◌+◌, ◌-◌, ◌<◌, ◌≤◌, true, false, List, [], ◌∷◌, ◌++◌, length, map, drop, get_or, Result, Ok, Err, refl, sym, ◌∙◌, ap, ap₂, bytes_eq, string_bytes, arith, append-nil, append_assoc}
+use Rattle.std.proofs.Common.{◌≡◌, ◌≢◌, ℕ, ◌+◌, ◌-◌, ◌<◌, ◌≤◌, true, false, List, [], ◌∷◌, ◌++◌, length, map, drop, get_or, Result, Ok, Err, refl, sym, ◌∙◌, ap, ap₂, bytes_eq, string_bytes, arith, append_assoc}
 use Rattle.std.specs.List.{list_any, range_with_len}
 use Rattle.std.proofs.lemmas.List.{drop_more}
 use Rattle.std.proofs.lemmas.List.Folds.{list_any_at}
@@ -23,10 +23,6 @@ abbrev pub chosen_before : List Chosen → Result (List Chosen) EditFault → Re
 chosen_before done (Ok more) = Ok (done ++ more)
 chosen_before done (Err fault) = Err fault
 
-pub none-chosen : (r : Result (List Chosen) EditFault) → chosen_before [] r ≡ r
-none-chosen (Ok more) = refl
-none-chosen (Err fault) = refl
-
 before-first : (done : List Chosen) (first : Chosen) (r : Result (List Chosen) EditFault) → chosen_before done (with_first first r) ≡ chosen_before (done ++ first ∷ []) r
 before-first done first (Ok more) = ap Ok (sym (append_assoc done (first ∷ []) more))
 before-first done first (Err fault) = refl
@@ -39,9 +35,6 @@ one-chosen frames from to more done first is =
 
 pub not-chosen : (frames from to : ℕ) (more : List ℕ) (done : List Chosen) (fault : EditFault) → frames_between frames from to ≡ Err fault → chosen_before done (chosen_from frames from (to ∷ more)) ≡ Err fault
 not-chosen frames from to more done fault is = ap (λ r. chosen_before done (then_made r (λ c. with_first c (chosen_from frames to more)))) is
-
-pub all-chosen : (frames from : ℕ) (done : List Chosen) → chosen_before done (chosen_from frames from []) ≡ Ok done
-all-chosen frames from done = ap Ok (append-nil done)
 
 -- up to this place, and then behind it
 pub place-chosen : (class : ClassFields) (frames index from : ℕ) (rest : List Place) (d : Place) (done : List Chosen) (first : Chosen) (whole : Result (List Chosen) EditFault) → index < length rest

@@ -1,15 +1,13 @@
 -- What the bytes of a sheet say.
-use Rattle.std.proofs.Common.{◌≡◌, ℕ, ◌<◌, ◌≤◌, Bool, true, false, cond, List, [], ◌∷◌, ◌++◌, length, Result, Ok, Err, sym, ◌∙◌, ap, arith}
+use Rattle.std.proofs.Common.{◌≡◌, ℕ, ◌<◌, ◌≤◌, Bool, true, false, cond, List, length, Result, Ok, Err, sym, ◌∙◌, ap, arith}
 use Rattle.std.specs.Prelude.{nat_lt}
 use Rattle.std.proofs.lemmas.Bool.{lt-ltb, le-ltb}
-use Rattle.cue_sheet.specs.declared.cue_fault.CueFault.{CueFault}
 use Rattle.cue_sheet.specs.declared.place.Place.{Place}
-use Rattle.cue_sheet.specs.declared.place.Place.TheVariants.{End}
 use Rattle.cue_sheet.specs.Cues.{cue_of}
 use Rattle.commands.specs.declared.fault.EditFault.{EditFault}
 use Rattle.commands.specs.declared.fault.EditFault.TheVariants.{EqualNames, Input, Refused, Write, Sent, Memory}
 use Rattle.commands.specs.declared.fault.Refusal.{Refusal}
-use Rattle.commands.specs.declared.fault.Refusal.TheVariants.{SheetTooLarge, Sheet}
+use Rattle.commands.specs.declared.fault.Refusal.TheVariants.{SheetTooLarge}
 use Rattle.commands.specs.Left.{Why, Rejected, Missing, Unread, Shorter, Unwritten, Unsent, NoMemory, why_of, Seen}
 use Rattle.commands.specs.Sheet.{sheet_read, IsSheetFaultBy as IsUnreadBy, IsSheetFault as IsUnread, IsOfSheet as IsOfRead, sheet_refuses as read_refuses}
 use Rattle.splitting.specs.Split.{longest_sheet, with_end, places_in, sheet_refuses}
@@ -31,12 +29,6 @@ too-large bytes size is large =
 
 not-large : (bytes : List ℕ) → length bytes ≤ longest_sheet → places_in bytes ≡ with_end (cue_of bytes)
 not-large bytes most = ap (λ b. cond b (Err (Refused (SheetTooLarge (length bytes)))) (with_end (cue_of bytes))) (le-ltb longest_sheet (length bytes) most)
-
-pub sheet-starts : (bytes : List ℕ) (starts places : List Place) → length bytes ≤ longest_sheet → cue_of bytes ≡ Ok starts → places ≡ starts ++ End ∷ [] → places_in bytes ≡ Ok places
-sheet-starts bytes starts places most cue is = not-large bytes most ∙ ap with_end cue ∙ ap Ok (sym is)
-
-pub sheet-fault : (bytes : List ℕ) (fault : CueFault) → length bytes ≤ longest_sheet → cue_of bytes ≡ Err fault → places_in bytes ≡ Err (Refused (Sheet fault))
-sheet-fault bytes fault most cue = not-large bytes most ∙ ap with_end cue
 
 -- a sheet whose bytes aren't read says no places
 read-places : (bytes : List ℕ) (fault : EditFault) → sheet_read bytes ≡ Err fault → places_in bytes ≡ Err fault

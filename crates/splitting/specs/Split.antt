@@ -170,9 +170,17 @@ split_by_command input sheet prefix = split_command (told_by sheet) (sheet ∷ [
 
 -- ---- both as one
 
+abbrev pub placing_of : Points → Placing
+placing_of (Places places) = given places.now
+placing_of (InSheet sheet) = told_by sheet.now
+
+-- the inputs beside that which is cut
+abbrev pub more_of : Points → List (List ℕ)
+more_of (Places places) = []
+more_of (InSheet sheet) = sheet.now ∷ []
+
 abbrev pub split_command_of : Points → List ℕ → List ℕ → Command
-split_command_of (Places places) input prefix = split_at_command places.now input prefix
-split_command_of (InSheet sheet) input prefix = split_by_command input sheet.now prefix
+split_command_of points input prefix = split_command (placing_of points) (more_of points) input prefix
 
 -- there are so many places, and each can be one
 abbrev pub ArePoints : Points → Type 0

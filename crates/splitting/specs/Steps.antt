@@ -1,5 +1,5 @@
 -- The steps of a command that cuts a file.
-use Rattle.std.specs.Prelude.{◌≡◌, ◌≢◌, ℕ, ◌+◌, ◌<◌, true, List, [], ◌∷◌, length, map, string_bytes, Option, Some, Ok, Err, is_some, option_map}
+use Rattle.std.specs.Prelude.{◌≡◌, ◌≢◌, ℕ, ◌+◌, ◌<◌, true, List, [], ◌∷◌, length, map, string_bytes, Option, Some, Result, Err, IfSome, is_some, option_map}
 use Rattle.outside.specs.Files.{Files, Holds, IsThere, IsMissing}
 use Rattle.outside.specs.Counts.{Rose}
 use Rattle.sync_survey.specs.declared.survey_fault.SurveyFault.TheVariants.{Absent, Read, Shrunk, Memory as NoRoom}
@@ -13,10 +13,12 @@ use Rattle.commands.specs.Kinds.{HasRightNumbers}
 use Rattle.commands.specs.Command.{Output, written, written_to}
 use Rattle.commands.specs.Left.{Why, Rejected, Missing, Unread, Shorter, Unwritten, Unsent, NoMemory, why_of, Seen}
 use Rattle.commands.specs.One.{ReadsNothing, LosesInput}
-use Rattle.frame_edits.specs.Chosen.{Chosen, chosen_in, chosen_file, cut_refuses}
+use Rattle.frame_edits.specs.Chosen.{Chosen, chosen_in, chosen_file}
 use Rattle.frame_edits.specs.Selected.{IsSelected}
 use Rattle.splitting.specs.declared.piece.Piece.{Piece}
-use Rattle.splitting.specs.Split.{piece_name, chosen_at, pieces_from, places_where, sheet_refuses}
+use Rattle.splitting.specs.declared.split_file.Points.{Points}
+use Rattle.splitting.specs.declared.split_file.Points.TheVariants.{Places, Sheet as InSheet}
+use Rattle.splitting.specs.Split.{piece_name, places_where, sheet_refuses, Placing}
 
 -- ---- the sheet
 
@@ -44,6 +46,37 @@ IsSheetFaultBy name old new fault NoMemory = new ≡ old
 -- what a fault says that was met while the sheet was read
 abbrev pub IsSheetFault : List ℕ → Seen → Seen → EditFault → Type 0
 IsSheetFault name old new fault = IsSheetFaultBy name old new fault (why_of fault)
+
+-- the fault is one of the sheet, or want of memory
+abbrev pub IsOfSheet : EditFault → Type 0
+IsOfSheet (Input place fault) = (place ≡ 1) × (fault ≢ NoRoom) × HasRightNumbers fault
+IsOfSheet (Refused refusal) = sheet_refuses refusal ≡ true
+IsOfSheet Memory = Unit {0}
+IsOfSheet _ = ⊥
+
+-- ---- the places
+
+-- the files that are told say these places, or none
+abbrev pub Says : Placing → Files → Result (List Place) EditFault → Type 0
+Says placing files answer = IfSome files (λ f. placing.places f ≡ answer)
+
+abbrev pub IsPlacesFaultBy : Placing → Seen → Seen → EditFault → Why → Type 0
+IsPlacesFaultBy placing old new fault Rejected = Says placing old.files (Err fault) × (new ≡ old)
+IsPlacesFaultBy placing old new fault Missing = Says placing old.files (Err fault) × Rose old.counts.misses new.counts.misses × (new.files ≡ old.files)
+IsPlacesFaultBy placing old new fault Unread = ReadsNothing old new
+IsPlacesFaultBy placing old new fault Shorter = LosesInput old new
+IsPlacesFaultBy placing old new fault (Unwritten k) = ⊥
+IsPlacesFaultBy placing old new fault Unsent = ⊥
+IsPlacesFaultBy placing old new fault NoMemory = new ≡ old
+
+-- what a fault says that was met while the places were found
+abbrev pub IsPlacesFault : Placing → Seen → Seen → EditFault → Type 0
+IsPlacesFault placing old new fault = IsPlacesFaultBy placing old new fault (why_of fault)
+
+-- the fault is one of the sheet, or want of memory; given places have no other
+abbrev pub IsOfPlaces : Points → EditFault → Type 0
+IsOfPlaces (Places places) fault = fault ≡ Memory
+IsOfPlaces (InSheet sheet) fault = IsOfSheet fault
 
 -- ---- pieces that are to be written
 
@@ -122,53 +155,3 @@ abbrev pub IsOfCopy : PassFault → Type 0
 IsOfCopy CopyRead = Unit {0}
 IsOfCopy (CopyShrunk first second) = second < first
 IsOfCopy CopyWrite = Unit {0}
-
--- the fault is one of the sheet, or want of memory
-abbrev pub IsOfSheet : EditFault → Type 0
-IsOfSheet (Input place fault) = (place ≡ 1) × (fault ≢ NoRoom) × HasRightNumbers fault
-IsOfSheet (Refused refusal) = sheet_refuses refusal ≡ true
-IsOfSheet Memory = Unit {0}
-IsOfSheet _ = ⊥
-
--- ---- a surveyed input that is cut
-
--- the output files are those of the pieces
-pub record IsMadeOf (input : List ℕ) (s : SurveyFields) (places : List Place) (prefix : List ℕ) (old new : Files) : Type 0 where
-  pub chosen : List Chosen
-  pub are : chosen_at s.class (length s.frames) places ≡ Ok chosen
-  pub written : (bytes : List ℕ) → Holds old input bytes → new ≡ with_outputs (pieces_from prefix 1 bytes s chosen) old
-
--- there is such a piece, and what was written of them
-pub record IsMadePart (input : List ℕ) (s : SurveyFields) (places : List Place) (prefix : List ℕ) (k : ℕ) (old new : Files) : Type 0 where
-  pub chosen : List Chosen
-  pub are : chosen_at s.class (length s.frames) places ≡ Ok chosen
-  pub written : IsWrittenPart (λ bytes. pieces_from prefix 1 bytes s chosen) input k old new
-
-pub record IsUnread (input : List ℕ) (s : SurveyFields) (places : List Place) (prefix : List ℕ) (old new : Seen) : Type 0 where
-  pub rose : Rose old.counts.read_faults new.counts.read_faults
-  pub place : ℕ
-  pub part : IsMadePart input s places prefix place old.files new.files
-
-pub record IsUnwritten (input : List ℕ) (s : SurveyFields) (places : List Place) (prefix : List ℕ) (place : ℕ) (old new : Seen) : Type 0 where
-  pub rose : Rose old.counts.write_faults new.counts.write_faults
-  pub part : IsMadePart input s places prefix place old.files new.files
-
-abbrev pub IsSplitFaultBy : List ℕ → SurveyFields → List Place → List ℕ → Seen → Seen → EditFault → Why → Type 0
-IsSplitFaultBy input s places prefix old new fault Rejected = (chosen_at s.class (length s.frames) places ≡ Err fault) × (new ≡ old)
-IsSplitFaultBy input s places prefix old new fault Unread = IsUnread input s places prefix old new
-IsSplitFaultBy input s places prefix old new fault Shorter = LosesInput old new
-IsSplitFaultBy input s places prefix old new fault (Unwritten k) = IsUnwritten input s places prefix k old new
-IsSplitFaultBy input s places prefix old new fault NoMemory = new ≡ old
-IsSplitFaultBy input s places prefix old new fault _ = ⊥
-
--- what a fault leaves that was met once the input was surveyed and the places were known
-abbrev pub IsSplitFault : List ℕ → SurveyFields → List Place → List ℕ → Seen → Seen → EditFault → Type 0
-IsSplitFault input s places prefix old new fault = IsSplitFaultBy input s places prefix old new fault (why_of fault)
-
--- the numbers of such a fault
-abbrev pub IsOfSplit : EditFault → Type 0
-IsOfSplit (Input place fault) = (place ≡ 0) × (fault ≢ NoRoom) × HasRightNumbers fault
-IsOfSplit (Refused refusal) = cut_refuses refusal ≡ true
-IsOfSplit (Unwritable place) = place < 99
-IsOfSplit Memory = Unit {0}
-IsOfSplit _ = ⊥

@@ -1,16 +1,12 @@
 //! The split commands over a folder.
-ghost use Rattle.std.specs.Prelude.{◌≡◌, ◌↔◌, ◌≤◌, List, ℕ, length, Ok, Some, is_some, bytes_eq, false, IfErr, OnOk, IsErrOf};
-ghost use Rattle.std.specs.List.{All, list_any};
-ghost use Rattle.outside.specs.Files.{Holds, IsThere};
-ghost use Rattle.outside.specs.Counts.{NoneFell};
+ghost use Rattle.std.specs.Prelude.{◌≡◌, ◌↔◌, ◌≤◌, ℕ, length, Ok, Some, IfOk, IfErr, OnOk, IsErrOf};
+ghost use Rattle.std.specs.List.{All};
+ghost use Rattle.outside.specs.Counts.{NoneFell, OnlyReads};
 ghost use Rattle.cue_sheet.specs.Places.{IsPlace};
-ghost use Rattle.sync_survey.specs.Faults.{tells};
-ghost use Rattle.sync_survey.specs.Survey.{survey_of, IsLaidOut};
-ghost use Rattle.commands.specs.One.{most_frames};
 ghost use Rattle.commands.specs.Command.{HoldsStreams, clash_of};
 ghost use Rattle.commands.specs.Left.{seen, IsDone, Leaves, HasNumbers};
-ghost use Rattle.splitting.specs.Split.{piece_names, split_at_command, split_by_command, split_command_of, ArePoints};
-ghost use Rattle.splitting.specs.Steps.{IsMadeOf, IsSplitFault, IsOfSplit};
+ghost use Rattle.splitting.specs.Split.{placing_of, split_command_of, ArePoints};
+ghost use Rattle.splitting.specs.Steps.{Says, IsPlacesFault, IsOfPlaces};
 
 use crate::names::is_piece_name;
 use crate::piece::make_pieces;
@@ -21,107 +17,6 @@ use cue_sheet::Place;
 use laying::Buffers;
 use outside::Folder;
 use std::alloc::Global;
-use sync_survey::Survey;
-
-/// Writes the pieces of a surveyed input. All memory is taken before the first output is created.
-fn split_surveyed<D: Folder>(
-    alloc: Global,
-    folder: &mut D,
-    input: &str,
-    survey: &Survey,
-    places: &[Place],
-    prefix: &str,
-) -> Result<(), EditFault>
-    requires apart { list_any (bytes_eq input.now) (piece_names prefix.now) ≡ false }
-    requires there { IsThere (D.files folder.old) input.now }
-    requires laid { IsLaidOut (tells survey.now) }
-    requires few { length (tells survey.now).frames ≤ 2900000 }
-    requires surveyed { (bytes : List ℕ) → Holds (D.files folder.old) input.now bytes
-        → survey_of bytes most_frames ≡ Ok (tells survey.now) }
-    requires places { All IsPlace places.now }
-    requires some { 1 ≤ length places.now }
-    requires most { length places.now ≤ 100 }
-    ensures written { OnOk result (IsMadeOf input.now (tells survey.now) places.now prefix.now
-        (D.files folder.old) (D.files folder.new)) }
-    ensures told { is_some (D.files folder.new) ≡ is_some (D.files folder.old) }
-    ensures done { OnOk result (D.counts folder.new ≡ D.counts folder.old) }
-    ensures left { IfErr result (IsSplitFault input.now (tells survey.now) places.now prefix.now
-        (seen (D.files folder.old) (D.counts folder.old))
-        (seen (D.files folder.new) (D.counts folder.new))) }
-    ensures numbers { IfErr result IsOfSplit }
-    ensures counts { NoneFell (D.counts folder.old) (D.counts folder.new) }
-{
-    let pieces = make_pieces(alloc, survey, places, prefix)?;
-    let mut buffers = Buffers::new(alloc, survey.class())?;
-    write_pieces(folder, input, survey, pieces, &mut buffers)
-}
-
-/// Splits at places that are given.
-fn split_at<D: Folder>(
-    alloc: Global,
-    folder: &mut D,
-    input: &str,
-    places: &[Place],
-    prefix: &str,
-) -> Result<(), EditFault>
-    requires places { All IsPlace places.now }
-    requires some { 2 ≤ length places.now }
-    requires most { length places.now ≤ 100 }
-    ensures done { OnOk result (IsDone (split_at_command places.now input.now prefix.now)
-        (seen (D.files folder.old) (D.counts folder.old))
-        (seen (D.files folder.new) (D.counts folder.new))) }
-    ensures left { IfErr result (Leaves (split_at_command places.now input.now prefix.now)
-        (seen (D.files folder.old) (D.counts folder.old))
-        (seen (D.files folder.new) (D.counts folder.new))) }
-    // Over a folder that tells nothing too.
-    ensures numbers { IfErr result (HasNumbers (split_at_command places.now input.now prefix.now)) }
-    ensures names { (place : ℕ) → IsErrOf result (EditFault.EqualNames place)
-        ↔ (clash_of (split_at_command places.now input.now prefix.now) ≡ Some place) }
-    // The input is well-formed, and each piece holds at most one lead-in and then exactly its frames of the input's stream.
-    ensures streams { OnOk result (HoldsStreams (split_at_command places.now input.now prefix.now)
-        (D.files folder.old)) }
-    ensures counts { NoneFell (D.counts folder.old) (D.counts folder.new) }
-{
-    if is_piece_name(prefix, input) {
-        return Err(EditFault::EqualNames(0));
-    }
-    let survey = survey_at(alloc, folder, input, 0, MOST_FRAMES)?;
-    split_surveyed(alloc, folder, input, &survey, places, prefix)
-}
-
-/// Splits at the places that a cue sheet says: each start of a track, and the end behind the last.
-fn split_by<D: Folder>(
-    alloc: Global,
-    folder: &mut D,
-    input: &str,
-    sheet: &str,
-    prefix: &str,
-) -> Result<(), EditFault>
-    ensures done { OnOk result (IsDone (split_by_command input.now sheet.now prefix.now)
-        (seen (D.files folder.old) (D.counts folder.old))
-        (seen (D.files folder.new) (D.counts folder.new))) }
-    ensures left { IfErr result (Leaves (split_by_command input.now sheet.now prefix.now)
-        (seen (D.files folder.old) (D.counts folder.old))
-        (seen (D.files folder.new) (D.counts folder.new))) }
-    // Over a folder that tells nothing too.
-    ensures numbers { IfErr result (HasNumbers (split_by_command input.now sheet.now prefix.now)) }
-    ensures names { (place : ℕ) → IsErrOf result (EditFault.EqualNames place)
-        ↔ (clash_of (split_by_command input.now sheet.now prefix.now) ≡ Some place) }
-    // The input is well-formed, and each piece holds at most one lead-in and then exactly its frames of the input's stream.
-    ensures streams { OnOk result (HoldsStreams (split_by_command input.now sheet.now prefix.now)
-        (D.files folder.old)) }
-    ensures counts { NoneFell (D.counts folder.old) (D.counts folder.new) }
-{
-    if is_piece_name(prefix, input) {
-        return Err(EditFault::EqualNames(0));
-    }
-    if is_piece_name(prefix, sheet) {
-        return Err(EditFault::EqualNames(1));
-    }
-    let survey = survey_at(alloc, folder, input, 0, MOST_FRAMES)?;
-    let places = sheet_places(alloc, folder, sheet)?;
-    split_surveyed(alloc, folder, input, &survey, places.as_slice(), prefix)
-}
 
 /// Where a file is cut.
 #[derive(Clone, Copy)]
@@ -130,6 +25,54 @@ pub enum Points<'a> {
     Places(&'a [Place]),
     /// At each start of a track that the cue sheet of this name says, and at the end.
     Sheet(&'a str),
+}
+
+/// The number of the first input that has the name of a piece, however many pieces there are.
+fn clash(input: &str, points: &Points<'_>, prefix: &str) -> Option<u32>
+    ensures { result ≡ clash_of (split_command_of points.now input.now prefix.now) }
+{
+    if is_piece_name(prefix, input) {
+        return Some(0);
+    }
+    match *points {
+        Points::Places(_) => None,
+        Points::Sheet(sheet) => {
+            if is_piece_name(prefix, sheet) {
+                Some(1)
+            } else {
+                None
+            }
+        }
+    }
+}
+
+/// The places where the file is cut: those that are given, or each start that a cue sheet says and the end. The files stay.
+///
+/// # Errors
+/// As at `sheet_places`; `Memory`.
+fn places_of<D: Folder>(
+    alloc: Global,
+    folder: &mut D,
+    points: &Points<'_>,
+) -> Result<Vec<Place>, EditFault>
+    requires { ArePoints points.now }
+    ensures places { IfOk result (λ places. Says (placing_of points.now) (D.files folder.old)
+        (Ok places.items)) }
+    ensures sound { IfOk result (λ places. All IsPlace places.items) }
+    ensures some { IfOk result (λ places. 2 ≤ length places.items) }
+    ensures most { IfOk result (λ places. length places.items ≤ 100) }
+    ensures refused { IfErr result (IsPlacesFault (placing_of points.now)
+        (seen (D.files folder.old) (D.counts folder.old))
+        (seen (D.files folder.new) (D.counts folder.new))) }
+    ensures numbers { IfErr result (IsOfPlaces points.now) }
+    ensures done { OnOk result (D.counts folder.new ≡ D.counts folder.old) }
+    ensures files { D.files folder.new ≡ D.files folder.old }
+    ensures counts { OnlyReads (D.counts folder.old) (D.counts folder.new) }
+{
+    match *points {
+        Points::Places(places) => Ok(places.to_vec(alloc)?),
+        Points::Sheet(sheet) => sheet_places(alloc, folder, sheet),
+    }
 }
 
 /// Writes the pieces of the input, which are the frames from each place on and before the next, with all main data. Each is
@@ -172,8 +115,12 @@ pub fn split<D: Folder>(
         (D.files folder.old)) }
     ensures counts { NoneFell (D.counts folder.old) (D.counts folder.new) }
 {
-    match *points {
-        Points::Places(places) => split_at(alloc, folder, input, places, prefix),
-        Points::Sheet(sheet) => split_by(alloc, folder, input, sheet, prefix),
+    if let Some(place) = clash(input, points, prefix) {
+        return Err(EditFault::EqualNames(place));
     }
+    let survey = survey_at(alloc, folder, input, 0, MOST_FRAMES)?;
+    let places = places_of(alloc, folder, points)?;
+    let pieces = make_pieces(alloc, &survey, places.as_slice(), prefix)?;
+    let mut buffers = Buffers::new(alloc, survey.class())?;
+    write_pieces(folder, input, &survey, pieces, &mut buffers)
 }

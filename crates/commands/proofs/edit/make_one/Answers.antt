@@ -3,7 +3,7 @@ use Rattle.std.proofs.Common.{◌≡◌, ◌∙◌, ap₂, sym, None, rules}
 use Rattle.std.proofs.lemmas.Result.{err_from_is_err_and}
 use Rattle.commands.specs.Left.{seen}
 use Rattle.commands.specs.One.{clash_in}
-use Rattle.commands.proofs.MakeLaws.{clash_left, early_left, one_done, one_left, one_streams}
+use Rattle.commands.proofs.MakeLaws.{source_apart, clash_left, early_left, one_done, one_left, proper_holds, one_streams}
 use Rattle.commands.proofs.edit.make_one.Goals as goal
 
 pub returns-in-Some-clause-left : goal.returns-in-Some-clause-left
@@ -15,6 +15,12 @@ returns-in_err-work-clause-left g c =
     let free : clash_in (g.E.Edit.task edit) c.args.output.now ≡ None = search rules in
     let p = err_from_is_err_and c.from_residual.result c.from_residual.ensures.1 in
     rw (p.1, p.2) (early_left (g.E.Edit.task edit) c.args.output.now free c.requires.proper.late _ _ _ c.in_err-work.ensures.refused)
+
+pub write_output-requires-clause-apart : goal.write_output-requires-clause-apart
+write_output-requires-clause-apart g c =
+    let edit = c.args.edit.now in
+    let free : clash_in (g.E.Edit.task edit) c.args.output.now ≡ None = search rules in
+    source_apart (g.E.Edit.task edit).inputs (g.E.Edit.task edit).source c.args.output.now c.requires.proper.some c.requires.proper.first free
 
 pub returns-clause-done : goal.returns-clause-done
 returns-clause-done g c =
@@ -34,4 +40,5 @@ pub returns-clause-streams : goal.returns-clause-streams
 returns-clause-streams g c =
     let edit = c.args.edit.now in
     let free : clash_in (g.E.Edit.task edit) c.args.output.now ≡ None = search rules in
-    one_streams (g.E.Edit.task edit) c.args.output.now free (g.E.Edit.file_of c.in_ok-work.work) c.requires.proper.streams _ c.in_ok-work.ensures.making c.write_output.result
+    one_streams (g.E.Edit.task edit) c.args.output.now free (g.E.Edit.file_of c.in_ok-work.work) _ c.in_ok-work.ensures.making
+    (proper_holds (g.E.Edit.task edit) c.args.output.now free (g.E.Edit.file_of c.in_ok-work.work) c.requires.proper.streams _ c.in_ok-work.ensures.making) c.write_output.result

@@ -1,11 +1,10 @@
 -- All frames, with what the head tells.
-use Rattle.std.proofs.Common.{◌≡◌, ℕ, ◌<◌, ◌&&◌, true, List, length, Option, Result, Ok, refl, sym, ◌∙◌, ap, rules}
+use Rattle.std.proofs.Common.{◌≡◌, ℕ, ◌<◌, ◌&&◌, true, List, length, Option, Ok, refl, sym, ◌∙◌, ap, rules}
 use Rattle.std.specs.Prelude.{nat_lt, nat_le}
-use Rattle.commands.specs.declared.fault.EditFault.{EditFault}
 use Rattle.laying.specs.Written.{head_info}
 use Rattle.sync_survey.specs.Faults.{SurveyFields, tells}
 use Rattle.frame_edits.specs.declared.chosen.Slots.{Slots}
-use Rattle.frame_edits.specs.Chosen.{Chosen, chosen_with, all_choice}
+use Rattle.frame_edits.specs.Chosen.{chosen_with, all_choice}
 use Rattle.frame_edits.proofs.choice.all_choice.Goals as goal
 
 inside : (n : ℕ) → 0 < n → (nat_lt 0 n && nat_le n n) ≡ true
@@ -20,9 +19,6 @@ unfolding all_choice
 choice_is bytes s slots quality extension same kept =
     let n = length s.frames in
     sym (ap (λ (q : Option ℕ). chosen_with q extension 0 n slots n) same ∙ ap (λ (x : List ℕ). chosen_with (head_info bytes s.head).quality x 0 n slots n) kept)
-
-ok_all : Slots → Option ℕ → List ℕ → ℕ → Result Chosen EditFault
-ok_all slots quality extension n = Ok (record { from = 0; to = n; slots = slots; quality = quality; extension = extension })
 
 pub returns-clause-chosen : goal.returns-clause-chosen
 returns-clause-chosen g c bytes holds =

@@ -1,302 +1,108 @@
 -- One input after another.
-use Rattle.std.proofs.Common.{◌≡◌, ℕ, ◌+◌, ◌-◌, List, [], ◌∷◌, length, map, take, drop, string_bytes, refl, sym, ◌∙◌, ap, ap₂, subst, arith}
-use Rattle.std.proofs.lemmas.List.{length-map, length-drop, drop-drop, drop_all}
-use Rattle.frame_header.specs.Tables.{window_of}
-use Rattle.part_needs.specs.Needs.{need_of, needs_of}
-use Rattle.frame_writer.specs.Frames.{reach_of}
+use Rattle.std.proofs.Common.{◌+◌, ◌-◌, length, map, take, drop, string_bytes, refl, sym, ◌∙◌, ap, arith}
+use Rattle.std.proofs.lemmas.List.{length-map, length-drop, take_rest, drop-drop, drop_all}
+use Rattle.outside.proofs.PassLaws.{cause_later}
 use Rattle.sync_survey.specs.Faults.{tells}
-use Rattle.slot_plan.specs.declared.needs.Placed.{Placed}
-use Rattle.laying.specs.Relaid.{relaid}
-use Rattle.laying.specs.Fits.{FitsFrom, last_reach}
-use Rattle.frame_writer.specs.Writing.{IsWriterOf}
-use Rattle.laying.specs.Passing.{Lays, LaysPart, writing_in}
-use Rattle.outside.proofs.PassLaws.{still_there, cause_later}
-use Rattle.laying.proofs.PassLaws.{lays_none, lays_as}
-use Rattle.laying.proofs.EndLaws.{new-behind}
-use Rattle.laying.proofs.RelayLaws.{LaysUpTo, lays-all}
-use Rattle.joining.specs.Inputs.{rows_of}
-use Rattle.joining.specs.Laying.{places_for, own_places, input_frames, input_reach, AreSources}
-use Rattle.joining.proofs.LayLaws.{map-next, rest-is, sources-drop, input-own, reach-own, part-as, told_frames, told-none, source-later}
+use Rattle.laying.specs.Passing.{Lays, writing_in}
+use Rattle.laying.proofs.EndLaws.{new-behind, lays-written, lays-prefix, part-prefix}
+use Rattle.joining.specs.Laying.{all_laid}
 use Rattle.joining.proofs.StreamLaws.{sources-length}
-use Rattle.joining.proofs.StepLaws.{fits-input, step-lays, step-part}
+use Rattle.joining.proofs.StepLaws.{source-ready, laid-none, laid-all, next-source, next-class, next-fits, next-laid, next-part}
+use Rattle.joining.proofs.laid.lay_all.Given as given
 use Rattle.joining.proofs.laid.lay_all.Goals as goal
+use Rattle.joining.proofs.laid.lay_all.Goals.{After-finish}
 
 pub loop-i-init : goal.loop-i-init
 loop-i-init g c =
-    let files = g.D.Folder.files c.args.folder.now in
+    let first = c.args.first.now in
     record {
       within = omega arith;
-      class = refl;
-      fits = c.requires.fits;
-      unsettled = c.requires.new.unsettled;
-      lays = λ name apart. record {
-        made = λ file. [];
-        lays = lays_none name c.args.output.now (λ file. []) (writing_in c.args.buffers.now) files c.requires.target (λ file holds. refl);
-        left = λ file holds. refl;
-      };
+      laid = laid-none (tells first.survey.now).class first.pass.input.now first.pass.output.now (writing_in c.args.buffers.now) (g.D.Folder.files c.args.folder.now) (map string_bytes c.args.inputs.now) (map tells c.args.surveys.now) c.args.placed.now
+          c.requires.sources c.requires.target c.requires.new c.requires.fits;
       counts = refl;
     }
 
-pub bounds-surveys-i : goal.bounds-surveys-i
-bounds-surveys-i g c =
-    let names = map string_bytes c.args.inputs.now in
-    let ss = map tells c.args.surveys.now in
-    let lengths = sources-length c.args.buffers.now.writer.class c.args.output.now (g.D.Folder.files c.args.folder.now) names ss c.requires.sources in
-    omega (arith, c.loop-i-test.true, lengths, length-map c.args.inputs.now string_bytes, length-map c.args.surveys.now tells)
+pub known_at-survey-requires : goal.known_at-survey-requires
+known_at-survey-requires g c =
+    omega (
+      arith,
+      c.loop-i-test.true,
+      sources-length (tells c.args.first.now.survey.now).class c.args.first.now.pass.output.now (g.D.Folder.files c.args.folder.now) (map string_bytes c.args.inputs.now) (map tells c.args.surveys.now) c.requires.sources,
+      length-map c.args.inputs.now string_bytes,
+      length-map c.args.surveys.now tells,
+    )
 
-pub lay_input-requires-clause-source : goal.lay_input-requires-clause-source
-lay_input-requires-clause-source g c =
-    let names = map string_bytes c.args.inputs.now in
-    let ss = map tells c.args.surveys.now in
-    let i = c.loop-i.i in
-    let at = c.loop-i.at in
-    let name = c.as_str.result.now in
-    let s = tells c.index-surveys-i.result in
-    let class = c.args.buffers.now.writer.class in
-    let output = c.args.output.now in
-    let files = g.D.Folder.files in
-    let first = files c.args.folder.now in
-    let now = files c.loop-i.folder in
-    let placed = c.args.placed.now in
-    let inv = c.loop-i.invariant in
-    let lengths = sources-length class output first names ss c.requires.sources in
-    let next : drop i names ≡ name ∷ drop (i + 1) names =
-    map-next string_bytes c.args.inputs.now i c.index-inputs-i.result (omega (arith, c.loop-i-test.true)) c.index-inputs-i.is ∙ ap (λ n. n ∷ drop (i + 1) names) (sym c.as_str.ensures.value) in
-    let next_survey : drop i ss ≡ s ∷ drop (i + 1) ss =
-    map-next tells c.args.surveys.now i c.index-surveys-i.result (omega (arith, c.loop-i-test.true, lengths, length-map c.args.inputs.now string_bytes, length-map c.args.surveys.now tells)) c.index-surveys-i.is in
-    let are : AreSources class output first (name ∷ drop (i + 1) names) (s ∷ drop (i + 1) ss) =
-    subst (λ l. AreSources class output first l (s ∷ drop (i + 1) ss)) next (subst (λ l. AreSources class output first (drop i names) l) next_survey (sources-drop class output first i names ss c.requires.sources)) in
-    let fits : FitsFrom (window_of class.version) (reach_of c.loop-i.buffers.writer) (needs_of (rows_of (s ∷ drop (i + 1) ss))) (drop at placed) =
-    subst (λ l. FitsFrom (window_of class.version) (reach_of c.loop-i.buffers.writer) (needs_of (rows_of l)) (drop at placed)) next_survey inv.fits in
-    let sofar = (inv.lays name are.0.apart).lays in
-    source-later output first now now name s (drop at placed) (writing_in c.loop-i.buffers) (writing_in c.loop-i.buffers) are.0 sofar.passed sofar.files
+pub lay_whole-requires-clause-ready : goal.lay_whole-requires-clause-ready
+lay_whole-requires-clause-ready g c =
+    source-ready _ _ _ (next-source c.name_at.ensures c.known_at-survey.ensures refl c.loop-i.invariant.laid) c.loop-i.invariant.laid.target c.length.ensures (c.clear.ensures.fed _ _)
 
-pub lay_input-requires-clause-target : goal.lay_input-requires-clause-target
-lay_input-requires-clause-target g c =
-    let names = map string_bytes c.args.inputs.now in
-    let ss = map tells c.args.surveys.now in
-    let i = c.loop-i.i in
-    let at = c.loop-i.at in
-    let name = c.as_str.result.now in
-    let s = tells c.index-surveys-i.result in
-    let class = c.args.buffers.now.writer.class in
-    let output = c.args.output.now in
-    let files = g.D.Folder.files in
-    let first = files c.args.folder.now in
-    let now = files c.loop-i.folder in
-    let placed = c.args.placed.now in
-    let inv = c.loop-i.invariant in
-    let lengths = sources-length class output first names ss c.requires.sources in
-    let next : drop i names ≡ name ∷ drop (i + 1) names =
-    map-next string_bytes c.args.inputs.now i c.index-inputs-i.result (omega (arith, c.loop-i-test.true)) c.index-inputs-i.is ∙ ap (λ n. n ∷ drop (i + 1) names) (sym c.as_str.ensures.value) in
-    let next_survey : drop i ss ≡ s ∷ drop (i + 1) ss =
-    map-next tells c.args.surveys.now i c.index-surveys-i.result (omega (arith, c.loop-i-test.true, lengths, length-map c.args.inputs.now string_bytes, length-map c.args.surveys.now tells)) c.index-surveys-i.is in
-    let are : AreSources class output first (name ∷ drop (i + 1) names) (s ∷ drop (i + 1) ss) =
-    subst (λ l. AreSources class output first l (s ∷ drop (i + 1) ss)) next (subst (λ l. AreSources class output first (drop i names) l) next_survey (sources-drop class output first i names ss c.requires.sources)) in
-    let fits : FitsFrom (window_of class.version) (reach_of c.loop-i.buffers.writer) (needs_of (rows_of (s ∷ drop (i + 1) ss))) (drop at placed) =
-    subst (λ l. FitsFrom (window_of class.version) (reach_of c.loop-i.buffers.writer) (needs_of (rows_of l)) (drop at placed)) next_survey inv.fits in
-    let sofar = (inv.lays name are.0.apart).lays in
-    still_there first now output sofar.passed output sofar.files c.requires.target
+pub lay_whole-requires-clause-class : goal.lay_whole-requires-clause-class
+lay_whole-requires-clause-class g c = next-class c.name_at.ensures c.known_at-survey.ensures refl c.loop-i.invariant.laid
 
-pub lay_input-requires-clause-class : goal.lay_input-requires-clause-class
-lay_input-requires-clause-class g c =
-    let names = map string_bytes c.args.inputs.now in
-    let ss = map tells c.args.surveys.now in
-    let i = c.loop-i.i in
-    let at = c.loop-i.at in
-    let name = c.as_str.result.now in
-    let s = tells c.index-surveys-i.result in
-    let class = c.args.buffers.now.writer.class in
-    let output = c.args.output.now in
-    let files = g.D.Folder.files in
-    let first = files c.args.folder.now in
-    let now = files c.loop-i.folder in
-    let placed = c.args.placed.now in
-    let inv = c.loop-i.invariant in
-    let lengths = sources-length class output first names ss c.requires.sources in
-    let next : drop i names ≡ name ∷ drop (i + 1) names =
-    map-next string_bytes c.args.inputs.now i c.index-inputs-i.result (omega (arith, c.loop-i-test.true)) c.index-inputs-i.is ∙ ap (λ n. n ∷ drop (i + 1) names) (sym c.as_str.ensures.value) in
-    let next_survey : drop i ss ≡ s ∷ drop (i + 1) ss =
-    map-next tells c.args.surveys.now i c.index-surveys-i.result (omega (arith, c.loop-i-test.true, lengths, length-map c.args.inputs.now string_bytes, length-map c.args.surveys.now tells)) c.index-surveys-i.is in
-    let are : AreSources class output first (name ∷ drop (i + 1) names) (s ∷ drop (i + 1) ss) =
-    subst (λ l. AreSources class output first l (s ∷ drop (i + 1) ss)) next (subst (λ l. AreSources class output first (drop i names) l) next_survey (sources-drop class output first i names ss c.requires.sources)) in
-    let fits : FitsFrom (window_of class.version) (reach_of c.loop-i.buffers.writer) (needs_of (rows_of (s ∷ drop (i + 1) ss))) (drop at placed) =
-    subst (λ l. FitsFrom (window_of class.version) (reach_of c.loop-i.buffers.writer) (needs_of (rows_of l)) (drop at placed)) next_survey inv.fits in
-    let sofar = (inv.lays name are.0.apart).lays in
-    inv.class ∙ sym are.1
-
-pub lay_input-requires-clause-fits : goal.lay_input-requires-clause-fits
-lay_input-requires-clause-fits g c =
-    let names = map string_bytes c.args.inputs.now in
-    let ss = map tells c.args.surveys.now in
-    let i = c.loop-i.i in
-    let at = c.loop-i.at in
-    let name = c.as_str.result.now in
-    let s = tells c.index-surveys-i.result in
-    let class = c.args.buffers.now.writer.class in
-    let output = c.args.output.now in
-    let files = g.D.Folder.files in
-    let first = files c.args.folder.now in
-    let now = files c.loop-i.folder in
-    let placed = c.args.placed.now in
-    let inv = c.loop-i.invariant in
-    let lengths = sources-length class output first names ss c.requires.sources in
-    let next : drop i names ≡ name ∷ drop (i + 1) names =
-    map-next string_bytes c.args.inputs.now i c.index-inputs-i.result (omega (arith, c.loop-i-test.true)) c.index-inputs-i.is ∙ ap (λ n. n ∷ drop (i + 1) names) (sym c.as_str.ensures.value) in
-    let next_survey : drop i ss ≡ s ∷ drop (i + 1) ss =
-    map-next tells c.args.surveys.now i c.index-surveys-i.result (omega (arith, c.loop-i-test.true, lengths, length-map c.args.inputs.now string_bytes, length-map c.args.surveys.now tells)) c.index-surveys-i.is in
-    let are : AreSources class output first (name ∷ drop (i + 1) names) (s ∷ drop (i + 1) ss) =
-    subst (λ l. AreSources class output first l (s ∷ drop (i + 1) ss)) next (subst (λ l. AreSources class output first (drop i names) l) next_survey (sources-drop class output first i names ss c.requires.sources)) in
-    let fits : FitsFrom (window_of class.version) (reach_of c.loop-i.buffers.writer) (needs_of (rows_of (s ∷ drop (i + 1) ss))) (drop at placed) =
-    subst (λ l. FitsFrom (window_of class.version) (reach_of c.loop-i.buffers.writer) (needs_of (rows_of l)) (drop at placed)) next_survey inv.fits in
-    let sofar = (inv.lays name are.0.apart).lays in
-    let left = drop at placed in
-    let own : take c.places_for-count.result (take (length placed - at) (drop at placed)) ≡ own_places (length s.frames) left =
-    ap₂ (λ n (l : List Placed). take n l) (c.places_for-count.ensures.places ∙ ap₂ places_for (ap length c.frames.ensures) (rest-is placed at)) (rest-is placed at) in
-    subst (FitsFrom (window_of s.class.version) (reach_of c.loop-i.buffers.writer) (map need_of s.frames)) (sym own) (fits-input class (reach_of c.loop-i.buffers.writer) s (drop (i + 1) ss) (drop at placed) are.1 fits).0
+pub lay_whole-requires-clause-fits : goal.lay_whole-requires-clause-fits
+lay_whole-requires-clause-fits g c = next-fits c.name_at.ensures c.known_at-survey.ensures (sym (take_rest c.args.placed.now c.loop-i.at)) c.loop-i.invariant.laid
 
 pub returns-in-Err-clause-prefix : goal.returns-in-Err-clause-prefix
 returns-in-Err-clause-prefix g c =
-    let names = map string_bytes c.args.inputs.now in
-    let ss = map tells c.args.surveys.now in
-    let i = c.loop-i.i in
-    let at = c.loop-i.at in
-    let name = c.as_str.result.now in
-    let s = tells c.index-surveys-i.result in
-    let class = c.args.buffers.now.writer.class in
-    let output = c.args.output.now in
+    let first = c.args.first.now in
+    let b = c.args.buffers.now in
     let files = g.D.Folder.files in
-    let first = files c.args.folder.now in
-    let now = files c.loop-i.folder in
-    let placed = c.args.placed.now in
-    let inv = c.loop-i.invariant in
-    let lengths = sources-length class output first names ss c.requires.sources in
-    let next : drop i names ≡ name ∷ drop (i + 1) names =
-    map-next string_bytes c.args.inputs.now i c.index-inputs-i.result (omega (arith, c.loop-i-test.true)) c.index-inputs-i.is ∙ ap (λ n. n ∷ drop (i + 1) names) (sym c.as_str.ensures.value) in
-    let next_survey : drop i ss ≡ s ∷ drop (i + 1) ss =
-    map-next tells c.args.surveys.now i c.index-surveys-i.result (omega (arith, c.loop-i-test.true, lengths, length-map c.args.inputs.now string_bytes, length-map c.args.surveys.now tells)) c.index-surveys-i.is in
-    let are : AreSources class output first (name ∷ drop (i + 1) names) (s ∷ drop (i + 1) ss) =
-    subst (λ l. AreSources class output first l (s ∷ drop (i + 1) ss)) next (subst (λ l. AreSources class output first (drop i names) l) next_survey (sources-drop class output first i names ss c.requires.sources)) in
-    let fits : FitsFrom (window_of class.version) (reach_of c.loop-i.buffers.writer) (needs_of (rows_of (s ∷ drop (i + 1) ss))) (drop at placed) =
-    subst (λ l. FitsFrom (window_of class.version) (reach_of c.loop-i.buffers.writer) (needs_of (rows_of l)) (drop at placed)) next_survey inv.fits in
-    let sofar = (inv.lays name are.0.apart).lays in
-    let after = files c.lay_input.new.folder in
-    let old = writing_in c.loop-i.buffers in
-    let left = drop at placed in
-    let own : take c.places_for-count.result (take (length placed - at) (drop at placed)) ≡ own_places (length s.frames) left =
-    ap₂ (λ n (l : List Placed). take n l) (c.places_for-count.ensures.places ∙ ap₂ places_for (ap length c.frames.ensures) (rest-is placed at)) (rest-is placed at) in
-    let part : LaysPart name output (input_frames s left) (input_reach (reach_of old.held) s left) old now after =
-    part-as name output (input_frames s (own_places (length s.frames) left)) (input_frames s left) (input_reach (reach_of old.held) s (own_places (length s.frames) left)) (input_reach (reach_of old.held) s left) old now after
-    (λ file. input-own file s left) (reach-own (reach_of old.held) s left)
-    (subst (λ (l : List Placed). LaysPart name output (input_frames s l) (input_reach (reach_of old.held) s l) old now after) own c.in-Err.ensures.part) in
-    λ key apart.
-    let whole = inv.lays key apart in
-    let sofar_at = subst
-    (λ (l : List (List ℕ)). LaysUpTo key output (λ _. relaid (told_frames first names ss) placed) (λ _. relaid (told_frames first l (s ∷ drop (i + 1) ss)) (drop at placed)) (writing_in c.args.buffers.now) old first now) next
-    (subst (λ l. LaysUpTo key output (λ _. relaid (told_frames first names ss) placed) (λ _. relaid (told_frames first (drop i names) l) (drop at placed)) (writing_in c.args.buffers.now) old first now) next_survey whole) in
-    step-part class output first now after name s (drop (i + 1) names) (drop (i + 1) ss) (drop at placed) (writing_in c.args.buffers.now) old (λ _. relaid (told_frames first names ss) placed) are key apart sofar_at fits
-    (subst (λ (w : List ℕ). IsWriterOf w [] (writing_in c.args.buffers.now) []) c.requires.none (new-behind c.args.buffers.now.writer c.args.buffers.now.waiting c.requires.new)) part
+    let part = next-part c.name_at.ensures c.known_at-survey.ensures (sym (take_rest c.args.placed.now c.loop-i.at)) c.loop-i.invariant.laid c.requires.apart (files c.lay_whole.new.folder) c.in-Err.ensures.part in
+    part-prefix first.pass (all_laid (files c.args.folder.now) (map string_bytes c.args.inputs.now) (map tells c.args.surveys.now) c.args.placed.now) b.waiting (writing_in b) (files c.args.folder.now) (new-behind b.writer b.waiting c.requires.new) part.0 _ part.1
 
 pub returns-in-Err-clause-cause : goal.returns-in-Err-clause-cause
 returns-in-Err-clause-cause g c =
-    let names = map string_bytes c.args.inputs.now in
-    let ss = map tells c.args.surveys.now in
-    let i = c.loop-i.i in
-    let at = c.loop-i.at in
-    let name = c.as_str.result.now in
-    let s = tells c.index-surveys-i.result in
-    let class = c.args.buffers.now.writer.class in
-    let output = c.args.output.now in
-    let files = g.D.Folder.files in
-    let first = files c.args.folder.now in
-    let now = files c.loop-i.folder in
-    let placed = c.args.placed.now in
-    let inv = c.loop-i.invariant in
-    let lengths = sources-length class output first names ss c.requires.sources in
-    let next : drop i names ≡ name ∷ drop (i + 1) names =
-    map-next string_bytes c.args.inputs.now i c.index-inputs-i.result (omega (arith, c.loop-i-test.true)) c.index-inputs-i.is ∙ ap (λ n. n ∷ drop (i + 1) names) (sym c.as_str.ensures.value) in
-    let next_survey : drop i ss ≡ s ∷ drop (i + 1) ss =
-    map-next tells c.args.surveys.now i c.index-surveys-i.result (omega (arith, c.loop-i-test.true, lengths, length-map c.args.inputs.now string_bytes, length-map c.args.surveys.now tells)) c.index-surveys-i.is in
-    let are : AreSources class output first (name ∷ drop (i + 1) names) (s ∷ drop (i + 1) ss) =
-    subst (λ l. AreSources class output first l (s ∷ drop (i + 1) ss)) next (subst (λ l. AreSources class output first (drop i names) l) next_survey (sources-drop class output first i names ss c.requires.sources)) in
-    let fits : FitsFrom (window_of class.version) (reach_of c.loop-i.buffers.writer) (needs_of (rows_of (s ∷ drop (i + 1) ss))) (drop at placed) =
-    subst (λ l. FitsFrom (window_of class.version) (reach_of c.loop-i.buffers.writer) (needs_of (rows_of l)) (drop at placed)) next_survey inv.fits in
-    let sofar = (inv.lays name are.0.apart).lays in
-    let counts = g.D.Folder.counts in
+    let sofar = c.loop-i.invariant.laid.lays.lays in
     record {
-      place = i;
+      place = c.loop-i.i;
       size = c.length.result;
       pass = c.in-Err.fault;
       within = omega (arith, c.loop-i-test.true);
       is = c.of_pass.ensures;
-      cause = cause_later _ first now output sofar.passed (counts c.args.folder.now) (counts c.loop-i.folder) _ c.in-Err.fault sofar.files inv.counts c.in-Err.ensures.cause;
+      cause = cause_later _ _ _ c.args.first.now.pass.output.now sofar.passed _ _ _ c.in-Err.fault sofar.files c.loop-i.invariant.counts c.in-Err.ensures.cause;
     }
 
 pub loop-i-preserved : goal.loop-i-preserved
 loop-i-preserved g c =
-    let names = map string_bytes c.args.inputs.now in
-    let ss = map tells c.args.surveys.now in
-    let i = c.loop-i.i in
-    let at = c.loop-i.at in
-    let name = c.as_str.result.now in
-    let s = tells c.index-surveys-i.result in
-    let class = c.args.buffers.now.writer.class in
-    let output = c.args.output.now in
-    let files = g.D.Folder.files in
-    let first = files c.args.folder.now in
-    let now = files c.loop-i.folder in
     let placed = c.args.placed.now in
-    let inv = c.loop-i.invariant in
-    let lengths = sources-length class output first names ss c.requires.sources in
-    let next : drop i names ≡ name ∷ drop (i + 1) names =
-    map-next string_bytes c.args.inputs.now i c.index-inputs-i.result (omega (arith, c.loop-i-test.true)) c.index-inputs-i.is ∙ ap (λ n. n ∷ drop (i + 1) names) (sym c.as_str.ensures.value) in
-    let next_survey : drop i ss ≡ s ∷ drop (i + 1) ss =
-    map-next tells c.args.surveys.now i c.index-surveys-i.result (omega (arith, c.loop-i-test.true, lengths, length-map c.args.inputs.now string_bytes, length-map c.args.surveys.now tells)) c.index-surveys-i.is in
-    let are : AreSources class output first (name ∷ drop (i + 1) names) (s ∷ drop (i + 1) ss) =
-    subst (λ l. AreSources class output first l (s ∷ drop (i + 1) ss)) next (subst (λ l. AreSources class output first (drop i names) l) next_survey (sources-drop class output first i names ss c.requires.sources)) in
-    let fits : FitsFrom (window_of class.version) (reach_of c.loop-i.buffers.writer) (needs_of (rows_of (s ∷ drop (i + 1) ss))) (drop at placed) =
-    subst (λ l. FitsFrom (window_of class.version) (reach_of c.loop-i.buffers.writer) (needs_of (rows_of l)) (drop at placed)) next_survey inv.fits in
-    let sofar = (inv.lays name are.0.apart).lays in
-    let after = files c.lay_input.new.folder in
-    let old = writing_in c.loop-i.buffers in
-    let new = writing_in c.lay_input.new.buffers in
-    let k = c.places_for-count.result in
-    let window = window_of s.class.version in
-    let left = drop at placed in
-    let own : take c.places_for-count.result (take (length placed - at) (drop at placed)) ≡ own_places (length s.frames) left =
-    ap₂ (λ n (l : List Placed). take n l) (c.places_for-count.ensures.places ∙ ap₂ places_for (ap length c.frames.ensures) (rest-is placed at)) (rest-is placed at) in
-    let whole = λ (file : List ℕ). relaid (told_frames first names ss) placed in
-    let count : k ≡ places_for (length s.frames) left = c.places_for-count.ensures.places ∙ ap₂ places_for (ap length c.frames.ensures) (rest-is placed at) in
-    let behind : drop (places_for (length s.frames) left) left ≡ drop (at + k) placed = ap (λ n. drop n left) (sym count) ∙ drop-drop k at placed in
-    let reach : reach_of new.held ≡ last_reach window (reach_of old.held) (map need_of s.frames) left = c.in-Ok.ensures.reach ∙ ap (last_reach window (reach_of old.held) (map need_of s.frames)) own ∙ reach-own (reach_of old.held) s left in
-    let later = needs_of (rows_of (drop (i + 1) ss)) in
-    let lays : Lays name output (input_frames s left) old new now after =
-    lays_as name output (input_frames s (own_places (length s.frames) left)) (input_frames s left) old new now after (λ file holds. input-own file s left)
-    (subst (λ (l : List Placed). Lays name output (input_frames s l) old new now after) own c.in-Ok.ensures.lays) in
+    let at = c.loop-i.at in
+    let count = c.in-Ok.count in
+    let left = take_rest placed at in
+    let more = ap (λ n. drop n (take (length placed - at) (drop at placed))) (sym c.in-Ok.ensures.count) ∙ ap (drop count) left ∙ drop-drop count at placed in
     record {
-      within = omega (arith, c.places_for-count.ensures.within, ap length (rest-is placed at), length-drop at placed, inv.within);
-      class = c.in-Ok.ensures.class ∙ are.1;
-      fits = subst (λ n. FitsFrom (window_of class.version) n later (drop (at + k) placed)) (sym reach)
-          (subst (FitsFrom (window_of class.version) (last_reach window (reach_of old.held) (map need_of s.frames) left) later) behind (fits-input class (reach_of old.held) s (drop (i + 1) ss) left are.1 fits).1);
-      unsettled = c.in-Ok.ensures.unsettled;
-      lays = λ key apart.
-          let sofar_at = subst
-          (λ (l : List (List ℕ)). LaysUpTo key output whole (λ _. relaid (told_frames first l (s ∷ drop (i + 1) ss)) left) (writing_in c.args.buffers.now) old first now) next
-          (subst (λ l. LaysUpTo key output whole (λ _. relaid (told_frames first (drop i names) l) left) (writing_in c.args.buffers.now) old first now) next_survey (inv.lays key apart)) in
-          subst (λ (l : List Placed). LaysUpTo key output whole (λ _. relaid (told_frames first (drop (i + 1) names) (drop (i + 1) ss)) l) (writing_in c.args.buffers.now) new first after) behind
-          (step-lays class output first now after name s (drop (i + 1) names) (drop (i + 1) ss) left (writing_in c.args.buffers.now) old whole are key apart sofar_at new lays);
-      counts = c.in-Ok.ensures.done ∙ inv.counts;
+      within = omega (arith, c.in-Ok.ensures.within, ap length left, length-drop at placed, c.loop-i.invariant.within);
+      laid = next-laid c.name_at.ensures c.known_at-survey.ensures (sym left) c.loop-i.invariant.laid c.requires.apart (g.D.Folder.files c.lay_whole.new.folder) (writing_in c.lay_whole.new.buffers) (drop (at + count) placed) more
+          c.in-Ok.ensures.lays c.in-Ok.ensures.class c.in-Ok.ensures.reach c.in-Ok.ensures.unsettled;
+      counts = c.in-Ok.ensures.done ∙ c.loop-i.invariant.counts;
     }
 
-pub returns-clause-lays : goal.returns-clause-lays
-returns-clause-lays g c =
-    let names = map string_bytes c.args.inputs.now in
-    let ss = map tells c.args.surveys.now in
-    let i = c.loop-i.i in
-    let first = g.D.Folder.files c.args.folder.now in
-    let inv = c.loop-i.invariant in
-    let left = drop c.loop-i.at c.args.placed.now in
-    let none : drop i names ≡ [] = drop_all i names (omega (arith, c.loop-i-test.false, length-map c.args.inputs.now string_bytes)) in
-    λ key apart.
-    lays-all key c.args.output.now _ _ (writing_in c.args.buffers.now) (writing_in c.loop-i.buffers) _ _ (inv.lays key apart)
-    (λ file holds. ap (λ (l : List (List ℕ)). relaid (told_frames first l (drop i ss)) left) none ∙ told-none first (drop i ss) left)
+-- all of them were given to the writer
+laid_all : (g : given.Over) (c : After-finish g) → Lays c.args.first.now.pass.input.now c.args.first.now.pass.output.now (all_laid (g.D.Folder.files c.args.folder.now) (map string_bytes c.args.inputs.now) (map tells c.args.surveys.now) c.args.placed.now)
+    (writing_in c.args.buffers.now) (writing_in c.loop-i.buffers) (g.D.Folder.files c.args.folder.now) (g.D.Folder.files c.loop-i.folder)
+laid_all g c = laid-all (drop_all c.loop-i.i (map string_bytes c.args.inputs.now) (omega (arith, c.loop-i-test.false, length-map c.args.inputs.now string_bytes))) c.loop-i.invariant.laid
+
+pub returns-in-Ok-finish-clause-written : goal.returns-in-Ok-finish-clause-written
+returns-in-Ok-finish-clause-written g c =
+    let b = c.args.buffers.now in
+    let files = g.D.Folder.files in
+    lays-written c.args.first.now.pass (all_laid (files c.args.folder.now) (map string_bytes c.args.inputs.now) (map tells c.args.surveys.now) c.args.placed.now) b.waiting (writing_in b) (files c.args.folder.now) (new-behind b.writer b.waiting c.requires.new)
+    (writing_in c.loop-i.buffers) (files c.loop-i.folder) (laid_all g (goal.at.returns-in-Ok-finish-clause-written g c).After-finish) c.finish.new.unsent (files c.finish.new.folder) c.in-Ok-finish.ensures.passed
+
+pub returns-in-Err-finish-clause-prefix : goal.returns-in-Err-finish-clause-prefix
+returns-in-Err-finish-clause-prefix g c =
+    let b = c.args.buffers.now in
+    let files = g.D.Folder.files in
+    lays-prefix c.args.first.now.pass (all_laid (files c.args.folder.now) (map string_bytes c.args.inputs.now) (map tells c.args.surveys.now) c.args.placed.now) b.waiting (writing_in b) (files c.args.folder.now) (new-behind b.writer b.waiting c.requires.new)
+    (writing_in c.loop-i.buffers) (files c.loop-i.folder) (laid_all g (goal.at.returns-in-Err-finish-clause-prefix g c).After-finish) (files c.finish.new.folder) c.in-Err-finish.ensures.prefix
+
+pub returns-in-Err-finish-clause-cause : goal.returns-in-Err-finish-clause-cause
+returns-in-Err-finish-clause-cause g c =
+    let sofar = c.loop-i.invariant.laid.lays.lays in
+    record {
+      place = 0;
+      size = c.args.first.now.pass.length;
+      pass = c.in-Err-finish.fault;
+      within = omega (arith, c.requires.some);
+      is = c.of_pass-in-Err-finish.ensures;
+      cause = cause_later _ _ _ c.args.first.now.pass.output.now sofar.passed _ _ _ c.in-Err-finish.fault sofar.files c.loop-i.invariant.counts c.in-Err-finish.ensures.cause;
+    }

@@ -21,15 +21,20 @@ row-is : (rows : List Row) (x first : Row) → slice_get rows 0 ≡ Some first �
 row-is [] x first found = absurd cc
 row-is (r ∷ rows) x first found = let same : r ≡ first = cc in same
 
-pub returns-clause-info : goal.returns-clause-info
-returns-clause-info c =
+pub returns : goal.returns
+returns c =
     let ss = map tells c.args.surveys.now in
     let s = tells c.index-surveys-0.result in
     let some : 0 < length c.args.surveys.now = omega (arith, can-some ss c.requires, length-map c.args.surveys.now tells) in
-    joined-info ss (entries c.in_ok-plan.plan) c.write_info.new.into.items s c.requires (first-of tells c.args.surveys.now c.index-surveys-0.result some c.index-surveys-0.is)
-    (λ frames slots first found.
-    c.write_info.ensures
-    ∙ ap₂ info_frame
-    (ap (λ (r : Row). r.header) (row-is c.frames.result.now c.index-frames-0.result first (ap (λ (l : List Row). slice_get l 0) c.frames.ensures ∙ found)))
-    (c.info_of-fields.ensures.info frames (slots ∙ sym (ap (map (λ (p : Placed). p.slot)) c.placed.ensures))
-    ∙ ap₂ (λ (k : ClassFields) (n : Kept). info_for k frames n.quality n.extension) c.class.ensures c.none.ensures))
+    record {
+      joined = c.requires;
+      plan = c.in_ok-plan.ensures.plan;
+      fits = c.in_ok-plan.ensures.fits;
+      info = joined-info ss (entries c.in_ok-plan.plan) c.write_info.new.into.items s c.requires (first-of tells c.args.surveys.now c.index-surveys-0.result some c.index-surveys-0.is)
+          (λ frames slots first found.
+          c.write_info.ensures
+          ∙ ap₂ info_frame
+          (ap (λ (r : Row). r.header) (row-is c.frames.result.now c.index-frames-0.result first (ap (λ (l : List Row). slice_get l 0) c.frames.ensures ∙ found)))
+          (c.info_of-fields.ensures.info frames (slots ∙ sym (ap (map (λ (p : Placed). p.slot)) c.placed.ensures))
+          ∙ ap₂ (λ (k : ClassFields) (n : Kept). info_for k frames n.quality n.extension) c.class.ensures c.none.ensures));
+    }

@@ -7,19 +7,19 @@ use Rattle.listing.proofs.list_file.list.Goals as goal
 pub returns-in_err-survey-clause-left : goal.returns-in_err-survey-clause-left
 returns-in_err-survey-clause-left g c =
     let p = err_from_is_err_and c.from_residual.result c.from_residual.ensures.1 in
-    rw (p.1, p.2) (survey_left c.args.input.now (g.D.Folder.files c.args.folder.now) _ _ _ c.survey.ensures.files _ c.in_err-survey.ensures.refused)
+    rw (p.1, p.2) (survey_left c.args.input.now _ _ _ c.in_err-survey.ensures.refused)
 
 pub returns-in-Ok-clause-done : goal.returns-in-Ok-clause-done
 returns-in-Ok-clause-done g c =
     let known = c.in_ok-survey.ensures in
-    is_done c.args.input.now (g.D.Folder.files c.args.folder.now) _ _ _ c.survey.ensures.files known.done (tells c.in_ok-survey.survey) known.there known.exact
+    is_done c.args.input.now (g.D.Folder.files c.args.folder.now) _ _ _ c.survey_at.ensures.files known.done (tells c.in_ok-survey.survey) known.there known.surveyed
 
 pub returns-in-Ok-clause-streams : goal.returns-in-Ok-clause-streams
 returns-in-Ok-clause-streams g c =
     let known = c.in_ok-survey.ensures in
-    holds_streams c.args.input.now (g.D.Folder.files c.args.folder.now) _ _ _ c.survey.ensures.files known.done (tells c.in_ok-survey.survey) known.there known.exact
+    holds_streams c.args.input.now (g.D.Folder.files c.args.folder.now) _ _ _ c.survey_at.ensures.files known.done (tells c.in_ok-survey.survey) known.there known.surveyed
 
 pub returns-clause-left : goal.returns-clause-left
 returns-clause-left g c =
     let known = c.in_ok-survey.ensures in
-    unsent c.args.input.now (g.D.Folder.files c.args.folder.now) _ _ _ c.survey.ensures.files known.done (tells c.in_ok-survey.survey) known.there known.exact
+    unsent c.args.input.now (g.D.Folder.files c.args.folder.now) _ _ _ c.survey_at.ensures.files known.done (tells c.in_ok-survey.survey) known.there known.surveyed

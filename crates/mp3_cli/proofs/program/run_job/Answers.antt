@@ -9,10 +9,10 @@ use Rattle.pack_mode.specs.declared.mode.PackMode.{PackMode}
 use Rattle.pack_mode.specs.declared.mode.PackMode.TheVariants.{Least, Constant, Floor, Best}
 use Rattle.packing.specs.Modes.{pack_task, pack_mode_command}
 use Rattle.splitting.specs.Split.{split_at_command, split_by_command, given, told_by}
-use Rattle.joining.specs.Join.{join_command}
+use Rattle.joining.specs.Join.{join_task, join_command}
 use Rattle.mp3_cli.specs.Texts.{help_text, version_text}
 use Rattle.mp3_cli.specs.Run.{result_line, line_of, GetsLine}
-use Rattle.mp3_cli.proofs.RunLaws.{said_answers, command_answers, one_silent, split_silent, join_silent}
+use Rattle.mp3_cli.proofs.RunLaws.{said_answers, command_answers, one_silent, split_silent}
 use Rattle.mp3_cli.proofs.program.run_job.Goals as goal
 
 some_help : Some help_text ≢ Some []
@@ -101,6 +101,6 @@ returns-in-Join-clause-answers g c =
     subst (λ (names : List (List ℕ)). GetsLine (heard (g.E.Sink.sent c.args.err.now) (g.E.Sink.faults c.args.err.now)) (heard (g.E.Sink.sent c.report-in-Join.new.err) (g.E.Sink.faults c.report-in-Join.new.err)) (result_line names (c.in-Join.output.now ∷ []) (fault_of c.join-done.result)))
     names_are c.report-in-Join.ensures.line in
     rw c.in-Join.is
-    (command_answers command (join_silent c.in-Join.output.now (map string_bytes c.in-Join.inputs.now)) c.join-done.result
+    (command_answers command (one_silent (join_task (map string_bytes c.in-Join.inputs.now)) c.in-Join.output.now) c.join-done.result
     (seen (g.D.Folder.files c.args.folder.now) (g.D.Folder.counts c.args.folder.now)) (seen (g.D.Folder.files c.join-done.new.folder) (g.D.Folder.counts c.join-done.new.folder))
     _ _ _ _ c.join-done.ensures.done c.join-done.ensures.left c.join-done.ensures.numbers c.join-done.ensures.names c.report-in-Join.ensures.status line)

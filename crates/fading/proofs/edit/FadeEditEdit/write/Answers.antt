@@ -1,8 +1,7 @@
 -- The output was created, and the input stayed.
 use Rattle.std.proofs.Common.{sym, subst}
 use Rattle.outside.specs.Files.{IsThere, Holds}
-use Rattle.outside.proofs.FilesLaws.{emptied_there, emptied_keeps}
-use Rattle.commands.proofs.OutputLaws.{emptied_held}
+use Rattle.outside.proofs.FilesLaws.{emptied_there, emptied_keeps, emptied_held_other}
 use Rattle.fading.proofs.edit.FadeEditEdit.write.Goals as goal
 
 pub write_changed-requires-clause-source : goal.write_changed-requires-clause-source
@@ -18,7 +17,7 @@ write_changed-requires-clause-target g c =
 pub write_changed-requires-clause-exact : goal.write_changed-requires-clause-exact
 write_changed-requires-clause-exact g c file holds =
     let old = c.requires.created in
-    old.1.surveyed file (emptied_held old.0 c.args.self.now.input.now c.args.output.now file c.requires.apart (subst (λ f. Holds f c.args.self.now.input.now file) old.2 holds))
+    old.1.surveyed file (emptied_held_other old.0 c.args.output.now c.args.self.now.input.now file c.requires.apart (subst (λ f. Holds f c.args.self.now.input.now file) old.2 holds))
 
 pub write_changed-requires-clause-fresh : goal.write_changed-requires-clause-fresh
 write_changed-requires-clause-fresh g c = c.requires.created.1.fresh _ _

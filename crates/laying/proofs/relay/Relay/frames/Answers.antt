@@ -1,5 +1,5 @@
 -- One place of the plan after another.
-use Rattle.std.proofs.Common.{◌≡◌, get_or, ℕ, ◌+◌, ◌<◌, cond, List, [], ◌∷◌, ◌++◌, length, map, drop, refl, sym, ◌∙◌, ap, subst, arith, append_assoc}
+use Rattle.std.proofs.Common.{◌≡◌, get_or, ℕ, ◌+◌, ◌<◌, ◌≤◌, cond, List, [], ◌∷◌, ◌++◌, length, map, drop, refl, sym, ◌∙◌, ap, subst, arith, append_assoc}
 use Rattle.std.specs.Prelude.{slice_range, slice_get, Some}
 use Rattle.std.proofs.lemmas.List.{drop_all}
 use Rattle.std.proofs.lemmas.Result.{err_from_is_err_and}
@@ -10,16 +10,19 @@ use Rattle.outside.proofs.PassedLaws.{on_err}
 use Rattle.frame_writer.specs.Laid.{BeginsWithin}
 use Rattle.frame_writer.specs.Frames.{Frame, reach_of, pieces}
 use Rattle.sync_survey.specs.declared.rows.Row.{Row}
-use Rattle.sync_survey.specs.Faults.{tells}
+use Rattle.slot_plan.specs.declared.needs.Placed.{Placed}
+use Rattle.sync_survey.specs.Faults.{SurveyFields, tells}
 use Rattle.laying.specs.Relaid.{frame_of, all_frames, placed_as, relaid}
-use Rattle.laying.specs.Fits.{reach_behind, FitsFrom, last_reach}
+use Rattle.laying.specs.Fits.{bytes_at, area_at, reach_behind, FitsFrom, last_reach}
 use Rattle.laying.proofs.HoldLaws.{needs-range}
 use Rattle.laying.proofs.ReadLaws.{survey-surveyed}
 use Rattle.outside.proofs.PassLaws.{cause_later}
 use Rattle.laying.specs.Passing.{writing_in}
 use Rattle.laying.proofs.PassLaws.{lays_none, lays_then, part_then}
 use Rattle.laying.proofs.RelayLaws.{found-at, fits-some, item-next, fits-next, last-next, relaid-next, fits-none, relaid-end, begins-left, part_more, step-most, lays-all}
+use Rattle.laying.proofs.relay.Relay.frames.Given as given
 use Rattle.laying.proofs.relay.Relay.frames.Goals as goal
+use Rattle.laying.proofs.relay.Relay.frames.Goals.{After-place-item, After-index-rows-i}
 
 pub loop-place-init : goal.loop-place-init
 loop-place-init g c =
@@ -40,132 +43,97 @@ loop-place-init g c =
       counts = refl;
     }
 
+-- frame i at the place that is next
+module _ (g : given.Over) (c : After-index-rows-i g) where
+  abbrev s : SurveyFields
+  s = tells c.args.self.now.survey.now
+
+  abbrev p : Placed
+  p = c.place-item.result
+
+  abbrev row : Row
+  row = c.index-rows-i.result
+
+  abbrev i : ℕ
+  i = c.loop-place.i
+
+  abbrev to : ℕ
+  to = c.args.to
+
+  abbrev more : List Placed
+  more = drop (c.loop-place.place-index + 1) c.args.placed.now
+
+  abbrev window : ℕ
+  window = window_of s.class.version
+
+  abbrev reach : ℕ
+  reach = reach_of c.loop-place.buffers.writer
+
+  left : drop c.loop-place.place-index c.args.placed.now ≡ p ∷ more
+  left = item-next c.args.placed.now c.loop-place.place-index p (omega (arith, c.loop-place-test.true)) c.place-item.is
+
+  fits : FitsFrom window reach (map need_of (slice_range s.frames i to)) (p ∷ more)
+  fits = subst (FitsFrom window reach (map need_of (slice_range s.frames i to))) left c.loop-place.invariant.fits
+
+  some : i < to
+  some = fits-some window reach s i to p more fits
+
+  found : slice_get s.frames i ≡ Some row
+  found = found-at s.frames i row (omega (arith, some, c.requires.within)) (c.index-rows-i.is ∙ ap (λ (l : List Row). get_or l i row) c.frames-rows.ensures)
+
+  module _ (next : ℕ) (next_is : next ≡ i + cond p.lead_in 0 1) where
+    opened : (p.begin ≤ reach) × (bytes_at p.lead_in (need_of row) ≤ p.begin + area_at p (need_of row)) × FitsFrom window (reach_behind window p (need_of row)) (map need_of (slice_range s.frames next to)) more
+    opened = fits-next s i to next row p more found some next_is window reach fits
+
+    last_is : last_reach window (reach_behind window p (need_of row)) (map need_of (slice_range s.frames next to)) more
+        ≡ last_reach window (reach_of c.args.buffers.now.writer) (map need_of (slice_range s.frames c.args.from to)) c.args.placed.now
+    last_is = sym (ap (last_reach window reach (map need_of (slice_range s.frames i to))) left ∙ last-next s i to next row p more found some next_is window reach) ∙ c.loop-place.invariant.reach
+
+    abbrev one : List ℕ → List Frame
+    one file = placed_as p (frame_of file s i row) ∷ []
+
+    abbrev rest : List ℕ → List Frame
+    rest file = relaid (slice_range (all_frames file s) next to) more
+
+    split : (file : List ℕ) → Holds (g.D.Folder.files c.args.folder.now) c.args.self.now.pass.input.now file → (c.loop-place.invariant.lays.made file ++ one file) ++ rest file ≡ relaid (slice_range (all_frames file s) c.args.from to) c.args.placed.now
+    split file holds =
+        append_assoc (c.loop-place.invariant.lays.made file) (one file) (rest file)
+        ∙ ap (λ (l : List Frame). c.loop-place.invariant.lays.made file ++ l) (sym (ap (relaid (slice_range (all_frames file s) i to)) left ∙ relaid-next s i to next row p more found some next_is file))
+        ∙ sym (c.loop-place.invariant.lays.left file holds)
+
 pub place-requires-clause-found : goal.place-requires-clause-found
-place-requires-clause-found g c =
-    let self = c.args.self.now in
-    let s = tells self.survey.now in
-    let input = self.pass.input.now in
-    let output = self.pass.output.now in
-    let apart = c.requires.ready.pass.apart in
-    let window = window_of s.class.version in
-    let placed = c.args.placed.now in
-    let from = c.args.from in
-    let to = c.args.to in
-    let i = c.loop-place.i in
-    let k = c.loop-place.place-index in
-    let now = writing_in c.loop-place.buffers in
-    let inv = c.loop-place.invariant in
-    let p = c.place-item.result in
-    let row = c.index-rows-i.result in
-    let more = drop (k + 1) placed in
-    let left : drop k placed ≡ p ∷ more = item-next placed k p (omega (arith, c.loop-place-test.true)) c.place-item.is in
-    let some : i < to = fits-some window (reach_of now.held) s i to p more (subst (FitsFrom window (reach_of now.held) (map need_of (slice_range s.frames i to))) left inv.fits) in
-    let got : (slice_get s.frames i ≡ Some row) × (i < to) =
-    (found-at s.frames i row (omega (arith, some, c.requires.within)) (c.index-rows-i.is ∙ ap (λ (l : List Row). get_or l i row) c.frames-rows.ensures), some) in
-    let fits = subst (FitsFrom window (reach_of now.held) (map need_of (slice_range s.frames i to))) left inv.fits in
-    got.0
+place-requires-clause-found g c = found g (goal.at.place-requires-clause-found g c).After-index-rows-i
 
 pub place-requires-clause-begin : goal.place-requires-clause-begin
-place-requires-clause-begin g c =
-    let self = c.args.self.now in
-    let s = tells self.survey.now in
-    let input = self.pass.input.now in
-    let output = self.pass.output.now in
-    let apart = c.requires.ready.pass.apart in
-    let window = window_of s.class.version in
-    let placed = c.args.placed.now in
-    let from = c.args.from in
-    let to = c.args.to in
-    let i = c.loop-place.i in
-    let k = c.loop-place.place-index in
-    let now = writing_in c.loop-place.buffers in
-    let inv = c.loop-place.invariant in
-    let p = c.place-item.result in
-    let row = c.index-rows-i.result in
-    let more = drop (k + 1) placed in
-    let left : drop k placed ≡ p ∷ more = item-next placed k p (omega (arith, c.loop-place-test.true)) c.place-item.is in
-    let some : i < to = fits-some window (reach_of now.held) s i to p more (subst (FitsFrom window (reach_of now.held) (map need_of (slice_range s.frames i to))) left inv.fits) in
-    let got : (slice_get s.frames i ≡ Some row) × (i < to) =
-    (found-at s.frames i row (omega (arith, some, c.requires.within)) (c.index-rows-i.is ∙ ap (λ (l : List Row). get_or l i row) c.frames-rows.ensures), some) in
-    let fits = subst (FitsFrom window (reach_of now.held) (map need_of (slice_range s.frames i to))) left inv.fits in
-    let next = i + cond p.lead_in 0 1 in
-    let opened = fits-next s i to next row p more got.0 got.1 refl window (reach_of now.held) fits in
-    opened.0
+place-requires-clause-begin g c = (opened g (goal.at.place-requires-clause-begin g c).After-index-rows-i _ refl).0
 
 pub place-requires-clause-within : goal.place-requires-clause-within
-place-requires-clause-within g c =
-    let self = c.args.self.now in
-    let s = tells self.survey.now in
-    let input = self.pass.input.now in
-    let output = self.pass.output.now in
-    let apart = c.requires.ready.pass.apart in
-    let window = window_of s.class.version in
-    let placed = c.args.placed.now in
-    let from = c.args.from in
-    let to = c.args.to in
-    let i = c.loop-place.i in
-    let k = c.loop-place.place-index in
-    let now = writing_in c.loop-place.buffers in
-    let inv = c.loop-place.invariant in
-    let p = c.place-item.result in
-    let row = c.index-rows-i.result in
-    let more = drop (k + 1) placed in
-    let left : drop k placed ≡ p ∷ more = item-next placed k p (omega (arith, c.loop-place-test.true)) c.place-item.is in
-    let some : i < to = fits-some window (reach_of now.held) s i to p more (subst (FitsFrom window (reach_of now.held) (map need_of (slice_range s.frames i to))) left inv.fits) in
-    let got : (slice_get s.frames i ≡ Some row) × (i < to) =
-    (found-at s.frames i row (omega (arith, some, c.requires.within)) (c.index-rows-i.is ∙ ap (λ (l : List Row). get_or l i row) c.frames-rows.ensures), some) in
-    let fits = subst (FitsFrom window (reach_of now.held) (map need_of (slice_range s.frames i to))) left inv.fits in
-    let next = i + cond p.lead_in 0 1 in
-    let opened = fits-next s i to next row p more got.0 got.1 refl window (reach_of now.held) fits in
-    opened.1
+place-requires-clause-within g c = (opened g (goal.at.place-requires-clause-within g c).After-index-rows-i _ refl).1
 
 pub returns-in_err-i-clause-part : goal.returns-in_err-i-clause-part
 returns-in_err-i-clause-part g c =
+    let at = (goal.at.returns-in_err-i-clause-part g c).After-index-rows-i in
     let self = c.args.self.now in
     let s = tells self.survey.now in
-    let input = self.pass.input.now in
-    let output = self.pass.output.now in
-    let apart = c.requires.ready.pass.apart in
-    let window = window_of s.class.version in
-    let placed = c.args.placed.now in
-    let from = c.args.from in
-    let to = c.args.to in
-    let i = c.loop-place.i in
-    let k = c.loop-place.place-index in
-    let now = writing_in c.loop-place.buffers in
-    let inv = c.loop-place.invariant in
+    let files = g.D.Folder.files in
+    let sofar = c.loop-place.invariant.lays in
     let p = c.place-item.result in
     let row = c.index-rows-i.result in
-    let more = drop (k + 1) placed in
-    let left : drop k placed ≡ p ∷ more = item-next placed k p (omega (arith, c.loop-place-test.true)) c.place-item.is in
-    let some : i < to = fits-some window (reach_of now.held) s i to p more (subst (FitsFrom window (reach_of now.held) (map need_of (slice_range s.frames i to))) left inv.fits) in
-    let got : (slice_get s.frames i ≡ Some row) × (i < to) =
-    (found-at s.frames i row (omega (arith, some, c.requires.within)) (c.index-rows-i.is ∙ ap (λ (l : List Row). get_or l i row) c.frames-rows.ensures), some) in
-    let fits = subst (FitsFrom window (reach_of now.held) (map need_of (slice_range s.frames i to))) left inv.fits in
-    let next = i + cond p.lead_in 0 1 in
-    let next_is : next ≡ i + cond p.lead_in 0 1 = refl in
-    let opened = fits-next s i to next row p more got.0 got.1 next_is window (reach_of now.held) fits in
-    let files = g.D.Folder.files in
+    let to = c.args.to in
+    let placed = c.args.placed.now in
+    let window = window_of s.class.version in
     let reach = reach_behind window p (need_of row) in
-    let one = λ (file : List ℕ). placed_as p (frame_of file s i row) ∷ [] in
-    let rest = λ (file : List ℕ). relaid (slice_range (all_frames file s) next to) more in
-    let sofar = inv.lays in
-    let last_is : last_reach window reach (map need_of (slice_range s.frames next to)) more ≡ last_reach window (reach_of c.args.buffers.now.writer) (map need_of (slice_range s.frames from to)) placed =
-    sym (ap (last_reach window (reach_of now.held) (map need_of (slice_range s.frames i to))) left ∙ last-next s i to next row p more got.0 got.1 next_is window (reach_of now.held)) ∙ inv.reach in
-    let split : (file : List ℕ) → Holds (files c.args.folder.now) input file → (sofar.made file ++ one file) ++ rest file ≡ relaid (slice_range (all_frames file s) from to) placed =
-    λ file holds.
-    append_assoc (sofar.made file) (one file) (rest file)
-    ∙ ap (λ (l : List Frame). sofar.made file ++ l) (sym (ap (relaid (slice_range (all_frames file s) i to)) left ∙ relaid-next s i to next row p more got.0 got.1 next_is file))
-    ∙ sym (sofar.left file holds) in
+    let next = c.loop-place.i + cond p.lead_in 0 1 in
+    let last = last_reach window (reach_of c.args.buffers.now.writer) (map need_of (slice_range s.frames c.args.from to)) placed in
+    let one = λ (file : List ℕ). placed_as p (frame_of file s c.loop-place.i row) ∷ [] in
     on_err c.from_residual.result
-    (part_more input output (λ file. sofar.made file ++ one file) rest (λ file. relaid (slice_range (all_frames file s) from to) placed) reach (last_reach window (reach_of c.args.buffers.now.writer) (map need_of (slice_range s.frames from to)) placed)
-    (writing_in c.args.buffers.now) (files c.args.folder.now) (files c.place.new.folder)
+    (part_more self.pass.input.now self.pass.output.now (λ file. sofar.made file ++ one file) (rest g at next refl) (λ file. relaid (slice_range (all_frames file s) c.args.from to) placed) reach last (writing_in c.args.buffers.now) (files c.args.folder.now) (files c.place.new.folder)
     (λ file holds later begins.
     let has = c.requires.ready.exact file holds in
-    begins-left window reach (map need_of (slice_range s.frames next to)) (slice_range (all_frames file s) next to) more later (needs-range file has.0 s next to (survey-surveyed file has.0 s has.1)) opened.2
-    (subst (λ n. BeginsWithin n (pieces later)) (sym last_is) begins))
-    split
-    (part_then input output sofar.made one (writing_in c.args.buffers.now) now (files c.args.folder.now) (files c.loop-place.folder) apart sofar.lays reach (files c.place.new.folder) c.in_err-i.ensures.part))
+    begins-left window reach (map need_of (slice_range s.frames next to)) (slice_range (all_frames file s) next to) (drop (c.loop-place.place-index + 1) placed) later (needs-range file has.0 s next to (survey-surveyed file has.0 s has.1)) (opened g at next refl).2
+    (subst (λ n. BeginsWithin n (pieces later)) (sym (last_is g at next refl)) begins))
+    (split g at next refl)
+    (part_then self.pass.input.now self.pass.output.now sofar.made one (writing_in c.args.buffers.now) (writing_in c.loop-place.buffers) (files c.args.folder.now) (files c.loop-place.folder) c.requires.ready.pass.apart sofar.lays reach (files c.place.new.folder) c.in_err-i.ensures.part))
 
 pub returns-in_err-i-clause-cause : goal.returns-in_err-i-clause-cause
 returns-in_err-i-clause-cause g c =
@@ -177,54 +145,30 @@ returns-in_err-i-clause-cause g c =
 
 pub loop-place-preserved : goal.loop-place-preserved
 loop-place-preserved g c =
+    let at = (goal.at.loop-place-preserved g c).After-index-rows-i in
     let self = c.args.self.now in
     let s = tells self.survey.now in
-    let input = self.pass.input.now in
-    let output = self.pass.output.now in
-    let apart = c.requires.ready.pass.apart in
-    let window = window_of s.class.version in
-    let placed = c.args.placed.now in
-    let from = c.args.from in
-    let to = c.args.to in
-    let i = c.loop-place.i in
-    let k = c.loop-place.place-index in
-    let now = writing_in c.loop-place.buffers in
+    let files = g.D.Folder.files in
     let inv = c.loop-place.invariant in
     let p = c.place-item.result in
-    let row = c.index-rows-i.result in
-    let more = drop (k + 1) placed in
-    let left : drop k placed ≡ p ∷ more = item-next placed k p (omega (arith, c.loop-place-test.true)) c.place-item.is in
-    let some : i < to = fits-some window (reach_of now.held) s i to p more (subst (FitsFrom window (reach_of now.held) (map need_of (slice_range s.frames i to))) left inv.fits) in
-    let got : (slice_get s.frames i ≡ Some row) × (i < to) =
-    (found-at s.frames i row (omega (arith, some, c.requires.within)) (c.index-rows-i.is ∙ ap (λ (l : List Row). get_or l i row) c.frames-rows.ensures), some) in
-    let fits = subst (FitsFrom window (reach_of now.held) (map need_of (slice_range s.frames i to))) left inv.fits in
-    let next = c.in_ok-i.i in
     let next_is = c.in_ok-i.ensures.next in
-    let opened = fits-next s i to next row p more got.0 got.1 next_is window (reach_of now.held) fits in
-    let files = g.D.Folder.files in
-    let reach = reach_behind window p (need_of row) in
-    let one = λ (file : List ℕ). placed_as p (frame_of file s i row) ∷ [] in
-    let rest = λ (file : List ℕ). relaid (slice_range (all_frames file s) next to) more in
-    let sofar = inv.lays in
-    let last_is : last_reach window reach (map need_of (slice_range s.frames next to)) more ≡ last_reach window (reach_of c.args.buffers.now.writer) (map need_of (slice_range s.frames from to)) placed =
-    sym (ap (last_reach window (reach_of now.held) (map need_of (slice_range s.frames i to))) left ∙ last-next s i to next row p more got.0 got.1 next_is window (reach_of now.held)) ∙ inv.reach in
-    let split : (file : List ℕ) → Holds (files c.args.folder.now) input file → (sofar.made file ++ one file) ++ rest file ≡ relaid (slice_range (all_frames file s) from to) placed =
-    λ file holds.
-    append_assoc (sofar.made file) (one file) (rest file)
-    ∙ ap (λ (l : List Frame). sofar.made file ++ l) (sym (ap (relaid (slice_range (all_frames file s) i to)) left ∙ relaid-next s i to next row p more got.0 got.1 next_is file))
-    ∙ sym (sofar.left file holds) in
+    let needs = map need_of (slice_range s.frames c.in_ok-i.i c.args.to) in
+    let more = drop (c.loop-place.place-index + 1) c.args.placed.now in
+    let window = window_of s.class.version in
+    let one = λ (file : List ℕ). placed_as p (frame_of file s c.loop-place.i c.index-rows-i.result) ∷ [] in
     record {
       ready = c.in_ok-i.ensures.ready;
-      early = omega (arith, next_is, step-most p.lead_in, got.1);
+      early = omega (arith, next_is, step-most p.lead_in, some g at);
       over = c.in_ok-i.ensures.over;
       class = c.in_ok-i.ensures.class;
-      fits = subst (λ n. FitsFrom window n (map need_of (slice_range s.frames next to)) more) (sym c.in_ok-i.ensures.reach) opened.2;
-      reach = ap (λ n. last_reach window n (map need_of (slice_range s.frames next to)) more) c.in_ok-i.ensures.reach ∙ last_is;
+      fits = subst (λ n. FitsFrom window n needs more) (sym c.in_ok-i.ensures.reach) (opened g at c.in_ok-i.i next_is).2;
+      reach = ap (λ n. last_reach window n needs more) c.in_ok-i.ensures.reach ∙ last_is g at c.in_ok-i.i next_is;
       unsettled = c.in_ok-i.ensures.unsettled;
       lays = record {
-        made = λ file. sofar.made file ++ one file;
-        lays = lays_then input output sofar.made one (writing_in c.args.buffers.now) now (files c.args.folder.now) (files c.loop-place.folder) apart sofar.lays (writing_in c.place.new.buffers) (files c.place.new.folder) c.in_ok-i.ensures.lays;
-        left = λ file holds. sym (split file holds);
+        made = λ file. inv.lays.made file ++ one file;
+        lays = lays_then self.pass.input.now self.pass.output.now inv.lays.made one (writing_in c.args.buffers.now) (writing_in c.loop-place.buffers) (files c.args.folder.now) (files c.loop-place.folder) c.requires.ready.pass.apart inv.lays.lays (writing_in c.place.new.buffers) (files c.place.new.folder)
+            c.in_ok-i.ensures.lays;
+        left = λ file holds. sym (split g at c.in_ok-i.i next_is file holds);
       };
       counts = c.in_ok-i.ensures.done ∙ inv.counts;
     }
@@ -255,34 +199,21 @@ returns-clause-reach g c =
     let needs = map need_of (slice_range s.frames i c.args.to) in
     sym (ap (last_reach window reach needs) none ∙ fits-none window reach needs) ∙ inv.reach
 
-pub offset_bounds-rows-i : goal.offset_bounds-rows-i
-offset_bounds-rows-i g c =
-    let self = c.args.self.now in
-    let s = tells self.survey.now in
-    let window = window_of s.class.version in
+-- where there is a place, there is a frame
+bounded : (g : given.Over) (c : After-place-item g) → c.loop-place.i < length c.frames-rows.result.now
+bounded g c =
+    let s = tells c.args.self.now.survey.now in
     let placed = c.args.placed.now in
-    let to = c.args.to in
-    let i = c.loop-place.i in
     let k = c.loop-place.place-index in
-    let reach = reach_of c.loop-place.buffers.writer in
     let p = c.place-item.result in
-    let more = drop (k + 1) placed in
-    let left : drop k placed ≡ p ∷ more = item-next placed k p (omega (arith, c.loop-place-test.true)) c.place-item.is in
-    let some : i < to = fits-some window reach s i to p more (subst (FitsFrom window reach (map need_of (slice_range s.frames i to))) left c.loop-place.invariant.fits) in
-    omega (arith, some, c.requires.within, ap length c.frames-rows.ensures)
+    let window = window_of s.class.version in
+    let reach = reach_of c.loop-place.buffers.writer in
+    let left : drop k placed ≡ p ∷ drop (k + 1) placed = item-next placed k p (omega (arith, c.loop-place-test.true)) c.place-item.is in
+    let within = fits-some window reach s c.loop-place.i c.args.to p (drop (k + 1) placed) (subst (FitsFrom window reach (map need_of (slice_range s.frames c.loop-place.i c.args.to))) left c.loop-place.invariant.fits) in
+    omega (arith, within, c.requires.within, ap length c.frames-rows.ensures)
+
+pub offset_bounds-rows-i : goal.offset_bounds-rows-i
+offset_bounds-rows-i g c = let lt = bounded g (goal.at.offset_bounds-rows-i g c).After-place-item in omega (arith, lt)
 
 pub bounds-rows-i : goal.bounds-rows-i
-bounds-rows-i g c =
-    let self = c.args.self.now in
-    let s = tells self.survey.now in
-    let window = window_of s.class.version in
-    let placed = c.args.placed.now in
-    let to = c.args.to in
-    let i = c.loop-place.i in
-    let k = c.loop-place.place-index in
-    let reach = reach_of c.loop-place.buffers.writer in
-    let p = c.place-item.result in
-    let more = drop (k + 1) placed in
-    let left : drop k placed ≡ p ∷ more = item-next placed k p (omega (arith, c.loop-place-test.true)) c.place-item.is in
-    let some : i < to = fits-some window reach s i to p more (subst (FitsFrom window reach (map need_of (slice_range s.frames i to))) left c.loop-place.invariant.fits) in
-    omega (arith, some, c.requires.within, ap length c.frames-rows.ensures)
+bounds-rows-i g c = let lt = bounded g (goal.at.bounds-rows-i g c).After-place-item in omega (arith, lt)

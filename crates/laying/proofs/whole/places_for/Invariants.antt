@@ -1,7 +1,7 @@
 -- The places before are counted, and the frames that are left take the others.
 use Rattle.std.proofs.Common.{◌≡◌, ◌+◌, drop}
-use Rattle.joining.specs.Laying.{places_for}
-use Rattle.joining.proofs.laid.places_for.Given as goal
+use Rattle.laying.specs.Places.{places_for}
+use Rattle.laying.proofs.whole.places_for.Given as goal
 
 abbrev pub invariant-loop-place : goal.invariant-loop-place
 invariant-loop-place l = record {

@@ -2,10 +2,10 @@
 use Rattle.std.proofs.Common.{◌≡◌, ◌+◌, ◌-◌, ◌<◌, ◌∷◌, drop, ap, ◌∙◌, arith, rules}
 use Rattle.std.proofs.lemmas.List.{drop_all}
 use Rattle.laying.proofs.RelayLaws.{item-next}
-use Rattle.joining.specs.Laying.{frames_behind, places_for}
-use Rattle.joining.proofs.LayLaws.{places-none, places-end, places-next, behind-lead, behind-frame}
-use Rattle.joining.proofs.laid.places_for.Goals as goal
-use Rattle.joining.proofs.laid.places_for.Goals.{then-not-place, else-not-place}
+use Rattle.laying.specs.Places.{frames_behind, places_for}
+use Rattle.laying.proofs.PlacesLaws.{places-none, places-end, places-next, behind-lead, behind-frame}
+use Rattle.laying.proofs.whole.places_for.Goals as goal
+use Rattle.laying.proofs.whole.places_for.Goals.{then-not-place, else-not-place}
 
 pub returns-then-left-eq0-clause-places : goal.returns-then-left-eq0-clause-places
 returns-then-left-eq0-clause-places c =

@@ -1,0 +1,23 @@
+//! The inputs by their numbers.
+ghost use Rattle.std.specs.Prelude.{◌≡◌, ◌+◌, ◌<◌, ◌∷◌, length, map, drop, string_bytes};
+ghost use Rattle.sync_survey.specs.Faults.{tells};
+
+use sync_survey::Survey;
+
+/// The name of an input, counted from 0.
+pub(crate) fn name_at(inputs: &[String], place: usize) -> &str
+    requires { place < length inputs.now }
+    ensures { drop place (map string_bytes inputs.now)
+        ≡ result.now ∷ drop (place + 1) (map string_bytes inputs.now) }
+{
+    inputs[place].as_str()
+}
+
+/// What is known of an input, counted from 0.
+pub(crate) fn known_at(surveys: &[Survey], place: usize) -> &Survey
+    requires { place < length surveys.now }
+    ensures { drop place (map tells surveys.now)
+        ≡ tells result.now ∷ drop (place + 1) (map tells surveys.now) }
+{
+    &surveys[place]
+}

@@ -1,0 +1,78 @@
+//! All frames of an input, where those of other inputs go to the same writer.
+ghost use Rattle.std.specs.Prelude.{◌≡◌, ◌≤◌, length, map, IfOk, IfErr, OnOk, OnErr};
+ghost use Rattle.frame_header.specs.Tables.{window_of};
+ghost use Rattle.outside.specs.Pass.{HasPassCause};
+ghost use Rattle.part_needs.specs.Needs.{need_of};
+ghost use Rattle.frame_writer.specs.Frames.{reach_of, IsNextSettled};
+ghost use Rattle.sync_survey.specs.Faults.{tells};
+ghost use Rattle.laying.specs.Fits.{FitsFrom};
+ghost use Rattle.laying.specs.Passing.{IsReady, GivesFrames, GivesPart};
+ghost use Rattle.laying.specs.Places.{places_for as places_for_lem, own_places, whole_frames, whole_reach};
+
+use crate::buffers::Buffers;
+use crate::relay::Relay;
+use outside::{Folder, PassFault};
+use slot_plan::Placed;
+
+/// How many places of a plan so many frames take, with their lead-ins.
+fn places_for(frames: usize, placed: &[Placed]) -> usize
+    ensures places { result ≡ places_for_lem frames placed.now }
+    ensures within { result ≤ length placed.now }
+{
+    let mut left = frames;
+    let mut count = 0;
+    for place in placed {
+        if left == 0 {
+            return count;
+        }
+        if !place.lead_in {
+            left -= 1;
+        }
+        count += 1;
+    }
+    count
+}
+
+impl<'a> Relay<'a> {
+    /// Gives all frames of the input to the writer as the first of these places say, and answers how many places they take. The
+    /// window may hold whatever it does. It takes no memory.
+    ///
+    /// # Errors
+    /// As at `frames`.
+    pub fn lay_whole<D: Folder>(
+        &self,
+        folder: &mut D,
+        placed: &[Placed],
+        buffers: &mut Buffers,
+    ) -> Result<usize, PassFault>
+        requires ready { IsReady self.now (D.files folder.old) buffers.old.feed }
+        requires class { buffers.old.writer.class ≡ (tells self.now.survey.now).class }
+        requires fits { FitsFrom (window_of (tells self.now.survey.now).class.version)
+            (reach_of buffers.old.writer) (map need_of (tells self.now.survey.now).frames)
+            (own_places (length (tells self.now.survey.now).frames) placed.now) }
+        requires unsettled { IsNextSettled buffers.old.writer → ⊥ }
+        ensures lays { OnOk result (GivesFrames self.now
+            (whole_frames (tells self.now.survey.now) placed.now)
+            buffers.old buffers.new (D.files folder.old) (D.files folder.new)) }
+        ensures part { OnErr result (GivesPart self.now
+            (whole_frames (tells self.now.survey.now) placed.now)
+            (whole_reach (reach_of buffers.old.writer) (tells self.now.survey.now) placed.now)
+            buffers.old (D.files folder.old) (D.files folder.new)) }
+        ensures count { IfOk result (λ count. count ≡ places_for_lem
+            (length (tells self.now.survey.now).frames) placed.now) }
+        ensures within { IfOk result (λ count. count ≤ length placed.now) }
+        ensures reach { OnOk result (reach_of buffers.new.writer ≡
+            whole_reach (reach_of buffers.old.writer) (tells self.now.survey.now) placed.now) }
+        ensures class { OnOk result (buffers.new.writer.class ≡ (tells self.now.survey.now).class) }
+        ensures unsettled { OnOk result (IsNextSettled buffers.new.writer → ⊥) }
+        ensures done { OnOk result (D.counts folder.new ≡ D.counts folder.old) }
+        ensures cause { IfErr result (HasPassCause self.now.pass.length (D.files folder.old)
+            (D.counts folder.old) (D.counts folder.new)) }
+    {
+        self.read_before(folder, 0, &mut buffers.feed, &mut buffers.window)?;
+        let rows = self.survey.frames();
+        let count = places_for(rows.len(), placed);
+        self.frames(folder, 0, rows.len(), &placed[..count], buffers)?;
+        Ok(count)
+    }
+}
