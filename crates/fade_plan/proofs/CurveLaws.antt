@@ -1,9 +1,10 @@
 -- The last point up to a frame and the first one behind it, among points that are parted there.
 use Rattle.std.proofs.Common.{◌≡◌, ℕ, suc, ◌+◌, ◌-◌, ◌<◌, ◌≤◌, Bool, true, false, cond, nat_le, nat_lt, List, [], ◌∷◌, ◌++◌, length, get_or, take, drop, map, Some, None, option_map, refl, sym, ap, ap₂, subst, ◌∙◌, arith, length-drop, length-append}
 use Rattle.std.specs.Prelude.{reverse, find}
-use Rattle.std.specs.List.{All, slice_get}
+use Rattle.std.specs.List.{All, AllWithin, slice_get}
+use Rattle.std.specs.List.Sorted.{IsNonDecreasingBy}
 use Rattle.std.specs.Option.{option_or}
-use Rattle.std.proofs.lemmas.Bool.{leb-true, leb-false, lt-ltb, le-ltb}
+use Rattle.std.proofs.lemmas.Bool.{leb-true, leb-false, ltb-true, lt-ltb, le-ltb, le-leb, lt-leb}
 use Rattle.std.proofs.lemmas.List.{reverse-append, length-reverse, get_or-reverse, map-append, get_or-take, get_or-drop, take-append-drop, length-take-le, get_or_default, get_or-append_right}
 use Rattle.std.proofs.Math.ListN.{get_or-append}
 use Rattle.std.proofs.lemmas.Option.{none-some, get_or_from_slice_get}
@@ -191,3 +192,19 @@ first_kept frame points xs ys q parted all there =
       subst IsKept same (all (length xs) q (omega (arith, there.0, size))),
       leb-false q.frame frame (ap (up_to frame) first ∙ parted.back 0 q there.0),
     )
+
+-- ---- so many points of rising ones are up to a frame
+
+-- where the last of them is
+pub all_up_to : (frame : ℕ) (points : List Point) (count : ℕ) (e : Point) → IsNonDecreasingBy (λ p. p.frame) points → count ≤ length points → 0 < count → up_to frame (get_or points (count - 1) e) ≡ true
+    → AllWithin (λ p. nat_le p.frame frame ≡ true) points 0 count
+all_up_to frame points count e rising within some last k d from below =
+    let same : (get_or points (count - 1) e).frame ≡ (get_or points (count - 1) d).frame = ap (λ (p : Point). p.frame) (get_or_default points (count - 1) e d (omega (arith, within, some))) in
+    le-leb (get_or points k d).frame frame (omega (arith, rising k (count - 1) d (omega (arith, below)) (omega (arith, within, some)), leb-true _ _ last, same))
+
+-- and the others aren't, where the first of them isn't
+pub all_behind : (frame : ℕ) (points : List Point) (count : ℕ) (e : Point) → IsNonDecreasingBy (λ p. p.frame) points → count < length points → behind frame (get_or points count e) ≡ true
+    → AllWithin (λ p. nat_le p.frame frame ≡ false) points count (length points)
+all_behind frame points count e rising within first k d from below =
+    let same : (get_or points count e).frame ≡ (get_or points count d).frame = ap (λ (p : Point). p.frame) (get_or_default points count e d within) in
+    lt-leb (get_or points k d).frame frame (omega (arith, rising count k d from below, ltb-true _ _ first, same))

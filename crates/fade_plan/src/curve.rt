@@ -1,6 +1,6 @@
 //! Curves: the steps of every frame.
 ghost use Rattle.std.specs.Prelude.{◌≡◌, ◌<◌, ◌≤◌, ◌*◌, ◌^◌, ◌*ℤ◌, pos, int_div, length, map, true, false, nat_le, unsigned_abs};
-ghost use Rattle.std.specs.List.{All};
+ghost use Rattle.std.specs.List.{All, AllWithin};
 ghost use Rattle.std.specs.List.Sorted.{IsNonDecreasingBy, IsPartitionPoint};
 ghost use Rattle.fade_plan.specs.Points.{IsKept, in_curve};
 ghost use Rattle.fade_plan.specs.Curves.{steps_at as steps_at_lem, steps_between, steps_back};
@@ -17,6 +17,48 @@ fn count_up_to(points: &[Point], frame: u64) -> usize
     ensures within { result ≤ length points.now }
 {
     points.partition_point(|point| point.frame <= frame)
+}
+
+/// Whether so many points in front are all at or before the frame.
+fn are_up_to(points: &[Point], frame: u64, count: usize) -> bool
+    requires rising { IsNonDecreasingBy (λ point. point.frame) points.now }
+    requires within { count ≤ length points.now }
+    ensures { result ≡ true →
+        AllWithin (λ point. nat_le point.frame frame ≡ true) points.now 0 count }
+{
+    if count == 0 {
+        return true;
+    }
+    points[count - 1].frame <= frame
+}
+
+/// Whether all others are behind it.
+fn are_behind(points: &[Point], frame: u64, count: usize) -> bool
+    requires rising { IsNonDecreasingBy (λ point. point.frame) points.now }
+    requires within { count ≤ length points.now }
+    ensures { result ≡ true →
+        AllWithin (λ point. nat_le point.frame frame ≡ false) points.now count (length points.now) }
+{
+    if count == points.len() {
+        return true;
+    }
+    frame < points[count].frame
+}
+
+/// How many points are at or before the frame. As many as `near` are tried first, which saves the search where they are.
+#[inline]
+fn count_near(points: &[Point], frame: u64, near: usize) -> usize
+    requires { IsNonDecreasingBy (λ point. point.frame) points.now }
+    ensures parted { IsPartitionPoint
+        (λ point. nat_le point.frame frame ≡ true) (λ point. nat_le point.frame frame ≡ false)
+        points.now result }
+    ensures within { result ≤ length points.now }
+{
+    if near <= points.len() && are_up_to(points, frame, near) && are_behind(points, frame, near) {
+        near
+    } else {
+        count_up_to(points, frame)
+    }
 }
 
 /// Steps times so many frames.
@@ -53,14 +95,18 @@ fn steps_of_both(before: &Point, behind: &Point, frame: u64) -> i16
     even(left + passed, behind.frame - before.frame)
 }
 
-/// The steps of a frame.
-fn steps_at(points: &[Point], frame: u64) -> i16
+/// The steps of a frame, with so many points at or before it.
+#[inline]
+fn steps_at(points: &[Point], frame: u64, count: usize) -> i16
     requires kept { All IsKept points.now }
-    requires rising { IsNonDecreasingBy (λ point. point.frame) points.now }
+    requires parted { IsPartitionPoint
+        (λ point. nat_le point.frame frame ≡ true) (λ point. nat_le point.frame frame ≡ false)
+        points.now count }
+    requires within { count ≤ length points.now }
     ensures steps { result ≡ steps_at_lem (map in_curve points.now) frame }
     ensures most { unsigned_abs result ≤ 255 }
 {
-    let (up_to, behind) = points.split_at(count_up_to(points, frame));
+    let (up_to, behind) = points.split_at(count);
     match (up_to.last(), behind.first()) {
         (Some(before), Some(behind)) => steps_of_both(before, behind, frame),
         (Some(last), None) => last.steps,
@@ -108,7 +154,19 @@ impl Curve {
         ensures steps { result ≡ steps_back back (steps_at_lem self.now frame) }
         ensures most { unsigned_abs result ≤ 255 }
     {
-        let steps = steps_at(&self.points, u64::from(frame));
+        self.steps_near(frame, back, &mut 0)
+    }
+
+    /// The same, sooner for frames one after another: `near` is how many points were at or before the last one that was
+    /// asked for, and becomes that of this frame. With any other number the steps are the same.
+    #[inline]
+    pub fn steps_near(&self, frame: u32, back: bool, near: &mut usize) -> i16
+        ensures steps { result ≡ steps_back back (steps_at_lem self.now frame) }
+        ensures most { unsigned_abs result ≤ 255 }
+    {
+        let frame = u64::from(frame);
+        *near = count_near(&self.points, frame, *near);
+        let steps = steps_at(&self.points, frame, *near);
         if back { opposite(steps) } else { steps }
     }
 }

@@ -34,8 +34,9 @@ fn first_fault(course: &Course, rows: &[Row]) -> Option<Refusal>
     requires few { length rows.now < 2 ^ 32 }
     ensures { result ≡ range_fault_lem (steps_over course.now rows.now) rows.now }
 {
+    let mut near = 0;
     for (frame, row) in rows.iter().enumerate() {
-        let steps = course.steps(frame as u32);
+        let steps = course.steps(frame as u32, &mut near);
         if let Some(fault) = fault_at(u64::from(row.offset), stuck_of(&steps, row)) {
             return Some(fault);
         }

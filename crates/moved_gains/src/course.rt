@@ -27,14 +27,15 @@ pub enum Course {
 }
 
 impl Course {
-    /// The steps of a frame, counted from 0. Takes no memory.
+    /// The steps of a frame, counted from 0, whatever `near` is: 0 at first, it is for a curve that is asked for frames one
+    /// after another (`Curve::steps_near`). Takes no memory.
     #[inline]
-    pub fn steps(&self, frame: u32) -> Steps
+    pub fn steps(&self, frame: u32, near: &mut usize) -> Steps
         ensures { result ≡ steps_in self.now frame }
     {
         match self {
             Course::Even(steps) => *steps,
-            Course::Along(curve, back) => alike(curve.steps(frame, *back)),
+            Course::Along(curve, back) => alike(curve.steps_near(frame, *back, near)),
         }
     }
 }

@@ -265,9 +265,10 @@ impl<'a> GainPass<'a> {
             (D.counts folder.old) (D.counts folder.new)) }
     {
         let mut at = from;
+        let mut near = 0;
         for (frame, row) in rows.iter().enumerate() {
             self.copy(folder, at, u64::from(row.offset), buffers)?;
-            let steps = self.course.steps(frame as u32);
+            let steps = self.course.steps(frame as u32, &mut near);
             at = self.move_frame(folder, &MovedRow { row, steps }, buffers)?;
         }
         self.copy(folder, at, self.pass.length, buffers)
