@@ -1,6 +1,6 @@
 -- By no step, a file without fault gives its own bytes but for the junk, and its own stream.
 use Rattle.std.proofs.Common.{◌≡◌, ℕ, ◌+◌, ◌-◌, ◌≤◌, Bool, true, false, cond, List, [], ◌∷◌, ◌++◌, length, take, drop, map, Option, Ok, refl, sym, ◌∙◌, ap, ap₂, subst, arith, inl, inr, length-drop}
-use Rattle.std.specs.Prelude.{◌⊎◌}
+use Rattle.std.specs.Prelude.{◌⊎◌, IfSome}
 use Rattle.std.specs.List.{enumerate_from}
 use Rattle.std.proofs.lemmas.List.{drop-drop, take_all}
 use Rattle.std.proofs.Math.Seq.{take-add}
@@ -11,13 +11,15 @@ use Rattle.side_info.specs.Frame.{frame_with}
 use Rattle.sync_survey.specs.declared.places.Head.{Head}
 use Rattle.sync_survey.specs.declared.rows.Row.{Row}
 use Rattle.sync_survey.specs.MainData.{StreamFrame, main_bytes, side_of, stream_frame, stream_frames}
-use Rattle.sync_survey.specs.Faults.{SurveyFields, surveyed, stream_of_survey}
-use Rattle.file_tag.specs.Places.{with_tag}
+use Rattle.sync_survey.specs.Faults.{SurveyFields, surveyed, stream_of, stream_of_survey, HoldsStream}
+use Rattle.sync_survey.proofs.SurveyParts.{surveyed-stream}
+use Rattle.file_tag.specs.Places.{IsTagBytes, with_tag}
 use Rattle.file_tag.specs.Laws.{own_bytes}
 use Rattle.moved_gains.specs.Course.{even}
 use Rattle.moved_gains.specs.declared.shift.Steps.{Steps}
 use Rattle.moved_gains.specs.Gains.{moved_side}
 use Rattle.moved_gains.specs.Edited.{edited}
+use Rattle.moved_gains.specs.Change.{Change, changed}
 use Rattle.moved_gains.specs.Streams.{moved_survey, without_junk, moved_stream_frame}
 use Rattle.outside.specs.Pass.{bytes_between}
 use Rattle.moved_gains.specs.Moving.{row_length, row_end, moved_row_bytes}
@@ -29,6 +31,7 @@ use Rattle.moved_gains.proofs.TagPlaces.{IsAmong, IsInFront, stands_somewhere}
 use Rattle.moved_gains.proofs.MovedStream.{counts_shaped}
 use Rattle.moved_gains.proofs.FramesThere.{frame_of, IsFrameOf, AreFramesOf, row_shaped, frames_there}
 use Rattle.moved_gains.proofs.MovedAgain.{moved_whole_to}
+use Rattle.gain_edits.proofs.ChangedStream.{even_stream, changed_survey, surveyed-changed, stream-changed}
 use Rattle.gain_edits.proofs.RangeAgain.{row_fits}
 use Rattle.moved_gains.proofs.TaggedAgain.{parted_front, parted_among}
 
@@ -107,3 +110,16 @@ still_frames steps none file main o rows n (row ∷ more) frames =
 pub stream_still : (steps : Steps) → IsNoStep steps → (file : List ℕ) (allowed : ℕ) (s : SurveyFields) → AreBytes file → surveyed file allowed ≡ Ok s → map (moved_stream_frame steps) (stream_of_survey file s) ≡ stream_of_survey file s
 unfolding stream_of_survey stream_frames
 stream_still steps none file allowed s are is = still_frames steps none file (main_bytes file s.head s.frames) s.head s.frames 0 s.frames (frames_there file allowed s are is)
+
+-- what a change by no step makes holds it, whatever tag the change writes
+pub still_holds : (steps : Steps) → IsNoStep steps → (o : Option (List ℕ)) → IfSome o IsTagBytes → (file : List ℕ) (allowed : ℕ) (s : SurveyFields) → AreBytes file → surveyed file allowed ≡ Ok s
+    → HoldsStream (changed (record { steps = even steps; tag = o }) file s) (stream_of file)
+still_holds steps none o tags file allowed s are is =
+    let change : Change = record { steps = even steps; tag = o } in
+    let same : stream_of_survey (changed change file s) (changed_survey change s) ≡ stream_of file =
+    stream-changed file allowed s are is change tags
+    ∙ even_stream steps file s
+    ∙ stream_still steps none file allowed s are is
+    ∙ sym (surveyed-stream file allowed s is).stream_is in
+    subst (HoldsStream (changed change file s)) same
+    (surveyed-stream (changed change file s) allowed (changed_survey change s) (surveyed-changed file allowed s are is change tags))

@@ -17,10 +17,9 @@ use Rattle.file_tag.proofs.FoundTag.{surveyed-length}
 use Rattle.file_tag.proofs.NewTag.{own-tag}
 use Rattle.sync_survey.specs.declared.survey_fault.SurveyFault.{SurveyFault}
 use Rattle.sync_survey.specs.declared.places.Piece.{Piece}
-use Rattle.sync_survey.specs.Faults.{SurveyFields, surveyed, stream_of, stream_of_survey, HoldsStream, longest_file}
+use Rattle.sync_survey.specs.Faults.{SurveyFields, surveyed, stream_of, HoldsStream, longest_file}
 use Rattle.sync_survey.specs.Survey.{survey_of}
 use Rattle.sync_survey.proofs.FoldersLaws.{survey_of-short}
-use Rattle.sync_survey.proofs.SurveyParts.{surveyed-stream}
 use Rattle.commands.specs.declared.fault.EditFault.{EditFault}
 use Rattle.commands.specs.declared.fault.Refusal.{Refusal}
 use Rattle.moved_gains.specs.Course.{even}
@@ -42,14 +41,14 @@ use Rattle.moved_gains.proofs.MovedGains.{sum_of, IsNoStep}
 use Rattle.moved_gains.proofs.TagPlaces.{tag_none}
 use Rattle.moved_gains.proofs.WrittenTag.{length_moved}
 use Rattle.sync_survey.proofs.SurveyedFiles.{survey_of-parts}
-use Rattle.gain_edits.proofs.ChangedStream.{even_stream, changed-parts, changed-ok, changed_survey, surveyed-changed, stream-changed}
+use Rattle.gain_edits.proofs.ChangedStream.{changed-parts, changed-ok}
 use Rattle.commands.proofs.RefusingLaws.{then_ok}
 use Rattle.gain_edits.proofs.FileTags.{file_tag-is, file_tag-none, same_tag}
 use Rattle.moved_gains.proofs.FramesThere.{AreFramesOf, frames_there}
 use Rattle.moved_gains.proofs.MovedAgain.{even_together, AreTogether, stood}
 use Rattle.gain_edits.proofs.RangeAgain.{even_opposite, range_both, range_back}
 use Rattle.moved_gains.proofs.TaggedAgain.{new, new_survey, to, new_is, has_block, new_frames, new_long, clean_survey, changed_again}
-use Rattle.gain_edits.proofs.NoStep.{edited_still, own_again, stream_still}
+use Rattle.gain_edits.proofs.NoStep.{edited_still, own_again, still_holds}
 use Rattle.gain_edits.proofs.NotedAgain.{sum_again, sum_first, tag_without_none, tag_without_with, found_with, block_read, gain_noted}
 
 -- ---- what is known of it
@@ -284,16 +283,8 @@ module _ (file : List ℕ) (s : SurveyFields) (tag : TagFields) (are : AreBytes 
 
   tidied_stream : IsTag tag → HoldsStream (tidied tag s file) (stream_of file)
   tidied_stream own =
-      let change : Change = record { steps = even still; tag = Some bytes } in
-      let made : changed change file s ≡ tidied tag s file = changed-with still bytes file s ∙ undone_tidied in
-      let same : stream_of_survey (changed change file s) (changed_survey change s) ≡ stream_of file =
-      stream-changed file most_frames s are is change (bytes-are own)
-      ∙ even_stream still file s
-      ∙ stream_still still no_step file most_frames s are is
-      ∙ sym (surveyed-stream file most_frames s is).stream_is in
-      subst (λ (l : List ℕ). HoldsStream l (stream_of file)) made
-      (subst (HoldsStream (changed change file s)) same
-      (surveyed-stream (changed change file s) most_frames (changed_survey change s) (surveyed-changed file most_frames s are is change (bytes-are own))))
+      let made : changed (record { steps = even still; tag = Some bytes }) file s ≡ tidied tag s file = changed-with still bytes file s ∙ undone_tidied in
+      subst (λ (l : List ℕ). HoldsStream l (stream_of file)) made (still_holds still no_step (Some bytes) (bytes-are own) file most_frames s are is)
 
   given_back : IsTag tag → file_tag file s ≡ Ok tag → undo_from 32 tag.items ≡ Missing → (last : List ℕ) → IsGained file s tag last → IsGivenBack file last s tag
   given_back own read none last g =
