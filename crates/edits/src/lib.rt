@@ -10,14 +10,13 @@
 //! | `fade` | `fading` | moves the gains of a file by a curve over its frames |
 //! | `cut`, `pack` | `frame_edits` | lays chosen frames, or all, anew in one file |
 //! | `pack_with` | `packing` | packs in a mode: with the least slots, one bit rate alone, or bit rates from one on |
-//! | `pack_with` | `packing` | packs, with bit rates that are asked for |
 //! | `split` | `splitting` | lays the frames between places anew, a file for each piece |
 //! | `join` | `joining` | lays the frames of several files anew in one |
 //!
 //! What they share, the faults and the one body of those that make one file, is in `commands`.
 
 pub use commands::{EditFault, MOST_FRAMES, Refusal};
-pub use fading::fade;
+pub use fading::{fade, fade_gives_back};
 pub use frame_edits::{cut, pack};
 pub use gain_edits::{gain, opposite_gives_back, undo, undo_gives_back};
 pub use joining::join;

@@ -1,3 +1,4 @@
 -- The lemmas of this crate.
 pub mod FadeLaws
 pub mod Proper
+mod TakenBack

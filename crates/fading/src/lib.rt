@@ -4,6 +4,8 @@
 mod calls;
 mod edit;
 mod fade_change;
+mod laws;
 
 pub use calls::fade;
 pub use edit::{FadeEdit, Work};
+pub use laws::fade_gives_back;
