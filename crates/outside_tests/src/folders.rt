@@ -1,5 +1,6 @@
 //! What no clause says: that calls succeed, and what the system does.
 mod buffers;
+mod exact;
 mod noticed;
 mod real;
 mod sending;
