@@ -1,0 +1,247 @@
+-- A stream made from a number, packed: the packing isn't refused, the packed file holds the frames that were drawn, and needs no lead-in.
+use Rattle.std.proofs.Common.{◌≡◌, ◌≢◌, ℕ, suc, ◌-◌, ◌<◌, ◌≤◌, ◌&&◌, Bool, true, false, List, [], ◌∷◌, ◌++◌, length, take, map, Option, Some, None, Result, Ok, Err, refl, sym, ◌∙◌, ap, subst, inl, inr, arith, rules}
+use Rattle.std.specs.Prelude.{All, slice_range, nat_lt, nat_le, decimal}
+use Rattle.std.specs.List.{enumerate_from}
+use Rattle.std.proofs.Math.Seq.{take-length}
+use Rattle.std.proofs.lemmas.List.{length-map}
+use Rattle.std.proofs.lemmas.List.FromFn.{length-enumerate_from, length-map-range_with_len}
+use Rattle.frame_header.specs.Tables.{window_of}
+use Rattle.frame_header.proofs.SlotLaws.{Contains-all_slots}
+use Rattle.outside.specs.Files.{Contents, Files, Sent, sent_more, Holds}
+use Rattle.outside.specs.Passed.{SentPrefix}
+use Rattle.outside.specs.Counts.{Rose}
+use Rattle.outside.proofs.FilesLaws.{with_file_here}
+use Rattle.sync_survey.specs.declared.rows.Row.{Row}
+use Rattle.sync_survey.specs.MainData.{StreamFrame, main_bytes, stream_frame, stream_frames}
+use Rattle.sync_survey.specs.Faults.{SurveyFields, surveyed, stream_of_survey, HoldsStream}
+use Rattle.sync_survey.specs.Survey.{survey_of, AreWellPlaced}
+use Rattle.sync_survey.proofs.PlacedRows.{surveyed-placed}
+use Rattle.sync_survey.proofs.SurveyedFiles.{survey_of-parts}
+use Rattle.sync_survey.proofs.SurveyParts.{surveyed-parts, surveyed-stream}
+use Rattle.slot_plan.specs.declared.needs.Need.{Need}
+use Rattle.slot_plan.specs.declared.needs.Placed.{Placed}
+use Rattle.slot_plan.specs.ThePlan.{the_plan}
+use Rattle.slot_plan.specs.Plans.{IsPlan}
+use Rattle.part_needs.specs.Needs.{need_of}
+use Rattle.part_needs.specs.Fit.{any_choice}
+use Rattle.laid_files.specs.LaidFiles.{entry_of}
+use Rattle.laid_files.proofs.LaidFrames.{rows-length}
+use Rattle.laying.specs.Relaid.{stream_in, with_lead_ins, left_behind}
+use Rattle.laying.specs.Fits.{reach_behind, FitsFrom}
+use Rattle.laying.specs.Written.{head_info}
+use Rattle.commands.specs.declared.fault.EditFault.{EditFault}
+use Rattle.commands.specs.Command.{Output, Made, written}
+use Rattle.commands.specs.One.{most_frames, made_where, unless_clash, clash_in, made_result, made_of}
+use Rattle.commands.specs.Said.{Heard, IsText, SaysAll, SaysPrefix}
+use Rattle.commands.proofs.InputLaws.{made-survey}
+use Rattle.frame_edits.specs.declared.chosen.Slots.TheVariants.{Least}
+use Rattle.frame_edits.specs.Chosen.{Chosen, chosen_rows, plan_of, part_of, chosen_file, chosen_stream, laid_with, choosing, chosen_with, all_choice, chosen_task, pack_refuses, pack_command}
+use Rattle.frame_edits.proofs.ChosenLaws.{IsRight, the-plan, plan-fitting, chosen-holds, all_right}
+use Rattle.drill_stream.specs.Drill.{drill_header, frame_at, drill_frames, drill_stream}
+use Rattle.drill_stream.specs.Laws.{drill_fields, drill_needs}
+use Rattle.drill_stream.specs.declared.summary.Summary.{Summary}
+use Rattle.drill_stream.specs.Summary.{summary_text}
+use Rattle.drill_stream.proofs.DrillLaws.{streams-surveyed, streams-hold}
+use Rattle.drill_stream.proofs.NoLeadIn.{streams-need_no_lead_in}
+use Rattle.drill.specs.Drilled.{packing_of, file_in, packed_file, packed_plan, lead_ins_in, drill_summary, drill_text, drill_command}
+use Rattle.drill.specs.Laws.{IsPacked, DrillsArePacked, DrillsHaveNoLeadIn}
+
+-- ---- plans without lead-ins
+
+rest-none : (p : Placed) (placed : List Placed) → All (λ p. p.lead_in ≡ false) (p ∷ placed) → All (λ p. p.lead_in ≡ false) placed
+rest-none p placed none k d lt = none (suc k) d (omega (arith, lt))
+
+none-counted : (placed : List Placed) → All (λ p. p.lead_in ≡ false) placed → lead_ins_in placed ≡ 0
+none-counted [] none = refl
+none-counted (p ∷ placed) none =
+    let here : p.lead_in ≡ false = none 0 p (omega arith) in
+    rw here (none-counted placed (rest-none p placed none))
+
+-- of such a plan the stream stays
+same-stream : (window reach : ℕ) (needs : List Need) (placed : List Placed) (stream : List StreamFrame) → FitsFrom window reach needs placed → All (λ p. p.lead_in ≡ false) placed → length needs ≡ length stream
+    → with_lead_ins placed stream ≡ stream
+unfolding FitsFrom with_lead_ins
+same-stream window reach [] [] [] fits none many = refl
+same-stream window reach [] [] (f ∷ stream) fits none many = absurd (omega (arith, many))
+same-stream window reach [] (p ∷ placed) stream fits none many = absurd fits
+same-stream window reach (need ∷ needs) [] stream fits none many = absurd fits
+same-stream window reach (need ∷ needs) (p ∷ placed) [] fits none many = absurd (omega (arith, many))
+same-stream window reach (need ∷ needs) (p ∷ placed) (f ∷ stream) fits none many =
+    let here : p.lead_in ≡ false = none 0 p (omega arith) in
+    let behind : FitsFrom window (reach_behind window p need) needs placed = subst (λ (b : Bool). FitsFrom window (reach_behind window p need) (left_behind b need needs) placed) here fits.2 in
+    rw here (ap (λ l. f ∷ l) (same-stream window (reach_behind window p need) needs placed stream behind (rest-none p placed none) (omega (arith, many))))
+
+-- ---- lists and surveys
+
+range-whole : {X : Type 0} (xs : List X) → slice_range xs 0 (length xs) ≡ xs
+range-whole xs = let all : length xs - 0 ≡ length xs = omega arith in ap (λ n. take n xs) all ∙ take-length xs
+
+stream-length : (file : List ℕ) (s : SurveyFields) → length (stream_of_survey file s) ≡ length s.frames
+unfolding stream_of_survey stream_frames
+stream-length file s = length-map (enumerate_from 0 s.frames) (λ (p : ℕ × Row). stream_frame (main_bytes file s.head s.frames) s.head s.frames p.0 p.1) ∙ length-enumerate_from 0 s.frames
+
+survey-length : (file : List ℕ) (allowed : ℕ) (s : SurveyFields) → surveyed file allowed ≡ Ok s → s.length ≡ length file
+survey-length file allowed s e = sym (ap (λ (t : SurveyFields). t.length) (surveyed-parts file allowed s e).2)
+
+-- ---- what the packing chooses
+
+inside : (n : ℕ) → 0 < n → (nat_lt 0 n && nat_le n n) ≡ true
+inside n some = search rules
+
+all-chosen : (quality : Option ℕ) (extension : List ℕ) (n : ℕ) → 0 < n → chosen_with quality extension 0 n Least n ≡ Ok (record { from = 0; to = n; slots = Least; quality = quality; extension = extension })
+all-chosen quality extension n some = rw (inside n some) refl
+
+abbrev outputs_in : Result Made EditFault → List Output
+outputs_in (Ok made) = made.outputs
+outputs_in (Err fault) = []
+
+-- ---- the packed file
+
+module _ (seed count : ℕ) (some : 0 < count) (few : count ≤ 20000) where
+  abbrev file : List ℕ
+  file = drill_stream seed count
+
+  abbrev told : SurveyFields
+  told = drill_fields seed count
+
+  abbrev drawn : List StreamFrame
+  drawn = map entry_of (drill_frames seed count)
+
+  is-surveyed : survey_of file most_frames ≡ Ok told
+  is-surveyed = streams-surveyed seed count most_frames some few (omega (arith, few))
+
+  whole : surveyed file most_frames ≡ Ok told
+  whole = (survey_of-parts file most_frames told is-surveyed).1
+
+  frames-many : length (drill_frames seed count) ≡ count
+  unfolding drill_frames
+  frames-many = length-map-range_with_len (frame_at seed) 0 count
+
+  drawn-many : length drawn ≡ count
+  drawn-many = length-map (drill_frames seed count) entry_of ∙ frames-many
+
+  rows-many : length told.frames ≡ count
+  rows-many = rows-length 0 (drill_frames seed count) ∙ frames-many
+
+  abbrev all : Chosen
+  all = record { from = 0; to = length told.frames; slots = Least; quality = (head_info file told.head).quality; extension = (head_info file told.head).extension }
+
+  choice-is : all_choice Least file told ≡ Ok all
+  unfolding all_choice
+  choice-is = all-chosen (head_info file told.head).quality (head_info file told.head).extension (length told.frames) (omega (arith, some, rows-many))
+
+  right : IsRight all told
+  right = all_right Least file told all choice-is
+
+  made-is : packing_of seed count ≡ Ok (chosen_file all file told)
+  made-is = made-survey (choosing (all_choice Least)) file told is-surveyed ∙ ap (laid_with file told) choice-is
+
+  packed-is : packed_file seed count ≡ chosen_file all file told
+  unfolding packed_file
+  packed-is = ap file_in made-is
+
+  placed : AreWellPlaced told.head told.class told.frames
+  placed = surveyed-placed file most_frames told whole
+
+  rows-whole : chosen_rows all told ≡ told.frames
+  rows-whole = range-whole told.frames
+
+  plan-same : plan_of all told ≡ packed_plan seed count
+  plan-same = ap (λ (rows : List Row). the_plan (window_of drill_header.version) any_choice (map need_of rows ∷ [])) rows-whole
+
+  is-plan : IsPlan (window_of drill_header.version) any_choice (drill_needs seed count ∷ []) (packed_plan seed count)
+  is-plan =
+      subst (λ (rows : List Row). IsPlan (window_of drill_header.version) any_choice (map need_of rows ∷ []) (the_plan (window_of drill_header.version) any_choice (map need_of rows ∷ []))) rows-whole
+      (the-plan all told placed right.some right.within)
+
+  pub none-led : All (λ p. p.lead_in ≡ false) (packed_plan seed count)
+  none-led = streams-need_no_lead_in seed count any_choice (packed_plan seed count) (Contains-all_slots drill_header.slot (search rules)) is-plan
+
+  pub no-lead_ins : lead_ins_in (packed_plan seed count) ≡ 0
+  no-lead_ins = none-counted (packed_plan seed count) none-led
+
+  stream-is : stream_of_survey file told ≡ drawn
+  stream-is = sym (surveyed-stream file most_frames told whole).stream_is ∙ (streams-hold seed count some).stream_is
+
+  part-stream : stream_in (part_of all file told) ≡ drawn
+  part-stream =
+      let same : length told.frames ≡ length drawn = rows-many ∙ sym drawn-many in
+      ap (λ (l : List StreamFrame). slice_range l 0 (length told.frames)) stream-is ∙ ap (λ (n : ℕ). slice_range drawn 0 n) same ∙ range-whole drawn
+
+  packed-stream : chosen_stream all file told ≡ drawn
+  unfolding chosen_stream
+  packed-stream =
+      same-stream (window_of told.class.version) 0 (map need_of (chosen_rows all told)) (plan_of all told) (stream_in (part_of all file told)) (plan-fitting all told placed right.some right.within).fits
+      (subst (λ (l : List Placed). All (λ p. p.lead_in ≡ false) l) (sym plan-same) none-led)
+      (length-map (chosen_rows all told) need_of ∙ ap length rows-whole ∙ rows-many ∙ sym (ap length part-stream ∙ drawn-many))
+      ∙ part-stream
+
+  pub is-packed : IsPacked seed count
+  is-packed = record {
+    made = made-is ∙ ap Ok (sym packed-is);
+    holds = subst (λ (l : List ℕ). HoldsStream l drawn) (sym packed-is) (subst (HoldsStream (chosen_file all file told)) packed-stream (chosen-holds all file told is-surveyed right.some right.within right.extension));
+  }
+
+  -- what a survey tells of it
+  pub packed-frames : (t : SurveyFields) → survey_of (packed_file seed count) most_frames ≡ Ok t → length t.frames ≡ count
+  packed-frames t e =
+      let packed = packed_file seed count in
+      let found = surveyed-stream packed most_frames t (survey_of-parts packed most_frames t e).1 in
+      sym (stream-length packed t) ∙ ap length (sym found.stream_is ∙ is-packed.holds.stream_is) ∙ drawn-many
+
+  -- where the packing of the file of a folder was done, the folder holds it
+  pub packed-there : (stream packed : List ℕ) (f : Contents) (new : Files) → f stream ≡ Some file → ((made : Made) × ((pack_command stream packed).makes f ≡ Ok made) × (new ≡ Some (written made.outputs f)))
+      → Holds new packed (packed_file seed count)
+  unfolding made_result
+  packed-there stream packed f new there done =
+      let bytes = packed_file seed count in
+      subst (λ (files : Files). Holds files packed bytes) (sym (done.2 ∙ ap (λ (outputs : List Output). Some (written outputs f)) (outputs (clash_in (chosen_task (all_choice Least) pack_refuses stream) packed) done.0 done.1)))
+      (with_file_here f packed bytes)
+    where
+      outputs : (clash : Option ℕ) (made : Made) → made_of packed (unless_clash clash (made_where (choosing (all_choice Least)) (f stream))) ≡ Ok made → made.outputs ≡ record { name = packed; bytes = packed_file seed count } ∷ []
+      outputs (Some place) made e = absurd cc
+      outputs None made e = sym (ap outputs_in (sym (ap (made_of packed) (ap (made_where (choosing (all_choice Least))) there ∙ is-packed.made)) ∙ e))
+
+pub packed-length : (file : List ℕ) (t : SurveyFields) → survey_of file most_frames ≡ Ok t → t.length ≡ length file
+packed-length file t e = survey-length file most_frames t (survey_of-parts file most_frames t e).1
+
+pub drills-packed : DrillsArePacked
+drills-packed = is-packed
+
+pub drills-no_lead_in : DrillsHaveNoLeadIn
+drills-no_lead_in = no-lead_ins
+
+-- ---- the line
+
+pub text-of : (seed count : ℕ) (s : Summary) → s ≡ drill_summary seed count → summary_text s ≡ drill_text seed count
+unfolding drill_text
+text-of seed count s is = ap summary_text is
+
+abbrev text_in : Result Made EditFault → List ℕ
+text_in (Ok made) = made.text
+text_in (Err fault) = []
+
+some_is : {A : Type 0} (a b : A) → Some a ≡ Some b → a ≡ b
+some_is a b e = cc
+
+module _ (seed count : ℕ) (files : Files) (old new : Heard) where
+  text-is : (text : List ℕ) → IsText (drill_command seed count) files text → text ≡ drill_text seed count
+  text-is text (inl always) = sym (some_is (drill_text seed count) text always)
+  text-is text (inr told) = sym (ap text_in told.3 ∙ told.4)
+
+  pub told-all : new.sent ≡ sent_more old.sent (drill_text seed count) → new.faults ≡ old.faults → SaysAll (drill_command seed count) files old new
+  told-all sent done = record { text = λ text is. sent ∙ ap (sent_more old.sent) (sym (text-is text is)); faults = done }
+
+  pub told-part : SentPrefix (drill_text seed count) old.sent new.sent → Rose old.faults new.faults → SaysPrefix (drill_command seed count) files old new
+  told-part part rose = record {
+    text = λ text is. subst (λ (t : List ℕ). (n : ℕ) × (n ≤ length t) × (new.sent ≡ sent_more old.sent (take n t))) (sym (text-is text is)) (part.count, part.within, part.sent);
+    rose = rose;
+  }
+
+behind-some : (front rest : List ℕ) (x : ℕ) → Some (front ++ x ∷ rest) ≢ Some []
+behind-some [] rest x e = absurd cc
+behind-some (y ∷ front) rest x e = absurd cc
+
+pub drill_text-some : (seed count : ℕ) → Some (drill_text seed count) ≢ Some []
+unfolding drill_text summary_text
+drill_text-some seed count = behind-some (decimal count) _ _

@@ -1,0 +1,66 @@
+-- The drill command: a stream is made from a number and packed, and a line tells of both. No file of any folder is read or written.
+use Rattle.std.specs.Prelude.{ℕ, List, [], ◌∷◌, length, filter, Some, Result, Ok, Err, false}
+use Rattle.frame_header.specs.Tables.{window_of}
+use Rattle.slot_plan.specs.declared.needs.Placed.{Placed}
+use Rattle.slot_plan.specs.ThePlan.{the_plan}
+use Rattle.part_needs.specs.Fit.{any_choice}
+use Rattle.commands.specs.declared.fault.EditFault.{EditFault}
+use Rattle.commands.specs.declared.fault.EditFault.TheVariants.{Sent as NotSent, Memory}
+use Rattle.commands.specs.Command.{Command}
+use Rattle.commands.specs.One.{made_file}
+use Rattle.frame_edits.specs.declared.chosen.Slots.TheVariants.{Least}
+use Rattle.frame_edits.specs.Chosen.{choosing, all_choice}
+use Rattle.drill_stream.specs.declared.summary.Summary.{Summary}
+use Rattle.drill_stream.specs.Drill.{drill_header, drill_stream}
+use Rattle.drill_stream.specs.Laws.{drill_needs}
+use Rattle.drill_stream.specs.Summary.{summary_text}
+
+-- what the packing with the least slots makes of the stream
+abbrev pub packing_of : ℕ → ℕ → Result (List ℕ) EditFault
+packing_of seed count = made_file (choosing (all_choice Least)) (drill_stream seed count)
+
+abbrev pub file_in : Result (List ℕ) EditFault → List ℕ
+file_in (Ok file) = file
+file_in (Err fault) = []
+
+-- the packed file; that there is one is the law `DrillsArePacked`
+unfoldable pub packed_file : ℕ → ℕ → List ℕ
+packed_file seed count = file_in (packing_of seed count)
+
+-- the slots of its frames
+abbrev pub packed_plan : ℕ → ℕ → List Placed
+packed_plan seed count = the_plan (window_of drill_header.version) any_choice (drill_needs seed count ∷ [])
+
+-- the lead-ins of a plan
+abbrev pub lead_ins_in : List Placed → ℕ
+lead_ins_in placed = length (filter (λ (p : Placed). p.lead_in) placed)
+
+-- what is told of both
+abbrev pub drill_summary : ℕ → ℕ → Summary
+drill_summary seed count = record {
+  frames = count;
+  bytes_in = length (drill_stream seed count);
+  bytes_out = length (packed_file seed count);
+  lead_ins = lead_ins_in (packed_plan seed count);
+}
+
+unfoldable pub drill_text : ℕ → ℕ → List ℕ
+drill_text seed count = summary_text (drill_summary seed count)
+
+-- the text is that of the numbers, whatever the files are
+abbrev pub drill_command : ℕ → ℕ → Command
+drill_command seed count = record {
+  inputs = [];
+  outputs = [];
+  sources = [];
+  always = Some (drill_text seed count);
+  makes = λ files. Ok (record { outputs = []; text = drill_text seed count });
+  streams = λ files. [];
+  refuses = λ refusal. false;
+}
+
+-- nothing is refused: there was no memory, or a write to standard output failed
+abbrev pub IsDrillFault : EditFault → Type 0
+IsDrillFault NotSent = Unit {0}
+IsDrillFault Memory = Unit {0}
+IsDrillFault _ = ⊥

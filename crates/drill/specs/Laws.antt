@@ -1,0 +1,18 @@
+-- What holds of every stream that is made from a number and packed.
+use Rattle.std.specs.Prelude.{◌≡◌, ℕ, ◌<◌, ◌≤◌, map, Ok}
+use Rattle.sync_survey.specs.Faults.{HoldsStream}
+use Rattle.laid_files.specs.LaidFiles.{entry_of}
+use Rattle.drill_stream.specs.Drill.{drill_frames}
+use Rattle.drill.specs.Drilled.{packing_of, packed_file, packed_plan, lead_ins_in}
+
+-- the packing isn't refused, and the packed file holds the frames that were drawn, and no others
+pub record IsPacked (seed count : ℕ) : Type 0 where
+  pub made : packing_of seed count ≡ Ok (packed_file seed count)
+  pub holds : HoldsStream (packed_file seed count) (map entry_of (drill_frames seed count))
+
+abbrev pub DrillsArePacked : Type 0
+DrillsArePacked = (seed count : ℕ) → 0 < count → count ≤ 20000 → IsPacked seed count
+
+-- so there is no lead-in in it
+abbrev pub DrillsHaveNoLeadIn : Type 0
+DrillsHaveNoLeadIn = (seed count : ℕ) → 0 < count → count ≤ 20000 → lead_ins_in (packed_plan seed count) ≡ 0

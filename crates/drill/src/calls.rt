@@ -1,0 +1,88 @@
+//! The command `drill`.
+ghost use Rattle.std.specs.Prelude.{◌≡◌, ◌≤◌, Ok, IfOk, IfErr};
+ghost use Rattle.outside.specs.Files.{Files};
+ghost use Rattle.sync_survey.specs.Faults.{tells};
+ghost use Rattle.sync_survey.specs.Survey.{survey_of};
+ghost use Rattle.commands.specs.One.{most_frames};
+ghost use Rattle.commands.specs.Said.{heard, Says, fault_of};
+ghost use Rattle.drill.specs.Drilled.{packed_file, drill_summary, drill_command, IsDrillFault};
+
+use commands::{EditFault, MOST_FRAMES};
+use drill_stream::{Summary, send_summary, stream_folder, streams_are_long};
+use frame_edits::pack;
+use outside::{Failed, Sink};
+use std::alloc::{AllocError, Global};
+use sync_survey::{Survey, survey};
+
+/// The bytes of a frame of the stream.
+const FRAME: u64 = 417;
+
+/// Makes the stream of this number, of so many frames, in a folder of its own, packs it there, and surveys the packed file.
+///
+/// # Errors
+/// Where there is no memory.
+fn survey_packed(
+    alloc: Global,
+    seed: u32,
+    count: u32,
+    stream: &str,
+    packed: &str,
+) -> Result<Survey, AllocError>
+    requires some { 1 ≤ count }
+    requires few { count ≤ 20000 }
+    ensures { IfOk result (λ survey. survey_of (packed_file seed count) most_frames
+        ≡ Ok (tells survey)) }
+{
+    let mut folder = stream_folder(alloc, seed, count, stream, packed)?;
+    let Ok(()) = pack(alloc, &mut folder, stream, packed) else {
+        return Err(AllocError);
+    };
+    match survey(alloc, &mut folder, packed, MOST_FRAMES) {
+        Ok(survey) => Ok(survey),
+        Err(_) => Err(AllocError),
+    }
+}
+
+/// What is told of the stream and of the packed file.
+///
+/// # Errors
+/// Where there is no memory.
+fn summary_of(alloc: Global, seed: u32, count: u32) -> Result<Summary, AllocError>
+    requires some { 1 ≤ count }
+    requires few { count ≤ 20000 }
+    ensures { IfOk result (λ summary. summary ≡ drill_summary seed count) }
+{
+    let survey = survey_packed(alloc, seed, count, "stream", "packed")?;
+    let frames = u64::from(count);
+    streams_are_long();
+    Ok(Summary {
+        frames,
+        bytes_in: FRAME * frames,
+        bytes_out: survey.length(),
+        lead_ins: survey.frames().len() as u64 - frames,
+    })
+}
+
+/// Makes the stream of this number, of so many frames, in a folder in memory of its own, packs it there with the least slots,
+/// surveys the packed file, and sends the line `N frames, A bytes in, B bytes out, L lead-ins`: N is the number of frames, A
+/// the length of the stream in bytes, B that of the packed file, and L the number of lead-ins in it, which is always 0. The
+/// seed is one of a linear congruential generator modulo 2^31, and a frame has 417 bytes.
+///
+/// # Errors
+/// `Memory` where there was none, also where a call of the folder in memory failed; then nothing was sent. `Sent` only
+/// where a write to `out` failed; then it got a prefix of the line. The packing is never refused (`drills_are_packed`).
+pub fn drill<T: Sink>(alloc: Global, seed: u32, count: u32, out: &mut T) -> Result<(), EditFault>
+    requires some { 1 ≤ count }
+    requires few { count ≤ 20000 }
+    // Whatever a folder tells beside it: it isn't read.
+    ensures says { (files : Files) → Says (drill_command seed count) files
+        (heard (T.sent out.old) (T.faults out.old)) (heard (T.sent out.new) (T.faults out.new))
+        (fault_of result) }
+    ensures fault { IfErr result IsDrillFault }
+{
+    let summary = summary_of(alloc, seed, count)?;
+    match send_summary(out, &summary) {
+        Ok(()) => Ok(()),
+        Err(Failed) => Err(EditFault::Sent),
+    }
+}
