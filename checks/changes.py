@@ -6,6 +6,7 @@ import shutil
 import subprocess
 import sys
 import wave
+import zlib
 from random import Random
 
 sys.dont_write_bytecode = True
@@ -18,6 +19,7 @@ OTHER_LINES = (
     *(b"", b"TITLE x", b"file", b"TRACK 00 AUDIO", b"TRACK 7 audio", b"\tTRACK 99 AUDIO\r", b"TRACK 1 AUDIO x", b"INDEX 00 00:00:00"),
     *(b"INDEX 1 00:00:09", b"INDEX 01 0:00:00", b"index 1 99:59:74 ", b"INDEX 02 00:00:75"),
 )
+OTHER_POINTS = (b"", b"# x", b"\t#", b"0", b"EOF 1 1", b"0.0 1", b"1 256", b"EOF -255", b"0 +-1", b"0.60 1", b"eof 1", b"x 1", b"3 1 # x", b"7\xc2\xa01")
 HEADER_FIELDS = ((11, 1), (12, 1), (13, 2), (15, 1), (16, 4), (20, 2), (22, 1), (23, 1), (24, 2), (26, 2), (28, 1), (29, 1), (30, 2))
 
 
@@ -304,12 +306,34 @@ def sheet(random):
     return turned(random, data) if random.random() < 0.05 else data
 
 
+def fade_sheet(random, data):
+    """The sheet of a fade over a file, maybe with faults."""
+    found = results.survey_or_fault(data)
+    count = len(found.frames) if isinstance(found, frames.Survey) else 3
+    points = random.choice((1, 2, 2, 3, 4, 7))
+    gains = [it.gain for frame in getattr(found, "frames", []) for it in frame.moving()] or [100]
+    farthest = random.choice((3, 9, 9, 40, 255 - max(gains), min(gains), 256))
+    lines = []
+    for place in places(random, points, count):
+        steps = random.randint(-farthest, farthest)
+        lines.append(f"{place}{random.choice((' ', '  ', chr(9)))}{steps:{random.choice(('', '+', '03'))}}".encode())
+    for _ in range(random.choice((0, 0, 0, 0, 1, 3))):
+        lines.insert(random.randint(0, len(lines)), random.choice(OTHER_POINTS))
+    if random.random() < 0.02:
+        lines += [b"%d 0" % (count + it) for it in range(random.choice((998, 1001)))]
+    data = random.choice((b"", b"", b"\xef\xbb\xbf")) + random.choice((b"\n", b"\r\n")).join(lines) + random.choice((b"", b"\n", b"\r\n"))
+    data += b"\n" * (random.choice((65_536, 65_537)) - len(data)) if random.random() < 0.02 else b""
+    return turned(random, data) if random.random() < 0.05 else data
+
+
 def files(random, sources):
-    """A file and another one, which is mostly made of the same frames, a sheet, and maybe an output that is there."""
+    """A file and another one, which is mostly made of the same frames, two sheets, and maybe an output that is there."""
     pieces = any_pieces(random, sources)
     others = pieces if random.random() < 0.7 else any_pieces(random, sources)
     found = {"x": changed(random, pieces, sources), "y": changed(random, others, sources), "s": sheet(random)}
-    return found | ({"o": b"old" * random.choice((1, 50_000))} if random.random() < 0.3 else {})
+    # The sheet of a fade is drawn apart, so that all others are as they were without it.
+    fade = {"f": fade_sheet(Random(zlib.crc32(found["x"])), found["x"])}
+    return found | fade | ({"o": b"old" * random.choice((1, 50_000))} if random.random() < 0.3 else {})
 
 
 # ---- words
@@ -365,7 +389,9 @@ def commands(random, files):
     yield ["split", "x", "p", *places(random, random.choice((2, 3, 3, 5, 9)), count)]
     yield ["split", "x", "p", "-c", "s"]
     yield ["join", "o", *random.choice((["x", "y"], ["y", "x"], ["x", "x", "y"], ["y", "x", "y", "x"]))]
-    words = random.choice(("gain -w -s s -l 1 3 x o", "cut --least x 0 1 o", "split x p 0 EOF", "join o x")).split()
+    yield ["fade", "x", "o", "f"]
+    yield ["fade", "--back", "x", "o", "f"]
+    words = random.choice(("gain -w -s s -l 1 3 x o", "cut --least x 0 1 o", "split x p 0 EOF", "join o x", "fade --back x o f")).split()
     at = random.randint(0, len(words))
     words[at : at + random.randint(0, 2)] = random.choice(([], ["-w"], ["0.60"], ["x"], ["o"], ["p03.mp3"], ["none"], ["256"], [""]))
     yield words

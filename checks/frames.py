@@ -638,9 +638,14 @@ def note(name):
 
 def with_gains(data, found, steps, wraps, tag):
     """The file with moved gains, without junk, and with other bytes where the tag is."""
+    return with_steps(data, found, [steps] * len(found.frames), wraps, tag)
+
+
+def with_steps(data, found, steps, wraps, tag):
+    """The same, each frame by its own steps."""
     new = bytearray(data)
-    for frame in found.frames:
-        side = side_of(frame, steps, wraps)
+    for frame, own in zip(found.frames, steps):
+        side = side_of(frame, own, wraps)
         new[frame.side_at : frame.side_end] = side.to_bytes(frame.side_size, "big")
         if frame.protected:
             new[frame.offset + 4 : frame.side_at] = frame.right_word(side).to_bytes(2, "big")

@@ -5,7 +5,7 @@
                          status of the program
 
 The words are those of README's "Usage", the lines and their order those of its "Statuses and lines". Files are bytes by name.
-frames.py says what is in a file and moves gains, laid.py lays main data.
+frames.py says what is in a file and moves gains, laid.py lays main data, fades.py reads places and the sheets of fades.
 """
 import re
 import sys
@@ -14,8 +14,10 @@ from functools import lru_cache
 from pathlib import Path
 
 sys.dont_write_bytecode = True
+import fades  # noqa: E402
 import frames  # noqa: E402
 import laid  # noqa: E402
+from fades import frame_at, place  # noqa: E402
 
 LONGEST_SHEET = 65_536
 
@@ -23,7 +25,7 @@ LONGEST_SHEET = 65_536
 @dataclass
 class Result:
     """Status, text, line, and the bytes of the files that are written; besides which frames of which inputs each of them has, and by
-    how many steps the gains of the left and of the right channel are moved in them."""
+    how many steps the gains of the left and of the right channel are moved in them: of all frames, or of each."""
 
     status: int = 0
     text: str = ""
@@ -31,6 +33,7 @@ class Result:
     outputs: dict = field(default_factory=dict)
     chosen: dict = field(default_factory=dict)  # of an output: [(input, first frame, end)]
     moved: tuple = (0, 0)
+    faded: list = field(default_factory=list)
 
 
 class Answer(Exception):
@@ -56,16 +59,6 @@ def rate(word):
     return re.fullmatch(r"[0-9]{1,3}", word)
 
 
-def place(word):
-    """A frame's number, a pair of a time and its parts of a second, or 'EOF'; or None."""
-    time = re.fullmatch(r"([0-9]{1,4})\.([0-9]{1,2})(?:\.([0-9]{1,2}))?", word)
-    if time and int(time[2]) < 60:
-        return (60 * int(time[1]) + int(time[2])) * 100 + int(time[3] or 0), 100
-    if re.fullmatch(r"[0-9]{1,7}", word):
-        return int(word)
-    return word if word == "EOF" else None
-
-
 def is_place(word):
     return place(word) is not None
 
@@ -86,6 +79,8 @@ FORMS += [
     (["split", name, name, is_place, is_place], 99),
     (["split", name, name, "-c", name], 1),
     (["join", name, name], 64),
+    (["fade", name, name, name], 1),
+    (["fade", "--back", name, name, name], 1),
 ]
 
 
@@ -106,16 +101,6 @@ def judge_words(words):
 
 
 # ---- places and sheets
-
-
-def frame_at(place, found):
-    first = found.frames[0]
-    if place == "EOF":
-        return len(found.frames)
-    if isinstance(place, int):
-        return place
-    time, parts = place
-    return time * first.frequency // (parts * 576 * first.version.granules)
 
 
 def ranges_of(places, found):
@@ -166,13 +151,17 @@ class Sheet:
         return None
 
 
-def places_of(word, files):
-    """The places where the tracks of a sheet start, and the end."""
+def bytes_of_sheet(word, files):
     if word not in files:
         raise Answer(3, f"{word}: absent")
-    data, sheet = files[word], Sheet()
-    if len(data) > LONGEST_SHEET:
-        raise Answer(1, f"{word}: sheet too large, {len(data)} bytes")
+    if len(files[word]) > LONGEST_SHEET:
+        raise Answer(1, f"{word}: sheet too large, {len(files[word])} bytes")
+    return files[word]
+
+
+def places_of(word, files):
+    """The places where the tracks of a sheet start, and the end."""
+    data, sheet = bytes_of_sheet(word, files), Sheet()
     for number, line in enumerate(data.removeprefix(b"\xef\xbb\xbf").split(b"\n"), 1):
         fault = sheet.take([it for it in re.split(rb"[ \t]+", line.removesuffix(b"\r")) if it])
         if fault:
@@ -277,7 +266,19 @@ def join(words, files):
     return Result(outputs={output: new}, chosen={output: [(it, 0, len(found.frames)) for it, found in zip(sources, surveys)]})
 
 
-COMMANDS = {"list": list_file, "gain": gain, "cut": cut, "pack": pack, "split": split, "join": join}
+def fade(words, files):
+    *flags, source, output, sheet = words[1:]
+    judge_names([source, sheet], [output])
+    found = surveyed(source, files)
+    try:
+        steps = fades.all_steps(bytes_of_sheet(sheet, files), found, flags == ["--back"])
+    except fades.Fault as it:
+        raise Answer(1, f"{sheet}: {it}")
+    new = fades.fade(files[source], found, steps)
+    return Result(outputs={output: new}, chosen={output: [(source, 0, len(found.frames))]}, faded=[(it, it) for it in steps])
+
+
+COMMANDS = {"list": list_file, "gain": gain, "cut": cut, "pack": pack, "split": split, "join": join, "fade": fade}
 
 
 def result_of(words, files):

@@ -87,6 +87,62 @@ static RATES: [Bad; 11] = table! {
     (&["pack", "--best", "--floor", "32", "a", "b"], 3)
 };
 
+/// Words of fades.
+static FADES: [Bad; 7] = table! {
+    Bad { words, place }
+    (&["fade"], 2)
+    (&["fade", "a", "b"], 4)
+    (&["fade", "--back", "a", "b"], 5)
+    (&["fade", "--back", "--back", "a", "b", "s"], 3)
+    (&["fade", "a", "b", "s", "--back"], 5)
+    (&["fade", "a", "b", "-s"], 4)
+    (&["fade", "--least", "a", "b", "s"], 2)
+};
+
+/// Words of streams made from a number.
+static DRILLS: [Bad; 10] = [
+    Bad {
+        words: &["drill"],
+        place: 2,
+    },
+    Bad {
+        words: &["drill", "2147483648", "1"],
+        place: 2,
+    },
+    Bad {
+        words: &["drill", "00000000001", "1"],
+        place: 2,
+    },
+    Bad {
+        words: &["drill", "-1", "1"],
+        place: 2,
+    },
+    Bad {
+        words: &["drill", "1a", "1"],
+        place: 2,
+    },
+    Bad {
+        words: &["drill", "", "1"],
+        place: 2,
+    },
+    Bad {
+        words: &["drill", "1", "0"],
+        place: 3,
+    },
+    Bad {
+        words: &["drill", "1", "20001"],
+        place: 3,
+    },
+    Bad {
+        words: &["drill", "1", "000001"],
+        place: 3,
+    },
+    Bad {
+        words: &["drill", "1", "1", "a"],
+        place: 4,
+    },
+];
+
 /// Words of the other forms, and of none.
 static OTHERS: [Bad; 13] = table! {
     Bad { words, place }
@@ -129,6 +185,18 @@ fn splits_and_joins(rt: HostRuntime) -> Result<(), Fail> {
 #[test]
 fn packings_in_a_mode(rt: HostRuntime) -> Result<(), Fail> {
     expect(&rt, &RATES)?;
+    Ok(())
+}
+
+#[test]
+fn fades(rt: HostRuntime) -> Result<(), Fail> {
+    expect(&rt, &FADES)?;
+    Ok(())
+}
+
+#[test]
+fn drills(rt: HostRuntime) -> Result<(), Fail> {
+    expect(&rt, &DRILLS)?;
     Ok(())
 }
 

@@ -31,15 +31,20 @@ const USAGE: &[u8] = b"usage: mp3edit COMMAND
   split IN PREFIX -c CUE the same at the starts of the tracks in the cue sheet CUE, the last to the end of IN
   join OUT IN1 [IN2 to IN64]
                          write the frames of IN1 to IN64, one file after another, to OUT
+  drill SEED COUNT       make COUNT frames from the number SEED, pack them in memory, and say how long both are
+  fade [--back] IN OUT SHEET
+                         write IN to OUT, each frame louder or quieter by the steps of 1.5 dB at its place
+                         SHEET: lines of a place and steps, between which the steps go evenly
+                         --back: by as many steps the other way, so that such a fade is taken back
   --help, -h             say this
   --version              say which version this is
 status: 0 done; 1 refused; 2 bad word; 3 a file is absent, or reading or writing failed;
         4 out of memory
 ";
 
-/// A word alone, whether the first write to standard output fails, and what is sent.
+/// Words, whether the first write to standard output fails, and what is sent.
 struct Said {
-    word: &'static str,
+    words: &'static [&'static str],
     is_failing: bool,
     status: u8,
     text: &'static [u8],
@@ -48,17 +53,20 @@ struct Said {
 
 const FAULT: &[u8] = b"standard output: write fault\n";
 
-static SAID: [Said; 6] = table! {
-    Said { word, is_failing, status, text, line }
-    ("--help", false, 0, USAGE, b"")
-    ("--help", true, 3, b"", FAULT)
-    ("-h", false, 0, USAGE, b"")
-    ("-h", true, 3, b"", FAULT)
-    ("--version", false, 0, b"mp3edit 0.1.0\n", b"")
-    ("--version", true, 3, b"", FAULT)
+// A frame of 174 bytes of main data takes 261 bytes at 80 kbit/s, and the Info frame 208.
+static SAID: [Said; 8] = table! {
+    Said { words, is_failing, status, text, line }
+    (&["drill", "1", "1"], false, 0, b"1 frames, 417 bytes in, 469 bytes out, 0 lead-ins\n", b"")
+    (&["drill", "1", "1"], true, 3, b"", FAULT)
+    (&["--help"], false, 0, USAGE, b"")
+    (&["--help"], true, 3, b"", FAULT)
+    (&["-h"], false, 0, USAGE, b"")
+    (&["-h"], true, 3, b"", FAULT)
+    (&["--version"], false, 0, b"mp3edit 0.1.0\n", b"")
+    (&["--version"], true, 3, b"", FAULT)
 };
 
-/// The status of a run of one word, and what it sent to both sinks.
+/// The status of a run, and what it sent to both sinks.
 #[derive(Drop)]
 struct Ran {
     status: u8,
@@ -66,8 +74,8 @@ struct Ran {
     err: MemSink,
 }
 
-fn run_word(alloc: Global, word: &str, is_failing: bool) -> Result<Ran, AllocError> {
-    let words = owned(alloc, &[word])?;
+fn run_words(alloc: Global, words: &[&str], is_failing: bool) -> Result<Ran, AllocError> {
+    let words = owned(alloc, words)?;
     let mut folder = MemFolder::new(alloc);
     let mut out = MemSink::new(alloc);
     let mut err = MemSink::new(alloc);
@@ -83,10 +91,10 @@ fn run_word(alloc: Global, word: &str, is_failing: bool) -> Result<Ran, AllocErr
 #[test]
 fn texts(rt: HostRuntime) -> Result<(), Fail> {
     for said in &SAID {
-        let ran = run_word(rt.alloc(), said.word, said.is_failing)?;
-        assert_eq!(rt; ran.status, said.status, "{}", said.word);
-        assert_eq!(rt; ran.out.sent(), said.text, "{}", said.word);
-        assert_eq!(rt; ran.err.sent(), said.line, "{}", said.word);
+        let ran = run_words(rt.alloc(), said.words, said.is_failing)?;
+        assert_eq!(rt; ran.status, said.status, "{:?}", said.words);
+        assert_eq!(rt; ran.out.sent(), said.text, "{:?}", said.words);
+        assert_eq!(rt; ran.err.sent(), said.line, "{:?}", said.words);
     }
     Ok(())
 }

@@ -146,6 +146,36 @@ fn packings_in_a_mode(rt: HostRuntime) -> Result<(), Fail> {
 }
 
 #[test]
+fn drills(rt: HostRuntime) -> Result<(), Fail> {
+    let most = Job::Drill {
+        seed: 2_147_483_647,
+        count: 20_000,
+    };
+    expect(&rt, &["drill", "2147483647", "20000"], most)?;
+    expect(&rt, &["drill", "0000000000", "00001"], Job::Drill { seed: 0, count: 1 })?;
+    Ok(())
+}
+
+#[test]
+fn fades(rt: HostRuntime) -> Result<(), Fail> {
+    let there = Job::Fade {
+        back: false,
+        input: "a",
+        output: "b",
+        sheet: "s",
+    };
+    expect(&rt, &["fade", "a", "b", "s"], there)?;
+    let back = Job::Fade {
+        back: true,
+        input: "a",
+        output: "b",
+        sheet: "s",
+    };
+    expect(&rt, &["fade", "--back", "a", "b", "s"], back)?;
+    Ok(())
+}
+
+#[test]
 fn words_alone(rt: HostRuntime) -> Result<(), Fail> {
     expect(&rt, &["--help"], Job::Help)?;
     expect(&rt, &["-h"], Job::Help)?;

@@ -1,5 +1,7 @@
 //! Streams made from a number. The bytes are those of a program in another language that follows the rules of the generator.
 
+use commands::EditFault;
+use drill::drill;
 use drill_stream::{StreamFault, Summary, send_summary, stream_folder, write_stream};
 use outside::{Call, Failed, MemFolder, MemSink};
 use std::alloc::{AllocError, AllocGlobal, Global};
@@ -114,6 +116,16 @@ fn the_second_write_fails(rt: HostRuntime) -> Result<(), Fail> {
 
 /// The line of the stream of one frame.
 const LINE: &[u8] = b"1 frames, 417 bytes in, 469 bytes out, 0 lead-ins\n";
+
+#[test]
+fn one_frame_packed(rt: HostRuntime) -> Result<(), Fail> {
+    let mut sink = MemSink::new(rt.alloc());
+    sink.reserve(50)?;
+    assert_eq!(&rt; drill(rt.alloc(), 1, 1, &mut sink), Ok(()));
+    assert_eq!(&rt; sink.sent(), LINE);
+    assert_eq!(&rt; drill(rt.alloc(), 1, 1, &mut sink), Err(EditFault::Sent));
+    Ok(())
+}
 
 #[test]
 fn the_line(rt: HostRuntime) -> Result<(), Fail> {

@@ -7,7 +7,7 @@ use Rattle.std.proofs.lemmas.Slice.Eq.{bytes_eq-Decides}
 use Rattle.std.proofs.lemmas.List.{length-map, length-drop}
 use Rattle.std.proofs.lemmas.List.Elements.{All-nil, All-cons, All-map, All-weaker}
 use Rattle.job_words.specs.declared.flags.Flag.{Flag}
-use Rattle.job_words.specs.declared.flags.Flag.TheVariants.{Tagless, Wrapping, Least}
+use Rattle.job_words.specs.declared.flags.Flag.TheVariants.{Tagless, Wrapping, Least, Back}
 use Rattle.job_words.specs.Kinds.{Kind, Fixed, fits_kind}
 use Rattle.job_words.specs.Flags.{flag_words, flag_kinds, given_kinds, first_word, begins_flag, without, orders_up_to, flag_first, given_up_to}
 use Rattle.job_words.proofs.Lists.{found, none_is, contains_first, contains_later, contains_map, contains_flat_map, all_flat_map, contains_filter, further, rest_agrees, no_front, every}
@@ -17,22 +17,26 @@ use Rattle.job_words.proofs.Lists.{found, none_is, contains_first, contains_late
 -- a flag by its first word
 abbrev flag_of : List ℕ → Option Flag
 flag_of word =
-    cond (bytes_eq word (first_word Tagless)) (Some Tagless) (cond (bytes_eq word (first_word Wrapping)) (Some Wrapping) (cond (bytes_eq word (first_word Least)) (Some Least) None))
+    cond (bytes_eq word (first_word Tagless)) (Some Tagless) (cond (bytes_eq word (first_word Wrapping)) (Some Wrapping) (cond (bytes_eq word (first_word Least)) (Some Least)
+    (cond (bytes_eq word (first_word Back)) (Some Back) None)))
 
 named : (flag : Flag) → flag_of (first_word flag) ≡ Some flag
 named Tagless = refl
 named Wrapping = refl
 named Least = refl
+named Back = refl
 
 abbrev behind_first : Flag → List Kind
 behind_first Tagless = Fixed (codes "s") ∷ []
 behind_first Wrapping = []
 behind_first Least = []
+behind_first Back = []
 
 starts : (flag : Flag) → flag_kinds flag ≡ Fixed (first_word flag) ∷ behind_first flag
 starts Tagless = refl
 starts Wrapping = refl
 starts Least = refl
+starts Back = refl
 
 some_is : {A : Type 0} (a b : A) → Some a ≡ Some b → a ≡ b
 some_is a b e = cc

@@ -1,6 +1,6 @@
 -- What is asked for is in range.
-use Rattle.std.proofs.Common.{◌≡◌, ℕ, zero, suc, ◌<◌, ◌≤◌, ◌&&◌, ◌==◌, true, false, cond, ◌+◌, ◌-◌, List, [], ◌∷◌, ◌++◌, length, get_or, drop, map, replicate, min, Option, Some, None, refl, sym, subst, leb, ℤ, pos, neg_ℤ, arith, rules, length-append, append-nil}
-use Rattle.std.specs.Prelude.{Contains, IfSome, option_map, option_and_then, codes, bytes_eq, is_some}
+use Rattle.std.proofs.Common.{◌≡◌, ℕ, zero, suc, ◌<◌, ◌≤◌, ◌&&◌, ◌==◌, Bool, true, false, cond, ◌+◌, ◌-◌, List, [], ◌∷◌, ◌++◌, length, get_or, drop, map, replicate, min, Option, Some, None, refl, sym, subst, leb, ℤ, pos, neg_ℤ, arith, rules, length-append, append-nil}
+use Rattle.std.specs.Prelude.{Contains, IfSome, option_map, option_and_then, if◌then◌else◌, codes, bytes_eq, is_some}
 use Rattle.std.specs.List.{All, before_first, after_first, position_or_len}
 use Rattle.std.specs.Str.{all_ascii_digits}
 use Rattle.std.specs.Str.Parse.{digits_value}
@@ -13,22 +13,26 @@ use Rattle.cue_sheet.specs.declared.place.Place.TheVariants.{Frame, End}
 use Rattle.cue_sheet.specs.Digits.{number_in}
 use Rattle.cue_sheet.specs.Places.{is_dot, frame_number, time_in, seconds_in, hundredths_in, time_of, place_of, IsPlace}
 use Rattle.job_words.specs.declared.flags.Flag.{Flag}
-use Rattle.job_words.specs.Kinds.{Kind, Fixed, Name, Steps, Channel, Place, Rate, Said, Itself, NameSaid, StepsSaid, ChannelSaid, PlaceSaid, RateSaid, is_name, step_count, steps_of, channel_of, rate_in, said, said_first, fits_kind, steps_said, place_said, name_at, said_at, values_of}
-use Rattle.job_words.specs.Forms.{Form, Shape, forms, help, short_help, version, list_form, gain_form, channel_form, undo_form, cut_form, pack_form, constant_form, floor_form, best_form, split_form, sheet_form, join_form, kinds_behind, front_of, reads_of, asked_of}
-use Rattle.job_words.specs.Words.{have_kinds, kinds_in, IsName, IsStepCount, IsSound}
+use Rattle.job_words.specs.Kinds.{Kind, Fixed, Name, Steps, Channel, Place, Rate, Seed, Count, Said, Itself, NameSaid, StepsSaid, ChannelSaid, PlaceSaid, RateSaid, SeedSaid, CountSaid, is_name, step_count, steps_of, channel_of, rate_in, seed_in, said, said_first, fits_kind, steps_said, place_said, seed_said, count_said, name_at, said_at, values_of}
+use Rattle.job_words.specs.Forms.{Form, Shape, forms, help, short_help, version, list_form, gain_form, channel_form, undo_form, cut_form, pack_form, constant_form, floor_form, best_form, split_form, sheet_form, join_form, drill_form, fade_form, kinds_behind, front_of, reads_of, asked_of}
+use Rattle.job_words.specs.Words.{have_kinds, kinds_in, IsName, IsStepCount, IsSeed, IsCount, IsSound}
 use Rattle.job_words.proofs.Lists.{rest_agrees, and_first, and_last}
 
 -- ---- steps and places
 
-size_small : (digits : List ℕ) → IfSome (step_count digits) (λ size. size ≤ 255)
+number_small : (least most greatest : ℕ) (digits : List ℕ) → IfSome (number_in least most greatest digits) (λ number. number ≤ greatest)
 unfolding number_in
-size_small digits =
-    let x = leb 1 (length digits) && leb (length digits) 3 && all_ascii_digits digits in
-    let d = leb (digits_value 10 digits) 255 in
-    elim (x && d) as (λ b. (x && d) ≡ b → IfSome (cond b (Some (digits_value 10 digits)) None) (λ size. size ≤ 255)) [
+number_small least most greatest digits =
+    let x = leb least (length digits) && leb (length digits) most && all_ascii_digits digits in
+    let d = leb (digits_value 10 digits) greatest in
+    elim (x && d) as (λ b. (x && d) ≡ b → IfSome (cond b (Some (digits_value 10 digits)) None) (λ number. number ≤ greatest)) [
       | true ↦ λ all. leb-true _ _ (and_last x d all)
       | false ↦ λ other. tt
     ] refl
+
+size_small : (digits : List ℕ) → IfSome (step_count digits) (λ size. size ≤ 255)
+unfolding number_in
+size_small digits = number_small 1 3 255 digits
 
 sized : (o : Option ℕ) → IfSome o (λ size. size ≤ 255) → IfSome (option_map pos o) IsStepCount
 sized None h = tt
@@ -71,29 +75,57 @@ place_in_range word =
 
 -- ---- what words say
 
--- the steps and the place of a value
+-- the steps, the place, the seed and the number of frames of a value
 record IsInRange (value : Said) : Type 0 where
   steps : IsStepCount (steps_said value)
   place : IsPlace (place_said value)
+  seed : IsSeed (seed_said value)
+  count : IsCount (count_said value)
 
 no_steps : IsStepCount (pos 0)
 no_steps = record { low = search rules; high = search rules }
 
+no_seed : IsSeed 0
+no_seed = omega arith
+
+one_frame : IsCount 1
+one_frame = record { some = omega arith; few = omega arith }
+
+-- a value that says none of them
+nothing_said : IsInRange Itself
+nothing_said = record { steps = no_steps; place = tt; seed = no_seed; count = one_frame }
+
 steps_said_in_range : (o : Option ℤ) → IfSome o IsStepCount → IfSome (option_map StepsSaid o) IsInRange
 steps_said_in_range None h = tt
-steps_said_in_range (Some steps) h = record { steps = h; place = tt }
+steps_said_in_range (Some steps) h = record { steps = h; place = tt; seed = no_seed; count = one_frame }
 
 place_said_in_range : (o : Option StreamPlace) → IfSome o IsPlace → IfSome (option_map PlaceSaid o) IsInRange
 place_said_in_range None h = tt
-place_said_in_range (Some place) h = record { steps = no_steps; place = h }
+place_said_in_range (Some place) h = record { steps = no_steps; place = h; seed = no_seed; count = one_frame }
+
+seed_said_in_range : (o : Option ℕ) → IfSome o (λ seed. seed ≤ 2147483647) → IfSome (option_map SeedSaid o) IsInRange
+seed_said_in_range None h = tt
+seed_said_in_range (Some seed) h = record { steps = no_steps; place = tt; seed = omega (arith, h); count = one_frame }
+
+count_above : (count : ℕ) (none : Bool) → count ≤ 20000 → (count == 0) ≡ none → IfSome (option_map CountSaid (cond none None (Some count))) IsInRange
+count_above zero true few is = tt
+count_above zero false few is = absurd cc
+count_above (suc n) true few is = tt
+count_above (suc n) false few is = record { steps = no_steps; place = tt; seed = no_seed; count = record { some = omega arith; few = few } }
+
+count_said_in_range : (o : Option ℕ) → IfSome o (λ count. count ≤ 20000) → IfSome (option_map CountSaid (option_and_then (λ count. if count == 0 then None else Some count) o)) IsInRange
+count_said_in_range None h = tt
+count_said_in_range (Some count) h = count_above count (count == 0) h refl
 
 said_in_range : (kind : Kind) (word : List ℕ) → IfSome (said kind word) IsInRange
-said_in_range (Fixed text) word = elim (bytes_eq word text) as (λ b. IfSome (cond b (Some Itself) None) IsInRange) [ true ↦ record { steps = no_steps; place = tt } | false ↦ tt ]
-said_in_range Name word = elim (is_name word) as (λ b. IfSome (cond b (Some (NameSaid word)) None) IsInRange) [ true ↦ record { steps = no_steps; place = tt } | false ↦ tt ]
+said_in_range (Fixed text) word = elim (bytes_eq word text) as (λ b. IfSome (cond b (Some Itself) None) IsInRange) [ true ↦ nothing_said | false ↦ tt ]
+said_in_range Name word = elim (is_name word) as (λ b. IfSome (cond b (Some (NameSaid word)) None) IsInRange) [ true ↦ record { steps = no_steps; place = tt; seed = no_seed; count = one_frame } | false ↦ tt ]
 said_in_range Steps word = steps_said_in_range (steps_of word) (steps_in_range word)
-said_in_range Channel word = elim (channel_of word) as (λ o. IfSome (option_map ChannelSaid o) IsInRange) [ Some channel ↦ record { steps = no_steps; place = tt } | None ↦ tt ]
+said_in_range Channel word = elim (channel_of word) as (λ o. IfSome (option_map ChannelSaid o) IsInRange) [ Some channel ↦ record { steps = no_steps; place = tt; seed = no_seed; count = one_frame } | None ↦ tt ]
 said_in_range Place word = place_said_in_range (place_of word) (place_in_range word)
-said_in_range Rate word = elim (rate_in word) as (λ o. IfSome (option_map RateSaid o) IsInRange) [ Some rate ↦ record { steps = no_steps; place = tt } | None ↦ tt ]
+said_in_range Rate word = elim (rate_in word) as (λ o. IfSome (option_map RateSaid o) IsInRange) [ Some rate ↦ record { steps = no_steps; place = tt; seed = no_seed; count = one_frame } | None ↦ tt ]
+said_in_range Seed word = seed_said_in_range (seed_in word) (number_small 1 10 2147483647 word)
+said_in_range Count word = count_said_in_range (number_in 1 5 20000 word) (number_small 1 5 20000 word)
 
 values_in_range : (kinds : List Kind) (words : List (List ℕ)) → All IsInRange (values_of kinds words)
 values_in_range [] words = All-nil IsInRange
@@ -105,7 +137,7 @@ values_in_range (kind ∷ kinds) (word ∷ words) =
     ] (said_in_range kind word)
 
 at_in_range : (values : List Said) → All IsInRange values → (k : ℕ) → IsInRange (said_at values k)
-at_in_range [] all k = record { steps = no_steps; place = tt }
+at_in_range [] all k = nothing_said
 at_in_range (value ∷ values) all zero = all 0 Itself (omega arith)
 at_in_range (value ∷ values) all (suc k) = at_in_range values (λ j d lt. all (suc j) d (omega (arith, lt))) k
 
@@ -262,10 +294,17 @@ join_is_sound count given words h =
       },
     )
 
+drill_is_sound : AreSound drill_form
+drill_is_sound = once drill_form refl (λ given words h. ((ranged drill_form.kinds words 0).seed, (ranged drill_form.kinds words 1).count))
+
+fade_is_sound : AreSound fade_form
+fade_is_sound = once fade_form refl (λ given words h.
+    (name_there fade_form.kinds words 0 h (omega arith) refl, name_there fade_form.kinds words 1 h (omega arith) refl, name_there fade_form.kinds words 2 h (omega arith) refl))
+
 forms_are_sound : All AreSound forms
 forms_are_sound =
     All-from_recursion AreSound forms
-    (help_is_sound, (short_is_sound, (version_is_sound, (list_is_sound, (gain_is_sound, (channel_is_sound, (undo_is_sound, (cut_is_sound, (pack_is_sound, (constant_is_sound, (floor_is_sound, (best_is_sound, (split_is_sound, (sheet_is_sound, (join_is_sound, tt)))))))))))))))
+    (help_is_sound, (short_is_sound, (version_is_sound, (list_is_sound, (gain_is_sound, (channel_is_sound, (undo_is_sound, (cut_is_sound, (pack_is_sound, (constant_is_sound, (floor_is_sound, (best_is_sound, (split_is_sound, (sheet_is_sound, (join_is_sound, (drill_is_sound, (fade_is_sound, tt)))))))))))))))))
 
 -- ---- a shape of a form
 

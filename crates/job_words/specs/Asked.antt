@@ -23,3 +23,7 @@ pub data Asked : Type 0 where
   SplitBy : List ℕ → List ℕ → List ℕ → Asked
   -- the name of the output, and those of the inputs
   Join : List ℕ → List (List ℕ) → Asked
+  -- the seed of a stream, and the number of its frames
+  Drill : ℕ → ℕ → Asked
+  -- whether a fade is taken back, the names of the input, of the output and of the sheet
+  Fade : Bool → List ℕ → List ℕ → List ℕ → Asked

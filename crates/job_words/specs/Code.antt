@@ -7,9 +7,9 @@ use Rattle.job_words.specs.declared.kinds.Value.TheVariants as value
 use Rattle.job_words.specs.declared.forms.Form.{Form as CodeForm}
 use Rattle.job_words.specs.declared.jobs.Job.{Job}
 use Rattle.job_words.specs.declared.jobs.Job.TheVariants as job
-use Rattle.job_words.specs.Kinds.{Kind, Fixed, Name, Steps, Channel, Place, Rate, Said, Itself, NameSaid, StepsSaid, ChannelSaid, PlaceSaid, RateSaid}
+use Rattle.job_words.specs.Kinds.{Kind, Fixed, Name, Steps, Channel, Place, Rate, Seed, Count, Said, Itself, NameSaid, StepsSaid, ChannelSaid, PlaceSaid, RateSaid, SeedSaid, CountSaid}
 use Rattle.job_words.specs.Forms.{Form}
-use Rattle.job_words.specs.Asked.{Asked, Help, Version, ListFile, Gain, Undo, Cut, Pack, SplitAt, SplitBy, Join}
+use Rattle.job_words.specs.Asked.{Asked, Help, Version, ListFile, Gain, Undo, Cut, Pack, SplitAt, SplitBy, Join, Drill, Fade}
 
 abbrev pub word_kind : WordKind → Kind
 word_kind (code.Fixed text) = Fixed text.now
@@ -18,6 +18,8 @@ word_kind code.Steps = Steps
 word_kind code.Channel = Channel
 word_kind code.Place = Place
 word_kind code.Rate = Rate
+word_kind code.Seed = Seed
+word_kind code.Count = Count
 
 abbrev pub value_said : Value → Said
 value_said value.Fixed = Itself
@@ -26,6 +28,8 @@ value_said (value.Steps steps) = StepsSaid steps
 value_said (value.Channel channel) = ChannelSaid channel
 value_said (value.Place place) = PlaceSaid place
 value_said (value.Rate rate) = RateSaid rate
+value_said (value.Seed seed) = SeedSaid seed
+value_said (value.Count count) = CountSaid count
 
 abbrev pub form_given : CodeForm → Form
 form_given form = record { command = form.command.now; flags = form.flags.now; kinds = map word_kind form.kinds.now; more = form.more; asks = form.asks }
@@ -41,6 +45,8 @@ asked (job.Pack mode input output) = Pack mode input.now output.now
 asked (job.SplitAt input prefix places) = SplitAt input.now prefix.now places.items
 asked (job.SplitBy input prefix sheet) = SplitBy input.now prefix.now sheet.now
 asked (job.Join output inputs) = Join output.now (map string_bytes inputs.now)
+asked (job.Drill seed count) = Drill seed count
+asked (job.Fade back input output sheet) = Fade back input.now output.now sheet.now
 
 -- what is asked for, or the place of the bad word
 abbrev pub answer : Result Job ℕ → Result Asked ℕ

@@ -2,7 +2,7 @@
 use Rattle.std.specs.Prelude.{ℕ, zero, suc, Bool, not, List, [], ◌∷◌, drop, length, map, find, slice_index_or, Option, Some, None, codes, bytes_eq}
 use Rattle.std.specs.List.{filter, flat_map, list_any}
 use Rattle.job_words.specs.declared.flags.Flag.{Flag}
-use Rattle.job_words.specs.declared.flags.Flag.TheVariants.{Tagless, Wrapping, Least}
+use Rattle.job_words.specs.declared.flags.Flag.TheVariants.{Tagless, Wrapping, Least, Back}
 use Rattle.job_words.specs.Kinds.{Kind, Fixed}
 
 -- the words of a flag
@@ -13,6 +13,8 @@ flag_words Tagless = codes "-s" ∷ codes "s" ∷ []
 flag_words Wrapping = codes "-w" ∷ []
 -- each frame has the least slot
 flag_words Least = codes "--least" ∷ []
+-- a fade is taken back
+flag_words Back = codes "--back" ∷ []
 
 abbrev pub flag_kinds : Flag → List Kind
 flag_kinds flag = map Fixed (flag_words flag)

@@ -6,12 +6,12 @@ use Rattle.moved_gains.specs.declared.shift.Channels.TheVariants.{Both}
 use Rattle.pack_mode.specs.declared.mode.PackMode.{PackMode}
 use Rattle.pack_mode.specs.declared.mode.PackMode.TheVariants.{Least as LeastMode, Constant, Floor, Best}
 use Rattle.job_words.specs.declared.flags.Flag.{Flag}
-use Rattle.job_words.specs.declared.flags.Flag.TheVariants.{Tagless, Wrapping, Least}
+use Rattle.job_words.specs.declared.flags.Flag.TheVariants.{Tagless, Wrapping, Least, Back}
 use Rattle.job_words.specs.declared.forms.Asks.{Asks}
 use Rattle.job_words.specs.declared.forms.Asks.TheVariants as asks
-use Rattle.job_words.specs.Kinds.{Kind, Fixed, Name, Steps, Channel, Place, Rate, Said, fits_kind, name_at, said_at, steps_said, channels_said, place_said, rate_said, values_of}
+use Rattle.job_words.specs.Kinds.{Kind, Fixed, Name, Steps, Channel, Place, Rate, Seed, Count, Said, fits_kind, name_at, said_at, steps_said, channels_said, place_said, rate_said, seed_said, count_said, values_of}
 use Rattle.job_words.specs.Flags.{given_kinds, first_word, is_given, orders}
-use Rattle.job_words.specs.Asked.{Asked, Help, Version, ListFile, Gain, Undo, Cut, Pack, SplitAt, SplitBy, Join}
+use Rattle.job_words.specs.Asked.{Asked, Help, Version, ListFile, Gain, Undo, Cut, Pack, SplitAt, SplitBy, Join, Drill, Fade}
 
 -- the command's word, the flags that may stand behind it, the kinds of the words behind those, how often the last of them may stand again,
 -- and what is asked for
@@ -82,11 +82,15 @@ sheet_form = record { command = codes "split"; flags = []; kinds = Name ∷ Name
 abbrev pub join_form : Form
 join_form = record { command = codes "join"; flags = []; kinds = Name ∷ Name ∷ []; more = 63; asks = asks.Join }
 
+-- `drill SEED COUNT`
+abbrev pub drill_form : Form
+drill_form = record { command = codes "drill"; flags = []; kinds = Seed ∷ Count ∷ []; more = 0; asks = asks.Drill }
+
 -- all of them
 abbrev pub forms : List Form
 forms =
     help ∷ short_help ∷ version ∷ list_form ∷ gain_form ∷ channel_form ∷ undo_form ∷ cut_form ∷ pack_form ∷ constant_form ∷ floor_form
-    ∷ best_form ∷ split_form ∷ sheet_form ∷ join_form ∷ []
+    ∷ best_form ∷ split_form ∷ sheet_form ∷ join_form ∷ drill_form ∷ fade_form ∷ []
 
 -- ---- the kinds of a form's words
 
@@ -154,6 +158,8 @@ reads_of asks.BestPack given values words = pack_asked Best values 1
 reads_of asks.SplitAt given values words = SplitAt (name_at values 0) (name_at values 1) (map place_said (drop 2 values))
 reads_of asks.SplitBy given values words = SplitBy (name_at values 0) (name_at values 1) (name_at values 3)
 reads_of asks.Join given values words = Join (name_at values 0) (drop 1 words)
+reads_of asks.Drill given values words = Drill (seed_said (said_at values 0)) (count_said (said_at values 1))
+reads_of asks.Fade given values words = Fade (is_given given Back) (name_at values 0) (name_at values 1) (name_at values 2)
 
 -- what words of a shape ask for
 abbrev pub asked_of : Shape → List (List ℕ) → Asked

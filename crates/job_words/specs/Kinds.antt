@@ -1,5 +1,5 @@
 -- What a single word can be, and what it says.
-use Rattle.std.specs.Prelude.{ℕ, ◌==◌, Bool, false, not, if◌then◌else◌, List, [], ◌∷◌, slice_index_or, Option, Some, None, option_map, is_some, ℤ, pos, neg_ℤ, codes, bytes_eq}
+use Rattle.std.specs.Prelude.{ℕ, ◌==◌, Bool, false, not, if◌then◌else◌, List, [], ◌∷◌, slice_index_or, Option, Some, None, option_map, option_and_then, is_some, ℤ, pos, neg_ℤ, codes, bytes_eq}
 use Rattle.cue_sheet.specs.declared.place.Place.{Place as StreamPlace}
 use Rattle.cue_sheet.specs.declared.place.Place.TheVariants.{End}
 use Rattle.cue_sheet.specs.Digits.{number_in}
@@ -21,6 +21,10 @@ pub data Kind : Type 0 where
   Place : Kind
   -- a bit rate
   Rate : Kind
+  -- the seed of a stream
+  Seed : Kind
+  -- the number of its frames
+  Count : Kind
 
 -- a name isn't empty, and doesn't begin with `-`
 abbrev pub is_name : List ℕ → Bool
@@ -46,6 +50,14 @@ channel_of word = if bytes_eq word (codes "0") then Some Left else if bytes_eq w
 abbrev pub rate_in : List ℕ → Option ℕ
 rate_in digits = number_in 1 3 999 digits
 
+-- one to ten digits, of a number below 2 ^ 31
+abbrev pub seed_in : List ℕ → Option ℕ
+seed_in digits = number_in 1 10 2147483647 digits
+
+-- one to five digits, of a number from 1 to 20,000
+abbrev pub count_in : List ℕ → Option ℕ
+count_in digits = option_and_then (λ count. if count == 0 then None else Some count) (number_in 1 5 20000 digits)
+
 -- what a word says
 pub data Said : Type 0 where
   -- nothing but itself
@@ -60,6 +72,10 @@ pub data Said : Type 0 where
   PlaceSaid : StreamPlace → Said
   -- a bit rate in kbit/s
   RateSaid : ℕ → Said
+  -- a seed
+  SeedSaid : ℕ → Said
+  -- a number of frames
+  CountSaid : ℕ → Said
 
 -- what a word of the kind says; none for a word that isn't of the kind
 abbrev pub said : Kind → List ℕ → Option Said
@@ -69,6 +85,8 @@ said Steps word = option_map StepsSaid (steps_of word)
 said Channel word = option_map ChannelSaid (channel_of word)
 said Place word = option_map PlaceSaid (place_of word)
 said Rate word = option_map RateSaid (rate_in word)
+said Seed word = option_map SeedSaid (seed_in word)
+said Count word = option_map CountSaid (count_in word)
 
 -- the word is of the kind
 abbrev pub fits_kind : Kind → List ℕ → Bool
@@ -93,6 +111,14 @@ place_said _ = End
 abbrev pub rate_said : Said → ℕ
 rate_said (RateSaid rate) = rate
 rate_said _ = 0
+
+abbrev pub seed_said : Said → ℕ
+seed_said (SeedSaid seed) = seed
+seed_said _ = 0
+
+abbrev pub count_said : Said → ℕ
+count_said (CountSaid count) = count
+count_said _ = 1
 
 -- one value before those that follow it, where there is one
 abbrev pub said_first : Option Said → List Said → List Said

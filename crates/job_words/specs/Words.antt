@@ -5,7 +5,7 @@ use Rattle.std.specs.Cmp.Lexicographic.{pointwise}
 use Rattle.cue_sheet.specs.declared.place.Place.{Place}
 use Rattle.cue_sheet.specs.Places.{IsPlace}
 use Rattle.job_words.specs.Kinds.{Kind, is_name, fits_kind}
-use Rattle.job_words.specs.Asked.{Asked, Help, Version, ListFile, Gain, Undo, Cut, Pack, SplitAt, SplitBy, Join}
+use Rattle.job_words.specs.Asked.{Asked, Help, Version, ListFile, Gain, Undo, Cut, Pack, SplitAt, SplitBy, Join, Drill, Fade}
 use Rattle.job_words.specs.Forms.{forms, Shape, shapes, kinds_for, asked_of}
 
 -- ---- the reading
@@ -90,6 +90,14 @@ pub record AreSplitPlaces (places : List Place) : Type 0 where
   pub few : length places ≤ 100
   pub each : All IsPlace places
 
+-- a seed of a stream, and a number of its frames that can be asked for
+abbrev pub IsSeed : ℕ → Type 0
+IsSeed seed = seed < 2147483648
+
+pub record IsCount (count : ℕ) : Type 0 where
+  pub some : 1 ≤ count
+  pub few : count ≤ 20000
+
 abbrev pub IsSound : Asked → Type 0
 IsSound Help = Unit {0}
 IsSound Version = Unit {0}
@@ -101,3 +109,5 @@ IsSound (Pack mode input output) = IsName input × IsName output
 IsSound (SplitAt input prefix places) = IsName input × IsName prefix × AreSplitPlaces places
 IsSound (SplitBy input prefix sheet) = IsName input × IsName prefix × IsName sheet
 IsSound (Join output inputs) = IsName output × AreInputs inputs
+IsSound (Drill seed count) = IsSeed seed × IsCount count
+IsSound (Fade back input output sheet) = IsName input × IsName output × IsName sheet

@@ -13,6 +13,8 @@ pub(crate) enum Flag {
     Wrapping,
     /// `--least`: each frame has the least bit rate and padding with room for it.
     Least,
+    /// `--back`: a fade is taken back.
+    Back,
 }
 
 impl Default for Flag {
@@ -39,6 +41,7 @@ impl Flag {
             Flag::Tagless => &["-s", "s"],
             Flag::Wrapping => &["-w"],
             Flag::Least => &["--least"],
+            Flag::Back => &["--back"],
         }
     }
 

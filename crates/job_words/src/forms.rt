@@ -31,6 +31,8 @@ pub(crate) enum Asks {
     SplitAt,
     SplitBy,
     Join,
+    Drill,
+    Fade,
 }
 
 /// A form: the command's word, then flags, then words of these kinds, of which the last may stand again so often.
@@ -42,8 +44,9 @@ pub(crate) struct Form {
     pub(crate) asks: Asks,
 }
 
-/// The forms. C is a channel, N a number of steps, B a bit rate, P1 to P100, FROM and TO are places; all others are names.
-pub(crate) static FORMS: [Form; 15] = [
+/// The forms. C is a channel, N a number of steps, B a bit rate, SEED and COUNT are numbers, P1 to P100, FROM and TO places; all
+/// others are names.
+pub(crate) static FORMS: [Form; 17] = [
     // `--help`
     Form {
         command: "--help",
@@ -200,6 +203,22 @@ pub(crate) static FORMS: [Form; 15] = [
         more: 63,
         asks: Asks::Join,
     },
+    // `drill SEED COUNT`
+    Form {
+        command: "drill",
+        flags: &[],
+        kinds: &[WordKind::Seed, WordKind::Count],
+        more: 0,
+        asks: Asks::Drill,
+    },
+    // `fade [--back] IN OUT SHEET`
+    Form {
+        command: "fade",
+        flags: &[Flag::Back],
+        kinds: &[WordKind::Name, WordKind::Name, WordKind::Name],
+        more: 0,
+        asks: Asks::Fade,
+    },
 ];
 
 /// The most kinds that a form has for its words: the command, four flags of two words, five kinds, and the last 98 times again.
@@ -314,6 +333,16 @@ impl Asks {
             Asks::Join => Job::Join {
                 output: name_at(values, 0),
                 inputs: behind(words, 1),
+            },
+            Asks::Drill => Job::Drill {
+                seed: value_at(values, 0).seed(),
+                count: value_at(values, 1).count(),
+            },
+            Asks::Fade => Job::Fade {
+                back: is_given(given, Flag::Back),
+                input: name_at(values, 0),
+                output: name_at(values, 1),
+                sheet: name_at(values, 2),
             },
         }
     }

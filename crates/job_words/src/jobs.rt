@@ -83,4 +83,22 @@ pub enum Job<'a> {
         /// The names of the files to read, 1 to 64.
         inputs: &'a [String],
     },
+    /// Make a stream from a number, pack it in memory, and say how long both are.
+    Drill {
+        /// The number, below 2^31.
+        seed: u32,
+        /// How many frames the stream has, 1 to 20,000.
+        count: u32,
+    },
+    /// Write the file `input` to `output`, each frame louder or quieter by the steps that a sheet gives at its place.
+    Fade {
+        /// Whether by as many steps the other way, so that such a fade is taken back.
+        back: bool,
+        /// The name of the file to read.
+        input: &'a str,
+        /// The name of the file to write.
+        output: &'a str,
+        /// The name of the sheet.
+        sheet: &'a str,
+    },
 }

@@ -1,6 +1,6 @@
 //! What a single word can be, and what it says.
 ghost use Rattle.std.specs.Prelude.{◌≡◌, option_map, pos};
-ghost use Rattle.job_words.specs.Kinds.{is_name, step_count, steps_of, channel_of, rate_in, said, name_said, steps_said, channels_said, place_said, rate_said};
+ghost use Rattle.job_words.specs.Kinds.{is_name, step_count, steps_of, channel_of, rate_in, seed_in, count_in, said, name_said, steps_said, channels_said, place_said, rate_said, seed_said, count_said};
 ghost use Rattle.job_words.specs.Code.{word_kind, value_said};
 
 use cue_sheet::Place;
@@ -22,6 +22,10 @@ pub(crate) enum WordKind {
     Place,
     /// A bit rate.
     Rate,
+    /// The seed of a stream.
+    Seed,
+    /// The number of its frames.
+    Count,
 }
 
 impl Default for WordKind {
@@ -46,6 +50,10 @@ pub(crate) enum Value<'a> {
     Place(Place),
     /// This bit rate in kbit/s, 0 to 999.
     Rate(u16),
+    /// This seed, below 2^31.
+    Seed(u32),
+    /// So many frames, 1 to 20,000.
+    Count(u32),
 }
 
 impl Default for Value<'_> {
@@ -99,6 +107,41 @@ fn read_rate(word: &str) -> Option<u16>
     read_number(word.as_bytes(), 1, 3, 999).map(|rate| rate as u16)
 }
 
+/// The greatest seed.
+const MOST_SEED: u64 = 2_147_483_647;
+
+// One to ten digits, of a number up to that.
+fn read_seed(digits: &[u8]) -> Option<u32>
+    ensures { result ≡ seed_in digits.now }
+{
+    if digits.is_empty() {
+        return None;
+    }
+    if digits.len() > 10 {
+        return None;
+    }
+    let mut seed: u64 = 0;
+    for digit in digits {
+        if !digit.is_ascii_digit() {
+            return None;
+        }
+        seed = seed * 10 + u64::from(*digit - b'0');
+    }
+    if seed <= MOST_SEED {
+        Some(seed as u32)
+    } else {
+        None
+    }
+}
+
+// One to five digits, of a number from 1 to 20,000.
+fn read_count(word: &str) -> Option<u32>
+    ensures { result ≡ count_in word.now }
+{
+    let count = read_number(word.as_bytes(), 1, 5, 20_000)?;
+    if count == 0 { None } else { Some(count) }
+}
+
 impl WordKind {
     /// What a word of this kind says. `None` for a word that isn't of the kind.
     pub(crate) fn read<'a>(&self, word: &'a str) -> Option<Value<'a>>
@@ -111,6 +154,8 @@ impl WordKind {
             WordKind::Channel => Some(Value::Channel(read_channel(word)?)),
             WordKind::Place => Some(Value::Place(Place::read(word)?)),
             WordKind::Rate => Some(Value::Rate(read_rate(word)?)),
+            WordKind::Seed => Some(Value::Seed(read_seed(word.as_bytes())?)),
+            WordKind::Count => Some(Value::Count(read_count(word)?)),
             _ => None,
         }
     }
@@ -164,6 +209,26 @@ impl<'a> Value<'a> {
         match self {
             Value::Rate(rate) => rate,
             _ => 0,
+        }
+    }
+
+    /// The seed; 0 for any other value.
+    pub(crate) fn seed(self) -> u32
+        ensures { result ≡ seed_said (value_said self.entry) }
+    {
+        match self {
+            Value::Seed(seed) => seed,
+            _ => 0,
+        }
+    }
+
+    /// The number of frames; 1 for any other value.
+    pub(crate) fn count(self) -> u32
+        ensures { result ≡ count_said (value_said self.entry) }
+    {
+        match self {
+            Value::Count(count) => count,
+            _ => 1,
         }
     }
 }

@@ -27,10 +27,12 @@ fn read_by<'a>(forms: &[Form], words: &'a [String]) -> Result<Job<'a>, u32>
 /// first word that no form takes, or the number of words plus 1 where a word is missing.
 /// The forms are `list IN`; `gain [-s s] [-w] -g N IN OUT` and `gain [-s s] [-w] -l C N IN OUT`, with the two options in
 /// either order; `gain -u IN OUT`; `cut [--least] IN FROM TO OUT`; `pack IN OUT`, `pack --constant B IN OUT`,
-/// `pack --floor B IN OUT` and `pack --best IN OUT`; `split IN PREFIX P1 P2 [P3 to P100]`; `split IN PREFIX -c CUE`; `join OUT IN1 [IN2 to IN64]`; and
-/// `--help`, `-h` and `--version`, each alone. C is `0` or `1`. N is an optional `+` or `-` and one to three digits, from -255
-/// to 255. B is a bit rate in kbit/s, one to three digits. FROM, TO and P1 to P100 are places as `Place::read` has them. All
-/// other words in capital letters are names: a name isn't empty and doesn't begin with `-`.
+/// `pack --floor B IN OUT` and `pack --best IN OUT`; `split IN PREFIX P1 P2 [P3 to P100]`; `split IN PREFIX -c CUE`;
+/// `join OUT IN1 [IN2 to IN64]`; `drill SEED COUNT`; `fade [--back] IN OUT SHEET`; and `--help`, `-h` and `--version`, each
+/// alone. C is `0` or `1`. N is an optional `+` or `-` and one to three digits, from -255 to 255. B is a bit rate in kbit/s, one
+/// to three digits. SEED is a number up to 2,147,483,647 of one to ten digits, and COUNT one from 1 to 20,000 of one to five.
+/// FROM, TO and P1 to P100 are places as `Place::read` has them. All other words in capital letters are names: a name isn't
+/// empty and doesn't begin with `-`.
 /// It takes no memory.
 pub fn job(words: &[String]) -> Result<Job<'_>, u32>
     ensures exact { answer result ≡ job_of (map string_bytes words.now) }

@@ -17,8 +17,9 @@ use Rattle.sync_survey.specs.declared.survey_fault.SurveyFault.{SurveyFault}
 use Rattle.sync_survey.specs.Faults.{SurveyFields}
 use Rattle.sync_survey.specs.Survey.{survey_of}
 use Rattle.splitting.specs.Split.{piece_names, chosen_at, made_of as split_made, made_at, made_by, made_where, unless_equal, made_result as made_result_split, Placing, split_command}
+use Rattle.drill.specs.Drilled.{IsDrillFault}
 use Rattle.commands.specs.Said.{Heard, IsText, SaysAll, Says, fault_of}
-use Rattle.commands.specs.Left.{Why, Rejected, Missing, Unread, Shorter, Unwritten, Unsent, NoMemory, why_of, Seen, IsDone, IsRefused, LeavesBy, Leaves, HasNumbers}
+use Rattle.commands.specs.Left.{Why, Rejected, Missing, Unread, Shorter, Unwritten, Unsent, NoMemory, why_of, Seen, IsDone, IsRefused, TakesMemory, LeavesBy, Leaves, HasNumbers}
 use Rattle.job_words.specs.Asked.{Asked}
 use Rattle.job_words.specs.Words.{job_of}
 use Rattle.mp3_cli.specs.Texts.{status_by, bad_word_line, GotWhole, GotFront, GotLine}
@@ -374,6 +375,13 @@ module _ (text : List ℕ) (some : Some text ≢ Some []) (now : Seen) where
       at None = tt
       at (Some f) = (record { outputs = []; text = text }, refl, refl)
 
+  none_early : IfSome now.files (λ f. TakesMemory ((said_command text).makes f))
+  none_early = at now.files
+    where
+      at : (files : Files) → IfSome files (λ f. TakesMemory ((said_command text).makes f))
+      at None = tt
+      at (Some f) = tt
+
   unsent_made : IfSome now.files (λ f. (made : Made) × ((said_command text).makes f ≡ Ok made))
   unsent_made = at now.files
     where
@@ -386,7 +394,15 @@ module _ (text : List ℕ) (some : Some text ≢ Some []) (now : Seen) where
       at (Some f) = none f
 
   module _ (out_old out_new err_old err_new : Heard) (status : ℕ) where
-    said_fault : (fault : EditFault) → NotSent ≡ fault → Says (said_command text) now.files out_old out_new (Some fault) → status ≡ fault_status (Some fault) → GetsLine err_old err_new (line_of (said_command text) (Some fault))
+    said_left : (fault : EditFault) → IsDrillFault fault → Leaves (said_command text) now now fault × HasNumbers (said_command text) fault
+    said_left NotSent is = (record { made = unsent_made; stays = refl }, some)
+    said_left Memory is = (record { names = refl; takes = none_early; stays = refl }, tt)
+    said_left (EqualNames place) is = absurd is
+    said_left (Input place fault) is = absurd is
+    said_left (Refused refusal) is = absurd is
+    said_left (Write place) is = absurd is
+
+    said_fault : (fault : EditFault) → IsDrillFault fault → Says (said_command text) now.files out_old out_new (Some fault) → status ≡ fault_status (Some fault) → GetsLine err_old err_new (line_of (said_command text) (Some fault))
         → Answers (said_command text) (world now out_old err_old) (world now out_new err_new) status
     said_fault fault is says status_is line = record {
       fault = Some fault;
@@ -394,12 +410,12 @@ module _ (text : List ℕ) (some : Some text ≢ Some []) (now : Seen) where
       line = line;
       says = says;
       done = λ e. absurd cc;
-      left = subst (Leaves (said_command text) now now) is (record { made = unsent_made; stays = refl });
-      numbers = subst (HasNumbers (said_command text)) is some;
+      left = (said_left fault is).0;
+      numbers = (said_left fault is).1;
       names = λ place e. absurd cc;
     }
 
-    pub said_answers : {T : Type 0} (r : Result T EditFault) → Says (said_command text) now.files out_old out_new (fault_of r) → IfErr r (λ fault. fault ≡ NotSent) → status ≡ fault_status (fault_of r)
+    pub said_answers : {T : Type 0} (r : Result T EditFault) → Says (said_command text) now.files out_old out_new (fault_of r) → IfErr r IsDrillFault → status ≡ fault_status (fault_of r)
         → GetsLine err_old err_new (line_of (said_command text) (fault_of r)) → Answers (said_command text) (world now out_old err_old) (world now out_new err_new) status
     said_answers (Ok x) says is status_is line = record {
       fault = None;
@@ -411,4 +427,9 @@ module _ (text : List ℕ) (some : Some text ≢ Some []) (now : Seen) where
       numbers = tt;
       names = λ place e. absurd cc;
     }
-    said_answers (Err fault) says is status_is line = said_fault fault (sym is) says status_is line
+    said_answers (Err fault) says is status_is line = said_fault fault is says status_is line
+
+-- a failed write is one of these faults
+pub sent_alone : {T : Type 0} (r : Result T EditFault) → IfErr r (λ fault. fault ≡ NotSent) → IfErr r IsDrillFault
+sent_alone (Ok x) is = tt
+sent_alone (Err fault) is = subst IsDrillFault (sym is) tt

@@ -8,12 +8,14 @@ use Rattle.commands.specs.Left.{Seen, IsDone, Leaves, HasNumbers}
 use Rattle.commands.specs.Said.{Heard, Says}
 use Rattle.gain_edits.specs.Gain.{gain_command}
 use Rattle.gain_edits.specs.Undo.{undo_command}
+use Rattle.fading.specs.Fade.{fade_command}
 use Rattle.frame_edits.specs.Chosen.{cut_command}
 use Rattle.packing.specs.Modes.{pack_mode_command}
 use Rattle.listing.specs.Listing.{list_command}
 use Rattle.splitting.specs.Split.{split_at_command, split_by_command}
 use Rattle.joining.specs.Join.{join_command}
-use Rattle.job_words.specs.Asked.{Asked, Help, Version, ListFile, Gain, Undo, Cut, Pack, SplitAt, SplitBy, Join}
+use Rattle.drill.specs.Drilled.{drill_command}
+use Rattle.job_words.specs.Asked.{Asked, Help, Version, ListFile, Gain, Undo, Cut, Pack, SplitAt, SplitBy, Join, Drill, Fade}
 use Rattle.job_words.specs.Words.{job_of}
 use Rattle.mp3_cli.specs.Texts.{status_of, fault_line, bad_word_line, help_text, version_text, GotLine}
 
@@ -41,6 +43,8 @@ command_of (Pack mode input output) = pack_mode_command mode input output
 command_of (SplitAt input prefix places) = split_at_command places input prefix
 command_of (SplitBy input prefix sheet) = split_by_command input sheet prefix
 command_of (Join output inputs) = join_command output inputs
+command_of (Drill seed count) = drill_command seed count
+command_of (Fade back input output sheet) = fade_command sheet back input output
 
 -- ---- the answer of a command, whatever its folder tells
 

@@ -134,10 +134,15 @@ help_text =
     ++ (codes "  split IN PREFIX -c CUE the same at the starts of the tracks in the cue sheet CUE, the last to the end of IN\n"
     ++ (codes "  join OUT IN1 [IN2 to IN64]\n"
     ++ (codes "                         write the frames of IN1 to IN64, one file after another, to OUT\n"
+    ++ (codes "  drill SEED COUNT       make COUNT frames from the number SEED, pack them in memory, and say how long both are\n"
+    ++ (codes "  fade [--back] IN OUT SHEET\n"
+    ++ (codes "                         write IN to OUT, each frame louder or quieter by the steps of 1.5 dB at its place\n"
+    ++ (codes "                         SHEET: lines of a place and steps, between which the steps go evenly\n"
+    ++ (codes "                         --back: by as many steps the other way, so that such a fade is taken back\n"
     ++ (codes "  --help, -h             say this\n"
     ++ (codes "  --version              say which version this is\n"
     ++ (codes "status: 0 done; 1 refused; 2 bad word; 3 a file is absent, or reading or writing failed;\n"
-    ++ codes "        4 out of memory\n"))))))))))))))))))))))))))
+    ++ codes "        4 out of memory\n")))))))))))))))))))))))))))))))
 
 -- the program's name and version
 unfoldable pub version_text : List ℕ

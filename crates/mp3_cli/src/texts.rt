@@ -40,7 +40,7 @@ pub fn status(fault: &EditFault) -> u8
 }
 
 /// What the program does, form by form, and the statuses.
-static HELP: [&str; 28] = [
+static HELP: [&str; 33] = [
     "usage: mp3edit COMMAND\n",
     "  list IN                say what stands in the MP3 file IN: tags, junk, head and frames\n",
     "  gain [-s s] [-w] -g N IN OUT\n",
@@ -65,6 +65,11 @@ static HELP: [&str; 28] = [
     "  split IN PREFIX -c CUE the same at the starts of the tracks in the cue sheet CUE, the last to the end of IN\n",
     "  join OUT IN1 [IN2 to IN64]\n",
     "                         write the frames of IN1 to IN64, one file after another, to OUT\n",
+    "  drill SEED COUNT       make COUNT frames from the number SEED, pack them in memory, and say how long both are\n",
+    "  fade [--back] IN OUT SHEET\n",
+    "                         write IN to OUT, each frame louder or quieter by the steps of 1.5 dB at its place\n",
+    "                         SHEET: lines of a place and steps, between which the steps go evenly\n",
+    "                         --back: by as many steps the other way, so that such a fade is taken back\n",
     "  --help, -h             say this\n",
     "  --version              say which version this is\n",
     "status: 0 done; 1 refused; 2 bad word; 3 a file is absent, or reading or writing failed;\n",

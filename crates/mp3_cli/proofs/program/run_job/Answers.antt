@@ -4,15 +4,18 @@ use Rattle.commands.specs.Left.{seen}
 use Rattle.commands.specs.Said.{heard, fault_of}
 use Rattle.gain_edits.specs.Gain.{gain_command}
 use Rattle.gain_edits.specs.Undo.{undo_command}
+use Rattle.fading.specs.Fade.{fade_command}
 use Rattle.frame_edits.specs.Chosen.{cut_command}
 use Rattle.pack_mode.specs.declared.mode.PackMode.{PackMode}
 use Rattle.pack_mode.specs.declared.mode.PackMode.TheVariants.{Least, Constant, Floor, Best}
 use Rattle.packing.specs.Modes.{pack_task, pack_mode_command}
 use Rattle.splitting.specs.Split.{split_at_command, split_by_command, given, told_by}
 use Rattle.joining.specs.Join.{join_task, join_command}
+use Rattle.drill.specs.Drilled.{drill_text}
+use Rattle.drill.proofs.PackedLaws.{drill_text-some}
 use Rattle.mp3_cli.specs.Texts.{help_text, version_text}
 use Rattle.mp3_cli.specs.Run.{result_line, line_of, GetsLine}
-use Rattle.mp3_cli.proofs.RunLaws.{said_answers, command_answers, one_silent, split_silent}
+use Rattle.mp3_cli.proofs.RunLaws.{said_answers, sent_alone, command_answers, one_silent, split_silent}
 use Rattle.mp3_cli.proofs.program.run_job.Goals as goal
 
 some_help : Some help_text ≢ Some []
@@ -27,13 +30,13 @@ pub returns-in-Help-clause-answers : goal.returns-in-Help-clause-answers
 returns-in-Help-clause-answers g c =
     rw c.in-Help.is
     (said_answers help_text some_help (seen (g.D.Folder.files c.args.folder.now) (g.D.Folder.counts c.args.folder.now)) _ _ _ _ _ c.say_help-done.result
-    (c.say_help-done.ensures.says (g.D.Folder.files c.args.folder.now)) c.say_help-done.ensures.fault c.report.ensures.status c.report.ensures.line)
+    (c.say_help-done.ensures.says (g.D.Folder.files c.args.folder.now)) (sent_alone c.say_help-done.result c.say_help-done.ensures.fault) c.report.ensures.status c.report.ensures.line)
 
 pub returns-in-Version-clause-answers : goal.returns-in-Version-clause-answers
 returns-in-Version-clause-answers g c =
     rw c.in-Version.is
     (said_answers version_text some_version (seen (g.D.Folder.files c.args.folder.now) (g.D.Folder.counts c.args.folder.now)) _ _ _ _ _ c.say_version-done.result
-    (c.say_version-done.ensures.says (g.D.Folder.files c.args.folder.now)) c.say_version-done.ensures.fault c.report-in-Version.ensures.status c.report-in-Version.ensures.line)
+    (c.say_version-done.ensures.says (g.D.Folder.files c.args.folder.now)) (sent_alone c.say_version-done.result c.say_version-done.ensures.fault) c.report-in-Version.ensures.status c.report-in-Version.ensures.line)
 
 pub returns-in-Gain-clause-answers : goal.returns-in-Gain-clause-answers
 returns-in-Gain-clause-answers g c =
@@ -104,3 +107,16 @@ returns-in-Join-clause-answers g c =
     (command_answers command (one_silent (join_task (map string_bytes c.in-Join.inputs.now)) c.in-Join.output.now) c.join-done.result
     (seen (g.D.Folder.files c.args.folder.now) (g.D.Folder.counts c.args.folder.now)) (seen (g.D.Folder.files c.join-done.new.folder) (g.D.Folder.counts c.join-done.new.folder))
     _ _ _ _ c.join-done.ensures.done c.join-done.ensures.left c.join-done.ensures.numbers c.join-done.ensures.names c.report-in-Join.ensures.status line)
+
+pub returns-in-Drill-clause-answers : goal.returns-in-Drill-clause-answers
+returns-in-Drill-clause-answers g c =
+    rw c.in-Drill.is
+    (said_answers (drill_text c.in-Drill.seed c.in-Drill.count) (drill_text-some c.in-Drill.seed c.in-Drill.count) (seen (g.D.Folder.files c.args.folder.now) (g.D.Folder.counts c.args.folder.now)) _ _ _ _ _ c.drill-done.result
+    (c.drill-done.ensures.says (g.D.Folder.files c.args.folder.now)) c.drill-done.ensures.fault c.report-in-Drill.ensures.status c.report-in-Drill.ensures.line)
+
+pub returns-in-Fade-clause-answers : goal.returns-in-Fade-clause-answers
+returns-in-Fade-clause-answers g c =
+    rw c.in-Fade.is
+    (command_answers (fade_command c.in-Fade.sheet.now c.in-Fade.back c.in-Fade.input.now c.in-Fade.output.now) (one_silent _ c.in-Fade.output.now) c.fade-done.result
+    (seen (g.D.Folder.files c.args.folder.now) (g.D.Folder.counts c.args.folder.now)) (seen (g.D.Folder.files c.fade-done.new.folder) (g.D.Folder.counts c.fade-done.new.folder))
+    _ _ _ _ c.fade-done.ensures.done c.fade-done.ensures.left c.fade-done.ensures.numbers c.fade-done.ensures.names c.report-in-Fade.ensures.status c.report-in-Fade.ensures.line)

@@ -1,0 +1,132 @@
+//! Calls that fail while a file fades.
+
+use acceptance_kit::rows::{Failing, File, MORE, More, ROW, Row, first_difference};
+use acceptance_kit::steps::{Kind, Steps, first_strayed};
+use outside::Call;
+use std::test::Fail;
+use test_files::files::Stretch;
+use test_files::frames::{G, G_LOWER, Z};
+
+/// Five steps down for all frames.
+const FIVE_DOWN: File = File {
+    name: "s",
+    bytes: &[Stretch::Bytes(b"0 -5")],
+};
+
+/// 480 frames of 417 bytes: 200,160 bytes are written by 65,536.
+static MANY: [Steps; 1] = [Steps {
+    words: "fade g o s",
+    files: &[
+        File {
+            name: "g",
+            bytes: &[Stretch::Repeated(&[G], 480)],
+        },
+        FIVE_DOWN,
+    ],
+    outputs: &[File {
+        name: "o",
+        bytes: &[Stretch::Repeated(&[G_LOWER], 480)],
+    }],
+    room: 200_160,
+    kinds: &[
+        Kind {
+            call: Call::Create,
+            line: "o: write fault\n",
+            least: 1,
+            written: 0,
+        },
+        Kind {
+            call: Call::Write,
+            line: "o: write fault\n",
+            least: 4,
+            written: 0,
+        },
+    ],
+}];
+
+#[test]
+fn each_call_that_writes_fails_in_turn(rt: HostRuntime) -> Result<(), Fail> {
+    assert_eq!(rt; first_strayed(rt.alloc(), &MANY)?, None);
+    Ok(())
+}
+
+/// 400 silent frames, 166,800 bytes.
+const SILENT: File = File {
+    name: "g",
+    bytes: &[Stretch::Repeated(&[Z], 400)],
+};
+
+/// Calls that read: the input is found and read to its end, then the sheet, and then the input again.
+static READS: [Row; 4] = [
+    Row {
+        files: &[SILENT, FIVE_DOWN],
+        words: &["fade g o s"],
+        status: 3,
+        line: "s: read fault\n",
+        more: Some(&More {
+            fails: Some(&[Failing {
+                call: Call::Find,
+                number: 2,
+            }]),
+            ..MORE
+        }),
+        ..ROW
+    },
+    Row {
+        files: &[SILENT, FIVE_DOWN],
+        words: &["fade g o s"],
+        status: 3,
+        line: "g: read fault\n",
+        more: Some(&More {
+            fails: Some(&[Failing {
+                call: Call::Read,
+                number: 3,
+            }]),
+            ..MORE
+        }),
+        ..ROW
+    },
+    Row {
+        files: &[SILENT, FIVE_DOWN],
+        words: &["fade g o s"],
+        status: 3,
+        line: "s: read fault\n",
+        more: Some(&More {
+            fails: Some(&[Failing {
+                call: Call::Read,
+                number: 4,
+            }]),
+            ..MORE
+        }),
+        ..ROW
+    },
+    // Of the second time: what was read in front of it is written, so neither the input nor the output is held whole.
+    Row {
+        files: &[SILENT, FIVE_DOWN],
+        words: &["fade g o s"],
+        status: 3,
+        line: "g: read fault\n",
+        after: &[File {
+            name: "o",
+            bytes: &[
+                Stretch::Repeated(&[Z], 157),
+                Stretch::Bytes(&[0xff, 0xfb, 0x90, 0x00]),
+                Stretch::Fill(0, 63),
+            ],
+        }],
+        more: Some(&More {
+            fails: Some(&[Failing {
+                call: Call::Read,
+                number: 7,
+            }]),
+            ..MORE
+        }),
+        ..ROW
+    },
+];
+
+#[test]
+fn a_call_that_reads_fails(rt: HostRuntime) -> Result<(), Fail> {
+    assert_eq!(rt; first_difference(rt.alloc(), &READS)?, None);
+    Ok(())
+}
