@@ -12,7 +12,7 @@ use Rattle.sync_survey.proofs.RunsLaws.{both}
 use Rattle.sync_survey.proofs.FaultsLaws.{get_more, get_next, place-more, place-next, place-none}
 use Rattle.salvage.specs.Sound.{is_sound}
 use Rattle.salvage.specs.Judged.{judged_by, before_next, none_before}
-use Rattle.salvage.specs.Kept.{kept_end, end_of_kept, AreKeptWell, AreKeptTo}
+use Rattle.salvage.specs.Kept.{kept_end, end_of_kept, IsKeptWell, AreKeptWell, AreKeptTo}
 
 -- ---- a sound frame, by numbers
 
@@ -21,7 +21,7 @@ pub record IsWithin (place ended : ℕ) (r : Row) : Type 0 where
   pub apart : ended ≤ place - r.side.main_data_begin
   pub ends : (place - r.side.main_data_begin) + payload_bytes r.side ≤ place + own_area r.header
 
-not_true : (b : Bool) → not b ≡ true → b ≡ false
+pub not_true : (b : Bool) → not b ≡ true → b ≡ false
 not_true true is = absurd cc
 not_true false is = refl
 
@@ -70,7 +70,7 @@ module _ (head : Option Head) where
   pub kept_none : AreKeptTo head [] (record { place = head_area head; ended = 0 })
   unfolding end_of_kept
   kept_none = record {
-    frames = λ i r found kept. absurd cc;
+    frames = λ i r found. absurd cc;
     base = 0;
     place_is = omega (arith, place-none head);
     ended_is = omega arith;
@@ -114,17 +114,20 @@ module _ (head : Option Head) where
         ap₂ (λ m n. is_sound m n r) (place-more head rows (marked_one ∷ []) (length rows) (omega arith)) (kept-more rows (marked_one ∷ []) (length rows) (omega arith)) ∙ sound_by mark
 
     each_kept : AreKeptWell head (rows ++ marked_one ∷ [])
-    each_kept i q found mark =
-        elim (cases_lt i (length rows)) as (λ _. is_sound (place head (rows ++ marked_one ∷ []) i) (end_of_kept head (rows ++ marked_one ∷ []) i) q ≡ true) [
+    each_kept i q found =
+        elim (cases_lt i (length rows)) as (λ _. IsKeptWell head (rows ++ marked_one ∷ []) i q) [
           | inl before ↦
-              ap₂ (λ m n. is_sound m n q) (place-more head rows (marked_one ∷ []) i (omega (arith, before))) (kept-more rows (marked_one ∷ []) i (omega (arith, before)))
-              ∙ kept.frames i q (sym (get_more rows (marked_one ∷ []) i before) ∙ found) mark
+              let place_is = place-more head rows (marked_one ∷ []) i (omega (arith, before)) in
+              let end_is = kept-more rows (marked_one ∷ []) i (omega (arith, before)) in
+              let is = kept.frames i q (sym (get_more rows (marked_one ∷ []) i before) ∙ found) in
+              record { before = omega (arith, place_is, end_is, is.before); sound = λ mark. ap₂ (λ m n. is_sound m n q) place_is end_is ∙ is.sound mark }
           | inr behind ↦
               let at : i ≡ length rows = omega (arith, behind, slice_get_within (rows ++ marked_one ∷ []) i q found, length-append rows (marked_one ∷ [])) in
               let one : Some marked_one ≡ Some q = sym (get_next rows marked_one) ∙ ap (slice_get (rows ++ marked_one ∷ [])) (sym at) ∙ found in
               let same : marked_one ≡ q = cc in
-              subst (λ (p : Row). is_sound (place head (rows ++ marked_one ∷ []) i) (end_of_kept head (rows ++ marked_one ∷ []) i) p ≡ true) same
-              (subst (λ n. is_sound (place head (rows ++ marked_one ∷ []) n) (end_of_kept head (rows ++ marked_one ∷ []) n) marked_one ≡ true) (sym at) (last_kept (ap (λ (p : Row). p.lost) same ∙ mark)))
+              subst (IsKeptWell head (rows ++ marked_one ∷ []) i) same
+              (subst (λ n. IsKeptWell head (rows ++ marked_one ∷ []) n marked_one) (sym at)
+              (record { before = omega (arith, place-more head rows (marked_one ∷ []) (length rows) (omega arith), kept-more rows (marked_one ∷ []) (length rows) (omega arith), kept.within); sound = last_kept }))
         ]
 
     pub kept_frame : AreKeptTo head (rows ++ marked_one ∷ []) (before_next b r)

@@ -9,3 +9,4 @@ pub mod Results
 pub mod KeepsLaws
 pub mod KeptLaws
 pub mod StreamLaws
+pub mod MendedLaws

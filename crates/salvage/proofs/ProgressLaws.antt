@@ -361,8 +361,8 @@ some_of [] none = absurd (none refl)
 some_of (r ∷ rows) none = omega arith
 
 pub laid_out : (b : Begun) (found : Found) → b.start.front_end ≤ b.start.first.offset → b.start.first.offset + size_of (Frame b.start.first.header) ≤ b.size → IfSome b.head (IsFrameOf b.start.first) → IsLaidTo b found
-    → (found.rows.items ≡ [] → ⊥) → IsLaidOut (told_of b found)
-laid_out b found junk whole same laid some = record {
+    → (found.rows.items ≡ [] → ⊥) → b.size ≤ longest_file → IsLaidOut (told_of b found)
+laid_out b found junk whole same laid some long = record {
   junk = junk;
   first = omega (arith, whole);
   head = head_within b b.head whole same;
@@ -372,5 +372,6 @@ laid_out b found junk whole same laid some = record {
   gaps = gaps_later 0 found.gaps.items found.at b.size laid.gaps laid.within;
   some = some_of found.rows.items some;
   few = laid.few;
+  long = long;
   kept = laid.kept.frames;
 }

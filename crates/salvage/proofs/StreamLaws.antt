@@ -96,7 +96,7 @@ none_lost : payload_bits no_side ≡ 0
 unfolding payload_bits
 none_lost = refl
 
-payload_none : (main : List ℕ) (start : ℕ) → payload_at main start no_side ≡ []
+pub payload_none : (main : List ℕ) (start : ℕ) → payload_at main start no_side ≡ []
 payload_none main start = ap (λ n. take n (drop (8 * start) (bits main))) none_lost
 
 frame_among : (before main behind : List ℕ) (place : ℕ) (r : Row) (lost : Bool) → r.lost ≡ lost → (lost ≡ false → Fits (length main) place r) → frame_at (before ++ (main ++ behind)) (length before + place) r ≡ frame_at main place r
@@ -246,7 +246,7 @@ read_from : (file : List ℕ) (front_end : ℕ) (o : Option PlacedFrame) (d : Da
 read_from file front_end None d is e = absurd cc
 read_from file front_end (Some first) d is e = (first, is, counted_is front_end (damaged_from file front_end first).survey.frames (damaged_from file front_end first) d e)
 
-damaged_is : (file : List ℕ) (d : DamagedFields) → damaged file ≡ Ok d → (first : PlacedFrame) × (first_frame file (front_end_of file) ≡ Some first) × (damaged_from file (front_end_of file) first ≡ d)
+pub damaged_is : (file : List ℕ) (d : DamagedFields) → damaged file ≡ Ok d → (first : PlacedFrame) × (first_frame file (front_end_of file) ≡ Some first) × (damaged_from file (front_end_of file) first ≡ d)
 unfolding damaged
 damaged_is file d e = read_from file (front_end_of file) (first_frame file (front_end_of file)) d refl e
 

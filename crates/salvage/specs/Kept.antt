@@ -16,10 +16,14 @@ unfoldable pub end_of_kept : Option Head → List Row → ℕ → ℕ
 end_of_kept head rows zero = 0
 end_of_kept head rows (suc i) = kept_end (place head rows i) (end_of_kept head rows i) (slice_get rows i)
 
--- The main data of each frame that is kept begin neither before all main data nor before the end of those kept before it, and end within
--- its own area: so among the areas of all frames, as in its run.
+-- The main data that are kept before a frame end before its own area. Those of each frame that is kept begin neither before all main data
+-- nor before the end of those kept before it, and end within its own area: so among the areas of all frames, as in its run.
+pub record IsKeptWell (head : Option Head) (rows : List Row) (i : ℕ) (r : Row) : Type 0 where
+  pub before : end_of_kept head rows i ≤ place head rows i
+  pub sound : r.lost ≡ false → is_sound (place head rows i) (end_of_kept head rows i) r ≡ true
+
 abbrev pub AreKeptWell : Option Head → List Row → Type 0
-AreKeptWell head rows = (i : ℕ) (r : Row) → slice_get rows i ≡ Some r → r.lost ≡ false → is_sound (place head rows i) (end_of_kept head rows i) r ≡ true
+AreKeptWell head rows = (i : ℕ) (r : Row) → slice_get rows i ≡ Some r → IsKeptWell head rows i r
 
 -- the frames so far, and where the run began among their main data
 pub record AreKeptTo (head : Option Head) (rows : List Row) (b : Before) : Type 0 where

@@ -10,3 +10,4 @@ pub mod Text
 pub mod Stream
 pub mod Laws
 pub mod Kept
+pub mod Mended

@@ -8,6 +8,7 @@ use Rattle.sync_survey.specs.declared.items.Item.TheVariants.{Frame}
 use Rattle.sync_survey.specs.Items.{size_of}
 use Rattle.sync_survey.specs.Start.{front_end_of}
 use Rattle.sync_survey.specs.Walk.{head_of, IsFrameOf}
+use Rattle.sync_survey.specs.Faults.{longest_file}
 use Rattle.sync_survey.specs.Survey.{HasLength, AreLaid, BlocksAreLaid, IsWholeHead}
 use Rattle.salvage.specs.declared.begun.Begun.{Begun}
 use Rattle.salvage.specs.declared.found.Found.{Found}
@@ -109,4 +110,5 @@ pub record IsLaidOut (d : DamagedFields) : Type 0 where
   pub gaps : GapsAreLaid 0 d.gaps d.survey.length
   pub some : 0 < length d.survey.frames
   pub few : length d.survey.frames ≤ most_frames
+  pub long : d.survey.length ≤ longest_file
   pub kept : AreKeptWell d.survey.head d.survey.frames

@@ -37,7 +37,7 @@ returns-clause-laid g c =
     let begun = c.args.begun.now in
     let found = c.read_things.new.found in
     if_ok c.damaged_by.result (λ d. tells_of d ≡ told_of begun found) (λ d. IsLaidOut (tells_of d)) (found.rows.items ≡ [] → ⊥) c.damaged_by.ensures.told c.damaged_by.ensures.some (λ d told some.
-    subst IsLaidOut (sym told) (laid_out begun found c.requires.begun.junk c.requires.begun.whole c.requires.begun.same c.in_ok-read_things.ensures.reading.laid some))
+    subst IsLaidOut (sym told) (laid_out begun found c.requires.begun.junk c.requires.begun.whole c.requires.begun.same c.in_ok-read_things.ensures.reading.laid some c.requires.begun.known.few))
 
 pub returns-clause-refused : goal.returns-clause-refused
 returns-clause-refused g c =

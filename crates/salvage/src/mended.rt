@@ -1,0 +1,98 @@
+//! What is read of a damaged file as it is written: its frames that aren't sound are empty.
+ghost use Rattle.std.specs.Prelude.{◌≡◌, ◌≤◌, ◌++◌, length, map, option_to_list, IfOk, OnOk};
+ghost use Rattle.sync_survey.specs.Faults.{tells};
+ghost use Rattle.sync_survey.specs.Survey.{IsLaidOut as IsLaidSurvey};
+ghost use Rattle.salvage.specs.Damaged.{tells_of};
+ghost use Rattle.salvage.specs.Progress.{IsLaidOut};
+ghost use Rattle.salvage.specs.Mended.{mended_row, mended, emptied_as, emptied_from};
+
+use crate::damaged::Damaged;
+use crate::gap::Gap;
+use side_info::Side;
+use std::alloc::{AllocError, Global};
+use sync_survey::{Row, Survey};
+
+/// A frame that becomes an empty one: its number, counted from 0 without the head, and its offset in bytes.
+#[derive(Clone, Copy, Debug, PartialEq, Eq)]
+pub struct Emptied {
+    pub number: u32,
+    pub offset: u64,
+}
+
+/// What is read of a damaged file as it is written: a survey in which each frame that isn't sound is one without main
+/// data, these frames, and the gaps.
+#[derive(Drop)]
+pub struct Mended {
+    pub survey: Survey,
+    pub emptied: Vec<Emptied>,
+    pub gaps: Vec<Gap>,
+}
+
+/// Adds the frame with this number, where it becomes an empty one.
+fn push_emptied(emptied: &mut Vec<Emptied>, number: u32, row: &Row) -> Result<(), AllocError>
+    ensures { OnOk result (emptied.new.items ≡ emptied.old.items
+        ++ option_to_list (emptied_as number row.now)) }
+{
+    if row.lost {
+        let offset = row.offset;
+        emptied.push(Emptied { number, offset })?;
+    }
+    Ok(())
+}
+
+/// The frames that become empty ones.
+fn emptied_of(alloc: Global, rows: &[Row]) -> Result<Vec<Emptied>, AllocError>
+    requires few { length rows.now ≤ 2900000 }
+    ensures { IfOk result (λ emptied. emptied.items ≡ emptied_from 0 rows.now) }
+{
+    let mut emptied = Vec::new(alloc);
+    let mut number = 0;
+    while number < rows.len() {
+        push_emptied(&mut emptied, number as u32, &rows[number])?;
+        number += 1;
+    }
+    Ok(emptied)
+}
+
+/// Makes the frame an empty one where it isn't sound.
+fn mend_row(row: &mut Row)
+    ensures { row.new ≡ mended_row row.old }
+{
+    if row.lost {
+        row.side = Side::empty();
+        row.lost = false;
+    }
+}
+
+/// Makes each frame that isn't sound an empty one.
+fn mend_rows(rows: &mut [Row])
+    ensures { rows.new ≡ map mended_row rows.old }
+{
+    for row in rows.iter_mut() {
+        mend_row(row);
+    }
+}
+
+impl Damaged {
+    /// What was read, as it is written.
+    ///
+    /// # Errors
+    /// Where there is no memory.
+    pub fn mend(self, alloc: Global) -> Result<Mended, AllocError>
+        requires { IsLaidOut (tells_of self) }
+        ensures survey { IfOk result (λ m. tells m.survey ≡ mended (tells_of self).survey) }
+        ensures laid { IfOk result (λ m. IsLaidSurvey (tells m.survey)) }
+        ensures emptied { IfOk result (λ m. m.emptied.items
+            ≡ emptied_from 0 (tells_of self).survey.frames) }
+        ensures gaps { IfOk result (λ m. m.gaps.items ≡ (tells_of self).gaps) }
+    {
+        let Damaged { mut survey, gaps } = self;
+        let emptied = emptied_of(alloc, &survey.frames)?;
+        mend_rows(survey.frames.as_mut_slice());
+        Ok(Mended {
+            survey,
+            emptied,
+            gaps,
+        })
+    }
+}
