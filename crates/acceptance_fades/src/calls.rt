@@ -1,7 +1,8 @@
 //! Calls that fail while a file fades.
 
 use acceptance_kit::rows::{Failing, File, MORE, More, ROW, Row, first_difference};
-use acceptance_kit::steps::{Kind, Steps, first_strayed};
+use acceptance_kit::steps::{Steps, first_strayed};
+use acceptance_kit::{kinds, steps};
 use outside::Call;
 use std::test::Fail;
 use test_files::files::Stretch;
@@ -14,35 +15,11 @@ const FIVE_DOWN: File = File {
 };
 
 /// 480 frames of 417 bytes: 200,160 bytes are written by 65,536.
-static MANY: [Steps; 1] = [Steps {
-    words: "fade g o s",
-    files: &[
-        File {
-            name: "g",
-            bytes: &[Stretch::Repeated(&[G], 480)],
-        },
-        FIVE_DOWN,
-    ],
-    outputs: &[File {
-        name: "o",
-        bytes: &[Stretch::Repeated(&[G_LOWER], 480)],
-    }],
-    room: 200_160,
-    kinds: &[
-        Kind {
-            call: Call::Create,
-            line: "o: write fault\n",
-            least: 1,
-            written: 0,
-        },
-        Kind {
-            call: Call::Write,
-            line: "o: write fault\n",
-            least: 4,
-            written: 0,
-        },
-    ],
-}];
+static MANY: [Steps; 1] = steps! {
+    "fade g o s" room 200_160, "g" = &[Stretch::Repeated(&[G], 480)], "s" = &[Stretch::Bytes(b"0 -5")] =>
+        "o" = &[Stretch::Repeated(&[G_LOWER], 480)];
+        kinds! { Create 1 "o: write fault\n"; Write 4 "o: write fault\n"; };
+};
 
 #[test]
 fn each_call_that_writes_fails_in_turn(rt: HostRuntime) -> Result<(), Fail> {
