@@ -3,7 +3,8 @@
 use crate::reservoirs::{FIRST, NEARER, SECOND};
 use acceptance_kit::rows::{FIRST_FIND, FIRST_READ, MORE, More, NO_X, ROW, Row, first_difference};
 use acceptance_kit::running::{folder_of_file, list_to};
-use acceptance_kit::{files, refused};
+use acceptance_kit::steps::{Steps, first_strayed};
+use acceptance_kit::{files, kinds, refused, steps};
 use outside::MemFolder;
 use std::alloc::{AllocError, AllocGlobal};
 use std::process::Abort;
@@ -102,6 +103,22 @@ static REFUSED: [Row; 5] = refused! {
 #[test]
 fn refused_files(rt: HostRuntime) -> Result<(), Fail> {
     assert_eq!(rt; first_difference(rt.alloc(), &REFUSED)?, None);
+    Ok(())
+}
+
+// The listing is one write: nothing of it is sent where a call fails.
+static CALLS: [Steps; 1] = steps! {
+    "list a", "a" = &[Frames(&[FIRST, SECOND])] =>
+"frame 0 at 0: 128 kbit/s, begin 0, bits 2400
+frame 1 at 417: 128 kbit/s, begin 81, bits 3200
+2 frames, MPEG-1, 44100 Hz, 2 channels, 0.00.05
+";
+        kinds! { Find 1 "a: read fault\n"; Read 1 "a: read fault\n"; };
+};
+
+#[test]
+fn each_call_fails_in_turn(rt: HostRuntime) -> Result<(), Fail> {
+    assert_eq!(rt; first_strayed(rt.alloc(), &CALLS)?, None);
     Ok(())
 }
 

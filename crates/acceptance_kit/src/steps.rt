@@ -13,7 +13,8 @@ const MOST: u64 = 60;
 /// A kind of call, and what a run tells where one fails.
 pub struct Kind {
     pub call: Call,
-    pub line: &'static str,
+    /// The line where the first fails, where the second does, and so on; the last of them where a later one does.
+    pub lines: &'static [&'static str],
     /// So many are made at least.
     pub least: u64,
     /// So many bytes at least were written when the last one is made.
@@ -28,11 +29,12 @@ pub const FROM_U_TO_O: &[Kind] = kinds! {
     Write 1 "o: write fault\n";
 };
 
-/// A command over these files, and what it writes, in this order.
+/// A command over these files, and what it writes: files in this order, and then a text to standard output.
 pub struct Steps {
     pub words: &'static str,
     pub files: &'static [File],
     pub outputs: &'static [File],
+    pub text: &'static str,
     pub room: u64,
     pub kinds: &'static [Kind],
 }
@@ -110,16 +112,23 @@ fn progress_of(
     Ok(progress)
 }
 
+/// The line where the call of this number fails.
+fn line_of(kind: &'static Kind, number: u64) -> &'static str {
+    let place = (number as usize).saturating_sub(1);
+    match kind.lines.get(place) {
+        Some(line) => line,
+        None => kind.lines.last().copied().unwrap_or(""),
+    }
+}
+
 /// How the command ended, where the outputs were written so far.
-fn run_of(ended: &Ended, kind: &'static Kind, progress: Progress) -> Run {
+fn run_of(ended: &Ended, line: &'static str, progress: Progress) -> Run {
     match (ended.status, progress) {
         (_, Progress::Neither) => Run::Strayed(Stray::NoPrefix),
         (0, Progress::Whole(_)) => Run::Done,
         (0, Progress::Part(count)) => Run::Strayed(Stray::Written(count)),
         (3, Progress::Whole(count)) => Run::Strayed(Stray::Written(count)),
-        (3, Progress::Part(count)) if ended.err.sent() == kind.line.as_bytes() => {
-            Run::Failed(count)
-        }
+        (3, Progress::Part(count)) if ended.err.sent() == line.as_bytes() => Run::Failed(count),
         (3, Progress::Part(_)) => Run::Strayed(Stray::Line),
         (status, _) => Run::Strayed(Stray::Status(status)),
     }
@@ -141,6 +150,7 @@ fn run_ended(
     folder: &MemFolder,
     steps: &'static Steps,
     kind: &'static Kind,
+    number: u64,
     ended: &Ended,
 ) -> Result<Run, AllocError> {
     if difference_of_files(alloc, folder, steps.files, &[])?.is_some() {
@@ -152,8 +162,9 @@ fn run_ended(
     if kind.call == Call::Write && !is_any_there(folder, steps.outputs) {
         return Ok(Run::Strayed(Stray::Uncreated));
     }
-    let progress = progress_of(alloc, folder, steps.outputs)?;
-    Ok(run_of(ended, kind, progress))
+    let files = progress_of(alloc, folder, steps.outputs)?;
+    let progress = progressed(files, ended.out.sent(), steps.text.as_bytes());
+    Ok(run_of(ended, line_of(kind, number), progress))
 }
 
 fn reserve_files(
@@ -181,9 +192,10 @@ fn run_prepared(
     folder: &mut MemFolder,
     steps: &'static Steps,
     kind: &'static Kind,
+    number: u64,
 ) -> Result<Run, AllocError> {
     let ended = run_with_room(alloc, folder, steps.words)?;
-    run_ended(alloc, folder, steps, kind, &ended)
+    run_ended(alloc, folder, steps, kind, number, &ended)
 }
 
 fn run_over_folder(
@@ -195,7 +207,7 @@ fn run_over_folder(
 ) -> Result<Run, AllocError> {
     prepare_steps(alloc, folder, steps)?;
     folder.fail(kind.call, number)?;
-    run_prepared(alloc, folder, steps, kind)
+    run_prepared(alloc, folder, steps, kind, number)
 }
 
 fn run_failing(
@@ -262,7 +274,7 @@ fn strayed_of_steps(alloc: Global, steps: &'static Steps) -> Result<Option<Stray
 
 /// Runs each command with each call of its kinds failing in turn, up to the first that ends otherwise than it has to. That is `None`
 /// where all do: status 3 with the line, the files as they were, and the outputs whole up to one, of which there is a prefix; at last
-/// all outputs whole with status 0.
+/// all outputs whole with status 0. The text counts as the last output.
 ///
 /// # Errors
 /// Where there is no memory: for the folders and what is compared, or a command told it and left its files.

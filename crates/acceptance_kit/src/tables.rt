@@ -100,14 +100,14 @@ macro_rules! refused {
     };
 }
 
-/// Kinds of calls, each with the least number of calls, the line, and where it isn't 0 the least number of bytes that were written
-/// when the last one is made: `Read 8 "g: read fault\n" after 65_536;`.
+/// Kinds of calls, each with the least number of calls, the line of each, of which the last serves later ones, and where it isn't 0
+/// the least number of bytes that were written when the last one is made: `Read 8 "g: read fault\n" after 65_536;`.
 #[macro_export]
 macro_rules! kinds {
-    ($($call:ident $least:literal $line:literal $(after $written:literal)?;)+) => {
+    ($($call:ident $least:literal $($line:literal),+ $(after $written:literal)?;)+) => {
         &[$($crate::steps::Kind {
             call: outside::Call::$call,
-            line: $line,
+            lines: &[$($line),+],
             least: $least,
             written: 0 $(+ $written)?,
         }),+]
@@ -115,7 +115,8 @@ macro_rules! kinds {
 }
 
 /// Commands whose calls fail in turn: the words, the room of each output, the files there before, those that are written, and the
-/// kinds of calls: `"gain -g 1 a o" room 417, "a" = &[..] => "o" = &[..]; KINDS;`.
+/// kinds of calls: `"gain -g 1 a o" room 417, "a" = &[..] => "o" = &[..]; KINDS;`. Where a text is all that is written, it stands in
+/// place of the files, without a room: `"list a", "a" = &[..] => "1 frames\n"; KINDS;`.
 #[macro_export]
 macro_rules! steps {
     ($($words:literal room $room:literal, $($name:literal = $bytes:expr),+ => $($to:literal = $made:expr),+; $kinds:expr;)+) => {
@@ -123,7 +124,18 @@ macro_rules! steps {
             words: $words,
             files: $crate::files!($($name = $bytes),+),
             outputs: $crate::files!($($to = $made),+),
+            text: "",
             room: $room,
+            kinds: $kinds,
+        }),+]
+    };
+    ($($words:literal, $($name:literal = $bytes:expr),+ => $text:literal; $kinds:expr;)+) => {
+        [$($crate::steps::Steps {
+            words: $words,
+            files: $crate::files!($($name = $bytes),+),
+            outputs: &[],
+            text: $text,
+            room: 0,
             kinds: $kinds,
         }),+]
     };

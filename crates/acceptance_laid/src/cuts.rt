@@ -10,7 +10,7 @@ use test_files::frame;
 use test_files::frames::{Frame, Z};
 
 /// A_1 at 160 kbit/s, where all its main data stand in its own area of 486 bytes.
-const A_1_ALONE: Frame = Frame {
+pub const A_1_ALONE: Frame = Frame {
     header: [0xff, 0xfb, 0xa0, 0x00],
     side: b"\0\0\x03\x20\0\x32\0\0\0\0\x64\0\x06\x40\0\0\0\x0c\x80\0\xc8\0\0\0\x01\x90\0\x19",
     area: &[0x55; 400],

@@ -10,11 +10,11 @@ use test_files::frame;
 use test_files::frames::{Frame, Z};
 
 /// A's first frame at 112 kbit/s, with an area of 329 bytes: behind its 300 bytes are 29 of the frame behind it.
-const A_0_LESS: Frame =
+pub const A_0_LESS: Frame =
     frame! { header: [0xff, 0xfb, 0x80, 0x00], area: &[0x55; 329], length: 365, ..A_0_ALONE };
 
 /// A's second frame, whose main data begin 29 bytes before its own area.
-const A_1_FROM_29: Frame = Frame {
+pub const A_1_FROM_29: Frame = Frame {
     side: b"\x0e\x80\x03\x20\0\x32\0\0\0\0\x64\0\x06\x40\0\0\0\x0c\x80\0\xc8\0\0\0\x01\x90\0\x19",
     area: &[0x55; 371],
     ..Z

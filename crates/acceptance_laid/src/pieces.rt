@@ -16,20 +16,20 @@ pub const Z_FROM_381: Frame = frame! { side: &[0xbe, 0x80], ..Z };
 pub const Z_FROM_511: Frame = frame! { side: &[0xff, 0x80], ..Z };
 
 /// Frame 0 of four silent ones. It leaves its whole area of 381 bytes free, as the others do.
-const PIECE_1: &[Stretch] = &end_to_end! {
+pub const PIECE_1: &[Stretch] = &end_to_end! {
     INFO_FRONT, Bytes(b"Info\0\0\0\x0f\0\0\0\x01\0\0\x02q"), Fill(85, 100), INFO_REST,
     Frames(&[Z])
 };
 
 /// The other three.
-const PIECE_2: &[Stretch] = &end_to_end! {
+pub const PIECE_2: &[Stretch] = &end_to_end! {
     INFO_FRONT, Bytes(b"Info\0\0\0\x0f\0\0\0\x03\0\0\x05\xb3"), Fill(36, 34), Fill(109, 33), Fill(182, 33),
     INFO_REST,
     Frames(&[Z, Z_FROM_381, Z_FROM_511])
 };
 
 /// Four silent frames.
-const FOUR: &[Stretch] = &[Frames(&[Z, Z, Z, Z])];
+pub const FOUR: &[Stretch] = &[Frames(&[Z, Z, Z, Z])];
 
 /// Two pieces are written.
 pub const TWO_PIECES: More = More {

@@ -15,10 +15,10 @@ const TWO_TRACKS: Stretch = Bytes(
     b"FILE \"a.mp3\" MP3\nTRACK 01 AUDIO\nINDEX 01 00:00:00\nTRACK 02 AUDIO\nINDEX 01 00:02:00\n",
 );
 
-const SHEET: &[Stretch] = &[TWO_TRACKS];
+pub const SHEET: &[Stretch] = &[TWO_TRACKS];
 
 /// 76 silent frames.
-const TRACK_1: &[Stretch] = &end_to_end! {
+pub const TRACK_1: &[Stretch] = &end_to_end! {
     INFO_FRONT, Bytes(b"Info\0\0\0\x0f\0\0\0L\0\0|\x9c"),
     Bytes(b"\x01\x01\x05\x08\x0b\x0b\x0f\x12\x15\x15\x19\x1c\x1f\x1f#&))-0337:=AADGKKNQUUX\x5c__bfiilpssvz}\x80\x80\x84\x87\x8a\x8a\x8e\x91\x94\x94\x98\x9b\x9e\x9e\xa2\xa5\xa8\xa8\xac\xaf\xb3\xb3\xb6\xb9\xbd\xc0\xc0\xc3\xc7\xca\xca\xcd\xd1\xd4\xd4\xd7\xdb\xde\xde\xe1\xe5\xe8\xe8\xeb\xef\xf2\xf2\xf5\xf9\xfc"),
     INFO_REST,
@@ -27,7 +27,7 @@ const TRACK_1: &[Stretch] = &end_to_end! {
 };
 
 /// 24 silent frames.
-const TRACK_2: &[Stretch] = &end_to_end! {
+pub const TRACK_2: &[Stretch] = &end_to_end! {
     INFO_FRONT, Bytes(b"Info\0\0\0\x0f\0\0\0\x18\0\0'\xe8"),
     Bytes(b"\x05\x05\x05\x05\x05\x0f\x0f\x0f\x0f\x1a\x1a\x1a\x1a$$$$////9999CCCCCNNNNXXXXccccmmmmxxxx\x82\x82\x82\x82\x82\x8d\x8d\x8d\x8d\x97\x97\x97\x97\xa1\xa1\xa1\xa1\xac\xac\xac\xac\xb6\xb6\xb6\xb6\xc1\xc1\xc1\xc1\xc1\xcb\xcb\xcb\xcb\xd6\xd6\xd6\xd6\xe0\xe0\xe0\xe0\xeb\xeb\xeb\xeb\xf5\xf5\xf5\xf5"),
     INFO_REST,
@@ -36,7 +36,7 @@ const TRACK_2: &[Stretch] = &end_to_end! {
 };
 
 /// 100 silent frames.
-const HUNDRED: &[Stretch] = &[Repeated(&[Z], 100)];
+pub const HUNDRED: &[Stretch] = &[Repeated(&[Z], 100)];
 
 /// As many as stand before the second track.
 const BEFORE_TRACK_2: &[Stretch] = &[Repeated(&[Z], 76)];

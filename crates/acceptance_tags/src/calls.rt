@@ -1,6 +1,6 @@
 //! Calls of the outside that fail, where tags are read and written.
 
-use crate::blocks::{THREE, TWO, UNDO};
+use crate::blocks::{G_WRAPPED_UP, THREE, TWO, UNDO};
 use acceptance_kit::rows::{FIRST_READ, Row, SECOND_READ, THIRD_READ, first_difference};
 use acceptance_kit::steps::{FROM_U_TO_O, Steps, first_strayed};
 use acceptance_kit::{done, kinds, refused, steps};
@@ -9,7 +9,10 @@ use test_files::files::Stretch::{Fill, Frames, Repeated, Valued};
 use test_files::files::{ID3V1_BLOCK, ID3V2_BLOCK, Stretch};
 use test_files::frames::{G, G_LOWER, HEAD, PROTECTED_G, PROTECTED_G_LOWER, Z};
 
-static COMMANDS: [Steps; 3] = steps! {
+static COMMANDS: [Steps; 4] = steps! {
+    "gain -w -g 1 u o" room 200000, "u" = &[Frames(&[G])] =>
+        "o" = &[Frames(&[G_WRAPPED_UP]), Valued(&UNDO, b"-001,-001,W")];
+        FROM_U_TO_O;
     "gain -g -5 u o" room 200000, "u" = &[ID3V2_BLOCK, Fill(0, 2), Fill(0x55, 10), Frames(&[HEAD, G, Z, PROTECTED_G]), Valued(&THREE, b"-003,-003,N"), ID3V1_BLOCK] =>
         "o" = &[ID3V2_BLOCK, Fill(0, 2), Frames(&[HEAD, G_LOWER, Z, PROTECTED_G_LOWER]), Valued(&THREE, b"+002,+002,N"), ID3V1_BLOCK];
         FROM_U_TO_O;
