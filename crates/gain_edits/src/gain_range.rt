@@ -11,11 +11,11 @@ use moved_gains::{Course, Steps, Stuck, stuck_in};
 use sync_survey::{Row, Survey};
 
 /// The gain as a fault of the file, where its frame stands.
-fn fault_at(offset: u64, stuck: Option<Stuck>) -> Option<Refusal>
+fn fault_at(offset: u32, stuck: Option<Stuck>) -> Option<Refusal>
     ensures { result ≡ stuck_fault offset stuck None }
 {
     let stuck = stuck?;
-    Some(Refusal::GainRange(offset, stuck.granule, stuck.channel, stuck.gain))
+    Some(Refusal::GainRange(u64::from(offset), stuck.granule, stuck.channel, stuck.gain))
 }
 
 /// The first gain of a frame that would leave the range. A lost frame stays, so it has none.
@@ -37,7 +37,7 @@ fn first_fault(course: &Course, rows: &[Row]) -> Option<Refusal>
     let mut near = 0;
     for (frame, row) in rows.iter().enumerate() {
         let steps = course.steps(frame as u32, &mut near);
-        if let Some(fault) = fault_at(u64::from(row.offset), stuck_of(&steps, row)) {
+        if let Some(fault) = fault_at(row.offset, stuck_of(&steps, row)) {
             return Some(fault);
         }
     }

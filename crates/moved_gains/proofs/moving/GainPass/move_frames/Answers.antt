@@ -30,6 +30,11 @@ told file rows i row is all = subst (AreRowsOf file) is all
 abbrev left : (ℕ → Steps) → Option NewTag → List Row → ℕ → Row → List ℕ → List ℕ
 left steps tag rows i row file = moved_row_bytes (steps row.offset) file row ++ written_from steps tag file (row_end row) (drop (i + 1) rows)
 
+-- what is left from an offset on, with the bytes up to the frame by the number that its offset is
+left_up_to : (steps : ℕ → Steps) (tag : Option NewTag) (file : List ℕ) (at to : ℕ) (rows : List Row) (i : ℕ) (row : Row) → drop i rows ≡ row ∷ drop (i + 1) rows → to ≡ row.offset
+    → written_from steps tag file at (drop i rows) ≡ copied tag file at to ++ left steps tag rows i row file
+left_up_to steps tag file at to rows i row is offset = left_at steps tag file at rows i row is ∙ ap (λ n. copied tag file at n ++ left steps tag rows i row file) (sym offset)
+
 pub loop-frame-init : goal.loop-frame-init
 loop-frame-init g c =
     let self = c.args.self.now in
@@ -59,7 +64,7 @@ returns-in_err-copy-clause-prefix g c =
     let is = here rows i row (omega (arith, c.loop-frame-test.true)) c.index-rows-frame.is in
     on_err c.from_residual.result
     (up_to_prefix self.pass c.requires.ready.apart c.loop-frame.invariant.up_to
-    (λ file. copied self.tag file c.loop-frame.at row.offset) (left (steps_over self.course.now c.args.rows.now) self.tag rows i row) (λ file holds. left_at (steps_over self.course.now c.args.rows.now) self.tag file c.loop-frame.at rows i row is) c.in_err-copy.ensures.prefix)
+    (λ file. copied self.tag file c.loop-frame.at c.from.result) (left (steps_over self.course.now c.args.rows.now) self.tag rows i row) (λ file holds. left_up_to (steps_over self.course.now c.args.rows.now) self.tag file c.loop-frame.at c.from.result rows i row is c.from.ensures) c.in_err-copy.ensures.prefix)
 
 pub returns-in_err-copy-clause-cause : goal.returns-in_err-copy-clause-cause
 returns-in_err-copy-clause-cause g c =
@@ -83,7 +88,7 @@ move_frame-requires-clause-told g c file holds =
     let i = c.loop-frame.frame in
     let is = here rows i row (omega (arith, c.loop-frame-test.true)) c.index-rows-frame.is in
     let before = up_to_more self.pass c.requires.ready.apart c.loop-frame.invariant.up_to
-    (λ file. copied self.tag file c.loop-frame.at row.offset) (left (steps_over self.course.now c.args.rows.now) self.tag rows i row) (λ file holds. left_at (steps_over self.course.now c.args.rows.now) self.tag file c.loop-frame.at rows i row is) c.in_ok-copy.ensures.written in
+    (λ file. copied self.tag file c.loop-frame.at c.from.result) (left (steps_over self.course.now c.args.rows.now) self.tag rows i row) (λ file holds. left_up_to (steps_over self.course.now c.args.rows.now) self.tag file c.loop-frame.at c.from.result rows i row is c.from.ensures) c.in_ok-copy.ensures.written in
     (told file rows i row is (c.loop-frame.invariant.told file (up_to_held self.pass c.requires.ready.apart before file holds))).0
 
 pub returns-in_err-at-clause-prefix : goal.returns-in_err-at-clause-prefix
@@ -95,7 +100,7 @@ returns-in_err-at-clause-prefix g c =
     let i = c.loop-frame.frame in
     let is = here rows i row (omega (arith, c.loop-frame-test.true)) c.index-rows-frame.is in
     let before = up_to_more self.pass apart c.loop-frame.invariant.up_to
-    (λ file. copied self.tag file c.loop-frame.at row.offset) (left (steps_over self.course.now c.args.rows.now) self.tag rows i row) (λ file holds. left_at (steps_over self.course.now c.args.rows.now) self.tag file c.loop-frame.at rows i row is) c.in_ok-copy.ensures.written in
+    (λ file. copied self.tag file c.loop-frame.at c.from.result) (left (steps_over self.course.now c.args.rows.now) self.tag rows i row) (λ file holds. left_up_to (steps_over self.course.now c.args.rows.now) self.tag file c.loop-frame.at c.from.result rows i row is c.from.ensures) c.in_ok-copy.ensures.written in
     let own : steps_over self.course.now rows row.offset ≡ c.steps-steps.result =
     frame_steps self.course.now rows i row c.requires.numbered (omega (arith, c.loop-frame-test.true)) c.index-rows-frame.is ∙ sym c.steps-steps.ensures in
     on_err c.from_residual-in_err-at.result
@@ -125,7 +130,7 @@ loop-frame-preserved g c =
     frame_steps self.course.now rows i row c.requires.numbered (omega (arith, c.loop-frame-test.true)) c.index-rows-frame.is ∙ sym c.steps-steps.ensures in
     let end_is : row_end row ≡ end = sym c.in_ok-at.ensures.end in
     let before = up_to_more self.pass apart c.loop-frame.invariant.up_to
-    (λ file. copied self.tag file c.loop-frame.at row.offset) (left (steps_over self.course.now c.args.rows.now) self.tag rows i row) (λ file holds. left_at (steps_over self.course.now c.args.rows.now) self.tag file c.loop-frame.at rows i row is) c.in_ok-copy.ensures.written in
+    (λ file. copied self.tag file c.loop-frame.at c.from.result) (left (steps_over self.course.now c.args.rows.now) self.tag rows i row) (λ file holds. left_up_to (steps_over self.course.now c.args.rows.now) self.tag file c.loop-frame.at c.from.result rows i row is c.from.ensures) c.in_ok-copy.ensures.written in
     record {
       laid = subst (λ n. AreLaid n (drop (i + 1) rows) self.pass.length) end_is all_laid.2;
       told = λ file holds. (told file rows i row is (c.loop-frame.invariant.told file holds)).1;
