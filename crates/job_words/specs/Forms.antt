@@ -86,6 +86,10 @@ join_form = record { command = codes "join"; flags = []; kinds = Name ∷ Name �
 abbrev pub drill_form : Form
 drill_form = record { command = codes "drill"; flags = []; kinds = Seed ∷ Count ∷ []; more = 0; asks = asks.Drill }
 
+-- `fade [--back] IN OUT SHEET`
+abbrev pub fade_form : Form
+fade_form = record { command = codes "fade"; flags = Back ∷ []; kinds = Name ∷ Name ∷ Name ∷ []; more = 0; asks = asks.Fade }
+
 -- all of them
 abbrev pub forms : List Form
 forms =
