@@ -122,6 +122,8 @@ module _ (allowed : ℕ) (task : Task) where
 
   pub limited-proper : IsProper task → IsProper (limited (Some allowed) task)
   limited-proper proper = record {
+    some = proper.some;
+    first = proper.first;
     late = λ f bytes held few. subst (λ o. IfErr (limited_by (Some allowed) o (task.makes f)) IsLate) (sym held) (limited-late allowed bytes (task.makes f) few (proper.late f bytes held few));
     streams = λ f bytes new held octets is. proper.streams f bytes new held octets (limited-made allowed (f task.source) (task.makes f) new is);
   }

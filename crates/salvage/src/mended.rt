@@ -34,7 +34,7 @@ fn push_emptied(emptied: &mut Vec<Emptied>, number: u32, row: &Row) -> Result<()
         ++ option_to_list (emptied_as number row.now)) }
 {
     if row.lost {
-        let offset = row.offset;
+        let offset = u64::from(row.offset);
         emptied.push(Emptied { number, offset })?;
     }
     Ok(())
