@@ -389,10 +389,6 @@ module _ (text : List ℕ) (some : Some text ≢ Some []) (now : Seen) where
       at None = tt
       at (Some f) = (record { outputs = []; text = text }, refl)
 
-      at : (files : Files) → HoldsStreams (said_command text) files
-      at None = tt
-      at (Some f) = none f
-
   module _ (out_old out_new err_old err_new : Heard) (status : ℕ) where
     said_left : (fault : EditFault) → IsDrillFault fault → Leaves (said_command text) now now fault × HasNumbers (said_command text) fault
     said_left NotSent is = (record { made = unsent_made; stays = refl }, some)
