@@ -147,9 +147,7 @@ static OTHERS: [Row; 3] = [
         files: &[
             File {
                 name: "a",
-                bytes: &[
-                    ID3V2, ID3V2_REST, FLAT, BAD_TAG, ID3V1, ID3V1_REST,
-                ],
+                bytes: &[ID3V2, ID3V2_REST, FLAT, BAD_TAG, ID3V1, ID3V1_REST],
             },
             THREE_DOWN,
         ],

@@ -152,7 +152,11 @@ fn drills(rt: HostRuntime) -> Result<(), Fail> {
         count: 20_000,
     };
     expect(&rt, &["drill", "2147483647", "20000"], most)?;
-    expect(&rt, &["drill", "0000000000", "00001"], Job::Drill { seed: 0, count: 1 })?;
+    expect(
+        &rt,
+        &["drill", "0000000000", "00001"],
+        Job::Drill { seed: 0, count: 1 },
+    )?;
     Ok(())
 }
 
