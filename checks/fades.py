@@ -171,7 +171,7 @@ def levels(name, sheet, before, after):
         f"{len(steps)} frames, {measured} measured; steps that hold for a while from {min(farthest, default=0)} to {max(farthest, default=0)}, "
         f"farthest {held:.4f} dB; from one to the next farthest outside {between:.4f} dB"
     )
-    if len(a) != len(b) or held > 0.1 or between > 0.1 or measured < len(steps) // 2 or len(farthest) < 2:
+    if len(a) != len(b) or held > 0.1 or between > 0.1 or measured < len(steps) // 2 or not farthest:
         sys.exit(1)
 
 
