@@ -4,6 +4,7 @@ use crate::flat::FLAT;
 use acceptance_kit::rows::{File, ROW, Row, first_difference};
 use std::test::Fail;
 use test_files::files::Stretch;
+use test_files::frames::Frame;
 
 const FLAT_FILE: File = File {
     name: "a",
@@ -111,14 +112,17 @@ fn points_that_do_not_rise(rt: HostRuntime) -> Result<(), Fail> {
     Ok(())
 }
 
-/// A hundred lines.
-const HUNDRED: Stretch = Stretch::Bytes(
-    b"0 1\n0 1\n0 1\n0 1\n0 1\n0 1\n0 1\n0 1\n0 1\n0 1\n0 1\n0 1\n0 1\n0 1\n0 1\n0 1\n0 1\n0 1\n0 1\n0 1\n\
-0 1\n0 1\n0 1\n0 1\n0 1\n0 1\n0 1\n0 1\n0 1\n0 1\n0 1\n0 1\n0 1\n0 1\n0 1\n0 1\n0 1\n0 1\n0 1\n0 1\n\
-0 1\n0 1\n0 1\n0 1\n0 1\n0 1\n0 1\n0 1\n0 1\n0 1\n0 1\n0 1\n0 1\n0 1\n0 1\n0 1\n0 1\n0 1\n0 1\n0 1\n\
-0 1\n0 1\n0 1\n0 1\n0 1\n0 1\n0 1\n0 1\n0 1\n0 1\n0 1\n0 1\n0 1\n0 1\n0 1\n0 1\n0 1\n0 1\n0 1\n0 1\n\
-0 1\n0 1\n0 1\n0 1\n0 1\n0 1\n0 1\n0 1\n0 1\n0 1\n0 1\n0 1\n0 1\n0 1\n0 1\n0 1\n0 1\n0 1\n0 1\n0 1\n",
-);
+/// A line of four bytes, as if it were a frame, so that it can be repeated.
+const LINE: Frame = Frame {
+    header: [b'0', b' ', b'1', b'\n'],
+    word: None,
+    side: &[],
+    area: &[],
+    length: 4,
+};
+
+/// As many points as there may be, all at the same place.
+const MOST_POINTS: Stretch = Stretch::Repeated(&[LINE], 1000);
 
 static SHEETS: [Row; 6] = [
     Row {
@@ -152,10 +156,7 @@ static SHEETS: [Row; 6] = [
             FLAT_FILE,
             File {
                 name: "s",
-                bytes: &[
-                    HUNDRED, HUNDRED, HUNDRED, HUNDRED, HUNDRED, HUNDRED, HUNDRED, HUNDRED,
-                    HUNDRED, HUNDRED,
-                ],
+                bytes: &[MOST_POINTS],
             },
         ],
         words: &["fade a o s"],
@@ -169,19 +170,7 @@ static SHEETS: [Row; 6] = [
             FLAT_FILE,
             File {
                 name: "s",
-                bytes: &[
-                    HUNDRED,
-                    HUNDRED,
-                    HUNDRED,
-                    HUNDRED,
-                    HUNDRED,
-                    HUNDRED,
-                    HUNDRED,
-                    HUNDRED,
-                    HUNDRED,
-                    HUNDRED,
-                    Stretch::Bytes(b"\n0 1"),
-                ],
+                bytes: &[MOST_POINTS, Stretch::Bytes(b"\n0 1")],
             },
         ],
         words: &["fade a o s"],
