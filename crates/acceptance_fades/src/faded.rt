@@ -21,7 +21,7 @@ const FLAT_FILE: File = File {
 };
 
 /// What is written, and what comes of it by `--back`.
-static BOTH: More = More {
+const BOTH: More = More {
     outputs: Some(&["o", "b"]),
     ..MORE
 };
