@@ -58,6 +58,7 @@ impl Found {
 
     /// Keeps the item at the offset: a frame where it has no fault, and a block. The first of the bytes are
     /// its own.
+    #[inline]
     pub(crate) fn keep(
         &mut self,
         offset: u64,
