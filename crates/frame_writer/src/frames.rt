@@ -46,6 +46,7 @@ impl<'a> Model for Frame<'a> {
 
 /// Writes what stands before a frame's area: the header, the check word of a protected frame, and the side
 /// information. What stands behind stays.
+#[inline(always)]
 #[tactic(auto, unfolding(crate::specs::Frames::front_of, frame_header::specs::Tables::overhead_of, side_info::specs::Frame::frame_with))]
 pub fn put_front(header: &Header, side: &Side, frame: &mut [u8])
     requires fits { SideFits (class_of header.now) side.now }

@@ -39,7 +39,7 @@ fn frame_length(header: &Header) -> u32
 
 /// Moves the gains in the bytes of a frame that stand before its main data, and in a protected frame puts
 /// the check word that is right for them. A lost frame stays.
-#[inline(never)]
+#[inline(always)]
 fn move_front(steps: &Steps, row: &Row, front: &mut [u8])
     requires { overhead_of (class_of row.now.header) row.now.header.protected ≤ length front.old }
     ensures { side_in row.now.header front.old ≡ row.now.side →

@@ -59,7 +59,7 @@ fn read_parts(version: Version, channels: u8, bytes: &[u8], side: &mut Side)
 
 /// Reads the side information of a frame of this version with so many channels, over what was there. In most
 /// arms the places of the fields are known.
-#[inline(never)]
+#[inline(always)]
 fn read_shape(version: Version, channels: u8, bytes: &[u8], side: &mut Side)
     requires some { 1 ≤ channels }
     requires few { channels ≤ 2 }

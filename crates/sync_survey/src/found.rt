@@ -22,6 +22,8 @@ pub(crate) struct Found {
 impl Found {
     /// Judges the frame at the offset, and keeps it where it has no fault, marked where it is lost. The first
     /// of the bytes are its own.
+    // The walk is instantiated for several folders, so that clang wouldn't put what it calls in line of itself.
+    #[inline(always)]
     fn judge(
         &mut self,
         offset: u64,
@@ -58,7 +60,7 @@ impl Found {
 
     /// Keeps the item at the offset: a frame where it has no fault, and a block. The first of the bytes are
     /// its own.
-    #[inline]
+    #[inline(always)]
     pub(crate) fn keep(
         &mut self,
         offset: u64,

@@ -150,6 +150,7 @@ impl Before {
     /// Reads the side information of a frame of the class into its row, which has this header, and marks the
     /// row where the frame is lost; answers the main data before the next frame. Or the first fault of the
     /// frame, where so many frames stand before it. The first of the bytes are its own.
+    #[inline(always)]
     pub(crate) fn read_row(
         &self,
         header: &Header,

@@ -58,7 +58,7 @@ fn passed(item: &Item, size: u64, front: &[u8]) -> u64
 
 /// The item of the part at the front of the bytes that a look has shown, where it is whole: so many bytes
 /// are left of the file there.
-#[inline]
+#[inline(always)]
 pub fn step_at(part: Part, front: &[u8], left: u64) -> Option<Step>
     requires { length front.now ≤ left }
     ensures step { (file : List ℕ) (at : ℕ) → Shows file at front.now left
