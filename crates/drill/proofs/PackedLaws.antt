@@ -27,6 +27,7 @@ use Rattle.part_needs.specs.Fit.{any_choice}
 use Rattle.laid_files.specs.LaidFiles.{entry_of}
 use Rattle.laid_files.proofs.LaidFrames.{rows-length}
 use Rattle.laying.specs.Relaid.{stream_in, with_lead_ins, left_behind}
+use Rattle.laying.proofs.ChosenFrames.{survey-had}
 use Rattle.laying.specs.Fits.{reach_behind, FitsFrom}
 use Rattle.laying.specs.Written.{head_info}
 use Rattle.commands.specs.declared.fault.EditFault.{EditFault}
@@ -179,7 +180,7 @@ module _ (seed count : ℕ) (some : 0 < count) (few : count ≤ 20000) where
   pub is-packed : IsPacked seed count
   is-packed = record {
     made = made-is ∙ ap Ok (sym packed-is);
-    holds = subst (λ (l : List ℕ). HoldsStream l drawn) (sym packed-is) (subst (HoldsStream (chosen_file all file told)) packed-stream (chosen-holds all file told is-surveyed right.some right.within right.extension));
+    holds = subst (λ (l : List ℕ). HoldsStream l drawn) (sym packed-is) (subst (HoldsStream (chosen_file all file told)) packed-stream (chosen-holds all file told (survey-had file most_frames told is-surveyed) right.some right.within right.extension));
   }
 
   -- what a survey tells of it

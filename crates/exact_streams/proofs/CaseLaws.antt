@@ -11,6 +11,7 @@ use Rattle.sync_survey.proofs.PlacedRows.{surveyed-placed}
 use Rattle.sync_survey.proofs.SurveyedFiles.{survey_of-parts}
 use Rattle.sync_survey.proofs.SurveyParts.{surveyed-stream}
 use Rattle.laying.specs.Relaid.{Part, stream_in, IsPart, with_lead_ins}
+use Rattle.laying.proofs.ChosenFrames.{survey-had}
 use Rattle.commands.specs.One.{most_frames}
 use Rattle.frame_edits.specs.Chosen.{Chosen, choices_by, chosen_rows, plan_of, part_of, chosen_stream}
 use Rattle.frame_edits.proofs.ChosenLaws.{the-plan}
@@ -23,7 +24,7 @@ module _ (chosen : Chosen) (file : List ℕ) (s : SurveyFields) (is : survey_of 
   part = part_of chosen file s
 
   pub chosen-part : IsPart s.class part
-  chosen-part = record { allowed = most_frames; is = (survey_of-parts file most_frames s is).1; class = refl; some = some; within = within }
+  chosen-part = record { has = survey-had file most_frames s is; class = refl; some = some; within = within }
 
   pub chosen-plan : IsPlan (window_of s.class.version) (choices_by chosen.slots) (map need_of (chosen_rows chosen s) ∷ []) (plan_of chosen s)
   chosen-plan = the-plan chosen s (surveyed-placed file most_frames s (survey_of-parts file most_frames s is).1) some within

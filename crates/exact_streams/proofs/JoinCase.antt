@@ -12,7 +12,6 @@ use Rattle.slot_plan.proofs.ThePlan.{plan-the_plan}
 use Rattle.part_needs.specs.Needs.{Asked, need_of, asked_of}
 use Rattle.part_needs.specs.Fit.{own_choice, IsPartOf, AreFit}
 use Rattle.part_needs.proofs.PartsLaws.{parts-fit, parts_are}
-use Rattle.sync_survey.proofs.PlacedRows.{surveyed-placed}
 use Rattle.laying.specs.Relaid.{Part, rows_in, stream_in, AreParts, needs_in}
 use Rattle.joining.specs.Join.{plan_of, joined_stream}
 use Rattle.exact_streams.specs.Exact.{IsExactly}
@@ -24,7 +23,7 @@ rows-each class [] are = λ k d lt. absurd (omega (arith, lt))
 rows-each class (p ∷ parts) are =
     let is = are.0 in
     All-cons (IsPartOf class) (rows_in p) (map rows_in parts)
-    (record { survey = p.survey; from = p.from; to = p.to; placed = surveyed-placed p.file is.allowed p.survey is.is; same = is.class; some = is.some; within = is.within; are = refl })
+    (record { survey = p.survey; from = p.from; to = p.to; placed = is.has.placed; same = is.class; some = is.some; within = is.within; are = refl })
     (rows-each class parts are.1)
 
 needs-each : (parts : List Part) → map (map need_of) (map rows_in parts) ≡ map needs_in parts

@@ -21,9 +21,11 @@ use Rattle.part_needs.specs.Needs.{Asked, need_of, needs_of, asked_of}
 use Rattle.part_needs.specs.Fit.{IsPlaced, AreFit}
 use Rattle.part_needs.proofs.FitLaws.{part-known}
 use Rattle.part_needs.proofs.PartsLaws.{one-part-fits, parts_are}
+use Rattle.laying.specs.Surveys.{HasSurvey}
 use Rattle.laying.specs.Relaid.{AreSlots}
 use Rattle.laying.specs.Fits.{FitsFrom, IsFitting}
 use Rattle.laying.specs.Written.{slot_in, head_info}
+use Rattle.laying.proofs.ChosenFrames.{survey-had}
 use Rattle.laying.proofs.FitLaws.{plans-fit}
 use Rattle.frame_edits.proofs.LaidLaws.{laid-slots, laid-holds, plan-slots}
 use Rattle.sync_survey.specs.declared.rows.Row.{Row}
@@ -31,7 +33,6 @@ use Rattle.sync_survey.specs.declared.places.Head.{Head}
 use Rattle.sync_survey.specs.declared.survey_fault.SurveyFault.{SurveyFault}
 use Rattle.sync_survey.specs.Faults.{SurveyFields, HoldsStream}
 use Rattle.sync_survey.specs.Survey.{survey_of}
-use Rattle.sync_survey.proofs.PlacedRows.{surveyed-placed}
 use Rattle.commands.specs.declared.fault.EditFault.{EditFault}
 use Rattle.commands.specs.declared.fault.Refusal.{Refusal}
 use Rattle.commands.specs.declared.fault.Refusal.TheVariants.{Range}
@@ -40,7 +41,6 @@ use Rattle.frame_edits.specs.declared.chosen.Slots.TheVariants.{Own, Least}
 use Rattle.frame_edits.specs.Chosen.{Chosen, laid_of, outside_fault, choices_by, chosen_rows, plan_of, laid_frames, chosen_file, chosen_stream, Choosing, laid_with, choosing, stream_with, stream_chosen_by, stream_chosen, chosen_with, cut_choice, all_choice}
 use Rattle.laying.proofs.PlacesLaws.{plan-length}
 use Rattle.commands.specs.One.{most_frames}
-use Rattle.sync_survey.proofs.SurveyedFiles.{survey_of-parts}
 use Rattle.commands.specs.Left.{IsLate}
 use Rattle.commands.proofs.InputLaws.{IsProperMaking}
 use Rattle.commands.proofs.RefusingLaws.{unless_ok}
@@ -121,9 +121,9 @@ module _ (chosen : Chosen) (s : SurveyFields) (placed : IsPlaced s) (some : chos
     slots = plan-slots (window_of s.class.version) (choices_by chosen.slots) part_rows (plan_of chosen s) (choice_slots chosen.slots) (part-known s chosen.from chosen.to placed) the-plan;
   }
 
-module _ (chosen : Chosen) (file : List ℕ) (s : SurveyFields) (is : survey_of file most_frames ≡ Ok s) (some : chosen.from < chosen.to) (within : chosen.to ≤ length s.frames) where
+module _ (chosen : Chosen) (file : List ℕ) (s : SurveyFields) (is : HasSurvey file s) (some : chosen.from < chosen.to) (within : chosen.to ≤ length s.frames) where
   fitting : IsFitting (window_of s.class.version) (map need_of (chosen_rows chosen s)) (plan_of chosen s)
-  fitting = plan-fitting chosen s (surveyed-placed file most_frames s (survey_of-parts file most_frames s is).1) some within
+  fitting = plan-fitting chosen s is.placed some within
 
   -- the frames are in the slots of the plan
   pub frame-slots : map slot_in (laid_frames chosen file s) ≡ map (λ (p : Placed). p.slot) (plan_of chosen s)
@@ -145,7 +145,7 @@ module _ (choose : Choosing) (late : (file : List ℕ) (s : SurveyFields) → If
   made_stream file s new is (Err fault) chose made = absurd cc
   made_stream file s new is (Ok chosen) chose made =
       let same : chosen_file chosen file s ≡ new = cc in
-      subst (λ (n : List ℕ). HoldsStream n (chosen_stream chosen file s)) same (let r = right file s chosen chose in chosen-holds chosen file s is r.some r.within r.extension)
+      subst (λ (n : List ℕ). HoldsStream n (chosen_stream chosen file s)) same (let r = right file s chosen chose in chosen-holds chosen file s (survey-had file most_frames s is) r.some r.within r.extension)
 
   pub choosing_proper : IsProperMaking (choosing choose) (stream_chosen choose)
   choosing_proper = record {

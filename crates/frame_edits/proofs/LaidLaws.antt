@@ -1,5 +1,5 @@
 -- Frames in the slots of any plan by which they can be laid: the file of them holds their stream.
-use Rattle.std.proofs.Common.{◌≡◌, ℕ, ◌+◌, List, [], ◌∷◌, length, get_or, map, Option, Some, None, Ok, refl, sym, ◌∙◌, subst, inl, inr, arith, append-nil}
+use Rattle.std.proofs.Common.{◌≡◌, ℕ, ◌+◌, List, [], ◌∷◌, length, get_or, map, Option, Some, None, refl, sym, ◌∙◌, subst, inl, inr, arith, append-nil}
 use Rattle.std.specs.Prelude.{◌⊎◌, ◌<◌, ◌≤◌, slice_get, slice_range}
 use Rattle.std.specs.List.{range_with_len}
 use Rattle.std.proofs.lemmas.Option.{slice_get_cases}
@@ -12,6 +12,7 @@ use Rattle.slot_plan.specs.Parts.{Item, item_of, items_of, IsLeadIn, AreLeadIns,
 use Rattle.slot_plan.specs.Plans.{AreFor, IsPlan}
 use Rattle.part_needs.specs.Needs.{need_of}
 use Rattle.part_needs.proofs.FitLaws.{AreKnown, part-fits, part-known}
+use Rattle.laying.specs.Surveys.{HasSurvey}
 use Rattle.laying.specs.Relaid.{IsPart, AreSlots}
 use Rattle.laying.specs.Fits.{AreInSlots, IsFitting}
 use Rattle.laying.specs.Written.{front_blocks, back_blocks, slot_in, table_entry}
@@ -21,11 +22,7 @@ use Rattle.laying.proofs.PlannedFrames.{AllSlots, slot_among, only_one}
 use Rattle.laying.proofs.RelayLaws.{range-next}
 use Rattle.laid_files.specs.LaidFiles.{HasInfoSizes}
 use Rattle.sync_survey.specs.declared.rows.Row.{Row}
-use Rattle.sync_survey.specs.Faults.{SurveyFields, surveyed, HoldsStream}
-use Rattle.sync_survey.specs.Survey.{survey_of}
-use Rattle.sync_survey.proofs.PlacedRows.{surveyed-placed}
-use Rattle.sync_survey.proofs.SurveyedFiles.{survey_of-parts}
-use Rattle.commands.specs.One.{most_frames}
+use Rattle.sync_survey.specs.Faults.{SurveyFields, HoldsStream}
 use Rattle.frame_edits.specs.Laid.{Laid, part_laid, needs_laid, frames_laid, info_laid, file_from, file_laid, stream_laid}
 
 -- ---- the slots of a plan are some of the 28
@@ -65,13 +62,10 @@ plan-slots window choices rows placed slots known plan = at plan.lead_ins plan.a
 
 -- ---- the file
 
-module _ (laid : Laid) (file : List ℕ) (s : SurveyFields) (is : survey_of file most_frames ≡ Ok s) (some : laid.from < laid.to) (within : laid.to ≤ length s.frames)
+module _ (laid : Laid) (file : List ℕ) (s : SurveyFields) (is : HasSurvey file s) (some : laid.from < laid.to) (within : laid.to ≤ length s.frames)
     (fitting : IsFitting (window_of s.class.version) (needs_laid laid s) laid.placed) where
-  whole : surveyed file most_frames ≡ Ok s
-  whole = (survey_of-parts file most_frames s is).1
-
   part_is : IsPart s.class (part_laid laid file s)
-  part_is = record { allowed = most_frames; is = whole; class = refl; some = some; within = within }
+  part_is = record { has = is; class = refl; some = some; within = within }
 
   -- the frames are in the slots of the plan
   pub laid-slots : map slot_in (frames_laid laid file s) ≡ map (λ (p : Placed). p.slot) laid.placed
@@ -88,15 +82,15 @@ module _ (laid : Laid) (file : List ℕ) (s : SurveyFields) (is : survey_of file
     rows_are = range-next s.frames laid.from laid.to first found some
 
     first-header : IsHeader first.header
-    first-header = (subst AreKnown rows_are (part-known s laid.from laid.to (surveyed-placed file most_frames s whole))).0
+    first-header = (subst AreKnown rows_are (part-known s laid.from laid.to is.placed)).0
 
     first-class : class_of first.header ≡ s.class
     unfolding AreOfClass
-    first-class = (subst (λ (l : List Row). AreOfClass s.class (map need_of l)) rows_are (part-fits s laid.from laid.to (surveyed-placed file most_frames s whole)).0).0
+    first-class = (subst (λ (l : List Row). AreOfClass s.class (map need_of l)) rows_are (part-fits s laid.from laid.to is.placed).0).0
 
     first-holds : length laid.extension ≡ 36 → HoldsStream (file_from (Some first) laid file s) (stream_laid laid file s)
     first-holds extension =
-        let kept = blocks-kept file most_frames s whole in
+        let kept = blocks-kept file s is in
         fitting-files-hold s.class (part_laid laid file s) laid.placed part_is fitting (front_blocks file s) first.header (info_laid laid file s) (back_blocks file s) kept.0 first-header first-class (sizes extension) kept.1
 
   -- it is well-formed, and that is its stream

@@ -13,15 +13,13 @@ use Rattle.laid_files.specs.LaidFiles.{laid_file}
 use Rattle.laying.specs.declared.relay.Relay.{Relay}
 use Rattle.laying.specs.Relaid.{all_frames, relaid}
 use Rattle.laying.specs.Written.{front_blocks, back_blocks}
+use Rattle.laying.specs.Surveys.{HasSurvey}
 use Rattle.laying.specs.Passing.{IsReady}
-use Rattle.laying.proofs.ReadLaws.{survey-length}
 use Rattle.sync_survey.specs.declared.rows.Row.{Row}
 use Rattle.sync_survey.specs.Faults.{SurveyFields, tells}
 use Rattle.sync_survey.specs.Survey.{IsLaidOut}
 use Rattle.frame_edits.specs.Laid.{Laid, file_from, file_laid, IsLaidInfo}
 use Rattle.frame_edits.specs.Chosen.{Chosen, plan_of, laid_by, chosen_file}
-use Rattle.frame_edits.specs.Selected.{IsSurveyOf}
-use Rattle.commands.specs.One.{most_frames}
 
 -- the same, said otherwise
 pub appends-as : {input output : List ℕ} (made other : List ℕ → List ℕ) {old new : Files} → ((file : List ℕ) → Holds old input file → made file ≡ other file) → Appends input output made old new → Appends input output other old new
@@ -32,30 +30,25 @@ pub appends-as_prefix : {input output : List ℕ} (made other : List ℕ → Lis
 appends-as_prefix made other same h = record { bytes = h.bytes; prefix = λ file holds. h.prefix file holds ∙ ap (take (length h.bytes)) (same file holds); files = h.files }
 
 -- once the output was created, all is ready for the pass
-pub relay-ready : (relay : Relay) (old mid : Files) (fed : Fed) → relay.pass.input.now ≢ relay.pass.output.now → IsThere old relay.pass.input.now → IsLaidOut (tells relay.survey.now) → IsSurveyOf relay.pass.input.now (tells relay.survey.now) old
+pub relay-ready : (relay : Relay) (old mid : Files) (fed : Fed) → relay.pass.input.now ≢ relay.pass.output.now → IsThere old relay.pass.input.now → IsLaidOut (tells relay.survey.now) → ((file : List ℕ) → Holds old relay.pass.input.now file → HasSurvey file (tells relay.survey.now))
     → relay.pass.length ≡ (tells relay.survey.now).length → mid ≡ emptied old relay.pass.output.now → IsFedFrom fed mid relay.pass.input.now → IsReady relay mid fed
-relay-ready relay old mid fed apart there laid surveyed long created fed_from =
+relay-ready relay old mid fed apart there laid has long created fed_from =
     let input = relay.pass.input.now in
     let output = relay.pass.output.now in
-    let s = tells relay.survey.now in
     let held : (file : List ℕ) → Holds mid input file → Holds old input file = λ file holds. emptied_held_other old output input file apart (subst (λ f. Holds f input file) created holds) in
     record {
       pass = record {
         apart = apart;
         source = subst (λ f. IsThere f input) (sym created) (emptied_keeps old output input there);
         target = subst (λ f. IsThere f output) (sym created) (emptied_there old output);
-        length_is = λ file holds. survey-length file s (most_frames, surveyed file (held file holds)) ∙ sym long;
+        length_is = λ file holds. (has file (held file holds)).long ∙ sym long;
         few = omega (arith, long, laid.few);
         fed_from = fed_from;
       };
       length_is = long;
-      exact = λ file holds. (most_frames, surveyed file (held file holds));
+      exact = λ file holds. has file (held file holds);
       laid = laid;
     }
-
--- and the survey is that of the input still
-pub survey-still : (input output : List ℕ) (s : SurveyFields) (old mid : Files) → input ≢ output → mid ≡ emptied old output → IsSurveyOf input s old → IsSurveyOf input s mid
-survey-still input output s old mid apart created surveyed = λ file holds. surveyed file (emptied_held_other old output input file apart (subst (λ f. Holds f input file) created holds))
 
 -- what is written is the file of the frames in the slots of the plan
 pub written-is : (laid : Laid) (file : List ℕ) (s : SurveyFields) (info : List ℕ) (placed : List Placed) → laid.from < length s.frames → placed ≡ laid.placed → IsLaidInfo laid file s info

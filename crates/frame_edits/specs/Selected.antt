@@ -1,20 +1,14 @@
 -- Chosen frames of a surveyed input, and the file that is made of them.
-use Rattle.std.specs.Prelude.{◌≡◌, ℕ, ◌<◌, ◌≤◌, List, length, map, slice_range, Ok}
+use Rattle.std.specs.Prelude.{◌≡◌, ℕ, ◌<◌, ◌≤◌, List, length, map, slice_range}
 use Rattle.frame_header.specs.Tables.{window_of}
-use Rattle.outside.specs.Files.{Files, Holds}
 use Rattle.part_needs.specs.Needs.{need_of}
 use Rattle.slot_plan.specs.Plans.{entries}
+use Rattle.laying.specs.Surveys.{HasSurvey}
 use Rattle.laying.specs.Fits.{FitsFrom}
 use Rattle.sync_survey.specs.Faults.{SurveyFields}
-use Rattle.sync_survey.specs.Survey.{survey_of}
 use Rattle.frame_edits.specs.declared.plans.Selection.{Selection}
-use Rattle.commands.specs.One.{most_frames}
 use Rattle.frame_edits.specs.Laid.{Laid, IsLaidInfo}
 use Rattle.frame_edits.specs.Chosen.{chosen_in, chosen_file, plan_of, laid_by, IsChosenInfo}
-
--- where the files are told, this is the survey of the input
-abbrev pub IsSurveyOf : List ℕ → SurveyFields → Files → Type 0
-IsSurveyOf input s files = (file : List ℕ) → Holds files input file → survey_of file most_frames ≡ Ok s
 
 -- the chosen frames in the slots of the plan that was made of them, whatever it was made by
 abbrev pub laid_in : Selection → Laid
@@ -25,7 +19,7 @@ pub record IsWritable (s : SurveyFields) (selection : Selection) : Type 0 where
   pub some : selection.chosen.from < selection.chosen.to
   pub within : selection.chosen.to ≤ length s.frames
   pub fits : FitsFrom (window_of s.class.version) 0 (map need_of (slice_range s.frames selection.chosen.from selection.chosen.to)) (entries selection.planned.plan)
-  pub info : (file : List ℕ) → survey_of file most_frames ≡ Ok s → IsLaidInfo (laid_in selection) file s selection.planned.info.items
+  pub info : (file : List ℕ) → HasSurvey file s → IsLaidInfo (laid_in selection) file s selection.planned.info.items
 
 -- There is a frame, all are there, this is their plan, which can be written frame by frame, and these are the bytes of their Info frame.
 pub record IsSelected (s : SurveyFields) (selection : Selection) : Type 0 where
@@ -33,7 +27,7 @@ pub record IsSelected (s : SurveyFields) (selection : Selection) : Type 0 where
   pub within : selection.chosen.to ≤ length s.frames
   pub plan : entries selection.planned.plan ≡ plan_of (chosen_in selection.chosen) s
   pub fits : FitsFrom (window_of s.class.version) 0 (map need_of (slice_range s.frames selection.chosen.from selection.chosen.to)) (entries selection.planned.plan)
-  pub info : (file : List ℕ) → survey_of file most_frames ≡ Ok s → IsChosenInfo (chosen_in selection.chosen) file s selection.planned.info.items
+  pub info : (file : List ℕ) → HasSurvey file s → IsChosenInfo (chosen_in selection.chosen) file s selection.planned.info.items
 
 -- the file of the chosen frames
 abbrev pub selected_file : SurveyFields → Selection → List ℕ → List ℕ

@@ -10,10 +10,10 @@ ghost use Rattle.part_needs.specs.Needs.{need_of, asked_of};
 ghost use Rattle.part_needs.specs.Fit.{CanBePlanned};
 ghost use Rattle.slot_plan.specs.Parts.{window_in, parts_of};
 ghost use Rattle.slot_plan.specs.Plans.{IsPlan, entries};
+ghost use Rattle.laying.specs.Surveys.{HasSurvey};
 ghost use Rattle.laying.specs.Fits.{FitsFrom};
 ghost use Rattle.sync_survey.specs.Faults.{tells};
-ghost use Rattle.sync_survey.specs.Survey.{survey_of, IsLaidOut};
-ghost use Rattle.commands.specs.One.{most_frames};
+ghost use Rattle.sync_survey.specs.Survey.{IsLaidOut};
 ghost use Rattle.frame_edits.specs.Chosen.{chosen_in, plan_of, IsChosenInfo};
 
 use crate::chosen::{Chosen, Slots};
@@ -101,7 +101,7 @@ pub fn plan_file(alloc: Global, survey: &Survey, chosen: &Chosen) -> Result<Plan
         (map need_of (slice_range (tells survey.now).frames chosen.now.from chosen.now.to))
         (entries p.plan)) }
     ensures info { IfOk result (λ p. (file : List ℕ)
-        → survey_of file most_frames ≡ Ok (tells survey.now)
+        → HasSurvey file (tells survey.now)
         → IsChosenInfo (chosen_in chosen.now) file (tells survey.now) p.info.items) }
 {
     let plan = plan_chosen(alloc, survey, chosen)?;

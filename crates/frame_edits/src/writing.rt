@@ -8,7 +8,7 @@ ghost use Rattle.sync_survey.specs.Faults.{tells};
 ghost use Rattle.sync_survey.specs.Survey.{IsLaidOut};
 ghost use Rattle.commands.specs.One.{holding, IsPassFault};
 ghost use Rattle.commands.specs.Left.{seen, IsOfPass};
-ghost use Rattle.frame_edits.specs.Selected.{laid_in, IsSelected, IsSurveyOf, IsWritable, selected_file};
+ghost use Rattle.frame_edits.specs.Selected.{laid_in, IsSelected, IsWritable, selected_file};
 ghost use Rattle.frame_edits.specs.Laid.{file_laid};
 
 use crate::plans::Selection;
@@ -28,8 +28,6 @@ pub fn write_laid<D: Folder>(
     buffers: &mut Buffers,
 ) -> Result<(), PassFault>
     requires ready { IsReady relay.now (D.files folder.old) buffers.old.feed }
-    requires exact { IsSurveyOf relay.now.pass.input.now (tells relay.now.survey.now)
-        (D.files folder.old) }
     requires writable { IsWritable (tells relay.now.survey.now) selection.now }
     requires unsent { buffers.old.waiting ≡ [] }
     ensures written { OnOk result (Appends relay.now.pass.input.now relay.now.pass.output.now
@@ -68,8 +66,6 @@ pub fn write_selection<D: Folder>(
     buffers: &mut Buffers,
 ) -> Result<(), PassFault>
     requires ready { IsReady relay.now (D.files folder.old) buffers.old.feed }
-    requires exact { IsSurveyOf relay.now.pass.input.now (tells relay.now.survey.now)
-        (D.files folder.old) }
     requires selected { IsSelected (tells relay.now.survey.now) selection.now }
     requires unsent { buffers.old.waiting ≡ [] }
     ensures written { OnOk result (Appends relay.now.pass.input.now relay.now.pass.output.now

@@ -18,7 +18,6 @@ use Rattle.laying.specs.Passing.{IsReady, Lays, LaysPart}
 use Rattle.laying.specs.Places.{places_for, own_places, whole_frames, whole_reach}
 use Rattle.laying.proofs.PassLaws.{lays_none, lays_then, part_then}
 use Rattle.laying.proofs.PlacesLaws.{fits-append}
-use Rattle.laying.proofs.ReadLaws.{survey-length}
 use Rattle.laying.proofs.RelayLaws.{LaysUpTo, lays-all, begins-left, part_more}
 use Rattle.sync_survey.specs.Faults.{SurveyFields, tells}
 use Rattle.joining.specs.Inputs.{rows_of}
@@ -33,7 +32,7 @@ source-ready relay files fed source target long fed_from = record {
     apart = source.apart;
     source = source.there;
     target = target;
-    length_is = λ file holds. survey-length file (tells relay.survey.now) (source.exact file holds) ∙ sym long;
+    length_is = λ file holds. (source.exact file holds).long ∙ sym long;
     few = omega (arith, long, source.laid.few);
     fed_from = fed_from;
   };

@@ -19,10 +19,10 @@ use Rattle.part_needs.proofs.FitLaws.{AreKnown, part-fits, part-known}
 use Rattle.laid_files.specs.LaidFiles.{HasInfoSizes, laid_file}
 use Rattle.laying.specs.Relaid.{Part, stream_in, IsPart, AreParts, needs_in, AreSlots, with_lead_ins}
 use Rattle.laying.specs.Written.{front_blocks, slot_in, table_entry, plain_info}
-use Rattle.laying.specs.Passing.{HasSurvey}
+use Rattle.laying.specs.Surveys.{HasSurvey}
 use Rattle.laying.proofs.HoldLaws.{files-hold, blocks-kept}
 use Rattle.laying.proofs.SlotLaws.{slots-planned}
-use Rattle.laying.proofs.ReadLaws.{survey-surveyed}
+use Rattle.laying.proofs.ChosenFrames.{survey-had}
 use Rattle.sync_survey.specs.declared.rows.Row.{Row}
 use Rattle.sync_survey.specs.MainData.{StreamFrame}
 use Rattle.sync_survey.specs.Faults.{SurveyFields, HoldsStream}
@@ -44,7 +44,7 @@ sources-inputs class output place first allowed files [] (s ∷ ss) none alike a
 sources-inputs class output place first allowed files (name ∷ names) [] none alike are = absurd are
 sources-inputs class output place first allowed files (name ∷ names) (s ∷ ss) none alike are =
     let other = no_clash _ place (clash_from (output ∷ []) (place + 1) names) none in (
-      record { apart = other_name name output [] other.0; there = are.0.there; exact = λ file holds. (allowed, are.0.exact file holds); laid = are.0.laid },
+      record { apart = other_name name output [] other.0; there = are.0.there; exact = λ file holds. survey-had file allowed s (are.0.exact file holds); laid = are.0.laid },
       alike.2,
       sources-inputs class output (place + 1) _ (allowed - length s.frames) files names ss other.1 alike.3 are.2,
     )
@@ -63,7 +63,7 @@ first-source class {output} {files} {names} {later} {ss} {behind} {name} {s} nam
 -- ---- the inputs as parts
 
 own-part : (class : ClassFields) (file : List ℕ) (s : SurveyFields) → HasSurvey file s → s.class ≡ class → 0 < length s.frames → IsPart class (whole_part file s)
-own-part class file s has same some = record { allowed = has.0; is = survey-surveyed file has.0 s has.1; class = same; some = some; within = omega arith }
+own-part class file s has same some = record { has = has; class = same; some = some; within = omega arith }
 
 pub sources-parts : (class : ClassFields) (output : List ℕ) (f : Contents) (names : List (List ℕ)) (ss : List SurveyFields) → AreAlike class ss → AreSources class output (Some f) names ss → AreParts class (parts_in f names ss)
 unfolding parts_in
@@ -154,16 +154,14 @@ module _ (output : List ℕ) (f : Contents) (name : List ℕ) (names : List (Lis
   stream-is = refl
 
   -- the first input's own survey
-  own-survey : (allowed : ℕ) × HasSurvey file s
+  own-survey : HasSurvey file s
   own-survey =
       let held = there_holds f name are.0.there in
-      let has = are.0.exact held.0 held.1 in
-      (has.0, subst (λ (o : Option (List ℕ)). HasSurvey (unwrap_or o []) s) (sym held.1) has)
+      subst (λ (o : Option (List ℕ)). HasSurvey (unwrap_or o []) s) (sym held.1) (are.0.exact held.0 held.1)
 
   pub joined-holds : HoldsStream (joined_file parts) (joined_stream parts)
   joined-holds =
-      let has = own-survey.1 in
-      let kept = blocks-kept file has.0 s (survey-surveyed file has.0 s has.1) in
+      let kept = blocks-kept file s own-survey in
       let placed = can.0.1.placed in
       let holds = files-hold s.class own_choice parts (plan_of s.class parts) some-parts are-parts own_slots is-plan
       (front_blocks file s) found.0.header (plain_info s.class (joined_frames s.class parts)) [] kept.0 (first-header s placed found.0 found.1) (first-class s placed found.0 found.1) sizes tt in

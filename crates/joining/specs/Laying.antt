@@ -17,7 +17,7 @@ use Rattle.outside.specs.Pass.{HasPassCause}
 use Rattle.laying.specs.Relaid.{frames_in, relaid}
 use Rattle.laying.specs.Fits.{FitsFrom}
 use Rattle.laying.specs.Written.{slot_in, plain_info}
-use Rattle.laying.specs.Passing.{HasSurvey}
+use Rattle.laying.specs.Surveys.{HasSurvey}
 use Rattle.sync_survey.specs.declared.rows.Row.{Row}
 use Rattle.sync_survey.specs.declared.survey_fault.SurveyFault.TheVariants.{Read as Unread, Shrunk as Shorter}
 use Rattle.sync_survey.specs.Faults.{SurveyFields}
@@ -58,7 +58,7 @@ all_laid files names ss placed _ = relaid (flat_map frames_in (told_parts files 
 
 -- ---- the inputs
 
--- an input of another name than the output is there, and this is its survey
+-- an input of another name than the output is there, and the survey tells of its frames
 pub record IsSource (output : List ℕ) (files : Files) (name : List ℕ) (s : SurveyFields) : Type 0 where
   pub apart : name ≢ output
   pub there : IsThere files name

@@ -26,7 +26,7 @@ whole_block : (bytes : List ℕ) (b : TagBlock) → block_front bytes ≡ Some b
 whole_block bytes b is within =
     (b, ap block_front (sym (append-nil (take b.length bytes))) ∙ block_front-bytes bytes [] b is within, sym (length-take-le b.length bytes within))
 
-block_more : (file : List ℕ) (at : ℕ) (item : Item) (blocks : List Piece) → item_at file at ≡ item → at + size_of item ≤ length file → IsBlocks (map (block_bytes file) blocks)
+pub block_more : (file : List ℕ) (at : ℕ) (item : Item) (blocks : List Piece) → item_at file at ≡ item → at + size_of item ≤ length file → IsBlocks (map (block_bytes file) blocks)
     → IsBlocks (map (block_bytes file) (cons_option (block_as at item) blocks))
 block_more file at (Frame h) blocks is within are = are
 block_more file at Free blocks is within are = are
@@ -35,13 +35,13 @@ block_more file at Zero blocks is within are = are
 block_more file at End blocks is within are = are
 block_more file at Nothing blocks is within are = are
 
-ends-blocks : (part : Part) (file : List ℕ) (from : ℕ) (ps : List Placed) (to : ℕ) → AreEndToEnd part file from ps to → IsBlocks (map (block_bytes file) (blocks_of ps))
+pub ends-blocks : (part : Part) (file : List ℕ) (from : ℕ) (ps : List Placed) (to : ℕ) → AreEndToEnd part file from ps to → IsBlocks (map (block_bytes file) (blocks_of ps))
 ends-blocks part file from [] to ends = tt
 ends-blocks part file from (p ∷ ps) to ends =
     let here = item_of-is part file p.offset p.item ends.1 in
     block_more file p.offset p.item (blocks_of ps) here.is here.within (ends-blocks part file (p.offset + size_of p.item) ps to ends.2)
 
-blocks-append : (xs ys : List (List ℕ)) → IsBlocks xs → IsBlocks ys → IsBlocks (xs ++ ys)
+pub blocks-append : (xs ys : List (List ℕ)) → IsBlocks xs → IsBlocks ys → IsBlocks (xs ++ ys)
 blocks-append [] ys front back = back
 blocks-append (x ∷ xs) ys front back = (front.0, blocks-append xs ys front.1 back)
 

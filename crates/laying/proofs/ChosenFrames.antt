@@ -1,4 +1,4 @@
--- The frames of a file without fault: their main data are within the file, and as many bits as their side information says.
+-- The frames of a surveyed file: their main data are within the file, and as many bits as their side information says.
 use Rattle.std.proofs.Common.{◌≡◌, ℕ, zero, suc, ◌+◌, ◌-◌, ◌*◌, ◌/◌, ◌≤◌, cond, Bool, true, false, List, [], ◌∷◌, ◌++◌, length, map, take, drop, Option, Some, None, Ok, refl, sym, ◌∙◌, ap, ap₂, subst, arith, length-append, length-drop}
 use Rattle.std.specs.Prelude.{flat_map, slice_get, sum_by, option_map}
 use Rattle.std.specs.List.{cons_option, enumerate_from}
@@ -7,11 +7,12 @@ use Rattle.std.proofs.lemmas.List.{length-take-le, take_at, drop_at}
 use Rattle.std.proofs.lemmas.List.Sums.{sum_by-cons}
 use Rattle.bit_fields.specs.Bits.{bits, AreBits, AreBytes}
 use Rattle.bit_fields.proofs.BitsLaws.{length-bits, AreBits-append, AreBits-take, AreBits-drop, AreBits-bits, length-bytes, AreBytes-bytes, bits-bytes}
-use Rattle.frame_header.specs.Fields.{ClassFields, HeaderFields, IsHeader}
-use Rattle.frame_header.specs.Tables.{class_of, length_of, overhead_of}
+use Rattle.frame_header.specs.Fields.{ClassFields, HeaderFields}
+use Rattle.frame_header.specs.Tables.{class_of, overhead_of}
 use Rattle.frame_header.proofs.HeaderLaws.{IsClass-class_of}
 use Rattle.frame_header.proofs.SlotLaws.{area-is}
 use Rattle.side_info.specs.declared.side.Side.{Side}
+use Rattle.side_info.specs.Frame.{side_in}
 use Rattle.side_info.specs.Side.{no_side, SideFits, payload_bits, payload_bytes}
 use Rattle.side_info.proofs.SideLaws.{IsShaped, SideFits-no_side}
 use Rattle.side_info.proofs.FrameLaws.{shaped-side_in}
@@ -30,21 +31,21 @@ use Rattle.sync_survey.specs.Runs.{Placed, AreEndToEnd, frame_as, frames_of}
 use Rattle.sync_survey.specs.Walk.{stream_run, head_of, numbered}
 use Rattle.sync_survey.specs.MainData.{rows_of, own_area, head_area, place, end_before, start_of_data, end_of_data, marked_row, marked, area_bytes, head_bytes, main_bytes, payload_at, parts_of, part_lengths, StreamFrame, side_of, stream_frame, stream_frames}
 use Rattle.sync_survey.specs.Faults.{SurveyFields, surveyed, stream_of_survey}
-use Rattle.sync_survey.specs.Survey.{IsWellPlaced, AreWellPlaced}
+use Rattle.sync_survey.specs.Survey.{survey_of, IsWellPlaced, AreWellPlaced}
 use Rattle.sync_survey.proofs.ItemsLaws.{stands-at, header_front-in_range}
 use Rattle.sync_survey.proofs.RunsLaws.{item_of-is, run-ends}
 use Rattle.sync_survey.proofs.StartLaws.{start-first}
 use Rattle.sync_survey.proofs.SurveyParts.{frames_from, surveyed-parts, data-none_well}
 use Rattle.sync_survey.proofs.PlacedRows.{surveyed-placed}
+use Rattle.sync_survey.proofs.SurveyedFiles.{survey_of-parts}
+use Rattle.laid_files.proofs.KeptBlocks.{surveyed-blocks}
 use Rattle.laid_files.specs.LaidFiles.{HasPairs, IsEntry, AreEntries, entry_of}
+use Rattle.laying.specs.Surveys.{IsWholeAt, HasWholeHead, IsWholeRow, AreWholeRows, HasSurvey}
 use Rattle.laying.specs.Relaid.{packed, all_frames}
+use Rattle.laying.specs.Laws.{SurveysAreHad}
 use Rattle.laying.proofs.PlannedFrames.{no_bytes}
 
 -- ---- whole frames
-
-pub record IsWholeAt (file : List ℕ) (offset : ℕ) (h : HeaderFields) : Type 0 where
-  pub header : IsHeader h
-  pub within : offset + length_of (class_of h) h.slot ≤ length file
 
 abbrev AreWholeFrames : List ℕ → List PlacedFrame → Type 0
 AreWholeFrames file [] = Unit {0}
@@ -69,37 +70,27 @@ numbered-whole file None ps are = are
 numbered-whole file (Some head) [] are = tt
 numbered-whole file (Some head) (p ∷ ps) are = are.1
 
--- a row is a whole frame of the file
-pub record IsRow (file : List ℕ) (r : Row) : Type 0 where
-  pub frame : IsWholeAt file r.offset r.header
-  pub shaped : IsShaped r.side
+pub shaped_pairs : (s : Side) → IsShaped s → HasPairs s
+shaped_pairs s shaped = record { scfsi = shaped.scfsi; granules = shaped.granules; first = shaped.first; second = shaped.second }
 
-abbrev pub AreRows : List ℕ → List Row → Type 0
-AreRows file [] = Unit {0}
-AreRows file (r ∷ rows) = IsRow file r × AreRows file rows
-
-rows-whole : (file : List ℕ) (ps : List PlacedFrame) → AreWholeFrames file ps → AreRows file (rows_of file ps)
+rows-whole : (file : List ℕ) (ps : List PlacedFrame) → AreWholeFrames file ps → AreWholeRows file (rows_of file ps)
 rows-whole file [] are = tt
-rows-whole file (p ∷ ps) are = (record { frame = are.0; shaped = shaped-side_in p.header (drop p.offset file) }, rows-whole file ps are.1)
+rows-whole file (p ∷ ps) are = (record { frame = are.0; pairs = shaped_pairs (side_in p.header (drop p.offset file)) (shaped-side_in p.header (drop p.offset file)) }, rows-whole file ps are.1)
 
-marks-whole : (file : List ℕ) (head : Option Head) (rows : List Row) (n : ℕ) (more : List Row) → AreRows file more → AreRows file (map (λ (p : ℕ × Row). marked_row head rows p.0 p.1) (enumerate_from n more))
+marks-whole : (file : List ℕ) (head : Option Head) (rows : List Row) (n : ℕ) (more : List Row) → AreWholeRows file more → AreWholeRows file (map (λ (p : ℕ × Row). marked_row head rows p.0 p.1) (enumerate_from n more))
 marks-whole file head rows n [] are = tt
-marks-whole file head rows n (r ∷ more) are = (record { frame = are.0.frame; shaped = are.0.shaped }, marks-whole file head rows (n + 1) more are.1)
+marks-whole file head rows n (r ∷ more) are = (record { frame = are.0.frame; pairs = are.0.pairs }, marks-whole file head rows (n + 1) more are.1)
 
-marked-whole : (file : List ℕ) (head : Option Head) (rows : List Row) → AreRows file rows → AreRows file (marked head rows)
+marked-whole : (file : List ℕ) (head : Option Head) (rows : List Row) → AreWholeRows file rows → AreWholeRows file (marked head rows)
 unfolding marked
 marked-whole file head rows are = marks-whole file head rows 0 rows are
 
 -- the head is a whole frame too
-abbrev pub IsWholeHead : List ℕ → Option Head → Type 0
-IsWholeHead file None = Unit {0}
-IsWholeHead file (Some head) = IsWholeAt file head.offset head.header
-
-head_by : (file : List ℕ) (p : PlacedFrame) (o : Option ℕ) → IsWholeAt file p.offset p.header → IsWholeHead file (option_map (λ at. record { offset = p.offset; header = p.header; text_at = at }) o)
+head_by : (file : List ℕ) (p : PlacedFrame) (o : Option ℕ) → IsWholeAt file p.offset p.header → HasWholeHead file (option_map (λ at. record { offset = p.offset; header = p.header; text_at = at }) o)
 head_by file p None is = tt
 head_by file p (Some at) is = is
 
-head-whole : (file : List ℕ) (p : PlacedFrame) → IsWholeAt file p.offset p.header → IsWholeHead file (head_of file p)
+pub head-whole : (file : List ℕ) (p : PlacedFrame) → IsWholeAt file p.offset p.header → HasWholeHead file (head_of file p)
 unfolding head_of
 head-whole file p is = head_by file p _ is
 
@@ -111,7 +102,7 @@ area-length file offset h is =
     let whole = (area-is (class_of h) h.slot h.protected (IsClass-class_of h is.header) is.header.slot).0 in
     length-take-le (own_area h) (drop over (drop offset file)) (omega (arith, whole, is.within, length-drop over (drop offset file), length-drop offset file))
 
-areas-length : (file : List ℕ) (rows : List Row) → AreRows file rows → length (flat_map (λ (r : Row). area_bytes file r.offset r.header) rows) ≡ sum_by (λ (r : Row). own_area r.header) rows
+areas-length : (file : List ℕ) (rows : List Row) → AreWholeRows file rows → length (flat_map (λ (r : Row). area_bytes file r.offset r.header) rows) ≡ sum_by (λ (r : Row). own_area r.header) rows
 areas-length file [] are = refl
 areas-length file (r ∷ rows) are =
     omega (
@@ -122,7 +113,7 @@ areas-length file (r ∷ rows) are =
       sum_by-cons (λ (q : Row). own_area q.header) r rows,
     )
 
-head-length : (file : List ℕ) (head : Option Head) → IsWholeHead file head → length (head_bytes file head) ≡ head_area head
+head-length : (file : List ℕ) (head : Option Head) → HasWholeHead file head → length (head_bytes file head) ≡ head_area head
 head-length file None is = refl
 head-length file (Some head) is = area-length file head.offset head.header is
 
@@ -133,7 +124,7 @@ area-among (q ∷ rows) zero r is =
     omega (arith, ap (λ (x : Row). own_area x.header) same, sum_by-cons (λ (x : Row). own_area x.header) q rows)
 area-among (q ∷ rows) (suc i) r is = omega (arith, area-among rows i r is, sum_by-cons (λ (x : Row). own_area x.header) q rows, sum_by-cons (λ (x : Row). own_area x.header) q (take i rows))
 
-pub main-reaches : (file : List ℕ) (head : Option Head) (rows : List Row) (i : ℕ) (r : Row) → IsWholeHead file head → AreRows file rows → slice_get rows i ≡ Some r → place head rows i + own_area r.header ≤ length (main_bytes file head rows)
+pub main-reaches : (file : List ℕ) (head : Option Head) (rows : List Row) (i : ℕ) (r : Row) → HasWholeHead file head → AreWholeRows file rows → slice_get rows i ≡ Some r → place head rows i + own_area r.header ≤ length (main_bytes file head rows)
 unfolding place main_bytes
 main-reaches file head rows i r front are is =
     omega (
@@ -144,14 +135,14 @@ main-reaches file head rows i r front are is =
       area-among rows i r is,
     )
 
-rows-first : (file : List ℕ) (i : ℕ) (rows : List Row) → AreRows file rows → AreRows file (take i rows)
+rows-first : (file : List ℕ) (i : ℕ) (rows : List Row) → AreWholeRows file rows → AreWholeRows file (take i rows)
 rows-first file zero [] are = tt
 rows-first file zero (r ∷ rows) are = tt
 rows-first file (suc i) [] are = tt
 rows-first file (suc i) (r ∷ rows) are = (are.0, rows-first file i rows are.1)
 
 -- so many main data stand before frame i
-pub main-place : (file : List ℕ) (head : Option Head) (rows : List Row) (i : ℕ) → IsWholeHead file head → AreRows file rows → length (main_bytes file head (take i rows)) ≡ place head rows i
+pub main-place : (file : List ℕ) (head : Option Head) (rows : List Row) (i : ℕ) → HasWholeHead file head → AreWholeRows file rows → length (main_bytes file head (take i rows)) ≡ place head rows i
 unfolding place main_bytes
 main-place file head rows i front are =
     omega (
@@ -191,9 +182,9 @@ module _ (bs : List ℕ) (are : AreBits bs) where
 
 -- ---- a frame with its main data
 
-side_shaped : (lost : Bool) (s : Side) → IsShaped s → HasPairs (cond lost no_side s)
-side_shaped true s shaped = record { scfsi = refl; granules = refl; first = refl; second = refl }
-side_shaped false s shaped = record { scfsi = shaped.scfsi; granules = shaped.granules; first = shaped.first; second = shaped.second }
+side_paired : (lost : Bool) (s : Side) → HasPairs s → HasPairs (cond lost no_side s)
+side_paired true s pairs = record { scfsi = refl; granules = refl; first = refl; second = refl }
+side_paired false s pairs = pairs
 
 pub side_fits : (c : ClassFields) (lost : Bool) (s : Side) → SideFits c s → SideFits c (cond lost no_side s)
 side_fits c true s fits = SideFits-no_side c
@@ -215,11 +206,11 @@ data-ends head c rows i r is false lost =
     let stands = data-none_well (place head rows i) (end_before head rows i) r is.sound (sym is.mark ∙ lost) in
     omega (arith, ltb-false (place head rows i + own_area r.header) (end_of_data (place head rows i) r) stands.within)
 
-module _ (file : List ℕ) (head : Option Head) (c : ClassFields) (rows : List Row) (front : IsWholeHead file head) (are : AreRows file rows) (placed : AreWellPlaced head c rows) where
+module _ (file : List ℕ) (head : Option Head) (c : ClassFields) (rows : List Row) (front : HasWholeHead file head) (are : AreWholeRows file rows) (placed : AreWellPlaced head c rows) where
   abbrev main : List ℕ
   main = main_bytes file head rows
 
-  module _ (i : ℕ) (r : Row) (found : slice_get rows i ≡ Some r) (row : IsRow file r) where
+  module _ (i : ℕ) (r : Row) (found : slice_get rows i ≡ Some r) (row : IsWholeRow file r) where
     abbrev own_bits : List ℕ
     own_bits = payload_at main (start_of_data (place head rows i) r) (side_of r)
 
@@ -250,7 +241,7 @@ module _ (file : List ℕ) (head : Option Head) (c : ClassFields) (rows : List R
         record {
           header = row.frame.header;
           class = well.class_is;
-          pairs = side_shaped r.lost r.side row.shaped;
+          pairs = side_paired r.lost r.side row.pairs;
           fits = side_fits c r.lost r.side well.fits;
           octets = packed-bytes own_bits data-bits;
           size = packed-length own_bits data-bits ∙ bytes-is;
@@ -277,36 +268,38 @@ module _ (file : List ℕ) (head : Option Head) (c : ClassFields) (rows : List R
   later_at : (n : ℕ) (r : Row) (more : List Row) → AreAt n (r ∷ more) → AreAt (n + 1) more
   later_at n r more at = λ i q is. ap (slice_get rows) (omega arith) ∙ at (suc i) q is
 
-  each-entries : (n : ℕ) (more : List Row) → AreRows file more → AreAt n more → AreEntries c (map each (enumerate_from n more))
+  each-entries : (n : ℕ) (more : List Row) → AreWholeRows file more → AreAt n more → AreEntries c (map each (enumerate_from n more))
   each-entries n [] whole_rows at = tt
   each-entries n (r ∷ more) whole_rows at = (own-entry n r (first_at n r more at) whole_rows.0, each-entries (n + 1) more whole_rows.1 (later_at n r more at))
 
-  each-stream : (n : ℕ) (more : List Row) → AreRows file more → AreAt n more → map entry_of (map each (enumerate_from n more)) ≡ map (λ (p : ℕ × Row). stream_frame main head rows p.0 p.1) (enumerate_from n more)
+  each-stream : (n : ℕ) (more : List Row) → AreWholeRows file more → AreAt n more → map entry_of (map each (enumerate_from n more)) ≡ map (λ (p : ℕ × Row). stream_frame main head rows p.0 p.1) (enumerate_from n more)
   each-stream n [] whole_rows at = refl
   each-stream n (r ∷ more) whole_rows at =
       ap₂ (λ (x : StreamFrame) (xs : List StreamFrame). x ∷ xs) (own-stream n r (first_at n r more at) whole_rows.0) (each-stream (n + 1) more whole_rows.1 (later_at n r more at))
 
--- ---- a file without fault
+-- ---- the frames of a survey
 
--- its frames are entries, and what they are in its stream
+-- they are entries, and what they are in its stream
 pub record AreFramesOf (file : List ℕ) (s : SurveyFields) : Type 0 where
   pub entries : AreEntries s.class (all_frames file s)
   pub stream_is : map entry_of (all_frames file s) ≡ stream_of_survey file s
 
-frames-of : (file : List ℕ) (s : SurveyFields) → IsWholeHead file s.head → AreRows file s.frames → AreWellPlaced s.head s.class s.frames → AreFramesOf file s
+pub frames-of : (file : List ℕ) (s : SurveyFields) → HasSurvey file s → AreFramesOf file s
 unfolding all_frames stream_of_survey stream_frames
-frames-of file s front are placed =
-    let at : AreAt file s.head s.class s.frames front are placed 0 s.frames = λ i r is. ap (slice_get s.frames) (omega arith) ∙ is in
+frames-of file s has =
+    let at : AreAt file s.head s.class s.frames has.head has.rows has.placed 0 s.frames = λ i r is. ap (slice_get s.frames) (omega arith) ∙ is in
     record {
-      entries = each-entries file s.head s.class s.frames front are placed 0 s.frames are at;
-      stream_is = each-stream file s.head s.class s.frames front are placed 0 s.frames are at;
+      entries = each-entries file s.head s.class s.frames has.head has.rows has.placed 0 s.frames has.rows at;
+      stream_is = each-stream file s.head s.class s.frames has.head has.rows has.placed 0 s.frames has.rows at;
     }
 
-pub record IsWholeSurvey (file : List ℕ) (s : SurveyFields) : Type 0 where
-  pub head : IsWholeHead file s.head
-  pub rows : AreRows file s.frames
+-- ---- a file without fault
 
-pub surveyed-whole : (file : List ℕ) (allowed : ℕ) (s : SurveyFields) → surveyed file allowed ≡ Ok s → IsWholeSurvey file s
+record IsWholeSurvey (file : List ℕ) (s : SurveyFields) : Type 0 where
+  pub head : HasWholeHead file s.head
+  pub rows : AreWholeRows file s.frames
+
+surveyed-whole : (file : List ℕ) (allowed : ℕ) (s : SurveyFields) → surveyed file allowed ≡ Ok s → IsWholeSurvey file s
 surveyed-whole file allowed s e =
     let parts = surveyed-parts file allowed s e in
     let start : Start = parts.0 in
@@ -321,5 +314,16 @@ surveyed-whole file allowed s e =
           (rows-whole file (frames_from file start) (numbered-whole file (head_of file start.first) (frames_of stream.items) (ends-frames file start.first.offset stream.items stream.stop (run-ends Stream file start.first.offset))));
     })
 
-pub surveyed-frames : (file : List ℕ) (allowed : ℕ) (s : SurveyFields) → surveyed file allowed ≡ Ok s → AreFramesOf file s
-surveyed-frames file allowed s e = let is = surveyed-whole file allowed s e in frames-of file s is.head is.rows (surveyed-placed file allowed s e)
+pub surveys-had : SurveysAreHad
+surveys-had file allowed s e =
+    let is = surveyed-whole file allowed s e in
+    record {
+      long = ap (λ (t : SurveyFields). t.length) (surveyed-parts file allowed s e).2;
+      head = is.head;
+      rows = is.rows;
+      placed = surveyed-placed file allowed s e;
+      blocks = surveyed-blocks file allowed s e;
+    }
+
+pub survey-had : (file : List ℕ) (allowed : ℕ) (s : SurveyFields) → survey_of file allowed ≡ Ok s → HasSurvey file s
+survey-had file allowed s e = surveys-had file allowed s (survey_of-parts file allowed s e).1

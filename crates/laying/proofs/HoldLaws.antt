@@ -1,5 +1,5 @@
 -- The frames of parts as they were planned.
-use Rattle.std.proofs.Common.{◌≡◌, ℕ, zero, suc, ◌+◌, ◌-◌, cond, Bool, true, false, List, [], ◌∷◌, ◌++◌, length, map, take, drop, Ok, refl, sym, ◌∙◌, ap, ap₂, subst, arith, length-append, length-drop}
+use Rattle.std.proofs.Common.{◌≡◌, ℕ, zero, suc, ◌+◌, ◌-◌, cond, Bool, true, false, List, [], ◌∷◌, ◌++◌, length, map, take, drop, refl, sym, ◌∙◌, ap, ap₂, subst, arith, length-append, length-drop}
 use Rattle.std.specs.Prelude.{flat_map, slice_range, filter, not, ◌<◌, ◌≤◌}
 use Rattle.std.specs.List.{enumerate_from}
 use Rattle.std.proofs.lemmas.List.{take-map, drop-map, map-append, length-map, length-take}
@@ -13,16 +13,16 @@ use Rattle.frame_writer.specs.Laid.{CanBeLaid}
 use Rattle.frame_writer.specs.Frames.{Frame, pieces}
 use Rattle.sync_survey.specs.declared.rows.Row.{Row}
 use Rattle.sync_survey.specs.MainData.{StreamFrame}
-use Rattle.sync_survey.specs.Faults.{SurveyFields, surveyed, HoldsStream}
+use Rattle.sync_survey.specs.Faults.{SurveyFields, HoldsStream}
 use Rattle.sync_survey.specs.declared.places.Piece.{Piece}
 use Rattle.laid_files.specs.LaidFiles.{IsBlock, IsBlocks, block_bytes, AreEntries, entry_of, laid_file}
 use Rattle.laid_files.proofs.LaidLaws.{laid-stream}
-use Rattle.laid_files.proofs.KeptBlocks.{surveyed-blocks}
 use Rattle.laying.specs.Written.{goes_in_front}
+use Rattle.laying.specs.Surveys.{HasSurvey}
 use Rattle.laying.specs.Relaid.{frame_of, all_frames, Part, frames_in, stream_in, IsPart, AreParts, needs_in, relaid, with_lead_ins}
 use Rattle.laying.specs.Laws.{EntriesHold, FilesHold, BlocksAreKept}
 use Rattle.laying.proofs.PlannedFrames.{no_bytes, AreNeedsOf, AllNeedsOf, AllEntries, joined, plan-laid, plan-some}
-use Rattle.laying.proofs.ChosenFrames.{surveyed-frames}
+use Rattle.laying.proofs.ChosenFrames.{frames-of}
 
 -- ---- some of the frames
 
@@ -72,22 +72,22 @@ needs-all c file s are = needs-each c file s 0 s.frames are
 
 pub part-entries : (c : ClassFields) (p : Part) → IsPart c p → AreEntries c (frames_in p)
 part-entries c p is =
-    let are = surveyed-frames p.file is.allowed p.survey is.is in
+    let are = frames-of p.file p.survey is.has in
     entries-take c (p.to - p.from) (drop p.from (all_frames p.file p.survey)) (entries-drop c p.from (all_frames p.file p.survey) (subst (λ d. AreEntries d (all_frames p.file p.survey)) is.class are.entries))
 
 -- those of some frames are of these
-pub needs-range : (file : List ℕ) (allowed : ℕ) (s : SurveyFields) (from to : ℕ) → surveyed file allowed ≡ Ok s → AreNeedsOf (map need_of (slice_range s.frames from to)) (slice_range (all_frames file s) from to)
-needs-range file allowed s from to e =
-    let are = surveyed-frames file allowed s e in
+pub needs-range : (file : List ℕ) (s : SurveyFields) (from to : ℕ) → HasSurvey file s → AreNeedsOf (map need_of (slice_range s.frames from to)) (slice_range (all_frames file s) from to)
+needs-range file s from to has =
+    let are = frames-of file s has in
     subst (λ (l : List Need). AreNeedsOf l (slice_range (all_frames file s) from to)) (sym (range-map need_of from to s.frames))
     (needs-take (to - from) (drop from (map need_of s.frames)) (drop from (all_frames file s)) (needs-drop from (map need_of s.frames) (all_frames file s) (needs-all s.class file s are.entries)))
 
 pub part-needs : (c : ClassFields) (p : Part) → IsPart c p → AreNeedsOf (needs_in p) (frames_in p)
-part-needs c p is = needs-range p.file is.allowed p.survey p.from p.to is.is
+part-needs c p is = needs-range p.file p.survey p.from p.to is.has
 
 pub part-stream : (c : ClassFields) (p : Part) → IsPart c p → map entry_of (frames_in p) ≡ stream_in p
 part-stream c p is =
-    let are = surveyed-frames p.file is.allowed p.survey is.is in
+    let are = frames-of p.file p.survey is.has in
     range-map entry_of p.from p.to (all_frames p.file p.survey) ∙ ap (λ (l : List StreamFrame). slice_range l p.from p.to) are.stream_is
 
 -- ---- all parts
@@ -153,5 +153,4 @@ kept-blocks keep file [] are = tt
 kept-blocks keep file (p ∷ ps) are = kept_cons (keep p) file p (filter keep ps) are.0 (kept-blocks keep file ps are.1)
 
 pub blocks-kept : BlocksAreKept
-blocks-kept file allowed s e =
-    let all = surveyed-blocks file allowed s e in (kept-blocks (goes_in_front s) file s.blocks all, kept-blocks (λ p. not (goes_in_front s p)) file s.blocks all)
+blocks-kept file s has = (kept-blocks (goes_in_front s) file s.blocks has.blocks, kept-blocks (λ p. not (goes_in_front s p)) file s.blocks has.blocks)

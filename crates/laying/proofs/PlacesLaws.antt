@@ -20,11 +20,11 @@ use Rattle.sync_survey.specs.declared.rows.Row.{Row}
 use Rattle.sync_survey.specs.Faults.{SurveyFields}
 use Rattle.laying.specs.Relaid.{frame_of, all_frames, left_behind, relaid}
 use Rattle.laying.specs.Fits.{reach_behind, FitsFrom, last_reach}
-use Rattle.laying.specs.Passing.{HasSurvey, Lays, LaysPart}
+use Rattle.laying.specs.Surveys.{HasSurvey}
+use Rattle.laying.specs.Passing.{Lays, LaysPart}
 use Rattle.laying.specs.Places.{frames_behind, places_for, own_places, whole_frames, whole_reach}
 use Rattle.laying.proofs.PlannedFrames.{one, AreNeedsOf}
 use Rattle.laying.proofs.HoldLaws.{needs-range}
-use Rattle.laying.proofs.ReadLaws.{survey-surveyed}
 use Rattle.laying.proofs.PassLaws.{lays_as}
 use Rattle.laying.proofs.RelayLaws.{relaid-end, begins-left}
 
@@ -149,7 +149,7 @@ whole-length file s =
 pub whole-needs : (file : List ℕ) (s : SurveyFields) → HasSurvey file s → AreNeedsOf (map need_of s.frames) (slice_range (all_frames file s) 0 (length s.frames))
 whole-needs file s has =
     subst (λ (l : List Row). AreNeedsOf (map need_of l) (slice_range (all_frames file s) 0 (length s.frames))) (range-whole s.frames)
-    (needs-range file has.0 s 0 (length s.frames) (survey-surveyed file has.0 s has.1))
+    (needs-range file s 0 (length s.frames) has)
 
 whole-own : (file : List ℕ) (s : SurveyFields) (placed : List Placed) → whole_frames s (own_places (length s.frames) placed) file ≡ whole_frames s placed file
 whole-own file s placed =

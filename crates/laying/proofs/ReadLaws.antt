@@ -1,6 +1,6 @@
 -- The main data of frames as they are read, area by area.
-use Rattle.std.proofs.Common.{◌≡◌, ◌≢◌, eqb, ℕ, zero, suc, min, ◌+◌, ◌-◌, ◌*◌, ◌/◌, ◌≤◌, cond, Bool, true, false, List, [], ◌∷◌, ◌++◌, length, take, drop, Option, Some, None, Ok, inl, inr, refl, sym, ◌∙◌, ap, ap₂, subst, arith, length-drop, length-append, append-nil, append_assoc}
-use Rattle.std.specs.Prelude.{IfSome, ◌⊎◌, ◌==◌, flat_map, slice_get, sum_by, nat_lt, replicate, Result, Err}
+use Rattle.std.proofs.Common.{◌≡◌, ◌≢◌, eqb, ℕ, zero, suc, min, ◌+◌, ◌-◌, ◌*◌, ◌/◌, ◌≤◌, cond, Bool, true, false, List, [], ◌∷◌, ◌++◌, length, take, drop, Option, Some, None, inl, inr, refl, sym, ◌∙◌, ap, ap₂, subst, arith, length-drop, length-append, append-nil, append_assoc}
+use Rattle.std.specs.Prelude.{IfSome, ◌⊎◌, ◌==◌, flat_map, slice_get, sum_by, replicate}
 use Rattle.std.proofs.lemmas.Bool.{ltb-false}
 use Rattle.std.proofs.lemmas.Bool.Decides.{eqb_tells}
 use Rattle.std.proofs.lemmas.List.{length-replicate, length-take-le, take-append-drop, take-append-le, drop-append-le}
@@ -21,28 +21,14 @@ use Rattle.frame_writer.specs.Laid.{zeros}
 use Rattle.part_needs.proofs.BeginLaws.{begin-near}
 use Rattle.sync_survey.specs.declared.places.Head.{Head}
 use Rattle.sync_survey.specs.declared.rows.Row.{Row}
-use Rattle.sync_survey.specs.declared.survey_fault.SurveyFault.{SurveyFault}
-use Rattle.sync_survey.specs.declared.survey_fault.SurveyFault.TheVariants.{TooLong}
 use Rattle.sync_survey.specs.MainData.{own_area, head_area, place, end_before, start_of_data, end_of_data, area_bytes, head_bytes, main_bytes, payload_at}
-use Rattle.sync_survey.specs.Faults.{SurveyFields, surveyed, longest_file}
-use Rattle.sync_survey.specs.Survey.{survey_of, AreLaid, IsWellPlaced, IsLaidOut, IsWholeHead}
-use Rattle.sync_survey.proofs.SurveyParts.{surveyed-parts, data-none_well}
+use Rattle.sync_survey.specs.Faults.{SurveyFields}
+use Rattle.sync_survey.specs.Survey.{AreLaid, IsWellPlaced, IsLaidOut, IsWholeHead}
+use Rattle.sync_survey.proofs.SurveyParts.{data-none_well}
 use Rattle.laying.specs.Relaid.{packed, payload_of}
-use Rattle.laying.specs.Passing.{HasSurvey, HasArea, IsOver, skipped_before, IsOverLast}
-use Rattle.laying.proofs.ChosenFrames.{surveyed-whole, main-place, packed-bits, packed-bytes, filling}
-
--- ---- the survey of a file
-
-surveyed_by : (b : Bool) (r : Result SurveyFields SurveyFault) (n : ℕ) (s : SurveyFields) → cond b (Err (TooLong n)) r ≡ Ok s → r ≡ Ok s
-surveyed_by true r n s e = absurd cc
-surveyed_by false r n s e = e
-
-pub survey-surveyed : (file : List ℕ) (allowed : ℕ) (s : SurveyFields) → survey_of file allowed ≡ Ok s → surveyed file allowed ≡ Ok s
-unfolding survey_of
-survey-surveyed file allowed s e = surveyed_by (nat_lt longest_file (length file)) (surveyed file allowed) (length file) s e
-
-pub survey-length : (file : List ℕ) (s : SurveyFields) → HasSurvey file s → length file ≡ s.length
-survey-length file s has = ap (λ (t : SurveyFields). t.length) (surveyed-parts file has.0 s (survey-surveyed file has.0 s has.1)).2
+use Rattle.laying.specs.Surveys.{HasSurvey}
+use Rattle.laying.specs.Passing.{HasArea, IsOver, skipped_before, IsOverLast}
+use Rattle.laying.proofs.ChosenFrames.{main-place, packed-bits, packed-bytes, filling}
 
 -- ---- a frame within the file
 
@@ -226,8 +212,7 @@ last-none window input files s first some held has =
       held = held;
       long = omega (arith, skipped);
       is = λ file holds.
-          let h = has file holds in
-          let whole = surveyed-whole file h.0 s (survey-surveyed file h.0 s h.1) in
+          let whole = has file holds in
           let front = main_bytes file s.head (take first s.frames) in
           (front, main-place file s.head s.frames first whole.head whole.rows ∙ sym skipped, sym (append-nil front));
     }

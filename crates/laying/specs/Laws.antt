@@ -16,6 +16,7 @@ use Rattle.sync_survey.specs.declared.rows.Row.{Row}
 use Rattle.laying.specs.Fits.{FitsFrom, IsFitting}
 use Rattle.part_needs.specs.Fit.{AreFit}
 use Rattle.slot_plan.specs.Parts.{window_in, parts_of}
+use Rattle.laying.specs.Surveys.{HasSurvey}
 use Rattle.laying.specs.Relaid.{Part, frames_in, stream_in, IsPart, AreParts, needs_in, AreSlots, relaid, with_lead_ins}
 
 -- there are frames; they are of this class, their main data can be laid as they say, and this is what they are in a stream
@@ -38,9 +39,13 @@ FilesHold =
     → (front : List (List ℕ)) (first : HeaderFields) (info : Info) (back : List (List ℕ)) → IsBlocks front → IsHeader first → class_of first ≡ c → HasInfoSizes info → IsBlocks back
     → HoldsStream (laid_file front first info (relaid (flat_map frames_in parts) placed) back) (with_lead_ins placed (flat_map stream_in parts))
 
--- the blocks of a file without fault that are kept may stand in such a file
+-- the survey of a file without fault is one by which its frames can be laid anew
+abbrev pub SurveysAreHad : Type 0
+SurveysAreHad = (file : List ℕ) (allowed : ℕ) (s : SurveyFields) → surveyed file allowed ≡ Ok s → HasSurvey file s
+
+-- the blocks of a file that are kept may stand in such a file
 abbrev pub BlocksAreKept : Type 0
-BlocksAreKept = (file : List ℕ) (allowed : ℕ) (s : SurveyFields) → surveyed file allowed ≡ Ok s → IsBlocks (front_blocks file s) × IsBlocks (back_blocks file s)
+BlocksAreKept = (file : List ℕ) (s : SurveyFields) → HasSurvey file s → IsBlocks (front_blocks file s) × IsBlocks (back_blocks file s)
 
 -- a plan of parts can be written frame by frame, behind no frames
 abbrev pub PlansFit : Type 0

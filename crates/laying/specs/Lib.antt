@@ -1,3 +1,4 @@
+pub mod Surveys
 pub mod Relaid
 pub mod Written
 pub mod Fits

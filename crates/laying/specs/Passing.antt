@@ -1,5 +1,5 @@
 -- What a pass that lays frames anew makes of its output.
-use Rattle.std.specs.Prelude.{◌≡◌, ℕ, ◌+◌, ◌-◌, ◌==◌, ◌≤◌, min, if◌then◌else◌, List, [], ◌∷◌, ◌++◌, length, take, map, slice_range, Ok}
+use Rattle.std.specs.Prelude.{◌≡◌, ℕ, ◌+◌, ◌-◌, ◌==◌, ◌≤◌, min, if◌then◌else◌, List, [], ◌∷◌, ◌++◌, length, take, map, slice_range}
 use Rattle.std.specs.List.{concat}
 use Rattle.frame_header.specs.Fields.{ClassFields}
 use Rattle.frame_header.specs.Tables.{class_of, area_of, window_of}
@@ -17,19 +17,16 @@ use Rattle.frame_writer.specs.Writing.{Writing, writing, IsNew, AreBehind, IsWri
 use Rattle.sync_survey.specs.declared.rows.Row.{Row}
 use Rattle.sync_survey.specs.MainData.{own_area, area_bytes, place, main_bytes}
 use Rattle.sync_survey.specs.Faults.{SurveyFields, tells}
-use Rattle.sync_survey.specs.Survey.{survey_of, IsLaidOut}
+use Rattle.sync_survey.specs.Survey.{IsLaidOut}
 use Rattle.laying.specs.declared.buffers.Buffers.{Buffers}
 use Rattle.laying.specs.declared.relay.Relay.{Relay}
 use Rattle.laying.specs.declared.section.Section.{Section}
+use Rattle.laying.specs.Surveys.{HasSurvey}
 use Rattle.laying.specs.Relaid.{frame_of, all_frames, moved_to, placed_as, relaid}
 use Rattle.laying.specs.Fits.{reach_behind, FitsFrom, last_reach}
 use Rattle.laying.specs.Written.{front_blocks, back_blocks}
 
--- this is the survey of the file
-abbrev pub HasSurvey : List ℕ → SurveyFields → Type 0
-HasSurvey file s = (allowed : ℕ) × (survey_of file allowed ≡ Ok s)
-
--- The survey is that of the input, which is read to be written to the output, and what is held of the input is of its bytes.
+-- The survey tells of frames of the input, which is read to be written to the output, and what is held of the input is of its bytes.
 pub record IsReady (relay : Relay) (files : Files) (fed : Fed) : Type 0 where
   pub pass : PassReady relay.pass files fed
   pub length_is : relay.pass.length ≡ (tells relay.survey.now).length

@@ -1,6 +1,6 @@
 -- Frames that are chosen of surveyed files, and the same frames in the slots of a plan with all main data laid anew (main_data_begin
 -- and main data, ISO/IEC 11172-3 and 13818-3, 2.4.2.7).
-use Rattle.std.specs.Prelude.{◌≡◌, ℕ, ◌+◌, ◌-◌, ◌*◌, ◌/◌, ◌<◌, ◌≤◌, if◌then◌else◌, false, List, [], ◌∷◌, ◌++◌, length, map, slice_range, Contains, Ok, Bool, true}
+use Rattle.std.specs.Prelude.{◌≡◌, ℕ, ◌+◌, ◌-◌, ◌*◌, ◌/◌, ◌<◌, ◌≤◌, if◌then◌else◌, false, List, [], ◌∷◌, ◌++◌, length, map, slice_range, Contains, Bool, true}
 use Rattle.std.specs.List.{enumerate_from}
 use Rattle.bit_fields.specs.Bits.{bytes}
 use Rattle.frame_header.specs.Fields.{SlotFields, HeaderFields, ClassFields, IsSlot, IsHeader}
@@ -12,7 +12,8 @@ use Rattle.frame_writer.specs.Laid.{zeros}
 use Rattle.frame_writer.specs.Frames.{Frame}
 use Rattle.sync_survey.specs.declared.rows.Row.{Row}
 use Rattle.sync_survey.specs.MainData.{StreamFrame, main_bytes, payload_at, start_of_data, place, side_of, part_lengths, parts_of}
-use Rattle.sync_survey.specs.Faults.{SurveyFields, surveyed, stream_of_survey}
+use Rattle.sync_survey.specs.Faults.{SurveyFields, stream_of_survey}
+use Rattle.laying.specs.Surveys.{HasSurvey}
 
 -- ---- the frames of a surveyed file
 
@@ -51,10 +52,9 @@ frames_in p = slice_range (all_frames p.file p.survey) p.from p.to
 abbrev pub stream_in : Part → List StreamFrame
 stream_in p = slice_range (stream_of_survey p.file p.survey) p.from p.to
 
--- the file has no fault, its frames are of this class, and the part has a frame
+-- the frames lie in the file as the survey says, and are of this class, and the part has a frame
 pub record IsPart (c : ClassFields) (p : Part) : Type 0 where
-  pub allowed : ℕ
-  pub is : surveyed p.file allowed ≡ Ok p.survey
+  pub has : HasSurvey p.file p.survey
   pub class : p.survey.class ≡ c
   pub some : p.from < p.to
   pub within : p.to ≤ length p.survey.frames

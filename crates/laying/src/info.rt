@@ -10,7 +10,7 @@ ghost use Rattle.sync_survey.specs.Survey.{IsLaidOut};
 ghost use Rattle.slot_plan.specs.declared.needs.Placed.{Placed as PlacedFields};
 ghost use Rattle.laid_files.specs.LaidFiles.{HasInfoSizes};
 ghost use Rattle.laying.specs.Written.{slot_in, info_for, head_info};
-ghost use Rattle.laying.specs.Passing.{HasSurvey};
+ghost use Rattle.laying.specs.Surveys.{HasSurvey};
 
 use frame_header::Class;
 use info_header::{Info, info_over};

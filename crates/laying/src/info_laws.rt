@@ -1,7 +1,7 @@
 //! Laws of the Info frame in front of chosen frames. Each function does nothing: a proof that needs its law calls it.
 ghost use Rattle.laying.specs.InfoLaws.{SlotsArePlanned};
 
-/// The frames of parts of files without fault, as they were planned, are in the slots of the plan, one for each of its
+/// The frames of parts of surveyed files, as they were planned, are in the slots of the plan, one for each of its
 /// lead-ins and frames. So an Info frame for the plan is one for these frames.
 pub fn slots_are_planned()
     ensures { SlotsArePlanned }

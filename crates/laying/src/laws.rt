@@ -1,7 +1,7 @@
 //! Laws of files of chosen frames. Each function does nothing: a proof that needs its law calls it.
-ghost use Rattle.laying.specs.Laws.{EntriesHold, FilesHold, BlocksAreKept, PlansFit, AskedPlans, FittingFilesHold, FittingSlots};
+ghost use Rattle.laying.specs.Laws.{EntriesHold, FilesHold, SurveysAreHad, BlocksAreKept, PlansFit, AskedPlans, FittingFilesHold, FittingSlots};
 
-/// The frames of parts of files without fault, in the slots and with the main_data_begin of their plan, are of the class, and
+/// The frames of parts of surveyed files, in the slots and with the main_data_begin of their plan, are of the class, and
 /// their main data can be laid so. In a stream they are the plan's lead-ins, and each chosen frame as it is in the stream of its
 /// file: the same header but bit rate index and padding, the same side information but main_data_begin, the same main data. A
 /// lost frame is an empty one.
@@ -15,8 +15,14 @@ pub fn files_hold()
     ensures { FilesHold }
 {}
 
-/// The bytes of the blocks of a file without fault, those that go in front of the frames and all others, may stand in such a
-/// file.
+/// The survey of a file without fault tells frames and blocks that are whole there, and main data that are among the areas:
+/// so its frames can be laid anew.
+pub fn surveys_are_had()
+    ensures { SurveysAreHad }
+{}
+
+/// The bytes of the blocks that a survey tells of its file, those that go in front of the frames and all others, may stand in
+/// such a file.
 pub fn blocks_are_kept()
     ensures { BlocksAreKept }
 {}
@@ -34,7 +40,7 @@ pub fn asked_plans()
     ensures { AskedPlans }
 {}
 
-/// The frames of a part of a file without fault, in the slots and with the main_data_begin of any plan that can be written
+/// The frames of a part of a surveyed file, in the slots and with the main_data_begin of any plan that can be written
 /// frame by frame: a file of them is well-formed, and its stream is the lead-ins of the plan and the chosen frames.
 pub fn fitting_files_hold()
     ensures { FittingFilesHold }

@@ -16,7 +16,7 @@ pub use info::{Kept, info_of, kept_fields};
 pub use info_laws::slots_are_planned;
 pub use laws::{
     asked_plans, blocks_are_kept, entries_hold, files_hold, fitting_files_hold, fitting_slots,
-    plans_fit,
+    plans_fit, surveys_are_had,
 };
 pub use relay::Relay;
 pub use section::Section;

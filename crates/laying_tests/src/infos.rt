@@ -122,7 +122,9 @@ static CASES: [Case; 4] = table! {
 
 /// Of the file `a`; none where its survey can't be read.
 fn kept_of<D: Folder>(alloc: Global, folder: &mut D) -> Option<Result<Kept, PassFault>> {
-    let survey = survey(alloc, folder, "a", 100).ok()?;
+    let Ok(survey) = survey(alloc, folder, "a", 100) else {
+        return None;
+    };
     Some(kept_fields(folder, "a", &survey))
 }
 

@@ -8,6 +8,7 @@ use Rattle.slot_plan.specs.declared.needs.Need.{Need}
 use Rattle.slot_plan.specs.declared.needs.Placed.{Placed}
 use Rattle.part_needs.specs.Fit.{IsPlaced}
 use Rattle.laying.specs.Fits.{IsFitting}
+use Rattle.laying.proofs.ChosenFrames.{survey-had}
 use Rattle.sync_survey.specs.declared.survey_fault.SurveyFault.{SurveyFault}
 use Rattle.sync_survey.specs.Faults.{SurveyFields, HoldsStream, tells}
 use Rattle.sync_survey.specs.Survey.{survey_of}
@@ -55,7 +56,7 @@ module _ (plan : Planning) (is_planning : IsPlanning plan) where
       let same : laid_by chosen placed ≡ laid = cc in
       let right = all_right Least file s chosen chose.1 in
       let fitting = is_planning.fitting chosen s (surveyed-placed file most_frames s (survey_of-parts file most_frames s is).1) right.some right.within placed planned.1 in
-      subst (λ (l : Laid). HoldsStream (file_laid l file s) (stream_laid l file s)) same (laid-holds (laid_by chosen placed) file s is right.some right.within fitting right.extension)
+      subst (λ (l : Laid). HoldsStream (file_laid l file s) (stream_laid l file s)) same (laid-holds (laid_by chosen placed) file s (survey-had file most_frames s is) right.some right.within fitting right.extension)
 
   made_stream : (file : List ℕ) (s : SurveyFields) (new : List ℕ) → survey_of file most_frames ≡ Ok s → packing plan file s ≡ Ok new → HoldsStream new (stream_with file s (packed plan file s))
   made_stream file s new is made =

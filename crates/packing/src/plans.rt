@@ -11,10 +11,10 @@ ghost use Rattle.best_plan.specs.BestOf.{best_plan_of};
 ghost use Rattle.rate_plan.specs.Menus.{AreAscending};
 ghost use Rattle.rate_plan.specs.MenuPlan.{menu_plan};
 ghost use Rattle.sync_survey.specs.Faults.{tells};
-ghost use Rattle.sync_survey.specs.Survey.{survey_of, IsLaidOut};
-ghost use Rattle.commands.specs.One.{most_frames};
+ghost use Rattle.sync_survey.specs.Survey.{IsLaidOut};
 ghost use Rattle.frame_edits.specs.Laid.{IsLaidInfo};
 ghost use Rattle.frame_edits.specs.Chosen.{chosen_in, laid_by};
+ghost use Rattle.laying.specs.Surveys.{HasSurvey};
 ghost use Rattle.laying.specs.Fits.{IsFitting};
 ghost use Rattle.packing.specs.Packing.{needs_of, IsPlanFault};
 ghost use Rattle.packing.specs.Rates.{no_rate as no_rate_lem, of_rate as of_rate_lem, rates_plan as rates_plan_lem, rates_refuse, IsMenuFault};
@@ -163,7 +163,7 @@ pub(crate) fn plan_packed(
     ensures fits { IfOk result (λ p. IsFitting (window_of (tells survey.now).class.version)
         (needs_of (chosen_in chosen.now) (tells survey.now)) (entries p.plan)) }
     ensures info { IfOk result (λ p. (file : List ℕ)
-        → survey_of file most_frames ≡ Ok (tells survey.now)
+        → HasSurvey file (tells survey.now)
         → IsLaidInfo (laid_by (chosen_in chosen.now) (entries p.plan)) file (tells survey.now)
         p.info.items) }
     ensures refused { IfErr result (IsPlanFault (plan_by_lem rule) (refuses_by rule)

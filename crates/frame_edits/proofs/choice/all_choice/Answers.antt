@@ -2,7 +2,9 @@
 use Rattle.std.proofs.Common.{◌≡◌, ℕ, ◌<◌, ◌&&◌, true, List, length, Option, Ok, refl, sym, ◌∙◌, ap, rules}
 use Rattle.std.specs.Prelude.{nat_lt, nat_le}
 use Rattle.laying.specs.Written.{head_info}
+use Rattle.laying.proofs.ChosenFrames.{survey-had}
 use Rattle.sync_survey.specs.Faults.{SurveyFields, tells}
+use Rattle.commands.specs.One.{most_frames}
 use Rattle.frame_edits.specs.declared.chosen.Slots.{Slots}
 use Rattle.frame_edits.specs.Chosen.{chosen_with, all_choice}
 use Rattle.frame_edits.proofs.choice.all_choice.Goals as goal
@@ -19,6 +21,9 @@ unfolding all_choice
 choice_is bytes s slots quality extension same kept =
     let n = length s.frames in
     sym (ap (λ (q : Option ℕ). chosen_with q extension 0 n slots n) same ∙ ap (λ (x : List ℕ). chosen_with (head_info bytes s.head).quality x 0 n slots n) kept)
+
+pub kept_fields-requires-clause-exact : goal.kept_fields-requires-clause-exact
+kept_fields-requires-clause-exact g c = λ file holds. survey-had file most_frames (tells c.args.survey.now) (c.requires.surveyed file holds)
 
 pub returns-clause-chosen : goal.returns-clause-chosen
 returns-clause-chosen g c bytes holds =

@@ -34,7 +34,7 @@ returns-clause-written g c =
     (appends-as (section_file s section) (λ file. file_laid laid file s)
     (λ file holds.
     written-is laid file s c.as_slice.result.now c.placed.result.now (omega (arith, writable.some, writable.within)) c.placed.ensures
-    (subst (IsLaidInfo laid file s) (sym c.as_slice.ensures.value) (writable.info file (c.requires.exact file holds)))))
+    (subst (IsLaidInfo laid file s) (sym c.as_slice.ensures.value) (writable.info file (c.requires.ready.exact file holds)))))
     c.write.ensures.written
 
 pub returns-clause-prefix : goal.returns-clause-prefix
@@ -47,5 +47,5 @@ returns-clause-prefix g c =
     (appends-as_prefix (section_file s section) (λ file. file_laid laid file s)
     (λ file holds.
     written-is laid file s c.as_slice.result.now c.placed.result.now (omega (arith, writable.some, writable.within)) c.placed.ensures
-    (subst (IsLaidInfo laid file s) (sym c.as_slice.ensures.value) (writable.info file (c.requires.exact file holds)))))
+    (subst (IsLaidInfo laid file s) (sym c.as_slice.ensures.value) (writable.info file (c.requires.ready.exact file holds)))))
     c.write.ensures.prefix

@@ -5,11 +5,10 @@ use Rattle.std.proofs.lemmas.List.{length-take-le, length-replicate}
 use Rattle.info_header.specs.declared.fields.Info.{Info}
 use Rattle.sync_survey.specs.Faults.{tells}
 use Rattle.laying.proofs.KeptLaws.{info-some}
-use Rattle.laying.proofs.ReadLaws.{survey-length}
 use Rattle.laying.proofs.info.kept_of.Goals as goal
 
 pub read_exact-requires-clause-found : goal.read_exact-requires-clause-found
-read_exact-requires-clause-found g c = λ file holds. survey-length file (tells c.args.survey.now) (c.requires.exact file holds) ∙ sym c.length.ensures
+read_exact-requires-clause-found g c = λ file holds. (c.requires.exact file holds).long ∙ sym c.length.ensures
 
 pub returns-clause-kept : goal.returns-clause-kept
 returns-clause-kept g c = λ file holds.

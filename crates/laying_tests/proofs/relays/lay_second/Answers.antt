@@ -12,8 +12,8 @@ use Rattle.sync_survey.specs.Faults.{tells}
 use Rattle.part_needs.specs.Needs.{Asked, need_of, needs_of, asked_of}
 use Rattle.part_needs.specs.Fit.{CanBePlanned}
 use Rattle.laying.specs.Fits.{FitsFrom}
-use Rattle.laying.specs.Passing.{HasSurvey}
-use Rattle.laying.proofs.ReadLaws.{survey-length}
+use Rattle.laying.specs.Surveys.{HasSurvey}
+use Rattle.laying.proofs.ChosenFrames.{survey-had}
 use Rattle.laying_tests.proofs.relays.lay_second.Goals as goal
 
 one_part : (rows : List Row) → needs_of (rows ∷ []) ≡ map need_of rows
@@ -31,13 +31,13 @@ pub write-requires-clause-ready : goal.write-requires-clause-ready
 write-requires-clause-ready g c =
     let files = g.D.Folder.files in
     let s = tells c.in-Ok-survey.survey in
-    let held : (file : List ℕ) → Holds (files c.survey.new.folder) (97 ∷ []) file → HasSurvey file s = λ file holds. (2, c.in-Ok-survey.ensures.exact file (subst (λ f. Holds f (97 ∷ []) file) c.survey.ensures.files holds)) in
+    let held : (file : List ℕ) → Holds (files c.survey.new.folder) (97 ∷ []) file → HasSurvey file s = λ file holds. survey-had file 2 s (c.in-Ok-survey.ensures.exact file (subst (λ f. Holds f (97 ∷ []) file) c.survey.ensures.files holds)) in
     record {
       pass = record {
         apart = λ e. let same : 97 ≡ 98 = ap (λ (l : List ℕ). get_or l 0 0) e in absurd (omega (arith, same));
         source = subst (λ f. IsThere f (97 ∷ [])) (sym c.survey.ensures.files) c.in-Ok-survey.ensures.there;
         target = subst (λ f. IsThere f (98 ∷ [])) (sym (c.survey.ensures.files ∙ c.in-Ok.ensures.created)) (emptied_there (files c.args.folder.now) (98 ∷ []));
-        length_is = λ file holds. survey-length file s (held file holds) ∙ sym c.length.ensures;
+        length_is = λ file holds. (held file holds).long ∙ sym c.length.ensures;
         few = omega (arith, c.length.ensures, c.in-Ok-survey.ensures.laid.few);
         fed_from = c.in_ok-buffers.ensures.fed (files c.survey.new.folder) (97 ∷ []);
       };

@@ -2,7 +2,9 @@
 use Rattle.std.proofs.Common.{◌≢◌, ◌∙◌}
 use Rattle.sync_survey.specs.Faults.{tells}
 use Rattle.frame_edits.specs.Selected.{selected_file}
-use Rattle.frame_edits.proofs.LaidPass.{relay-ready, survey-still}
+use Rattle.laying.proofs.ChosenFrames.{survey-had}
+use Rattle.commands.specs.One.{most_frames}
+use Rattle.frame_edits.proofs.LaidPass.{relay-ready}
 use Rattle.splitting.proofs.OutputsLaws.{fed-beside, piece-whole, piece-told, piece-left}
 use Rattle.splitting.proofs.writing.write_piece.Goals as goal
 
@@ -10,12 +12,8 @@ pub write_selection-requires-clause-ready : goal.write_selection-requires-clause
 write_selection-requires-clause-ready g c =
     let apart : c.args.input.now ≢ c.as_str-output.result.now = λ same. c.requires.apart (same ∙ c.as_str-output.ensures.value) in
     relay-ready (record { pass = record { input = c.args.input; output = c.as_str-output.result; length = c.length.result }; survey = c.args.survey }) (g.D.Folder.files c.args.folder.now) (g.D.Folder.files c.create.new.self) c.args.buffers.now.feed
-    apart c.requires.there c.requires.laid c.requires.surveyed c.length.ensures c.in-Ok.ensures.created
+    apart c.requires.there c.requires.laid (λ file holds. survey-had file most_frames (tells c.args.survey.now) (c.requires.surveyed file holds)) c.length.ensures c.in-Ok.ensures.created
     (fed-beside c.args.buffers.now.feed (g.D.Folder.files c.args.folder.now) (g.D.Folder.files c.create.new.self) c.args.input.now c.as_str-output.result.now apart c.in-Ok.ensures.created c.requires.fed)
-
-pub write_selection-requires-clause-exact : goal.write_selection-requires-clause-exact
-write_selection-requires-clause-exact g c =
-    survey-still c.args.input.now c.as_str-output.result.now (tells c.args.survey.now) (g.D.Folder.files c.args.folder.now) (g.D.Folder.files c.create.new.self) (λ same. c.requires.apart (same ∙ c.as_str-output.ensures.value)) c.in-Ok.ensures.created c.requires.surveyed
 
 pub returns-clause-written : goal.returns-clause-written
 returns-clause-written g c =

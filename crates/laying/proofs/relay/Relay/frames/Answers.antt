@@ -15,7 +15,6 @@ use Rattle.sync_survey.specs.Faults.{SurveyFields, tells}
 use Rattle.laying.specs.Relaid.{frame_of, all_frames, placed_as, relaid}
 use Rattle.laying.specs.Fits.{bytes_at, area_at, reach_behind, FitsFrom, last_reach}
 use Rattle.laying.proofs.HoldLaws.{needs-range}
-use Rattle.laying.proofs.ReadLaws.{survey-surveyed}
 use Rattle.outside.proofs.PassLaws.{cause_later}
 use Rattle.laying.specs.Passing.{writing_in}
 use Rattle.laying.proofs.PassLaws.{lays_none, lays_then, part_then}
@@ -130,7 +129,7 @@ returns-in_err-i-clause-part g c =
     (part_more self.pass.input.now self.pass.output.now (λ file. sofar.made file ++ one file) (rest g at next refl) (λ file. relaid (slice_range (all_frames file s) c.args.from to) placed) reach last (writing_in c.args.buffers.now) (files c.args.folder.now) (files c.place.new.folder)
     (λ file holds later begins.
     let has = c.requires.ready.exact file holds in
-    begins-left window reach (map need_of (slice_range s.frames next to)) (slice_range (all_frames file s) next to) (drop (c.loop-place.place-index + 1) placed) later (needs-range file has.0 s next to (survey-surveyed file has.0 s has.1)) (opened g at next refl).2
+    begins-left window reach (map need_of (slice_range s.frames next to)) (slice_range (all_frames file s) next to) (drop (c.loop-place.place-index + 1) placed) later (needs-range file s next to has) (opened g at next refl).2
     (subst (λ n. BeginsWithin n (pieces later)) (sym (last_is g at next refl)) begins))
     (split g at next refl)
     (part_then self.pass.input.now self.pass.output.now sofar.made one (writing_in c.args.buffers.now) (writing_in c.loop-place.buffers) (files c.args.folder.now) (files c.loop-place.folder) c.requires.ready.pass.apart sofar.lays reach (files c.place.new.folder) c.in_err-i.ensures.part))

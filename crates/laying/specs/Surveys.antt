@@ -1,0 +1,38 @@
+-- What laying frames anew asks of the survey of a file: that its frames and blocks are whole there, and that the main data of each frame are
+-- among the areas. The survey of a file without fault is such a one (`SurveysAreHad`), and so is that of what is left of a damaged file.
+use Rattle.std.specs.Prelude.{◌≡◌, ℕ, ◌+◌, ◌≤◌, List, [], ◌∷◌, length, map, Option, Some, None}
+use Rattle.frame_header.specs.Fields.{HeaderFields, IsHeader}
+use Rattle.frame_header.specs.Tables.{class_of, length_of}
+use Rattle.sync_survey.specs.declared.places.Head.{Head}
+use Rattle.sync_survey.specs.declared.rows.Row.{Row}
+use Rattle.sync_survey.specs.Faults.{SurveyFields}
+use Rattle.sync_survey.specs.Survey.{AreWellPlaced}
+use Rattle.laid_files.specs.LaidFiles.{HasPairs, IsBlocks, block_bytes}
+
+-- a frame with this header has room in the file at the offset
+pub record IsWholeAt (file : List ℕ) (offset : ℕ) (h : HeaderFields) : Type 0 where
+  pub header : IsHeader h
+  pub within : offset + length_of (class_of h) h.slot ≤ length file
+
+-- so has the head
+abbrev pub HasWholeHead : List ℕ → Option Head → Type 0
+HasWholeHead file None = Unit {0}
+HasWholeHead file (Some head) = IsWholeAt file head.offset head.header
+
+-- so has a frame
+pub record IsWholeRow (file : List ℕ) (r : Row) : Type 0 where
+  pub frame : IsWholeAt file r.offset r.header
+  pub pairs : HasPairs r.side
+
+abbrev pub AreWholeRows : List ℕ → List Row → Type 0
+AreWholeRows file [] = Unit {0}
+AreWholeRows file (r ∷ rows) = IsWholeRow file r × AreWholeRows file rows
+
+-- The length is the file's; the head, the frames and the blocks are whole there; and the frames are of one class, their side fields are
+-- within their bits, and their main data have no fault.
+pub record HasSurvey (file : List ℕ) (s : SurveyFields) : Type 0 where
+  pub long : length file ≡ s.length
+  pub head : HasWholeHead file s.head
+  pub rows : AreWholeRows file s.frames
+  pub placed : AreWellPlaced s.head s.class s.frames
+  pub blocks : IsBlocks (map (block_bytes file) s.blocks)
