@@ -3,5 +3,6 @@
 
 pub mod rows;
 pub mod running;
+pub mod scripts;
 pub mod steps;
 pub mod tables;

@@ -128,6 +128,8 @@ pub enum Found {
     Absent(&'static str),
     Present(&'static str),
     Same(&'static str),
+    /// A word of a text stands for nothing.
+    Word(&'static str),
 }
 
 /// The first row that ended otherwise, and how.
@@ -180,6 +182,19 @@ fn place_of_difference(found: &[u8], wanted: &[u8]) -> usize {
     found.iter().zip(wanted).take_while(|(a, b)| a == b).count()
 }
 
+/// How what was found in a file differs from these bytes.
+pub(crate) fn bytes_differ(name: &'static str, found: &[u8], wanted: &[u8]) -> Option<Found> {
+    if found == wanted {
+        return None;
+    }
+    Some(Found::Bytes {
+        name,
+        length: found.len(),
+        wanted: wanted.len(),
+        place: place_of_difference(found, wanted),
+    })
+}
+
 /// How the file differs from these bytes.
 fn difference_of_file(
     alloc: Global,
@@ -190,15 +205,7 @@ fn difference_of_file(
     let Some(found) = folder.get(file.name) else {
         return Ok(Some(Found::Absent(file.name)));
     };
-    if found == wanted.as_slice() {
-        return Ok(None);
-    }
-    Ok(Some(Found::Bytes {
-        name: file.name,
-        length: found.len(),
-        wanted: wanted.len(),
-        place: place_of_difference(found, &wanted),
-    }))
+    Ok(bytes_differ(file.name, found, &wanted))
 }
 
 fn is_named(files: &'static [File], name: &str) -> bool {
@@ -286,6 +293,19 @@ fn difference_of_folder(
     Ok(difference_of_absent(folder, absent))
 }
 
+/// How what was sent differs from this text.
+pub(crate) fn difference_of_sent(
+    alloc: Global,
+    sent: &[u8],
+    text: &[u8],
+) -> Result<Option<Found>, AllocError> {
+    if sent == text {
+        return Ok(None);
+    }
+    let found = String::from_utf8_lossy(alloc, sent)?;
+    Ok(Some(Found::Text(found)))
+}
+
 /// How a command ended otherwise than with this status, line and text.
 fn difference_of_end(
     alloc: Global,
@@ -326,7 +346,10 @@ pub fn wants_memory(ended: &Ended) -> bool {
 }
 
 /// How a command ended that has to be done.
-fn difference_of_done(alloc: Global, ended: &Ended) -> Result<Option<Found>, AllocError> {
+pub(crate) fn difference_of_done(
+    alloc: Global,
+    ended: &Ended,
+) -> Result<Option<Found>, AllocError> {
     if wants_memory(ended) {
         return Err(AllocError);
     }

@@ -3,4 +3,6 @@
 
 pub mod files;
 pub mod frames;
+pub mod named;
 pub mod tables;
+pub mod texts;
