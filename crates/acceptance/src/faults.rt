@@ -1,89 +1,106 @@
 //! Calls of the outside that fail.
 
 use crate::check_words::WRONG_M;
-use acceptance_kit::rows::{
-    FIRST_CREATE, FIRST_FIND, FIRST_READ, FIRST_WRITE, MORE, More, Row, SECOND_CREATE, SECOND_FIND,
-    SECOND_READ, SECOND_WRITE, THIRD_READ, first_difference,
-};
 use acceptance_kit::running::{Ended, folder_of_frames, run_over, sink};
-use acceptance_kit::{done, refused};
+use acceptance_kit::scripts::first_unlike;
 use outside::{MemFolder, MemSink};
 use std::alloc::{AllocError, AllocGlobal, Global};
 use std::process::Abort;
 use std::test::Fail;
-use test_files::files::Stretch::{Bytes, Fill, Frames};
-use test_files::files::{APE, ID3V1_BLOCK, ID3V2_BLOCK, Stretch};
-use test_files::frames::{G, G_LOWER, HEAD, PROTECTED_G, PROTECTED_G_LOWER, Z};
-use test_files::{end_to_end, table};
+use test_files::frames::G;
+use test_files::table;
 
-/// A file in which everything stands that a file may have.
-const FILE: &[Stretch] = &end_to_end! {
-    ID3V2_BLOCK, Fill(0, 2), Fill(0x55, 10), Frames(&[HEAD, G, Z, PROTECTED_G]), APE, ID3V1_BLOCK
-};
+/// Bytes that the rows name.
+const DEFINED: &str = "
+# A file in which everything stands that a file may have.
+FILE = ID3V2_BLOCK 00*2 55*10 HEAD G Z PROTECTED_G APE ID3V1_BLOCK
+# The same with the gains 5 less, without its junk.
+LOWER_FILE = ID3V2_BLOCK 00*2 HEAD G_LOWER Z PROTECTED_G_LOWER APE ID3V1_BLOCK
+";
 
-/// The same with the gains 5 less, without its junk.
-const LOWER_FILE: &[Stretch] = &end_to_end! {
-    ID3V2_BLOCK, Fill(0, 2), Frames(&[HEAD, G_LOWER, Z, PROTECTED_G_LOWER]), APE, ID3V1_BLOCK
-};
+/// Each call fails once.
+static FAILING: &str = "
+< g FILE
+fail Find 1
+$ gain -s s -g -5 g o
+! 3 g: read fault
 
-static FAILING: [Row; 5] = refused! {
-    "gain -s s -g -5 g o" with FIRST_FIND, "g" = FILE => 3 "g: read fault\n";
-    "gain -s s -g -5 g o" with FIRST_READ, "g" = FILE => 3 "g: read fault\n";
-    // The input is read once more when the output is there.
-    "gain -s s -g -5 g o" with SECOND_READ, "g" = FILE => 3 "g: read fault\n" leaves "o" = &[];
-    "gain -s s -g -5 g o" with FIRST_CREATE, "g" = FILE => 3 "o: write fault\n";
-    "gain -s s -g -5 g o" with FIRST_WRITE, "g" = FILE => 3 "o: write fault\n" leaves "o" = &[];
-};
+< g FILE
+fail Read 1
+$ gain -s s -g -5 g o
+! 3 g: read fault
 
-#[test]
-fn each_call_fails_once(rt: HostRuntime) -> Result<(), Fail> {
-    assert_eq!(rt; first_difference(rt.alloc(), &FAILING)?, None);
-    Ok(())
-}
+# The input is read once more when the output is there.
+< g FILE
+fail Read 2
+$ gain -s s -g -5 g o
+! 3 g: read fault
+> o
 
-static FURTHER: [Row; 4] = done! {
-    "gain -s s -g -5 g o" with SECOND_FIND, "g" = FILE => "o" = LOWER_FILE;
-    "gain -s s -g -5 g o" with THIRD_READ, "g" = FILE => "o" = LOWER_FILE;
-    "gain -s s -g -5 g o" with SECOND_CREATE, "g" = FILE => "o" = LOWER_FILE;
-    "gain -s s -g -5 g o" with SECOND_WRITE, "g" = FILE => "o" = LOWER_FILE;
-};
+< g FILE
+fail Create 1
+$ gain -s s -g -5 g o
+! 3 o: write fault
 
-#[test]
-fn no_more_calls_are_made(rt: HostRuntime) -> Result<(), Fail> {
-    assert_eq!(rt; first_difference(rt.alloc(), &FURTHER)?, None);
-    Ok(())
-}
+< g FILE
+fail Write 1
+$ gain -s s -g -5 g o
+! 3 o: write fault
+> o
+";
 
-static THERE: [Row; 2] = refused! {
-    "gain -s s -g -5 g o" with FIRST_CREATE, "g" = &[Frames(&[G])], "o" = &[Bytes(b"old")] => 3 "o: write fault\n";
-    "gain -s s -g -5 g o" with FIRST_WRITE, "g" = &[Frames(&[G])], "o" = &[Bytes(b"old")] => 3 "o: write fault\n" leaves "o" = &[];
-};
+/// No more calls are made.
+static FURTHER: &str = "
+< g FILE
+fail Find 2
+$ gain -s s -g -5 g o
+> o LOWER_FILE
 
-#[test]
-fn an_output_that_was_there(rt: HostRuntime) -> Result<(), Fail> {
-    assert_eq!(rt; first_difference(rt.alloc(), &THERE)?, None);
-    Ok(())
-}
+< g FILE
+fail Read 3
+$ gain -s s -g -5 g o
+> o LOWER_FILE
 
-/// A byte less than the output has.
-const TIGHT: More = More { room: 416, ..MORE };
+< g FILE
+fail Create 2
+$ gain -s s -g -5 g o
+> o LOWER_FILE
 
-/// The output is `p`, and isn't there.
-const NO_P: More = More {
-    absent: Some(&["p"]),
-    ..MORE
-};
+< g FILE
+fail Write 2
+$ gain -s s -g -5 g o
+> o LOWER_FILE
+";
 
-static NO_ROOM: [Row; 2] = refused! {
-    "gain -s s -g -5 g o" with TIGHT, "g" = &[Frames(&[G])] => 3 "o: write fault\n" leaves "o" = &[];
-    "gain -s s -g -5 g p" with NO_P, "g" = &[Frames(&[G])] => 3 "p: write fault\n";
-};
+/// An output that was there.
+static THERE: &str = "
+< g G
+< o 'old'
+fail Create 1
+$ gain -s s -g -5 g o
+! 3 o: write fault
 
-#[test]
-fn no_room_for_the_output(rt: HostRuntime) -> Result<(), Fail> {
-    assert_eq!(rt; first_difference(rt.alloc(), &NO_ROOM)?, None);
-    Ok(())
-}
+< g G
+< o 'old'
+fail Write 1
+$ gain -s s -g -5 g o
+! 3 o: write fault
+> o
+";
+
+/// No room for the output.
+static NO_ROOM: &str = "
+< g G
+room 416
+$ gain -s s -g -5 g o
+! 3 o: write fault
+> o
+
+< g G
+$ gain -s s -g -5 g p
+! 3 p: write fault
+- p
+";
 
 /// Words, the status, and the line that is to be sent.
 struct Told {
@@ -149,12 +166,16 @@ fn standard_error_fails(rt: HostRuntime) -> Result<(), Fail> {
     Ok(())
 }
 
-static WHOLE: [Row; 1] = done! {
-    "gain -s s -g -5 g o", "g" = FILE => "o" = LOWER_FILE;
-};
+/// Want of memory is told before the output is created.
+static WHOLE: &str = "
+< g FILE
+$ gain -s s -g -5 g o
+> o LOWER_FILE
+";
 
 #[test]
-fn want_of_memory_is_told_before_the_output_is_created(rt: HostRuntime) -> Result<(), Fail> {
-    assert_eq!(rt; first_difference(rt.alloc(), &WHOLE)?, None);
+fn rows(rt: HostRuntime) -> Result<(), Fail> {
+    let texts = [DEFINED, FAILING, FURTHER, THERE, NO_ROOM, WHOLE];
+    assert_eq!(rt; first_unlike(rt.alloc(), &texts)?, None);
     Ok(())
 }

@@ -1,110 +1,111 @@
 //! What stands in a file, line by line. The lines are worked out by hand from the frames' bytes.
 
-use crate::reservoirs::{FIRST, NEARER, SECOND};
-use acceptance_kit::rows::{FIRST_FIND, FIRST_READ, MORE, More, NO_X, ROW, Row, first_difference};
+use crate::reservoirs;
+use crate::reservoirs::{FIRST, SECOND};
 use acceptance_kit::running::{folder_of_file, list_to};
+use acceptance_kit::scripts::first_unlike;
 use acceptance_kit::steps::{Steps, first_strayed};
-use acceptance_kit::{files, kinds, refused, steps};
+use acceptance_kit::{kinds, steps};
 use outside::MemFolder;
 use std::alloc::{AllocError, AllocGlobal};
 use std::process::Abort;
 use std::test::Fail;
-use test_files::files::Stretch::{Bytes, Fill, Frames, Repeated};
-use test_files::files::{APE, ID3V1_BLOCK, ID3V2, ID3V2_BLOCK, Stretch};
-use test_files::frames::{EARLY_HEAD, HEAD, LOWER, MONO, PADDED, PROTECTED_Z, Z};
+use test_files::files::Stretch;
+use test_files::files::Stretch::{Frames, Repeated};
+use test_files::frames::Z;
 
-/// What is tried, the file `a`, and what its list says.
-macro_rules! listed {
-    ($($what:literal: $bytes:expr => $text:literal;)+) => {
-        [$(Row {
-            what: $what,
-            files: files!("a" = $bytes),
-            words: &["list a"],
-            more: Some(&More { text: Some($text), ..MORE }),
-            ..ROW
-        }),+]
-    };
-}
+/// A line for each thing.
+static CASES: &str = "
+# the bit reservoir
+< a FIRST SECOND
+$ list a
+| frame 0 at 0: 128 kbit/s, begin 0, bits 2400
+| frame 1 at 417: 128 kbit/s, begin 81, bits 3200
+| 2 frames, MPEG-1, 44100 Hz, 2 channels, 0.00.05
 
-static CASES: [Row; 8] = listed! {
-    "the bit reservoir":
-        &[Frames(&[FIRST, SECOND])] =>
-"frame 0 at 0: 128 kbit/s, begin 0, bits 2400
-frame 1 at 417: 128 kbit/s, begin 81, bits 3200
-2 frames, MPEG-1, 44100 Hz, 2 channels, 0.00.05
-";
-    "a head, whose area counts":
-        &[Frames(&[HEAD, NEARER])] =>
-"head at 0: 417 bytes
-frame 0 at 417: 128 kbit/s, begin 40, bits 3200
-1 frames, MPEG-1, 44100 Hz, 2 channels, 0.00.02
-";
-    "a first frame whose main data were cut off":
-        &[Frames(&[SECOND])] =>
-"frame 0 at 0: 128 kbit/s, begin 81, bits 3200, lost
-1 frames, MPEG-1, 44100 Hz, 2 channels, 0.00.02
-";
-    // The false frame in the junk isn't anchored: zeros stand at its end.
-    "blocks, zeros and junk":
-        &[ID3V2_BLOCK, Fill(0, 2), Fill(0x55, 100), Bytes(&[0xff, 0xfb, 0x90, 0x00]), Fill(0x55, 196), Frames(&[Z, Z]), APE, ID3V1_BLOCK] =>
-"block ID3v2 at 0: 40 bytes
-junk at 42: 300 bytes
-frame 0 at 342: 128 kbit/s, begin 0, bits 0
-frame 1 at 759: 128 kbit/s, begin 0, bits 0
-block APEv2 at 1176: 79 bytes
-block ID3v1 at 1255: 128 bytes
-2 frames, MPEG-1, 44100 Hz, 2 channels, 0.00.05
-";
-    "a protected head, and blocks and zeros between frames":
-        &[APE, Frames(&[EARLY_HEAD, Z]), ID3V2_BLOCK, Fill(0, 3), Frames(&[PADDED]), ID3V1_BLOCK, Frames(&[PROTECTED_Z]), Fill(0, 1)] =>
-"block APEv2 at 0: 79 bytes
-head at 79: 417 bytes
-frame 0 at 496: 128 kbit/s, begin 0, bits 0
-block ID3v2 at 913: 40 bytes
-frame 1 at 956: 128 kbit/s padded, begin 0, bits 80
-block ID3v1 at 1374: 128 bytes
-frame 2 at 1502: 128 kbit/s, begin 0, bits 0
-3 frames, MPEG-1, 44100 Hz, 2 channels, 0.00.07
-";
-    "one channel":
-        &[Frames(&[MONO])] =>
-"frame 0 at 0: 128 kbit/s, begin 0, bits 24
-1 frames, MPEG-1, 44100 Hz, 1 channels, 0.00.02
-";
-    "MPEG-2":
-        &[Frames(&[LOWER])] =>
-"frame 0 at 0: 64 kbit/s padded, begin 0, bits 24
-1 frames, MPEG-2, 22050 Hz, 2 channels, 0.00.02
-";
-    // 8,000 Hz, 8 kbit/s, one channel, all bytes behind the header 0: 72 bytes and 72 ms each.
-    "MPEG-2.5":
-        &[Bytes(&[0xff, 0xe3, 0x18, 0xc0]), Fill(0, 68), Bytes(&[0xff, 0xe3, 0x18, 0xc0]), Fill(0, 68)] =>
-"frame 0 at 0: 8 kbit/s, begin 0, bits 0
-frame 1 at 72: 8 kbit/s, begin 0, bits 0
-2 frames, MPEG-2.5, 8000 Hz, 1 channels, 0.00.14
-";
-};
+# a head, whose area counts
+< a HEAD NEARER
+$ list a
+| head at 0: 417 bytes
+| frame 0 at 417: 128 kbit/s, begin 40, bits 3200
+| 1 frames, MPEG-1, 44100 Hz, 2 channels, 0.00.02
 
-#[test]
-fn a_line_for_each_thing(rt: HostRuntime) -> Result<(), Fail> {
-    assert_eq!(rt; first_difference(rt.alloc(), &CASES)?, None);
-    Ok(())
-}
+# a first frame whose main data were cut off
+< a SECOND
+$ list a
+| frame 0 at 0: 128 kbit/s, begin 81, bits 3200, lost
+| 1 frames, MPEG-1, 44100 Hz, 2 channels, 0.00.02
 
-static REFUSED: [Row; 5] = refused! {
-    "list a", "a" = &[] => 1 "a: no frame at 0\n";
-    "list x" with NO_X, "a" = &[] => 3 "x: absent\n";
-    "list a" with FIRST_FIND, "a" = &[] => 3 "a: read fault\n";
-    "list a", "a" = &[Frames(&[Z]), ID3V2] => 1 "a: truncated at 417\n";
-    "list a" with FIRST_READ, "a" = &[Frames(&[Z]), ID3V2] => 3 "a: read fault\n";
-};
+# The false frame in the junk isn't anchored: zeros stand at its end.
+# blocks, zeros and junk
+< a ID3V2_BLOCK 00*2 55*100 fffb9000 55*196 Z Z APE ID3V1_BLOCK
+$ list a
+| block ID3v2 at 0: 40 bytes
+| junk at 42: 300 bytes
+| frame 0 at 342: 128 kbit/s, begin 0, bits 0
+| frame 1 at 759: 128 kbit/s, begin 0, bits 0
+| block APEv2 at 1176: 79 bytes
+| block ID3v1 at 1255: 128 bytes
+| 2 frames, MPEG-1, 44100 Hz, 2 channels, 0.00.05
 
-// Nothing goes to standard output.
-#[test]
-fn refused_files(rt: HostRuntime) -> Result<(), Fail> {
-    assert_eq!(rt; first_difference(rt.alloc(), &REFUSED)?, None);
-    Ok(())
-}
+# a protected head, and blocks and zeros between frames
+< a APE EARLY_HEAD Z ID3V2_BLOCK 00*3 PADDED ID3V1_BLOCK PROTECTED_Z 00*1
+$ list a
+| block APEv2 at 0: 79 bytes
+| head at 79: 417 bytes
+| frame 0 at 496: 128 kbit/s, begin 0, bits 0
+| block ID3v2 at 913: 40 bytes
+| frame 1 at 956: 128 kbit/s padded, begin 0, bits 80
+| block ID3v1 at 1374: 128 bytes
+| frame 2 at 1502: 128 kbit/s, begin 0, bits 0
+| 3 frames, MPEG-1, 44100 Hz, 2 channels, 0.00.07
+
+# one channel
+< a MONO
+$ list a
+| frame 0 at 0: 128 kbit/s, begin 0, bits 24
+| 1 frames, MPEG-1, 44100 Hz, 1 channels, 0.00.02
+
+# MPEG-2
+< a LOWER
+$ list a
+| frame 0 at 0: 64 kbit/s padded, begin 0, bits 24
+| 1 frames, MPEG-2, 22050 Hz, 2 channels, 0.00.02
+
+# 8,000 Hz, 8 kbit/s, one channel, all bytes behind the header 0: 72 bytes and 72 ms each.
+# MPEG-2.5
+< a ffe318c0 00*68 ffe318c0 00*68
+$ list a
+| frame 0 at 0: 8 kbit/s, begin 0, bits 0
+| frame 1 at 72: 8 kbit/s, begin 0, bits 0
+| 2 frames, MPEG-2.5, 8000 Hz, 1 channels, 0.00.14
+";
+
+/// Refused files. Nothing goes to standard output.
+static REFUSED: &str = "
+< a
+$ list a
+! 1 a: no frame at 0
+
+< a
+$ list x
+! 3 x: absent
+- x
+
+< a
+fail Find 1
+$ list a
+! 3 a: read fault
+
+< a Z ID3V2
+$ list a
+! 1 a: truncated at 417
+
+< a Z ID3V2
+fail Read 1
+$ list a
+! 3 a: read fault
+";
 
 // The listing is one write: nothing of it is sent where a call fails.
 static CALLS: [Steps; 1] = steps! {
@@ -183,3 +184,10 @@ const THOUSAND: Stretch = Repeated(&[Z], 1000);
 
 /// So many frames that their lines take three writes.
 static MANY: [Stretch; 3] = [THOUSAND, THOUSAND, THOUSAND];
+
+#[test]
+fn rows(rt: HostRuntime) -> Result<(), Fail> {
+    let texts = [reservoirs::DEFINED, CASES, REFUSED];
+    assert_eq!(rt; first_unlike(rt.alloc(), &texts)?, None);
+    Ok(())
+}

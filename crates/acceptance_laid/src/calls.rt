@@ -5,12 +5,13 @@ use crate::joins::{B, BOTH};
 use crate::packs::{A_0_LESS, A_1_FROM_29};
 use crate::pieces::{FOUR, PIECE_1, PIECE_2};
 use crate::sheets::{HUNDRED, SHEET, TRACK_1, TRACK_2};
+use crate::songs;
 use crate::songs::{
     A, A_0, A_1, A_1_FROM_68, INFO_REST, LEAD_IN, LEAST, LEAST_FROM_68, TWO_OF_729, TWO_OF_1042,
 };
-use acceptance_kit::rows::{Row, first_difference};
+use acceptance_kit::scripts::first_unlike;
 use acceptance_kit::steps::{Kind, Steps, first_strayed};
-use acceptance_kit::{done, kinds, steps};
+use acceptance_kit::{kinds, steps};
 use std::test::Fail;
 use test_files::files::Stretch::{Bytes, Fill, Frames};
 use test_files::files::{APE, ID3V2_BLOCK, INFO_FRONT};
@@ -80,15 +81,20 @@ fn each_call_for_several_files_fails_in_turn(rt: HostRuntime) -> Result<(), Fail
     Ok(())
 }
 
-static WHOLE: [Row; 2] = done! {
-    "cut u 0 2 o", "u" = &[A] =>
-        "o" = &[INFO_FRONT, TWO_OF_1042, Fill(51, 50), Fill(153, 50), INFO_REST, Frames(&[A_0, A_1])];
-    "pack u o", "u" = &[ID3V2_BLOCK, Frames(&[HEAD, Z, Z]), APE] =>
-        "o" = &[ID3V2_BLOCK, INFO_FRONT, Bytes(b"Info\0\0\0\x0f\0\0\0\x02\0\0\x01\xa0"), Fill(128, 50), Fill(192, 50), INFO_REST, Frames(&[LEAST, LEAST_FROM_68]), APE];
-};
+/// Want of memory is told before the output is created.
+static WHOLE: &str = "
+< u A
+$ cut u 0 2 o
+> o INFO_FRONT TWO_OF_1042 33*50 99*50 INFO_REST A_0 A_1
+
+< u ID3V2_BLOCK HEAD Z Z APE
+$ pack u o
+> o ID3V2_BLOCK INFO_FRONT 'Info' 0000000f00000002000001a0 80*50 c0*50 INFO_REST LEAST LEAST_FROM_68 APE
+";
 
 #[test]
-fn want_of_memory_is_told_before_the_output_is_created(rt: HostRuntime) -> Result<(), Fail> {
-    assert_eq!(rt; first_difference(rt.alloc(), &WHOLE)?, None);
+fn rows(rt: HostRuntime) -> Result<(), Fail> {
+    let texts = [songs::DEFINED, WHOLE];
+    assert_eq!(rt; first_unlike(rt.alloc(), &texts)?, None);
     Ok(())
 }

@@ -1,13 +1,29 @@
 //! Files that are joined.
 
-use crate::songs::{A, A_0, A_1, INFO_REST, LEAD_IN};
-use acceptance_kit::rows::{NO_X, Row, first_difference};
-use acceptance_kit::{done, refused};
+use crate::songs;
+use crate::songs::{A_0, A_1, INFO_REST, LEAD_IN};
+use acceptance_kit::scripts::first_unlike;
 use std::test::Fail;
 use test_files::files::Stretch::{Bytes, Fill, Filled, Frames};
 use test_files::files::{INFO_FRONT, Stretch};
-use test_files::frames::{Frame, MPEG_2, Z};
+use test_files::frames::{Frame, Z};
 use test_files::{end_to_end, frame};
+
+/// Bytes that the rows name.
+const DEFINED: &str = "
+# A frame as A_1, but that its 400 bytes of main data begin 40 bytes before its own area.
+B_0 = fffb9000 14000320003200000000640006400000000c8000c800000001900019 ~36 55*360 ~417
+# The file B: a head, whose area ends with the first 40 bytes of the main data of the frame behind it.
+B = fffb9000 00*32 'Info' 00*337 55*40 B_0
+# A_1 with 62 bytes of B_0 behind its own main data, up to the end of its area.
+A_1_FULL = fffb9000 28800320003200000000640006400000000c8000c800000001900019 ~36 55*381 ~417
+# The lead-in before B_0, full of its main data. It has none itself, and they could begin 62 bytes before it.
+LEAD_IN_FROM_62 = fffb1000 1f ~36 55*68 ~104
+# B_0, whose main data begin 130 bytes before its own area.
+B_0_FROM_130 = fffb9000 41000320003200000000640006400000000c8000c800000001900019 ~36 55*270 ~417
+# 1,563 bytes.
+BOTH = INFO_FRONT 'Xing' 0000000f000000040000061b 22*25 66*25 aa*25 bb*25 INFO_REST A_0 A_1_FULL LEAD_IN_FROM_62 B_0_FROM_130
+";
 
 /// A frame as A_1, but that its 400 bytes of main data begin 40 bytes before its own area.
 const B_0: Frame =
@@ -39,24 +55,40 @@ pub const BOTH: &[Stretch] = &end_to_end! {
     Frames(&[A_0, A_1_FULL, LEAD_IN_FROM_62, B_0_FROM_130])
 };
 
-static JOINED: [Row; 1] = done! {
-    "join o a b", "a" = &[A], "b" = B, "m" = &[Frames(&[MPEG_2])] => "o" = BOTH;
-};
+/// Two files joined.
+static JOINED: &str = "
+< a A
+< b B
+< m MPEG_2
+$ join o a b
+> o BOTH
+";
+
+/// Refused joins.
+static REFUSED: &str = "
+< a A
+< b B
+< m MPEG_2
+$ join o a m
+! 1 m: other class than the first input
+
+< a A
+< b B
+< m MPEG_2
+$ join b a b
+! 1 b: input is an output
+
+< a A
+< b B
+< m MPEG_2
+$ join o a x m
+! 3 x: absent
+- x
+";
 
 #[test]
-fn two_files_joined(rt: HostRuntime) -> Result<(), Fail> {
-    assert_eq!(rt; first_difference(rt.alloc(), &JOINED)?, None);
-    Ok(())
-}
-
-static REFUSED: [Row; 3] = refused! {
-    "join o a m", "a" = &[A], "b" = B, "m" = &[Frames(&[MPEG_2])] => 1 "m: other class than the first input\n";
-    "join b a b", "a" = &[A], "b" = B, "m" = &[Frames(&[MPEG_2])] => 1 "b: input is an output\n";
-    "join o a x m" with NO_X, "a" = &[A], "b" = B, "m" = &[Frames(&[MPEG_2])] => 3 "x: absent\n";
-};
-
-#[test]
-fn refused_joins(rt: HostRuntime) -> Result<(), Fail> {
-    assert_eq!(rt; first_difference(rt.alloc(), &REFUSED)?, None);
+fn rows(rt: HostRuntime) -> Result<(), Fail> {
+    let texts = [songs::DEFINED, DEFINED, JOINED, REFUSED];
+    assert_eq!(rt; first_unlike(rt.alloc(), &texts)?, None);
     Ok(())
 }

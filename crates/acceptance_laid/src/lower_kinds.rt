@@ -1,84 +1,60 @@
 //! Cuts in classes of MPEG-2 and MPEG-2.5.
 
-use acceptance_kit::done;
-use acceptance_kit::rows::{Row, first_difference};
+use acceptance_kit::scripts::first_unlike;
 use std::test::Fail;
-use test_files::files::Stretch::{Bytes, Fill, Filled, Frames};
-use test_files::frame;
-use test_files::frames::{Frame, Z};
 
-/// MPEG-2, 22,050 Hz, two channels, with an area of 187 bytes: 100 bytes of main data, and behind them 87 of the
-/// frame behind it.
-const LOWER_0: Frame = Frame {
-    header: [0xff, 0xf3, 0x80, 0x00],
-    side: b"\0\x06\x40\0\xc8\0\0\0\0\x0c\x80\x01\x90",
-    area: &[0x55; 187],
-    length: 208,
-    ..Z
-};
+/// Bytes that the rows name.
+const DEFINED: &str = "
+# MPEG-2, 22,050 Hz, two channels, with an area of 187 bytes: 100 bytes of main data, and behind them 87 of the frame
+# behind it.
+LOWER_0 = fff38000 00064000c8000000000c800190 ~21 55*187 ~208
+# 200 bytes of main data, which begin 87 bytes before its own area.
+LOWER_1 = fff38000 570c8000c80000000019000190 ~21 55*113 ~208
+# A lead-in: 13 bytes are needed, and 16 kbit/s has 31.
+LOWER_LEAD_IN = fff32000 ~21 55*31 ~52
+# LOWER_1 behind it.
+LOWER_MOVED = fff38000 1f0c8000c80000000019000190 ~21 55*169 ~208
+# MPEG-2.5, 11,025 Hz, two channels, with an area of 187 bytes: 100 bytes of main data, and behind them 87 of the frame
+# behind it.
+LOWEST_0 = ffe34000 00064000c8000000000c800190 ~21 55*187 ~208
+# 200 bytes of main data, which begin 87 bytes before its own area.
+LOWEST_1 = ffe34000 570c8000c80000000019000190 ~21 55*113 ~208
+# A lead-in: 13 bytes are needed, and 8 kbit/s has 31.
+LOWEST_LEAD_IN = ffe31000 ~21 55*31 ~52
+# LOWEST_1 behind it.
+LOWEST_MOVED = ffe34000 1f0c8000c80000000019000190 ~21 55*169 ~208
+# MPEG-2.5, 12,000 Hz, one channel, with an area of 35 bytes: 20 bytes of main data, and behind them 15 of the frame
+# behind it.
+LOWEST_MONO_0 = ffe314c0 0005000190 ~13 55*35 ~48
+# 40 bytes of main data, which begin 15 bytes before its own area.
+LOWEST_MONO_1 = ffe314c0 0f0a000190 ~13 55*25 ~48
+# A lead-in: 5 bytes are needed, and 8 kbit/s has 35.
+LOWEST_MONO_LEAD_IN = ffe314c0 ~13 55*35 ~48
+# LOWEST_MONO_1 behind it.
+LOWEST_MONO_MOVED = ffe314c0 230a000190 ~13 5555555555 ~48
+";
 
-/// 200 bytes of main data, which begin 87 bytes before its own area.
-const LOWER_1: Frame =
-    frame! { side: b"\x57\x0c\x80\0\xc8\0\0\0\0\x19\0\x01\x90", area: &[0x55; 113], ..LOWER_0 };
+/// Classes of mpeg 2.
+static LOWER_KINDS: &str = "
+# MPEG-2, 22,050 Hz, two channels
+< a LOWER_0 LOWER_1
+$ cut a 1 2 o
+> o fff37000 00*17 'Xing' 0000000f00000002000001ba 69*50 87*50 00*45 LOWER_LEAD_IN LOWER_MOVED
 
-/// A lead-in: 13 bytes are needed, and 16 kbit/s has 31.
-const LOWER_LEAD_IN: Frame =
-    frame! { header: [0xff, 0xf3, 0x20, 0x00], area: &[0x55; 31], length: 52, ..Z };
+# MPEG-2.5, 11,025 Hz, two channels
+< a LOWEST_0 LOWEST_1
+$ cut a 1 2 o
+> o ffe34000 00*17 'Xing' 0000000f00000002000001d4 71*50 8e*50 00*71 LOWEST_LEAD_IN LOWEST_MOVED
 
-/// LOWER_1 behind it.
-const LOWER_MOVED: Frame =
-    frame! { side: b"\x1f\x0c\x80\0\xc8\0\0\0\0\x19\0\x01\x90", area: &[0x55; 169], ..LOWER_1 };
-
-/// MPEG-2.5, 11,025 Hz, two channels, with an area of 187 bytes: 100 bytes of main data, and behind them 87 of the
-/// frame behind it.
-const LOWEST_0: Frame = Frame {
-    header: [0xff, 0xe3, 0x40, 0x00],
-    side: b"\0\x06\x40\0\xc8\0\0\0\0\x0c\x80\x01\x90",
-    area: &[0x55; 187],
-    length: 208,
-    ..Z
-};
-
-/// 200 bytes of main data, which begin 87 bytes before its own area.
-const LOWEST_1: Frame =
-    frame! { side: b"\x57\x0c\x80\0\xc8\0\0\0\0\x19\0\x01\x90", area: &[0x55; 113], ..LOWEST_0 };
-
-/// A lead-in: 13 bytes are needed, and 8 kbit/s has 31.
-const LOWEST_LEAD_IN: Frame =
-    frame! { header: [0xff, 0xe3, 0x10, 0x00], area: &[0x55; 31], length: 52, ..Z };
-
-/// LOWEST_1 behind it.
-const LOWEST_MOVED: Frame =
-    frame! { side: b"\x1f\x0c\x80\0\xc8\0\0\0\0\x19\0\x01\x90", area: &[0x55; 169], ..LOWEST_1 };
-
-/// MPEG-2.5, 12,000 Hz, one channel, with an area of 35 bytes: 20 bytes of main data, and behind them 15 of the
-/// frame behind it.
-const LOWEST_MONO_0: Frame =
-    frame! { header: [0xff, 0xe3, 0x14, 0xc0], side: &[0x00, 0x05, 0x00, 0x01, 0x90], area: &[0x55; 35], length: 48, ..Z };
-
-/// 40 bytes of main data, which begin 15 bytes before its own area.
-const LOWEST_MONO_1: Frame =
-    frame! { side: &[0x0f, 0x0a, 0x00, 0x01, 0x90], area: &[0x55; 25], ..LOWEST_MONO_0 };
-
-/// A lead-in: 5 bytes are needed, and 8 kbit/s has 35.
-const LOWEST_MONO_LEAD_IN: Frame =
-    frame! { header: [0xff, 0xe3, 0x14, 0xc0], area: &[0x55; 35], length: 48, ..Z };
-
-/// LOWEST_MONO_1 behind it.
-const LOWEST_MONO_MOVED: Frame =
-    frame! { side: &[0x23, 0x0a, 0x00, 0x01, 0x90], area: &[0x55; 5], ..LOWEST_MONO_1 };
-
-static LOWER_KINDS: [Row; 3] = done! {
-    "MPEG-2, 22,050 Hz, two channels": "cut a 1 2 o", "a" = &[Frames(&[LOWER_0, LOWER_1])] =>
-        "o" = &[Filled(&[0xff, 0xf3, 0x70, 0x00], 0, 17), Bytes(b"Xing\0\0\0\x0f\0\0\0\x02\0\0\x01\xba"), Fill(105, 50), Fill(135, 50), Fill(0, 45), Frames(&[LOWER_LEAD_IN, LOWER_MOVED])];
-    "MPEG-2.5, 11,025 Hz, two channels": "cut a 1 2 o", "a" = &[Frames(&[LOWEST_0, LOWEST_1])] =>
-        "o" = &[Filled(&[0xff, 0xe3, 0x40, 0x00], 0, 17), Bytes(b"Xing\0\0\0\x0f\0\0\0\x02\0\0\x01\xd4"), Fill(113, 50), Fill(142, 50), Fill(0, 71), Frames(&[LOWEST_LEAD_IN, LOWEST_MOVED])];
-    "MPEG-2.5, 12,000 Hz, one channel": "cut a 1 2 o", "a" = &[Frames(&[LOWEST_MONO_0, LOWEST_MONO_1])] =>
-        "o" = &[Filled(&[0xff, 0xe3, 0x44, 0xc0], 0, 9), Bytes(b"Info\0\0\0\x0f\0\0\0\x02\0\0\x01\x20"), Fill(170, 50), Fill(213, 50), Fill(0, 63), Frames(&[LOWEST_MONO_LEAD_IN, LOWEST_MONO_MOVED])];
-};
+# MPEG-2.5, 12,000 Hz, one channel
+< a LOWEST_MONO_0 LOWEST_MONO_1
+$ cut a 1 2 o
+> o ffe344c0 00*9 'Info' 0000000f0000000200000120 aa*50 d5*50 00*63 LOWEST_MONO_LEAD_IN LOWEST_MONO_MOVED
+";
 
 #[test]
-fn classes_of_mpeg_2(rt: HostRuntime) -> Result<(), Fail> {
-    assert_eq!(rt; first_difference(rt.alloc(), &LOWER_KINDS)?, None);
+fn rows(rt: HostRuntime) -> Result<(), Fail> {
+    let texts = [DEFINED, LOWER_KINDS];
+    assert_eq!(rt; first_unlike(rt.alloc(), &texts)?, None);
     Ok(())
 }

@@ -1,13 +1,27 @@
 //! Files that are split at places.
 
+use crate::songs;
 use crate::songs::INFO_REST;
-use acceptance_kit::rows::{MORE, More, Row, first_difference};
-use acceptance_kit::{done, refused};
+use acceptance_kit::scripts::first_unlike;
 use std::test::Fail;
 use test_files::files::Stretch::{Bytes, Fill, Frames};
 use test_files::files::{INFO_FRONT, Stretch};
 use test_files::frames::{Frame, Z};
 use test_files::{end_to_end, frame};
+
+/// Bytes that the rows name.
+pub const DEFINED: &str = "
+# Z where main data could begin 381 bytes before its area.
+Z_FROM_381 = fffb9000 be80 ~417
+# Z where main data could begin 511 bytes before its area.
+Z_FROM_511 = fffb9000 ff80 ~417
+# Frame 0 of four silent ones. It leaves its whole area of 381 bytes free, as the others do.
+PIECE_1 = INFO_FRONT 'Info' 0000000f0000000100000271 55*100 INFO_REST Z
+# The other three.
+PIECE_2 = INFO_FRONT 'Info' 0000000f00000003000005b3 24*34 6d*33 b6*33 INFO_REST Z Z_FROM_381 Z_FROM_511
+# Four silent frames.
+FOUR = Z Z Z Z
+";
 
 /// Z where main data could begin 381 bytes before its area.
 pub const Z_FROM_381: Frame = frame! { side: &[0xbe, 0x80], ..Z };
@@ -31,39 +45,43 @@ pub const PIECE_2: &[Stretch] = &end_to_end! {
 /// Four silent frames.
 pub const FOUR: &[Stretch] = &[Frames(&[Z, Z, Z, Z])];
 
-/// Two pieces are written.
-pub const TWO_PIECES: More = More {
-    outputs: Some(&["p01.mp3", "p02.mp3"]),
-    ..MORE
-};
+/// Split at times. 5 hundredths of a second are 1.9 frames.
+static AT_TIMES: &str = "
+< z FOUR
+to p01.mp3 p02.mp3
+$ split z p 0.0 0.00.05 EOF
+> p01.mp3 PIECE_1
+> p02.mp3 PIECE_2
+- p03.mp3
+";
 
-/// Two, and no third one.
-pub const TWO_ALONE: More = More {
-    absent: Some(&["p03.mp3"]),
-    ..TWO_PIECES
-};
+/// Refused splits.
+static REFUSED: &str = "
+# Each of the 99 names that pieces may have, also of those that are not written.
+< p99.mp3 FOUR
+to p01.mp3 p02.mp3
+$ split p99.mp3 p 0.0 0.00.05 EOF
+! 1 p99.mp3: input is an output
 
-static AT_TIMES: [Row; 1] = done! {
-    "split z p 0.0 0.00.05 EOF" with TWO_ALONE, "z" = FOUR => "p01.mp3" = PIECE_1, "p02.mp3" = PIECE_2;
-};
+< z FOUR
+to p01.mp3 p02.mp3
+$ split z p 0 5
+! 1 range 0 to 5 of 4 frames
 
-// 5 hundredths of a second are 1.9 frames.
+< z FOUR
+to p01.mp3 p02.mp3
+$ split z p 0 2 2 4
+! 1 range 2 to 2 of 4 frames
+
+< z FOUR
+to p01.mp3 p02.mp3
+$ split z p 0 1 EOF EOF
+! 1 range 4 to 4 of 4 frames
+";
+
 #[test]
-fn split_at_times(rt: HostRuntime) -> Result<(), Fail> {
-    assert_eq!(rt; first_difference(rt.alloc(), &AT_TIMES)?, None);
-    Ok(())
-}
-
-static REFUSED: [Row; 4] = refused! {
-    // Each of the 99 names that pieces may have, also of those that are not written.
-    "split p99.mp3 p 0.0 0.00.05 EOF" with TWO_PIECES, "p99.mp3" = FOUR => 1 "p99.mp3: input is an output\n";
-    "split z p 0 5" with TWO_PIECES, "z" = FOUR => 1 "range 0 to 5 of 4 frames\n";
-    "split z p 0 2 2 4" with TWO_PIECES, "z" = FOUR => 1 "range 2 to 2 of 4 frames\n";
-    "split z p 0 1 EOF EOF" with TWO_PIECES, "z" = FOUR => 1 "range 4 to 4 of 4 frames\n";
-};
-
-#[test]
-fn refused_splits(rt: HostRuntime) -> Result<(), Fail> {
-    assert_eq!(rt; first_difference(rt.alloc(), &REFUSED)?, None);
+fn rows(rt: HostRuntime) -> Result<(), Fail> {
+    let texts = [songs::DEFINED, DEFINED, AT_TIMES, REFUSED];
+    assert_eq!(rt; first_unlike(rt.alloc(), &texts)?, None);
     Ok(())
 }

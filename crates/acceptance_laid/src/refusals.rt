@@ -1,26 +1,58 @@
 //! What `cut` and `pack` refuse.
 
-use crate::songs::A;
-use acceptance_kit::refused;
-use acceptance_kit::rows::{NO_X, Row, first_difference};
+use crate::songs;
+use acceptance_kit::scripts::first_unlike;
 use std::test::Fail;
 
-static REFUSED: [Row; 10] = refused! {
-    "cut a EOF EOF o", "a" = &[A] => 1 "range 2 to 2 of 2 frames\n";
-    "cut a 0 3 o", "a" = &[A] => 1 "range 0 to 3 of 2 frames\n";
-    "cut a 1 1 o", "a" = &[A] => 1 "range 1 to 1 of 2 frames\n";
-    "cut --least a 2 1 o", "a" = &[A] => 1 "range 2 to 1 of 2 frames\n";
-    // No frame ends so early.
-    "cut a 0.0 0.0.02 o", "a" = &[A] => 1 "range 0 to 0 of 2 frames\n";
-    "cut a 0 1 a", "a" = &[A] => 1 "a: input is an output\n";
-    "pack a a", "a" = &[A] => 1 "a: input is an output\n";
-    "cut x 0 1 o" with NO_X, "a" = &[A] => 3 "x: absent\n";
-    "pack x o" with NO_X, "a" = &[A] => 3 "x: absent\n";
-    "cut a 0 o", "a" = &[A] => 2 "bad word 4\n";
-};
+/// Nothing is created.
+static REFUSED: &str = "
+< a A
+$ cut a EOF EOF o
+! 1 range 2 to 2 of 2 frames
+
+< a A
+$ cut a 0 3 o
+! 1 range 0 to 3 of 2 frames
+
+< a A
+$ cut a 1 1 o
+! 1 range 1 to 1 of 2 frames
+
+< a A
+$ cut --least a 2 1 o
+! 1 range 2 to 1 of 2 frames
+
+# No frame ends so early.
+< a A
+$ cut a 0.0 0.0.02 o
+! 1 range 0 to 0 of 2 frames
+
+< a A
+$ cut a 0 1 a
+! 1 a: input is an output
+
+< a A
+$ pack a a
+! 1 a: input is an output
+
+< a A
+$ cut x 0 1 o
+! 3 x: absent
+- x
+
+< a A
+$ pack x o
+! 3 x: absent
+- x
+
+< a A
+$ cut a 0 o
+! 2 bad word 4
+";
 
 #[test]
-fn nothing_is_created(rt: HostRuntime) -> Result<(), Fail> {
-    assert_eq!(rt; first_difference(rt.alloc(), &REFUSED)?, None);
+fn rows(rt: HostRuntime) -> Result<(), Fail> {
+    let texts = [songs::DEFINED, REFUSED];
+    assert_eq!(rt; first_unlike(rt.alloc(), &texts)?, None);
     Ok(())
 }

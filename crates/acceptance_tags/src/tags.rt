@@ -1,144 +1,201 @@
 //! The note that a change of gains keeps in the tag.
 
-use crate::blocks::{
-    G_LEFT_LOWER, G_RIGHT_LOUDER, G_WRAPPED_DOWN, G_WRAPPED_UP, LOST, LOWEST, LOWEST_LOUDER, M,
-    M_LOUDER, NONE, THREE, TWO, TWO_AND_UNDO, UNDO,
-};
-use acceptance_kit::rows::{MORE, More, Row, first_difference};
-use acceptance_kit::{done, refused};
+use crate::blocks;
+use acceptance_kit::scripts::first_unlike;
 use std::test::Fail;
-use test_files::files::Stretch::{Fill, Frames, Valued};
-use test_files::files::{ID3V1_BLOCK, ID3V2_BLOCK, Stretch};
-use test_files::frames::{
-    G, G_LOWER, HEAD, LONG, LONG_LOWER, LOWER, LOWER_QUIETER, MONO, MONO_LOWER, PROTECTED_G,
-    PROTECTED_G_LOWER, Z,
-};
+
+/// Bytes that the rows name.
+const DEFINED: &str = "
+# What a change by 255 steps makes of a silent frame.
+FIRST_LOUDER = Z UNDO_FRONT '-255,-255,N' UNDO_END
+# What two make of it.
+SECOND_LOUDER = Z UNDO_FRONT '-510,-510,N' UNDO_END
+# What three make of it.
+LOUDEST = Z UNDO_FRONT '-765,-765,N' UNDO_END
+";
 
 /// Files of one frame, with and without a tag that has the undo item alone.
-static CHANGES: [Row; 7] = done! {
-    "both channels, and 255 wraps":
-        "gain -w -g 1 a o", "a" = &[Frames(&[G])] => "o" = &[Frames(&[G_WRAPPED_UP]), Valued(&UNDO, b"-001,-001,W")];
-    "both channels, and 100 and 90 wrap": "gain -w -g -101 a o", "a" = &[Frames(&[G])] =>
-        "o" = &[Frames(&[G_WRAPPED_DOWN]), Valued(&UNDO, b"+101,+101,W")];
-    "the right channel":
-        "gain -l 1 1 a o", "a" = &[Frames(&[G])] => "o" = &[Frames(&[G_RIGHT_LOUDER]), Valued(&UNDO, b"+000,-001,N")];
-    "the left channel":
-        "gain -l 0 -1 a o", "a" = &[Frames(&[G])] => "o" = &[Frames(&[G_LEFT_LOWER]), Valued(&UNDO, b"+001,+000,N")];
-    "silent granules": "gain -g 255 a o", "a" = &[Frames(&[Z])] => "o" = &[Frames(&[Z]), Valued(&UNDO, b"-255,-255,N")];
-    "no step": "gain -g 0 a o", "a" = &[Frames(&[G])] => "o" = &[Frames(&[G]), Valued(&UNDO, b"+000,+000,N")];
-    "no step, and no gain wraps":
-        "gain -w -g 0 a o", "a" = &[Frames(&[G])] => "o" = &[Frames(&[G]), Valued(&UNDO, b"+000,+000,W")];
-};
+static CHANGES: &str = "
+# both channels, and 255 wraps
+< a G
+$ gain -w -g 1 a o
+> o G_WRAPPED_UP UNDO_FRONT '-001,-001,W' UNDO_END
 
-#[test]
-fn what_the_note_says(rt: HostRuntime) -> Result<(), Fail> {
-    assert_eq!(rt; first_difference(rt.alloc(), &CHANGES)?, None);
-    Ok(())
-}
+# both channels, and 100 and 90 wrap
+< a G
+$ gain -w -g -101 a o
+> o G_WRAPPED_DOWN UNDO_FRONT '+101,+101,W' UNDO_END
+
+# the right channel
+< a G
+$ gain -l 1 1 a o
+> o G_RIGHT_LOUDER UNDO_FRONT '+000,-001,N' UNDO_END
+
+# the left channel
+< a G
+$ gain -l 0 -1 a o
+> o G_LEFT_LOWER UNDO_FRONT '+001,+000,N' UNDO_END
+
+# silent granules
+< a Z
+$ gain -g 255 a o
+> o Z UNDO_FRONT '-255,-255,N' UNDO_END
+
+# no step
+< a G
+$ gain -g 0 a o
+> o G UNDO_FRONT '+000,+000,N' UNDO_END
+
+# no step, and no gain wraps
+< a G
+$ gain -w -g 0 a o
+> o G UNDO_FRONT '+000,+000,W' UNDO_END
+";
 
 /// Each kind of file.
-static KINDS: [Row; 5] = done! {
-    "MPEG-1, one channel":
-        "gain -g -5 a o", "a" = &[Frames(&[MONO])] => "o" = &[Frames(&[MONO_LOWER]), Valued(&UNDO, b"+005,+005,N")];
-    "MPEG-2, two channels":
-        "gain -g -5 a o", "a" = &[Frames(&[LOWER])] => "o" = &[Frames(&[LOWER_QUIETER]), Valued(&UNDO, b"+005,+005,N")];
-    "MPEG-2, one channel, protected":
-        "gain -g 1 a o", "a" = &[Frames(&[M])] => "o" = &[Frames(&[M_LOUDER]), Valued(&UNDO, b"-001,-001,N")];
-    "MPEG-2.5":
-        "gain -g 1 a o", "a" = &[Frames(&[LOWEST])] => "o" = &[Frames(&[LOWEST_LOUDER]), Valued(&UNDO, b"-001,-001,N")];
-    "MPEG-1, two channels, protected": "gain -g 5 a o", "a" = &[Frames(&[PROTECTED_G_LOWER])] =>
-        "o" = &[Frames(&[PROTECTED_G]), Valued(&UNDO, b"-005,-005,N")];
-};
+static KINDS: &str = "
+# MPEG-1, one channel
+< a MONO
+$ gain -g -5 a o
+> o MONO_LOWER UNDO_FRONT '+005,+005,N' UNDO_END
 
-#[test]
-fn what_the_note_says_in_each_kind_of_file(rt: HostRuntime) -> Result<(), Fail> {
-    assert_eq!(rt; first_difference(rt.alloc(), &KINDS)?, None);
-    Ok(())
-}
+# MPEG-2, two channels
+< a LOWER
+$ gain -g -5 a o
+> o LOWER_QUIETER UNDO_FRONT '+005,+005,N' UNDO_END
+
+# MPEG-2, one channel, protected
+< a M
+$ gain -g 1 a o
+> o M_LOUDER UNDO_FRONT '-001,-001,N' UNDO_END
+
+# MPEG-2.5
+< a LOWEST
+$ gain -g 1 a o
+> o LOWEST_LOUDER UNDO_FRONT '-001,-001,N' UNDO_END
+
+# MPEG-1, two channels, protected
+< a PROTECTED_G_LOWER
+$ gain -g 5 a o
+> o PROTECTED_G UNDO_FRONT '-005,-005,N' UNDO_END
+";
 
 /// Files that have a note already.
-static NOTED_BEFORE: [Row; 4] = done! {
-    "a note that stands there": "gain -g -5 a o", "a" = &[Frames(&[G]), Valued(&UNDO, b"-003,+010,N")] =>
-        "o" = &[Frames(&[G_LOWER]), Valued(&UNDO, b"+002,+015,N")];
-    "the same of the right channel, and W from now on":
-        "gain -w -l 1 1 a o", "a" = &[Frames(&[G]), Valued(&UNDO, b"-003,+010,N")] =>
-        "o" = &[Frames(&[G_RIGHT_LOUDER]), Valued(&UNDO, b"-003,+009,W")];
-    "W stays": "gain -g -5 a o", "a" = &[Frames(&[G]), Valued(&UNDO, b"-001,-999,W")] =>
-        "o" = &[Frames(&[G_LOWER]), Valued(&UNDO, b"+004,-994,W")];
-    "the least and the greatest sum":
-        "gain -w -g -1 a o", "a" = &[Frames(&[G_WRAPPED_UP]), Valued(&UNDO, b"-999,+998,N")] =>
-        "o" = &[Frames(&[G]), Valued(&UNDO, b"-998,+999,W")];
-};
+static NOTED_BEFORE: &str = "
+# a note that stands there
+< a G UNDO_FRONT '-003,+010,N' UNDO_END
+$ gain -g -5 a o
+> o G_LOWER UNDO_FRONT '+002,+015,N' UNDO_END
+
+# the same of the right channel, and W from now on
+< a G UNDO_FRONT '-003,+010,N' UNDO_END
+$ gain -w -l 1 1 a o
+> o G_RIGHT_LOUDER UNDO_FRONT '-003,+009,W' UNDO_END
+
+# W stays
+< a G UNDO_FRONT '-001,-999,W' UNDO_END
+$ gain -g -5 a o
+> o G_LOWER UNDO_FRONT '+004,-994,W' UNDO_END
+
+# the least and the greatest sum
+< a G_WRAPPED_UP UNDO_FRONT '-999,+998,N' UNDO_END
+$ gain -w -g -1 a o
+> o G UNDO_FRONT '-998,+999,W' UNDO_END
+";
+
+/// Where the note stands.
+static PLACES: &str = "
+# items before and behind the undo item, whose key and flags stay
+< a G THREE_FRONT '-003,-003,N' THREE_END
+$ gain -g -5 a o
+> o G_LOWER THREE_FRONT '+002,+002,N' THREE_END
+
+# a tag without undo item, which gets it last
+< a G TWO
+$ gain -g -5 a o
+> o G_LOWER TWO_AND_UNDO_FRONT '+005,+005,N' TWO_AND_UNDO_END
+
+# a tag without items
+< a G NONE
+$ gain -g -5 a o
+> o G_LOWER UNDO_FRONT '+005,+005,N' UNDO_END
+
+# a tag at the front
+< a THREE_FRONT '-003,-003,N' THREE_END G
+$ gain -g -5 a o
+> o THREE_FRONT '+002,+002,N' THREE_END G_LOWER
+
+# a tag between frames
+< a G TWO G
+$ gain -g -5 a o
+> o G_LOWER TWO_AND_UNDO_FRONT '+005,+005,N' TWO_AND_UNDO_END G_LOWER
+
+# a tag that isn't the first block
+< a ID3V2_BLOCK G ID3V1_BLOCK TWO
+$ gain -g -5 a o
+> o ID3V2_BLOCK G_LOWER ID3V1_BLOCK TWO_AND_UNDO_FRONT '+005,+005,N' TWO_AND_UNDO_END
+
+# two tags, of which the first is read and changed
+< a G TWO UNDO_FRONT '-003,-003,N' UNDO_END
+$ gain -g -5 a o
+> o G_LOWER TWO_AND_UNDO_FRONT '+005,+005,N' TWO_AND_UNDO_END UNDO_FRONT '-003,-003,N' UNDO_END
+
+# a new tag before a block behind the frames
+< a G ID3V1_BLOCK
+$ gain -g -5 a o
+> o G_LOWER UNDO_FRONT '+005,+005,N' UNDO_END ID3V1_BLOCK
+
+# a new tag before zero bytes behind the frames
+< a G 00*3 ID3V1_BLOCK
+$ gain -g -5 a o
+> o G_LOWER UNDO_FRONT '+005,+005,N' UNDO_END 00*3 ID3V1_BLOCK
+
+# a new tag behind the last frame, where a block stands between frames
+< a G ID3V1_BLOCK G
+$ gain -g -5 a o
+> o G_LOWER ID3V1_BLOCK G_LOWER UNDO_FRONT '+005,+005,N' UNDO_END
+
+# a head, zero bytes, and junk, which is dropped
+< a ID3V2_BLOCK 00*2 55*10 HEAD G PROTECTED_G THREE_FRONT '-003,-003,N' THREE_END
+$ gain -g -5 a o
+> o ID3V2_BLOCK 00*2 HEAD G_LOWER PROTECTED_G_LOWER THREE_FRONT '+002,+002,N' THREE_END
+
+# lost frames, which stay
+< a LOST G LONG
+$ gain -g -5 a o
+> o LOST G_LOWER LONG_LOWER UNDO_FRONT '+005,+005,N' UNDO_END
+";
+
+/// A sum of more than three digits.
+static SUMS: &str = "
+< z Z
+to a b c o
+$ gain -g 255 z a
+$ gain -g 255 a b
+$ gain -g 255 b c
+> a FIRST_LOUDER
+> b SECOND_LOUDER
+> c LOUDEST
+";
+
+static TOO_MUCH: &str = "
+< c LOUDEST
+$ gain -g 255 c o
+! 1 undo sum -1020 is out of range
+";
 
 #[test]
-fn what_a_note_that_stands_becomes(rt: HostRuntime) -> Result<(), Fail> {
-    assert_eq!(rt; first_difference(rt.alloc(), &NOTED_BEFORE)?, None);
-    Ok(())
-}
-
-static PLACES: [Row; 12] = done! {
-    "items before and behind the undo item, whose key and flags stay":
-        "gain -g -5 a o", "a" = &[Frames(&[G]), Valued(&THREE, b"-003,-003,N")] =>
-        "o" = &[Frames(&[G_LOWER]), Valued(&THREE, b"+002,+002,N")];
-    "a tag without undo item, which gets it last": "gain -g -5 a o", "a" = &[Frames(&[G]), TWO] =>
-        "o" = &[Frames(&[G_LOWER]), Valued(&TWO_AND_UNDO, b"+005,+005,N")];
-    "a tag without items":
-        "gain -g -5 a o", "a" = &[Frames(&[G]), NONE] => "o" = &[Frames(&[G_LOWER]), Valued(&UNDO, b"+005,+005,N")];
-    "a tag at the front": "gain -g -5 a o", "a" = &[Valued(&THREE, b"-003,-003,N"), Frames(&[G])] =>
-        "o" = &[Valued(&THREE, b"+002,+002,N"), Frames(&[G_LOWER])];
-    "a tag between frames": "gain -g -5 a o", "a" = &[Frames(&[G]), TWO, Frames(&[G])] =>
-        "o" = &[Frames(&[G_LOWER]), Valued(&TWO_AND_UNDO, b"+005,+005,N"), Frames(&[G_LOWER])];
-    "a tag that isn't the first block": "gain -g -5 a o", "a" = &[ID3V2_BLOCK, Frames(&[G]), ID3V1_BLOCK, TWO] =>
-        "o" = &[ID3V2_BLOCK, Frames(&[G_LOWER]), ID3V1_BLOCK, Valued(&TWO_AND_UNDO, b"+005,+005,N")];
-    "two tags, of which the first is read and changed":
-        "gain -g -5 a o", "a" = &[Frames(&[G]), TWO, Valued(&UNDO, b"-003,-003,N")] =>
-        "o" = &[Frames(&[G_LOWER]), Valued(&TWO_AND_UNDO, b"+005,+005,N"), Valued(&UNDO, b"-003,-003,N")];
-    "a new tag before a block behind the frames": "gain -g -5 a o", "a" = &[Frames(&[G]), ID3V1_BLOCK] =>
-        "o" = &[Frames(&[G_LOWER]), Valued(&UNDO, b"+005,+005,N"), ID3V1_BLOCK];
-    "a new tag before zero bytes behind the frames": "gain -g -5 a o", "a" = &[Frames(&[G]), Fill(0, 3), ID3V1_BLOCK] =>
-        "o" = &[Frames(&[G_LOWER]), Valued(&UNDO, b"+005,+005,N"), Fill(0, 3), ID3V1_BLOCK];
-    "a new tag behind the last frame, where a block stands between frames":
-        "gain -g -5 a o", "a" = &[Frames(&[G]), ID3V1_BLOCK, Frames(&[G])] =>
-        "o" = &[Frames(&[G_LOWER]), ID3V1_BLOCK, Frames(&[G_LOWER]), Valued(&UNDO, b"+005,+005,N")];
-    "a head, zero bytes, and junk, which is dropped":
-        "gain -g -5 a o", "a" = &[ID3V2_BLOCK, Fill(0, 2), Fill(0x55, 10), Frames(&[HEAD, G, PROTECTED_G]), Valued(&THREE, b"-003,-003,N")] =>
-        "o" = &[ID3V2_BLOCK, Fill(0, 2), Frames(&[HEAD, G_LOWER, PROTECTED_G_LOWER]), Valued(&THREE, b"+002,+002,N")];
-    "lost frames, which stay": "gain -g -5 a o", "a" = &[Frames(&[LOST, G, LONG])] =>
-        "o" = &[Frames(&[LOST, G_LOWER, LONG_LOWER]), Valued(&UNDO, b"+005,+005,N")];
-};
-
-#[test]
-fn where_the_note_stands(rt: HostRuntime) -> Result<(), Fail> {
-    assert_eq!(rt; first_difference(rt.alloc(), &PLACES)?, None);
-    Ok(())
-}
-
-/// What a change by 255 steps makes of a silent frame.
-const FIRST_LOUDER: &[Stretch] = &[Frames(&[Z]), Valued(&UNDO, b"-255,-255,N")];
-
-/// What two make of it.
-const SECOND_LOUDER: &[Stretch] = &[Frames(&[Z]), Valued(&UNDO, b"-510,-510,N")];
-
-/// What three make of it.
-const LOUDEST: &[Stretch] = &[Frames(&[Z]), Valued(&UNDO, b"-765,-765,N")];
-
-const TO_A_B_C: More = More {
-    outputs: Some(&["a", "b", "c", "o"]),
-    ..MORE
-};
-
-static SUMS: [Row; 1] = done! {
-    "gain -g 255 z a" then "gain -g 255 a b" then "gain -g 255 b c" with TO_A_B_C, "z" = &[Frames(&[Z])] =>
-        "a" = FIRST_LOUDER, "b" = SECOND_LOUDER, "c" = LOUDEST;
-};
-
-static TOO_MUCH: [Row; 1] = refused! {
-    "gain -g 255 c o", "c" = LOUDEST => 1 "undo sum -1020 is out of range\n";
-};
-
-#[test]
-fn a_sum_of_more_than_three_digits(rt: HostRuntime) -> Result<(), Fail> {
-    assert_eq!(rt; first_difference(rt.alloc(), &SUMS)?, None);
-    assert_eq!(rt; first_difference(rt.alloc(), &TOO_MUCH)?, None);
+fn rows(rt: HostRuntime) -> Result<(), Fail> {
+    let texts = [
+        blocks::DEFINED,
+        DEFINED,
+        CHANGES,
+        KINDS,
+        NOTED_BEFORE,
+        PLACES,
+        SUMS,
+        TOO_MUCH,
+    ];
+    assert_eq!(rt; first_unlike(rt.alloc(), &texts)?, None);
     Ok(())
 }
