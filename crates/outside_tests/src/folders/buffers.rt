@@ -3,7 +3,7 @@ ghost use Rattle.std.specs.Prelude.{◌+◌, ◌^◌, ◌≤◌};
 ghost use Rattle.outside.specs.Files.{untold};
 ghost use Rattle.outside.specs.Feed.{IsFedFrom};
 
-use super::slow::{Slow, byte_at, pattern};
+use super::slow::{Slow, pattern, stand_at};
 use outside::{Failed, Feed, WriteBuffer};
 use std::process::Abort;
 use std::test::Fail;
@@ -15,15 +15,6 @@ struct Case {
     n: usize,
     count: usize,
     reads: u64,
-}
-
-// These are the bytes of the file from this place on.
-fn expect_bytes(rt: &impl Abort, bytes: &[u8], at: u64) {
-    let mut place = at as usize;
-    for byte in bytes {
-        assert_eq!(rt; *byte, byte_at(place), "at {place}, from {at} on");
-        place = place.saturating_add(1);
-    }
 }
 
 fn expect(rt: &impl Abort, feed: &mut Feed, folder: &mut Slow, name: &str, case: Case)
@@ -46,8 +37,10 @@ fn expect_filled(
 ) {
     let Case { at, n, count, .. } = *case;
     assert_eq!(rt; filled, Ok(count), "{n} bytes at {at}");
-    assert_eq!(rt; bytes.len(), count, "{n} bytes at {at}");
-    expect_bytes(rt, bytes, at);
+    assert!(rt;
+        bytes.len() == count && stand_at(bytes, at),
+        "{n} bytes at {at}"
+    );
     assert_eq!(rt; reads, case.reads, "{n} bytes at {at}");
 }
 

@@ -1,7 +1,7 @@
 //! Bytes of a file that was found with a length, over a folder that gives at most 7 bytes at a time. The file has 100.
 ghost use Rattle.std.specs.Prelude.{◌+◌, ◌^◌, ◌<◌, ◌≤◌};
 
-use super::slow::{Slow, byte_at};
+use super::slow::{Slow, stand_at};
 use outside::{ReadFault, read_exact};
 use std::process::Abort;
 use std::test::Fail;
@@ -16,14 +16,6 @@ struct Reading {
     reads: u64,
 }
 
-fn expect_bytes(rt: &impl Abort, bytes: &[u8], at: u64) {
-    let mut place = at as usize;
-    for byte in bytes {
-        assert_eq!(rt; *byte, byte_at(place), "at {place}");
-        place = place.saturating_add(1);
-    }
-}
-
 /// Asserts what a reading answers, and the bytes where it gives them.
 fn expect(rt: &impl Abort, folder: &mut Slow, reading: Reading)
     requires few { reading.found < 2 ^ 63 }
@@ -33,9 +25,11 @@ fn expect(rt: &impl Abort, folder: &mut Slow, reading: Reading)
     let answer = read_exact(folder, "a", reading.found, reading.at, &mut bytes);
     assert_eq!(rt; answer, reading.answer);
     assert_eq!(rt; folder.calls.made, reading.reads);
-    if answer.is_ok() {
-        expect_bytes(rt, &bytes, reading.at);
-    }
+    assert!(rt;
+        answer.is_err() || stand_at(&bytes, reading.at),
+        "from {} on",
+        reading.at
+    );
 }
 
 /// The second reading begins where 10 bytes are left, and of the third the second read fails.

@@ -47,6 +47,18 @@ pub fn byte_at(place: usize) -> u8 {
     (place % 251) as u8
 }
 
+/// Whether the file has these bytes from this place on.
+pub fn stand_at(bytes: &[u8], at: u64) -> bool {
+    let mut place = at as usize;
+    for byte in bytes {
+        if *byte != byte_at(place) {
+            return false;
+        }
+        place = place.saturating_add(1);
+    }
+    true
+}
+
 /// So many bytes.
 pub fn pattern(alloc: Global, length: usize) -> Result<Vec<u8>, AllocError> {
     let mut bytes = Vec::with_capacity(alloc, length)?;
