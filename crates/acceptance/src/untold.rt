@@ -64,7 +64,20 @@ static CASES: [Case; 3] = table! {
     (1_073_741_825, 0, 1, "a: too long, 1073741825 bytes\n", 0)
 };
 
-/// Asserts how the command ends, how often the end was met, and that nothing was written.
+/// Asserts how the command ends over this folder, how often the end was met, and that nothing was written.
+fn expect_over<R: Abort + AllocGlobal>(
+    rt: &R,
+    folder: &mut Changing,
+    case: &Case,
+) -> Result<(), AllocError> {
+    let words = "gain -s s -g 1 a o";
+    let other = other_end(rt.alloc(), folder, words, case.status, case.line)?;
+    assert_eq!(rt; other, None, "{}", case.line);
+    assert_eq!(rt; folder.ends, case.ends, "{}", case.line);
+    assert_eq!(rt; folder.write_faults, 0, "{}", case.line);
+    Ok(())
+}
+
 fn expect_case<R: Abort + AllocGlobal>(rt: &R, case: &Case) -> Result<(), AllocError> {
     let mut folder = Changing {
         found: case.found,
@@ -72,12 +85,7 @@ fn expect_case<R: Abort + AllocGlobal>(rt: &R, case: &Case) -> Result<(), AllocE
         ends: 0,
         write_faults: 0,
     };
-    let words = "gain -s s -g 1 a o";
-    let other = other_end(rt.alloc(), &mut folder, words, case.status, case.line)?;
-    assert_eq!(rt; other, None, "{}", case.line);
-    assert_eq!(rt; folder.ends, case.ends, "{}", case.line);
-    assert_eq!(rt; folder.write_faults, 0, "{}", case.line);
-    Ok(())
+    expect_over(rt, &mut folder, case)
 }
 
 #[test]
