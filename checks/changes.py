@@ -391,7 +391,11 @@ def commands(random, files):
     yield ["join", "o", *random.choice((["x", "y"], ["y", "x"], ["x", "x", "y"], ["y", "x", "y", "x"]))]
     yield ["fade", "x", "o", "f"]
     yield ["fade", "--back", "x", "o", "f"]
-    words = random.choice(("gain -w -s s -l 1 3 x o", "cut --least x 0 1 o", "split x p 0 EOF", "join o x", "fade --back x o f")).split()
+    # Few frames, since each is laid in Python too.
+    yield ["drill", str(random.choice((0, 1, 2**31 - 1, random.randrange(2**31)))), str(random.choice((1, 2, random.randint(1, 60))))]
+    words = random.choice(
+        ("gain -w -s s -l 1 3 x o", "cut --least x 0 1 o", "split x p 0 EOF", "join o x", "fade --back x o f", "drill 0000000005 00002")
+    ).split()
     at = random.randint(0, len(words))
     words[at : at + random.randint(0, 2)] = random.choice(([], ["-w"], ["0.60"], ["x"], ["o"], ["p03.mp3"], ["none"], ["256"], [""]))
     yield words

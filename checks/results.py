@@ -5,7 +5,8 @@
                          status of the program
 
 The words are those of README's "Usage", the lines and their order those of its "Statuses and lines". Files are bytes by name.
-frames.py says what is in a file and moves gains, laid.py lays main data, fades.py reads places and the sheets of fades.
+frames.py says what is in a file and moves gains, laid.py lays main data, fades.py reads places and the sheets of fades, and drill.py
+makes streams from numbers.
 """
 import re
 import sys
@@ -14,6 +15,7 @@ from functools import lru_cache
 from pathlib import Path
 
 sys.dont_write_bytecode = True
+import drill as drills  # noqa: E402
 import fades  # noqa: E402
 import frames  # noqa: E402
 import laid  # noqa: E402
@@ -63,6 +65,14 @@ def is_place(word):
     return place(word) is not None
 
 
+def seed(word):
+    return re.fullmatch(r"[0-9]{1,10}", word) and int(word) < 2**31
+
+
+def frame_count(word):
+    return re.fullmatch(r"[0-9]{1,5}", word) and 1 <= int(word) <= 20_000
+
+
 # The kinds of the words of each form, a fixed word by itself, and how often the last of them may come.
 FRONTS = [[], ["-s", "s"], ["-w"], ["-s", "s", "-w"], ["-w", "-s", "s"]]
 MODES = [["-g", steps], ["-l", channel, steps]]
@@ -81,6 +91,7 @@ FORMS += [
     (["join", name, name], 64),
     (["fade", name, name, name], 1),
     (["fade", "--back", name, name, name], 1),
+    (["drill", seed, frame_count], 1),
 ]
 
 
@@ -278,7 +289,14 @@ def fade(words, files):
     return Result(outputs={output: new}, chosen={output: [(source, 0, len(found.frames))]}, faded=[(it, it) for it in steps])
 
 
-COMMANDS = {"list": list_file, "gain": gain, "cut": cut, "pack": pack, "split": split, "join": join, "fade": fade}
+def drill(words, files):
+    stream = drills.stream(int(words[1]), int(words[2]))
+    packed, written = laid.laid_file(stream, frames.survey_of(stream), 0, None, laid.SLOTS)
+    lead_ins = written - int(words[2])
+    return Result(text=f"{int(words[2])} frames, {len(stream)} bytes in, {len(packed)} bytes out, {lead_ins} lead-ins\n")
+
+
+COMMANDS = {"list": list_file, "gain": gain, "cut": cut, "pack": pack, "split": split, "join": join, "fade": fade, "drill": drill}
 
 
 def result_of(words, files):
