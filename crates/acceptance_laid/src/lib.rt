@@ -18,6 +18,8 @@ mod long;
 #[cfg(test)]
 mod lower_kinds;
 #[cfg(test)]
+mod mode_calls;
+#[cfg(test)]
 mod packs;
 #[cfg(test)]
 mod pieces;
