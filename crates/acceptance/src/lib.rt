@@ -6,6 +6,8 @@ mod channels;
 #[cfg(test)]
 mod check_words;
 #[cfg(test)]
+mod drills;
+#[cfg(test)]
 mod faults;
 #[cfg(test)]
 mod gains;
