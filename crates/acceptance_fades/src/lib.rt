@@ -4,6 +4,8 @@
 #[cfg(test)]
 mod calls;
 #[cfg(test)]
+mod each_call;
+#[cfg(test)]
 mod faded;
 #[cfg(test)]
 mod flat;
