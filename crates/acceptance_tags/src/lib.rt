@@ -6,6 +6,8 @@ mod blocks;
 #[cfg(test)]
 mod calls;
 #[cfg(test)]
+mod channel_calls;
+#[cfg(test)]
 mod faulty_tags;
 #[cfg(test)]
 mod long_tags;
