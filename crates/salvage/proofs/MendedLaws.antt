@@ -19,7 +19,7 @@ use Rattle.sync_survey.specs.Survey.{AreLaid, IsWellPlaced, AreWellPlaced, IsLai
 use Rattle.sync_survey.proofs.RunsLaws.{both, cons_list}
 use Rattle.salvage.specs.declared.mended.Emptied.{Emptied}
 use Rattle.salvage.specs.Sound.{is_sound}
-use Rattle.salvage.specs.Kept.{kept_end, end_of_kept, IsKeptWell, AreKeptWell}
+use Rattle.salvage.specs.Kept.{kept_end, end_of_kept, AreKeptWell}
 use Rattle.salvage.specs.Progress.{AreOfClass, IsLaidOut}
 use Rattle.salvage.specs.Damaged.{DamagedFields}
 use Rattle.salvage.specs.Mended.{mended_row, mended, emptied_as, emptied_from}

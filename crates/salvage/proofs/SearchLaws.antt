@@ -1,5 +1,5 @@
 -- The next usable frame.
-use Rattle.std.proofs.Common.{◌≡◌, ℕ, zero, suc, ◌+◌, ◌-◌, ◌*◌, ◌/◌, ◌%◌, ◌^◌, ◌<◌, ◌≤◌, ◌&&◌, ◌==◌, leb, Bool, true, false, cond, List, [], ◌∷◌, length, take, drop, get_or, Option, Some, None, Result, Ok, Err, refl, sym, ◌∙◌, ap, ap₂, subst, arith}
+use Rattle.std.proofs.Common.{◌≡◌, ℕ, zero, suc, ◌+◌, ◌-◌, ◌*◌, ◌/◌, ◌%◌, ◌^◌, ◌<◌, ◌≤◌, ◌&&◌, ◌⊎◌, ◌==◌, leb, Bool, true, false, cond, inl, inr, List, [], ◌∷◌, length, take, drop, get_or, Option, Some, None, Result, Ok, Err, refl, sym, ◌∙◌, ap, ap₂, subst, arith}
 use Rattle.std.proofs.lemmas.Bool.{false≢true, eqb-true, eq-eqb, leb-true, leb-false}
 use Rattle.bit_fields.specs.Bits.{bits, number}
 use Rattle.bit_fields.specs.Groups.{group}
@@ -10,23 +10,24 @@ use Rattle.tag_blocks.specs.declared.block.Kind.{Kind}
 use Rattle.tag_blocks.specs.declared.block.Kind.TheVariants.{Id3v2, Id3v1, Ape}
 use Rattle.tag_blocks.proofs.BlocksLaws.{first_byte, block_front-first}
 use Rattle.frame_header.specs.Reading.{is_readable, rate_bits, header_fields, header_in, header_at}
-use Rattle.frame_header.specs.declared.header.NotHeader.{NotHeader}
 use Rattle.frame_header.specs.declared.header.NotHeader.TheVariants.{Free as FreeHeader, No}
 use Rattle.sync_survey.proofs.RunsLaws.{both}
 use Rattle.sync_survey.specs.declared.items.Item.{Item}
 use Rattle.sync_survey.specs.declared.items.Item.TheVariants.{Frame, Free, Block, Zero, End, Nothing}
 use Rattle.sync_survey.specs.declared.places.PlacedFrame.{PlacedFrame}
-use Rattle.sync_survey.specs.Items.{Stands, header_front, item_front, item_at, fits}
+use Rattle.tag_blocks.specs.Blocks.{block_front}
+use Rattle.sync_survey.specs.Items.{Stands, by_header, by_block, by_byte, header_front, item_front, item_at, fits}
 use Rattle.sync_survey.specs.Start.{is_anchor, has_anchor, anchored, anchored_frame}
 use Rattle.sync_survey.specs.Looks.{Shows}
 use Rattle.sync_survey.proofs.ItemsLaws.{stands}
 use Rattle.sync_survey.proofs.LooksLaws.{item_at-behind}
 use Rattle.sync_survey.proofs.StartLaws.{first_of-none, first_of-some, anchored_frame-past}
 use Rattle.salvage.specs.declared.usable.Role.{Role}
-use Rattle.salvage.specs.Usable.{if_usable, usable_anchored, next_usable}
+use Rattle.salvage.specs.Usable.{is_usable, if_usable, usable_anchored, next_usable}
 use Rattle.salvage.specs.declared.usable.Role.TheVariants.{First}
 use Rattle.salvage.specs.Walk.{item_read, first_frame}
 use Rattle.salvage.specs.Steps.{may_begin, may_begin_block, IsBare}
+use Rattle.salvage.proofs.UsableLaws.{header_four, usable_behind}
 use Rattle.std.specs.Prelude.{option_and_then, IfOk}
 use Rattle.std.specs.Option.{option_or}
 use Rattle.outside.specs.Files.{Files, Holds}
@@ -85,10 +86,6 @@ readable_at four fields e = readable_by (bits four) fields e
 abbrev AreFew : List ℕ → Type 0
 AreFew bytes = (i : ℕ) → get_or bytes i 0 < 256
 
-header_cases : (b : Bool) (r : Result HeaderFields NotHeader) (h : HeaderFields) → cond b r (Err No) ≡ Ok h → (b ≡ true) × (r ≡ Ok h)
-header_cases true r h e = (refl, e)
-header_cases false r h e = absurd cc
-
 begun : (bytes : List ℕ) (h : HeaderFields) → AreFew bytes → 4 ≤ length bytes → header_at (take 4 bytes) ≡ Ok h → may_begin (get_or bytes 0 0) (get_or bytes 1 0) ≡ true
 begun [] h few many e = absurd (omega (arith, many))
 begun (a ∷ []) h few many e = absurd (omega (arith, many))
@@ -98,10 +95,9 @@ begun (a ∷ b ∷ c ∷ d ∷ rest) h few many e = begins_by a b c d (few 0) (f
 
 -- where a header stands, it may begin
 header_begins : (bytes : List ℕ) (h : HeaderFields) → AreFew bytes → header_front bytes ≡ Ok h → may_begin (get_or bytes 0 0) (get_or bytes 1 0) ≡ true
-unfolding header_front
 header_begins bytes h few e =
-    let cases = header_cases _ _ h e in
-    begun bytes h few (leb-true 4 (length bytes) cases.0) cases.1
+    let four = header_four bytes h e in
+    begun bytes h few four.0 four.1
 
 -- ---- no usable anchored frame
 
@@ -159,45 +155,81 @@ header_same bytes h g read is =
 pub header_of : (bytes : List ℕ) (g : HeaderFields) → item_front bytes ≡ Frame g → header_front bytes ≡ Ok g
 header_of bytes g is = subst (Stands bytes) is (stands bytes)
 
--- none stands before a later place of the look
-pub bare_more : (front : List ℕ) (from at : ℕ) → ((k : ℕ) → from ≤ k → k < at → IsBare front k) → IsBare front at → (k : ℕ) → from ≤ k → k < at + 1 → IsBare front k
-bare_more front from at before here k some low = by_place (leb at k) refl
+pub frame_of_header : (bytes : List ℕ) (h : HeaderFields) → header_front bytes ≡ Ok h → item_front bytes ≡ Frame h
+unfolding item_front
+frame_of_header bytes h e = ap (λ r. by_header r (by_block (block_front bytes) (by_byte bytes))) e
+
+-- the frame at this place has no anchor, or isn't usable
+module _ (role : Role) (offset : ℕ) (front : List ℕ) (k : ℕ) (g : HeaderFields) (here : header_front (drop k front) ≡ Ok g) (near : k + length_of (class_of g) g.slot ≤ 4064) where
+  pub bare_unanchored : is_anchor (class_of g) (item_front (drop (k + length_of (class_of g) g.slot) front)) ≡ false → IsBare role offset front k
+  bare_unanchored none = λ h is.
+      subst
+      (λ (f : HeaderFields). (k + length_of (class_of f) f.slot ≤ 4064)
+      × ((is_anchor (class_of f) (item_front (drop (k + length_of (class_of f) f.slot) front)) ≡ false) ⊎ (is_usable role (record { offset = offset + k; header = f }) (drop k front) ≡ false)))
+      (header_same (drop k front) g h here is) (near, inl none)
+
+  pub bare_unusable : is_usable role (record { offset = offset + k; header = g }) (drop k front) ≡ false → IsBare role offset front k
+  bare_unusable none = λ h is.
+      subst
+      (λ (f : HeaderFields). (k + length_of (class_of f) f.slot ≤ 4064)
+      × ((is_anchor (class_of f) (item_front (drop (k + length_of (class_of f) f.slot) front)) ≡ false) ⊎ (is_usable role (record { offset = offset + k; header = f }) (drop k front) ≡ false)))
+      (header_same (drop k front) g h here is) (near, inr none)
+
+-- what holds at the places up to one, and there, holds before the next
+pub bare_more : (P : ℕ → Type 0) (from at : ℕ) → ((k : ℕ) → from ≤ k → k < at → P k) → P at → (k : ℕ) → from ≤ k → k < at + 1 → P k
+bare_more P from at before here k some low = by_place (leb at k) refl
   where
-    by_place : (b : Bool) → leb at k ≡ b → IsBare front k
+    by_place : (b : Bool) → leb at k ≡ b → P k
     by_place true is =
         let same : at ≡ k = omega (arith, leb-true at k is, low) in
-        subst (IsBare front) same here
+        subst P same here
     by_place false is = before k some (leb-false at k is)
 
-pub bare_joined : (front : List ℕ) (from mid to : ℕ) → ((k : ℕ) → from ≤ k → k < mid → IsBare front k) → ((k : ℕ) → mid ≤ k → k < to → IsBare front k) → (k : ℕ) → from ≤ k → k < to → IsBare front k
-bare_joined front from mid to before behind k low high = by_place (leb mid k) refl
+pub bare_joined : (P : ℕ → Type 0) (from mid to : ℕ) → ((k : ℕ) → from ≤ k → k < mid → P k) → ((k : ℕ) → mid ≤ k → k < to → P k) → (k : ℕ) → from ≤ k → k < to → P k
+bare_joined P from mid to before behind k low high = by_place (leb mid k) refl
   where
-    by_place : (b : Bool) → leb mid k ≡ b → IsBare front k
+    by_place : (b : Bool) → leb mid k ≡ b → P k
     by_place true is = behind k (leb-true mid k is) high
     by_place false is = before k low (leb-false mid k is)
 
+-- a frame that isn't usable is none, anchored or not
+unusable : (file : List ℕ) (role : Role) (p : PlacedFrame) (b : Bool) → is_usable role p (drop p.offset file) ≡ false → if_usable file role (cond b (Some p) None) ≡ None
+unusable file role p true is = ap (λ u. cond u (Some p) None) is
+unusable file role p false is = refl
+
 module _ (file : List ℕ) (at : ℕ) (front : List ℕ) (left : ℕ) (shows : Shows file at front left) where
-  no_anchor : (k : ℕ) (h : HeaderFields) → k ≤ 4064 → (k + length_of (class_of h) h.slot ≤ 4064) × (is_anchor (class_of h) (item_front (drop (k + length_of (class_of h) h.slot) front)) ≡ false) → has_anchor file (at + k) h ≡ false
-  no_anchor k h near bare =
+  no_anchor : (k : ℕ) (h : HeaderFields) → k + length_of (class_of h) h.slot ≤ 4064 → is_anchor (class_of h) (item_front (drop (k + length_of (class_of h) h.slot) front)) ≡ false → has_anchor file (at + k) h ≡ false
+  no_anchor k h near none =
       let size = length_of (class_of h) h.slot in
       let place : at + (k + size) ≡ (at + k) + size = omega arith in
-      let behind : item_front (drop (k + size) front) ≡ item_at file ((at + k) + size) = item_at-behind file at front left shows (k + size) bare.0 ∙ ap (item_at file) place in
-      no_second (fits file (at + k) (Frame h)) (is_anchor (class_of h) (item_at file ((at + k) + size))) (sym (ap (is_anchor (class_of h)) behind) ∙ bare.1)
+      let behind : item_front (drop (k + size) front) ≡ item_at file ((at + k) + size) = item_at-behind file at front left shows (k + size) near ∙ ap (item_at file) place in
+      no_second (fits file (at + k) (Frame h)) (is_anchor (class_of h) (item_at file ((at + k) + size))) (sym (ap (is_anchor (class_of h)) behind) ∙ none)
 
-  bare_by : (k : ℕ) (item : Item) → k ≤ 4064 → item_front (drop k front) ≡ item → item_at file (at + k) ≡ item → IsBare front k → anchored_frame file (at + k) ≡ None
-  unfolding anchored_frame
-  bare_by k (Frame h) near shown is bare = ap (anchored file (at + k)) is ∙ ap (λ b. cond b (Some (record { offset = at + k; header = h })) None) (no_anchor k h near (bare h shown))
-  bare_by k Free near shown is bare = ap (anchored file (at + k)) is
-  bare_by k (Block b) near shown is bare = ap (anchored file (at + k)) is
-  bare_by k Zero near shown is bare = ap (anchored file (at + k)) is
-  bare_by k End near shown is bare = ap (anchored file (at + k)) is
-  bare_by k Nothing near shown is bare = ap (anchored file (at + k)) is
+  bare_frame : (role : Role) (k : ℕ) (h : HeaderFields) → item_front (drop k front) ≡ Frame h → k + length_of (class_of h) h.slot ≤ 4064
+      → (is_anchor (class_of h) (item_front (drop (k + length_of (class_of h) h.slot) front)) ≡ false) ⊎ (is_usable role (record { offset = at + k; header = h }) (drop k front) ≡ false)
+      → if_usable file role (anchored file (at + k) (Frame h)) ≡ None
+  bare_frame role k h shown near (inl none) = ap (λ b. if_usable file role (cond b (Some (record { offset = at + k; header = h })) None)) (no_anchor k h near none)
+  bare_frame role k h shown near (inr none) =
+      unusable file role (record { offset = at + k; header = h }) (has_anchor file (at + k) h) (sym (usable_behind file at front left shows role k h near shown) ∙ none)
 
-  bare_usable : (role : Role) (k : ℕ) → k ≤ 4064 → IsBare front k → usable_anchored file role (at + k) ≡ None
-  bare_usable role k near bare = not_usable file role (at + k) (bare_by k (item_front (drop k front)) near refl (sym (item_at-behind file at front left shows k near)) bare)
+  bare_by : (role : Role) (k : ℕ) (item : Item) → item_front (drop k front) ≡ item → IsBare role at front k → if_usable file role (anchored file (at + k) item) ≡ None
+  bare_by role k (Frame h) shown bare =
+      let found = bare h shown in
+      bare_frame role k h shown found.0 found.1
+  bare_by role k Free shown bare = refl
+  bare_by role k (Block b) shown bare = refl
+  bare_by role k Zero shown bare = refl
+  bare_by role k End shown bare = refl
+  bare_by role k Nothing shown bare = refl
+
+  bare_usable : (role : Role) (k : ℕ) → k ≤ 4064 → IsBare role at front k → usable_anchored file role (at + k) ≡ None
+  unfolding usable_anchored anchored_frame
+  bare_usable role k near bare =
+      let item = item_front (drop k front) in
+      ap (λ i. if_usable file role (anchored file (at + k) i)) (sym (item_at-behind file at front left shows k near)) ∙ bare_by role k item refl bare
 
   -- none stands at the offsets that are passed
-  pub passed_bare : (role : Role) (n earlier : ℕ) → n ≤ 4064 → ((k : ℕ) → 0 < k → k < n → IsBare front k) → at < earlier → earlier < at + n → usable_anchored file role earlier ≡ None
+  pub passed_bare : (role : Role) (n earlier : ℕ) → n ≤ 4064 → ((k : ℕ) → 0 < k → k < n → IsBare role at front k) → at < earlier → earlier < at + n → usable_anchored file role earlier ≡ None
   passed_bare role n earlier near bare low high =
       let k = earlier - at in
       let same : at + k ≡ earlier = omega (arith, low) in

@@ -1,18 +1,25 @@
 -- Whether a frame is usable is seen by a look.
-use Rattle.std.proofs.Common.{◌≡◌, ℕ, ◌<◌, ◌≤◌, ◌||◌, ◌&&◌, ◌==◌, min, Bool, true, false, cond, not, List, length, take, drop, Option, Some, None, refl, sym, ◌∙◌, ap, ap₂, arith}
+use Rattle.std.proofs.Common.{◌≡◌, ℕ, ◌+◌, ◌-◌, ◌<◌, ◌≤◌, ◌||◌, ◌&&◌, ◌==◌, min, Bool, true, false, cond, not, List, length, take, drop, Option, Some, None, Result, Ok, Err, refl, sym, ◌∙◌, ap, ap₂, arith}
 use Rattle.std.specs.Prelude.{is_some}
-use Rattle.std.proofs.lemmas.List.{take-take}
+use Rattle.std.proofs.lemmas.Bool.{leb-true}
+use Rattle.std.proofs.lemmas.List.{take-take, drop-take, drop-drop}
+use Rattle.bit_fields.specs.Bits.{bits}
+use Rattle.frame_header.specs.declared.header.NotHeader.{NotHeader}
+use Rattle.frame_header.specs.declared.header.NotHeader.TheVariants.{No}
+use Rattle.frame_header.specs.Reading.{header_at}
 use Rattle.frame_header.specs.Fields.{HeaderFields, same_class}
-use Rattle.frame_header.specs.Tables.{class_of, length_of, overhead_of}
+use Rattle.frame_header.specs.Tables.{class_of, length_of, overhead_of, side_size_of}
 use Rattle.frame_header.proofs.Lengths.{length-most}
 use Rattle.frame_header.proofs.HeaderLaws.{IsClass-class_of}
 use Rattle.side_info.specs.CheckWord.{check_word_of}
+use Rattle.side_info.specs.Side.{side_at}
+use Rattle.side_info.specs.Frame.{side_place, side_part, side_in}
 use Rattle.side_info.proofs.FrameLaws.{side_in-take, word_said-take, overhead-few}
 use Rattle.sync_survey.specs.declared.items.Item.{Item}
 use Rattle.sync_survey.specs.declared.items.Item.TheVariants.{Frame, Free, Block, Zero, End, Nothing}
 use Rattle.sync_survey.specs.declared.places.PlacedFrame.{PlacedFrame}
 use Rattle.sync_survey.specs.declared.runs.Part.TheVariants.{Stream}
-use Rattle.sync_survey.specs.Items.{item_front, size_of}
+use Rattle.sync_survey.specs.Items.{header_front, item_front, size_of}
 use Rattle.sync_survey.specs.Runs.{belongs, item_of}
 use Rattle.sync_survey.specs.Start.{anchored_frame}
 use Rattle.sync_survey.specs.Walk.{head_by}
@@ -36,24 +43,55 @@ length_few front h is =
 pub room_shown : (front : List ℕ) (h : HeaderFields) (left : ℕ) → item_front front ≡ Frame h → size_of (Frame h) ≤ left → length front ≡ min look_size left → overhead_of (class_of h) h.protected ≤ length front
 room_shown front h left is within many = omega (arith, overhead_few front (Frame h) h (sym is) refl, length_few front h is, within, many)
 
-word-take : (h : HeaderFields) (n : ℕ) (bytes : List ℕ) → 38 ≤ n → has_right_word h (take n bytes) ≡ has_right_word h bytes
-word-take h n bytes many =
-    let few = overhead-few (class_of h) h.protected in
-    ap₂ (λ (said right : ℕ). not h.protected || (said == right)) (word_said-take n bytes (omega (arith, many))) (ap (check_word_of h) (side_in-take h n bytes (omega (arith, few, many))))
+-- ---- the check word of the bytes as they stand
+
+header_cases : (b : Bool) (r : Result HeaderFields NotHeader) (h : HeaderFields) → cond b r (Err No) ≡ Ok h → (b ≡ true) × (r ≡ Ok h)
+header_cases true r h e = (refl, e)
+header_cases false r h e = absurd cc
+
+-- a header that stands at the front is read of four bytes
+pub header_four : (bytes : List ℕ) (h : HeaderFields) → header_front bytes ≡ Ok h → (4 ≤ length bytes) × (header_at (take 4 bytes) ≡ Ok h)
+unfolding header_front
+header_four bytes h e =
+    let cases = header_cases _ _ h e in
+    (leb-true 4 (length bytes) cases.0, cases.1)
+
+-- the side information of a protected frame stands behind its check word
+pub side_protected : (h : HeaderFields) (bytes : List ℕ) → h.protected ≡ true → side_in h bytes ≡ side_at (class_of h) (bits (take (side_size_of (class_of h)) (drop 6 bytes)))
+unfolding side_in side_part
+side_protected h bytes is = ap (λ p. side_at (class_of h) (bits (take (side_size_of (class_of h)) (drop (side_place p) bytes)))) is
+
+-- ---- what is judged is seen by fewer bytes too
+
+word-take : (h : HeaderFields) (n : ℕ) (bytes : List ℕ) → 6 ≤ n → overhead_of (class_of h) h.protected ≤ n → has_right_word h (take n bytes) ≡ has_right_word h bytes
+word-take h n bytes six room =
+    ap₂ (λ (said right : ℕ). not h.protected || (said == right)) (word_said-take n bytes six) (ap (check_word_of h) (side_in-take h n bytes room))
 
 head-take : (p : PlacedFrame) (n : ℕ) (bytes : List ℕ) → length_of (class_of p.header) p.header.slot ≤ n → is_head p (take n bytes) ≡ is_head p bytes
 head-take p n bytes few = ap (λ l. is_some (head_by p l)) (take-take (length_of (class_of p.header) p.header.slot) n bytes few)
 
-usable-take : (role : Role) (p : PlacedFrame) (n : ℕ) (bytes : List ℕ) → 38 ≤ n → length_of (class_of p.header) p.header.slot ≤ n → is_usable role p (take n bytes) ≡ is_usable role p bytes
-usable-take First p n bytes many few = ap₂ (λ (a b : Bool). a || b) (word-take p.header n bytes many) (head-take p n bytes few)
-usable-take (Later class) p n bytes many few = ap (λ (b : Bool). same_class (class_of p.header) class && b) (word-take p.header n bytes many)
+usable-take : (role : Role) (p : PlacedFrame) (n : ℕ) (bytes : List ℕ) → 6 ≤ n → overhead_of (class_of p.header) p.header.protected ≤ n → length_of (class_of p.header) p.header.slot ≤ n → is_usable role p (take n bytes) ≡ is_usable role p bytes
+usable-take First p n bytes six room few = ap₂ (λ (a b : Bool). a || b) (word-take p.header n bytes six room) (head-take p n bytes few)
+usable-take (Later class) p n bytes six room few = ap (λ (b : Bool). same_class (class_of p.header) class && b) (word-take p.header n bytes six room)
 
 module _ (file : List ℕ) (at : ℕ) (front : List ℕ) (left : ℕ) (shows : Shows file at front left) where
   pub usable_shown : (role : Role) (p : PlacedFrame) → p.offset ≡ at → item_front front ≡ Frame p.header → is_usable role p front ≡ is_usable role p (drop p.offset file)
   usable_shown role p here is =
       ap (is_usable role p) shows.front_is
-      ∙ usable-take role p look_size (drop at file) (omega arith) (omega (arith, length_few front p.header is))
+      ∙ usable-take role p look_size (drop at file) (omega arith) (omega (arith, overhead-few (class_of p.header) p.header.protected)) (omega (arith, length_few front p.header is))
       ∙ ap (λ n. is_usable role p (drop n file)) (sym here)
+
+  -- whether a frame is usable that stands at a later place of the look, and ends within it
+  pub usable_behind : (role : Role) (k : ℕ) (h : HeaderFields) → k + length_of (class_of h) h.slot ≤ 4064 → item_front (drop k front) ≡ Frame h
+      → is_usable role (record { offset = at + k; header = h }) (drop k front) ≡ is_usable role (record { offset = at + k; header = h }) (drop (at + k) file)
+  usable_behind role k h near is =
+      let n = look_size - k in
+      let split : look_size ≡ k + n = omega (arith, near) in
+      let room = overhead_few (drop k front) (Frame h) h (sym is) refl in
+      let seen : drop k front ≡ take n (drop (at + k) file) =
+      ap (drop k) shows.front_is ∙ ap (λ m. drop k (take m (drop at file))) split ∙ drop-take k n (drop at file) ∙ ap (take n) (drop-drop k at file) in
+      ap (is_usable role (record { offset = at + k; header = h })) seen
+      ∙ usable-take role (record { offset = at + k; header = h }) n (drop (at + k) file) (omega (arith, near)) (omega (arith, near, room)) (omega (arith, near))
 
   -- ---- an anchored frame
 

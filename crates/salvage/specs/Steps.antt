@@ -1,5 +1,5 @@
 -- What is read at an offset that a look has shown.
-use Rattle.std.specs.Prelude.{◌≡◌, ℕ, ◌+◌, ◌≤◌, ◌/◌, ◌%◌, ◌==◌, ◌&&◌, ◌||◌, Bool, true, false, List, drop, Option, Some, None}
+use Rattle.std.specs.Prelude.{◌≡◌, ℕ, ◌+◌, ◌≤◌, ◌/◌, ◌%◌, ◌==◌, ◌&&◌, ◌||◌, ◌⊎◌, Bool, true, false, List, drop, Option, Some, None}
 use Rattle.sync_survey.specs.declared.items.Item.{Item}
 use Rattle.sync_survey.specs.declared.items.Item.TheVariants.{Frame}
 use Rattle.frame_header.specs.Fields.{HeaderFields}
@@ -23,11 +23,17 @@ may_begin_block first = (first == 73) || ((first == 84) || (first == 65))
 abbrev pub reach : ℕ
 reach = 4064
 
--- no anchored frame stands at this place of a look, since no header does, or no anchor at the frame's end, which the look shows
-abbrev pub IsBare : List ℕ → ℕ → Type 0
-IsBare front k =
+-- no header stands at this place of a look
+abbrev pub HasNoHeader : List ℕ → ℕ → Type 0
+HasNoHeader front k = (h : HeaderFields) → item_front (drop k front) ≡ Frame h → ⊥
+
+-- No usable anchored frame stands at this place of a look at the offset: no header does, or the look shows that there is no anchor at the
+-- frame's end, or that the frame isn't usable.
+abbrev pub IsBare : Role → ℕ → List ℕ → ℕ → Type 0
+IsBare role offset front k =
     (h : HeaderFields) → item_front (drop k front) ≡ Frame h
-    → (k + length_of (class_of h) h.slot ≤ reach) × (is_anchor (class_of h) (item_front (drop (k + length_of (class_of h) h.slot) front)) ≡ false)
+    → (k + length_of (class_of h) h.slot ≤ reach)
+    × ((is_anchor (class_of h) (item_front (drop (k + length_of (class_of h) h.slot) front)) ≡ false) ⊎ (is_usable role (record { offset = offset + k; header = h }) (drop k front) ≡ false))
 
 -- a whole item at an offset is read, by the bytes from there on: it isn't a frame, or is a usable one
 abbrev pub admits_item : Role → ℕ → Item → List ℕ → Bool

@@ -1,7 +1,7 @@
 //! The next usable frame.
 ghost use Rattle.std.specs.Prelude.{◌≡◌, ◌+◌, ◌^◌, ◌<◌, ◌≤◌, ℕ, List, false, length, IfOk, IfErr, IfSome, OnOk};
 ghost use Rattle.frame_header.specs.Fields.{ClassFields};
-ghost use Rattle.sync_survey.specs.Start.{is_anchor};
+ghost use Rattle.sync_survey.specs.Start.{is_anchor as is_anchor_lem};
 ghost use Rattle.outside.specs.Files.{Holds};
 ghost use Rattle.outside.specs.Counts.{OnlyReads};
 ghost use Rattle.outside.specs.Feed.{IsFedFrom};
@@ -11,11 +11,14 @@ ghost use Rattle.sync_survey.specs.Survey.{HasLength};
 ghost use Rattle.salvage.specs.Usable.{next_usable as next_usable_lem};
 ghost use Rattle.salvage.specs.Walk.{first_frame as first_frame_lem};
 ghost use Rattle.salvage.specs.Damaged.{IsReadRefusal};
-ghost use Rattle.salvage.specs.Steps.{may_begin as may_begin_lem, may_begin_block as may_begin_block_lem, IsBare};
+ghost use Rattle.salvage.specs.Steps.{may_begin as may_begin_lem, may_begin_block as may_begin_block_lem, HasNoHeader, IsBare};
 
 use crate::usable::Role;
+use frame_header::Class;
 use outside::{Feed, Folder};
-use sync_survey::{PlacedFrame, SurveyFault, bytes_behind, header_front, look};
+use sync_survey::{
+    Item, PlacedFrame, SurveyFault, bytes_behind, header_front, is_same_class, item_front, look,
+};
 
 /// So many bytes of a look are searched at once: behind each of them 32 are seen.
 const REACH: usize = 4_064;
@@ -38,7 +41,7 @@ fn may_begin_block(first: u8) -> bool
 /// of the file.
 fn may_anchor(bytes: &[u8]) -> bool
     ensures { result ≡ false → (class : ClassFields)
-        → is_anchor class (item_front_lem bytes.now) ≡ false }
+        → is_anchor_lem class (item_front_lem bytes.now) ≡ false }
 {
     if bytes.len() < 2 {
         return true;
@@ -46,16 +49,43 @@ fn may_anchor(bytes: &[u8]) -> bool
     may_begin(bytes[0], bytes[1]) || may_begin_block(bytes[0])
 }
 
-/// Whether an anchored frame may stand at this place of a look.
-fn may_stand(front: &[u8], at: usize) -> bool
-    requires within { at < 2 ^ 32 }
-    ensures { result ≡ false → IsBare front.now at }
+/// Whether an anchor of the class stands at the front of the bytes.
+fn is_anchor(class: Class, bytes: &[u8]) -> bool
+    ensures { result ≡ is_anchor_lem class (item_front_lem bytes.now) }
 {
-    let Ok(header) = header_front(bytes_behind(front, at)) else {
+    if !may_anchor(bytes) {
+        return false;
+    }
+    match item_front(bytes) {
+        Item::Frame(header) => is_same_class(header.class(), class),
+        Item::Block(_) | Item::End => true,
+        Item::Free | Item::Zero | Item::Nothing => false,
+    }
+}
+
+/// Whether a usable anchored frame may stand at this place of a look at the offset. It is judged where the look
+/// shows all of it and the 32 bytes behind it.
+fn may_stand(role: &Role, front: &[u8], place: usize, offset: u64) -> bool
+    requires within { place < 2 ^ 32 }
+    requires early { offset < 2 ^ 32 }
+    ensures { result ≡ false → IsBare role.now offset front.now place }
+{
+    let bytes = bytes_behind(front, place);
+    let Ok(header) = header_front(bytes) else {
         return false;
     };
-    let end = at + header.length() as usize;
-    end > REACH || may_anchor(bytes_behind(front, end))
+    let end = place + header.length() as usize;
+    if end > REACH || end > front.len() {
+        return true;
+    }
+    if !is_anchor(header.class(), bytes_behind(front, end)) {
+        return false;
+    }
+    let frame = PlacedFrame {
+        offset: offset + place as u64,
+        header,
+    };
+    role.admits(&frame, bytes)
 }
 
 /// The first place of a look, from one on and before another, where a header may begin; that other where none
@@ -65,7 +95,7 @@ fn find_begin(front: &[u8], from: usize, to: usize) -> usize
     requires ordered { from ≤ to }
     ensures low { from ≤ result }
     ensures high { result ≤ to }
-    ensures none { (k : ℕ) → from ≤ k → k < result → IsBare front.now k }
+    ensures none { (k : ℕ) → from ≤ k → k < result → HasNoHeader front.now k }
 {
     for at in from..to {
         if may_begin(front[at], front[at + 1]) {
@@ -75,17 +105,19 @@ fn find_begin(front: &[u8], from: usize, to: usize) -> usize
     to
 }
 
-/// How many bytes are passed up to the next place of a look where an anchored frame may stand, at least one.
-fn bare(front: &[u8]) -> u64
+/// How many bytes of a look at the offset are passed up to the next place where a usable anchored frame may
+/// stand, at least one.
+fn bare(role: &Role, front: &[u8], offset: u64) -> u64
+    requires early { offset < 2 ^ 32 }
     ensures some { 0 < result }
     ensures few { result ≤ 4064 }
-    ensures none { (k : ℕ) → 0 < k → k < result → IsBare front.now k }
+    ensures none { (k : ℕ) → 0 < k → k < result → IsBare role.now offset front.now k }
 {
     let end = front.len().saturating_sub(1).min(REACH);
     let mut at = 1;
     while at < end {
         at = find_begin(front, at, end);
-        if at == end || may_stand(front, at) {
+        if at == end || may_stand(role, front, at, offset) {
             return at as u64;
         }
         at += 1;
@@ -123,7 +155,7 @@ pub(crate) fn next_usable<D: Folder>(
         if let Some(frame) = role.anchored(feed.bytes(), at, left) {
             return Ok(Some(frame));
         }
-        at += bare(feed.bytes());
+        at += bare(&role, feed.bytes(), at);
     }
     Ok(None)
 }

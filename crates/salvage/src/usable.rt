@@ -1,8 +1,10 @@
 //! Frames of a damaged file that can be used.
-ghost use Rattle.std.specs.Prelude.{◌≡◌, ◌≤◌, ◌<◌, ◌==◌, ℕ, true, List, length, min, IfSome, option_and_then};
+ghost use Rattle.std.specs.Prelude.{◌≡◌, ◌+◌, ◌≤◌, ◌<◌, ◌==◌, ℕ, true, List, Ok, length, min, IfSome, option_and_then};
 ghost use Rattle.std.specs.List.{prefix_len};
 ghost use Rattle.frame_header.specs.Fields.{HeaderFields};
-ghost use Rattle.sync_survey.specs.Items.{size_of, item_front as item_front_lem};
+ghost use Rattle.frame_header.specs.Tables.{class_of, side_size_of};
+ghost use Rattle.side_info.specs.Frame.{word_right};
+ghost use Rattle.sync_survey.specs.Items.{size_of, header_front, item_front as item_front_lem};
 ghost use Rattle.sync_survey.specs.Looks.{look_size, Shows, ReachArea};
 ghost use Rattle.salvage.specs.Usable.{has_right_word as has_right_word_lem, is_usable, usable_anchored};
 ghost use Rattle.sync_survey.specs.Runs.{frame_as};
@@ -10,7 +12,7 @@ ghost use Rattle.salvage.specs.Walk.{item_read};
 ghost use Rattle.salvage.specs.Steps.{admits_item as admits_item_lem, IsRead};
 
 use frame_header::{Class, Header};
-use side_info::{check_word, side_of_frame, word_said};
+use side_info::{check_word_of_bytes, word_said};
 use sync_survey::{Item, Part, PlacedFrame, Step, anchored_frame, head_in, is_same_class, step_at};
 
 /// What a frame is wanted for.
@@ -22,16 +24,27 @@ pub(crate) enum Role {
     Later(Class),
 }
 
+/// The check word that is right for the protected frame that these bytes begin with, by its bytes as they stand.
+fn right_word(header: &Header, bytes: &[u8]) -> u16
+    requires protected { header.now.protected ≡ true }
+    requires own { header_front bytes.now ≡ Ok header.now }
+    requires room { 6 + side_size_of (class_of header.now) ≤ length bytes.now }
+    ensures { result ≡ word_right header.now bytes.now }
+{
+    let side_end = 6 + header.class().side_size() as usize;
+    check_word_of_bytes(&bytes[..4], &bytes[6..side_end])
+}
+
 /// Whether the frame that these bytes begin with has no check word, or the right one.
 fn has_right_word(header: &Header, bytes: &[u8]) -> bool
+    requires own { header_front bytes.now ≡ Ok header.now }
     requires room { ReachArea header.now bytes.now }
     ensures { result ≡ has_right_word_lem header.now bytes.now }
 {
     if !header.protected {
         return true;
     }
-    let side = side_of_frame(header, bytes);
-    word_said(bytes) == check_word(header, &side)
+    word_said(bytes) == right_word(header, bytes)
 }
 
 /// The frame that the item at the offset is.
@@ -48,7 +61,8 @@ fn frame_of(item: &Item, offset: u64) -> Option<PlacedFrame>
 
 impl Role {
     /// Whether a whole frame is usable for the role. The first of the bytes are its own.
-    fn admits(&self, frame: &PlacedFrame, bytes: &[u8]) -> bool
+    pub(crate) fn admits(&self, frame: &PlacedFrame, bytes: &[u8]) -> bool
+        requires own { header_front bytes.now ≡ Ok frame.now.header }
         requires room { ReachArea frame.now.header bytes.now }
         ensures { result ≡ is_usable self.now frame.now bytes.now }
     {
@@ -64,6 +78,7 @@ impl Role {
 
     /// Whether a whole item at the offset is read. The first of the bytes are its own.
     fn admits_item(&self, item: &Item, bytes: &[u8], at: u64) -> bool
+        requires own { (h : HeaderFields) → item.now ≡ Item.Frame h → header_front bytes.now ≡ Ok h }
         requires room { (h : HeaderFields) → item.now ≡ Item.Frame h → ReachArea h bytes.now }
         ensures { result ≡ admits_item_lem self.now at item.now bytes.now }
     {

@@ -1,11 +1,11 @@
--- No anchored frame stands at the places that were passed.
+-- No usable anchored frame stands at the places that were passed.
 use Rattle.std.proofs.Common.{◌-◌, ◌<◌, ◌≤◌, ℕ, max}
 use Rattle.salvage.specs.Steps.{IsBare}
 use Rattle.salvage.proofs.search.bare.Given as goal
 
 abbrev pub invariant-loop-at : goal.invariant-loop-at
 invariant-loop-at l = record {
-  none : (k : ℕ) → 1 ≤ k → k < l.at → IsBare l.front k;
+  none : (k : ℕ) → 1 ≤ k → k < l.at → IsBare l.role l.offset l.front k;
   some : 1 ≤ l.at;
   few : l.at ≤ max l.end 1;
 }

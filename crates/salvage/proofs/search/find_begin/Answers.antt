@@ -1,11 +1,13 @@
 -- Where none may begin, none stands.
 use Rattle.std.proofs.Common.{sym, ◌∙◌, arith}
+use Rattle.salvage.specs.Steps.{HasNoHeader}
 use Rattle.salvage.proofs.SearchLaws.{bare_at, bare_more}
 use Rattle.salvage.proofs.search.find_begin.Goals as goal
 
 pub loop-at-preserved : goal.loop-at-preserved
 loop-at-preserved c = record {
-  none = bare_more c.args.front.now c.args.from c.loop-at.at c.loop-at.invariant.none (λ h is. absurd (bare_at c.args.front.now (λ i. omega (arith, c.type_inv.front i)) c.loop-at.at (sym c.may_begin.ensures ∙ c.if-may_begin.false) h is));
+  none = bare_more (HasNoHeader c.args.front.now) c.args.from c.loop-at.at c.loop-at.invariant.none
+      (bare_at c.args.front.now (λ i. omega (arith, c.type_inv.front i)) c.loop-at.at (sym c.may_begin.ensures ∙ c.if-may_begin.false));
 }
 
 pub returns-clause-none : goal.returns-clause-none

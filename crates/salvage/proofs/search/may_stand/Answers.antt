@@ -1,19 +1,44 @@
--- No header stands there, or no anchor behind the frame.
-use Rattle.std.proofs.Common.{◌≡◌, ◌+◌, ◌≤◌, false, drop, sym, ◌∙◌, ap, subst, arith}
-use Rattle.frame_header.specs.Fields.{HeaderFields}
+-- No header stands there, or the frame has no anchor or isn't usable.
+use Rattle.std.proofs.Common.{◌≡◌, ◌+◌, ◌≤◌, length, drop, Ok, refl, sym, ◌∙◌, ap, arith, length-drop}
 use Rattle.frame_header.specs.Tables.{class_of, length_of}
+use Rattle.sync_survey.specs.declared.items.Item.TheVariants.{Frame}
 use Rattle.sync_survey.specs.Items.{header_front, item_front}
 use Rattle.sync_survey.specs.Start.{is_anchor}
-use Rattle.salvage.proofs.SearchLaws.{header_same, header_of}
+use Rattle.sync_survey.proofs.StepLaws.{overhead_few}
+use Rattle.salvage.specs.Usable.{is_usable}
+use Rattle.salvage.proofs.SearchLaws.{header_of, frame_of_header, bare_unanchored, bare_unusable}
 use Rattle.salvage.proofs.search.may_stand.Goals as goal
 
 pub returns-in_default : goal.returns-in_default
-returns-in_default c = λ _ h is. absurd (c.in_default.not-Ok h (c.header_front.ensures ∙ ap header_front c.bytes_behind.ensures ∙ header_of (drop c.args.at c.args.front.now) h is))
+returns-in_default c = λ _ h is. absurd (c.in_default.not-Ok h (c.header_front.ensures ∙ ap header_front c.bytes_behind-bytes.ensures ∙ header_of (drop c.args.place c.args.front.now) h is))
 
-pub returns-else-end-gt-REACH : goal.returns-else-end-gt-REACH
-returns-else-end-gt-REACH c = λ none h is.
-    let same = header_same (drop c.args.at c.args.front.now) c.in-Ok.header h (ap header_front (sym c.bytes_behind.ensures) ∙ sym c.header_front.ensures ∙ c.in-Ok.is) is in
-    subst (λ (g : HeaderFields). (c.args.at + length_of (class_of g) g.slot ≤ 4064) × (is_anchor (class_of g) (item_front (drop (c.args.at + length_of (class_of g) g.slot) c.args.front.now)) ≡ false)) same (
-      omega (arith, c.if-end-gt-REACH.false, c.length.ensures.length),
-      ap (λ l. is_anchor (class_of c.in-Ok.header) (item_front l)) (sym (c.bytes_behind-else-end-gt-REACH.ensures ∙ ap (λ n. drop (c.args.at + n) c.args.front.now) c.length.ensures.length)) ∙ c.may_anchor.ensures none (class_of c.in-Ok.header),
-    )
+pub returns-then-not-is_anchor : goal.returns-then-not-is_anchor
+returns-then-not-is_anchor c = λ _.
+    let h = c.in-Ok.header in
+    let place = c.args.place in
+    let front = c.args.front.now in
+    let here : header_front (drop place front) ≡ Ok h = ap header_front (sym c.bytes_behind-bytes.ensures) ∙ sym c.header_front.ensures ∙ c.in-Ok.is in
+    let near : place + length_of (class_of h) h.slot ≤ 4064 = omega (arith, c.if-end-gt-REACH.false, c.length.ensures.length) in
+    bare_unanchored c.args.role.now c.args.offset front place h here near
+    (ap (λ l. is_anchor (class_of h) (item_front l)) (sym (c.bytes_behind.ensures ∙ ap (λ n. drop (place + n) front) c.length.ensures.length))
+    ∙ ap (λ k. is_anchor k (item_front c.bytes_behind.result.now)) (sym c.class.ensures)
+    ∙ sym c.is_anchor.ensures
+    ∙ c.if-not-is_anchor.true)
+
+pub admits-requires-clause-room : goal.admits-requires-clause-room
+admits-requires-clause-room c =
+    let h = c.in-Ok.header in
+    let bytes = drop c.args.place c.args.front.now in
+    let here : header_front bytes ≡ Ok h = ap header_front (sym c.bytes_behind-bytes.ensures) ∙ sym c.header_front.ensures ∙ c.in-Ok.is in
+    let room = overhead_few bytes (Frame h) h (sym (frame_of_header bytes h here)) refl in
+    omega (arith, room, c.if-end-front.false, c.length.ensures.length, length-drop c.args.place c.args.front.now, ap length c.bytes_behind-bytes.ensures)
+
+pub returns : goal.returns
+returns c = λ none.
+    let h = c.in-Ok.header in
+    let place = c.args.place in
+    let front = c.args.front.now in
+    let here : header_front (drop place front) ≡ Ok h = ap header_front (sym c.bytes_behind-bytes.ensures) ∙ sym c.header_front.ensures ∙ c.in-Ok.is in
+    let near : place + length_of (class_of h) h.slot ≤ 4064 = omega (arith, c.if-end-gt-REACH.false, c.length.ensures.length) in
+    bare_unusable c.args.role.now c.args.offset front place h here near
+    (ap (is_usable c.args.role.now (record { offset = c.args.offset + place; header = h })) (sym c.bytes_behind-bytes.ensures) ∙ sym c.admits.ensures ∙ none)

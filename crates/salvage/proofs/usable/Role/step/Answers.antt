@@ -2,6 +2,7 @@
 use Rattle.std.proofs.Common.{sym, ◌∙◌}
 use Rattle.sync_survey.proofs.StepLaws.{shown_room}
 use Rattle.salvage.proofs.UsableLaws.{none_read, step_whole, item_taken, item_refused}
+use Rattle.salvage.proofs.SearchLaws.{header_of}
 use Rattle.salvage.proofs.usable.Role.step.Goals as goal
 
 pub returns-in_default-clause-read : goal.returns-in_default-clause-read
@@ -9,6 +10,7 @@ returns-in_default-clause-read c = λ file shows. none_read file c.args.at c.arg
 
 pub admits_item-requires : goal.admits_item-requires
 admits_item-requires c = record {
+  own = λ h frame. header_of c.args.front.now h (sym c.in-Some.ensures.item ∙ frame);
   room = λ h frame.
       shown_room c.args.front.now c.in-Some.step.item h c.in-Some.step.size c.args.left c.in-Some.ensures.item frame (c.in-Some.ensures.most h frame) c.in-Some.ensures.least c.in-Some.ensures.within c.requires.many;
 }
