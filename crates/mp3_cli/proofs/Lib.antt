@@ -1,4 +1,6 @@
 -- The lemmas of this crate.
 pub mod Lines
 pub mod Names
+pub mod LegalLaws
 pub mod RunLaws
+pub mod WrittenLaws

@@ -23,7 +23,8 @@ use Rattle.commands.specs.Left.{Why, Rejected, Missing, Unread, Shorter, Unwritt
 use Rattle.job_words.specs.Asked.{Asked}
 use Rattle.job_words.specs.Words.{job_of}
 use Rattle.mp3_cli.specs.Texts.{status_by, bad_word_line, GotWhole, GotFront, GotLine}
-use Rattle.mp3_cli.specs.Run.{said_command, command_of, fault_status, line_of, GetsLine, world, Answers, made_outcome, command_outcome, job_outcome, outcome, IsOutcome, IsAcceptedBy, IsAccepted}
+use Rattle.mp3_cli.specs.Run.{said_command, command_of, fault_status, line_of, GetsLine, world, Answers, made_outcome, command_outcome, job_outcome, outcome, IsOutcome, IsLegalBy, IsLegal}
+use Rattle.mp3_cli.proofs.LegalLaws.{legal-by}
 
 -- ---- statuses
 
@@ -207,6 +208,14 @@ module _ (command : Command) (old new : Seen) (out_old out_new err_old err_new :
     not_failed made fault NoMemory ok reads writes sends found e w is left = found is
     not_failed made fault Unsent ok reads writes sends found e w is left = sends (sent_rose command old.files out_old out_new fault w (says_here (Some fault) e))
 
+    -- where it is done the files are those before with all that it makes
+    pub files_where_done : status ≡ 0 → (made : Made) × (command.makes f ≡ Ok made) × (new.files ≡ Some (written made.outputs f))
+    files_where_done zero_is = at case_of
+      where
+        at : Case → (made : Made) × (command.makes f ≡ Ok made) × (new.files ≡ Some (written made.outputs f))
+        at (Done is e) = made_here e
+        at (Failed fault why e is w left) = absurd (omega (arith, is, zero_is, (by_status why).0))
+
     pub made_where_done : status ≡ 0 → (made : Made) × (command.makes f ≡ Ok made)
     made_where_done zero_is = at case_of
       where
@@ -249,11 +258,12 @@ module _ (words : List (List ℕ)) (asked : Asked) (is : job_of words ≡ Ok ask
           (as_defined (command_of asked) old new out_old out_new err_old err_new status all f told low)
 
   pub is_accepted : (f : Contents) → old.files ≡ Some f → (Rose old.counts.read_faults new.counts.read_faults → ⊥) → (Rose old.counts.write_faults new.counts.write_faults → ⊥) → (Rose out_old.faults out_new.faults → ⊥)
-      → status ≢ 4 → (status ≡ 0) ↔ IsAccepted words f
-  is_accepted f told reads writes sends found = (
-    (λ zero_is. subst (IsAcceptedBy f) (sym is) (made_where_done (command_of asked) old new out_old out_new err_old err_new status all f told zero_is)),
-    (λ accepted. done_where_made (command_of asked) old new out_old out_new err_old err_new status all f told reads writes sends found (subst (IsAcceptedBy f) is accepted)),
-  )
+      → status ≢ 4 → (status ≡ 0) ↔ IsLegal words f
+  is_accepted f told reads writes sends found =
+      let law = legal-by (Ok asked) f in (
+        (λ zero_is. subst (IsLegalBy f) (sym is) (law.1 (made_where_done (command_of asked) old new out_old out_new err_old err_new status all f told zero_is))),
+        (λ legal. done_where_made (command_of asked) old new out_old out_new err_old err_new status all f told reads writes sends found (law.0 (subst (IsLegalBy f) is legal))),
+      )
 
 -- ---- a command without a text
 

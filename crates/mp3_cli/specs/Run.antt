@@ -1,9 +1,9 @@
 -- What the program does, from its words and the files that are there.
-use Rattle.std.specs.Prelude.{◌≡◌, ℕ, List, [], Option, Some, None, Result, Ok, Err, IfOk, IfSome, false}
+use Rattle.std.specs.Prelude.{◌≡◌, ◌↔◌, ℕ, List, [], ◌∷◌, Option, Some, None, Result, Ok, Err, IfOk, IfSome, false}
 use Rattle.outside.specs.Files.{Contents, Files, sent_more}
 use Rattle.commands.specs.declared.fault.EditFault.{EditFault}
 use Rattle.commands.specs.declared.fault.EditFault.TheVariants.{EqualNames}
-use Rattle.commands.specs.Command.{Made, Command, clash_of, written, HoldsStreams}
+use Rattle.commands.specs.Command.{Made, Command, clash_of, written, AreSound}
 use Rattle.commands.specs.Left.{Seen, IsDone, Leaves, HasNumbers}
 use Rattle.commands.specs.Said.{Heard, Says}
 use Rattle.gain_edits.specs.Gain.{gain_command}
@@ -17,6 +17,10 @@ use Rattle.joining.specs.Join.{join_command}
 use Rattle.drill.specs.Drilled.{drill_command}
 use Rattle.job_words.specs.Asked.{Asked, Help, Version, ListFile, Gain, Undo, Cut, Pack, SplitAt, SplitBy, Join, Drill, Fade}
 use Rattle.job_words.specs.Words.{job_of}
+use Rattle.sync_survey.specs.MainData.{StreamFrame}
+use Rattle.sync_survey.specs.Faults.{HoldsStream}
+use Rattle.legality.specs.Legal.{IsLegalFor}
+use Rattle.legality.specs.Laws.{Makes}
 use Rattle.mp3_cli.specs.Texts.{status_of, fault_line, bad_word_line, help_text, version_text, GotLine}
 
 -- a text, whatever the files are
@@ -133,16 +137,42 @@ pub record IsOutcome (o : Outcome) (old new : World) (status : ℕ) : Type 0 whe
   pub text_is : new.out.sent ≡ sent_more old.out.sent o.text
   pub line_is : GetsLine old.err new.err o.line
 
+-- ---- what is accepted
+
+abbrev pub IsLegalBy : Contents → Result Asked ℕ → Type 0
+IsLegalBy files (Ok asked) = IsLegalFor asked files
+IsLegalBy files (Err place) = ⊥
+
+-- The words ask for a command, no input is an output, each input is there, no longer than allowed, and well-formed, and the choices are legal
+-- (`IsLegalFor`).
+abbrev pub IsLegal : List (List ℕ) → Contents → Type 0
+IsLegal words files = IsLegalBy files (job_of words)
+
 abbrev pub IsAcceptedBy : Contents → Result Asked ℕ → Type 0
-IsAcceptedBy files (Ok asked) = (made : Made) × ((command_of asked).makes files ≡ Ok made)
+IsAcceptedBy files (Ok asked) = Makes (command_of asked) files
 IsAcceptedBy files (Err place) = ⊥
 
 -- the words ask for a command, and it isn't refused
 abbrev pub IsAccepted : List (List ℕ) → Contents → Type 0
 IsAccepted words files = IsAcceptedBy files (job_of words)
 
+-- exactly what is legal is accepted
+abbrev pub LegalIsAccepted : Type 0
+LegalIsAccepted = (words : List (List ℕ)) (files : Contents) → IsLegal words files ↔ IsAccepted words files
+
 -- ---- the streams
 
--- the streams of what the words ask for
-abbrev pub HoldsAllStreams : List (List ℕ) → Files → Type 0
-HoldsAllStreams words files = IfOk (job_of words) (λ asked. HoldsStreams (command_of asked) files)
+-- the files of as many of these names as there are streams are there and well-formed, and each holds the stream at its place
+abbrev pub AreThere : Contents → List (List ℕ) → List (List StreamFrame) → Type 0
+AreThere files names [] = Unit {0}
+AreThere files [] (stream ∷ streams) = ⊥
+AreThere files (name ∷ names) (stream ∷ streams) = ((bytes : List ℕ) × (files name ≡ Some bytes) × HoldsStream bytes stream) × AreThere files names streams
+
+-- The inputs were there and well-formed, and the outputs are there, by their names, with the streams that the command has to make of the inputs.
+pub record HoldsWritten (command : Command) (old new : Contents) : Type 0 where
+  pub sources : AreSound old command.sources
+  pub outputs : AreThere new command.outputs (command.streams old)
+
+-- so it is of what the words ask for, where the files before and after are told
+abbrev pub HoldsAllStreams : List (List ℕ) → Files → Files → Type 0
+HoldsAllStreams words old new = IfOk (job_of words) (λ asked. IfSome old (λ before. IfSome new (λ after. HoldsWritten (command_of asked) before after)))

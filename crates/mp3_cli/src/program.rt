@@ -9,7 +9,7 @@ ghost use Rattle.job_words.specs.Words.{job_of, IsSound};
 ghost use Rattle.job_words.specs.Code.{asked};
 ghost use Rattle.mp3_cli.specs.Names.{names_in};
 ghost use Rattle.mp3_cli.specs.Texts.{GotLine};
-ghost use Rattle.mp3_cli.specs.Run.{command_of, always_of, fault_status, result_line, world, Answers, AnswersWords, outcome, IsOutcome, IsAccepted, HoldsAllStreams};
+ghost use Rattle.mp3_cli.specs.Run.{command_of, always_of, fault_status, result_line, world, Answers, AnswersWords, outcome, IsOutcome, IsLegal, HoldsAllStreams};
 
 use crate::output_names::Outputs;
 use crate::texts::{say_help, say_version, send_bad_word, send_fault, status};
@@ -189,16 +189,17 @@ pub fn run<D: Folder, T: Sink, E: Sink>(
         (heard (T.sent out.new) (T.faults out.new)) (heard (E.sent err.new) (E.faults err.new)))
         result) }
 
-    // Where no call of the folder failed, nor a write to `out`, and memory was found, exactly the legal commands are done.
+    // Where no call of the folder failed, nor a write to `out`, and memory was found, exactly what is legal is done: the words ask for a
+    // command, no input is an output, each input is there, no longer than allowed and well-formed, and the choices are legal.
     ensures accepted { (files : Contents) → D.files folder.old ≡ Some files
         → (Rose (D.counts folder.old).read_faults (D.counts folder.new).read_faults → ⊥)
         → (Rose (D.counts folder.old).write_faults (D.counts folder.new).write_faults → ⊥)
         → (Rose (T.faults out.old) (T.faults out.new) → ⊥) → result ≢ 4
-        → ((result ≡ 0) ↔ IsAccepted (map string_bytes words.now) files) }
+        → ((result ≡ 0) ↔ IsLegal (map string_bytes words.now) files) }
 
-    // What is written is well-formed, and holds exactly the streams that the command has to make of well-formed files.
+    // Each output is there, by its name, well-formed and with exactly the stream that the command has to make of well-formed inputs.
     ensures streams { result ≡ 0 → HoldsAllStreams (map string_bytes words.now)
-        (D.files folder.old) }
+        (D.files folder.old) (D.files folder.new) }
 
     // A refusal and want of memory leave the files.
     ensures kept { result ≢ 0 → result ≢ 3 → D.files folder.new ≡ D.files folder.old }

@@ -9,7 +9,7 @@ ghost use Rattle.outside.specs.Files.{Contents, sent_more};
 ghost use Rattle.commands.specs.Left.{seen};
 ghost use Rattle.commands.specs.Said.{heard};
 ghost use Rattle.job_words.specs.Words.{job_of};
-ghost use Rattle.mp3_cli.specs.Run.{always_of, world, AnswersWords, IsAccepted, HoldsAllStreams};
+ghost use Rattle.mp3_cli.specs.Run.{always_of, world, AnswersWords, IsLegal, HoldsAllStreams};
 
 use mp3_cli::run;
 use outside::{DiskFolder, Folder, Sink, StdSink};
@@ -55,9 +55,9 @@ fn answer<D: Folder, T: Sink, E: Sink>(
         → (Rose (D.counts folder.old).read_faults (D.counts folder.new).read_faults → ⊥)
         → (Rose (D.counts folder.old).write_faults (D.counts folder.new).write_faults → ⊥)
         → (Rose (T.faults out.old) (T.faults out.new) → ⊥) → result ≢ 4
-        → ((result ≡ 0) ↔ IsAccepted (map string_bytes v.items) files)) }
+        → ((result ≡ 0) ↔ IsLegal (map string_bytes v.items) files)) }
     ensures streams { IfOk words (λ v. result ≡ 0
-        → HoldsAllStreams (map string_bytes v.items) (D.files folder.old)) }
+        → HoldsAllStreams (map string_bytes v.items) (D.files folder.old) (D.files folder.new)) }
     ensures text { IfOk words (λ v. result ≡ 0
         → IfSome (always_of (job_of (map string_bytes v.items)))
         (λ text. T.sent out.new ≡ sent_more (T.sent out.old) text)) }

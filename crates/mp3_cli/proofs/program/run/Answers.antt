@@ -1,9 +1,12 @@
 -- A bad word is refused as it is defined, and each clause follows from the answer of the command.
-use Rattle.std.proofs.Common.{sym, ap, ◌∙◌, map, string_bytes}
+use Rattle.std.proofs.Common.{sym, ap, subst, ◌∙◌, map, string_bytes}
+use Rattle.std.specs.Prelude.{IfOk}
 use Rattle.job_words.specs.Code.{asked, answer}
+use Rattle.job_words.specs.Words.{IsSound}
 use Rattle.commands.specs.Left.{seen}
 use Rattle.commands.specs.Said.{heard}
 use Rattle.mp3_cli.proofs.RunLaws.{bad_word_defined, is_defined, is_accepted, quiet}
+use Rattle.mp3_cli.proofs.WrittenLaws.{written-streams}
 use Rattle.mp3_cli.proofs.program.run.Goals as goal
 
 pub returns-in-Err-clause-defined : goal.returns-in-Err-clause-defined
@@ -24,3 +27,10 @@ returns-in-Ok-clause-accepted g c f told =
     is_accepted (map string_bytes c.args.words.now) (asked c.in-Ok.job) (sym c.job.ensures.exact ∙ ap answer c.in-Ok.is)
     (seen (g.D.Folder.files c.args.folder.now) (g.D.Folder.counts c.args.folder.now)) (seen (g.D.Folder.files c.run_job.new.folder) (g.D.Folder.counts c.run_job.new.folder))
     _ _ _ _ _ c.run_job.ensures.answers f told
+
+pub returns-in-Ok-clause-streams : goal.returns-in-Ok-clause-streams
+returns-in-Ok-clause-streams g c =
+    written-streams (map string_bytes c.args.words.now) (asked c.in-Ok.job) (sym c.job.ensures.exact ∙ ap answer c.in-Ok.is)
+    (subst (λ r. IfOk r (λ job. IsSound (asked job))) c.in-Ok.is c.job.ensures.sound)
+    (seen (g.D.Folder.files c.args.folder.now) (g.D.Folder.counts c.args.folder.now)) (seen (g.D.Folder.files c.run_job.new.folder) (g.D.Folder.counts c.run_job.new.folder))
+    _ _ _ _ _ c.run_job.ensures.answers c.run_job.ensures.streams

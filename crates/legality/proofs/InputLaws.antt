@@ -1,0 +1,149 @@
+-- Names that are apart, and the surveys of inputs.
+use Rattle.std.proofs.Common.{◌≡◌, ℕ, zero, suc, ◌+◌, ◌<◌, ◌≤◌, ◌==◌, true, false, cond, Contains, List, [], ◌∷◌, length, Option, Some, None, Ok, refl, sym, ◌∙◌, ap, subst, inl, inr, arith, rules, bytes_eq}
+use Rattle.std.specs.List.{list_any}
+use Rattle.std.proofs.lemmas.Bool.{false_from_ne_true, ne_eqb}
+use Rattle.std.proofs.lemmas.List.{length-map}
+use Rattle.std.proofs.lemmas.List.Elements.{All-cons}
+use Rattle.std.proofs.lemmas.List.Folds.{list_any_at}
+use Rattle.std.proofs.lemmas.Map.Views.{Contains-from_any}
+use Rattle.std.proofs.lemmas.Option.{slice_get_within, slice_get_cases}
+use Rattle.std.proofs.lemmas.Slice.Eq.{bytes_eq-Decides}
+use Rattle.frame_header.specs.Fields.{ClassFields}
+use Rattle.outside.specs.Files.{Contents}
+use Rattle.outside.proofs.FilesLaws.{bytes_eq_same}
+use Rattle.sync_survey.specs.declared.places.Head.{Head}
+use Rattle.sync_survey.specs.declared.rows.Row.{Row}
+use Rattle.sync_survey.specs.declared.survey_fault.SurveyFault.{SurveyFault}
+use Rattle.sync_survey.specs.declared.places.PlacedFrame.{PlacedFrame}
+use Rattle.sync_survey.specs.Walk.{head_of, end_fault}
+use Rattle.sync_survey.specs.MainData.{row_of, rows_of}
+use Rattle.sync_survey.specs.Faults.{SurveyFields, class_from, surveyed_freely, longest_file}
+use Rattle.sync_survey.specs.Survey.{survey_of}
+use Rattle.sync_survey.proofs.FaultsLaws.{marked-length}
+use Rattle.sync_survey.proofs.FoldersLaws.{survey_of-short}
+use Rattle.sync_survey.proofs.SurveyParts.{AreSound, frames_from, surveyed-parts, surveyed-told, surveyed-allowed, all_faults-none_sound, sound-no_all_faults}
+use Rattle.sync_survey.proofs.SurveyedFiles.{survey_of-parts}
+use Rattle.commands.specs.Command.{clash_from}
+use Rattle.commands.proofs.MakeLaws.{no_clash}
+use Rattle.legality.specs.Inputs.{Each, EachNext, AreApart, Input, IsInput, AreInputs, frames_of, OfOne}
+
+-- ---- lists
+
+pub each-cons : {A : Type 0} (P : ℕ → A → Type 0) (x : A) (xs : List A) → P 0 x → Each xs (λ i y. P (suc i) y) → Each (x ∷ xs) P
+each-cons P x xs first rest zero y is = let same : x ≡ y = cc in subst (P 0) same first
+each-cons P x xs first rest (suc i) y is = rest i y is
+
+pub next-cons : {A : Type 0} (P : A → A → Type 0) (x y : A) (more : List A) → P x y → EachNext (y ∷ more) P → EachNext (x ∷ y ∷ more) P
+next-cons P x y more first rest zero p q is next =
+    let one : x ≡ p = cc in
+    let two : y ≡ q = cc in
+    subst (λ a. P a q) one (subst (P x) two first)
+next-cons P x y more first rest (suc i) p q is next = rest i p q is next
+
+-- ---- names
+
+none-is : (name : List ℕ) (outputs : List (List ℕ)) → list_any (bytes_eq name) outputs ≡ false → Contains outputs name → ⊥
+none-is name outputs none has =
+    let found : list_any (bytes_eq name) outputs ≡ true = list_any_at (bytes_eq name) outputs has.0 name has.1 (ap (bytes_eq name) has.2 ∙ bytes_eq_same name) in
+    let both : true ≡ false = sym found ∙ none in
+    absurd cc
+
+is-none : (name : List ℕ) (outputs : List (List ℕ)) → (Contains outputs name → ⊥) → list_any (bytes_eq name) outputs ≡ false
+is-none name outputs free = false_from_ne_true _ (λ e. free (Contains-from_any (λ x y same. (bytes_eq-Decides x y).0 same) name outputs e))
+
+pub no-clash_apart : (outputs names : List (List ℕ)) (place : ℕ) → clash_from outputs place names ≡ None → AreApart names outputs
+no-clash_apart outputs [] place none = λ k d within. absurd (omega (arith, within))
+no-clash_apart outputs (name ∷ names) place none =
+    let parts = no_clash (list_any (bytes_eq name) outputs) place (clash_from outputs (place + 1) names) none in
+    All-cons (λ n. Contains outputs n → ⊥) name names (none-is name outputs parts.0) (no-clash_apart outputs names (place + 1) parts.1)
+
+pub apart_no-clash : (outputs names : List (List ℕ)) (place : ℕ) → AreApart names outputs → clash_from outputs place names ≡ None
+apart_no-clash outputs [] place apart = refl
+apart_no-clash outputs (name ∷ names) place apart =
+    ap (λ b. cond b (Some place) (clash_from outputs (place + 1) names)) (is-none name outputs (apart 0 [] (omega arith)))
+    ∙ apart_no-clash outputs names (place + 1) (λ k d within. apart (suc k) d (omega (arith, within)))
+
+-- ---- surveys
+
+same_count : (n : ℕ) → (n == n) ≡ false → ⊥
+same_count n is = search rules
+
+few-rows : (file : List ℕ) (head : Option Head) (class : ClassFields) (allowed : ℕ) (rows : List Row) → AreSound file head class allowed rows → length rows ≤ allowed
+few-rows file head class allowed rows sound =
+    elim (slice_get_cases rows allowed).1 as (λ _. length rows ≤ allowed) [
+      | inl found ↦ absurd (same_count allowed (sound allowed found.0 found.2).few)
+      | inr past ↦ past.0
+    ]
+
+few-sound : (file : List ℕ) (head : Option Head) (class : ClassFields) (allowed other : ℕ) (rows : List Row) → length rows ≤ other → AreSound file head class allowed rows → AreSound file head class other rows
+few-sound file head class allowed other rows few sound = λ i r is.
+    let here = sound i r is in
+    record { same = here.same; word = here.word; main = here.main; few = ne_eqb i other (λ e. omega (arith, few, e, slice_get_within rows i r is)) }
+
+-- a file that is no longer than allowed and has no fault where so many frames are allowed
+pub record IsWhole (file : List ℕ) (allowed : ℕ) (s : SurveyFields) : Type 0 where
+  pub long : length file ≤ longest_file
+  pub well_formed : surveyed_freely file ≡ Ok s
+  pub few : length s.frames ≤ allowed
+
+pub survey-whole : (file : List ℕ) (allowed : ℕ) (s : SurveyFields) → survey_of file allowed ≡ Ok s → IsWhole file allowed s
+survey-whole file allowed s e =
+    let whole = survey_of-parts file allowed s e in
+    let parts = surveyed-parts file allowed s whole.1 in
+    let head = head_of file parts.0.first in
+    let rows = rows_of file (frames_from file parts.0) in
+    let few = few-rows file head (class_from parts.0) allowed rows (all_faults-none_sound file head (class_from parts.0) allowed rows parts.1.frames) in
+    let size : length s.frames ≡ length rows = ap (λ (t : SurveyFields). length t.frames) (sym parts.2) ∙ marked-length head rows in
+    record { long = whole.0; well_formed = surveyed-allowed file allowed (length file + 1) s (omega arith) whole.1; few = omega (arith, few, size) }
+
+pub whole-survey : (file : List ℕ) (allowed : ℕ) (s : SurveyFields) → IsWhole file allowed s → survey_of file allowed ≡ Ok s
+whole-survey file allowed s whole =
+    let parts = surveyed-parts file (length file + 1) s whole.well_formed in
+    let start = parts.0 in
+    let read = parts.1 in
+    let head = head_of file start.first in
+    let rows = rows_of file (frames_from file start) in
+    let size : length s.frames ≡ length rows = ap (λ (t : SurveyFields). length t.frames) (sym parts.2) ∙ marked-length head rows in
+    survey_of-short file allowed whole.long
+    ∙ surveyed-told file allowed start (record {
+      start_is = read.start_is;
+      frames = sound-no_all_faults file head (class_from start) allowed rows
+          (few-sound file head (class_from start) (length file + 1) allowed rows (omega (arith, whole.few, size)) (all_faults-none_sound file head (class_from start) (length file + 1) rows read.frames));
+      end = read.end;
+    })
+    ∙ ap Ok parts.2
+
+-- such a file has a frame
+end-frames : (file : List ℕ) (frames : List PlacedFrame) (o : Option SurveyFault) → end_fault file frames o ≡ None → 0 < length frames
+end-frames file (p ∷ ps) o e = omega arith
+end-frames file [] None e = absurd cc
+end-frames file [] (Some fault) e = absurd cc
+
+pub some-frames : (file : List ℕ) (allowed : ℕ) (s : SurveyFields) → survey_of file allowed ≡ Ok s → 0 < length s.frames
+some-frames file allowed s e =
+    let parts = surveyed-parts file allowed s (survey_of-parts file allowed s e).1 in
+    let frames = frames_from file parts.0 in
+    let head = head_of file parts.0.first in
+    let size : length s.frames ≡ length (rows_of file frames) = ap (λ (t : SurveyFields). length t.frames) (sym parts.2) ∙ marked-length head (rows_of file frames) in
+    omega (arith, size, length-map frames (row_of file), end-frames file frames _ parts.1.end)
+
+-- ---- one input
+
+-- of the one name there is one input, of which the choice is legal
+pub record IsOne (Choice : Input → Type 0) (files : Contents) (name : List ℕ) (most : ℕ) : Type 0 where
+  pub input : Input
+  pub is : IsInput files name input
+  pub few : length input.survey.frames ≤ most
+  pub choice : Choice input
+
+pub one-of : (Choice : Input → Type 0) (files : Contents) (name : List ℕ) (most : ℕ) (inputs : List Input) → AreInputs files (name ∷ []) inputs → frames_of inputs ≤ most → OfOne Choice inputs → IsOne Choice files name most
+one-of Choice files name most [] are few choice = absurd are
+one-of Choice files name most (input ∷ []) are few choice = record { input = input; is = are.0; few = omega (arith, few); choice = choice }
+one-of Choice files name most (input ∷ next ∷ inputs) are few choice = absurd choice
+
+-- its survey
+pub one-survey : (Choice : Input → Type 0) (files : Contents) (name : List ℕ) (most : ℕ) (one : IsOne Choice files name most) → survey_of one.input.bytes most ≡ Ok one.input.survey
+one-survey Choice files name most one = whole-survey one.input.bytes most one.input.survey (record { long = one.is.long; well_formed = one.is.well_formed; few = one.few })
+
+pub survey-input : (files : Contents) (name file : List ℕ) (allowed : ℕ) (s : SurveyFields) → files name ≡ Some file → survey_of file allowed ≡ Ok s → IsInput files name (record { bytes = file; survey = s })
+survey-input files name file allowed s there e = let whole = survey-whole file allowed s e in record { there = there; long = whole.long; well_formed = whole.well_formed }

@@ -1,0 +1,150 @@
+-- The inputs of a join, one after the other.
+use Rattle.std.proofs.Common.{◌≡◌, ℕ, zero, suc, ◌+◌, ◌-◌, ◌≤◌, Bool, true, false, cond, List, [], ◌∷◌, length, Option, Some, None, Result, Ok, Err, refl, sym, ◌∙◌, ap, subst, arith}
+use Rattle.std.specs.Prelude.{slice_get, unwrap_or}
+use Rattle.frame_header.specs.Fields.{ClassFields, same_class}
+use Rattle.laid_files.proofs.LaidFrames.{same-class}
+use Rattle.laying.specs.Relaid.{Part}
+use Rattle.outside.specs.Files.{Contents}
+use Rattle.sync_survey.specs.declared.survey_fault.SurveyFault.{SurveyFault}
+use Rattle.sync_survey.specs.Faults.{SurveyFields}
+use Rattle.sync_survey.specs.Survey.{survey_of}
+use Rattle.sync_survey.proofs.PlacedRows.{same_class-is}
+use Rattle.commands.specs.declared.fault.EditFault.{EditFault}
+use Rattle.commands.specs.declared.fault.EditFault.TheVariants.{Refused}
+use Rattle.commands.specs.declared.fault.Refusal.TheVariants.{Differ}
+use Rattle.commands.specs.One.{most_frames}
+use Rattle.commands.specs.Refusing.{then_made}
+use Rattle.commands.proofs.RefusingLaws.{then_ok}
+use Rattle.joining.specs.Join.{whole_part, may_follow, part_by, part_of, parts_from, parts_of}
+use Rattle.joining.specs.Inputs.{Follows}
+use Rattle.legality.specs.Inputs.{Input, AreInputs, frames_of}
+use Rattle.legality.specs.Choices.{AreOfOneClass}
+use Rattle.legality.proofs.InputLaws.{survey-whole, whole-survey, survey-input}
+
+-- ---- classes
+
+-- each is of the class of the first
+abbrev Follow : Option ClassFields → List Input → Type 0
+Follow first [] = Unit {0}
+Follow first (input ∷ inputs) = Follows first input.survey.class × Follow (Some (unwrap_or first input.survey.class)) inputs
+
+follow-class : (class : ClassFields) (inputs : List Input) → Follow (Some class) inputs → (i : ℕ) (p : Input) → slice_get inputs i ≡ Some p → p.survey.class ≡ class
+follow-class class [] follow i p is = absurd cc
+follow-class class (input ∷ inputs) follow zero p is = let same : input ≡ p = cc in subst (λ (q : Input). q.survey.class ≡ class) same follow.0
+follow-class class (input ∷ inputs) follow (suc i) p is = follow-class class inputs follow.1 i p is
+
+class-follow : (class : ClassFields) (inputs : List Input) → ((i : ℕ) (p : Input) → slice_get inputs i ≡ Some p → p.survey.class ≡ class) → Follow (Some class) inputs
+class-follow class [] each = tt
+class-follow class (input ∷ inputs) each = (each 0 input refl, class-follow class inputs (λ i p is. each (suc i) p is))
+
+each-first : (inputs : List Input) → Follow None inputs → (first : Input) → slice_get inputs 0 ≡ Some first → (i : ℕ) (p : Input) → slice_get inputs i ≡ Some p → p.survey.class ≡ first.survey.class
+each-first [] follow first is i p here = absurd cc
+each-first (input ∷ inputs) follow first is zero p here =
+    let same : first ≡ p = cc in
+    subst (λ (q : Input). q.survey.class ≡ first.survey.class) same refl
+each-first (input ∷ inputs) follow first is (suc i) p here =
+    let same : input ≡ first = cc in
+    follow-class input.survey.class inputs follow.1 i p here ∙ ap (λ (q : Input). q.survey.class) same
+
+one-class : (inputs : List Input) → Follow None inputs → AreOfOneClass inputs
+one-class [] follow i j p q is here = absurd cc
+one-class (input ∷ inputs) follow i j p q is here =
+    each-first (input ∷ inputs) follow input refl i p is ∙ sym (each-first (input ∷ inputs) follow input refl j q here)
+
+class-one : (inputs : List Input) → AreOfOneClass inputs → Follow None inputs
+class-one [] one = tt
+class-one (input ∷ inputs) one = (tt, class-follow input.survey.class inputs (λ i p is. one (suc i) 0 p input is refl))
+
+-- ---- one input
+
+may-follows : (first : Option ClassFields) (class : ClassFields) → may_follow first class ≡ true → Follows first class
+may-follows None class may = tt
+may-follows (Some first) class may = same_class-is class first may
+
+follows-may : (first : Option ClassFields) (class : ClassFields) → Follows first class → may_follow first class ≡ true
+follows-may None class follows = refl
+follows-may (Some first) class follows = ap (λ c. same_class c first) follows ∙ same-class first
+
+pub record IsPart (first : Option ClassFields) (allowed : ℕ) (o : Option (List ℕ)) (part : Part) : Type 0 where
+  pub file : List ℕ
+  pub survey : SurveyFields
+  pub there : o ≡ Some file
+  pub surveyed : survey_of file allowed ≡ Ok survey
+  pub follows : Follows first survey.class
+  pub whole : whole_part file survey ≡ part
+
+part-is : (place : ℕ) (first : Option ClassFields) (allowed : ℕ) (o : Option (List ℕ)) (part : Part) → part_of place first allowed o ≡ Ok part → IsPart first allowed o part
+part-is place first allowed None part e = absurd cc
+part-is place first allowed (Some file) part e = at (survey_of file allowed) refl e
+  where
+    made : (s : SurveyFields) → survey_of file allowed ≡ Ok s → (b : Bool) → may_follow first s.class ≡ b → cond b (Ok (whole_part file s)) (Err (Refused (Differ place))) ≡ Ok part → IsPart first allowed (Some file) part
+    made s surveyed true may e = record { file = file; survey = s; there = refl; surveyed = surveyed; follows = may-follows first s.class may; whole = cc }
+    made s surveyed false may e = absurd cc
+
+    at : (r : Result SurveyFields SurveyFault) → survey_of file allowed ≡ r → part_by place first file r ≡ Ok part → IsPart first allowed (Some file) part
+    at (Err fault) surveyed e = absurd cc
+    at (Ok s) surveyed e = made s surveyed (may_follow first s.class) refl e
+
+is-part : (place : ℕ) (first : Option ClassFields) (allowed : ℕ) (o : Option (List ℕ)) (file : List ℕ) (s : SurveyFields) → o ≡ Some file → survey_of file allowed ≡ Ok s → Follows first s.class → part_of place first allowed o ≡ Ok (whole_part file s)
+is-part place first allowed o file s there surveyed follows =
+    ap (part_of place first allowed) there ∙ ap (part_by place first file) surveyed ∙ ap (λ b. cond b (Ok (whole_part file s)) (Err (Refused (Differ place)))) (follows-may first s.class follows)
+
+-- ---- all inputs
+
+pub record IsJoin (files : Contents) (first : Option ClassFields) (allowed : ℕ) (names : List (List ℕ)) : Type 0 where
+  pub inputs : List Input
+  pub are : AreInputs files names inputs
+  pub few : frames_of inputs ≤ allowed
+  pub follow : Follow first inputs
+
+parts-join : (files : Contents) (place : ℕ) (first : Option ClassFields) (allowed : ℕ) (names : List (List ℕ)) (parts : List Part) → parts_from place first allowed files names ≡ Ok parts → IsJoin files first allowed names
+unfolding parts_from
+parts-join files place first allowed [] parts e = record { inputs = []; are = tt; few = omega arith; follow = tt }
+parts-join files place first allowed (name ∷ names) parts e =
+    let one = then_ok (part_of place first allowed (files name)) _ parts e in
+    let part : Part = one.0 in
+    let rest = then_ok (parts_from (place + 1) (Some (unwrap_or first part.survey.class)) (allowed - length part.survey.frames) files names) _ parts one.2 in
+    let is = part-is place first allowed (files name) part one.1 in
+    let input : Input = record { bytes = is.file; survey = is.survey } in
+    let same : ◌≡◌ {A = SurveyFields} part.survey is.survey = ap (λ (p : Part). p.survey) (sym is.whole) in
+    let more = parts-join files (place + 1) (Some (unwrap_or first part.survey.class)) (allowed - length part.survey.frames) names rest.0 rest.1 in
+    let few = (survey-whole is.file allowed is.survey is.surveyed).few in
+    record {
+      inputs = input ∷ more.inputs;
+      are = (survey-input files name is.file allowed is.survey is.there is.surveyed, more.are);
+      few = omega (arith, more.few, few, ap (λ (s : SurveyFields). length s.frames) same);
+      follow = (is.follows, subst (λ (s : SurveyFields). Follow (Some (unwrap_or first s.class)) more.inputs) same more.follow);
+    }
+
+join-parts : (files : Contents) (place : ℕ) (first : Option ClassFields) (allowed : ℕ) (names : List (List ℕ)) (inputs : List Input) → AreInputs files names inputs → frames_of inputs ≤ allowed → Follow first inputs
+    → (parts : List Part) × (parts_from place first allowed files names ≡ Ok parts)
+unfolding parts_from
+join-parts files place first allowed [] [] are few follow = ([], refl)
+join-parts files place first allowed [] (input ∷ inputs) are few follow = absurd are
+join-parts files place first allowed (name ∷ names) [] are few follow = absurd are
+join-parts files place first allowed (name ∷ names) (input ∷ inputs) are few follow =
+    let s = input.survey in
+    let surveyed = whole-survey input.bytes allowed s (record { long = are.0.long; well_formed = are.0.well_formed; few = omega (arith, few) }) in
+    let part : Part = whole_part input.bytes s in
+    let rest = join-parts files (place + 1) (Some (unwrap_or first s.class)) (allowed - length s.frames) names inputs are.1 (omega (arith, few)) follow.1 in (
+      part ∷ rest.0,
+      ap
+          (λ (r : Result Part EditFault). then_made r
+          (λ p. then_made (parts_from (place + 1) (Some (unwrap_or first p.survey.class)) (allowed - length p.survey.frames) files names) (λ parts. Ok (p ∷ parts))))
+          (is-part place first allowed (files name) input.bytes s are.0.there surveyed follow.0)
+          ∙ ap (λ (r : Result (List Part) EditFault). then_made r (λ parts. Ok (part ∷ parts))) rest.1,
+    )
+
+pub record AreJoined (files : Contents) (names : List (List ℕ)) : Type 0 where
+  pub inputs : List Input
+  pub are : AreInputs files names inputs
+  pub few : frames_of inputs ≤ most_frames
+  pub one : AreOfOneClass inputs
+
+pub parts-joined : (files : Contents) (names : List (List ℕ)) (parts : List Part) → parts_of files names ≡ Ok parts → AreJoined files names
+parts-joined files names parts e =
+    let is = parts-join files 0 None most_frames names parts e in
+    record { inputs = is.inputs; are = is.are; few = is.few; one = one-class is.inputs is.follow }
+
+pub joined-parts : (files : Contents) (names : List (List ℕ)) (inputs : List Input) → AreInputs files names inputs → frames_of inputs ≤ most_frames → AreOfOneClass inputs → (parts : List Part) × (parts_of files names ≡ Ok parts)
+joined-parts files names inputs are few one = join-parts files 0 None most_frames names inputs are few (class-one inputs one)

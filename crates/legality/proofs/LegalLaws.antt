@@ -1,0 +1,432 @@
+-- What is legal is accepted, and what is accepted is legal, command by command.
+use Rattle.std.proofs.Common.{◌≡◌, ◌↔◌, ℕ, ◌+◌, ◌≤◌, Bool, Contains, List, [], ◌∷◌, ◌++◌, length, Option, Some, None, Result, Ok, Err, refl, sym, ◌∙◌, ap, subst, arith, append-nil}
+use Rattle.std.proofs.lemmas.List.Elements.{All-cons}
+use Rattle.outside.specs.Files.{Contents}
+use Rattle.cue_sheet.specs.declared.place.Place.{Place}
+use Rattle.cue_sheet.specs.declared.place.Place.TheVariants.{End}
+use Rattle.sync_survey.specs.declared.survey_fault.SurveyFault.{SurveyFault}
+use Rattle.sync_survey.specs.Faults.{SurveyFields}
+use Rattle.sync_survey.specs.Survey.{survey_of}
+use Rattle.commands.specs.declared.fault.EditFault.{EditFault}
+use Rattle.commands.specs.Command.{Made}
+use Rattle.commands.specs.One.{most_frames, Making, made_where, clash_in}
+use Rattle.commands.specs.Refusing.{then_made}
+use Rattle.commands.proofs.RefusingLaws.{then_ok}
+use Rattle.moved_gains.specs.declared.shift.Shift.{Shift}
+use Rattle.moved_gains.specs.Change.{changed}
+use Rattle.gain_edits.specs.Change.{changed_with, changing}
+use Rattle.gain_edits.specs.Gain.{gain_change, gain_command}
+use Rattle.gain_edits.specs.Undo.{undo_change, undo_command}
+use Rattle.fading.specs.Fade.{fade_of, fade_change, fade_task, fade_command}
+use Rattle.frame_edits.specs.declared.chosen.Slots.{Slots}
+use Rattle.frame_edits.specs.declared.chosen.Slots.TheVariants.{Least as LeastSlots}
+use Rattle.frame_edits.specs.Chosen.{chosen_file, laid_with, choosing, cut_choice, all_choice, slots_of, cut_command}
+use Rattle.joining.specs.Join.{joined_file, parts_of, join_task, join_command}
+use Rattle.laying.specs.Relaid.{Part}
+use Rattle.listing.specs.Listing.{listing, listed_by, listed_where, list_command}
+use Rattle.pack_mode.specs.declared.mode.PackMode.{PackMode}
+use Rattle.pack_mode.specs.declared.mode.PackMode.TheVariants.{Least, Best, Constant, Floor}
+use Rattle.packing.specs.declared.mode.Rates.TheVariants.{Only, From}
+use Rattle.packing.specs.Packing.{packing}
+use Rattle.packing.specs.Rates.{rates_plan}
+use Rattle.packing.specs.Rules.{best_planning, most_best, unless_fault, limited_by}
+use Rattle.packing.specs.Modes.{pack_task, pack_mode_command}
+use Rattle.splitting.specs.Split.{piece_names, places_where, given, told_by, split_at_command, split_by_command}
+use Rattle.job_words.specs.Asked.{Help, Version, ListFile, Gain, Undo, Cut, Pack, SplitAt, SplitBy, Join, Drill, Fade}
+use Rattle.legality.specs.Inputs.{AreApart, Input, AreInputs, frames_of}
+use Rattle.legality.specs.Choices.{IsLegalGain, IsLegalUndo, IsLegalFade, IsRange, ArePieces, IsLegalSheet, IsLegalPack}
+use Rattle.legality.specs.Legal.{most_in_mode, IsLegalFor}
+use Rattle.legality.specs.Laws.{Makes, LegalIsAccepted}
+use Rattle.legality.proofs.InputLaws.{no-clash_apart, apart_no-clash, survey-whole, whole-survey, IsOne, one-of, one-survey, survey-input}
+use Rattle.legality.proofs.MadeLaws.{makes-parts, parts-make, made-of, of-made}
+use Rattle.legality.proofs.GainLaws.{gain-legal, legal-gain, undo-legal, legal-undo, with-parts}
+use Rattle.legality.proofs.FadeLaws.{fade-legal, legal-fade}
+use Rattle.legality.proofs.SplitLaws.{cut-range, range-cut, with-parts as laid-parts, pieces-chosen, split-pieces, split-parts, parts-split, cue-parts, parts-cue}
+use Rattle.legality.proofs.PackLaws.{all_with, choose-all, best-made, constant-legal, legal-constant, floor-legal, legal-floor}
+use Rattle.legality.proofs.JoinLaws.{parts-joined, joined-parts}
+
+-- ---- nothing is read
+
+no-names : (outputs : List (List ℕ)) → AreApart [] outputs
+no-names outputs = λ k d within. absurd (omega (arith, within))
+
+pub help-legal : (files : Contents) → IsLegalFor Help files
+help-legal files = record { names = no-names []; inputs = []; are = tt; few = omega arith; choices = tt }
+
+pub version-legal : (files : Contents) → IsLegalFor Version files
+version-legal files = record { names = no-names []; inputs = []; are = tt; few = omega arith; choices = tt }
+
+pub drill-legal : (seed count : ℕ) (files : Contents) → IsLegalFor (Drill seed count) files
+drill-legal seed count files = record { names = no-names []; inputs = []; are = tt; few = omega arith; choices = tt }
+
+-- ---- the survey of an input
+
+few-one : (n most : ℕ) → n ≤ most → n + 0 ≤ most
+few-one n most few = omega (arith, few)
+
+-- ---- list
+
+no-outputs : (input : List ℕ) → AreApart (input ∷ []) []
+no-outputs input = All-cons (λ name. Contains [] name → ⊥) input [] (λ has. omega (arith, has.1)) (no-names [])
+
+list-parts : (files : Contents) (input : List ℕ) (o : Option (List ℕ)) (made : Made) → files input ≡ o → listed_where o ≡ Ok made → IsLegalFor (ListFile input) files
+list-parts files input None made there e = absurd cc
+list-parts files input (Some file) made there e = at (survey_of file most_frames) refl e
+  where
+    at : (r : Result SurveyFields SurveyFault) → survey_of file most_frames ≡ r → listed_by r ≡ Ok made → IsLegalFor (ListFile input) files
+    at (Err fault) surveyed e = absurd cc
+    at (Ok s) surveyed e = record {
+      names = no-outputs input;
+      inputs = record { bytes = file; survey = s } ∷ [];
+      are = (survey-input files input file most_frames s there surveyed, tt);
+      few = few-one (length s.frames) most_frames (survey-whole file most_frames s surveyed).few;
+      choices = tt;
+    }
+
+parts-list : (files : Contents) (input : List ℕ) → IsLegalFor (ListFile input) files → Makes (list_command input) files
+parts-list files input legal = at legal.inputs legal.are legal.few
+  where
+    at : (inputs : List Input) → AreInputs files (input ∷ []) inputs → frames_of inputs ≤ most_frames → Makes (list_command input) files
+    at [] are few = absurd are
+    at (i ∷ j ∷ inputs) are few = absurd are.1
+    at (i ∷ []) are few =
+        let surveyed = whole-survey i.bytes most_frames i.survey (record { long = are.0.long; well_formed = are.0.well_formed; few = omega (arith, few) }) in
+        (record { outputs = []; text = listing i.survey }, ap listed_where are.0.there ∙ ap listed_by surveyed)
+
+-- ---- a file of one input
+
+-- what is made of a file, and the choice by which it is
+module _ (make : Making) (Choice : Input → Type 0)
+    (legal : (file : List ℕ) (s : SurveyFields) (bytes : List ℕ) → survey_of file most_frames ≡ Ok s → make file s ≡ Ok bytes → Choice (record { bytes = file; survey = s }))
+    (makes : (file : List ℕ) (s : SurveyFields) → survey_of file most_frames ≡ Ok s → Choice (record { bytes = file; survey = s }) → (bytes : List ℕ) × (make file s ≡ Ok bytes))
+    (files : Contents) (input : List ℕ) where
+  pub made-one : (bytes : List ℕ) → made_where make (files input) ≡ Ok bytes → IsOne Choice files input most_frames
+  made-one bytes e =
+      let made = made-of make files input bytes e in
+      record {
+        input = record { bytes = made.file; survey = made.survey };
+        is = survey-input files input made.file most_frames made.survey made.there made.surveyed;
+        few = (survey-whole made.file most_frames made.survey made.surveyed).few;
+        choice = legal made.file made.survey made.bytes made.surveyed made.made;
+      }
+
+  pub one-made : IsOne Choice files input most_frames → (bytes : List ℕ) × (made_where make (files input) ≡ Ok bytes)
+  one-made one =
+      let surveyed = one-survey Choice files input most_frames one in
+      let made = makes one.input.bytes one.input.survey surveyed one.choice in
+      (made.0, of-made make files input one.input.bytes one.input.survey one.is.there surveyed ∙ made.1)
+
+-- ---- gain and undo
+
+module _ (shift : Shift) (tags : Bool) where
+  gain-choice : (file : List ℕ) (s : SurveyFields) (bytes : List ℕ) → survey_of file most_frames ≡ Ok s → changing (gain_change shift tags) file s ≡ Ok bytes → IsLegalGain shift tags (record { bytes = file; survey = s })
+  gain-choice file s bytes surveyed e = let made = with-parts file s (gain_change shift tags file s) bytes e in gain-legal shift file s tags made.0 made.1
+
+  choice-gain : (file : List ℕ) (s : SurveyFields) → survey_of file most_frames ≡ Ok s → IsLegalGain shift tags (record { bytes = file; survey = s }) → (bytes : List ℕ) × (changing (gain_change shift tags) file s ≡ Ok bytes)
+  choice-gain file s surveyed legal = let change = legal-gain shift file s tags legal in (changed change.0 file s, ap (changed_with file s) change.1)
+
+  gain-law : (files : Contents) (input output : List ℕ) → IsLegalFor (Gain shift tags input output) files ↔ Makes (gain_command shift tags input output) files
+  gain-law files input output = (
+    (λ legal.
+        let one = one-of (IsLegalGain shift tags) files input most_frames legal.inputs legal.are legal.few legal.choices in
+        let made = one-made (changing (gain_change shift tags)) (IsLegalGain shift tags) gain-choice choice-gain files input one in
+        parts-make _ output files made.0 (apart_no-clash (output ∷ []) (input ∷ []) 0 legal.names) made.1),
+    (λ made.
+        let parts = makes-parts _ output files made in
+        let one = made-one (changing (gain_change shift tags)) (IsLegalGain shift tags) gain-choice choice-gain files input parts.1 parts.2 in
+        record {
+          names = no-clash_apart (output ∷ []) (input ∷ []) 0 parts.0;
+          inputs = one.input ∷ [];
+          are = (one.is, tt);
+          few = few-one (length one.input.survey.frames) most_frames one.few;
+          choices = one.choice;
+        }),
+  )
+
+undo-choice : (file : List ℕ) (s : SurveyFields) (bytes : List ℕ) → survey_of file most_frames ≡ Ok s → changing undo_change file s ≡ Ok bytes → IsLegalUndo (record { bytes = file; survey = s })
+undo-choice file s bytes surveyed e = let made = with-parts file s (undo_change file s) bytes e in undo-legal file s made.0 made.1
+
+choice-undo : (file : List ℕ) (s : SurveyFields) → survey_of file most_frames ≡ Ok s → IsLegalUndo (record { bytes = file; survey = s }) → (bytes : List ℕ) × (changing undo_change file s ≡ Ok bytes)
+choice-undo file s surveyed legal = let change = legal-undo file s legal in (changed change.0 file s, ap (changed_with file s) change.1)
+
+undo-law : (files : Contents) (input output : List ℕ) → IsLegalFor (Undo input output) files ↔ Makes (undo_command input output) files
+undo-law files input output = (
+  (λ legal.
+      let one = one-of IsLegalUndo files input most_frames legal.inputs legal.are legal.few legal.choices in
+      let made = one-made (changing undo_change) IsLegalUndo undo-choice choice-undo files input one in
+      parts-make _ output files made.0 (apart_no-clash (output ∷ []) (input ∷ []) 0 legal.names) made.1),
+  (λ made.
+      let parts = makes-parts _ output files made in
+      let one = made-one (changing undo_change) IsLegalUndo undo-choice choice-undo files input parts.1 parts.2 in
+      record {
+        names = no-clash_apart (output ∷ []) (input ∷ []) 0 parts.0;
+        inputs = one.input ∷ [];
+        are = (one.is, tt);
+        few = few-one (length one.input.survey.frames) most_frames one.few;
+        choices = one.choice;
+      }),
+)
+
+-- ---- fade
+
+module _ (sheet : List ℕ) (back : Bool) (files : Contents) where
+  abbrev fade_make : Making
+  fade_make = changing (fade_change (files sheet) back)
+
+  fade-choice : (file : List ℕ) (s : SurveyFields) (bytes : List ℕ) → survey_of file most_frames ≡ Ok s → fade_make file s ≡ Ok bytes → IsLegalFade sheet back files (record { bytes = file; survey = s })
+  fade-choice file s bytes surveyed e = let made = with-parts file s (fade_of (files sheet) back s) bytes e in fade-legal sheet back files file s surveyed made.0 made.1
+
+  choice-fade : (file : List ℕ) (s : SurveyFields) → survey_of file most_frames ≡ Ok s → IsLegalFade sheet back files (record { bytes = file; survey = s }) → (bytes : List ℕ) × (fade_make file s ≡ Ok bytes)
+  choice-fade file s surveyed legal = let change = legal-fade sheet back files file s surveyed legal in (changed change.0 file s, ap (changed_with file s) change.1)
+
+  fade-law : (input output : List ℕ) → IsLegalFor (Fade back input output sheet) files ↔ Makes (fade_command sheet back input output) files
+  fade-law input output = (
+    (λ legal.
+        let one = one-of (IsLegalFade sheet back files) files input most_frames legal.inputs legal.are legal.few legal.choices in
+        let made = one-made fade_make (IsLegalFade sheet back files) fade-choice choice-fade files input one in
+        parts-make (fade_task sheet back input) output files made.0 (apart_no-clash (output ∷ []) (input ∷ sheet ∷ []) 0 legal.names) made.1),
+    (λ made.
+        let parts = makes-parts (fade_task sheet back input) output files made in
+        let one = made-one fade_make (IsLegalFade sheet back files) fade-choice choice-fade files input parts.1 parts.2 in
+        record {
+          names = no-clash_apart (output ∷ []) (input ∷ sheet ∷ []) 0 parts.0;
+          inputs = one.input ∷ [];
+          are = (one.is, tt);
+          few = few-one (length one.input.survey.frames) most_frames one.few;
+          choices = one.choice;
+        }),
+  )
+
+-- ---- cut
+
+module _ (from to : Place) (slots : Slots) where
+  abbrev RangeOf : Input → Type 0
+  RangeOf i = IsRange i.survey from to
+
+  cut-choice : (file : List ℕ) (s : SurveyFields) (bytes : List ℕ) → survey_of file most_frames ≡ Ok s → choosing (cut_choice from to slots) file s ≡ Ok bytes → RangeOf (record { bytes = file; survey = s })
+  cut-choice file s bytes surveyed e = let made = laid-parts file s (cut_choice from to slots file s) bytes e in cut-range from to slots file s made.0 made.1
+
+  choice-cut : (file : List ℕ) (s : SurveyFields) → survey_of file most_frames ≡ Ok s → RangeOf (record { bytes = file; survey = s }) → (bytes : List ℕ) × (choosing (cut_choice from to slots) file s ≡ Ok bytes)
+  choice-cut file s surveyed legal = let chosen = range-cut from to slots file s legal in (chosen_file chosen.0 file s, ap (laid_with file s) chosen.1)
+
+cut-law : (files : Contents) (from to : Place) (least : Bool) (input output : List ℕ) → IsLegalFor (Cut from to least input output) files ↔ Makes (cut_command from to least input output) files
+cut-law files from to least input output =
+    let slots = slots_of least in (
+      (λ legal.
+          let one = one-of (λ i. IsRange i.survey from to) files input most_frames legal.inputs legal.are legal.few legal.choices in
+          let made = one-made (choosing (cut_choice from to slots)) (λ i. IsRange i.survey from to) (cut-choice from to slots) (choice-cut from to slots) files input one in
+          parts-make _ output files made.0 (apart_no-clash (output ∷ []) (input ∷ []) 0 legal.names) made.1),
+      (λ made.
+          let parts = makes-parts _ output files made in
+          let one = made-one (choosing (cut_choice from to slots)) (λ i. IsRange i.survey from to) (cut-choice from to slots) (choice-cut from to slots) files input parts.1 parts.2 in
+          record {
+            names = no-clash_apart (output ∷ []) (input ∷ []) 0 parts.0;
+            inputs = one.input ∷ [];
+            are = (one.is, tt);
+            few = few-one (length one.input.survey.frames) most_frames one.few;
+            choices = one.choice;
+          }),
+    )
+
+-- ---- pack
+
+-- what is made of a file in a mode
+abbrev making_in : PackMode → Making
+making_in Least = choosing (all_choice LeastSlots)
+making_in Best = packing best_planning
+making_in (Constant rate) = packing (rates_plan (Only rate))
+making_in (Floor rate) = packing (rates_plan (From rate))
+
+abbrev LegalIn : PackMode → Input → Type 0
+LegalIn mode i = IsLegalPack mode i.survey
+
+pack-choice : (mode : PackMode) (file : List ℕ) (s : SurveyFields) (bytes : List ℕ) → survey_of file most_frames ≡ Ok s → making_in mode file s ≡ Ok bytes → LegalIn mode (record { bytes = file; survey = s })
+pack-choice Least file s bytes surveyed e = tt
+pack-choice Best file s bytes surveyed e = tt
+pack-choice (Constant rate) file s bytes surveyed e = constant-legal file s surveyed rate bytes e
+pack-choice (Floor rate) file s bytes surveyed e = floor-legal file s surveyed rate bytes e
+
+choice-pack : (mode : PackMode) (file : List ℕ) (s : SurveyFields) → survey_of file most_frames ≡ Ok s → LegalIn mode (record { bytes = file; survey = s }) → (bytes : List ℕ) × (making_in mode file s ≡ Ok bytes)
+choice-pack Least file s surveyed legal = (chosen_file (all_with file s surveyed LeastSlots) file s, ap (laid_with file s) (choose-all file s surveyed LeastSlots))
+choice-pack Best file s surveyed legal = best-made file s surveyed
+choice-pack (Constant rate) file s surveyed legal = legal-constant file s surveyed rate legal
+choice-pack (Floor rate) file s surveyed legal = legal-floor file s surveyed rate legal
+
+-- the shortest packing has a limit of its own
+module _ (files : Contents) (input : List ℕ) where
+  best-parts : (o : Option (List ℕ)) (bytes : List ℕ) → files input ≡ o → limited_by (Some most_best) o (made_where (packing best_planning) o) ≡ Ok bytes → IsOne (LegalIn Best) files input most_best
+  best-parts None bytes there e = absurd cc
+  best-parts (Some file) bytes there e = at (survey_of file most_best) refl e
+    where
+      at : (r : Result SurveyFields SurveyFault) → survey_of file most_best ≡ r → unless_fault r (made_where (packing best_planning) (Some file)) ≡ Ok bytes → IsOne (LegalIn Best) files input most_best
+      at (Err fault) surveyed e = absurd cc
+      at (Ok s) surveyed e = record {
+        input = record { bytes = file; survey = s };
+        is = survey-input files input file most_best s there surveyed;
+        few = (survey-whole file most_best s surveyed).few;
+        choice = tt;
+      }
+
+  parts-best : IsOne (LegalIn Best) files input most_best → (bytes : List ℕ) × (limited_by (Some most_best) (files input) (made_where (packing best_planning) (files input)) ≡ Ok bytes)
+  parts-best one =
+      let file = one.input.bytes in
+      let s = one.input.survey in
+      let surveyed = one-survey (LegalIn Best) files input most_best one in
+      let freely = whole-survey file most_frames s (record { long = one.is.long; well_formed = one.is.well_formed; few = omega (arith, one.few) }) in
+      let made = best-made file s freely in (
+        made.0,
+        ap (λ o. limited_by (Some most_best) o (made_where (packing best_planning) (files input))) one.is.there
+            ∙ ap (λ r. unless_fault r (made_where (packing best_planning) (files input))) surveyed
+            ∙ of-made (packing best_planning) files input file s one.is.there freely
+            ∙ made.1,
+      )
+
+  -- the task of a mode
+  one-packed : (mode : PackMode) → IsOne (LegalIn mode) files input (most_in_mode mode) → (bytes : List ℕ) × ((pack_task mode input).makes files ≡ Ok bytes)
+  one-packed Least one = one-made (making_in Least) (LegalIn Least) (pack-choice Least) (choice-pack Least) files input one
+  one-packed Best one = parts-best one
+  one-packed (Constant rate) one = one-made (making_in (Constant rate)) (LegalIn (Constant rate)) (pack-choice (Constant rate)) (choice-pack (Constant rate)) files input one
+  one-packed (Floor rate) one = one-made (making_in (Floor rate)) (LegalIn (Floor rate)) (pack-choice (Floor rate)) (choice-pack (Floor rate)) files input one
+
+  packed-one : (mode : PackMode) (bytes : List ℕ) → (pack_task mode input).makes files ≡ Ok bytes → IsOne (LegalIn mode) files input (most_in_mode mode)
+  packed-one Least bytes e = made-one (making_in Least) (LegalIn Least) (pack-choice Least) (choice-pack Least) files input bytes e
+  packed-one Best bytes e = best-parts (files input) bytes refl e
+  packed-one (Constant rate) bytes e = made-one (making_in (Constant rate)) (LegalIn (Constant rate)) (pack-choice (Constant rate)) (choice-pack (Constant rate)) files input bytes e
+  packed-one (Floor rate) bytes e = made-one (making_in (Floor rate)) (LegalIn (Floor rate)) (pack-choice (Floor rate)) (choice-pack (Floor rate)) files input bytes e
+
+  -- it reads the input alone
+  free-in : (mode : PackMode) (output : List ℕ) → AreApart (input ∷ []) (output ∷ []) → clash_in (pack_task mode input) output ≡ None
+  free-in Least output apart = apart_no-clash (output ∷ []) (input ∷ []) 0 apart
+  free-in Best output apart = apart_no-clash (output ∷ []) (input ∷ []) 0 apart
+  free-in (Constant rate) output apart = apart_no-clash (output ∷ []) (input ∷ []) 0 apart
+  free-in (Floor rate) output apart = apart_no-clash (output ∷ []) (input ∷ []) 0 apart
+
+  in-apart : (mode : PackMode) (output : List ℕ) → clash_in (pack_task mode input) output ≡ None → AreApart (input ∷ []) (output ∷ [])
+  in-apart Least output free = no-clash_apart (output ∷ []) (input ∷ []) 0 free
+  in-apart Best output free = no-clash_apart (output ∷ []) (input ∷ []) 0 free
+  in-apart (Constant rate) output free = no-clash_apart (output ∷ []) (input ∷ []) 0 free
+  in-apart (Floor rate) output free = no-clash_apart (output ∷ []) (input ∷ []) 0 free
+
+  pack-law : (mode : PackMode) (output : List ℕ) → IsLegalFor (Pack mode input output) files ↔ Makes (pack_mode_command mode input output) files
+  pack-law mode output = (
+    (λ legal.
+        let one = one-of (LegalIn mode) files input (most_in_mode mode) legal.inputs legal.are legal.few legal.choices in
+        let made = one-packed mode one in
+        parts-make (pack_task mode input) output files made.0 (free-in mode output legal.names) made.1),
+    (λ made.
+        let parts = makes-parts (pack_task mode input) output files made in
+        let one = packed-one mode parts.1 parts.2 in
+        record {
+          names = in-apart mode output parts.0;
+          inputs = one.input ∷ [];
+          are = (one.is, tt);
+          few = few-one (length one.input.survey.frames) (most_in_mode mode) one.few;
+          choices = one.choice;
+        }),
+  )
+
+-- ---- split
+
+abbrev found_at : List Place → Result (List Place) EditFault
+found_at places = Ok places
+
+given-found : (places found : List Place) → found_at places ≡ found_at found → found ≡ places
+given-found places found e = cc
+
+split-at-law : (files : Contents) (input prefix : List ℕ) (places : List Place) → IsLegalFor (SplitAt input prefix places) files ↔ Makes (split_at_command places input prefix) files
+split-at-law files input prefix places = (
+  (λ legal.
+      let one = one-of (λ i. ArePieces i.survey places) files input most_frames legal.inputs legal.are legal.few legal.choices in
+      let cs = pieces-chosen one.input.survey.class (length one.input.survey.frames) places one.choice in
+      parts-split files prefix input (given places) [] (apart_no-clash (piece_names prefix) (input ∷ []) 0 legal.names)
+      (record {
+        file = one.input.bytes;
+        survey = one.input.survey;
+        there = one.is.there;
+        surveyed = one-survey (λ i. ArePieces i.survey places) files input most_frames one;
+        found = places;
+        placed = refl;
+        chosen = cs.0;
+        picked = cs.1;
+      })),
+  (λ made.
+      let parts = split-parts files prefix input (given places) [] made.0 made.1 in
+      let is = parts.1.0 in
+      let whole = survey-whole is.file most_frames is.survey is.surveyed in
+      let same : is.found ≡ places = given-found places is.found is.placed in
+      record {
+        names = no-clash_apart (piece_names prefix) (input ∷ []) 0 parts.0;
+        inputs = record { bytes = is.file; survey = is.survey } ∷ [];
+        are = (survey-input files input is.file most_frames is.survey is.there is.surveyed, tt);
+        few = few-one (length is.survey.frames) most_frames whole.few;
+        choices = subst (ArePieces is.survey) same (split-pieces files input (Ok places) is);
+      }),
+)
+
+split-by-law : (files : Contents) (input prefix sheet : List ℕ) → IsLegalFor (SplitBy input prefix sheet) files ↔ Makes (split_by_command input sheet prefix) files
+split-by-law files input prefix sheet = (
+  (λ legal.
+      let one = one-of (IsLegalSheet sheet files) files input most_frames legal.inputs legal.are legal.few legal.choices in
+      let cue = one.choice in
+      let cs = pieces-chosen one.input.survey.class (length one.input.survey.frames) (cue.starts ++ End ∷ []) cue.pieces in
+      parts-split files prefix input (told_by sheet) (sheet ∷ []) (apart_no-clash (piece_names prefix) (input ∷ sheet ∷ []) 0 legal.names)
+      (record {
+        file = one.input.bytes;
+        survey = one.input.survey;
+        there = one.is.there;
+        surveyed = one-survey (IsLegalSheet sheet files) files input most_frames one;
+        found = cue.starts ++ End ∷ [];
+        placed = parts-cue (files sheet) (cue.starts ++ End ∷ []) (record { bytes = cue.bytes; there = cue.there; small = cue.small; starts = cue.starts; read = cue.read; all = refl });
+        chosen = cs.0;
+        picked = cs.1;
+      })),
+  (λ made.
+      let parts = split-parts files prefix input (told_by sheet) (sheet ∷ []) made.0 made.1 in
+      let is = parts.1.0 in
+      let whole = survey-whole is.file most_frames is.survey is.surveyed in
+      let cue = cue-parts (files sheet) is.found is.placed in
+      record {
+        names = no-clash_apart (piece_names prefix) (input ∷ sheet ∷ []) 0 parts.0;
+        inputs = record { bytes = is.file; survey = is.survey } ∷ [];
+        are = (survey-input files input is.file most_frames is.survey is.there is.surveyed, tt);
+        few = few-one (length is.survey.frames) most_frames whole.few;
+        choices = record { bytes = cue.bytes; there = cue.there; small = cue.small; starts = cue.starts; read = cue.read; pieces = subst (ArePieces is.survey) (sym cue.all) (split-pieces files input (places_where (files sheet)) is) };
+      }),
+)
+
+-- ---- join
+
+join-law : (files : Contents) (output : List ℕ) (inputs : List (List ℕ)) → IsLegalFor (Join output inputs) files ↔ Makes (join_command output inputs) files
+join-law files output inputs = (
+  (λ legal.
+      let parts = joined-parts files inputs legal.inputs legal.are legal.few legal.choices in
+      parts-make (join_task inputs) output files (joined_file parts.0)
+      (apart_no-clash (output ∷ []) inputs 0 (subst (λ (names : List (List ℕ)). AreApart names (output ∷ [])) (append-nil inputs) legal.names))
+      (ap (λ (r : Result (List Part) EditFault). then_made r (λ parts. Ok (joined_file parts))) parts.1)),
+  (λ made.
+      let one = makes-parts (join_task inputs) output files made in
+      let parts = then_ok (parts_of files inputs) (λ parts. Ok (joined_file parts)) one.1 one.2 in
+      let are = parts-joined files inputs parts.0 parts.1 in
+      record {
+        names = subst (λ (names : List (List ℕ)). AreApart names (output ∷ [])) (sym (append-nil inputs)) (no-clash_apart (output ∷ []) inputs 0 one.0);
+        inputs = are.inputs;
+        are = are.are;
+        few = are.few;
+        choices = are.one;
+      }),
+)
+
+-- ---- all of them
+
+pub legal-is-accepted : LegalIsAccepted
+legal-is-accepted = record {
+  list = λ files input. (parts-list files input, (λ made. list-parts files input (files input) made.0 refl made.1));
+  gain = λ files shift tags input output. gain-law shift tags files input output;
+  undo = undo-law;
+  cut = cut-law;
+  pack = λ files mode input output. pack-law files input mode output;
+  split_at = split-at-law;
+  split_by = split-by-law;
+  join = join-law;
+  fade = λ files back input output sheet. fade-law sheet back files input output;
+}

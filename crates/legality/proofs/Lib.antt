@@ -1,0 +1,10 @@
+-- The lemmas of this crate.
+pub mod InputLaws
+pub mod MadeLaws
+pub mod GainLaws
+pub mod SheetLaws
+pub mod FadeLaws
+pub mod SplitLaws
+pub mod PackLaws
+pub mod JoinLaws
+pub mod LegalLaws

@@ -1,0 +1,202 @@
+-- A packing: with the least slots, the fewest bytes, and the slots of some bit rates.
+use Rattle.std.proofs.Common.{◌≡◌, ℕ, zero, suc, ◌<◌, ◌≤◌, ◌==◌, Bool, true, false, cond, Contains, List, [], ◌∷◌, length, get_or, map, Some, None, Result, Ok, Err, refl, sym, ◌∙◌, ap, subst, arith}
+use Rattle.std.specs.Prelude.{◌↔◌, filter}
+use Rattle.std.proofs.lemmas.Bool.{lt-ltb, ltb-true, eqb-true, eq-eqb}
+use Rattle.std.proofs.lemmas.List.{length-map}
+use Rattle.frame_header.specs.Fields.{SlotFields, ClassFields}
+use Rattle.frame_header.specs.Tables.{window_of, rate_of}
+use Rattle.frame_header.specs.Slots.{all_slots}
+use Rattle.slot_plan.specs.declared.needs.Need.{Need}
+use Rattle.slot_plan.specs.declared.needs.Placed.{Placed}
+use Rattle.slot_plan.specs.Lists.{CanBeLaid}
+use Rattle.slot_plan.specs.Plans.{areas_in}
+use Rattle.part_needs.specs.Needs.{need_of}
+use Rattle.part_needs.specs.Fit.{IsPlaced}
+use Rattle.rate_plan.specs.Menus.{items_from, CanBeLaidFrom, IsMenuPlan, IsUnfit}
+use Rattle.rate_plan.specs.MenuPlan.{menu_plan}
+use Rattle.rate_plan.proofs.OneMenuPlan.{menu_plan-is}
+use Rattle.laying.proofs.PlacesLaws.{range-whole}
+use Rattle.laying.specs.Written.{head_info}
+use Rattle.sync_survey.specs.Faults.{SurveyFields}
+use Rattle.sync_survey.specs.Survey.{survey_of}
+use Rattle.sync_survey.proofs.PlacedRows.{surveyed-placed}
+use Rattle.sync_survey.proofs.SurveyedFiles.{survey_of-parts}
+use Rattle.commands.specs.declared.fault.EditFault.{EditFault}
+use Rattle.commands.specs.declared.fault.Refusal.TheVariants.{NoRate}
+use Rattle.commands.specs.One.{most_frames}
+use Rattle.commands.specs.Refusing.{unless, then_made}
+use Rattle.commands.proofs.RefusingLaws.{then_ok, unless_ok}
+use Rattle.frame_edits.specs.declared.chosen.Slots.{Slots}
+use Rattle.frame_edits.specs.declared.chosen.Slots.TheVariants.{Least}
+use Rattle.frame_edits.specs.Laid.{file_laid}
+use Rattle.frame_edits.specs.Chosen.{Chosen, chosen_rows, all_choice, laid_by}
+use Rattle.packing.specs.declared.mode.Rates.{Rates}
+use Rattle.packing.specs.declared.mode.Rates.TheVariants.{Only, From}
+use Rattle.packing.specs.Packing.{Planning, needs_of, laid_as, packed, packing}
+use Rattle.packing.specs.Rates.{named, is_rate, menu_in, no_rate, fitted, rates_plan}
+use Rattle.packing.specs.Rules.{best_planning}
+use Rattle.packing.proofs.MenuLaws.{menu-ascends, menu-some}
+use Rattle.packing.proofs.PlanLaws.{rows-some, rows-same, rows-sound, never-unfit, plan-is}
+use Rattle.legality.specs.Choices.{IsRate, HasRoom}
+use Rattle.legality.proofs.InputLaws.{some-frames}
+use Rattle.legality.proofs.SplitLaws.{within-ok}
+
+-- ---- a bit rate of the class
+
+some-kept : (p : SlotFields → Bool) (xs : List SlotFields) → 0 < length (filter p xs) → (x : SlotFields) × Contains xs x × (p x ≡ true)
+some-kept p [] some = absurd (omega (arith, some))
+some-kept p (x ∷ xs) some = at (p x) refl some (λ more. some-kept p xs more)
+  where
+    later : (y : SlotFields) × Contains xs y × (p y ≡ true) → (y : SlotFields) × Contains (x ∷ xs) y × (p y ≡ true)
+    later found = (found.0, (suc found.1.0, omega (arith, found.1.1), found.1.2), found.2)
+
+    at : (b : Bool) → p x ≡ b → 0 < length (cond b (x ∷ filter p xs) (filter p xs)) → (0 < length (filter p xs) → (y : SlotFields) × Contains xs y × (p y ≡ true)) → (y : SlotFields) × Contains (x ∷ xs) y × (p y ≡ true)
+    at true is some rest = (x, (0, omega arith, refl), is)
+    at false is some rest = later (rest some)
+
+kept-some : (p : SlotFields → Bool) (x : SlotFields) → p x ≡ true → (xs : List SlotFields) (k : ℕ) → k < length xs → get_or xs k x ≡ x → 0 < length (filter p xs)
+kept-some p x is [] k within same = absurd (omega (arith, within))
+kept-some p x is (y ∷ ys) zero within same = ap-kept (p y) (ap p same ∙ is)
+  where
+    ap-kept : (b : Bool) → b ≡ true → 0 < length (cond b (y ∷ filter p ys) (filter p ys))
+    ap-kept true e = omega arith
+    ap-kept false e = absurd cc
+kept-some p x is (y ∷ ys) (suc k) within same = at (p y) (kept-some p x is ys k (omega (arith, within)) same)
+  where
+    at : (b : Bool) → 0 < length (filter p ys) → 0 < length (cond b (y ∷ filter p ys) (filter p ys))
+    at true some = omega arith
+    at false some = some
+
+no-rate_none : (rates : Rates) (class : ClassFields) → no_rate rates class ≡ None → IsRate (named rates) class
+no-rate_none rates class none = at (is_rate (named rates) class) refl none
+  where
+    found : is_rate (named rates) class ≡ true → IsRate (named rates) class
+    found is =
+        let kept = some-kept (λ slot. rate_of class slot == named rates) all_slots (ltb-true 0 (length (menu_in (Only (named rates)) class)) is) in
+        (kept.0, kept.1, eqb-true (rate_of class kept.0) (named rates) kept.2)
+
+    at : (b : Bool) → is_rate (named rates) class ≡ b → cond b None (Some (NoRate (named rates))) ≡ None → IsRate (named rates) class
+    at true is e = found is
+    at false is e = absurd cc
+
+rate-none : (rates : Rates) (class : ClassFields) → IsRate (named rates) class → no_rate rates class ≡ None
+rate-none rates class is =
+    ap (λ b. cond b None (Some (NoRate (named rates))))
+    (lt-ltb 0 (length (menu_in (Only (named rates)) class))
+    (kept-some (λ slot. rate_of class slot == named rates) is.0 (eq-eqb (rate_of class is.0) (named rates) is.2) all_slots is.1.0 is.1.1 is.1.2))
+
+-- ---- a plan
+
+fitted-ok : (r : Result (List Placed) ℕ) (placed : List Placed) → fitted r ≡ Ok placed → r ≡ Ok placed
+fitted-ok (Ok found) placed e = cc
+fitted-ok (Err i) placed e = absurd cc
+
+laid : (window : ℕ) (menu : List SlotFields) (needs : List Need) (placed : List Placed) → IsMenuPlan window menu needs placed → (lead_in : Bool) × CanBeLaidFrom window lead_in menu needs
+unfolding CanBeLaid
+laid window menu needs placed plan =
+    let items = items_from plan.lead_in menu needs in
+    (plan.lead_in, (areas_in items placed, plan.whole.least.chosen, plan.whole.least.feasible))
+
+-- all frames are chosen
+same-chosen : (a b : Chosen) (r : Result Chosen EditFault) → r ≡ Ok a → r ≡ Ok b → a ≡ b
+same-chosen a b r e d = cc
+
+module _ (file : List ℕ) (s : SurveyFields) (is : survey_of file most_frames ≡ Ok s) where
+  abbrev pub all_with : Slots → Chosen
+  all_with slots = record { from = 0; to = length s.frames; slots = slots; quality = (head_info file s.head).quality; extension = (head_info file s.head).extension }
+
+  abbrev chosen : Chosen
+  chosen = all_with Least
+
+  pub choose-all : (slots : Slots) → all_choice slots file s ≡ Ok (all_with slots)
+  unfolding all_choice
+  choose-all slots = within-ok (head_info file s.head).quality (head_info file s.head).extension 0 (length s.frames) slots (length s.frames) (some-frames file most_frames s is, omega arith)
+
+  abbrev needs : List Need
+  needs = needs_of chosen s
+
+  needs-all : needs ≡ map need_of s.frames
+  needs-all = ap (map need_of) (range-whole s.frames)
+
+  planned-made : (plan : Planning) (placed : List Placed) → plan s.class needs ≡ Ok placed → (bytes : List ℕ) × (packing plan file s ≡ Ok bytes)
+  unfolding packed
+  planned-made plan placed planned = (
+    file_laid (laid_by chosen placed) file s,
+    ap (λ (r : Result Chosen EditFault). then_made (then_made r (laid_as plan s)) (λ laid. Ok (file_laid laid file s))) (choose-all Least)
+        ∙ ap (λ (r : Result (List Placed) EditFault). then_made (then_made r (λ placed. Ok (laid_by chosen placed))) (λ laid. Ok (file_laid laid file s))) planned,
+  )
+
+  made-planned : (plan : Planning) (bytes : List ℕ) → packing plan file s ≡ Ok bytes → (placed : List Placed) × (plan s.class needs ≡ Ok placed)
+  unfolding packed
+  made-planned plan bytes made =
+      let one = then_ok (packed plan file s) (λ laid. Ok (file_laid laid file s)) bytes made in
+      let two = then_ok (all_choice Least file s) (laid_as plan s) one.0 one.1 in
+      let three = then_ok (plan s.class (needs_of two.0 s)) (λ placed. Ok (laid_by two.0 placed)) one.0 two.2 in
+      let same = same-chosen two.0 chosen (all_choice Least file s) two.1 (choose-all Least) in
+      (three.0, subst (λ (c : Chosen). plan s.class (needs_of c s) ≡ Ok three.0) same three.1)
+
+  pub best-made : (bytes : List ℕ) × (packing best_planning file s ≡ Ok bytes)
+  best-made = planned-made best_planning _ refl
+
+  -- ---- from a menu
+
+  some : 0 < length s.frames
+  some = some-frames file most_frames s is
+
+  placed : IsPlaced s
+  placed = surveyed-placed file most_frames s (survey_of-parts file most_frames s is).1
+
+  needs-some : 1 ≤ length needs
+  needs-some = omega (arith, rows-some chosen s placed some (omega arith), length-map (chosen_rows chosen s) need_of)
+
+  module _ (rates : Rates) (none : no_rate rates s.class ≡ None) where
+    abbrev menu : List SlotFields
+    menu = menu_in rates s.class
+
+    abbrev window : ℕ
+    window = window_of s.class.version
+
+    menu-law : ((placed : List Placed) → IsMenuPlan window menu needs placed ↔ (menu_plan window menu needs ≡ Ok placed)) × ((i : ℕ) → IsUnfit window menu needs i ↔ (menu_plan window menu needs ≡ Err i))
+    menu-law =
+        menu_plan-is window s.class menu needs (rows-same chosen s placed some (omega arith)) needs-some (menu-ascends rates s.class (rows-sound chosen s placed some (omega arith))) (menu-some rates s.class none)
+
+    -- where no frame is unfit
+    fit-made : ((i : ℕ) → menu_plan window menu needs ≡ Err i → ⊥) → (bytes : List ℕ) × (packing (rates_plan rates) file s ≡ Ok bytes)
+    fit-made fits = at (menu_plan window menu needs) refl
+      where
+        at : (r : Result (List Placed) ℕ) → menu_plan window menu needs ≡ r → (bytes : List ℕ) × (packing (rates_plan rates) file s ≡ Ok bytes)
+        at (Ok found) e = planned-made (rates_plan rates) found (plan-is chosen s placed some (omega arith) rates found none e)
+        at (Err i) e = absurd (fits i e)
+
+    room-made : (lead_in : Bool) → CanBeLaidFrom window lead_in menu (map need_of s.frames) → (bytes : List ℕ) × (packing (rates_plan rates) file s ≡ Ok bytes)
+    room-made lead_in can = fit-made (λ i e. ((menu-law.1 i).1 e).never lead_in (subst (CanBeLaidFrom window lead_in menu) (sym needs-all) can))
+
+    plan-room : (found : List Placed) → menu_plan window menu needs ≡ Ok found → (lead_in : Bool) × CanBeLaidFrom window lead_in menu (map need_of s.frames)
+    plan-room found e =
+        let room = laid window menu needs found ((menu-law.0 found).1 e) in
+        (room.0, subst (CanBeLaidFrom window room.0 menu) needs-all room.1)
+
+  rates-parts : (rates : Rates) (bytes : List ℕ) → packing (rates_plan rates) file s ≡ Ok bytes
+      → (none : no_rate rates s.class ≡ None) × (found : List Placed) × (menu_plan (window_of s.class.version) (menu_in rates s.class) needs ≡ Ok found)
+  rates-parts rates bytes made =
+      let window = window_of s.class.version in
+      let planned = made-planned (rates_plan rates) bytes made in
+      let one = then_ok (unless (no_rate rates s.class) (menu_in rates s.class)) (λ menu. fitted (menu_plan window menu needs)) planned.0 planned.1 in
+      let ok = unless_ok (no_rate rates s.class) (menu_in rates s.class) one.0 one.1 in
+      (ok.0, planned.0, fitted-ok (menu_plan window (menu_in rates s.class) needs) planned.0 (ap (λ menu. fitted (menu_plan window menu needs)) ok.1 ∙ one.2))
+
+  pub constant-legal : (rate : ℕ) (bytes : List ℕ) → packing (rates_plan (Only rate)) file s ≡ Ok bytes → IsRate rate s.class × HasRoom rate s
+  constant-legal rate bytes made =
+      let parts = rates-parts (Only rate) bytes made in
+      (no-rate_none (Only rate) s.class parts.0, plan-room (Only rate) parts.0 parts.1 parts.2)
+
+  pub legal-constant : (rate : ℕ) → IsRate rate s.class × HasRoom rate s → (bytes : List ℕ) × (packing (rates_plan (Only rate)) file s ≡ Ok bytes)
+  legal-constant rate legal = room-made (Only rate) (rate-none (Only rate) s.class legal.0) legal.1.0 legal.1.1
+
+  pub floor-legal : (rate : ℕ) (bytes : List ℕ) → packing (rates_plan (From rate)) file s ≡ Ok bytes → IsRate rate s.class
+  floor-legal rate bytes made = no-rate_none (From rate) s.class (rates-parts (From rate) bytes made).0
+
+  pub legal-floor : (rate : ℕ) → IsRate rate s.class → (bytes : List ℕ) × (packing (rates_plan (From rate)) file s ≡ Ok bytes)
+  legal-floor rate legal =
+      let none = rate-none (From rate) s.class legal in
+      fit-made (From rate) none (λ i e. never-unfit chosen s placed some (omega arith) rate i none e)

@@ -1,0 +1,153 @@
+-- What may be chosen of well-formed inputs, command by command.
+use Rattle.std.specs.Prelude.{◌≡◌, ◌≢◌, ◌⊎◌, ℕ, zero, suc, ◌<◌, ◌≤◌, Bool, true, false, Contains, List, [], ◌∷◌, ◌++◌, length, map, slice_get, Some, Ok, ℤ, pos, ◌+ℤ◌, unsigned_abs}
+use Rattle.frame_header.specs.Fields.{SlotFields, ClassFields}
+use Rattle.frame_header.specs.Tables.{window_of, rate_of}
+use Rattle.frame_header.specs.Slots.{all_slots}
+use Rattle.side_info.specs.Side.{granule_in}
+use Rattle.tag_blocks.specs.declared.undo.Undo.{Undo}
+use Rattle.tag_blocks.specs.declared.undo.UndoItem.TheVariants.{Missing, Found}
+use Rattle.tag_blocks.specs.Tags.{TagFields, tag_bytes}
+use Rattle.tag_blocks.specs.UndoItems.{undo_from}
+use Rattle.file_tag.specs.Reading.{longest_tag, file_tag}
+use Rattle.cue_sheet.specs.declared.place.Place.{Place}
+use Rattle.cue_sheet.specs.declared.place.Place.TheVariants.{End}
+use Rattle.cue_sheet.specs.Places.{frame_at}
+use Rattle.cue_sheet.specs.Cues.{cue_of}
+use Rattle.fade_plan.specs.Sheets.{EnvelopePoint, envelope_of}
+use Rattle.fade_plan.specs.Curves.{frame_of, curve_point, steps_at, steps_back}
+use Rattle.part_needs.specs.Needs.{need_of}
+use Rattle.rate_plan.specs.Menus.{CanBeLaidFrom}
+use Rattle.outside.specs.Files.{Contents}
+use Rattle.sync_survey.specs.declared.rows.Row.{Row}
+use Rattle.sync_survey.specs.Faults.{SurveyFields, longest_file}
+use Rattle.commands.specs.Sheet.{longest_sheet}
+use Rattle.moved_gains.specs.declared.shift.Channels.{Channels}
+use Rattle.moved_gains.specs.declared.shift.Channels.TheVariants.{Both, Left, Right}
+use Rattle.moved_gains.specs.declared.shift.Shift.{Shift}
+use Rattle.moved_gains.specs.declared.shift.Steps.{Steps}
+use Rattle.moved_gains.specs.Gains.{steps_of}
+use Rattle.moved_gains.specs.Course.{alike}
+use Rattle.gain_edits.specs.UndoItem.{no_undo, undo_steps, next_undo, tag_with, output_length}
+use Rattle.packing.specs.declared.mode.Rates.TheVariants.{Only}
+use Rattle.packing.specs.Rates.{menu_in}
+use Rattle.pack_mode.specs.declared.mode.PackMode.{PackMode}
+use Rattle.pack_mode.specs.declared.mode.PackMode.TheVariants.{Least, Best, Constant, Floor}
+use Rattle.legality.specs.Inputs.{Each, EachNext, Input}
+
+-- ---- gains (global_gain of ISO/IEC 11172-3 and 13818-3, 2.4.2.7)
+
+-- a gain moved by so many steps is one again, from 0 to 255
+abbrev pub StaysGain : ℤ → ℕ → Type 0
+StaysGain steps gain = (moved : ℕ) × (moved ≤ 255) × (pos gain +ℤ steps ≡ pos moved)
+
+-- the steps of a channel
+abbrev pub steps_on : Steps → ℕ → ℤ
+steps_on steps zero = steps.left
+steps_on steps (suc channel) = steps.right
+
+-- The gains of a frame can move so: they wrap, or the frame is lost and left alone, or the gain of each granule and channel that has main data
+-- is one afterwards too.
+abbrev pub CanMove : Steps → Row → Type 0
+CanMove steps row =
+    steps.wrap ≡ false → row.lost ≡ false → (granule channel : ℕ) → granule < 2 → channel < 2 → 0 < (granule_in row.side granule channel).part2_3_length
+    → StaysGain (steps_on steps channel) (granule_in row.side granule channel).global_gain
+
+-- those of all frames can, by the steps of each frame's number
+abbrev pub CanAllMove : (ℕ → Steps) → SurveyFields → Type 0
+CanAllMove steps s = Each s.frames (λ i row. CanMove (steps i) row)
+
+-- ---- gain
+
+-- one channel can change alone: there are two, and those of no frame are coded jointly (mode 1, 2.4.2.3)
+pub record AreSeparate (s : SurveyFields) : Type 0 where
+  pub two : s.class.channels ≢ 1
+  pub each : Each s.frames (λ i row. row.header.mode ≢ 1)
+
+abbrev pub CanChange : Channels → SurveyFields → Type 0
+CanChange Both s = Unit {0}
+CanChange Left s = AreSeparate s
+CanChange Right s = AreSeparate s
+
+-- The change can be noted: the tag of the file is read (`file_tag`, whose law says that it is its bytes), its undo item is one or isn't there, the
+-- numbers of the new item are from -999 to 999, the new tag has at most 1,048,576 bytes, and the file with it at most 1,073,741,824.
+pub record CanBeNoted (shift : Shift) (input : Input) : Type 0 where
+  pub tag : TagFields
+  pub read : file_tag input.bytes input.survey ≡ Ok tag
+  pub undo : Undo
+  pub item : (undo_from 32 tag.items ≡ Found undo) ⊎ ((undo_from 32 tag.items ≡ Missing) × (undo ≡ no_undo))
+  pub left : unsigned_abs (next_undo shift undo).left ≤ 999
+  pub right : unsigned_abs (next_undo shift undo).right ≤ 999
+  pub tag_fits : length (tag_bytes (tag_with (next_undo shift undo) tag)) ≤ longest_tag
+  pub file_fits : output_length input.survey (tag_bytes (tag_with (next_undo shift undo) tag)) ≤ longest_file
+
+pub record IsLegalGain (shift : Shift) (tags : Bool) (input : Input) : Type 0 where
+  pub channels : CanChange shift.channels input.survey
+  pub gains : CanAllMove (λ i. steps_of shift) input.survey
+  pub noted : tags ≡ true → CanBeNoted shift input
+
+-- ---- undo
+
+-- the tag of the file is read, its undo item is one, and all gains can move by its steps
+pub record IsLegalUndo (input : Input) : Type 0 where
+  pub tag : TagFields
+  pub read : file_tag input.bytes input.survey ≡ Ok tag
+  pub undo : Undo
+  pub item : undo_from 32 tag.items ≡ Found undo
+  pub gains : CanAllMove (λ i. undo_steps undo) input.survey
+
+-- ---- fade
+
+-- The sheet is there, has at most 65,536 bytes and no fault (`envelope_of`), each of its points is at an earlier frame than the next, and the gains
+-- of each frame can move by the steps of the curve at its number, or by as many the other way.
+pub record IsLegalFade (sheet : List ℕ) (back : Bool) (files : Contents) (input : Input) : Type 0 where
+  pub bytes : List ℕ
+  pub there : files sheet ≡ Some bytes
+  pub small : length bytes ≤ longest_sheet
+  pub points : List EnvelopePoint
+  pub read : envelope_of bytes ≡ Ok points
+  pub rising : EachNext points (λ p q. frame_of input.survey.class (length input.survey.frames) p < frame_of input.survey.class (length input.survey.frames) q)
+  pub gains : CanAllMove (λ i. alike (steps_back back (steps_at (map (curve_point input.survey.class (length input.survey.frames)) points) i))) input.survey
+
+-- ---- cut and split
+
+-- between the places there is a frame, and none of them is behind the last frame
+abbrev pub IsRange : SurveyFields → Place → Place → Type 0
+IsRange s from to = (frame_at s.class (length s.frames) from < frame_at s.class (length s.frames) to) × (frame_at s.class (length s.frames) to ≤ length s.frames)
+
+-- so it is between each place and the next
+abbrev pub ArePieces : SurveyFields → List Place → Type 0
+ArePieces s places = EachNext places (IsRange s)
+
+-- The sheet is there, has at most 65,536 bytes, and is a cue sheet without fault (`cue_of`); from each start to the next, and from the last to the
+-- end, there is a frame.
+pub record IsLegalSheet (sheet : List ℕ) (files : Contents) (input : Input) : Type 0 where
+  pub bytes : List ℕ
+  pub there : files sheet ≡ Some bytes
+  pub small : length bytes ≤ longest_sheet
+  pub starts : List Place
+  pub read : cue_of bytes ≡ Ok starts
+  pub pieces : ArePieces input.survey (starts ++ End ∷ [])
+
+-- ---- pack
+
+-- a slot of the class has this bit rate
+abbrev pub IsRate : ℕ → ClassFields → Type 0
+IsRate rate class = (slot : SlotFields) × Contains all_slots slot × (rate_of class slot ≡ rate)
+
+-- Some list of slots of this bit rate, padded or not, has room for the main data of all frames, behind a lead-in of such a slot or without one
+-- (main_data_begin, 2.4.2.7).
+abbrev pub HasRoom : ℕ → SurveyFields → Type 0
+HasRoom rate s = (lead_in : Bool) × CanBeLaidFrom (window_of s.class.version) lead_in (menu_in (Only rate) s.class) (map need_of s.frames)
+
+-- with the least slots, and with all from a bit rate on, there is always room
+abbrev pub IsLegalPack : PackMode → SurveyFields → Type 0
+IsLegalPack Least s = Unit {0}
+IsLegalPack Best s = Unit {0}
+IsLegalPack (Constant rate) s = IsRate rate s.class × HasRoom rate s
+IsLegalPack (Floor rate) s = IsRate rate s.class
+
+-- ---- join
+
+-- all inputs are of one class: version, sampling frequency and number of channels are the same
+abbrev pub AreOfOneClass : List Input → Type 0
+AreOfOneClass inputs = (i j : ℕ) (p q : Input) → slice_get inputs i ≡ Some p → slice_get inputs j ≡ Some q → p.survey.class ≡ q.survey.class

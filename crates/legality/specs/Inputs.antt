@@ -1,0 +1,48 @@
+-- The inputs of a command that are streams, as they are there.
+use Rattle.std.specs.Prelude.{◌≡◌, ℕ, suc, ◌+◌, ◌≤◌, All, Contains, List, [], ◌∷◌, length, slice_get, Some, Ok}
+use Rattle.outside.specs.Files.{Contents}
+use Rattle.sync_survey.specs.Faults.{SurveyFields, longest_file, surveyed_freely}
+
+-- ---- lists
+
+-- this holds of each element and its number, counted from 0
+abbrev pub Each : {A : Type 0} → List A → (ℕ → A → Type 0) → Type 0
+Each {A} xs P = (i : ℕ) (x : A) → slice_get xs i ≡ Some x → P i x
+
+-- this holds of each element and the next
+abbrev pub EachNext : {A : Type 0} → List A → (A → A → Type 0) → Type 0
+EachNext {A} xs P = (i : ℕ) (x y : A) → slice_get xs i ≡ Some x → slice_get xs (suc i) ≡ Some y → P x y
+
+-- ---- names
+
+-- no name of these is one of those
+abbrev pub AreApart : List (List ℕ) → List (List ℕ) → Type 0
+AreApart inputs outputs = All (λ name. Contains outputs name → ⊥) inputs
+
+-- ---- files
+
+-- an input, and what the survey of its bytes tells
+pub record Input : Type 0 where
+  pub bytes : List ℕ
+  pub survey : SurveyFields
+
+-- the name's file is there, has at most 1,073,741,824 bytes, and is well-formed
+pub record IsInput (files : Contents) (name : List ℕ) (input : Input) : Type 0 where
+  pub there : files name ≡ Some input.bytes
+  pub long : length input.bytes ≤ longest_file
+  pub well_formed : surveyed_freely input.bytes ≡ Ok input.survey
+
+abbrev pub AreInputs : Contents → List (List ℕ) → List Input → Type 0
+AreInputs files [] [] = Unit {0}
+AreInputs files (name ∷ names) (input ∷ inputs) = IsInput files name input × AreInputs files names inputs
+AreInputs files _ _ = ⊥
+
+-- how many frames they have together
+abbrev pub frames_of : List Input → ℕ
+frames_of [] = 0
+frames_of (input ∷ inputs) = length input.survey.frames + frames_of inputs
+
+-- there is one, and this holds of it
+abbrev pub OfOne : (Input → Type 0) → List Input → Type 0
+OfOne P (input ∷ []) = P input
+OfOne P _ = ⊥

@@ -1,0 +1,87 @@
+-- What a command that was asked for may be done with.
+use Rattle.std.specs.Prelude.{ℕ, ◌≤◌, List, [], ◌∷◌, ◌++◌}
+use Rattle.outside.specs.Files.{Contents}
+use Rattle.commands.specs.One.{most_frames}
+use Rattle.splitting.specs.Split.{piece_names}
+use Rattle.packing.specs.Rules.{most_best}
+use Rattle.pack_mode.specs.declared.mode.PackMode.{PackMode}
+use Rattle.pack_mode.specs.declared.mode.PackMode.TheVariants.{Least, Best, Constant, Floor}
+use Rattle.job_words.specs.Asked.{Asked, Help, Version, ListFile, Gain, Undo, Cut, Pack, SplitAt, SplitBy, Join, Drill, Fade}
+use Rattle.legality.specs.Inputs.{AreApart, Input, AreInputs, frames_of, OfOne}
+use Rattle.legality.specs.Choices.{IsLegalGain, IsLegalUndo, IsLegalFade, IsRange, ArePieces, IsLegalSheet, IsLegalPack, AreOfOneClass}
+
+-- ---- the files
+
+-- those that are read as streams
+abbrev pub sources_of : Asked → List (List ℕ)
+sources_of Help = []
+sources_of Version = []
+sources_of (ListFile input) = input ∷ []
+sources_of (Gain shift tags input output) = input ∷ []
+sources_of (Undo input output) = input ∷ []
+sources_of (Cut from to least input output) = input ∷ []
+sources_of (Pack mode input output) = input ∷ []
+sources_of (SplitAt input prefix places) = input ∷ []
+sources_of (SplitBy input prefix sheet) = input ∷ []
+sources_of (Join output inputs) = inputs
+sources_of (Drill seed count) = []
+sources_of (Fade back input output sheet) = input ∷ []
+
+-- and as sheets
+abbrev pub sheets_of : Asked → List (List ℕ)
+sheets_of (SplitBy input prefix sheet) = sheet ∷ []
+sheets_of (Fade back input output sheet) = sheet ∷ []
+sheets_of _ = []
+
+-- those that may be written
+abbrev pub outputs_of : Asked → List (List ℕ)
+outputs_of Help = []
+outputs_of Version = []
+outputs_of (ListFile input) = []
+outputs_of (Gain shift tags input output) = output ∷ []
+outputs_of (Undo input output) = output ∷ []
+outputs_of (Cut from to least input output) = output ∷ []
+outputs_of (Pack mode input output) = output ∷ []
+outputs_of (SplitAt input prefix places) = piece_names prefix
+outputs_of (SplitBy input prefix sheet) = piece_names prefix
+outputs_of (Join output inputs) = output ∷ []
+outputs_of (Drill seed count) = []
+outputs_of (Fade back input output sheet) = output ∷ []
+
+-- so many frames the inputs may have together
+abbrev pub most_in_mode : PackMode → ℕ
+most_in_mode Best = most_best
+most_in_mode Least = most_frames
+most_in_mode (Constant rate) = most_frames
+most_in_mode (Floor rate) = most_frames
+
+abbrev pub most_of : Asked → ℕ
+most_of (Pack mode input output) = most_in_mode mode
+most_of _ = most_frames
+
+-- ---- the choices
+
+abbrev pub AreLegal : Asked → Contents → List Input → Type 0
+AreLegal Help files inputs = Unit {0}
+AreLegal Version files inputs = Unit {0}
+AreLegal (ListFile input) files inputs = Unit {0}
+AreLegal (Gain shift tags input output) files inputs = OfOne (IsLegalGain shift tags) inputs
+AreLegal (Undo input output) files inputs = OfOne IsLegalUndo inputs
+AreLegal (Cut from to least input output) files inputs = OfOne (λ i. IsRange i.survey from to) inputs
+AreLegal (Pack mode input output) files inputs = OfOne (λ i. IsLegalPack mode i.survey) inputs
+AreLegal (SplitAt input prefix places) files inputs = OfOne (λ i. ArePieces i.survey places) inputs
+AreLegal (SplitBy input prefix sheet) files inputs = OfOne (IsLegalSheet sheet files) inputs
+AreLegal (Join output inputs_asked) files inputs = AreOfOneClass inputs
+AreLegal (Drill seed count) files inputs = Unit {0}
+AreLegal (Fade back input output sheet) files inputs = OfOne (IsLegalFade sheet back files) inputs
+
+-- ---- all of it
+
+-- No input is an output; each input that is a stream is there, no longer than allowed, and well-formed, and they have no more frames than
+-- allowed; and the choices are legal.
+pub record IsLegalFor (asked : Asked) (files : Contents) : Type 0 where
+  pub names : AreApart (sources_of asked ++ sheets_of asked) (outputs_of asked)
+  pub inputs : List Input
+  pub are : AreInputs files (sources_of asked) inputs
+  pub few : frames_of inputs ≤ most_of asked
+  pub choices : AreLegal asked files inputs

@@ -1,0 +1,174 @@
+-- The outputs that were written are there, each with the stream that it has to hold.
+use Rattle.std.proofs.Common.{◌≡◌, ◌≢◌, ℕ, zero, suc, ◌+◌, ◌/◌, ◌%◌, ◌<◌, ◌≤◌, List, [], ◌∷◌, length, map, drop, codes, Option, Some, None, Result, Ok, Err, refl, sym, ◌∙◌, ap, subst, arith, length-append}
+use Rattle.std.specs.Prelude.{IfSome, IfOk}
+use Rattle.std.specs.List.{range_with_len}
+use Rattle.std.proofs.Math.Seq.{drop-append_seam}
+use Rattle.std.proofs.lemmas.List.{length-map}
+use Rattle.outside.specs.Files.{Contents, Files, with_file}
+use Rattle.outside.proofs.FilesLaws.{with_file_here, with_file_other}
+use Rattle.frame_header.specs.Fields.{ClassFields}
+use Rattle.cue_sheet.specs.declared.place.Place.{Place}
+use Rattle.cue_sheet.specs.declared.place.Place.TheVariants.{End}
+use Rattle.cue_sheet.specs.Places.{frame_at}
+use Rattle.cue_sheet.specs.Cues.{cue_of, entries_of}
+use Rattle.cue_sheet.proofs.StartsLaws.{starts-few}
+use Rattle.sync_survey.specs.MainData.{StreamFrame}
+use Rattle.sync_survey.specs.Faults.{SurveyFields}
+use Rattle.commands.specs.declared.fault.EditFault.{EditFault}
+use Rattle.commands.specs.Command.{Output, Made, written, AreStreams, MakesStreams, HoldsStreams}
+use Rattle.commands.specs.One.{Task, made_result, made_of, one_command}
+use Rattle.commands.proofs.RefusingLaws.{then_ok}
+use Rattle.frame_edits.specs.Chosen.{Chosen}
+use Rattle.job_words.specs.Asked.{Asked, Help, Version, ListFile, Gain, Undo, Cut, Pack, SplitAt, SplitBy, Join, Drill, Fade}
+use Rattle.job_words.specs.Words.{job_of, IsSound}
+use Rattle.joining.specs.Join.{join_task}
+use Rattle.fading.specs.Fade.{fade_task}
+use Rattle.packing.specs.Modes.{pack_task}
+use Rattle.commands.specs.Left.{Seen}
+use Rattle.commands.specs.Said.{Heard}
+use Rattle.splitting.specs.Split.{piece_name, piece_names, frames_between, with_first, chosen_from, chosen_at, pieces_from, places_where, Placing, split_command, given, told_by}
+use Rattle.legality.proofs.SplitLaws.{split-parts, cue-parts}
+use Rattle.mp3_cli.proofs.RunLaws.{files_where_done}
+use Rattle.mp3_cli.specs.Run.{command_of, world, Answers, AreThere, HoldsWritten, HoldsAllStreams}
+
+-- ---- several outputs
+
+-- none of these has the name
+abbrev HasNone : List ℕ → List Output → Type 0
+HasNone name [] = Unit {0}
+HasNone name (output ∷ outputs) = (name ≢ output.name) × HasNone name outputs
+
+-- they have the first of these names, and no two have one name
+abbrev pub AreNamed : List (List ℕ) → List Output → Type 0
+AreNamed names [] = Unit {0}
+AreNamed [] (output ∷ outputs) = ⊥
+AreNamed (name ∷ names) (output ∷ outputs) = (output.name ≡ name) × HasNone output.name outputs × AreNamed names outputs
+
+-- a file that isn't one of them is as it was
+written-other : (outputs : List Output) (files : Contents) (name : List ℕ) → HasNone name outputs → written outputs files name ≡ files name
+written-other [] files name none = refl
+written-other (output ∷ outputs) files name none =
+    written-other outputs (with_file files output.name output.bytes) name none.1 ∙ with_file_other files output.name output.bytes name none.0
+
+are-there : (names : List (List ℕ)) (outputs : List Output) (streams : List (List StreamFrame)) (files : Contents) → AreNamed names outputs → AreStreams outputs streams → AreThere (written outputs files) names streams
+are-there names [] [] files named are = tt
+are-there names [] (stream ∷ streams) files named are = absurd are
+are-there names (output ∷ outputs) [] files named are = absurd are
+are-there [] (output ∷ outputs) (stream ∷ streams) files named are = absurd named
+are-there (name ∷ names) (output ∷ outputs) (stream ∷ streams) files named are =
+    let now = with_file files output.name output.bytes in
+    let held : written outputs now output.name ≡ Some output.bytes = written-other outputs now output.name named.1 ∙ with_file_here files output.name output.bytes in
+    ((output.bytes, subst (λ (n : List ℕ). written outputs now n ≡ Some output.bytes) named.0 held, are.0), are-there names outputs streams now named.2 are.1)
+
+-- ---- the pieces of a split
+
+-- the names of two numbers differ
+names-differ : (prefix : List ℕ) (j k : ℕ) → j < k → k ≤ 99 → piece_name prefix j ≢ piece_name prefix k
+unfolding piece_name
+names-differ prefix j k less most same =
+    let tails = sym (drop-append_seam prefix ((48 + j / 10) ∷ (48 + j % 10) ∷ codes ".mp3")) ∙ ap (drop (length prefix)) same ∙ drop-append_seam prefix ((48 + k / 10) ∷ (48 + k % 10) ∷ codes ".mp3") in
+    let tens : 48 + j / 10 ≡ 48 + k / 10 = cc in
+    let ones : 48 + j % 10 ≡ 48 + k % 10 = cc in
+    omega (arith, less, most, tens, ones)
+
+module _ (prefix file : List ℕ) (s : SurveyFields) where
+  later-differ : (j k : ℕ) (chosen : List Chosen) → j < k → k + length chosen ≤ 100 → HasNone (piece_name prefix j) (pieces_from prefix k file s chosen)
+  later-differ j k [] less most = tt
+  later-differ j k (c ∷ cs) less most = (names-differ prefix j k less (omega (arith, most)), later-differ j (k + 1) cs (omega (arith, less)) (omega (arith, most)))
+
+  pieces-named : (k n : ℕ) (chosen : List Chosen) → length chosen ≤ n → k + length chosen ≤ 100 → AreNamed (map (piece_name prefix) (range_with_len k n)) (pieces_from prefix k file s chosen)
+  pieces-named k n [] few most = tt
+  pieces-named k zero (c ∷ cs) few most = absurd (omega (arith, few))
+  pieces-named k (suc n) (c ∷ cs) few most = (refl, later-differ k (k + 1) cs (omega arith) (omega (arith, most)), pieces-named (k + 1) n cs (omega (arith, few)) (omega (arith, most)))
+
+all-named : (prefix file : List ℕ) (s : SurveyFields) (chosen : List Chosen) → length chosen ≤ 99 → AreNamed (piece_names prefix) (pieces_from prefix 1 file s chosen)
+unfolding piece_names
+all-named prefix file s chosen few = pieces-named prefix file s 1 99 chosen few (omega (arith, few))
+
+-- no more than may be chosen
+first-parts : (first : Chosen) (r : Result (List Chosen) EditFault) (cs : List Chosen) → with_first first r ≡ Ok cs → (more : List Chosen) × (r ≡ Ok more) × (length cs ≡ suc (length more))
+first-parts first (Ok more) cs e = let same : first ∷ more ≡ cs = cc in (more, refl, ap length (sym same))
+first-parts first (Err fault) cs e = absurd cc
+
+module _ (class : ClassFields) (frames : ℕ) where
+  from-few : (from : ℕ) (tos : List ℕ) (cs : List Chosen) → chosen_from frames from tos ≡ Ok cs → length cs ≤ length tos
+  from-few from [] cs e = let none : [] ≡ cs = cc in subst (λ (l : List Chosen). length l ≤ 0) none (omega arith)
+  from-few from (to ∷ tos) cs e =
+      let one = then_ok (frames_between frames from to) (λ first. with_first first (chosen_from frames to tos)) cs e in
+      let more = first-parts one.0 (chosen_from frames to tos) cs one.2 in
+      omega (arith, from-few to tos more.0 more.1, more.2)
+
+  at-few : (places : List Place) (cs : List Chosen) → chosen_at class frames places ≡ Ok cs → length places ≤ 100 → length cs ≤ 99
+  at-few [] cs e most = let none : [] ≡ cs = cc in subst (λ (l : List Chosen). length l ≤ 99) none (omega arith)
+  at-few (place ∷ places) cs e most =
+      omega (arith, from-few (frame_at class frames place) (map (frame_at class frames) places) cs e, length-map places (frame_at class frames), most)
+
+module _ (placing : Placing) (more : List (List ℕ)) (input prefix : List ℕ) (f : Contents) (few : (places : List Place) → placing.places f ≡ Ok places → length places ≤ 100) where
+  pub split-named : (made : Made) → (split_command placing more input prefix).makes f ≡ Ok made → AreNamed (piece_names prefix) made.outputs
+  split-named made e =
+      let parts = (split-parts f prefix input placing more made e).1 in
+      let is = parts.0 in
+      subst (λ (m : Made). AreNamed (piece_names prefix) m.outputs) parts.1
+      (all-named prefix is.file is.survey is.chosen (at-few is.survey.class (length is.survey.frames) is.found is.chosen is.picked (few is.found is.placed)))
+
+-- ---- the other commands
+
+named-one : (output : List ℕ) (r : Result (List ℕ) EditFault) (made : Made) → made_of output r ≡ Ok made → AreNamed (output ∷ []) made.outputs
+named-one output (Ok bytes) made e = let same : record { outputs = record { name = output; bytes = bytes } ∷ []; text = [] } ≡ made = cc in subst (λ (m : Made). AreNamed (output ∷ []) m.outputs) same (refl, tt, tt)
+named-one output (Err fault) made e = absurd cc
+
+one-named : (task : Task) (output : List ℕ) (f : Contents) (made : Made) → (one_command task output).makes f ≡ Ok made → AreNamed (output ∷ []) made.outputs
+one-named task output f made e = named-one output (made_result task output f) made e
+
+-- ---- whatever is asked for
+
+split-there : (placing : Placing) (more : List (List ℕ)) (input prefix : List ℕ) (f : Contents) (made : Made) → ((places : List Place) → placing.places f ≡ Ok places → length places ≤ 100)
+    → (split_command placing more input prefix).makes f ≡ Ok made → MakesStreams (split_command placing more input prefix) f made → HoldsWritten (split_command placing more input prefix) f (written made.outputs f)
+split-there placing more input prefix f made few e holds = record {
+  sources = holds.sources;
+  outputs = are-there (piece_names prefix) made.outputs ((split_command placing more input prefix).streams f) f (split-named placing more input prefix f few made e) holds.streams;
+}
+
+one-there : (task : Task) (output : List ℕ) (f : Contents) (made : Made) → (one_command task output).makes f ≡ Ok made → MakesStreams (one_command task output) f made → HoldsWritten (one_command task output) f (written made.outputs f)
+one-there task output f made e holds = record { sources = holds.sources; outputs = are-there (output ∷ []) made.outputs (task.stream f ∷ []) f (one-named task output f made e) holds.streams }
+
+abbrev places_at : List Place → Result (List Place) EditFault
+places_at places = Ok places
+
+given-few : (places found : List Place) → length places ≤ 100 → places_at places ≡ places_at found → length found ≤ 100
+given-few places found few e = let same : places ≡ found = cc in subst (λ (l : List Place). length l ≤ 100) same few
+
+-- a cue sheet has at most 99 starts
+cue-few : (bytes : List ℕ) (starts : List Place) → cue_of bytes ≡ Ok starts → length starts ≤ 99
+unfolding cue_of
+cue-few bytes starts e = (starts-few (entries_of bytes) starts e).1
+
+told-few : (o : Option (List ℕ)) (found : List Place) → places_where o ≡ Ok found → length found ≤ 100
+told-few o found e =
+    let cue = cue-parts o found e in
+    omega (arith, cue-few cue.bytes cue.starts cue.read, length-append cue.starts (End ∷ []), ap length cue.all)
+
+there : (asked : Asked) (f : Contents) (made : Made) → IsSound asked → (command_of asked).makes f ≡ Ok made → MakesStreams (command_of asked) f made → HoldsWritten (command_of asked) f (written made.outputs f)
+there Help f made sound e holds = record { sources = holds.sources; outputs = tt }
+there Version f made sound e holds = record { sources = holds.sources; outputs = tt }
+there (ListFile input) f made sound e holds = record { sources = holds.sources; outputs = tt }
+there (Drill seed count) f made sound e holds = record { sources = holds.sources; outputs = tt }
+there (Gain shift tags input output) f made sound e holds = one-there _ output f made e holds
+there (Undo input output) f made sound e holds = one-there _ output f made e holds
+there (Cut from to least input output) f made sound e holds = one-there _ output f made e holds
+there (Pack mode input output) f made sound e holds = one-there (pack_task mode input) output f made e holds
+there (SplitAt input prefix places) f made sound e holds = split-there (given places) [] input prefix f made (λ found is. given-few places found sound.2.few is) e holds
+there (SplitBy input prefix sheet) f made sound e holds = split-there (told_by sheet) (sheet ∷ []) input prefix f made (λ found is. told-few (f sheet) found is) e holds
+there (Join output inputs) f made sound e holds = one-there (join_task inputs) output f made e holds
+there (Fade back input output sheet) f made sound e holds = one-there (fade_task sheet back input) output f made e holds
+
+pub written-streams : (words : List (List ℕ)) (asked : Asked) (is : job_of words ≡ Ok asked) (sound : IsSound asked) (old new : Seen) (out_old out_new err_old err_new : Heard) (status : ℕ)
+    (all : Answers (command_of asked) (world old out_old err_old) (world new out_new err_new) status) → (status ≡ 0 → HoldsStreams (command_of asked) old.files) → status ≡ 0 → HoldsAllStreams words old.files new.files
+written-streams words asked is sound old new out_old out_new err_old err_new status all holds zero_is =
+    subst (λ (r : Result Asked ℕ). IfOk r (λ a. IfSome old.files (λ f. IfSome new.files (λ g. HoldsWritten (command_of a) f g)))) (sym is) (at old.files refl (holds zero_is))
+  where
+    at : (files : Files) → old.files ≡ files → HoldsStreams (command_of asked) files → IfSome files (λ f. IfSome new.files (λ g. HoldsWritten (command_of asked) f g))
+    at None told held = tt
+    at (Some f) told held =
+        let done = files_where_done (command_of asked) old new out_old out_new err_old err_new status all f told zero_is in
+        subst (λ (files : Files). IfSome files (λ g. HoldsWritten (command_of asked) f g)) (sym done.2) (there asked f done.0 sound done.1 (held done.0 done.1))
