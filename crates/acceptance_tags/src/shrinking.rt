@@ -65,6 +65,7 @@ impl Folder for Shrinking {
 static NOTED: [Stretch; 2] = [Frames(&[G_LOWER]), Valued(&UNDO, b"+005,+005,N")];
 
 /// How many reads find the file whole, its length afterwards, the line, and how many outputs are created.
+#[derive(Drop)]
 struct Case {
     whole_reads: u64,
     shorter: usize,
@@ -104,6 +105,41 @@ fn a_file_that_becomes_shorter(rt: HostRuntime) -> Result<(), Fail> {
         for words in ["gain -g 1 a o", "gain -u a o"] {
             expect_case(&rt, case, words)?;
         }
+    }
+    Ok(())
+}
+
+/// The words of a command that lays main data, how many reads find the files whole, before they have 100 bytes, the line,
+/// and how many outputs are created.
+struct Laid {
+    words: &'static str,
+    whole_reads: u64,
+    line: &'static str,
+    created: u64,
+}
+
+// Each survey makes one read, and so does the second pass over each input. The line names the input that became shorter, and
+// nothing but the output is created.
+static LAID: [Laid; 6] = table! {
+    Laid { words, whole_reads, line, created }
+    ("cut a 0 1 o", 1, "a: shrunk from 513 to 100\n", 1)
+    ("pack a o", 1, "a: shrunk from 513 to 100\n", 1)
+    ("split a p 0 1", 1, "a: shrunk from 513 to 100\n", 1)
+    ("join o a c", 1, "c: shrunk from 513 to 100\n", 0)
+    ("join o a c", 2, "a: shrunk from 513 to 100\n", 1)
+    ("join o a c", 3, "c: shrunk from 513 to 100\n", 1)
+};
+
+#[test]
+fn an_input_of_several_that_becomes_shorter(rt: HostRuntime) -> Result<(), Fail> {
+    for laid in &LAID {
+        let case = Case {
+            whole_reads: laid.whole_reads,
+            shorter: 100,
+            line: laid.line,
+            created: laid.created,
+        };
+        expect_case(&rt, &case, laid.words)?;
     }
     Ok(())
 }

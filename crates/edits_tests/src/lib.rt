@@ -8,4 +8,6 @@ mod files;
 #[cfg(test)]
 mod joined;
 #[cfg(test)]
+mod many;
+#[cfg(test)]
 mod split;

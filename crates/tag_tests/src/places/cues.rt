@@ -94,3 +94,19 @@ fn a_hundredth_track(rt: HostRuntime) -> Result<(), Fail> {
     assert!(rt; matches!(Cue::read(rt.alloc(), &sheet), Err(CueFault::Line(100))));
     Ok(())
 }
+
+// Each of the 99 tracks that a sheet may have starts a minute behind the one before it.
+#[test]
+fn ninety_nine_tracks(rt: HostRuntime) -> Result<(), Fail> {
+    let mut sheet: Vec<u8> = Vec::new(rt.alloc());
+    for minute in 0..99u8 {
+        sheet.extend_from_slice(b"TRACK 01 AUDIO\nINDEX 01 ")?;
+        sheet.extend_from_slice(&[b'0' + minute / 10, b'0' + minute % 10])?;
+        sheet.extend_from_slice(b":00:00\n")?;
+    }
+    assert!(rt; sheet.len() <= 65_536);
+    let cue = Cue::read(rt.alloc(), &sheet)?;
+    assert_eq!(rt; cue.starts().len(), 99);
+    assert_eq!(rt; cue.starts().last(), Some(&Place::Time(98 * 60 * 75, 75)));
+    Ok(())
+}
