@@ -1,4 +1,5 @@
 pub mod RowLaws
+pub mod EvenLaws
 pub mod SumLaws
 pub mod WalkLaws
 pub mod PlanLaws

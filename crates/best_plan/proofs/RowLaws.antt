@@ -1,8 +1,10 @@
 -- The least over the areas so far, and the row so far.
-use Rattle.std.proofs.Common.{◌≡◌, ℕ, zero, suc, ◌+◌, ◌<◌, ◌≤◌, inl, inr, List, [], ◌∷◌, ◌++◌, length, get_or, refl, sym, ap, ◌∙◌, subst, append_assoc, arith}
+use Rattle.std.proofs.Common.{◌≡◌, ℕ, zero, suc, ◌+◌, ◌<◌, ◌≤◌, ◌⊎◌, inl, inr, List, [], ◌∷◌, ◌++◌, length, get_or, refl, sym, ap, ◌∙◌, subst, append_assoc, arith}
 use Rattle.std.proofs.lemmas.List.{get_or_append_left, get_or_push, length_push, append-nil}
 use Rattle.std.proofs.lemmas.Bool.{cases_lt}
-use Rattle.best_plan.specs.Rows.{nothing, sum_with, IsSum, IsChoice, AppendsRow}
+use Rattle.slot_plan.specs.Reserve.{free_behind}
+use Rattle.slot_plan.proofs.AreaLaws.{Ascend}
+use Rattle.best_plan.specs.Rows.{nothing, sum_with, AreBounds, IsSum, IsChoice, AppendsRow}
 
 -- the least over the first of the areas
 pub record IsChoiceTo (window free bytes : ℕ) (areas later : List ℕ) (to cost place : ℕ) : Type 0 where
@@ -63,6 +65,64 @@ choice-all window free bytes areas later to cost place all so_far = record {
   fits = so_far.fits;
   found = so_far.found;
   first = so_far.first;
+}
+
+-- areas that ascend
+pub not-greater : (ns : List ℕ) (j k : ℕ) → Ascend ns → j ≤ k → k < length ns → get_or ns j 0 ≤ get_or ns k 0
+not-greater ns j k ascend from within =
+    elim (cases_lt j k) as (λ _. get_or ns j 0 ≤ get_or ns k 0) [
+      | inl before ↦ omega (arith, ascend j k 0 before within)
+      | inr till ↦
+          let at : j ≡ k = omega (arith, from, till) in
+          omega (arith, ap (λ n. get_or ns n 0) at)
+    ]
+
+-- no area from here on is better
+pub choice-ends : (window free bytes : ℕ) (areas later : List ℕ) (to cost place least whole : ℕ) → Ascend areas → length later ≡ window + 1 → AreBounds later least whole → to < length areas
+    → (cost ≤ get_or areas to 0 + least) ⊎ (cost + free ≤ bytes + whole) → IsChoiceTo window free bytes areas later to cost place → IsChoice window free bytes areas later cost place
+choice-ends window free bytes areas later to cost place least whole ascend width bounds within settled so_far = record {
+  least = λ k less fits.
+      elim (cases_lt k to) as (λ _. cost ≤ sum_with window free bytes later (get_or areas k 0)) [
+        | inl before ↦ so_far.least k before fits
+        | inr from ↦
+            let left : ℕ = free_behind window free bytes (get_or areas k 0) in
+            let behind : left < length later = omega (arith, width) in
+            elim settled as (λ _. cost ≤ sum_with window free bytes later (get_or areas k 0)) [
+              | inl alone ↦ omega (arith, alone, not-greater areas to k ascend from less, bounds.alone left behind)
+              | inr together ↦ omega (arith, together, fits, bounds.together left behind)
+            ]
+      ];
+  within = λ some. omega (arith, so_far.within some, within);
+  fits = so_far.fits;
+  found = so_far.found;
+  first = so_far.first;
+}
+
+-- ---- what no sum is below
+
+pub record AreBoundsTo (later : List ℕ) (to least whole : ℕ) : Type 0 where
+  pub alone : (free : ℕ) → free < to → least ≤ get_or later free 0
+  pub together : (free : ℕ) → free < to → whole ≤ get_or later free 0 + free
+
+pub bounds-none : (later : List ℕ) (least whole : ℕ) → AreBoundsTo later 0 least whole
+bounds-none later least whole = record {
+  alone = λ free less. absurd (omega (arith, less));
+  together = λ free less. absurd (omega (arith, less));
+}
+
+pub bounds-more : (later : List ℕ) (to least whole alone together : ℕ) → alone ≤ least → alone ≤ get_or later to 0 → together ≤ whole → together ≤ get_or later to 0 + to → AreBoundsTo later to least whole
+    → AreBoundsTo later (to + 1) alone together
+bounds-more later to least whole alone together low here low_whole here_whole so_far = record {
+  alone = λ free less.
+      elim (cases_lt free to) as (λ _. alone ≤ get_or later free 0) [
+        | inl before ↦ omega (arith, low, so_far.alone free before)
+        | inr from ↦ subst (λ n. alone ≤ get_or later n 0) (omega (arith, less, from)) here
+      ];
+  together = λ free less.
+      elim (cases_lt free to) as (λ _. together ≤ get_or later free 0 + free) [
+        | inl before ↦ omega (arith, low_whole, so_far.together free before)
+        | inr from ↦ subst (λ n. together ≤ get_or later n 0 + n) (omega (arith, less, from)) here_whole
+      ];
 }
 
 -- ---- a row, by the number of free bytes

@@ -1,5 +1,5 @@
 -- How `best` goes about it: for each frame and each number of free bytes before it, the least sum of the areas from it on, and the first area that has it.
-use Rattle.std.specs.Prelude.{◌≡◌, ℕ, ◌+◌, ◌<◌, ◌≤◌, List, ◌++◌, length, slice_index}
+use Rattle.std.specs.Prelude.{◌≡◌, ℕ, ◌+◌, ◌-◌, ◌<◌, ◌≤◌, List, ◌++◌, length, slice_index}
 use Rattle.slot_plan.specs.Reserve.{free_behind}
 
 -- the sum where nothing fits, above all others
@@ -35,3 +35,39 @@ pub record AppendsRow (window bytes : ℕ) (areas later row old new : List ℕ) 
   pub cells : List ℕ
   pub appended : new ≡ old ++ cells
   pub is : IsRow window bytes areas later row cells
+
+-- what no sum of a row is below: by itself, and together with the bytes that are free
+pub record AreBounds (later : List ℕ) (least whole : ℕ) : Type 0 where
+  pub alone : (free : ℕ) → free < length later → least ≤ slice_index later free
+  pub together : (free : ℕ) → free < length later → whole ≤ slice_index later free + free
+
+-- each free byte spares one: all sums together with the bytes that are free are the same
+abbrev pub IsEven : List ℕ → Type 0
+IsEven sums = (free : ℕ) → free < length sums → slice_index sums free + free ≡ slice_index sums 0
+
+-- whatever is free, the first area with which the main data fit leaves no more than the window
+pub record HasRoom (window bytes : ℕ) (areas : List ℕ) : Type 0 where
+  pub some : 0 < length areas
+  pub most : bytes ≤ slice_index areas (length areas - 1)
+  pub least : slice_index areas 0 ≤ bytes
+  pub near : (k : ℕ) → 0 < k → k < length areas → slice_index areas k ≤ slice_index areas (k - 1) + window
+
+-- the first area with which the main data fit
+pub record IsFirst (bytes : ℕ) (areas : List ℕ) (free place : ℕ) : Type 0 where
+  pub within : place < length areas
+  pub fits : bytes ≤ free + slice_index areas place
+  pub small : (k : ℕ) → k < place → free + slice_index areas k < bytes
+
+-- behind fewer free bytes than these the areas before this place are too small, and behind as many or more the last of them isn't
+pub record IsEndAt (window bytes : ℕ) (areas : List ℕ) (place end : ℕ) : Type 0 where
+  pub within : end ≤ window + 1
+  pub small : (free k : ℕ) → free < end → k < place → free + slice_index areas k < bytes
+  pub some : (free : ℕ) → end ≤ free → free ≤ window → 0 < place
+  pub large : (free : ℕ) → end ≤ free → free ≤ window → bytes ≤ free + slice_index areas (place - 1)
+
+-- a row of the first areas with which the main data fit was appended
+pub record AppendsFirst (window bytes : ℕ) (areas old new : List ℕ) : Type 0 where
+  pub cells : List ℕ
+  pub appended : new ≡ old ++ cells
+  pub many : length cells ≡ window + 1
+  pub each : (free : ℕ) → free ≤ window → IsFirst bytes areas free (slice_index cells free)

@@ -1,8 +1,8 @@
 //! Of the areas of one frame, the one with which it and all frames behind it have the fewest bytes.
-ghost use Rattle.std.specs.Prelude.{◌≡◌, ◌+◌, ◌≤◌, All, length};
+ghost use Rattle.std.specs.Prelude.{◌≡◌, ◌+◌, ◌<◌, ◌≤◌, All, AllPairs, length};
 ghost use Rattle.slot_plan.specs.Parts.{areas_with};
 ghost use Rattle.slot_plan.specs.Reserve.{free_behind as free_behind_lem};
-ghost use Rattle.best_plan.specs.Rows.{IsSum, IsChoice};
+ghost use Rattle.best_plan.specs.Rows.{AreBounds, IsSum, IsChoice};
 
 use arrayvec::ArrayVec;
 use frame_header::{Class, Slot};
@@ -15,6 +15,13 @@ pub(crate) const NOTHING: u32 = u32::MAX;
 pub(crate) struct Choice {
     pub(crate) sum: u32,
     pub(crate) place: u8,
+}
+
+/// What no sum of a row is below: by itself, and together with the bytes that are free.
+#[derive(Clone, Copy)]
+pub(crate) struct Bounds {
+    pub(crate) alone: u32,
+    pub(crate) together: u32,
 }
 
 /// The areas of some slots, in bytes.
@@ -57,20 +64,41 @@ fn sum_behind(window: u32, free: u32, bytes: u32, area: u32, later: &[u32]) -> u
     area.saturating_add(later[behind as usize])
 }
 
+/// The greatest bounds of a row.
+pub(crate) fn bounds_of(later: &[u32]) -> Bounds
+    requires { length later.now ≤ 512 }
+    ensures { AreBounds later.now result.alone result.together }
+{
+    let mut bounds = Bounds {
+        alone: NOTHING,
+        together: NOTHING,
+    };
+    for (free, sum) in later.iter().enumerate() {
+        bounds = Bounds {
+            alone: bounds.alone.min(*sum),
+            together: bounds.together.min(sum.saturating_add(free as u32)),
+        };
+    }
+    bounds
+}
+
 /// The first area of the least sum behind so many free bytes, where `later` holds the least sums of the frames
-/// behind, by the bytes that are free before them.
+/// behind, by the bytes that are free before them. It stops at the first area that can't be bettered by what follows.
 pub(crate) fn best_choice(
     window: u32,
     free: u32,
     bytes: u32,
     areas: &[u32],
     later: &[u32],
+    bounds: Bounds,
 ) -> Choice
     requires window { window ≤ 511 }
     requires free { free ≤ window }
     requires areas { All (λ n. n ≤ 1441) areas.now }
     requires few { length areas.now ≤ 28 }
+    requires ascending { AllPairs (λ m n. m < n) areas.now }
     requires later { length later.now ≡ window + 1 }
+    requires bounds { AreBounds later.now bounds.alone bounds.together }
     ensures { IsChoice window free bytes areas.now later.now result.sum result.place }
 {
     let mut choice = Choice {
@@ -78,6 +106,16 @@ pub(crate) fn best_choice(
         place: 0,
     };
     for (place, area) in areas.iter().enumerate() {
+        // Areas from here on are no smaller.
+        if choice.sum <= area.saturating_add(bounds.alone) {
+            return choice;
+        }
+        // All areas and free bytes together hold the main data.
+        if u64::from(choice.sum) + u64::from(free)
+            <= u64::from(bytes) + u64::from(bounds.together)
+        {
+            return choice;
+        }
         let sum = sum_behind(window, free, bytes, *area, later);
         if sum < choice.sum {
             choice = Choice {

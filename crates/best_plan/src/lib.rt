@@ -2,7 +2,9 @@
 #![tactic(auto)]
 
 mod choice;
+mod even;
 mod laws;
+mod rows;
 mod shortest;
 mod table;
 mod walk;

@@ -7,7 +7,7 @@ ghost use Rattle.slot_plan.specs.Plans.{entries};
 ghost use Rattle.best_plan.specs.Best.{IsBestPlan};
 ghost use Rattle.best_plan.specs.Table.{IsLeadInBy};
 
-use crate::choice::{NOTHING, areas_among, best_choice, free_behind};
+use crate::choice::{NOTHING, areas_among, best_choice, bounds_of, free_behind};
 use crate::table::table_of;
 use crate::walk::walk;
 use frame_header::Class;
@@ -25,7 +25,8 @@ fn lead_in(class: Class, window: u32, sums: &[u32]) -> Placed
     let room = class.window();
     let slots = class.slots();
     let areas = areas_among(class, false, slots.as_slice());
-    let choice = best_choice(room, 0, 0, areas.as_slice(), sums);
+    let bounds = bounds_of(sums);
+    let choice = best_choice(room, 0, 0, areas.as_slice(), sums, bounds);
     Placed {
         lead_in: true,
         slot: slots.as_slice()[choice.place as usize],

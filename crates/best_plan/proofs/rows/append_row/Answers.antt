@@ -1,7 +1,7 @@
 -- One number of free bytes more.
 use Rattle.std.proofs.Common.{◌+◌, ◌++◌, ◌∷◌, [], sym, subst}
 use Rattle.best_plan.proofs.RowLaws.{IsRowTo, row-more}
-use Rattle.best_plan.proofs.table.append_row.Goals as goal
+use Rattle.best_plan.proofs.rows.append_row.Goals as goal
 
 pub loop-free-preserved : goal.loop-free-preserved
 loop-free-preserved c =

@@ -1,6 +1,6 @@
 -- The row so far.
 use Rattle.best_plan.proofs.RowLaws.{IsRowTo}
-use Rattle.best_plan.proofs.table.append_row.Given as goal
+use Rattle.best_plan.proofs.rows.append_row.Given as goal
 
 abbrev pub invariant-loop-free : goal.invariant-loop-free
 invariant-loop-free l = IsRowTo l.window l.bytes l.areas l.later l.free l.sums.items l.initial.places.items l.places.items

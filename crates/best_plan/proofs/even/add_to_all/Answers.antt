@@ -1,0 +1,12 @@
+-- One sum more.
+use Rattle.std.proofs.Common.{◌+◌, ◌<◌, length, get_or, refl, ap, arith}
+use Rattle.std.proofs.lemmas.List.{get_or_default}
+use Rattle.best_plan.specs.Rows.{nothing}
+use Rattle.best_plan.proofs.EvenLaws.{added-more}
+use Rattle.best_plan.proofs.even.add_to_all.Goals as goal
+
+pub loop-sum-preserved : goal.loop-sum-preserved
+loop-sum-preserved c =
+    let at = c.loop-sum in
+    let within : at.sum-index < length c.args.sums.now = omega (arith, c.loop-sum-test.true, at.auto.sums) in
+    added-more c.args.bytes c.args.sums.now at.sums at.sum-index 0 _ within at.invariant refl

@@ -1,0 +1,84 @@
+//! Rows in which each free byte spares one. In front of such a row the first area that has room is the best, and the row of
+//! these areas is again such a row.
+ghost use Rattle.std.specs.Prelude.{◌≡◌, ◌+◌, ◌-◌, ◌<◌, ◌≤◌, ◌↔◌, All, AllPairs, IsTrue, length, map, slice_index, IfOk};
+ghost use Rattle.best_plan.specs.Rows.{nothing, IsEven, HasRoom, IsEndAt, AppendsFirst};
+
+use std::alloc::AllocError;
+
+/// Whether each free byte spares one.
+pub(crate) fn is_even(sums: &[u32]) -> bool
+    requires some { 0 < length sums.now }
+    requires few { length sums.now ≤ 512 }
+    ensures { IsTrue result ↔ IsEven sums.now }
+{
+    let whole = u64::from(sums[0]);
+    for (free, sum) in sums.iter().enumerate() {
+        if u64::from(*sum) + free as u64 != whole {
+            return false;
+        }
+    }
+    true
+}
+
+/// Whether the first area with which main data of so many bytes fit leaves no more than the window, whatever is free
+/// before it.
+pub(crate) fn has_room(window: u32, bytes: u32, areas: &[u32]) -> bool
+    requires window { window ≤ 511 }
+    requires areas { All (λ n. n ≤ 1441) areas.now }
+    ensures { IsTrue result → HasRoom window bytes areas.now }
+{
+    if areas.is_empty() || bytes < areas[0] || areas[areas.len() - 1] < bytes {
+        return false;
+    }
+    for place in 1..areas.len() {
+        if areas[place - 1] + window < areas[place] {
+            return false;
+        }
+    }
+    true
+}
+
+/// Behind fewer free bytes than these the areas before this place are too small.
+fn end_at(window: u32, bytes: u32, areas: &[u32], place: usize) -> u32
+    requires window { window ≤ 511 }
+    requires place { place < length areas.now }
+    requires ascending { AllPairs (λ m n. m < n) areas.now }
+    ensures { IsEndAt window bytes areas.now place result }
+{
+    if place == 0 {
+        return window + 1;
+    }
+    bytes.saturating_sub(areas[place - 1]).min(window + 1)
+}
+
+/// Appends the place of the first area with which main data of so many bytes fit, for each number of free bytes.
+pub(crate) fn append_first(
+    window: u32,
+    bytes: u32,
+    areas: &[u32],
+    places: &mut Vec<u8>,
+) -> Result<(), AllocError>
+    requires window { window ≤ 511 }
+    requires few { length areas.now ≤ 28 }
+    requires ascending { AllPairs (λ m n. m < n) areas.now }
+    requires room { HasRoom window bytes areas.now }
+    ensures { IfOk result (λ _. AppendsFirst window bytes areas.now places.old.items
+        places.new.items) }
+{
+    let from = places.len();
+    for place in (0..areas.len()).rev() {
+        let end = end_at(window, bytes, areas, place);
+        places.resize(from + end as usize, place as u8)?;
+    }
+    Ok(())
+}
+
+/// Adds so many bytes to each sum.
+pub(crate) fn add_to_all(sums: &mut [u32], bytes: u32)
+    requires { All (λ n. n + bytes < nothing) sums.old }
+    ensures { sums.new ≡ map (λ n. n + bytes) sums.old }
+{
+    for sum in sums.iter_mut() {
+        *sum += bytes;
+    }
+}

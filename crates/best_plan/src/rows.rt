@@ -1,0 +1,104 @@
+//! The choices of one frame behind any number of free bytes.
+ghost use Rattle.std.specs.Prelude.{◌≡◌, ◌+◌, ◌<◌, ◌≤◌, All, AllPairs, IsTrue, length, slice_index, IfOk};
+ghost use Rattle.best_plan.specs.Rows.{nothing, IsEven, HasRoom, AppendsRow};
+
+use crate::choice::{NOTHING, best_choice, bounds_of};
+use crate::even::{add_to_all, append_first, has_room, is_even};
+use std::alloc::AllocError;
+use std::mem::swap;
+
+/// The least sums from a frame on.
+#[derive(Drop)]
+pub(crate) struct Sums {
+    /// By the bytes that are free before the frame.
+    pub(crate) by_free: Vec<u32>,
+    /// Room for those of the frame before it.
+    pub(crate) spare: Vec<u32>,
+    /// Whether it is known that each free byte spares one.
+    pub(crate) even: bool,
+}
+
+/// A row by going over the areas for each number of free bytes.
+fn append_row(
+    window: u32,
+    bytes: u32,
+    areas: &[u32],
+    later: &[u32],
+    sums: &mut Vec<u32>,
+    places: &mut Vec<u8>,
+) -> Result<(), AllocError>
+    requires window { window ≤ 511 }
+    requires areas { All (λ n. n ≤ 1441) areas.now }
+    requires few { length areas.now ≤ 28 }
+    requires ascending { AllPairs (λ m n. m < n) areas.now }
+    requires later { length later.now ≡ window + 1 }
+    ensures { IfOk result (λ _. AppendsRow window bytes areas.now later.now sums.new.items
+        places.old.items places.new.items) }
+{
+    let bounds = bounds_of(later);
+    sums.clear();
+    for free in 0..window + 1 {
+        let choice = best_choice(window, free, bytes, areas, later, bounds);
+        sums.push(choice.sum)?;
+        places.push(choice.place)?;
+    }
+    Ok(())
+}
+
+/// The row of a frame in front of one in which each free byte spares one, where its main data have room.
+fn append_even(
+    window: u32,
+    bytes: u32,
+    areas: &[u32],
+    sums: &mut [u32],
+    places: &mut Vec<u8>,
+) -> Result<(), AllocError>
+    requires window { window ≤ 511 }
+    requires few { length areas.now ≤ 28 }
+    requires ascending { AllPairs (λ m n. m < n) areas.now }
+    requires width { length sums.old ≡ window + 1 }
+    requires even { IsEven sums.old }
+    requires room { HasRoom window bytes areas.now }
+    requires small { slice_index sums.old 0 + bytes < nothing }
+    ensures row { IfOk result (λ _. AppendsRow window bytes areas.now sums.old sums.new
+        places.old.items places.new.items) }
+    ensures even { IfOk result (λ _. IsEven sums.new) }
+{
+    append_first(window, bytes, areas, places)?;
+    add_to_all(sums, bytes);
+    Ok(())
+}
+
+/// Appends the row of a frame, and goes on to its sums.
+pub(crate) fn append_frame(
+    window: u32,
+    bytes: u32,
+    areas: &[u32],
+    sums: &mut Sums,
+    places: &mut Vec<u8>,
+) -> Result<(), AllocError>
+    requires window { window ≤ 511 }
+    requires areas { All (λ n. n ≤ 1441) areas.now }
+    requires few { length areas.now ≤ 28 }
+    requires ascending { AllPairs (λ m n. m < n) areas.now }
+    requires width { length sums.old.by_free.items ≡ window + 1 }
+    requires even { IsTrue sums.old.even → IsEven sums.old.by_free.items }
+    ensures row { IfOk result (λ _. AppendsRow window bytes areas.now sums.old.by_free.items
+        sums.new.by_free.items places.old.items places.new.items) }
+    ensures even { IfOk result (λ _. IsTrue sums.new.even → IsEven sums.new.by_free.items) }
+{
+    if sums.even && sums.by_free[0] < NOTHING - bytes && has_room(window, bytes, areas) {
+        return append_even(window, bytes, areas, &mut sums.by_free, places);
+    }
+    append_row(
+        window,
+        bytes,
+        areas,
+        sums.by_free.as_slice(),
+        &mut sums.spare,
+        places,
+    )?;
+    swap(&mut sums.by_free, &mut sums.spare);
+    sums.even = is_even(sums.by_free.as_slice());
+    Ok(())
+}
