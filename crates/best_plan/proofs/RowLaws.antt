@@ -1,6 +1,6 @@
 -- The least over the areas so far, and the row so far.
 use Rattle.std.proofs.Common.{◌≡◌, ℕ, zero, suc, ◌+◌, ◌<◌, ◌≤◌, ◌⊎◌, inl, inr, List, [], ◌∷◌, ◌++◌, length, get_or, refl, sym, ap, ◌∙◌, subst, append_assoc, arith}
-use Rattle.std.proofs.lemmas.List.{get_or_append_left, get_or_push, length_push, append-nil}
+use Rattle.std.proofs.lemmas.List.{get_or_append_left, get_or_push, length_push, append-nil, get_or_default}
 use Rattle.std.proofs.lemmas.Bool.{cases_lt}
 use Rattle.slot_plan.specs.Reserve.{free_behind}
 use Rattle.slot_plan.proofs.AreaLaws.{Ascend}
@@ -14,9 +14,10 @@ pub record IsChoiceTo (window free bytes : ℕ) (areas later : List ℕ) (to cos
   pub found : cost < nothing → cost ≡ sum_with window free bytes later (get_or areas place 0)
   pub first : (k : ℕ) → k < place → cost < nothing → bytes ≤ free + get_or areas k 0 → cost < sum_with window free bytes later (get_or areas k 0)
 
-pub choice-none : (window free bytes : ℕ) (areas later : List ℕ) → IsChoiceTo window free bytes areas later 0 nothing 0
-choice-none window free bytes areas later = record {
-  least = λ k less _. absurd (omega (arith, less));
+-- the areas before the first are too small
+pub choice-from : (window free bytes : ℕ) (areas later : List ℕ) (from : ℕ) → ((k : ℕ) → k < from → free + get_or areas k 0 < bytes) → IsChoiceTo window free bytes areas later from nothing 0
+choice-from window free bytes areas later from small = record {
+  least = λ k less fits. absurd (omega (arith, small k less, fits));
   within = λ some. absurd (omega (arith, some));
   fits = λ some. absurd (omega (arith, some));
   found = λ some. absurd (omega (arith, some));
@@ -76,6 +77,10 @@ not-greater ns j k ascend from within =
           let at : j ≡ k = omega (arith, from, till) in
           omega (arith, ap (λ n. get_or ns n 0) at)
     ]
+
+pub small_to : (free bytes : ℕ) (areas : List ℕ) (place area : ℕ) → Ascend areas → place < length areas → area ≡ get_or areas place area → free + area < bytes → (k : ℕ) → k < place + 1 → free + get_or areas k 0 < bytes
+small_to free bytes areas place area ascend within is small k less =
+    omega (arith, small, is, get_or_default areas place area 0 within, not-greater areas k place ascend (omega (arith, less)) within)
 
 -- no area from here on is better
 pub choice-ends : (window free bytes : ℕ) (areas later : List ℕ) (to cost place least whole : ℕ) → Ascend areas → length later ≡ window + 1 → AreBounds later least whole → to < length areas

@@ -1,5 +1,5 @@
 //! Of the areas of one frame, the one with which it and all frames behind it have the fewest bytes.
-ghost use Rattle.std.specs.Prelude.{◌≡◌, ◌+◌, ◌<◌, ◌≤◌, All, AllPairs, length};
+ghost use Rattle.std.specs.Prelude.{◌≡◌, ℕ, ◌+◌, ◌<◌, ◌≤◌, All, AllPairs, length, slice_index};
 ghost use Rattle.slot_plan.specs.Parts.{areas_with};
 ghost use Rattle.slot_plan.specs.Reserve.{free_behind as free_behind_lem};
 ghost use Rattle.best_plan.specs.Rows.{AreBounds, IsSum, IsChoice};
@@ -17,9 +17,11 @@ pub(crate) struct Choice {
     pub(crate) place: u8,
 }
 
-/// What no sum of a row is below: by itself, and together with the bytes that are free.
+/// What is known before areas are gone over: those before a place are too small, and no sum behind them is below these, by
+/// itself and together with the bytes that are free.
 #[derive(Clone, Copy)]
-pub(crate) struct Bounds {
+pub(crate) struct Known {
+    pub(crate) from: usize,
     pub(crate) alone: u32,
     pub(crate) together: u32,
 }
@@ -64,22 +66,43 @@ fn sum_behind(window: u32, free: u32, bytes: u32, area: u32, later: &[u32]) -> u
     area.saturating_add(later[behind as usize])
 }
 
-/// The greatest bounds of a row.
-pub(crate) fn bounds_of(later: &[u32]) -> Bounds
+/// The greatest bounds of a row, and no area that is too small.
+pub(crate) fn bounds_of(later: &[u32]) -> Known
     requires { length later.now ≤ 512 }
-    ensures { AreBounds later.now result.alone result.together }
+    ensures bounds { AreBounds later.now result.alone result.together }
+    ensures from { result.from ≡ 0 }
 {
-    let mut bounds = Bounds {
+    let mut known = Known {
+        from: 0,
         alone: NOTHING,
         together: NOTHING,
     };
     for (free, sum) in later.iter().enumerate() {
-        bounds = Bounds {
-            alone: bounds.alone.min(*sum),
-            together: bounds.together.min(sum.saturating_add(free as u32)),
+        known = Known {
+            from: 0,
+            alone: known.alone.min(*sum),
+            together: known.together.min(sum.saturating_add(free as u32)),
         };
     }
-    bounds
+    known
+}
+
+/// A place before which all areas are too small, by one before which they were behind fewer free bytes.
+pub(crate) fn too_small(free: u32, bytes: u32, areas: &[u32], from: usize) -> usize
+    requires free { free ≤ 511 }
+    requires areas { All (λ n. n ≤ 1441) areas.now }
+    requires ascending { AllPairs (λ m n. m < n) areas.now }
+    requires from { from ≤ length areas.now }
+    ensures within { result ≤ from }
+    ensures small { (k : ℕ) → k < result → free + slice_index areas.now k < bytes }
+{
+    for place in (0..from).rev() {
+        let area = areas[place];
+        if free + area < bytes {
+            return place + 1;
+        }
+    }
+    0
 }
 
 /// The first area of the least sum behind so many free bytes, where `later` holds the least sums of the frames
@@ -90,7 +113,7 @@ pub(crate) fn best_choice(
     bytes: u32,
     areas: &[u32],
     later: &[u32],
-    bounds: Bounds,
+    known: Known,
 ) -> Choice
     requires window { window ≤ 511 }
     requires free { free ≤ window }
@@ -98,25 +121,26 @@ pub(crate) fn best_choice(
     requires few { length areas.now ≤ 28 }
     requires ascending { AllPairs (λ m n. m < n) areas.now }
     requires later { length later.now ≡ window + 1 }
-    requires bounds { AreBounds later.now bounds.alone bounds.together }
+    requires bounds { AreBounds later.now known.alone known.together }
+    requires from { known.from ≤ length areas.now }
+    requires small { (k : ℕ) → k < known.from → free + slice_index areas.now k < bytes }
     ensures { IsChoice window free bytes areas.now later.now result.sum result.place }
 {
     let mut choice = Choice {
         sum: NOTHING,
         place: 0,
     };
-    for (place, area) in areas.iter().enumerate() {
+    for place in known.from..areas.len() {
+        let area = areas[place];
         // Areas from here on are no smaller.
-        if choice.sum <= area.saturating_add(bounds.alone) {
+        if choice.sum <= area.saturating_add(known.alone) {
             return choice;
         }
         // All areas and free bytes together hold the main data.
-        if u64::from(choice.sum) + u64::from(free)
-            <= u64::from(bytes) + u64::from(bounds.together)
-        {
+        if u64::from(choice.sum) + u64::from(free) <= u64::from(bytes) + u64::from(known.together) {
             return choice;
         }
-        let sum = sum_behind(window, free, bytes, *area, later);
+        let sum = sum_behind(window, free, bytes, area, later);
         if sum < choice.sum {
             choice = Choice {
                 sum,

@@ -2,7 +2,7 @@
 ghost use Rattle.std.specs.Prelude.{◌≡◌, ◌+◌, ◌<◌, ◌≤◌, All, AllPairs, IsTrue, length, slice_index, IfOk};
 ghost use Rattle.best_plan.specs.Rows.{nothing, IsEven, HasRoom, AppendsRow};
 
-use crate::choice::{NOTHING, best_choice, bounds_of};
+use crate::choice::{Known, NOTHING, best_choice, bounds_of, too_small};
 use crate::even::{add_to_all, append_first, has_room, is_even};
 use std::alloc::AllocError;
 use std::mem::swap;
@@ -36,9 +36,16 @@ fn append_row(
         places.old.items places.new.items) }
 {
     let bounds = bounds_of(later);
+    let mut from = areas.len();
     sums.clear();
     for free in 0..window + 1 {
-        let choice = best_choice(window, free, bytes, areas, later, bounds);
+        from = too_small(free, bytes, areas, from);
+        let known = Known {
+            from,
+            alone: bounds.alone,
+            together: bounds.together,
+        };
+        let choice = best_choice(window, free, bytes, areas, later, known);
         sums.push(choice.sum)?;
         places.push(choice.place)?;
     }

@@ -25,8 +25,8 @@ fn lead_in(class: Class, window: u32, sums: &[u32]) -> Placed
     let room = class.window();
     let slots = class.slots();
     let areas = areas_among(class, false, slots.as_slice());
-    let bounds = bounds_of(sums);
-    let choice = best_choice(room, 0, 0, areas.as_slice(), sums, bounds);
+    let known = bounds_of(sums);
+    let choice = best_choice(room, 0, 0, areas.as_slice(), sums, known);
     Placed {
         lead_in: true,
         slot: slots.as_slice()[choice.place as usize],

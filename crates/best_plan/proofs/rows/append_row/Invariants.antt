@@ -1,6 +1,10 @@
--- The row so far.
+-- The row so far, and a place of an area.
+use Rattle.std.proofs.Common.{◌≤◌, length}
 use Rattle.best_plan.proofs.RowLaws.{IsRowTo}
 use Rattle.best_plan.proofs.rows.append_row.Given as goal
 
 abbrev pub invariant-loop-free : goal.invariant-loop-free
-invariant-loop-free l = IsRowTo l.window l.bytes l.areas l.later l.free l.sums.items l.initial.places.items l.places.items
+invariant-loop-free l = record {
+  row : IsRowTo l.window l.bytes l.areas l.later l.free l.sums.items l.initial.places.items l.places.items;
+  from : l.from ≤ length l.areas;
+}
