@@ -51,7 +51,7 @@ pub(crate) fn walk<P: Policy>(
         let frame = frame_at(need, place, free, policy);
         let class = need.header.class();
         let area = class.area_of(frame.slot, need.header.protected);
-        free = free_behind(window, free, need.bytes, area);
+        free = free_behind(window, free, need.bytes as u32, area);
         placed.push(frame)?;
     }
     Ok(())

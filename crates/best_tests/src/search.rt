@@ -58,7 +58,8 @@ fn parts_by_search(rt: HostRuntime) -> Result<(), Fail> {
         let class = if number % 2 == 0 { 2 } else { number / 2 % 2 };
         let mut frames = [Asked(HEADERS[class], 0); 4];
         for frame in &mut frames {
-            frame.1 = next(&mut state) % if class == 2 { 600 } else { 1_200 };
+            let drawn = (next(&mut state) % 65_536) as u16;
+            frame.1 = drawn % if class == 2 { 600 } else { 1_200 };
         }
         let some = if number == 100 { 4 } else { number % 3 + 1 };
         if expect_searched(&rt, &frames[..some])? {

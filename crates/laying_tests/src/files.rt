@@ -75,7 +75,7 @@ fn write_first<R: Abort + AllocGlobal, D: Folder>(
     let rows = survey.frames();
     assert!(rt; rows.len() == 2);
     let first = &rows[0];
-    assert!(rt; !first.lost && first.side.payload_bytes() <= first.header.area());
+    assert!(rt; !first.lost && u32::from(first.side.payload_bytes()) <= first.header.area());
     let place = own_place(first);
     let mut buffers = Buffers::new(rt.alloc(), survey.class())?;
     let pass = Pass {

@@ -47,7 +47,7 @@ pub fn laid(needs: &[Need], slots: &[Slot], lead_ins: usize, number: u64) -> Opt
         let slot = *slots.get(place_in(number, slots.len() as u64, frames - 1 - at))?;
         let need = needs.get(at.saturating_sub(lead_ins))?;
         let lead_in = at < lead_ins;
-        let bytes = if lead_in { 0 } else { need.bytes };
+        let bytes = if lead_in { 0 } else { u32::from(need.bytes) };
         let area = class.area_of(slot, need.header.protected && !lead_in);
         let start = end.max(found.sum.saturating_sub(class.window()));
         let begin = found.sum.saturating_sub(start).min(511) as u16;

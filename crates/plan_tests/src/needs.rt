@@ -117,7 +117,7 @@ fn parts_of_a_file(rt: HostRuntime) -> Result<(), Fail> {
 }
 
 /// Asserts that the parts need these bytes in the slots that the frames have.
-fn expect_needs(rt: &impl Abort, needs: &[Need], bytes: &[u32]) {
+fn expect_needs(rt: &impl Abort, needs: &[Need], bytes: &[u16]) {
     assert_eq!(rt; needs.len(), bytes.len());
     for (need, wanted) in needs.iter().zip(bytes) {
         assert_eq!(rt; need.bytes, *wanted);

@@ -76,7 +76,7 @@ pub(crate) fn place_frames(
         let wanted = behind.pop().unwrap_or(0);
         let frame = place_frame(class, need, wanted, free, menu);
         let area = class.area_of(frame.slot, need.header.protected);
-        free = free_behind(window, free, need.bytes, area);
+        free = free_behind(window, free, need.bytes as u32, area);
         placed.push(frame)?;
     }
     Ok(())

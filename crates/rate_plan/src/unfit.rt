@@ -23,10 +23,10 @@ pub(crate) fn first_unfit(class: Class, needs: &[Need], menu: &[Slot]) -> Option
     let mut free = free_behind(window, 0, 0, largest_area(class, false, menu));
     for (i, need) in needs.iter().enumerate() {
         let area = largest_area(class, need.header.protected, menu);
-        if need.bytes > free + area {
+        if need.bytes as u32 > free + area {
             return Some(i as u32);
         }
-        free = free_behind(window, free, need.bytes, area);
+        free = free_behind(window, free, need.bytes as u32, area);
     }
     None
 }

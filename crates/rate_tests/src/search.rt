@@ -95,7 +95,8 @@ fn parts_by_search(rt: HostRuntime) -> Result<(), Fail> {
         let menu = some_slots(&mut state);
         let mut frames = [Asked(HEADERS[class], 0); 4];
         for frame in &mut frames {
-            frame.1 = next(&mut state) % if class == 2 { 300 } else { 600 };
+            let drawn = (next(&mut state) % 65_536) as u16;
+            frame.1 = drawn % if class == 2 { 300 } else { 600 };
         }
         if expect_searched(&rt, &frames[..number / 3 % 4 + 1], menu.as_slice())? {
             plans = plans.saturating_add(1);

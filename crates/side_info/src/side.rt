@@ -148,17 +148,25 @@ impl Side {
         );
     }
 
-    /// The main data of the frame in bits: the sum of the part2_3_length.
-    pub fn bits(&self) -> u32
-        ensures { result ≡ payload_bits self.now }
+    // The sum of the part2_3_length.
+    fn all_bits(&self) -> u32
+        ensures bits { result ≡ payload_bits self.now }
+        ensures most { result < 2 ^ 18 }
     {
         pair_bits(&self.granules[0]) + pair_bits(&self.granules[1])
     }
 
+    /// The main data of the frame in bits: the sum of the part2_3_length.
+    pub fn bits(&self) -> u32
+        ensures { result ≡ payload_bits self.now }
+    {
+        self.all_bits()
+    }
+
     /// The main data of the frame in bytes, rounded up.
-    pub fn payload_bytes(&self) -> u32
+    pub fn payload_bytes(&self) -> u16
         ensures { result ≡ payload_bytes self.now }
     {
-        self.bits().div_ceil(8)
+        self.all_bits().div_ceil(8) as u16
     }
 }

@@ -22,7 +22,7 @@ pub(crate) struct Found {
 impl Found {
     /// Judges the frame at the offset, and keeps it where it has no fault, marked where it is lost. The first
     /// of the bytes are its own.
-    // The walk is instantiated for several folders, so that clang wouldn't put what it calls in line of itself.
+    // The walk is instantiated for each folder, and clang doesn't put in line what has several callers.
     #[inline(always)]
     fn judge(
         &mut self,

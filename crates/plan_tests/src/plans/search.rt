@@ -51,7 +51,7 @@ fn laid<P: Policy>(needs: &[Need], policy: &P, lead_in: u32, number: u64) -> Opt
         let slot = *choices.get(place_in(number, choices.len() as u64, needs.len() - 1 - i))?;
         let start = end.max(before.saturating_sub(class.window()));
         let room = before.saturating_add(class.area_of(slot, need.header.protected));
-        end = start.saturating_add(need.bytes);
+        end = start.saturating_add(u32::from(need.bytes));
         if end > room {
             return None;
         }

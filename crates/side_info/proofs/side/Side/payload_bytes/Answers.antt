@@ -7,4 +7,4 @@ use Rattle.side_info.proofs.side.Side.payload_bytes.Goals as goal
 
 pub returns : goal.returns
 unfolding payload_bytes
-returns c = c.div_ceil.ensures ∙ ap (λ n. div_ceil n 8) c.bits.ensures ∙ div_ceil-eight (payload_bits c.args.self.now)
+returns c = c.div_ceil.ensures ∙ ap (λ n. div_ceil n 8) c.all_bits.ensures.bits ∙ div_ceil-eight (payload_bits c.args.self.now)
