@@ -36,6 +36,8 @@ const USAGE: &[u8] = b"usage: mp3edit COMMAND
                          write IN to OUT, each frame louder or quieter by the steps of 1.5 dB at its place
                          SHEET: lines of a place and steps, between which the steps go evenly
                          --back: by as many steps the other way, so that such a fade is taken back
+  salvage IN OUT         write what can be read of the damaged file IN to OUT, and say what is missing;
+                         a frame that has lost its main data becomes an empty one
   --help, -h             say this
   --version              say which version this is
 status: 0 done; 1 refused; 2 bad word; 3 a file is absent, or reading or writing failed;

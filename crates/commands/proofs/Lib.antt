@@ -3,4 +3,5 @@ pub mod OutputLaws
 pub mod RefusingLaws
 pub mod InputLaws
 pub mod MakeLaws
+pub mod TellingLaws
 pub mod SheetLaws

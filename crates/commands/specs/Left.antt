@@ -81,11 +81,6 @@ pub record IsUnwritten (command : Command) (k : ℕ) (old new : Seen) : Type 0 w
   pub rose : Rose old.counts.write_faults new.counts.write_faults
   pub files : IsWrittenTo command k old.files new.files
 
--- nothing is refused, and all is as it was
-pub record IsUnsent (command : Command) (old new : Seen) : Type 0 where
-  pub made : IfSome old.files (λ f. (made : Made) × (command.makes f ≡ Ok made))
-  pub stays : new ≡ old
-
 -- equal names, an absent first input and one that is too long are found before any memory is taken
 abbrev pub is_before_memory : EditFault → Bool
 is_before_memory (EqualNames place) = true
@@ -113,10 +108,10 @@ LeavesBy command old new fault Missing = IsMissing command old new fault
 LeavesBy command old new fault Unread = IsUnread command old new
 LeavesBy command old new fault Shorter = IsShorter old new
 LeavesBy command old new fault (Unwritten k) = IsUnwritten command k old new
-LeavesBy command old new fault Unsent = IsUnsent command old new
+LeavesBy command old new fault Unsent = IsDone command old new
 LeavesBy command old new fault NoMemory = IsOutOfMemory command old new
 
--- what a fault of the command leaves, and its cause
+-- what a fault of the command leaves, and its cause: its text is sent last, so where that failed all of its files were written
 abbrev pub Leaves : Command → Seen → Seen → EditFault → Type 0
 Leaves command old new fault = LeavesBy command old new fault (why_of fault)
 

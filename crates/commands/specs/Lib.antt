@@ -6,4 +6,5 @@ pub mod Command
 pub mod Left
 pub mod One
 pub mod Said
+pub mod Telling
 pub mod Sheet

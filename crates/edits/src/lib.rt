@@ -12,6 +12,7 @@
 //! | `pack_with` | `packing` | packs in a mode: with the least slots, one bit rate alone, or bit rates from one on |
 //! | `split` | `splitting` | lays the frames between places anew, a file for each piece |
 //! | `join` | `joining` | lays the frames of several files anew in one |
+//! | `salvage` | `salvaging` | lays what can be read of a damaged file anew, and sends what is missing to a sink |
 //!
 //! What they share, the faults and the one body of those that make one file, is in `commands`.
 
@@ -23,4 +24,5 @@ pub use joining::join;
 pub use listing::list;
 pub use moved_gains::{Channels, Shift, Steps, Stuck};
 pub use packing::{PackMode, floors_fit, pack_with};
+pub use salvaging::salvage;
 pub use splitting::{Points, split};

@@ -14,7 +14,7 @@ use Rattle.cue_sheet.specs.Digits.{number_in}
 use Rattle.cue_sheet.specs.Places.{is_dot, frame_number, time_in, seconds_in, hundredths_in, time_of, place_of, IsPlace}
 use Rattle.job_words.specs.declared.flags.Flag.{Flag}
 use Rattle.job_words.specs.Kinds.{Kind, Fixed, Name, Steps, Channel, Place, Rate, Seed, Count, Said, Itself, NameSaid, StepsSaid, ChannelSaid, PlaceSaid, RateSaid, SeedSaid, CountSaid, is_name, step_count, steps_of, channel_of, rate_in, seed_in, said, said_first, fits_kind, steps_said, place_said, seed_said, count_said, name_at, said_at, values_of}
-use Rattle.job_words.specs.Forms.{Form, Shape, forms, help, short_help, version, list_form, gain_form, channel_form, undo_form, cut_form, pack_form, constant_form, floor_form, best_form, split_form, sheet_form, join_form, drill_form, fade_form, kinds_behind, front_of, reads_of, asked_of}
+use Rattle.job_words.specs.Forms.{Form, Shape, forms, help, short_help, version, list_form, gain_form, channel_form, undo_form, cut_form, pack_form, constant_form, floor_form, best_form, split_form, sheet_form, join_form, drill_form, fade_form, salvage_form, kinds_behind, front_of, reads_of, asked_of}
 use Rattle.job_words.specs.Words.{have_kinds, kinds_in, IsName, IsStepCount, IsSeed, IsCount, IsSound}
 use Rattle.job_words.proofs.Lists.{rest_agrees, and_first, and_last}
 
@@ -301,10 +301,13 @@ fade_is_sound : AreSound fade_form
 fade_is_sound = once fade_form refl (λ given words h.
     (name_there fade_form.kinds words 0 h (omega arith) refl, name_there fade_form.kinds words 1 h (omega arith) refl, name_there fade_form.kinds words 2 h (omega arith) refl))
 
+salvage_is_sound : AreSound salvage_form
+salvage_is_sound = once salvage_form refl (λ given words h. (name_there salvage_form.kinds words 0 h (omega arith) refl, name_there salvage_form.kinds words 1 h (omega arith) refl))
+
 forms_are_sound : All AreSound forms
 forms_are_sound =
     All-from_recursion AreSound forms
-    (help_is_sound, (short_is_sound, (version_is_sound, (list_is_sound, (gain_is_sound, (channel_is_sound, (undo_is_sound, (cut_is_sound, (pack_is_sound, (constant_is_sound, (floor_is_sound, (best_is_sound, (split_is_sound, (sheet_is_sound, (join_is_sound, (drill_is_sound, (fade_is_sound, tt)))))))))))))))))
+    (help_is_sound, (short_is_sound, (version_is_sound, (list_is_sound, (gain_is_sound, (channel_is_sound, (undo_is_sound, (cut_is_sound, (pack_is_sound, (constant_is_sound, (floor_is_sound, (best_is_sound, (split_is_sound, (sheet_is_sound, (join_is_sound, (drill_is_sound, (fade_is_sound, (salvage_is_sound, tt))))))))))))))))))
 
 -- ---- a shape of a form
 

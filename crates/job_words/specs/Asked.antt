@@ -27,3 +27,5 @@ pub data Asked : Type 0 where
   Drill : ℕ → ℕ → Asked
   -- whether a fade is taken back, the names of the input, of the output and of the sheet
   Fade : Bool → List ℕ → List ℕ → List ℕ → Asked
+  -- the names of the input and of the output
+  Salvage : List ℕ → List ℕ → Asked

@@ -9,7 +9,7 @@ use Rattle.job_words.specs.declared.jobs.Job.{Job}
 use Rattle.job_words.specs.declared.jobs.Job.TheVariants as job
 use Rattle.job_words.specs.Kinds.{Kind, Fixed, Name, Steps, Channel, Place, Rate, Seed, Count, Said, Itself, NameSaid, StepsSaid, ChannelSaid, PlaceSaid, RateSaid, SeedSaid, CountSaid}
 use Rattle.job_words.specs.Forms.{Form}
-use Rattle.job_words.specs.Asked.{Asked, Help, Version, ListFile, Gain, Undo, Cut, Pack, SplitAt, SplitBy, Join, Drill, Fade}
+use Rattle.job_words.specs.Asked.{Asked, Help, Version, ListFile, Gain, Undo, Cut, Pack, SplitAt, SplitBy, Join, Drill, Fade, Salvage}
 
 abbrev pub word_kind : WordKind → Kind
 word_kind (code.Fixed text) = Fixed text.now
@@ -47,6 +47,7 @@ asked (job.SplitBy input prefix sheet) = SplitBy input.now prefix.now sheet.now
 asked (job.Join output inputs) = Join output.now (map string_bytes inputs.now)
 asked (job.Drill seed count) = Drill seed count
 asked (job.Fade back input output sheet) = Fade back input.now output.now sheet.now
+asked (job.Salvage input output) = Salvage input.now output.now
 
 -- what is asked for, or the place of the bad word
 abbrev pub answer : Result Job ℕ → Result Asked ℕ

@@ -11,7 +11,7 @@ use Rattle.job_words.specs.declared.forms.Asks.{Asks}
 use Rattle.job_words.specs.declared.forms.Asks.TheVariants as asks
 use Rattle.job_words.specs.Kinds.{Kind, Fixed, Name, Steps, Channel, Place, Rate, Seed, Count, Said, fits_kind, name_at, said_at, steps_said, channels_said, place_said, rate_said, seed_said, count_said, values_of}
 use Rattle.job_words.specs.Flags.{given_kinds, first_word, is_given, orders}
-use Rattle.job_words.specs.Asked.{Asked, Help, Version, ListFile, Gain, Undo, Cut, Pack, SplitAt, SplitBy, Join, Drill, Fade}
+use Rattle.job_words.specs.Asked.{Asked, Help, Version, ListFile, Gain, Undo, Cut, Pack, SplitAt, SplitBy, Join, Drill, Fade, Salvage}
 
 -- the command's word, the flags that may stand behind it, the kinds of the words behind those, how often the last of them may stand again,
 -- and what is asked for
@@ -90,11 +90,15 @@ drill_form = record { command = codes "drill"; flags = []; kinds = Seed ∷ Coun
 abbrev pub fade_form : Form
 fade_form = record { command = codes "fade"; flags = Back ∷ []; kinds = Name ∷ Name ∷ Name ∷ []; more = 0; asks = asks.Fade }
 
+-- `salvage IN OUT`
+abbrev pub salvage_form : Form
+salvage_form = record { command = codes "salvage"; flags = []; kinds = Name ∷ Name ∷ []; more = 0; asks = asks.Salvage }
+
 -- all of them
 abbrev pub forms : List Form
 forms =
     help ∷ short_help ∷ version ∷ list_form ∷ gain_form ∷ channel_form ∷ undo_form ∷ cut_form ∷ pack_form ∷ constant_form ∷ floor_form
-    ∷ best_form ∷ split_form ∷ sheet_form ∷ join_form ∷ drill_form ∷ fade_form ∷ []
+    ∷ best_form ∷ split_form ∷ sheet_form ∷ join_form ∷ drill_form ∷ fade_form ∷ salvage_form ∷ []
 
 -- ---- the kinds of a form's words
 
@@ -164,6 +168,7 @@ reads_of asks.SplitBy given values words = SplitBy (name_at values 0) (name_at v
 reads_of asks.Join given values words = Join (name_at values 0) (drop 1 words)
 reads_of asks.Drill given values words = Drill (seed_said (said_at values 0)) (count_said (said_at values 1))
 reads_of asks.Fade given values words = Fade (is_given given Back) (name_at values 0) (name_at values 1) (name_at values 2)
+reads_of asks.Salvage given values words = Salvage (name_at values 0) (name_at values 1)
 
 -- what words of a shape ask for
 abbrev pub asked_of : Shape → List (List ℕ) → Asked

@@ -5,7 +5,7 @@ use Rattle.std.specs.Cmp.Lexicographic.{pointwise}
 use Rattle.cue_sheet.specs.declared.place.Place.{Place}
 use Rattle.cue_sheet.specs.Places.{IsPlace}
 use Rattle.job_words.specs.Kinds.{Kind, is_name, fits_kind}
-use Rattle.job_words.specs.Asked.{Asked, Help, Version, ListFile, Gain, Undo, Cut, Pack, SplitAt, SplitBy, Join, Drill, Fade}
+use Rattle.job_words.specs.Asked.{Asked, Help, Version, ListFile, Gain, Undo, Cut, Pack, SplitAt, SplitBy, Join, Drill, Fade, Salvage}
 use Rattle.job_words.specs.Forms.{forms, Shape, shapes, kinds_for, asked_of}
 
 -- ---- the reading
@@ -111,3 +111,4 @@ IsSound (SplitBy input prefix sheet) = IsName input × IsName prefix × IsName s
 IsSound (Join output inputs) = IsName output × AreInputs inputs
 IsSound (Drill seed count) = IsSeed seed × IsCount count
 IsSound (Fade back input output sheet) = IsName input × IsName output × IsName sheet
+IsSound (Salvage input output) = IsName input × IsName output

@@ -33,6 +33,7 @@ pub(crate) enum Asks {
     Join,
     Drill,
     Fade,
+    Salvage,
 }
 
 /// A form: the command's word, then flags, then words of these kinds, of which the last may stand again so often.
@@ -46,7 +47,7 @@ pub(crate) struct Form {
 
 /// The forms. C is a channel, N a number of steps, B a bit rate, SEED and COUNT are numbers, P1 to P100, FROM and TO places; all
 /// others are names.
-pub(crate) static FORMS: [Form; 17] = [
+pub(crate) static FORMS: [Form; 18] = [
     // `--help`
     Form {
         command: "--help",
@@ -219,6 +220,14 @@ pub(crate) static FORMS: [Form; 17] = [
         more: 0,
         asks: Asks::Fade,
     },
+    // `salvage IN OUT`
+    Form {
+        command: "salvage",
+        flags: &[],
+        kinds: &[WordKind::Name, WordKind::Name],
+        more: 0,
+        asks: Asks::Salvage,
+    },
 ];
 
 /// The most kinds that a form has for its words: the command, four flags of two words, five kinds, and the last 98 times again.
@@ -343,6 +352,10 @@ impl Asks {
                 input: name_at(values, 0),
                 output: name_at(values, 1),
                 sheet: name_at(values, 2),
+            },
+            Asks::Salvage => Job::Salvage {
+                input: name_at(values, 0),
+                output: name_at(values, 1),
             },
         }
     }

@@ -101,4 +101,11 @@ pub enum Job<'a> {
         /// The name of the sheet.
         sheet: &'a str,
     },
+    /// Write what can be read of the damaged file `input` to `output`, and say what is missing.
+    Salvage {
+        /// The name of the file to read.
+        input: &'a str,
+        /// The name of the file to write.
+        output: &'a str,
+    },
 }

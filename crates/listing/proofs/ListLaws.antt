@@ -87,11 +87,7 @@ module _ (input : List ℕ) where
 
     -- and nothing is refused where a write to standard output failed
     pub unsent : Leaves (list_command input) (seen files counts) (seen new after) NotSent
-    unsent = record { made = at files gives; stays = ap₂ seen same done }
-      where
-        at : (fs : Files) → Gives (list_command input) fs (Ok made_of) → IfSome fs (λ f. (made : Made) × ((list_command input).makes f ≡ Ok made))
-        at None g = tt
-        at (Some f) g = (made_of, g)
+    unsent = is_done
 
     -- the text
     pub text_is : (text : List ℕ) → IsText (list_command input) files text → text ≡ listing s

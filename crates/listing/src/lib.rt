@@ -6,4 +6,5 @@ mod lines;
 mod list_file;
 mod things;
 
+pub use line::Line;
 pub use list_file::list;

@@ -10,7 +10,7 @@ const ROOM: usize = 192;
 /// A text of at most 192 bytes, to which more is put in front: so the digits of a number are written where they
 /// stay. Contracts see it as its bytes.
 #[derive(Drop)]
-pub(crate) struct Line {
+pub struct Line {
     room: [u8; ROOM],
     front: usize,
 }
@@ -27,7 +27,7 @@ impl Model for Line {
 
 impl Line {
     /// An empty text.
-    pub(crate) fn new() -> Line
+    pub fn new() -> Line
         ensures { result ≡ [] }
     {
         Line {
@@ -38,7 +38,7 @@ impl Line {
 
     /// Lets the text go.
     #[inline]
-    pub(crate) fn clear(&mut self)
+    pub fn clear(&mut self)
         ensures { self.new ≡ [] }
     {
         self.front = ROOM;
@@ -46,7 +46,7 @@ impl Line {
 
     /// Puts a text in front.
     #[inline]
-    pub(crate) fn put(&mut self, text: &[u8])
+    pub fn put(&mut self, text: &[u8])
         requires { length self.old + length text.now ≤ 192 }
         ensures { self.new ≡ text.now ++ self.old }
     {
@@ -57,7 +57,7 @@ impl Line {
 
     /// Puts the decimal digits of a number in front.
     #[inline]
-    pub(crate) fn put_number(&mut self, number: u64)
+    pub fn put_number(&mut self, number: u64)
         requires { length self.old + 20 ≤ 192 }
         ensures number { self.new ≡ decimal number ++ self.old }
         ensures few { length self.new ≤ length self.old + 20 }
@@ -67,7 +67,7 @@ impl Line {
 
     /// The text.
     #[inline]
-    pub(crate) fn bytes(&self) -> &[u8]
+    pub fn bytes(&self) -> &[u8]
         ensures { result.now ≡ self.now }
     {
         &self.room[self.front..]

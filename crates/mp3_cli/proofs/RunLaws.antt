@@ -336,6 +336,32 @@ pub command_answers : {T : Type 0} (command : Command) → IsSilent command → 
 command_answers command no_text r old new out err_old err_new status done left numbers names status_is line =
     silent_answers command no_text r old new out err_old err_new status done left numbers (λ place clash. ap fault_of ((names place).1 clash)) status_is line
 
+-- the answer of a command with a text
+pub told_answers : {T : Type 0} (command : Command) (r : Result T EditFault) (old new : Seen) (out_old out_new err_old err_new : Heard) (status : ℕ)
+    → OnOk r (IsDone command old new) → IfErr r (Leaves command old new) → Says command old.files out_old out_new (fault_of r) → IfErr r (HasNumbers command)
+    → ((place : ℕ) → IsErrOf r (EqualNames place) ↔ (clash_of command ≡ Some place)) → status ≡ fault_status (fault_of r) → GetsLine err_old err_new (line_of command (fault_of r))
+    → Answers command (world old out_old err_old) (world new out_new err_new) status
+told_answers command (Ok x) old new out_old out_new err_old err_new status done left says numbers names status_is line = record {
+  fault = None;
+  status_is = status_is;
+  line = line;
+  says = says;
+  done = λ e. done;
+  left = tt;
+  numbers = tt;
+  names = λ place clash. ap fault_of ((names place).1 clash);
+}
+told_answers command (Err fault) old new out_old out_new err_old err_new status done left says numbers names status_is line = record {
+  fault = Some fault;
+  status_is = status_is;
+  line = line;
+  says = says;
+  done = λ e. absurd cc;
+  left = left;
+  numbers = numbers;
+  names = λ place clash. ap fault_of ((names place).1 clash);
+}
+
 -- ---- a command that makes one file
 
 silent_made : (output : List ℕ) (r : Result (List ℕ) EditFault) (made : Made) → made_of output r ≡ Ok made → made.text ≡ []
@@ -392,16 +418,9 @@ module _ (text : List ℕ) (some : Some text ≢ Some []) (now : Seen) where
       at None = tt
       at (Some f) = tt
 
-  unsent_made : IfSome now.files (λ f. (made : Made) × ((said_command text).makes f ≡ Ok made))
-  unsent_made = at now.files
-    where
-      at : (files : Files) → IfSome files (λ f. (made : Made) × ((said_command text).makes f ≡ Ok made))
-      at None = tt
-      at (Some f) = (record { outputs = []; text = text }, refl)
-
   module _ (out_old out_new err_old err_new : Heard) (status : ℕ) where
     said_left : (fault : EditFault) → IsDrillFault fault → Leaves (said_command text) now now fault × HasNumbers (said_command text) fault
-    said_left NotSent is = (record { made = unsent_made; stays = refl }, some)
+    said_left NotSent is = (record { made = text_made; told = refl; counts = refl }, some)
     said_left Memory is = (record { names = refl; takes = none_early; stays = refl }, tt)
     said_left (EqualNames place) is = absurd is
     said_left (Input place fault) is = absurd is

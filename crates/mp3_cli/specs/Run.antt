@@ -15,7 +15,8 @@ use Rattle.listing.specs.Listing.{list_command}
 use Rattle.splitting.specs.Split.{split_at_command, split_by_command}
 use Rattle.joining.specs.Join.{join_command}
 use Rattle.drill.specs.Drilled.{drill_command}
-use Rattle.job_words.specs.Asked.{Asked, Help, Version, ListFile, Gain, Undo, Cut, Pack, SplitAt, SplitBy, Join, Drill, Fade}
+use Rattle.salvaging.specs.Salvaged.{salvage_command}
+use Rattle.job_words.specs.Asked.{Asked, Help, Version, ListFile, Gain, Undo, Cut, Pack, SplitAt, SplitBy, Join, Drill, Fade, Salvage}
 use Rattle.job_words.specs.Words.{job_of}
 use Rattle.sync_survey.specs.MainData.{StreamFrame}
 use Rattle.sync_survey.specs.Faults.{HoldsStream}
@@ -49,6 +50,7 @@ command_of (SplitBy input prefix sheet) = split_by_command input sheet prefix
 command_of (Join output inputs) = join_command output inputs
 command_of (Drill seed count) = drill_command seed count
 command_of (Fade back input output sheet) = fade_command sheet back input output
+command_of (Salvage input output) = salvage_command input output
 
 -- ---- the answer of a command, whatever its folder tells
 

@@ -139,10 +139,12 @@ help_text =
     ++ (codes "                         write IN to OUT, each frame louder or quieter by the steps of 1.5 dB at its place\n"
     ++ (codes "                         SHEET: lines of a place and steps, between which the steps go evenly\n"
     ++ (codes "                         --back: by as many steps the other way, so that such a fade is taken back\n"
+    ++ (codes "  salvage IN OUT         write what can be read of the damaged file IN to OUT, and say what is missing;\n"
+    ++ (codes "                         a frame that has lost its main data becomes an empty one\n"
     ++ (codes "  --help, -h             say this\n"
     ++ (codes "  --version              say which version this is\n"
     ++ (codes "status: 0 done; 1 refused; 2 bad word; 3 a file is absent, or reading or writing failed;\n"
-    ++ codes "        4 out of memory\n")))))))))))))))))))))))))))))))
+    ++ codes "        4 out of memory\n")))))))))))))))))))))))))))))))))
 
 -- the program's name and version
 unfoldable pub version_text : List ℕ

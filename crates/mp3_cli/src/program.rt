@@ -15,7 +15,7 @@ use crate::output_names::Outputs;
 use crate::texts::{say_help, say_version, send_bad_word, send_fault, status};
 use arrayvec::ArrayVec;
 use drill::drill;
-use edits::{EditFault, Points, cut, fade, gain, join, list, pack_with, split, undo};
+use edits::{EditFault, Points, cut, fade, gain, join, list, pack_with, salvage, split, undo};
 use job_words::{Job, job};
 use outside::{Folder, Sink};
 use std::alloc::Global;
@@ -150,6 +150,10 @@ fn run_job<D: Folder, T: Sink, E: Sink>(
             let done = fade(alloc, folder, input, output, sheet, back);
             report(err, done, &[input, sheet], &Outputs::One(output))
         }
+        Job::Salvage { input, output } => {
+            let done = salvage(alloc, folder, input, output, out);
+            report(err, done, &[input], &Outputs::One(output))
+        }
     }
 }
 
@@ -210,7 +214,7 @@ pub fn run<D: Folder, T: Sink, E: Sink>(
     ensures quiet { result ≡ 0 → E.sent err.new ≡ E.sent err.old }
 
     // Standard output gets a text only where the command was done, or a write there failed. Where the text is the same whatever the
-    // files are, it gets it over every folder: that of `--help`, `--version` and `drill`, and none of the commands that write a file.
+    // files are, it gets it over every folder: that of `--help`, `--version` and `drill`, and none of the commands that write a file but `salvage`.
     ensures silent { result ≢ 0 → result ≢ 3 → T.sent out.new ≡ T.sent out.old }
     ensures text { result ≡ 0 → IfSome (always_of (job_of (map string_bytes words.now)))
         (λ text. T.sent out.new ≡ sent_more (T.sent out.old) text) }

@@ -40,7 +40,7 @@ pub fn status(fault: &EditFault) -> u8
 }
 
 /// What the program does, form by form, and the statuses.
-static HELP: [&str; 33] = [
+static HELP: [&str; 35] = [
     "usage: mp3edit COMMAND\n",
     "  list IN                say what stands in the MP3 file IN: tags, junk, head and frames\n",
     "  gain [-s s] [-w] -g N IN OUT\n",
@@ -70,6 +70,8 @@ static HELP: [&str; 33] = [
     "                         write IN to OUT, each frame louder or quieter by the steps of 1.5 dB at its place\n",
     "                         SHEET: lines of a place and steps, between which the steps go evenly\n",
     "                         --back: by as many steps the other way, so that such a fade is taken back\n",
+    "  salvage IN OUT         write what can be read of the damaged file IN to OUT, and say what is missing;\n",
+    "                         a frame that has lost its main data becomes an empty one\n",
     "  --help, -h             say this\n",
     "  --version              say which version this is\n",
     "status: 0 done; 1 refused; 2 bad word; 3 a file is absent, or reading or writing failed;\n",

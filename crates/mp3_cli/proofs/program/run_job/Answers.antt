@@ -12,10 +12,11 @@ use Rattle.packing.specs.Modes.{pack_task, pack_mode_command}
 use Rattle.splitting.specs.Split.{split_at_command, split_by_command, given, told_by}
 use Rattle.joining.specs.Join.{join_task, join_command}
 use Rattle.drill.specs.Drilled.{drill_text}
+use Rattle.salvaging.specs.Salvaged.{salvage_command}
 use Rattle.drill.proofs.PackedLaws.{drill_text-some}
 use Rattle.mp3_cli.specs.Texts.{help_text, version_text}
 use Rattle.mp3_cli.specs.Run.{result_line, line_of, GetsLine}
-use Rattle.mp3_cli.proofs.RunLaws.{said_answers, sent_alone, command_answers, one_silent, split_silent}
+use Rattle.mp3_cli.proofs.RunLaws.{said_answers, sent_alone, command_answers, told_answers, one_silent, split_silent}
 use Rattle.mp3_cli.proofs.program.run_job.Goals as goal
 
 some_help : Some help_text ≢ Some []
@@ -120,3 +121,10 @@ returns-in-Fade-clause-answers g c =
     (command_answers (fade_command c.in-Fade.sheet.now c.in-Fade.back c.in-Fade.input.now c.in-Fade.output.now) (one_silent _ c.in-Fade.output.now) c.fade-done.result
     (seen (g.D.Folder.files c.args.folder.now) (g.D.Folder.counts c.args.folder.now)) (seen (g.D.Folder.files c.fade-done.new.folder) (g.D.Folder.counts c.fade-done.new.folder))
     _ _ _ _ c.fade-done.ensures.done c.fade-done.ensures.left c.fade-done.ensures.numbers c.fade-done.ensures.names c.report-in-Fade.ensures.status c.report-in-Fade.ensures.line)
+
+pub returns-in-Salvage-clause-answers : goal.returns-in-Salvage-clause-answers
+returns-in-Salvage-clause-answers g c =
+    rw c.in-Salvage.is
+    (told_answers (salvage_command c.in-Salvage.input.now c.in-Salvage.output.now) c.salvage-done.result
+    (seen (g.D.Folder.files c.args.folder.now) (g.D.Folder.counts c.args.folder.now)) (seen (g.D.Folder.files c.salvage-done.new.folder) (g.D.Folder.counts c.salvage-done.new.folder))
+    _ _ _ _ _ c.salvage-done.ensures.done c.salvage-done.ensures.left c.salvage-done.ensures.says c.salvage-done.ensures.numbers c.salvage-done.ensures.names c.report-in-Salvage.ensures.status c.report-in-Salvage.ensures.line)

@@ -1,0 +1,5 @@
+//! Tests of salvage as a whole command, over a folder and sinks in memory.
+#![tactic(auto)]
+
+#[cfg(test)]
+mod damaged;

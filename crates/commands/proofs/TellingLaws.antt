@@ -1,0 +1,83 @@
+-- A command with a text leaves of the files what it leaves without.
+use Rattle.std.proofs.Common.{◌≡◌, ◌≢◌, ℕ, List, Option, Some, None, Result, Ok, Err, refl, sym, ◌∙◌, ap, subst, inl, inr}
+use Rattle.std.specs.Prelude.{◌⊎◌, IfSome}
+use Rattle.outside.specs.Files.{Contents, Files}
+use Rattle.commands.specs.declared.fault.EditFault.{EditFault}
+use Rattle.commands.specs.declared.fault.EditFault.TheVariants.{EqualNames, Input, Refused, Write, Sent as NotSent, Memory}
+use Rattle.commands.specs.Command.{Made, Command, Gives, written, MakesStreams, HoldsStreams}
+use Rattle.commands.specs.Left.{Why, Rejected, Missing, Unread, Shorter, Unwritten, Unsent, NoMemory, why_of, Seen, IsDone, IsWrittenTo, TakesMemory, LeavesBy, Leaves, HasNumbers}
+use Rattle.commands.specs.Said.{IsText}
+use Rattle.commands.specs.Telling.{with_text, telling}
+
+takes_text : (text : List ℕ) (r : Result Made EditFault) → TakesMemory r → TakesMemory (with_text text r)
+takes_text text (Ok made) takes = tt
+takes_text text (Err fault) takes = takes
+
+module _ (text : Contents → List ℕ) (command : Command) where
+  abbrev told : Command
+  told = telling text command
+
+  pub telling-gives : (files : Files) (fault : EditFault) → Gives command files (Err fault) → Gives told files (Err fault)
+  telling-gives None fault is = tt
+  telling-gives (Some f) fault is = ap (with_text (text f)) is
+
+  takes_memory : (files : Files) → IfSome files (λ f. TakesMemory (command.makes f)) → IfSome files (λ f. TakesMemory (told.makes f))
+  takes_memory None takes = tt
+  takes_memory (Some f) takes = takes_text (text f) (command.makes f) takes
+
+  pub telling-done : (old new : Seen) → IsDone command old new → IsDone told old new
+  telling-done old new done = record { made = at old.files done.made; told = done.told; counts = done.counts }
+    where
+      at : (files : Files) → IfSome files (λ f. (made : Made) × (command.makes f ≡ Ok made) × (new.files ≡ Some (written made.outputs f)))
+          → IfSome files (λ f. (made : Made) × (told.makes f ≡ Ok made) × (new.files ≡ Some (written made.outputs f)))
+      at None made = tt
+      at (Some f) made = (record made.0 { text = text f }, ap (with_text (text f)) made.1, made.2)
+
+  written-to : (k : ℕ) (old new : Files) → IsWrittenTo command k old new → IsWrittenTo told k old new
+  written-to k None new h = record { made = tt; told = h.told }
+  written-to k (Some f) new h = record { made = (record h.made.0 { text = text f }, ap (with_text (text f)) h.made.1, h.made.2, h.made.3, h.made.4); told = h.told }
+
+  module _ (old new : Seen) (fault : EditFault) where
+    unread-to : (new.files ≡ old.files) ⊎ ((k : ℕ) × IsWrittenTo command k old.files new.files) → (new.files ≡ old.files) ⊎ ((k : ℕ) × IsWrittenTo told k old.files new.files)
+    unread-to (inl same) = inl same
+    unread-to (inr h) = inr (h.0, written-to h.0 old.files new.files h.1)
+
+    left-by : (why : Why) → LeavesBy command old new fault why → LeavesBy told old new fault why
+    left-by Rejected h = record { defined = telling-gives old.files fault h.defined; stays = h.stays }
+    left-by Missing h = record { defined = telling-gives old.files fault h.defined; rose = h.rose; files = h.files }
+    left-by Unread h = record { rose = h.rose; files = unread-to h.files }
+    left-by Shorter h = h
+    left-by (Unwritten k) h = record { rose = h.rose; files = written-to k old.files new.files h.files }
+    left-by Unsent h = telling-done old new h
+    left-by NoMemory h = record { names = h.names; takes = takes_memory old.files h.takes; stays = h.stays }
+
+    pub telling-left : Leaves command old new fault → Leaves told old new fault
+    telling-left h = left-by (why_of fault) h
+
+  pub telling-numbers : (fault : EditFault) → HasNumbers command fault → HasNumbers told fault
+  telling-numbers (EqualNames place) h = h
+  telling-numbers (Input place fault) h = h
+  telling-numbers (Refused refusal) h = h
+  telling-numbers (Write place) h = h
+  telling-numbers NotSent h = λ e. absurd cc
+  telling-numbers Memory h = tt
+
+  pub telling-streams : (files : Files) → HoldsStreams command files → HoldsStreams told files
+  telling-streams None holds = tt
+  telling-streams (Some f) holds = λ made is. at (command.makes f) refl made is
+    where
+      by_text : (m made : Made) → command.makes f ≡ Ok m → (record m { text = text f }) ≡ made → MakesStreams told f made
+      by_text m made is same = subst (MakesStreams told f) same (let held = holds m is in record { sources = held.sources; streams = held.streams })
+
+      at : (r : Result Made EditFault) → command.makes f ≡ r → (made : Made) → with_text (text f) r ≡ Ok made → MakesStreams told f made
+      at (Ok m) is made e = by_text m made is cc
+      at (Err fault) is made e = absurd cc
+
+  -- the text of told files, of which it makes something
+  pub telling-text : (files : Files) (all : List ℕ) → IsText told files all → (f : Contents) × (files ≡ Some f) × (all ≡ text f)
+  telling-text files all (inl always) = absurd cc
+  telling-text files all (inr t) = (t.0, t.2, sym t.4 ∙ at (command.makes t.0) t.3)
+    where
+      at : (r : Result Made EditFault) → with_text (text t.0) r ≡ Ok t.1 → t.1.text ≡ text t.0
+      at (Ok m) e = let same : (record m { text = text t.0 }) ≡ t.1 = cc in sym (ap (λ (x : Made). x.text) same)
+      at (Err fault) e = absurd cc

@@ -1,0 +1,14 @@
+-- A command that makes files, and a text that tells of them.
+use Rattle.std.specs.Prelude.{ℕ, List, None, Result, Ok, Err}
+use Rattle.outside.specs.Files.{Contents}
+use Rattle.commands.specs.declared.fault.EditFault.{EditFault}
+use Rattle.commands.specs.Command.{Made, Command}
+
+-- with this text, where it isn't refused
+abbrev pub with_text : List ℕ → Result Made EditFault → Result Made EditFault
+with_text text (Ok made) = Ok (record made { text = text })
+with_text text (Err fault) = Err fault
+
+-- the same command, with a text of the files that are there
+abbrev pub telling : (Contents → List ℕ) → Command → Command
+telling text command = record command { always = None; makes = λ files. with_text (text files) (command.makes files) }

@@ -1,0 +1,240 @@
+-- What the command leaves, by its steps.
+use Rattle.std.proofs.Common.{◌≡◌, ℕ, ◌≤◌, List, [], ◌∷◌, length, ltb, cond, Bool, true, false, Option, Some, None, Result, Ok, Err, refl, sym, ◌∙◌, ap, ap₂, subst, arith}
+use Rattle.std.specs.Prelude.{IfSome, IfErr, is_some, slice_get}
+use Rattle.std.proofs.lemmas.Bool.{le-ltb, ltb-false}
+use Rattle.std.proofs.lemmas.List.{length-map}
+use Rattle.bit_fields.specs.Bits.{AreBytes}
+use Rattle.outside.specs.Files.{Contents, Files, Holds, IsThere, IsMissing}
+use Rattle.outside.specs.Counts.{Counts}
+use Rattle.outside.proofs.FilesLaws.{there_holds}
+use Rattle.sync_survey.specs.declared.places.PlacedFrame.{PlacedFrame}
+use Rattle.sync_survey.specs.declared.rows.Row.{Row}
+use Rattle.sync_survey.specs.declared.survey_fault.SurveyFault.{SurveyFault}
+use Rattle.sync_survey.specs.declared.survey_fault.SurveyFault.TheVariants.{Absent, TooLong, Read, Shrunk, Memory as NoRoom, NoFrame, LostSync, Truncated, FreeFormat, Mixed, CheckWord, BackPointer, Overlap, Overrun, TooManyFrames}
+use Rattle.sync_survey.specs.Start.{front_end_of}
+use Rattle.sync_survey.specs.Kinds.{HasRightNumbers}
+use Rattle.sync_survey.specs.Faults.{SurveyFields, HoldsStream, longest_file, tells}
+use Rattle.sync_survey.specs.Survey.{HoldsOctets}
+use Rattle.salvage.specs.Walk.{first_frame}
+use Rattle.salvage.specs.Damaged.{DamagedFields, unless_too_many, counted, damaged_by, damaged_from, damaged, damaged_of, IsReadOf, RefusesDamaged, IsReadFault, most_frames}
+use Rattle.salvage.specs.Mended.{mended_row}
+use Rattle.salvage.specs.Text.{salvage_text}
+use Rattle.commands.specs.declared.fault.EditFault.{EditFault}
+use Rattle.commands.specs.declared.fault.EditFault.TheVariants.{EqualNames, Input, Refused, Write, Sent as NotSent, Memory}
+use Rattle.commands.specs.Command.{Command, AreSound, HoldsStreams}
+use Rattle.commands.specs.Said.{IsText}
+use Rattle.commands.proofs.TellingLaws.{telling-text, telling-done, telling-left, telling-streams}
+use Rattle.commands.proofs.MakeLaws.{clash_left, early_left, one_done, one_left, one_streams}
+use Rattle.commands.specs.Kinds.{of_input}
+use Rattle.commands.specs.Left.{Seen, seen, IsLate, IsDone, Leaves, IsOfPass, HasNumbers}
+use Rattle.commands.specs.One.{Refuses, NeedsMemory, IsEarlyFault, IsOfInputs, IsMaking, IsPassFault, clash_in, holding, one_command}
+use Rattle.frame_edits.specs.Chosen.{Chosen, chosen_file}
+use Rattle.frame_edits.specs.Selected.{selected_file}
+use Rattle.laying.specs.Surveys.{HasSurvey}
+use Rattle.salvaging.specs.declared.work.Work.{Work}
+use Rattle.salvaging.specs.Salvaged.{all_of, salvaged_file, left_stream, made_by, made_where, stream_by, stream_where, text_by, text_where, salvage_task, salvage_command}
+use Rattle.salvaging.specs.Ordered.{IsInOrder, text_of}
+use Rattle.salvaging.specs.Ready.{IsReady}
+use Rattle.salvaging.proofs.OrderLaws.{reports-order, report-text}
+use Rattle.salvaging.proofs.HadLaws.{damaged-had}
+use Rattle.salvaging.proofs.StreamLaws.{salvaged-holds}
+
+-- ---- a file that may be read
+
+length-by : (b : Bool) (n : ℕ) (r : Result DamagedFields SurveyFault) (d : DamagedFields) → cond b (Err (TooLong n)) r ≡ Ok d → (b ≡ false) × (r ≡ Ok d)
+length-by true n r d e = absurd cc
+length-by false n r d e = (refl, e)
+
+pub damaged_of-is : (file : List ℕ) (d : DamagedFields) → damaged_of file ≡ Ok d → (ltb longest_file (length file) ≡ false) × (damaged file ≡ Ok d)
+unfolding damaged_of
+damaged_of-is file d e = length-by (ltb longest_file (length file)) (length file) (damaged file) d e
+
+short-is : (file : List ℕ) → length file ≤ longest_file → damaged_of file ≡ damaged file
+unfolding damaged_of
+short-is file few = ap (λ (b : Bool). cond b (Err (TooLong (length file))) (damaged file)) (le-ltb longest_file (length file) few)
+
+many-late : (file : List ℕ) (o : Option Row) (d : DamagedFields) → IfErr (made_by file (unless_too_many o d)) IsLate
+many-late file None d = tt
+many-late file (Some r) d = refl
+
+counted-late : (file : List ℕ) (front_end : ℕ) (rows : List Row) (d : DamagedFields) → IfErr (made_by file (counted front_end rows d)) IsLate
+counted-late file front_end [] d = refl
+counted-late file front_end (r ∷ rows) d = many-late file (slice_get (r ∷ rows) most_frames) d
+
+read-late : (file : List ℕ) (front_end : ℕ) (o : Option PlacedFrame) → IfErr (made_by file (damaged_by file front_end o)) IsLate
+read-late file front_end None = refl
+read-late file front_end (Some first) = counted-late file front_end (damaged_from file front_end first).survey.frames (damaged_from file front_end first)
+
+damaged-late : (file : List ℕ) → IfErr (made_by file (damaged file)) IsLate
+unfolding damaged
+damaged-late file = read-late file (front_end_of file) (first_frame file (front_end_of file))
+
+pub salvage-late : (input : List ℕ) (f : Contents) (bytes : List ℕ) → f input ≡ Some bytes → length bytes ≤ longest_file → IfErr ((salvage_task input).makes f) IsLate
+salvage-late input f bytes held few =
+    subst (λ o. IfErr (made_where o) IsLate) (sym held) (subst (λ r. IfErr (made_by bytes r) IsLate) (sym (short-is bytes few)) (damaged-late bytes))
+
+-- ---- a fault of the reading
+
+module _ (input : List ℕ) where
+  refuses-bytes : (files : Files) (fault : SurveyFault) → IsThere files input → ((bytes : List ℕ) → Holds files input bytes → damaged_of bytes ≡ Err fault) → Refuses (salvage_task input) files (Input 0 fault)
+  refuses-bytes None fault there is = tt
+  refuses-bytes (Some f) fault there is = let held = there_holds f input there in ap made_where held.1 ∙ ap (made_by held.0) (is held.0 held.1)
+
+  refuses-absent : (files : Files) → IsMissing files input → Refuses (salvage_task input) files (Input 0 Absent)
+  refuses-absent None missing = tt
+  refuses-absent (Some f) missing = ap made_where missing
+
+  module _ (files after : Files) (before counts : Counts) (same : after ≡ files) where
+    rejected : (fault : SurveyFault) → RefusesDamaged input files before counts fault → Refuses (salvage_task input) files (Input 0 fault) × (seen after counts ≡ seen files before)
+    rejected fault h = (refuses-bytes files fault h.there h.bytes, ap₂ seen same h.counts)
+
+    pub early-fault : (fault : SurveyFault) → IsReadFault input files before counts fault → IsEarlyFault (salvage_task input) (seen files before) (seen after counts) (of_input fault)
+    early-fault Absent h = record { defined = refuses-absent files h.0; rose = h.1; files = same }
+    early-fault (TooLong n) h = let r = rejected (TooLong n) h in record { defined = r.0; stays = r.1 }
+    early-fault Read h = record { rose = h; files = same }
+    early-fault (Shrunk first second) h = record { rose = h.ended; counts = h.counts; untold_before = h.nothing_told; untold_after = same ∙ h.nothing_told }
+    early-fault NoRoom h = record { there = h.there; few = h.few; stays = ap₂ seen same h.counts }
+    early-fault (NoFrame at) h = let r = rejected (NoFrame at) h in record { defined = r.0; stays = r.1 }
+    early-fault (LostSync at) h = let r = rejected (LostSync at) h in record { defined = r.0; stays = r.1 }
+    early-fault (Truncated at) h = let r = rejected (Truncated at) h in record { defined = r.0; stays = r.1 }
+    early-fault (FreeFormat at) h = let r = rejected (FreeFormat at) h in record { defined = r.0; stays = r.1 }
+    early-fault (Mixed at) h = let r = rejected (Mixed at) h in record { defined = r.0; stays = r.1 }
+    early-fault (CheckWord at said right) h = let r = rejected (CheckWord at said right) h in record { defined = r.0; stays = r.1 }
+    early-fault (BackPointer at begin present) h = let r = rejected (BackPointer at begin present) h in record { defined = r.0; stays = r.1 }
+    early-fault (Overlap at) h = let r = rejected (Overlap at) h in record { defined = r.0; stays = r.1 }
+    early-fault (Overrun at bits room) h = let r = rejected (Overrun at bits room) h in record { defined = r.0; stays = r.1 }
+    early-fault (TooManyFrames at) h = let r = rejected (TooManyFrames at) h in record { defined = r.0; stays = r.1 }
+
+  pub early-numbers : (fault : SurveyFault) → HasRightNumbers fault → IsOfInputs (salvage_task input) (of_input fault)
+  early-numbers Absent h = (omega arith, λ e. absurd cc, h)
+  early-numbers (TooLong n) h = (omega arith, λ e. absurd cc, h)
+  early-numbers Read h = (omega arith, λ e. absurd cc, h)
+  early-numbers (Shrunk first second) h = (omega arith, λ e. absurd cc, h)
+  early-numbers NoRoom h = tt
+  early-numbers (NoFrame at) h = (omega arith, λ e. absurd cc, h)
+  early-numbers (LostSync at) h = (omega arith, λ e. absurd cc, h)
+  early-numbers (Truncated at) h = (omega arith, λ e. absurd cc, h)
+  early-numbers (FreeFormat at) h = (omega arith, λ e. absurd cc, h)
+  early-numbers (Mixed at) h = (omega arith, λ e. absurd cc, h)
+  early-numbers (CheckWord at said right) h = (omega arith, λ e. absurd cc, h)
+  early-numbers (BackPointer at begin present) h = (omega arith, λ e. absurd cc, h)
+  early-numbers (Overlap at) h = (omega arith, λ e. absurd cc, h)
+  early-numbers (Overrun at bits room) h = (omega arith, λ e. absurd cc, h)
+  early-numbers (TooManyFrames at) h = (omega arith, λ e. absurd cc, h)
+
+  -- want of memory, once the input was read
+  pub early-memory : (old new : Seen) (d : DamagedFields) → IsThere old.files input → IsReadOf input old.files d → new ≡ old → NeedsMemory input old new
+  early-memory old new d there read stays = record { there = there; few = λ bytes holds. ltb-false longest_file (length bytes) (damaged_of-is bytes d (read bytes holds)).0; stays = stays }
+
+  -- ---- what was made ready
+
+  module _ (files : Files) (work : Work) (ready : IsReady input files work) where
+    abbrev file_of : List ℕ → List ℕ
+    file_of = selected_file (tells work.survey) work.selection
+
+    file-is : (bytes : List ℕ) → file_of bytes ≡ salvaged_file bytes ready.of
+    unfolding salvaged_file
+    file-is bytes = ap (λ (c : Chosen). chosen_file c bytes (tells work.survey)) ready.chosen ∙ ap (λ (s : SurveyFields). chosen_file (all_of s) bytes s) ready.survey
+
+    pub ready-has : (bytes : List ℕ) → Holds files input bytes → HasSurvey bytes (tells work.survey)
+    ready-has bytes holds = subst (HasSurvey bytes) (sym ready.survey) (damaged-had bytes ready.of (damaged_of-is bytes ready.of (ready.read bytes holds)).1 ready.laid)
+
+    pub ready-makes : IsMaking (salvage_task input) file_of files
+    ready-makes = record { there = ready.there; makes = at files ready.read ready.octets }
+      where
+        at : (fs : Files) → IsReadOf input fs ready.of → HoldsOctets input fs → IfSome fs (λ f. (bytes : List ℕ) → f input ≡ Some bytes → AreBytes bytes × (made_where (f input) ≡ Ok (file_of bytes)))
+        at None read octets = tt
+        at (Some f) read octets = λ bytes held. (octets bytes held, ap made_where held ∙ ap (made_by bytes) (read bytes held) ∙ ap Ok (sym (file-is bytes)))
+
+    pub ready-holds : IfSome files (λ f. (bytes : List ℕ) → f input ≡ Some bytes → AreSound f [] × HoldsStream (file_of bytes) (stream_where (f input)))
+    ready-holds = at files ready.read
+      where
+        at : (fs : Files) → IsReadOf input fs ready.of → IfSome fs (λ f. (bytes : List ℕ) → f input ≡ Some bytes → AreSound f [] × HoldsStream (file_of bytes) (stream_where (f input)))
+        at None read = tt
+        at (Some f) read = λ bytes held.
+            let whole = (damaged_of-is bytes ready.of (read bytes held)).1 in
+            let stream : stream_where (f input) ≡ left_stream bytes ready.of = ap stream_where held ∙ ap (stream_by bytes) (read bytes held) in
+            (tt, subst (λ n. HoldsStream n (stream_where (f input))) (sym (file-is bytes)) (subst (HoldsStream (salvaged_file bytes ready.of)) (sym stream) (salvaged-holds bytes ready.of whole ready.laid)))
+
+    frames-same : length (tells work.survey).frames ≡ length ready.of.survey.frames
+    frames-same = ap (λ (s : SurveyFields). length s.frames) ready.survey ∙ length-map ready.of.survey.frames mended_row
+
+    -- the text is that of what was read
+    pub ready-text : (output all : List ℕ) → IsText (salvage_command input output) files all → all ≡ text_of (length (tells work.survey).frames) work.report
+    ready-text output all is =
+        let told = telling-text (λ f. text_where (f input)) (one_command (salvage_task input) output) files all is in
+        told.2 ∙ at files told.1 ready.there ready.read ∙ sym (report-text ready.of work.report ready.reports) ∙ sym (ap (λ n. text_of n work.report) frames-same)
+      where
+        some-same : (f g : Contents) → Some f ≡ Some g → f ≡ g
+        some-same f g e = cc
+
+        at : (fs : Files) {f : Contents} → fs ≡ Some f → IsThere fs input → IsReadOf input fs ready.of → text_where (f input) ≡ salvage_text ready.of
+        at None e there read = absurd cc
+        at (Some g) {f} e there read =
+            let held = there_holds g input there in
+            ap (λ (h : Contents). text_where (h input)) (sym (some-same g f e)) ∙ ap text_where held.1 ∙ ap text_by (read held.0 held.1)
+
+    pub ready-order : IsInOrder work.report
+    ready-order = reports-order ready.of work.report ready.laid ready.reports
+
+-- ---- what is left
+
+pub left-clash : (input output : List ℕ) (place : ℕ) (now : Seen) → clash_in (salvage_task input) output ≡ Some place → Leaves (salvage_command input output) now now (EqualNames place)
+left-clash input output place now clash =
+    telling-left (λ f. text_where (f input)) (one_command (salvage_task input) output) now now (EqualNames place) (clash_left (salvage_task input) output place now clash)
+
+module _ (input output : List ℕ) (free : clash_in (salvage_task input) output ≡ None) where
+  abbrev text : Contents → List ℕ
+  text f = text_where (f input)
+
+  abbrev silent : Command
+  silent = one_command (salvage_task input) output
+
+  pub left-early : (old new : Seen) (fault : EditFault) → IsEarlyFault (salvage_task input) old new fault → Leaves (salvage_command input output) old new fault
+  left-early old new fault h = telling-left text silent old new fault (early_left (salvage_task input) output free (salvage-late input) old new fault h)
+
+  module _ (old mid new : Seen) (work : Work) (stays : mid ≡ old) (ready : IsReady input old.files work) (told : is_some new.files ≡ is_some mid.files) where
+    abbrev made : List ℕ → List ℕ
+    made = selected_file (tells work.survey) work.selection
+
+    making : IsMaking (salvage_task input) made old.files
+    making = ready-makes input old.files work ready
+
+    pub left-done : ((bytes : List ℕ) → Holds mid.files input bytes → new.files ≡ holding mid.files output (made bytes)) → new.counts ≡ mid.counts → IsDone (salvage_command input output) old new
+    left-done wrote counts = telling-done text silent old new (one_done (salvage_task input) output free made old mid new stays making told done wrote counts)
+      where
+        done : Result (Unit {0}) EditFault
+        done = Ok tt
+
+    pub left-part : (fault : EditFault) → IsPassFault made input output mid new fault → Leaves (salvage_command input output) old new fault
+    left-part fault h = telling-left text silent old new fault (one_left (salvage_task input) output free made old mid new stays making told failed h)
+      where
+        failed : Result (Unit {0}) EditFault
+        failed = Err fault
+
+  pub left-streams : (files : Files) (work : Work) → IsReady input files work → HoldsStreams (salvage_command input output) files
+  left-streams files work ready =
+      telling-streams text silent files
+      (one_streams (salvage_task input) output free (selected_file (tells work.survey) work.selection) files (ready-makes input files work ready) (ready-holds input files work ready) done)
+    where
+      done : Result (Unit {0}) EditFault
+      done = Ok tt
+
+-- ---- what the numbers of a fault say
+
+module _ (input output : List ℕ) where
+  pub numbers-early : (fault : EditFault) → IsOfInputs (salvage_task input) fault → HasNumbers (salvage_command input output) fault
+  numbers-early (EqualNames place) h = absurd h
+  numbers-early (Input place fault) h = h
+  numbers-early (Refused refusal) h = h
+  numbers-early (Write place) h = absurd h
+  numbers-early NotSent h = absurd h
+  numbers-early Memory h = tt
+
+  pub numbers-pass : (fault : EditFault) → IsOfPass fault → HasNumbers (salvage_command input output) fault
+  numbers-pass (EqualNames place) h = absurd h
+  numbers-pass (Input place fault) h = (omega (arith, h.0), h.1, h.2)
+  numbers-pass (Refused refusal) h = absurd h
+  numbers-pass (Write place) h = omega (arith, h)
+  numbers-pass NotSent h = absurd h
+  numbers-pass Memory h = tt

@@ -1,0 +1,6 @@
+-- The lemmas of this crate.
+pub mod OrderLaws
+pub mod HadLaws
+pub mod StreamLaws
+pub mod CommandLaws
+pub mod TextLaws

@@ -1,0 +1,9 @@
+-- All of them are left, in order.
+use Rattle.std.proofs.Common.{sym}
+use Rattle.salvaging.specs.Ordered.{left}
+use Rattle.salvaging.proofs.OrderLaws.{lines-all}
+use Rattle.salvaging.proofs.lines.Lines.of.Goals as goal
+
+pub returns : goal.returns
+unfolding left
+returns c = rw (c.deref.ensures.value, c.deref-2.ensures.value) (sym (lines-all c.args.report.now c.requires))

@@ -1,0 +1,98 @@
+//! The first pass: what can be read of the input, and its plan.
+ghost use Rattle.std.specs.Prelude.{◌≡◌, ◌≤◌, length, IfOk, IfErr, OnOk};
+ghost use Rattle.outside.specs.Files.{IsThere};
+ghost use Rattle.outside.specs.Counts.{OnlyReads};
+ghost use Rattle.sync_survey.specs.Faults.{tells};
+ghost use Rattle.sync_survey.specs.Survey.{HoldsOctets, IsLaidOut as IsLaidSurvey};
+ghost use Rattle.commands.specs.Left.{seen};
+ghost use Rattle.commands.specs.One.{IsEarlyFault, IsOfInputs};
+ghost use Rattle.frame_edits.specs.Chosen.{chosen_in};
+ghost use Rattle.salvaging.specs.Salvaged.{all_of, salvage_task};
+ghost use Rattle.salvaging.specs.Ready.{IsMended, IsReady};
+
+use crate::report::Report;
+use crate::work::Work;
+use commands::EditFault;
+use frame_edits::{Chosen, Selection, Slots, plan_file};
+use laying::{Buffers, Kept};
+use outside::{Folder, SendBuffer};
+use salvage::{Mended, read_damaged};
+use std::alloc::Global;
+use sync_survey::Survey;
+
+/// What can be read of the input, with each frame that isn't sound as one without main data.
+///
+/// # Errors
+/// `Input` with the fault of the reading; `Memory`. The files stay.
+fn read_input<D: Folder>(alloc: Global, folder: &mut D, input: &str) -> Result<Mended, EditFault>
+    ensures mended { IfOk result (IsMended input.now (D.files folder.old)) }
+    ensures laid { IfOk result (λ m. IsLaidSurvey (tells m.survey)) }
+    ensures few { IfOk result (λ m. length (tells m.survey).frames ≤ 2900000) }
+    ensures there { OnOk result (IsThere (D.files folder.old) input.now) }
+    ensures octets { OnOk result (HoldsOctets input.now (D.files folder.old)) }
+    ensures refused { IfErr result (IsEarlyFault (salvage_task input.now)
+        (seen (D.files folder.old) (D.counts folder.old))
+        (seen (D.files folder.new) (D.counts folder.new))) }
+    ensures numbers { IfErr result (IsOfInputs (salvage_task input.now)) }
+    ensures done { OnOk result (D.counts folder.new ≡ D.counts folder.old) }
+    ensures files { D.files folder.new ≡ D.files folder.old }
+    ensures counts { OnlyReads (D.counts folder.old) (D.counts folder.new) }
+{
+    let damaged = match read_damaged(alloc, folder, input) {
+        Ok(damaged) => damaged,
+        Err(fault) => return Err(fault.into()),
+    };
+    match damaged.mend(alloc) {
+        Ok(mended) => Ok(mended),
+        Err(_) => Err(EditFault::Memory),
+    }
+}
+
+/// All frames, in their own slots.
+fn all_frames(survey: &Survey) -> Chosen
+    ensures { chosen_in result ≡ all_of (tells survey.now) }
+{
+    Chosen {
+        from: 0,
+        to: survey.frames().len(),
+        slots: Slots::Own,
+        kept: Kept::none(),
+    }
+}
+
+/// Reads what can be read of the input, plans its frames, and takes all memory.
+///
+/// # Errors
+/// `Input` with the fault of the reading; `Memory`. The files stay.
+pub(crate) fn prepare<D: Folder>(
+    alloc: Global,
+    folder: &mut D,
+    input: &str,
+) -> Result<Work, EditFault>
+    ensures ready { IfOk result (IsReady input.now (D.files folder.old)) }
+    ensures refused { IfErr result (IsEarlyFault (salvage_task input.now)
+        (seen (D.files folder.old) (D.counts folder.old))
+        (seen (D.files folder.new) (D.counts folder.new))) }
+    ensures numbers { IfErr result (IsOfInputs (salvage_task input.now)) }
+    ensures done { OnOk result (D.counts folder.new ≡ D.counts folder.old) }
+    ensures files { D.files folder.new ≡ D.files folder.old }
+    ensures counts { OnlyReads (D.counts folder.old) (D.counts folder.new) }
+{
+    let mended = read_input(alloc, folder, input)?;
+    let Mended {
+        survey,
+        emptied,
+        gaps,
+    } = mended;
+    let chosen = all_frames(&survey);
+    let planned = plan_file(alloc, &survey, &chosen)?;
+    let buffers = Buffers::new(alloc, survey.class())?;
+    let sending = SendBuffer::new(alloc)?;
+    Ok(Work {
+        survey,
+        selection: Selection { chosen, planned },
+        report: Report { gaps, emptied },
+        buffers,
+        sending,
+    })
+}

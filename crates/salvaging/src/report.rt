@@ -1,0 +1,50 @@
+//! What is missing of a damaged file.
+ghost use Rattle.std.specs.Prelude.{◌≡◌, ◌<◌, ◌≤◌, [], OnOk, OnErr, length};
+ghost use Rattle.outside.specs.Files.{sent_more};
+ghost use Rattle.outside.specs.Passed.{SentPrefix};
+ghost use Rattle.outside.specs.Counts.{HasCause};
+ghost use Rattle.salvaging.specs.Ordered.{IsInOrder, text_of};
+
+use crate::lines::{Lines, set_counts, set_line};
+use listing::Line;
+use outside::{Failed, SendBuffer, Sink};
+use salvage::{Emptied, Gap};
+
+/// What is missing: the gaps, and the frames that become empty ones, both by their offsets.
+#[derive(Drop)]
+pub(crate) struct Report {
+    pub gaps: Vec<Gap>,
+    pub emptied: Vec<Emptied>,
+}
+
+/// Sends a line for each gap and each frame that becomes an empty one, in order of their offsets, and one that counts
+/// the frames, the gaps and the empty frames. It takes no memory.
+///
+/// # Errors
+/// Where a write failed. Then a prefix of the text was sent.
+pub(crate) fn send_report<T: Sink>(
+    report: &Report,
+    frames: u64,
+    mut buffer: SendBuffer,
+    out: &mut T,
+) -> Result<(), Failed>
+    requires order { IsInOrder report.now }
+    requires empty { buffer ≡ [] }
+    ensures sent { OnOk result (T.sent out.new ≡ sent_more (T.sent out.old)
+        (text_of frames report.now)) }
+    ensures prefix { OnErr result (SentPrefix (text_of frames report.now) (T.sent out.old)
+        (T.sent out.new)) }
+    ensures cause { HasCause (T.faults out.old) (T.faults out.new) result }
+{
+    let mut line = Line::new();
+    let mut lines = Lines::of(report);
+    while let Some(told) = lines.next() {
+        set_line(&mut line, &told);
+        buffer.push(out, line.bytes())?;
+    }
+    let gaps = report.gaps.as_slice();
+    let emptied = report.emptied.as_slice();
+    set_counts(&mut line, frames, gaps.len() as u64, emptied.len() as u64);
+    buffer.push(out, line.bytes())?;
+    buffer.finish(out)
+}

@@ -1,0 +1,84 @@
+//! The salvage command over a folder.
+ghost use Rattle.std.specs.Prelude.{◌≡◌, ◌↔◌, ℕ, Some, IfErr, OnOk, IsErrOf};
+ghost use Rattle.outside.specs.Counts.{NoneFell};
+ghost use Rattle.commands.specs.Command.{HoldsStreams, clash_of};
+ghost use Rattle.commands.specs.Left.{seen, IsDone, Leaves, HasNumbers};
+ghost use Rattle.commands.specs.One.{clash_in};
+ghost use Rattle.commands.specs.Said.{heard, Says, fault_of};
+ghost use Rattle.salvaging.specs.Salvaged.{salvage_command, salvage_task};
+
+use crate::prepared::prepare;
+use crate::report::send_report;
+use crate::work::Work;
+use crate::written::write_output;
+use commands::EditFault;
+use outside::{Failed, Folder, Sink};
+use std::alloc::Global;
+
+/// The number of the input, where it has the output's name.
+fn clash(input: &str, output: &str) -> Option<u32>
+    ensures { result ≡ clash_in (salvage_task input.now) output.now }
+{
+    if input == output { Some(0) } else { None }
+}
+
+/// Reads what can be read of a damaged file (`salvage::read_damaged`), writes what is left to the output, and then sends to
+/// `out` what is missing. The output is laid as a cut lays it: the ID3v2 blocks that stand in front of the first frame, an
+/// Info frame whose extension is all 0, all frames with their own bit rates and padding, and all other blocks that were read.
+/// A frame whose main data are missing becomes an empty one, and all others are as they were.
+///
+/// | line | what it tells of |
+/// |---|---|
+/// | `gap at O: L bytes` | L bytes from offset O on that were not read |
+/// | `empty frame I at O` | frame I, counted from 0 without the head, at offset O, that became an empty one |
+/// | `N frames, G gaps, E empty` | how many there are; the last line |
+///
+/// The others are in order of their offsets.
+///
+/// Refuses, in this order: `EqualNames(0)` where the output has the input's name, byte for byte; `Input(0, ..)` with the
+/// fault of the reading; `Memory`. Then nothing was created and nothing sent. `Input(0, ..)` with `Read`, and `Write(0)`,
+/// where a call failed while the output was written; then it is as it was or holds a prefix of its bytes, and nothing was
+/// sent. `Sent` where a write to `out` failed; then the output is whole, and `out` got a prefix of the text.
+pub fn salvage<D: Folder, T: Sink>(
+    alloc: Global,
+    folder: &mut D,
+    input: &str,
+    output: &str,
+    out: &mut T,
+) -> Result<(), EditFault>
+    ensures done { OnOk result (IsDone (salvage_command input.now output.now)
+        (seen (D.files folder.old) (D.counts folder.old))
+        (seen (D.files folder.new) (D.counts folder.new))) }
+    ensures left { IfErr result (Leaves (salvage_command input.now output.now)
+        (seen (D.files folder.old) (D.counts folder.old))
+        (seen (D.files folder.new) (D.counts folder.new))) }
+    // The text, of which a prefix was sent where a write failed.
+    ensures says { Says (salvage_command input.now output.now) (D.files folder.old)
+        (heard (T.sent out.old) (T.faults out.old)) (heard (T.sent out.new) (T.faults out.new))
+        (fault_of result) }
+    // Over a folder that tells nothing too.
+    ensures numbers { IfErr result (HasNumbers (salvage_command input.now output.now)) }
+    ensures names { (place : ℕ) → IsErrOf result (EditFault.EqualNames place)
+        ↔ (clash_of (salvage_command input.now output.now) ≡ Some place) }
+    // The output is well-formed, and holds what is left of the input, with at most one lead-in in front.
+    ensures streams { OnOk result (HoldsStreams (salvage_command input.now output.now)
+        (D.files folder.old)) }
+    ensures counts { NoneFell (D.counts folder.old) (D.counts folder.new) }
+{
+    if let Some(place) = clash(input, output) {
+        return Err(EditFault::EqualNames(place));
+    }
+    let work = prepare(alloc, folder, input)?;
+    let Work {
+        survey,
+        selection,
+        report,
+        mut buffers,
+        sending,
+    } = work;
+    write_output(folder, input, output, &survey, &selection, &mut buffers)?;
+    match send_report(&report, survey.frames().len() as u64, sending, out) {
+        Ok(()) => Ok(()),
+        Err(Failed) => Err(EditFault::Sent),
+    }
+}
