@@ -44,6 +44,7 @@ use Rattle.legality.proofs.FadeLaws.{fade-legal, legal-fade}
 use Rattle.legality.proofs.SplitLaws.{cut-range, range-cut, with-parts as laid-parts, pieces-chosen, split-pieces, split-parts, parts-split, cue-parts, parts-cue}
 use Rattle.legality.proofs.PackLaws.{all_with, choose-all, best-made, constant-legal, legal-constant, floor-legal, legal-floor}
 use Rattle.legality.proofs.JoinLaws.{parts-joined, joined-parts}
+use Rattle.legality.proofs.SalvageLaws.{salvage-law}
 
 -- ---- nothing is read
 
@@ -429,4 +430,5 @@ legal-is-accepted = record {
   split_by = split-by-law;
   join = join-law;
   fade = λ files back input output sheet. fade-law sheet back files input output;
+  salvage = salvage-law;
 }

@@ -7,4 +7,5 @@ pub mod FadeLaws
 pub mod SplitLaws
 pub mod PackLaws
 pub mod JoinLaws
+pub mod SalvageLaws
 pub mod LegalLaws

@@ -21,6 +21,7 @@ use Rattle.outside.specs.Files.{Contents}
 use Rattle.sync_survey.specs.declared.rows.Row.{Row}
 use Rattle.sync_survey.specs.Faults.{SurveyFields, longest_file}
 use Rattle.commands.specs.Sheet.{longest_sheet}
+use Rattle.salvage.specs.Damaged.{DamagedFields, damaged_of}
 use Rattle.moved_gains.specs.declared.shift.Channels.{Channels}
 use Rattle.moved_gains.specs.declared.shift.Channels.TheVariants.{Both, Left, Right}
 use Rattle.moved_gains.specs.declared.shift.Shift.{Shift}
@@ -151,3 +152,13 @@ IsLegalPack (Floor rate) s = IsRate rate s.class
 -- all inputs are of one class: version, sampling frequency and number of channels are the same
 abbrev pub AreOfOneClass : List Input → Type 0
 AreOfOneClass inputs = (i j : ℕ) (p q : Input) → slice_get inputs i ≡ Some p → slice_get inputs j ≡ Some q → p.survey.class ≡ q.survey.class
+
+-- ---- salvage
+
+-- The input needn't be well-formed: it is there, has at most 1,073,741,824 bytes, and what can be read of it (`damaged_of`) has a frame besides
+-- an Info frame, and no more than allowed.
+pub record IsLegalSalvage (input : List ℕ) (files : Contents) : Type 0 where
+  pub bytes : List ℕ
+  pub there : files input ≡ Some bytes
+  pub left : DamagedFields
+  pub read : damaged_of bytes ≡ Ok left

@@ -13,7 +13,8 @@ use Rattle.packing.specs.Modes.{pack_mode_command}
 use Rattle.listing.specs.Listing.{list_command}
 use Rattle.splitting.specs.Split.{split_at_command, split_by_command}
 use Rattle.joining.specs.Join.{join_command}
-use Rattle.job_words.specs.Asked.{ListFile, Gain, Undo, Cut, Pack, SplitAt, SplitBy, Join, Fade}
+use Rattle.salvaging.specs.Salvaged.{salvage_command}
+use Rattle.job_words.specs.Asked.{ListFile, Gain, Undo, Cut, Pack, SplitAt, SplitBy, Join, Fade, Salvage}
 use Rattle.legality.specs.Legal.{IsLegalFor}
 
 -- the command isn't refused
@@ -31,3 +32,4 @@ pub record LegalIsAccepted : Type 0 where
   pub split_by : (files : Contents) (input prefix sheet : List ℕ) → IsLegalFor (SplitBy input prefix sheet) files ↔ Makes (split_by_command input sheet prefix) files
   pub join : (files : Contents) (output : List ℕ) (inputs : List (List ℕ)) → IsLegalFor (Join output inputs) files ↔ Makes (join_command output inputs) files
   pub fade : (files : Contents) (back : Bool) (input output sheet : List ℕ) → IsLegalFor (Fade back input output sheet) files ↔ Makes (fade_command sheet back input output) files
+  pub salvage : (files : Contents) (input output : List ℕ) → IsLegalFor (Salvage input output) files ↔ Makes (salvage_command input output) files

@@ -6,9 +6,9 @@ use Rattle.splitting.specs.Split.{piece_names}
 use Rattle.packing.specs.Rules.{most_best}
 use Rattle.pack_mode.specs.declared.mode.PackMode.{PackMode}
 use Rattle.pack_mode.specs.declared.mode.PackMode.TheVariants.{Least, Best, Constant, Floor}
-use Rattle.job_words.specs.Asked.{Asked, Help, Version, ListFile, Gain, Undo, Cut, Pack, SplitAt, SplitBy, Join, Drill, Fade}
+use Rattle.job_words.specs.Asked.{Asked, Help, Version, ListFile, Gain, Undo, Cut, Pack, SplitAt, SplitBy, Join, Drill, Fade, Salvage}
 use Rattle.legality.specs.Inputs.{AreApart, Input, AreInputs, frames_of, OfOne}
-use Rattle.legality.specs.Choices.{IsLegalGain, IsLegalUndo, IsLegalFade, IsRange, ArePieces, IsLegalSheet, IsLegalPack, AreOfOneClass}
+use Rattle.legality.specs.Choices.{IsLegalGain, IsLegalUndo, IsLegalFade, IsRange, ArePieces, IsLegalSheet, IsLegalPack, AreOfOneClass, IsLegalSalvage}
 
 -- ---- the files
 
@@ -26,12 +26,14 @@ sources_of (SplitBy input prefix sheet) = input ∷ []
 sources_of (Join output inputs) = inputs
 sources_of (Drill seed count) = []
 sources_of (Fade back input output sheet) = input ∷ []
+sources_of (Salvage input output) = []
 
--- and as sheets
-abbrev pub sheets_of : Asked → List (List ℕ)
-sheets_of (SplitBy input prefix sheet) = sheet ∷ []
-sheets_of (Fade back input output sheet) = sheet ∷ []
-sheets_of _ = []
+-- and those that are read as sheets, or as a damaged file
+abbrev pub others_of : Asked → List (List ℕ)
+others_of (SplitBy input prefix sheet) = sheet ∷ []
+others_of (Fade back input output sheet) = sheet ∷ []
+others_of (Salvage input output) = input ∷ []
+others_of _ = []
 
 -- those that may be written
 abbrev pub outputs_of : Asked → List (List ℕ)
@@ -47,6 +49,7 @@ outputs_of (SplitBy input prefix sheet) = piece_names prefix
 outputs_of (Join output inputs) = output ∷ []
 outputs_of (Drill seed count) = []
 outputs_of (Fade back input output sheet) = output ∷ []
+outputs_of (Salvage input output) = output ∷ []
 
 -- so many frames the inputs may have together
 abbrev pub most_in_mode : PackMode → ℕ
@@ -74,13 +77,14 @@ AreLegal (SplitBy input prefix sheet) files inputs = OfOne (IsLegalSheet sheet f
 AreLegal (Join output inputs_asked) files inputs = AreOfOneClass inputs
 AreLegal (Drill seed count) files inputs = Unit {0}
 AreLegal (Fade back input output sheet) files inputs = OfOne (IsLegalFade sheet back files) inputs
+AreLegal (Salvage input output) files inputs = IsLegalSalvage input files
 
 -- ---- all of it
 
 -- No input is an output; each input that is a stream is there, no longer than allowed, and well-formed, and they have no more frames than
 -- allowed; and the choices are legal.
 pub record IsLegalFor (asked : Asked) (files : Contents) : Type 0 where
-  pub names : AreApart (sources_of asked ++ sheets_of asked) (outputs_of asked)
+  pub names : AreApart (sources_of asked ++ others_of asked) (outputs_of asked)
   pub inputs : List Input
   pub are : AreInputs files (sources_of asked) inputs
   pub few : frames_of inputs ≤ most_of asked

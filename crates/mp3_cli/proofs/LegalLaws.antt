@@ -1,7 +1,7 @@
 -- What is legal is what is accepted, whatever the words ask for.
 use Rattle.std.proofs.Common.{◌↔◌, ℕ, [], Result, Ok, Err, refl}
 use Rattle.outside.specs.Files.{Contents}
-use Rattle.job_words.specs.Asked.{Asked, Help, Version, ListFile, Gain, Undo, Cut, Pack, SplitAt, SplitBy, Join, Drill, Fade}
+use Rattle.job_words.specs.Asked.{Asked, Help, Version, ListFile, Gain, Undo, Cut, Pack, SplitAt, SplitBy, Join, Drill, Fade, Salvage}
 use Rattle.job_words.specs.Words.{job_of}
 use Rattle.legality.specs.Legal.{IsLegalFor}
 use Rattle.legality.specs.Laws.{Makes}
@@ -23,6 +23,7 @@ legal-for (SplitAt input prefix places) files = of-commands.split_at files input
 legal-for (SplitBy input prefix sheet) files = of-commands.split_by files input prefix sheet
 legal-for (Join output inputs) files = of-commands.join files output inputs
 legal-for (Fade back input output sheet) files = of-commands.fade files back input output sheet
+legal-for (Salvage input output) files = of-commands.salvage files input output
 
 pub legal-by : (r : Result Asked ℕ) (files : Contents) → IsLegalBy files r ↔ IsAcceptedBy files r
 legal-by (Ok asked) files = legal-for asked files

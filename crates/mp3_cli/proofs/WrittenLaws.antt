@@ -17,9 +17,11 @@ use Rattle.sync_survey.specs.Faults.{SurveyFields}
 use Rattle.commands.specs.declared.fault.EditFault.{EditFault}
 use Rattle.commands.specs.Command.{Output, Made, written, AreStreams, MakesStreams, HoldsStreams}
 use Rattle.commands.specs.One.{Task, made_result, made_of, one_command}
+use Rattle.commands.specs.Telling.{with_text, telling}
+use Rattle.salvaging.specs.Salvaged.{text_where, salvage_task, salvage_command}
 use Rattle.commands.proofs.RefusingLaws.{then_ok}
 use Rattle.frame_edits.specs.Chosen.{Chosen}
-use Rattle.job_words.specs.Asked.{Asked, Help, Version, ListFile, Gain, Undo, Cut, Pack, SplitAt, SplitBy, Join, Drill, Fade}
+use Rattle.job_words.specs.Asked.{Asked, Help, Version, ListFile, Gain, Undo, Cut, Pack, SplitAt, SplitBy, Join, Drill, Fade, Salvage}
 use Rattle.job_words.specs.Words.{job_of, IsSound}
 use Rattle.joining.specs.Join.{join_task}
 use Rattle.fading.specs.Fade.{fade_task}
@@ -120,6 +122,10 @@ named-one output (Err fault) made e = absurd cc
 one-named : (task : Task) (output : List ℕ) (f : Contents) (made : Made) → (one_command task output).makes f ≡ Ok made → AreNamed (output ∷ []) made.outputs
 one-named task output f made e = named-one output (made_result task output f) made e
 
+named-told : (text : List ℕ) (names : List (List ℕ)) (r : Result Made EditFault) (made : Made) → ((m : Made) → r ≡ Ok m → AreNamed names m.outputs) → with_text text r ≡ Ok made → AreNamed names made.outputs
+named-told text names (Ok m) made named e = let same : record m { text = text } ≡ made = cc in subst (λ (n : Made). AreNamed names n.outputs) same (named m refl)
+named-told text names (Err fault) made named e = absurd cc
+
 -- ---- whatever is asked for
 
 split-there : (placing : Placing) (more : List (List ℕ)) (input prefix : List ℕ) (f : Contents) (made : Made) → ((places : List Place) → placing.places f ≡ Ok places → length places ≤ 100)
@@ -161,6 +167,11 @@ there (SplitAt input prefix places) f made sound e holds = split-there (given pl
 there (SplitBy input prefix sheet) f made sound e holds = split-there (told_by sheet) (sheet ∷ []) input prefix f made (λ found is. told-few (f sheet) found is) e holds
 there (Join output inputs) f made sound e holds = one-there (join_task inputs) output f made e holds
 there (Fade back input output sheet) f made sound e holds = one-there (fade_task sheet back input) output f made e holds
+there (Salvage input output) f made sound e holds = record {
+  sources = holds.sources;
+  outputs = are-there (output ∷ []) made.outputs ((salvage_task input).stream f ∷ []) f
+      (named-told (text_where (f input)) (output ∷ []) ((one_command (salvage_task input) output).makes f) made (one-named (salvage_task input) output f) e) holds.streams;
+}
 
 pub written-streams : (words : List (List ℕ)) (asked : Asked) (is : job_of words ≡ Ok asked) (sound : IsSound asked) (old new : Seen) (out_old out_new err_old err_new : Heard) (status : ℕ)
     (all : Answers (command_of asked) (world old out_old err_old) (world new out_new err_new) status) → (status ≡ 0 → HoldsStreams (command_of asked) old.files) → status ≡ 0 → HoldsAllStreams words old.files new.files
