@@ -12,11 +12,11 @@ use Rattle.sync_survey.specs.Survey.{survey_of}
 use Rattle.sync_survey.proofs.BytesFaults.{IsOfBytes, surveyed_of_bytes}
 use Rattle.sync_survey.proofs.FoldersLaws.{survey_of-short}
 use Rattle.commands.specs.declared.fault.EditFault.{EditFault}
-use Rattle.commands.specs.declared.fault.EditFault.TheVariants.{EqualNames, Input, Refused, Write, Sent, Memory}
+use Rattle.commands.specs.declared.fault.EditFault.TheVariants.{Input, Refused, Memory}
 use Rattle.commands.specs.declared.fault.Refusal.{Refusal}
 use Rattle.commands.specs.One.{Making, most_frames, made_by, made_file, made_where, file_task, Refuses, RefusesInput, IsFileFaultBy, IsFileFault, IsInputFaultBy, IsInputFault, IsEarlyFaultBy, IsEarlyFault, IsOfInputs, IsMaking, IsProper}
 use Rattle.commands.specs.Command.{AreSound}
-use Rattle.commands.specs.Left.{Why, Rejected, Missing, Unread, Shorter, Unwritten, Unsent, NoMemory, why_of, Seen, is_before_memory, IsLate, IsOfSurvey, IsOfInput, IsRefusal}
+use Rattle.commands.specs.Left.{Why, Rejected, Missing, Unwritten, Unsent, why_of, Seen, is_before_memory, IsLate, IsOfSurvey, IsOfInput, IsRefusal}
 use Rattle.sync_survey.proofs.SurveyedFiles.{survey_of-parts, survey_of-sound}
 
 -- ---- the survey of the input
@@ -35,41 +35,28 @@ module _ (make : Making) (name : List ℕ) (old new : Seen) (fault : EditFault) 
   fault_is_input_by Rejected h =
       subst (RefusesInput make name old new) (sym h.1) (record { there = h.2.there; bytes = λ bytes holds. made-fault make bytes h.0 (h.2.bytes bytes holds); stays = h.2.stays })
   fault_is_input_by Missing h = record { is = h.0; missing = h.1; rose = h.2; files = h.3 }
-  fault_is_input_by Unread h = h
-  fault_is_input_by Shorter h = h
   fault_is_input_by (Unwritten k) h = absurd h
   fault_is_input_by Unsent h = absurd h
-  fault_is_input_by NoMemory h = h
+  fault_is_input_by _ h = h
 
   pub fault_is_input : IsFileFault 0 most_frames name old new fault → IsInputFault make name old new fault
   fault_is_input h = fault_is_input_by (why_of fault) h
 
 pub of_survey_input : (refuses : Refusal → Bool) (fault : EditFault) → IsOfSurvey 0 fault → IsOfInput refuses fault
-of_survey_input refuses (EqualNames place) is = absurd is
 of_survey_input refuses (Input place fault) is = is
-of_survey_input refuses (Refused refusal) is = absurd is
-of_survey_input refuses (Write place) is = absurd is
-of_survey_input refuses Sent is = absurd is
 of_survey_input refuses Memory is = tt
+of_survey_input refuses _ is = absurd is
 
 -- ---- what the command decides of it
 
 pub refusal_numbers : (refuses : Refusal → Bool) (fault : EditFault) → IsRefusal refuses fault → IsOfInput refuses fault
-refusal_numbers refuses (EqualNames place) is = absurd is
-refusal_numbers refuses (Input place fault) is = absurd is
 refusal_numbers refuses (Refused refusal) is = is
-refusal_numbers refuses (Write place) is = absurd is
-refusal_numbers refuses Sent is = absurd is
-refusal_numbers refuses Memory is = absurd is
+refusal_numbers refuses _ is = absurd is
 
 -- it is one of the enum's
 pub refusal-of : (refuses : Refusal → Bool) (fault : EditFault) → IsRefusal refuses fault → (refusal : Refusal) × (fault ≡ Refused refusal) × (refuses refusal ≡ true)
-refusal-of refuses (EqualNames place) is = absurd is
-refusal-of refuses (Input place fault) is = absurd is
 refusal-of refuses (Refused refusal) is = (refusal, refl, is)
-refusal-of refuses (Write place) is = absurd is
-refusal-of refuses Sent is = absurd is
-refusal-of refuses Memory is = absurd is
+refusal-of refuses _ is = absurd is
 
 pub refusal_is_input : (make : Making) (name : List ℕ) (old new : Seen) (s : SurveyFields) (refusal : Refusal) → IsThere old.files name → ((bytes : List ℕ) → Holds old.files name bytes → survey_of bytes most_frames ≡ Ok s)
     → ((bytes : List ℕ) → Holds old.files name bytes → make bytes s ≡ Err (Refused refusal)) → new ≡ old → IsInputFault make name old new (Refused refusal)
@@ -95,22 +82,18 @@ module _ (make : Making) (stream : List ℕ → List StreamFrame) (refuses : Ref
     input_is_early_by : (why : Why) → IsInputFaultBy make input old new fault why → IsEarlyFaultBy (file_task make stream refuses input) old new fault why
     input_is_early_by Rejected h = record { defined = refuses_held old.files fault h.there h.bytes; stays = h.stays }
     input_is_early_by Missing h = record { defined = refuses_where old.files fault None h.missing (ap (λ f. Err f) (sym h.is)); rose = h.rose; files = h.files }
-    input_is_early_by Unread h = h
-    input_is_early_by Shorter h = h
     input_is_early_by (Unwritten k) h = absurd h
     input_is_early_by Unsent h = absurd h
-    input_is_early_by NoMemory h = h
+    input_is_early_by _ h = h
 
     pub input_is_early : IsInputFault make input old new fault → IsEarlyFault (file_task make stream refuses input) old new fault
     input_is_early h = input_is_early_by (why_of fault) h
 
   pub input_numbers : (fault : EditFault) → IsOfInput refuses fault → IsOfInputs (file_task make stream refuses input) fault
-  input_numbers (EqualNames place) h = absurd h
   input_numbers (Input place fault) h = (omega (arith, h.0), h.1, h.2)
   input_numbers (Refused refusal) h = h
-  input_numbers (Write place) h = absurd h
-  input_numbers Sent h = absurd h
   input_numbers Memory h = tt
+  input_numbers _ h = absurd h
 
   -- the file was surveyed, and the command accepts it
   pub file_makes : (files : Files) (made : List ℕ → List ℕ) (s : SurveyFields) → IsThere files input → ((bytes : List ℕ) → Holds files input bytes → survey_of bytes most_frames ≡ Ok s) → ((bytes : List ℕ) → Holds files input bytes → AreBytes bytes)

@@ -10,7 +10,7 @@ use Rattle.commands.specs.declared.fault.EditFault.{EditFault}
 use Rattle.commands.specs.declared.fault.EditFault.TheVariants.{EqualNames}
 use Rattle.commands.specs.One.{Task, first_input, clash_in, made_result, made_of, one_command, holding, Refuses, IsEarlyFaultBy, IsEarlyFault, IsMaking, HoldsPrefix, IsPassFaultBy, IsPassFault}
 use Rattle.commands.specs.Command.{Made, clash_from, Gives, written, written_to, AreSound, MakesStreams, HoldsStreams}
-use Rattle.commands.specs.Left.{Why, Rejected, Missing, Unread, Shorter, Unwritten, Unsent, NoMemory, why_of, Seen, IsLate, IsDone, IsWrittenTo, TakesMemory, LeavesBy, Leaves}
+use Rattle.commands.specs.Left.{Why, Rejected, Missing, Unread, Shorter, Unwritten, NoMemory, why_of, Seen, IsLate, IsDone, IsWrittenTo, TakesMemory, LeavesBy, Leaves}
 
 abbrev pub ok_made : Made → Result Made EditFault
 ok_made made = Ok made
@@ -81,9 +81,8 @@ module _ (task : Task) (output : List ℕ) (free : clash_in task output ≡ None
       early_left_by Missing h = record { defined = gives_refused old.files fault h.defined; rose = h.rose; files = h.files }
       early_left_by Unread h = record { rose = h.rose; files = inl h.files }
       early_left_by Shorter h = record { rose = h.rose; counts = h.counts; before = h.untold_before; after = h.untold_after }
-      early_left_by (Unwritten k) h = absurd h
-      early_left_by Unsent h = absurd h
       early_left_by NoMemory h = record { names = free; takes = takes_memory old.files h.there h.few; stays = h.stays }
+      early_left_by _ h = absurd h
 
       pub early_left : IsEarlyFault task old new fault → Leaves (one_command task output) old new fault
       early_left h = early_left_by (why_of fault) h
@@ -128,14 +127,12 @@ module _ (task : Task) (output : List ℕ) (free : clash_in task output ≡ None
 
     module _ (old new : Seen) (fault : EditFault) (making : IsMaking task file old.files) (told : is_some new.files ≡ is_some old.files) where
       pass_left_by : (why : Why) → IsPassFaultBy file task.source output old new why → LeavesBy (one_command task output) old new fault why
-      pass_left_by Rejected h = absurd h
-      pass_left_by Missing h = absurd h
       pass_left_by Unread h = record { rose = h.rose; files = inr (0, written_part old.files new.files making h.files told) }
       pass_left_by Shorter h = record { rose = h.rose; counts = h.counts; before = h.untold_before; after = h.untold_after }
       pass_left_by (Unwritten k) h =
           record { rose = h.1.rose; files = subst (λ n. IsWrittenTo (one_command task output) n old.files new.files) (sym h.0) (written_part old.files new.files making h.1.files told) }
-      pass_left_by Unsent h = absurd h
       pass_left_by NoMemory h = record { names = free; takes = made_takes old.files making; stays = h }
+      pass_left_by _ h = absurd h
 
     -- from where the files and counts were left as they had been
     module _ {T : Type 0} (old mid new : Seen) (stays : mid ≡ old) (making : IsMaking task file old.files) (told : is_some new.files ≡ is_some mid.files) where

@@ -1,7 +1,7 @@
 -- The output is created and then written by a pass over the input.
-use Rattle.std.proofs.Common.{◌≡◌, ◌≢◌, ℕ, List, [], ◌++◌, length, Option, Some, None, refl, sym, ◌∙◌, ap, subst, unwrap_or, is_some, inr, arith}
+use Rattle.std.proofs.Common.{◌≡◌, ◌≢◌, ℕ, List, [], ◌++◌, length, Option, Some, None, refl, sym, ◌∙◌, ap, subst, unwrap_or, is_some, inr}
 use Rattle.outside.specs.Files.{Files, untold, emptied, appended, with_file, Holds}
-use Rattle.outside.specs.Counts.{Counts, Rose, NoneFell, NothingFailed}
+use Rattle.outside.specs.Counts.{Counts, Rose, NothingFailed}
 use Rattle.outside.proofs.FilesLaws.{with_file_here, with_file_twice, emptied_told, appended_told, emptied_holds_other}
 use Rattle.outside.specs.declared.pass.PassFault.{PassFault}
 use Rattle.outside.specs.declared.pass.PassFault.TheVariants.{Read, Shrunk, Write}
@@ -30,12 +30,6 @@ appended_untold : (files : Files) (name more : List ℕ) → files ≡ untold �
 unfolding appended
 appended_untold None name more is = refl
 appended_untold (Some f) name more is = absurd cc
-
-pub cause_counts : (fault : PassFault) (size : ℕ) (files : Files) (before after : Counts) → HasPassCause size files before after fault → NoneFell before after
-cause_counts Read size files before after h = record { misses = h.1.misses; ends = h.1.ends; read_faults = h.1.read_faults; write_faults = omega (arith, h.1.write_faults) }
-cause_counts (Shrunk first second) size files before after h =
-    record { misses = h.5.misses; ends = h.5.ends; read_faults = h.5.read_faults; write_faults = omega (arith, h.5.write_faults) }
-cause_counts Write size files before after h = record { misses = h.1.misses; ends = omega (arith, h.1.ends); read_faults = omega (arith, h.1.read_faults); write_faults = h.1.write_faults }
 
 -- the output was created, and then written to
 module _ (made : List ℕ → List ℕ) (input output : List ℕ) (apart : input ≢ output) (old mid new : Files) (created : mid ≡ emptied old output) where

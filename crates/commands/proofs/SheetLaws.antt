@@ -1,6 +1,6 @@
 -- What is read of a sheet.
-use Rattle.std.proofs.Common.{◌≡◌, ℕ, ◌<◌, ◌≤◌, cond, List, length, Ok, Err, refl, sym, ◌∙◌, ap, subst, arith}
-use Rattle.std.proofs.lemmas.Bool.{lt-ltb, le-ltb}
+use Rattle.std.proofs.Common.{◌≡◌, ℕ, cond, true, false, List, length, Option, Some, None, Ok, Err, refl, sym, ◌∙◌, subst}
+use Rattle.std.specs.Prelude.{IfErr, nat_lt}
 use Rattle.outside.specs.Files.{Files}
 use Rattle.outside.specs.Counts.{Counts, Rose, NothingFailed}
 use Rattle.outside.specs.Exact.{HasReadCause}
@@ -9,16 +9,13 @@ use Rattle.outside.specs.declared.exact.ReadFault.TheVariants.{Failed, Shrunk as
 use Rattle.sync_survey.specs.Kinds.{of_read}
 use Rattle.commands.specs.declared.fault.EditFault.TheVariants.{Input, Refused}
 use Rattle.commands.specs.declared.fault.Refusal.TheVariants.{SheetTooLarge}
-use Rattle.commands.specs.Left.{seen}
-use Rattle.commands.specs.Sheet.{longest_sheet, sheet_read, IsSheetFault, IsOfSheet}
+use Rattle.commands.specs.Left.{seen, IsLate}
+use Rattle.commands.specs.Sheet.{longest_sheet, sheet_in, IsSheetFault, IsOfSheet}
 
-pub too-large : (bytes : List ℕ) (size : ℕ) → size ≡ length bytes → longest_sheet < size → sheet_read bytes ≡ Err (Refused (SheetTooLarge size))
-too-large bytes size is large =
-    ap (λ b. cond b (Err (Refused (SheetTooLarge (length bytes)))) (Ok bytes)) (lt-ltb longest_sheet (length bytes) (omega (arith, is, large)))
-    ∙ ap (λ n. Err (Refused (SheetTooLarge n))) (sym is)
-
-pub not-large : (bytes : List ℕ) → length bytes ≤ longest_sheet → sheet_read bytes ≡ Ok bytes
-not-large bytes most = ap (λ b. cond b (Err (Refused (SheetTooLarge (length bytes)))) (Ok bytes)) (le-ltb longest_sheet (length bytes) most)
+-- want of memory is met behind its refusals
+pub sheet-late : (sheet : Option (List ℕ)) → IfErr (sheet_in sheet) IsLate
+sheet-late None = refl
+sheet-late (Some bytes) = elim (nat_lt longest_sheet (length bytes)) as (λ b. IfErr (cond b (Err (Refused (SheetTooLarge (length bytes)))) (Ok bytes)) IsLate) [ true ↦ refl | false ↦ tt ]
 
 -- a sheet that was found, and whose bytes aren't read
 module _ (sheet : List ℕ) (files mid last : Files) (before between after : Counts) (size : ℕ) (found : mid ≡ files) (stays : last ≡ mid) (same : between ≡ before) where

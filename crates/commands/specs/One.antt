@@ -114,11 +114,15 @@ pub record RefusesInput (make : Making) (name : List ℕ) (old new : Seen) (faul
   pub bytes : (bytes : List ℕ) → Holds old.files name bytes → made_file make bytes ≡ Err fault
   pub stays : new ≡ old
 
-pub record MissesInput (name : List ℕ) (old new : Seen) (fault : EditFault) : Type 0 where
-  pub is : fault ≡ Input 0 Absent
+-- an input isn't there; the inputs are counted from 0
+pub record MissesAt (place : ℕ) (name : List ℕ) (old new : Seen) (fault : EditFault) : Type 0 where
+  pub is : fault ≡ Input place Absent
   pub missing : IsMissing old.files name
   pub rose : Rose old.counts.misses new.counts.misses
   pub files : new.files ≡ old.files
+
+abbrev pub MissesInput : List ℕ → Seen → Seen → EditFault → Type 0
+MissesInput name old new fault = MissesAt 0 name old new fault
 
 pub record ReadsNothing (old new : Seen) : Type 0 where
   pub rose : Rose old.counts.read_faults new.counts.read_faults

@@ -1,15 +1,14 @@
 -- A sheet, the second input of a command: its bytes, and why they aren't read.
 use Rattle.std.specs.Prelude.{◌≡◌, ◌≢◌, ℕ, nat_lt, if◌then◌else◌, Bool, true, false, List, length, Option, Some, None, Result, Ok, Err}
-use Rattle.outside.specs.Files.{Holds, IsThere, IsMissing}
-use Rattle.outside.specs.Counts.{Rose}
+use Rattle.outside.specs.Files.{Holds, IsThere}
 use Rattle.sync_survey.specs.declared.survey_fault.SurveyFault.TheVariants.{Absent, Memory as NoRoom}
 use Rattle.commands.specs.declared.fault.EditFault.{EditFault}
 use Rattle.commands.specs.declared.fault.EditFault.TheVariants.{Input, Refused, Memory}
 use Rattle.commands.specs.declared.fault.Refusal.{Refusal}
 use Rattle.commands.specs.declared.fault.Refusal.TheVariants.{SheetTooLarge}
 use Rattle.commands.specs.Kinds.{HasRightNumbers}
-use Rattle.commands.specs.Left.{Why, Rejected, Missing, Unread, Shorter, Unwritten, Unsent, NoMemory, why_of, Seen}
-use Rattle.commands.specs.One.{ReadsNothing, LosesInput}
+use Rattle.commands.specs.Left.{Why, Rejected, Missing, Unread, Shorter, NoMemory, why_of, Seen}
+use Rattle.commands.specs.One.{MissesAt, ReadsNothing, LosesInput}
 
 -- it may have so many bytes
 abbrev pub longest_sheet : ℕ
@@ -30,20 +29,16 @@ pub record RefusesSheet (name : List ℕ) (old new : Seen) (fault : EditFault) :
   pub bytes : (bytes : List ℕ) → Holds old.files name bytes → sheet_read bytes ≡ Err fault
   pub stays : new ≡ old
 
-pub record MissesSheet (name : List ℕ) (old new : Seen) (fault : EditFault) : Type 0 where
-  pub is : fault ≡ Input 1 Absent
-  pub missing : IsMissing old.files name
-  pub rose : Rose old.counts.misses new.counts.misses
-  pub files : new.files ≡ old.files
+abbrev pub MissesSheet : List ℕ → Seen → Seen → EditFault → Type 0
+MissesSheet name old new fault = MissesAt 1 name old new fault
 
 abbrev pub IsSheetFaultBy : List ℕ → Seen → Seen → EditFault → Why → Type 0
 IsSheetFaultBy name old new fault Rejected = RefusesSheet name old new fault
 IsSheetFaultBy name old new fault Missing = MissesSheet name old new fault
 IsSheetFaultBy name old new fault Unread = ReadsNothing old new
 IsSheetFaultBy name old new fault Shorter = LosesInput old new
-IsSheetFaultBy name old new fault (Unwritten k) = ⊥
-IsSheetFaultBy name old new fault Unsent = ⊥
 IsSheetFaultBy name old new fault NoMemory = new ≡ old
+IsSheetFaultBy name old new fault _ = ⊥
 
 -- what a fault says that was met while the sheet was read
 abbrev pub IsSheetFault : List ℕ → Seen → Seen → EditFault → Type 0

@@ -1,6 +1,6 @@
 -- What a sheet changes, and its faults as those of the command.
-use Rattle.std.proofs.Common.{◌≡◌, ℕ, ◌≤◌, Bool, true, false, List, length, Option, Some, None, Result, Ok, Err, refl, sym, ◌∙◌, ap, subst, inl, inr, arith}
-use Rattle.std.specs.Prelude.{◌⊎◌, ◌||◌, MatchResult, IfErr, IfOk, IfSome}
+use Rattle.std.proofs.Common.{◌≡◌, ℕ, Bool, true, List, Option, Some, None, Result, Ok, Err, refl, sym, ◌∙◌, ap, subst, inl, inr, arith}
+use Rattle.std.specs.Prelude.{◌⊎◌, MatchResult, IfSome}
 use Rattle.bit_fields.specs.Bits.{AreBytes}
 use Rattle.outside.specs.Files.{Contents, Files, Holds, IsThere}
 use Rattle.outside.proofs.FilesLaws.{there_holds}
@@ -9,14 +9,12 @@ use Rattle.sync_survey.specs.Faults.{SurveyFields}
 use Rattle.sync_survey.specs.Survey.{survey_of}
 use Rattle.sync_survey.proofs.SurveyedFiles.{survey_of-parts}
 use Rattle.commands.specs.declared.fault.EditFault.{EditFault}
-use Rattle.commands.specs.declared.fault.EditFault.TheVariants.{EqualNames, Input, Refused, Write, Sent, Memory}
+use Rattle.commands.specs.declared.fault.EditFault.TheVariants.{Input, Refused, Memory}
 use Rattle.commands.specs.declared.fault.Refusal.{Refusal}
 use Rattle.commands.specs.Refusing.{unless, then_made}
 use Rattle.commands.specs.Left.{Why, Rejected, Missing, Unread, Shorter, Unwritten, Unsent, NoMemory, why_of, Seen, IsRefusal, IsOfInput}
 use Rattle.commands.specs.One.{Making, most_frames, made_where, file_task, Refuses, IsEarlyFaultBy, IsEarlyFault, IsOfInputs, IsInputFault, IsMaking}
-use Rattle.commands.specs.Sheet.{longest_sheet, sheet_refuses, IsSheetFaultBy, IsSheetFault, IsOfSheet}
-use Rattle.commands.proofs.InputLaws.{made-survey, input_is_early, refusal-of}
-use Rattle.commands.proofs.SheetLaws.{not-large}
+use Rattle.commands.proofs.InputLaws.{made-survey, input_is_early}
 use Rattle.moved_gains.specs.declared.change.Change.{Change as CodeChange}
 use Rattle.moved_gains.specs.Change.{Change, changed, change_in}
 use Rattle.fade_plan.specs.Curves.{CurvePoint}
@@ -28,72 +26,6 @@ use Rattle.gain_edits.proofs.Refusals.{range_may}
 use Rattle.gain_edits.specs.Change.{changed_with, changing}
 use Rattle.fading.specs.Fade.{curve_by, faded_by, faded, fade_in, fade_of, fade_change, faded_stream, choice_refuses, fade_refuses, fade_task}
 use Rattle.fading.specs.Steps.{IsChangeFaultBy, IsChangeFault, IsOfChange}
-
-or_true : (b : Bool) → b || true ≡ true
-or_true true = refl
-or_true false = refl
-
-of_sheet : (refusal : Refusal) → sheet_refuses refusal ≡ true → fade_refuses refusal ≡ true
-of_sheet refusal is = ap (λ b. choice_refuses refusal || b) is ∙ or_true (choice_refuses refusal)
-
-of_choice : (refusal : Refusal) → choice_refuses refusal ≡ true → fade_refuses refusal ≡ true
-of_choice refusal is = ap (λ b. b || sheet_refuses refusal) is
-
--- ---- the bytes of the sheet
-
-pub fade_of-is : (bytes : List ℕ) (back : Bool) (s : SurveyFields) → length bytes ≤ longest_sheet → fade_of (Some bytes) back s ≡ fade_in bytes back s
-fade_of-is bytes back s few = ap (λ r. then_made r (λ b. fade_in b back s)) (not-large bytes few)
-
-module _ (sheet : List ℕ) (back : Bool) (s : SurveyFields) (old new : Seen) where
-  module _ (fault : EditFault) where
-    sheet_by : (why : Why) → IsSheetFaultBy sheet old new fault why → IsChangeFaultBy sheet back s old new fault why
-    sheet_by Rejected h = record { there = h.there; bytes = λ bytes holds. ap (λ r. then_made r (λ b. fade_in b back s)) (h.bytes bytes holds); stays = h.stays }
-    sheet_by Missing h = h
-    sheet_by Unread h = h
-    sheet_by Shorter h = h
-    sheet_by (Unwritten k) h = absurd h
-    sheet_by Unsent h = absurd h
-    sheet_by NoMemory h = h
-
-    pub sheet_is_change : IsSheetFault sheet old new fault → IsChangeFault sheet back s old new fault
-    sheet_is_change h = sheet_by (why_of fault) h
-
-  -- what is made of them is what the command makes of them
-  abbrev pub IsAnswer : List ℕ → Result CodeChange EditFault → Type 0
-  IsAnswer bytes r = MatchResult r (λ change. fade_in bytes back s ≡ Ok (change_in change s)) (λ fault. (fault ≡ Memory) ⊎ (IsRefusal choice_refuses fault × (fade_in bytes back s ≡ Err fault)))
-
-  module _ (there : IsThere old.files sheet) (read : List ℕ) (are : (bytes : List ℕ) → Holds old.files sheet bytes → read ≡ bytes) (few : length read ≤ longest_sheet) where
-    whole : (bytes : List ℕ) → Holds old.files sheet bytes → fade_of (Some bytes) back s ≡ fade_in read back s
-    whole bytes holds = ap (λ (l : List ℕ). fade_of (Some l) back s) (sym (are bytes holds)) ∙ fade_of-is read back s few
-
-    pub answer_ok : (r : Result CodeChange EditFault) → IsAnswer read r → IfOk r (λ change. (bytes : List ℕ) → Holds old.files sheet bytes → fade_of (Some bytes) back s ≡ Ok (change_in change s))
-    answer_ok (Ok change) is = λ bytes holds. whole bytes holds ∙ is
-    answer_ok (Err fault) is = tt
-
-    pub answer_fault : new ≡ old → (r : Result CodeChange EditFault) → IsAnswer read r → IfErr r (IsChangeFault sheet back s old new)
-    answer_fault stays (Ok change) is = tt
-    answer_fault stays (Err fault) (inl memory) = subst (IsChangeFault sheet back s old new) (sym memory) stays
-    answer_fault stays (Err fault) (inr is) =
-        let r = refusal-of choice_refuses fault is.0 in
-        subst (IsChangeFault sheet back s old new) (sym r.1)
-        (record { there = there; bytes = λ bytes holds. whole bytes holds ∙ is.1 ∙ ap (λ f. Err f) r.1; stays = stays })
-
-pub sheet_numbers : (fault : EditFault) → IsOfSheet fault → IsOfChange fault
-sheet_numbers (EqualNames place) h = absurd h
-sheet_numbers (Input place fault) h = h
-sheet_numbers (Refused refusal) h = of_sheet refusal h
-sheet_numbers (Write place) h = absurd h
-sheet_numbers Sent h = absurd h
-sheet_numbers Memory h = tt
-
-choice_numbers : (fault : EditFault) → IsRefusal choice_refuses fault → IsOfChange fault
-choice_numbers fault is = let r = refusal-of choice_refuses fault is in subst IsOfChange (sym r.1) (of_choice r.0 r.2)
-
-pub answer_numbers : (bytes : List ℕ) (back : Bool) (s : SurveyFields) (r : Result CodeChange EditFault)
-    → MatchResult r (λ change. fade_in bytes back s ≡ Ok (change_in change s)) (λ fault. (fault ≡ Memory) ⊎ (IsRefusal choice_refuses fault × (fade_in bytes back s ≡ Err fault))) → IfErr r IsOfChange
-answer_numbers bytes back s (Ok change) is = tt
-answer_numbers bytes back s (Err fault) (inl memory) = subst IsOfChange (sym memory) tt
-answer_numbers bytes back s (Err fault) (inr is) = choice_numbers fault is.0
 
 -- ---- the change
 
@@ -123,20 +55,16 @@ along_answer sheet back s curve is (Err fault) refused = inr (refused.0, fade_in
 -- ---- as faults of the command
 
 pub input_numbers : (sheet : List ℕ) (back : Bool) (input : List ℕ) (fault : EditFault) → IsOfInput fade_refuses fault → IsOfInputs (fade_task sheet back input) fault
-input_numbers sheet back input (EqualNames place) h = absurd h
 input_numbers sheet back input (Input place fault) h = (omega (arith, h.0), h.1, h.2)
 input_numbers sheet back input (Refused refusal) h = h
-input_numbers sheet back input (Write place) h = absurd h
-input_numbers sheet back input Sent h = absurd h
 input_numbers sheet back input Memory h = tt
+input_numbers sheet back input _ h = absurd h
 
 pub change_numbers : (sheet : List ℕ) (back : Bool) (input : List ℕ) (fault : EditFault) → IsOfChange fault → IsOfInputs (fade_task sheet back input) fault
-change_numbers sheet back input (EqualNames place) h = absurd h
 change_numbers sheet back input (Input place fault) h = (omega (arith, h.0), h.1, h.2)
 change_numbers sheet back input (Refused refusal) h = h
-change_numbers sheet back input (Write place) h = absurd h
-change_numbers sheet back input Sent h = absurd h
 change_numbers sheet back input Memory h = tt
+change_numbers sheet back input _ h = absurd h
 
 module _ (sheet : List ℕ) (back : Bool) (input : List ℕ) where
   -- what the command makes of its input, where its files are told
@@ -152,11 +80,9 @@ module _ (sheet : List ℕ) (back : Bool) (input : List ℕ) where
     early_by : (why : Why) → IsEarlyFaultBy (file_task (making_in old.files) (faded_stream None back) fade_refuses input) old new fault why → IsEarlyFaultBy (fade_task sheet back input) old new fault why
     early_by Rejected h = record { defined = refuses_same old.files fault h.defined; stays = h.stays }
     early_by Missing h = record { defined = refuses_same old.files fault h.defined; rose = h.rose; files = h.files }
-    early_by Unread h = h
-    early_by Shorter h = h
     early_by (Unwritten k) h = absurd h
     early_by Unsent h = absurd h
-    early_by NoMemory h = h
+    early_by _ h = h
 
     pub input_early : IsInputFault (making_in old.files) input old new fault → IsEarlyFault (fade_task sheet back input) old new fault
     input_early h = early_by (why_of fault) (input_is_early (making_in old.files) (faded_stream None back) fade_refuses input old new fault h)

@@ -1,10 +1,10 @@
 -- What the one body asks of the command: its refusals come late, and what it makes holds the stream with each frame's gains moved.
-use Rattle.std.proofs.Common.{◌≡◌, ℕ, suc, ◌+◌, Bool, true, false, List, [], ◌∷◌, length, map, Option, Some, None, Result, Ok, Err, refl, sym, ◌∙◌, ap, ap₂, subst, arith, zero-add}
-use Rattle.std.specs.Prelude.{IfSome, IfErr, slice_get, nat_lt, cond}
+use Rattle.std.proofs.Common.{◌≡◌, ℕ, suc, ◌+◌, Bool, List, [], ◌∷◌, length, map, Option, Some, None, Result, Ok, Err, refl, sym, ◌∙◌, ap, ap₂, subst, arith, zero-add}
+use Rattle.std.specs.Prelude.{IfSome, IfErr, slice_get}
 use Rattle.std.specs.List.{enumerate_from}
 use Rattle.bit_fields.specs.Bits.{AreBytes}
 use Rattle.fade_plan.specs.declared.envelope_fault.EnvelopeFault.{EnvelopeFault}
-use Rattle.fade_plan.specs.declared.envelope_fault.EnvelopeFault.TheVariants.{Line, NoPoints, Memory as NoRoom}
+use Rattle.fade_plan.specs.declared.envelope_fault.EnvelopeFault.TheVariants.{Line}
 use Rattle.fade_plan.specs.Sheets.{EnvelopePoint, envelope_of}
 use Rattle.fade_plan.specs.Curves.{CurvePoint, curve_of}
 use Rattle.sync_survey.specs.declared.places.Head.{Head}
@@ -14,14 +14,11 @@ use Rattle.sync_survey.specs.Faults.{SurveyFields, surveyed, stream_of_survey, s
 use Rattle.sync_survey.specs.Survey.{survey_of}
 use Rattle.sync_survey.proofs.SurveyParts.{surveyed-allowed}
 use Rattle.sync_survey.proofs.SurveyedFiles.{survey_of-parts}
-use Rattle.sync_survey.specs.declared.survey_fault.SurveyFault.{SurveyFault}
 use Rattle.file_tag.specs.Places.{IsTagBytes}
-use Rattle.commands.specs.declared.fault.EditFault.{EditFault}
-use Rattle.commands.specs.declared.fault.EditFault.TheVariants.{Refused}
-use Rattle.commands.specs.declared.fault.Refusal.TheVariants.{SheetTooLarge}
 use Rattle.commands.specs.Refusing.{then_made}
 use Rattle.commands.specs.Left.{IsLate}
-use Rattle.commands.specs.Sheet.{longest_sheet, sheet_in}
+use Rattle.commands.specs.Sheet.{sheet_in}
+use Rattle.commands.proofs.SheetLaws.{sheet-late}
 use Rattle.commands.specs.One.{most_frames, IsProper}
 use Rattle.commands.proofs.InputLaws.{IsProperMaking, file_proper}
 use Rattle.commands.proofs.RefusingLaws.{unless_late, then_late, then_ok, unless_ok}
@@ -33,22 +30,18 @@ use Rattle.moved_gains.specs.Change.{Change}
 use Rattle.moved_gains.specs.Streams.{moved_stream_frame, moved_stream_of}
 use Rattle.moved_gains.proofs.CourseLaws.{survey_numbered}
 use Rattle.gain_edits.specs.GainRange.{range_fault}
-use Rattle.gain_edits.specs.Change.{changed_with, changing}
+use Rattle.gain_edits.specs.Change.{changing}
 use Rattle.gain_edits.proofs.ChangedStream.{change_cases, changed-stream, holds_moved, stream_of-survey}
+use Rattle.gain_edits.proofs.Proper.{with_late}
+use Rattle.gain_edits.proofs.UndoneGains.{same_survey}
 use Rattle.fading.specs.Fade.{points_read, points_in, curve_read, curve_on, curve_by, faded, fade_in, fade_of, fade_change, moved_frames, stream_along, stream_by, faded_stream, fade_refuses, fade_task}
 
 -- ---- memory was taken before
 
-sheet-late : (sheet : Option (List ℕ)) → IfErr (sheet_in sheet) IsLate
-sheet-late None = refl
-sheet-late (Some bytes) =
-    elim (nat_lt longest_sheet (length bytes)) as (λ b. IfErr (cond b (Err (Refused (SheetTooLarge (length bytes)))) (Ok bytes)) IsLate) [ true ↦ refl | false ↦ tt ]
-
 points-late : (r : Result (List EnvelopePoint) EnvelopeFault) → IfErr (points_read r) IsLate
 points-late (Ok points) = tt
 points-late (Err (Line line)) = refl
-points-late (Err NoPoints) = refl
-points-late (Err NoRoom) = refl
+points-late (Err _) = refl
 
 curve-late : (r : Result (List CurvePoint) ℕ) → IfErr (curve_read r) IsLate
 curve-late (Ok curve) = tt
@@ -63,10 +56,6 @@ in-late bytes back s =
 
 pub fade_of-late : (sheet : Option (List ℕ)) (back : Bool) (s : SurveyFields) → IfErr (fade_of sheet back s) IsLate
 fade_of-late sheet back s = then_late (sheet_in sheet) (λ bytes. fade_in bytes back s) (sheet-late sheet) (λ bytes. in-late bytes back s)
-
-with_late : (file : List ℕ) (s : SurveyFields) (r : Result Change EditFault) → IfErr r IsLate → IfErr (changed_with file s r) IsLate
-with_late file s (Err fault) late = late
-with_late file s (Ok change) late = tt
 
 -- ---- the curve of what is made
 
@@ -99,9 +88,6 @@ by_curve : (course : Course) (file : List ℕ) (s : SurveyFields) → AreNumbere
 unfolding moved_stream_of stream_of_survey stream_frames
 by_curve course file s numbered =
     by_number (steps_over course s.frames) (steps_in course) (main_bytes file s.head s.frames) s.head s.frames 0 s.frames (λ i row is. ap (steps_in course) (numbered i row is ∙ sym (zero-add i)))
-
-same_survey : (s t : SurveyFields) (r : Result SurveyFields SurveyFault) → r ≡ Ok s → r ≡ Ok t → s ≡ t
-same_survey s t r e f = cc
 
 module _ (sheet : Option (List ℕ)) (back : Bool) where
   fade_stream : (file : List ℕ) (s : SurveyFields) (new : List ℕ) → AreBytes file → survey_of file most_frames ≡ Ok s → changing (fade_change sheet back) file s ≡ Ok new → HoldsStream new (faded_stream sheet back file)

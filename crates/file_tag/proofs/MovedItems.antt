@@ -4,7 +4,7 @@ use Rattle.std.specs.List.{cons_option}
 use Rattle.std.proofs.lemmas.List.{length-take, take-append-drop}
 use Rattle.frame_header.specs.Fields.{IsHeader}
 use Rattle.sync_survey.specs.declared.items.Item.{Item}
-use Rattle.sync_survey.specs.declared.items.Item.TheVariants.{Frame, Free, Block, Zero, End, Nothing}
+use Rattle.sync_survey.specs.declared.items.Item.TheVariants.{Frame, Free, Block}
 use Rattle.sync_survey.specs.declared.places.PlacedFrame.{PlacedFrame}
 use Rattle.sync_survey.specs.declared.places.Piece.{Piece}
 use Rattle.sync_survey.specs.declared.runs.Part.{Part}
@@ -97,10 +97,7 @@ module _ (to : ℕ → ℕ) (file new : List ℕ) where
       let here = item_of-is Stream file at (Frame h) is in
       (record { header = header_front-in_range (drop at file) h (stands-at file at (Frame h) here.is); bytes = same }, kept)
   kept_more at Free frames is same kept = kept
-  kept_more at (Block b) frames is same kept = kept
-  kept_more at Zero frames is same kept = kept
-  kept_more at End frames is same kept = kept
-  kept_more at Nothing frames is same kept = kept
+  kept_more at _ frames is same kept = kept
 
   pub frames-kept : (from : ℕ) (ps : List Placed) (end at : ℕ) → AreEndToEnd Stream file from ps end → IsMovedTo to file new from end at → AreKept (frames_of ps)
   frames-kept from [] end at ends moved = tt
@@ -116,23 +113,15 @@ module _ (to : ℕ → ℕ) (file new : List ℕ) where
 
 frame_more : (to : ℕ → ℕ) (at : ℕ) (item : Item) (xs ys : List PlacedFrame) → xs ≡ map (frame_by to) ys → cons_option (frame_as (to at) item) xs ≡ map (frame_by to) (cons_option (frame_as at item) ys)
 frame_more to at (Frame h) xs ys same = ap (λ l. record { offset = to at; header = h } ∷ l) same
-frame_more to at Free xs ys same = same
-frame_more to at (Block b) xs ys same = same
-frame_more to at Zero xs ys same = same
-frame_more to at End xs ys same = same
-frame_more to at Nothing xs ys same = same
+frame_more to at _ xs ys same = same
 
 pub frames-by : (to : ℕ → ℕ) (ps : List Placed) → frames_of (map (placed_by to) ps) ≡ map (frame_by to) (frames_of ps)
 frames-by to [] = refl
 frames-by to (p ∷ ps) = frame_more to p.offset p.item (frames_of (map (placed_by to) ps)) (frames_of ps) (frames-by to ps)
 
 block_more : (to : ℕ → ℕ) (at : ℕ) (item : Item) (xs ys : List Piece) → xs ≡ map (piece_by to) ys → cons_option (block_as (to at) item) xs ≡ map (piece_by to) (cons_option (block_as at item) ys)
-block_more to at (Frame h) xs ys same = same
-block_more to at Free xs ys same = same
 block_more to at (Block b) xs ys same = ap (λ l. record { offset = to at; block = b } ∷ l) same
-block_more to at Zero xs ys same = same
-block_more to at End xs ys same = same
-block_more to at Nothing xs ys same = same
+block_more to at _ xs ys same = same
 
 pub blocks-by : (to : ℕ → ℕ) (ps : List Placed) → blocks_of (map (placed_by to) ps) ≡ map (piece_by to) (blocks_of ps)
 blocks-by to [] = refl

@@ -5,7 +5,7 @@ use Rattle.std.specs.List.{cons_option}
 use Rattle.std.proofs.lemmas.Bool.{lt-ltb, le-ltb, le-leb, lt-leb}
 use Rattle.std.proofs.lemmas.List.Elements.{filter-append}
 use Rattle.sync_survey.specs.declared.items.Item.{Item}
-use Rattle.sync_survey.specs.declared.items.Item.TheVariants.{Frame, Free, Block, Zero, End, Nothing}
+use Rattle.sync_survey.specs.declared.items.Item.TheVariants.{Block}
 use Rattle.sync_survey.specs.declared.places.Piece.{Piece}
 use Rattle.sync_survey.specs.declared.runs.Part.TheVariants.{Stream}
 use Rattle.sync_survey.specs.Items.{size_of}
@@ -26,12 +26,8 @@ begin_lower low from to [] le begin = tt
 begin_lower low from to (b ∷ bs) le begin = (omega (arith, le, begin.0), begin.1, begin_lower low from to bs le begin.2)
 
 begin_more : (from to at : ℕ) (item : Item) (bs : List Piece) → from ≤ at → at < to → BeginBetween from to bs → BeginBetween from to (cons_option (block_as at item) bs)
-begin_more from to at (Frame h) bs low high begin = begin
-begin_more from to at Free bs low high begin = begin
 begin_more from to at (Block b) bs low high begin = (low, high, begin)
-begin_more from to at Zero bs low high begin = begin
-begin_more from to at End bs low high begin = begin
-begin_more from to at Nothing bs low high begin = begin
+begin_more from to at _ bs low high begin = begin
 
 pub items-begin : (file : List ℕ) (from : ℕ) (ps : List Placed) (to : ℕ) → AreEndToEnd Stream file from ps to → BeginBetween from to (blocks_of ps)
 items-begin file from [] to ends = tt

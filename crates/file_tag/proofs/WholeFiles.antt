@@ -14,7 +14,7 @@ use Rattle.sync_survey.specs.Runs.{Placed, Run, whole, item_of, run, AreEndToEnd
 use Rattle.sync_survey.specs.Start.{start_at, front_end_of, start_of}
 use Rattle.sync_survey.proofs.RunsLaws.{item_of-is, item_of-whole, item_of-past, run-next, run-stopped, run-only}
 
-not_in_front : (file : List ℕ) (at : ℕ) (h : HeaderFields) → item_at file at ≡ Frame h → item_of Front file at ≡ None
+pub not_in_front : (file : List ℕ) (at : ℕ) (h : HeaderFields) → item_at file at ≡ Frame h → item_of Front file at ≡ None
 unfolding item_of
 not_in_front file at h is = ap (whole Front file at) is
 
@@ -82,7 +82,7 @@ pub front_end-is : (file : List ℕ) → front_end_of file ≡ (run Front file 0
 unfolding front_end_of
 front_end-is file = refl
 
-start_by : (file : List ℕ) (at : ℕ) (h : HeaderFields) → front_end_of file ≡ at → item_at file at ≡ Frame h → at + size_of (Frame h) ≤ length file → start_of file ≡ Ok (record { front_end = at; first = record { offset = at; header = h } })
+pub start_by : (file : List ℕ) (at : ℕ) (h : HeaderFields) → front_end_of file ≡ at → item_at file at ≡ Frame h → at + size_of (Frame h) ≤ length file → start_of file ≡ Ok (record { front_end = at; first = record { offset = at; header = h } })
 unfolding start_of
 start_by file at h front is within =
     let fit : fits file at (Frame h) ≡ true = le-leb _ _ (omega (arith, within)) in

@@ -32,7 +32,7 @@ pub enum Choice<'a> {
 fn cut_choice(survey: &Survey, from: &Place, to: &Place, slots: Slots) -> Result<Chosen, EditFault>
     requires from { IsPlace from.now }
     requires to { IsPlace to.now }
-    requires few { length (tells survey.now).frames ≤ 2900000 }
+    requires few { length (tells survey.now).frames ≤ most_frames }
     ensures chosen { MatchResult result
         (λ chosen. (file : List ℕ)
         → cut_choice_lem from.now to.now slots file (tells survey.now) ≡ Ok (chosen_in chosen))
@@ -61,7 +61,7 @@ pub fn all_choice<D: Folder>(
 ) -> Result<Chosen, EditFault>
     requires there { IsThere (D.files folder.old) name.now }
     requires laid { IsLaidOut (tells survey.now) }
-    requires few { length (tells survey.now).frames ≤ 2900000 }
+    requires few { length (tells survey.now).frames ≤ most_frames }
     requires surveyed { (bytes : List ℕ) → Holds (D.files folder.old) name.now bytes
         → survey_of bytes most_frames ≡ Ok (tells survey.now) }
     ensures chosen { IfOk result (λ chosen. (bytes : List ℕ)
@@ -102,7 +102,7 @@ impl<'a> Choice<'a> {
         requires choice { IsChoice self.now }
         requires there { IsThere (D.files folder.old) name.now }
         requires laid { IsLaidOut (tells survey.now) }
-        requires few { length (tells survey.now).frames ≤ 2900000 }
+        requires few { length (tells survey.now).frames ≤ most_frames }
         requires surveyed { (bytes : List ℕ) → Holds (D.files folder.old) name.now bytes
             → survey_of bytes most_frames ≡ Ok (tells survey.now) }
         ensures chosen { IfOk result (λ chosen. (bytes : List ℕ)

@@ -42,7 +42,7 @@ pub struct Selection {
 /// The plan of one part by a policy.
 fn plan_part<P: Policy>(alloc: Global, rows: &[Row], policy: &P) -> Result<Plan, AllocError>
     requires planned { CanBePlanned (asked_of (rows.now ∷ [])) }
-    requires few { length rows.now ≤ 2900000 }
+    requires few { length rows.now ≤ most_frames }
     ensures { IfOk result (λ plan. IsPlan (window_in (asked_of (rows.now ∷ [])).needs)
         (P.choices_of policy.now) (parts_of (asked_of (rows.now ∷ [])).needs
         (asked_of (rows.now ∷ [])).places) (entries plan)) }
@@ -55,7 +55,7 @@ fn plan_part<P: Policy>(alloc: Global, rows: &[Row], policy: &P) -> Result<Plan,
 /// The plan of chosen frames.
 fn plan_chosen(alloc: Global, survey: &Survey, chosen: &Chosen) -> Result<Plan, AllocError>
     requires laid { IsLaidOut (tells survey.now) }
-    requires few { length (tells survey.now).frames ≤ 2900000 }
+    requires few { length (tells survey.now).frames ≤ most_frames }
     requires some { chosen.now.from < chosen.now.to }
     requires within { chosen.now.to ≤ length (tells survey.now).frames }
     ensures plan { IfOk result (λ plan. entries plan ≡ plan_of (chosen_in chosen.now)
@@ -92,7 +92,7 @@ pub fn info_bytes(survey: &Survey, chosen: &Chosen, placed: &[Placed]) -> ArrayV
 /// The plan of chosen frames, and their Info frame.
 pub fn plan_file(alloc: Global, survey: &Survey, chosen: &Chosen) -> Result<Planned, AllocError>
     requires laid { IsLaidOut (tells survey.now) }
-    requires few { length (tells survey.now).frames ≤ 2900000 }
+    requires few { length (tells survey.now).frames ≤ most_frames }
     requires some { chosen.now.from < chosen.now.to }
     requires within { chosen.now.to ≤ length (tells survey.now).frames }
     ensures plan { IfOk result (λ p. entries p.plan ≡ plan_of (chosen_in chosen.now)

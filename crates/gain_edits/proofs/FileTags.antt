@@ -6,15 +6,12 @@ use Rattle.file_tag.specs.declared.fault.FileTagFault.{FileTagFault}
 use Rattle.file_tag.specs.Places.{tag_block}
 use Rattle.file_tag.specs.Reading.{empty_tag, file_tag}
 use Rattle.file_tag.proofs.NewTag.{own-tag}
+use Rattle.file_tag.proofs.ReadingLaws.{file_tag-none}
 use Rattle.sync_survey.specs.declared.places.Piece.{Piece}
 use Rattle.sync_survey.specs.Faults.{SurveyFields, surveyed}
 
 IsTag-empty : IsTag empty_tag
 IsTag-empty = record { items = refl; one = omega arith; others = omega arith; own = omega arith; header_bits = refl; footer_bits = refl; header_number = refl; footer_number = refl }
-
-pub file_tag-none : (file : List ℕ) (s : SurveyFields) → tag_block s ≡ None → file_tag file s ≡ Ok empty_tag
-unfolding file_tag
-file_tag-none file s none = rw none refl
 
 abbrev ok_tag : TagFields → Result TagFields FileTagFault
 ok_tag tag = Ok tag

@@ -11,7 +11,7 @@ use Rattle.commands.specs.declared.fault.Refusal.{Refusal}
 use Rattle.commands.specs.declared.fault.Refusal.TheVariants.{Mono, Joint}
 use Rattle.moved_gains.specs.Course.{even}
 use Rattle.moved_gains.specs.declared.shift.Channels.{Channels}
-use Rattle.moved_gains.specs.declared.shift.Channels.TheVariants.{Both, Left, Right}
+use Rattle.moved_gains.specs.declared.shift.Channels.TheVariants.{Left, Right}
 use Rattle.moved_gains.specs.declared.shift.Shift.{Shift}
 use Rattle.moved_gains.specs.declared.shift.Steps.{Steps}
 use Rattle.moved_gains.specs.Gains.{left_steps_of, right_steps_of, steps_of}
@@ -43,14 +43,12 @@ use Rattle.gain_edits.proofs.UndoneGains.{made_by}
 -- ---- the steps
 
 left_back : (channels : Channels) (steps : ℤ) → left_steps_of channels steps +ℤ left_steps_of channels (neg_ℤ steps) ≡ pos 0
-left_back Both steps = +ℤ_invr steps
-left_back Left steps = +ℤ_invr steps
 left_back Right steps = refl
+left_back _ steps = +ℤ_invr steps
 
 right_back : (channels : Channels) (steps : ℤ) → right_steps_of channels steps +ℤ right_steps_of channels (neg_ℤ steps) ≡ pos 0
-right_back Both steps = +ℤ_invr steps
 right_back Left steps = refl
-right_back Right steps = +ℤ_invr steps
+right_back _ steps = +ℤ_invr steps
 
 -- no step at all
 abbrev pub still : Steps

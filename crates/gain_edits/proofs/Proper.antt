@@ -127,7 +127,7 @@ undo_tags file s change all is e =
 
 -- ---- as commands
 
-with_late : (file : List ℕ) (s : SurveyFields) (r : Result Change EditFault) → IfErr r IsLate → IfErr (changed_with file s r) IsLate
+pub with_late : (file : List ℕ) (s : SurveyFields) (r : Result Change EditFault) → IfErr r IsLate → IfErr (changed_with file s r) IsLate
 with_late file s (Err fault) late = late
 with_late file s (Ok change) late = tt
 

@@ -3,11 +3,11 @@ use Rattle.std.proofs.Common.{◌≡◌, ℕ, ◌==◌, Bool, true, false, cond,
 use Rattle.std.specs.Prelude.{IfSome, IfErr, nat_lt, unsigned_abs}
 use Rattle.tag_blocks.specs.declared.undo.Undo.{Undo}
 use Rattle.tag_blocks.specs.declared.undo.UndoItem.{UndoItem}
-use Rattle.tag_blocks.specs.declared.undo.UndoItem.TheVariants.{Missing, Bad, Found}
+use Rattle.tag_blocks.specs.declared.undo.UndoItem.TheVariants.{Bad, Found}
 use Rattle.tag_blocks.specs.Tags.{TagFields, tag_bytes}
 use Rattle.tag_blocks.specs.UndoItems.{undo_from}
 use Rattle.file_tag.specs.declared.fault.FileTagFault.{FileTagFault}
-use Rattle.file_tag.specs.declared.fault.FileTagFault.TheVariants.{TooLarge, Bad as BadBlock, Read, Shrunk, Memory as NoRoom}
+use Rattle.file_tag.specs.declared.fault.FileTagFault.TheVariants.{TooLarge}
 use Rattle.file_tag.specs.Places.{tag_at}
 use Rattle.file_tag.specs.Reading.{file_tag}
 use Rattle.sync_survey.specs.declared.rows.Row.{Row}
@@ -34,20 +34,15 @@ use Rattle.gain_edits.specs.Undo.{undone_change, undo_change, undo_refuses}
 tag_late : (r : Result TagFields FileTagFault) → IfErr (tag_read r) IsLate
 tag_late (Ok tag) = tt
 tag_late (Err (TooLarge size)) = refl
-tag_late (Err (BadBlock at)) = refl
-tag_late (Err Read) = refl
-tag_late (Err (Shrunk first second)) = refl
-tag_late (Err NoRoom) = refl
+tag_late (Err _) = refl
 
 noted_late : (at : ℕ) (item : UndoItem) → IfErr (noted_undo at item) IsLate
-noted_late at Missing = tt
 noted_late at (Bad place) = refl
-noted_late at (Found undo) = tt
+noted_late at _ = tt
 
 found_late : (at : ℕ) (item : UndoItem) → IfErr (found_undo at item) IsLate
-found_late at Missing = refl
-found_late at (Bad place) = refl
 found_late at (Found undo) = tt
+found_late at _ = refl
 
 pub gain_late : (shift : Shift) (tags : Bool) (file : List ℕ) (s : SurveyFields) → IfErr (gain_change shift tags file s) IsLate
 unfolding gain_change
@@ -122,11 +117,9 @@ pub undone_may : (s : SurveyFields) (tag : TagFields) (undo : Undo) → IfErr (u
 undone_may s tag undo = unless_may undo_refuses _ _ (range_may undo_refuses (λ o g c n. refl) _ s.frames)
 
 pub noted_item_may : (at : ℕ) (item : UndoItem) → IfErr (noted_undo at item) (IsRefusal (gain_refuses true))
-noted_item_may at Missing = tt
 noted_item_may at (Bad place) = refl
-noted_item_may at (Found undo) = tt
+noted_item_may at _ = tt
 
 pub found_item_may : (at : ℕ) (item : UndoItem) → IfErr (found_undo at item) (IsRefusal undo_refuses)
-found_item_may at Missing = refl
-found_item_may at (Bad place) = refl
 found_item_may at (Found undo) = tt
+found_item_may at _ = refl

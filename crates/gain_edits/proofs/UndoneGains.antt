@@ -27,6 +27,7 @@ use Rattle.moved_gains.specs.declared.shift.Shift.{Shift}
 use Rattle.moved_gains.specs.declared.shift.Steps.{Steps}
 use Rattle.commands.specs.Refusing.{unless, then_made}
 use Rattle.moved_gains.specs.Edited.{edited}
+use Rattle.file_tag.proofs.ReadingLaws.{file_tag-none}
 use Rattle.gain_edits.specs.GainRange.{range_fault}
 use Rattle.moved_gains.specs.Gains.{steps_of}
 use Rattle.gain_edits.specs.UndoItem.{tag_read, no_undo, noted_undo, found_undo, undo_steps, next_undo, tag_with, tag_without, bytes_unless_empty}
@@ -43,7 +44,7 @@ use Rattle.moved_gains.proofs.WrittenTag.{length_moved}
 use Rattle.sync_survey.proofs.SurveyedFiles.{survey_of-parts}
 use Rattle.gain_edits.proofs.ChangedStream.{changed-parts, changed-ok}
 use Rattle.commands.proofs.RefusingLaws.{then_ok}
-use Rattle.gain_edits.proofs.FileTags.{file_tag-is, file_tag-none, same_tag}
+use Rattle.gain_edits.proofs.FileTags.{file_tag-is, same_tag}
 use Rattle.moved_gains.proofs.FramesThere.{AreFramesOf, frames_there}
 use Rattle.moved_gains.proofs.MovedAgain.{even_together, AreTogether, stood}
 use Rattle.gain_edits.proofs.RangeAgain.{even_opposite, range_both, range_back}
@@ -74,7 +75,7 @@ changed-with : (steps : Steps) (bytes file : List ℕ) (s : SurveyFields) → ch
 unfolding changed
 changed-with steps bytes file s = refl
 
-same_survey : (s t : SurveyFields) (r : Result SurveyFields SurveyFault) → r ≡ Ok s → r ≡ Ok t → s ≡ t
+pub same_survey : (s t : SurveyFields) (r : Result SurveyFields SurveyFault) → r ≡ Ok s → r ≡ Ok t → s ≡ t
 same_survey s t r e f = cc
 
 -- what a gain made, where the survey is known

@@ -22,21 +22,15 @@ flag_of word =
 
 named : (flag : Flag) → flag_of (first_word flag) ≡ Some flag
 named Tagless = refl
-named Wrapping = refl
-named Least = refl
-named Back = refl
+named _ = refl
 
 abbrev behind_first : Flag → List Kind
 behind_first Tagless = Fixed (codes "s") ∷ []
-behind_first Wrapping = []
-behind_first Least = []
-behind_first Back = []
+behind_first _ = []
 
 starts : (flag : Flag) → flag_kinds flag ≡ Fixed (first_word flag) ∷ behind_first flag
 starts Tagless = refl
-starts Wrapping = refl
-starts Least = refl
-starts Back = refl
+starts _ = refl
 
 some_is : {A : Type 0} (a b : A) → Some a ≡ Some b → a ≡ b
 some_is a b e = cc

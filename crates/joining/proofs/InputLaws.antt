@@ -216,11 +216,10 @@ module _ (before : List (List ℕ)) (name : List ℕ) (after : List (List ℕ)) 
     early-by : (why : Why) → IsPartFaultBy (length before) (class_after None ss) (most_frames - frames_of ss) name old new fault why → IsEarlyFaultBy (join_task (before ++ name ∷ after)) old new fault why
     early-by Rejected h = record { defined = refuses-by old.files fault are h.0; stays = h.1 }
     early-by Missing h = record { defined = refuses-by old.files fault are h.0; rose = h.1; files = h.2 }
-    early-by Unread h = h
-    early-by Shorter h = h
     early-by (Unwritten k) h = absurd h
     early-by Unsent h = absurd h
     early-by NoMemory h = found-next before name after ss old new are h
+    early-by _ h = h
 
 -- the same by the numbers of the code
 pub part-early : (names before : List (List ℕ)) (name : List ℕ) (after : List (List ℕ)) (ss : List SurveyFields) (place allowed : ℕ) (first : Option ClassFields) (old mid new : Seen) (fault : EditFault) → before ++ name ∷ after ≡ names → length before ≡ place → first ≡ class_in ss

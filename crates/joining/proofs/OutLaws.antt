@@ -129,8 +129,7 @@ join-cause_later count old now output more before mid after fault grown same h =
 module _ (made : List ℕ → List ℕ) (input output : List ℕ) (apart : input ≢ output) (old mid new : Files) (created : mid ≡ emptied old output) (before between after : Counts) (same : between ≡ before) where
   of-place : (place : ℕ) (pass : PassFault) → IsPassFault made input output (seen old before) (seen new after) (of_one pass) → IsPassFault made input output (seen old before) (seen new after) (of_pass place pass)
   of-place place Read h = h
-  of-place place (Shrunk first second) h = h
-  of-place place Write h = h
+  of-place place _ h = h
 
   pub join-fault : (count : ℕ) (fault : EditFault) → AppendsPrefix input output made mid new → HasJoinCause count mid between after fault → IsPassFault made input output (seen old before) (seen new after) fault
   join-fault count fault part h =

@@ -77,7 +77,7 @@ module _ (first : SurveyFields) (ss : List SurveyFields) (can : CanBeJoined (fir
   pub all-fit : AreFit first.class (asked_of (rows_of all))
   all-fit = parts-fit first.class (rows_of all) (omega (arith, rows-length all)) (alike-parts first.class all can.0)
 
-  pub needs-few : length (asked_of (rows_of all)).needs ≤ 2900000
+  pub needs-few : length (asked_of (rows_of all)).needs ≤ most_frames
   needs-few = omega (arith, needs-length all, can.2)
 
   pub places-few : length (asked_of (rows_of all)).places ≤ 64
@@ -140,7 +140,7 @@ pub can-plan : (ss : List SurveyFields) → CanBeJoined ss → CanBePlanned (ask
 can-plan [] can = absurd can
 can-plan (first ∷ ss) can = (all-fit first ss can).planned
 
-pub can-needs : (ss : List SurveyFields) → CanBeJoined ss → length (asked_of (rows_of ss)).needs ≤ 2900000
+pub can-needs : (ss : List SurveyFields) → CanBeJoined ss → length (asked_of (rows_of ss)).needs ≤ most_frames
 can-needs [] can = absurd can
 can-needs (first ∷ ss) can = needs-few first ss can
 
@@ -159,11 +159,11 @@ taken zero ss = omega arith
 taken (suc k) [] = omega arith
 taken (suc k) (s ∷ ss) = omega (arith, taken k ss)
 
-can-few : (ss : List SurveyFields) → CanBeJoined ss → frames_of ss ≤ 2900000
+can-few : (ss : List SurveyFields) → CanBeJoined ss → frames_of ss ≤ most_frames
 can-few [] can = absurd can
 can-few (first ∷ ss) can = can.2
 
-pub parts-few : {X : Type 0} (f : X → SurveyFields) (k : ℕ) (xs : List X) → CanBeJoined (map f xs) → length (needs_of (rows_of (map f (take k xs)))) ≤ 2900000
+pub parts-few : {X : Type 0} (f : X → SurveyFields) (k : ℕ) (xs : List X) → CanBeJoined (map f xs) → length (needs_of (rows_of (map f (take k xs)))) ≤ most_frames
 parts-few f k xs can = omega (arith, needs-length (map f (take k xs)), ap frames_of (sym (take-map f k xs)), taken k (map f xs), can-few (map f xs) can)
 
 pub joined-info : (ss : List SurveyFields) (placed : List Placed) (bytes : List ℕ) (s : SurveyFields) → CanBeJoined ss → slice_get ss 0 ≡ Some s

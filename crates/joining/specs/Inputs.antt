@@ -12,7 +12,7 @@ use Rattle.commands.specs.declared.fault.EditFault.{EditFault}
 use Rattle.commands.specs.declared.fault.EditFault.TheVariants.{Input, Refused, Write, Memory}
 use Rattle.commands.specs.Kinds.{HasRightNumbers}
 use Rattle.commands.specs.Left.{Why, Rejected, Missing, Unread, Shorter, Unwritten, Unsent, NoMemory, why_of, Seen}
-use Rattle.commands.specs.One.{ReadsNothing, LosesInput, NeedsMemory}
+use Rattle.commands.specs.One.{most_frames, ReadsNothing, LosesInput, NeedsMemory}
 use Rattle.joining.specs.Join.{whole_part, part_of, join_refuses}
 
 -- ---- one input
@@ -90,7 +90,7 @@ AreAlike class (s ∷ ss) = (0 < length s.frames) × IsLaidOut s × (s.class ≡
 -- there are some, of one class, with no more frames than may be planned at once
 abbrev pub CanBeJoined : List SurveyFields → Type 0
 CanBeJoined [] = ⊥
-CanBeJoined (first ∷ ss) = AreAlike first.class (first ∷ ss) × (length ss < 64) × (frames_of (first ∷ ss) ≤ 2900000)
+CanBeJoined (first ∷ ss) = AreAlike first.class (first ∷ ss) × (length ss < 64) × (frames_of (first ∷ ss) ≤ most_frames)
 
 -- these files as parts, with their surveys
 unfoldable pub parts_in : Contents → List (List ℕ) → List SurveyFields → List Part

@@ -53,11 +53,7 @@ AreWholeFrames file (p ∷ ps) = IsWholeAt file p.offset p.header × AreWholeFra
 
 frame_more : (file : List ℕ) (at : ℕ) (item : Item) (ps : List PlacedFrame) → item_at file at ≡ item → at + size_of item ≤ length file → AreWholeFrames file ps → AreWholeFrames file (cons_option (frame_as at item) ps)
 frame_more file at (FrameItem h) ps is within are = (record { header = header_front-in_range (drop at file) h (stands-at file at (FrameItem h) is); within = within }, are)
-frame_more file at Free ps is within are = are
-frame_more file at (Block b) ps is within are = are
-frame_more file at Zero ps is within are = are
-frame_more file at End ps is within are = are
-frame_more file at Nothing ps is within are = are
+frame_more file at _ ps is within are = are
 
 ends-frames : (file : List ℕ) (from : ℕ) (ps : List Placed) (to : ℕ) → AreEndToEnd Stream file from ps to → AreWholeFrames file (frames_of ps)
 ends-frames file from [] to ends = tt

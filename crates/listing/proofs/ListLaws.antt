@@ -1,5 +1,5 @@
 -- What the list command leaves, by the survey of its input.
-use Rattle.std.proofs.Common.{◌≡◌, ℕ, ◌+◌, ◌≤◌, List, [], length, Some, None, Result, Ok, Err, refl, sym, ◌∙◌, ap, ap₂, subst, inl, inr, arith}
+use Rattle.std.proofs.Common.{◌≡◌, ℕ, ◌+◌, ◌≤◌, List, [], length, Some, None, Result, Ok, Err, refl, sym, ◌∙◌, ap, ap₂, subst, inl, arith}
 use Rattle.std.specs.Prelude.{IfSome, is_some}
 use Rattle.outside.specs.Files.{Contents, Files, Holds, IsThere, IsMissing}
 use Rattle.outside.specs.Counts.{Counts}
@@ -15,19 +15,11 @@ use Rattle.commands.specs.declared.fault.EditFault.{EditFault}
 use Rattle.commands.specs.declared.fault.EditFault.TheVariants.{Input, Sent as NotSent}
 use Rattle.commands.specs.One.{most_frames, IsFileFaultBy, IsFileFault}
 use Rattle.commands.specs.Command.{Made, Gives, written, MakesStreams, HoldsStreams}
-use Rattle.commands.specs.Left.{Why, Rejected, Missing, Unread, Shorter, Unwritten, Unsent, NoMemory, why_of, Seen, seen, IsDone, TakesMemory, LeavesBy, Leaves}
-use Rattle.commands.specs.Said.{IsText}
+use Rattle.commands.specs.Left.{Why, Rejected, Missing, Unread, Shorter, NoMemory, why_of, Seen, seen, IsDone, TakesMemory, LeavesBy, Leaves}
 use Rattle.listing.specs.Listing.{listed_by, listed_where, listing, list_command}
 use Rattle.commands.proofs.InputLaws.{of_bytes_behind}
 use Rattle.commands.proofs.MakeLaws.{ok_made, made-same}
 use Rattle.sync_survey.proofs.SurveyedFiles.{survey_of-parts}
-
-abbrev text_in : Result Made EditFault → List ℕ
-text_in (Ok made) = made.text
-text_in (Err fault) = []
-
-some_same : (f g : Contents) → Some f ≡ Some g → f ≡ g
-some_same f g e = cc
 
 -- ---- what the told files make of the command
 
@@ -61,9 +53,8 @@ module _ (input : List ℕ) where
     survey_left_by Missing h = record { defined = subst (λ e. Gives (list_command input) old.files (Err e)) (sym h.0) (gives_absent old.files h.1); rose = h.2; files = h.3 }
     survey_left_by Unread h = record { rose = h.rose; files = inl h.files }
     survey_left_by Shorter h = record { rose = h.rose; counts = h.counts; before = h.untold_before; after = h.untold_after }
-    survey_left_by (Unwritten k) h = absurd h
-    survey_left_by Unsent h = absurd h
     survey_left_by NoMemory h = record { names = refl; takes = takes_memory old.files h.there h.few; stays = h.stays }
+    survey_left_by _ h = absurd h
 
     pub survey_left : IsFileFault 0 most_frames input old new fault → Leaves (list_command input) old new fault
     survey_left h = survey_left_by (why_of fault) h
@@ -88,15 +79,6 @@ module _ (input : List ℕ) where
     -- and nothing is refused where a write to standard output failed
     pub unsent : Leaves (list_command input) (seen files counts) (seen new after) NotSent
     unsent = is_done
-
-    -- the text
-    pub text_is : (text : List ℕ) → IsText (list_command input) files text → text ≡ listing s
-    text_is text (inl always) = absurd cc
-    text_is text (inr told) = at files told.2 gives told.3 told.4
-      where
-        at : (fs : Files) → fs ≡ Some told.0 → Gives (list_command input) fs (Ok made_of) → (list_command input).makes told.0 ≡ Ok told.1 → told.1.text ≡ text → text ≡ listing s
-        at None e g is t = absurd cc
-        at (Some f) e g is t = sym t ∙ ap text_in (sym is ∙ ap (list_command input).makes (some_same told.0 f (sym e)) ∙ g)
 
     pub holds_streams : HoldsStreams (list_command input) files
     holds_streams = at files there is

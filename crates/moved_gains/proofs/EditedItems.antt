@@ -7,7 +7,7 @@ use Rattle.bit_fields.specs.Bits.{AreBytes}
 use Rattle.bit_fields.proofs.BitsLaws.{AreBytes-take, AreBytes-drop}
 use Rattle.frame_header.specs.Fields.{HeaderFields}
 use Rattle.sync_survey.specs.declared.items.Item.{Item}
-use Rattle.sync_survey.specs.declared.items.Item.TheVariants.{Frame, Free, Block, Zero, End, Nothing}
+use Rattle.sync_survey.specs.declared.items.Item.TheVariants.{Frame, Block, Zero}
 use Rattle.sync_survey.specs.declared.places.PlacedFrame.{PlacedFrame}
 use Rattle.sync_survey.specs.declared.runs.Part.TheVariants.{Stream}
 use Rattle.sync_survey.specs.Items.{item_at, size_of}
@@ -40,11 +40,9 @@ pub moved_own : (steps : Steps) (lost : Bool) (file : List ℕ) (at : ℕ) (item
 moved_own steps lost file at (Frame h) all is belongs within =
     let frame = take (size_of (Frame h)) (drop at file) in
     whole_item h (moved_unless_lost lost steps h frame) (moved_unless-whole lost steps h frame (frame_whole file at h all is within)).whole
-moved_own steps lost file at Free all is belongs within = absurd (false≢true belongs)
 moved_own steps lost file at (Block b) all is belongs within = kept_item file at (Block b) is belongs within
 moved_own steps lost file at Zero all is belongs within = kept_item file at Zero is belongs within
-moved_own steps lost file at End all is belongs within = absurd (false≢true belongs)
-moved_own steps lost file at Nothing all is belongs within = absurd (false≢true belongs)
+moved_own steps lost file at _ all is belongs within = absurd (false≢true belongs)
 
 -- ---- several items
 
@@ -82,11 +80,7 @@ AreMovedAt steps lost file new gap (p ∷ ps) = IsMovedAt steps lost file new ga
 frame_more : (steps : ℕ → Steps) (lost : ℕ → Bool) (file new : List ℕ) (gap at : ℕ) (item : Item) (rest : List ℕ) (frames : List PlacedFrame) → AreBytes file → item_at file at ≡ item → at + size_of item ≤ length file
     → drop (at - gap) new ≡ moved_item (steps at) (lost at) item (take (size_of item) (drop at file)) ++ rest → AreMovedAt steps lost file new gap frames → AreMovedAt steps lost file new gap (cons_option (frame_as at item) frames)
 frame_more steps lost file new gap at (Frame h) rest frames all is within stands later = (record { whole = frame_whole file at h all is within; rest = rest; stands = stands }, later)
-frame_more steps lost file new gap at Free rest frames all is within stands later = later
-frame_more steps lost file new gap at (Block b) rest frames all is within stands later = later
-frame_more steps lost file new gap at Zero rest frames all is within stands later = later
-frame_more steps lost file new gap at End rest frames all is within stands later = later
-frame_more steps lost file new gap at Nothing rest frames all is within stands later = later
+frame_more steps lost file new gap at _ rest frames all is within stands later = later
 
 pub frames_moved : (steps : ℕ → Steps) (lost : ℕ → Bool) (file new : List ℕ) (gap from at : ℕ) (ps : List Placed) (to : ℕ) (behind : List ℕ) → AreBytes file → AreEndToEnd Stream file from ps to → from ≡ at + gap
     → drop at new ≡ moved_items steps lost file ps ++ behind → AreMovedAt steps lost file new gap (frames_of ps)

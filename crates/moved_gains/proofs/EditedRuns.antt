@@ -1,6 +1,5 @@
 -- The runs of the edited file are those of the file, without the junk between them.
-use Rattle.std.proofs.Common.{◌≡◌, ℕ, ◌+◌, ◌-◌, ◌≤◌, Bool, true, List, [], ◌∷◌, ◌++◌, length, take, drop, map, Option, Some, None, option_map, Ok, inl, inr, refl, sym, ◌∙◌, ap, ap₂, subst, arith, append-nil, length-append, length-drop}
-use Rattle.std.proofs.lemmas.Bool.{le-leb}
+use Rattle.std.proofs.Common.{◌≡◌, ℕ, ◌+◌, ◌-◌, ◌≤◌, Bool, List, [], ◌∷◌, ◌++◌, length, take, drop, map, Option, Some, None, option_map, Ok, inl, inr, refl, sym, ◌∙◌, ap, ap₂, subst, arith, append-nil, length-append, length-drop}
 use Rattle.std.proofs.lemmas.List.{drop-drop, take_at, drop_at}
 use Rattle.std.proofs.Math.Seq.{drop-length}
 use Rattle.bit_fields.specs.Bits.{AreBytes}
@@ -12,9 +11,9 @@ use Rattle.sync_survey.specs.declared.places.Piece.{Piece}
 use Rattle.sync_survey.specs.declared.places.Head.{Head}
 use Rattle.sync_survey.specs.declared.places.Start.{Start}
 use Rattle.sync_survey.specs.declared.runs.Part.TheVariants.{Front, Stream}
-use Rattle.sync_survey.specs.Items.{item_at, size_of, fits}
-use Rattle.sync_survey.specs.Runs.{Placed, Run, whole, item_of, run, AreEndToEnd, bytes_of_items, frames_of, blocks_of}
-use Rattle.sync_survey.specs.Start.{start_at, front_end_of, start_of, IsLeastStart}
+use Rattle.sync_survey.specs.Items.{item_at, size_of}
+use Rattle.sync_survey.specs.Runs.{Placed, Run, item_of, run, AreEndToEnd, bytes_of_items, frames_of, blocks_of}
+use Rattle.sync_survey.specs.Start.{start_of, IsLeastStart}
 use Rattle.sync_survey.specs.Walk.{stream_run, frame_bytes, head_of, numbered, all_blocks}
 use Rattle.sync_survey.proofs.RunsLaws.{IsItemOf, item_of-past, run-next, run-ends}
 use Rattle.sync_survey.proofs.StartLaws.{start-first, start-front}
@@ -25,6 +24,7 @@ use Rattle.sync_survey.proofs.HeadSame.{nearer_head, head_of-nearer}
 use Rattle.sync_survey.proofs.SurveyParts.{frames_from, told_from, IsRead}
 use Rattle.moved_gains.specs.declared.shift.Steps.{Steps}
 use Rattle.moved_gains.specs.Edited.{moved_unless_lost, moved_items, moved_stream, is_lost_at, edited}
+use Rattle.file_tag.proofs.WholeFiles.{front_end-is, start_by, not_in_front}
 use Rattle.moved_gains.proofs.MovedFrame.{IsWhole, moved_unless-whole, whole_item}
 use Rattle.moved_gains.proofs.EditedItems.{frame_whole, moved-cons, moved_are, AreMovedAt, frames_moved}
 
@@ -38,23 +38,7 @@ gap_of start = start.first.offset - start.front_end
 abbrev pub moved_start : Start → Start
 moved_start start = record { front_end = start.front_end; first = record { offset = start.front_end; header = start.first.header } }
 
-front_end-is : (file : List ℕ) → front_end_of file ≡ (run Front file 0).stop
-unfolding front_end_of
-front_end-is file = refl
-
-start_by : (file : List ℕ) (at : ℕ) (h : HeaderFields) → front_end_of file ≡ at → item_at file at ≡ Frame h → at + size_of (Frame h) ≤ length file → start_of file ≡ Ok (record { front_end = at; first = record { offset = at; header = h } })
-unfolding start_of
-start_by file at h front is within =
-    let fit : fits file at (Frame h) ≡ true = le-leb _ _ (omega (arith, within)) in
-    ap (λ n. start_at file n (item_at file n)) front
-    ∙ ap (start_at file at) is
-    ∙ rw fit refl
-
-not_in_front : (file : List ℕ) (at : ℕ) (h : HeaderFields) → item_at file at ≡ Frame h → item_of Front file at ≡ None
-unfolding item_of
-not_in_front file at h is = ap (whole Front file at) is
-
-low_cases : (file : List ℕ) (start : Start) → IsLeastStart file start → start.front_end ≤ start.first.offset
+pub low_cases : (file : List ℕ) (start : Start) → IsLeastStart file start → start.front_end ≤ start.first.offset
 low_cases file start (inl same) = omega (arith, same)
 low_cases file start (inr least) = omega (arith, least.0)
 

@@ -1,10 +1,10 @@
 -- A frame is lost where a lost frame stands at its offset, since no two frames stand at one offset.
-use Rattle.std.proofs.Common.{◌≡◌, ℕ, zero, suc, ◌+◌, ◌-◌, ◌<◌, ◌≤◌, ◌==◌, ◌&&◌, ◌||◌, Bool, true, false, List, [], ◌∷◌, ◌++◌, map, Option, Some, None, refl, sym, ◌∙◌, ap, ap₂, subst, arith, zero-add}
+use Rattle.std.proofs.Common.{◌≡◌, ℕ, zero, suc, ◌+◌, ◌<◌, ◌≤◌, ◌==◌, ◌&&◌, ◌||◌, Bool, true, false, List, [], ◌∷◌, ◌++◌, map, Option, Some, None, refl, sym, ◌∙◌, ap, ap₂, subst, arith, zero-add}
 use Rattle.std.specs.Prelude.{option_to_list, slice_get}
 use Rattle.std.specs.List.{enumerate_from}
-use Rattle.std.proofs.lemmas.Bool.{eq-eqb, ne_eqb, eqb-true, eqb-false}
+use Rattle.std.proofs.lemmas.Bool.{eq-eqb, ne_eqb}
 use Rattle.sync_survey.specs.declared.items.Item.{Item}
-use Rattle.sync_survey.specs.declared.items.Item.TheVariants.{Frame, Free, Block, Zero, End, Nothing}
+use Rattle.sync_survey.specs.declared.items.Item.TheVariants.{Frame, Block, Zero}
 use Rattle.sync_survey.specs.declared.places.PlacedFrame.{PlacedFrame}
 use Rattle.sync_survey.specs.declared.places.Head.{Head}
 use Rattle.sync_survey.specs.declared.places.Start.{Start}
@@ -16,9 +16,7 @@ use Rattle.sync_survey.specs.Runs.{Placed, AreEndToEnd, frame_as, frames_of}
 use Rattle.sync_survey.specs.Walk.{stream_run, numbered}
 use Rattle.sync_survey.specs.MainData.{row_of, rows_of, is_lost, marked_row, marked}
 use Rattle.sync_survey.proofs.RunsLaws.{cons_list, item_of-is, run-ends}
-use Rattle.moved_gains.specs.declared.shift.Steps.{Steps}
 use Rattle.moved_gains.specs.Edited.{is_lost_at}
-use Rattle.moved_gains.specs.Streams.{moved_row}
 
 -- ---- frames at rising offsets
 
@@ -114,11 +112,9 @@ marked-by file head from ps rise =
 
 rising_more : (file : List ℕ) (at : ℕ) (item : Item) (frames : List PlacedFrame) → 0 < size_of item → AreRising (at + size_of item) (rows_of file frames) → AreRising at (rows_of file (option_to_list (frame_as at item) ++ frames))
 rising_more file at (Frame h) frames some rise = (omega arith, rising_less (suc at) (at + size_of (Frame h)) (rows_of file frames) (omega (arith, some)) rise)
-rising_more file at Free frames some rise = rising_less at (at + 0) (rows_of file frames) (omega arith) rise
 rising_more file at (Block b) frames some rise = rising_less at (at + b.length) (rows_of file frames) (omega arith) rise
 rising_more file at Zero frames some rise = rising_less at (at + 1) (rows_of file frames) (omega arith) rise
-rising_more file at End frames some rise = rising_less at (at + 0) (rows_of file frames) (omega arith) rise
-rising_more file at Nothing frames some rise = rising_less at (at + 0) (rows_of file frames) (omega arith) rise
+rising_more file at _ frames some rise = rising_less at (at + 0) (rows_of file frames) (omega arith) rise
 
 pub items_rising : (file : List ℕ) (part : Part) (from : ℕ) (ps : List Placed) (to : ℕ) → AreEndToEnd part file from ps to → AreRising from (rows_of file (frames_of ps))
 items_rising file part from [] to ends = tt
@@ -136,17 +132,3 @@ pub walk_rising : (file : List ℕ) (start : Start) (o : Option Head) → AreRis
 walk_rising file start o =
     let stream = stream_run file start in
     numbered_rising file start.first.offset o (frames_of stream.items) (items_rising file Stream start.first.offset stream.items stream.stop (run-ends Stream file start.first.offset))
-
--- ---- nearer to the front
-
-near_cases : (m n k : ℕ) → k ≤ m → k ≤ n → (b : Bool) → (m == n) ≡ b → (m - k == n - k) ≡ b
-near_cases m n k low_m low_n true is = eq-eqb (m - k) (n - k) (ap (λ x. x - k) (eqb-true m n is))
-near_cases m n k low_m low_n false is = ne_eqb (m - k) (n - k) (λ e. eqb-false m n is (omega (arith, e, low_m, low_n)))
-
--- the lost frames stand at the same offsets, so many bytes nearer to the front
-pub lost-nearer : (steps : ℕ → Steps) (gap from at : ℕ) (rows : List Row) → AreRising from rows → gap ≤ from → gap ≤ at → is_lost_at (map (moved_row steps gap) rows) (at - gap) ≡ is_lost_at rows at
-lost-nearer steps gap from at [] rise low here = refl
-lost-nearer steps gap from at (r ∷ rows) rise low here =
-    let above : gap ≤ r.offset = omega (arith, low, rise.0) in
-    ap₂ (λ (a b : Bool). (r.lost && a) || b) (near_cases r.offset at gap above here (r.offset == at) refl)
-    (lost-nearer steps gap (suc r.offset) at rows rise.1 (omega (arith, above)) here)

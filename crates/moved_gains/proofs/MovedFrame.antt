@@ -14,7 +14,7 @@ use Rattle.std.specs.Prelude.{MatchBool}
 use Rattle.side_info.specs.Frame.{side_in, word_part, frame_with}
 use Rattle.side_info.specs.CheckWord.{check_word_of}
 use Rattle.side_info.proofs.SideLaws.{AreBits-side_bits, each_class, IsShaped, side_with, each_shaped}
-use Rattle.side_info.proofs.FrameLaws.{HasRoom, IsRight, overhead-most, shaped-side_in, fits-side_in, length-frame_with, header-frame_with, area-frame_with, side_in-frame_with, word_said-frame_with, frame_with-again, frame_with-own}
+use Rattle.side_info.proofs.FrameLaws.{HasRoom, IsRight, overhead-most, shaped-side_in, fits-side_in, length-frame_with, header-frame_with, area-frame_with, side_in-frame_with, word_said-frame_with, frame_with-own}
 use Rattle.side_info.proofs.LastBytes.{AreAlike, last_granule, last_bytes-frame_with}
 use Rattle.sync_survey.specs.declared.items.Item.TheVariants.{Frame}
 use Rattle.sync_survey.specs.Items.{header_front}
@@ -24,7 +24,7 @@ use Rattle.moved_gains.specs.declared.shift.Steps.{Steps}
 use Rattle.moved_gains.specs.Gains.{is_silent_granule, moved_gain, moved, moved_side, moved_unless}
 use Rattle.moved_gains.specs.Edited.{moved_frame, moved_unless_lost}
 use Rattle.moved_gains.proofs.GainsLaws.{SideFits-moved_side}
-use Rattle.moved_gains.proofs.MovedGains.{sum_of, side_twice, GainsFit, IsNoStep, side_none, IsShaped-moved}
+use Rattle.moved_gains.proofs.MovedGains.{GainsFit, IsNoStep, side_none, IsShaped-moved}
 
 -- ---- the last two bytes of the side information
 
@@ -148,17 +148,6 @@ moved_unless-whole false steps h frame whole =
 -- it is an item of its own
 pub whole_item : (h : HeaderFields) (frame : List ℕ) → IsWhole h frame → IsItem (Frame h) frame
 whole_item h frame whole = frame_item h frame whole.header whole.size (omega (arith, (whole_room h frame whole).1))
-
--- moved by one change and then by another is moved by their sum
-pub frame_twice : (one two : Steps) (h : HeaderFields) (frame : List ℕ) → IsWhole h frame → moved_frame two h (moved_frame one h frame) ≡ moved_frame (sum_of one two) h frame
-frame_twice one two h frame whole =
-    let s = side_in h frame in
-    let to = moved_whole one h frame whole in
-    let class = whole_class h frame whole in
-    let room = (whole_room h frame whole).0 in
-    ap (λ t. frame_with h (moved_side two t) (moved_frame one h frame)) to.side
-    ∙ ap (λ t. frame_with h t (moved_frame one h frame)) (side_twice one two s (shaped-side_in h frame))
-    ∙ frame_with-again h (moved_side (sum_of one two) s) (moved_side one s) frame class (IsShaped-moved one s (shaped-side_in h frame)) room
 
 gain_fits : (c : ClassFields) (has : Bool) (g : Granule) → MatchBool has (GranuleFits c.version g) (g ≡ no_granule) → g.global_gain < 256
 gain_fits c true g fits = omega (arith, fits.global_gain)

@@ -1,6 +1,6 @@
 -- What is written from front to back is the edited file.
 use Rattle.std.proofs.Common.{◌≡◌, ℕ, ◌+◌, ◌-◌, ◌≤◌, List, [], ◌∷◌, ◌++◌, length, take, drop, Option, Some, None, Ok, refl, sym, ◌∙◌, ap, ap₂, subst, arith, append_assoc, take-append-drop, append-nil, length-drop, length-append}
-use Rattle.std.specs.Prelude.{option_to_list, Bool, true, false, cond, Err, if◌then◌else◌, nat_lt}
+use Rattle.std.specs.Prelude.{option_to_list, Bool, cond}
 use Rattle.std.proofs.lemmas.List.{drop-drop, take_at}
 use Rattle.std.proofs.Math.Seq.{take-add}
 use Rattle.frame_header.specs.Fields.{HeaderFields}
@@ -17,17 +17,18 @@ use Rattle.sync_survey.specs.declared.runs.Part.{Part}
 use Rattle.sync_survey.specs.declared.runs.Part.TheVariants.{Front, Stream}
 use Rattle.sync_survey.specs.Items.{item_at, size_of}
 use Rattle.sync_survey.specs.Runs.{Placed, AreEndToEnd, run, bytes_in, bytes_of_items, frame_as, frames_of}
-use Rattle.sync_survey.specs.Start.{front_end_of}
 use Rattle.sync_survey.specs.Walk.{stream_run, numbered}
 use Rattle.sync_survey.specs.MainData.{rows_of, marked}
 use Rattle.sync_survey.specs.declared.places.Start.{Start}
-use Rattle.sync_survey.specs.declared.survey_fault.SurveyFault.TheVariants.{TooLong}
-use Rattle.sync_survey.specs.Faults.{SurveyFields, fields_from, surveyed, longest_file}
+use Rattle.sync_survey.specs.Faults.{SurveyFields, fields_from, surveyed}
 use Rattle.sync_survey.specs.Survey.{survey_of, AreLaid}
 use Rattle.sync_survey.proofs.ItemsLaws.{stands-at, header_front-in_range}
 use Rattle.sync_survey.proofs.RunsLaws.{cons_list, IsItemOf, item_of-is, run-ends, bytes-ends}
 use Rattle.sync_survey.proofs.StartLaws.{start-first, start-front}
 use Rattle.sync_survey.proofs.SurveyLaws.{surveyed-is, walked, overhead-within}
+use Rattle.file_tag.proofs.WholeFiles.{front_end-is}
+use Rattle.sync_survey.proofs.ItemLists.{ends-within}
+use Rattle.file_tag.proofs.FoundTag.{survey_of-surveyed}
 use Rattle.moved_gains.specs.declared.shift.Steps.{Steps}
 use Rattle.moved_gains.specs.Gains.{moved_side}
 use Rattle.moved_gains.specs.Edited.{moved_unless_lost, moved_item, moved_items, moved_stream, is_lost_at, edited}
@@ -73,17 +74,15 @@ moved_from-later steps file at size (row ∷ rows) behind =
 
 -- ---- the items one after another
 
-behind_earlier : (at later : ℕ) (rows : List Row) → at ≤ later → IsBehind later rows → IsBehind at rows
+pub behind_earlier : (at later : ℕ) (rows : List Row) → at ≤ later → IsBehind later rows → IsBehind at rows
 behind_earlier at later [] le behind = tt
 behind_earlier at later (row ∷ rows) le behind = omega (arith, le, behind)
 
 behind_item : (lost : ℕ → Bool) (file : List ℕ) (at : ℕ) (item : Item) (frames : List PlacedFrame) → IsBehind (at + size_of item) (rows_by lost file frames) → IsBehind at (rows_by lost file (option_to_list (frame_as at item) ++ frames))
 behind_item lost file at (Frame h) frames behind = omega arith
-behind_item lost file at Free frames behind = behind_earlier at (at + 0) (rows_by lost file frames) (omega arith) behind
 behind_item lost file at (Block b) frames behind = behind_earlier at (at + b.length) (rows_by lost file frames) (omega arith) behind
 behind_item lost file at Zero frames behind = behind_earlier at (at + 1) (rows_by lost file frames) (omega arith) behind
-behind_item lost file at End frames behind = behind_earlier at (at + 0) (rows_by lost file frames) (omega arith) behind
-behind_item lost file at Nothing frames behind = behind_earlier at (at + 0) (rows_by lost file frames) (omega arith) behind
+behind_item lost file at _ frames behind = behind_earlier at (at + 0) (rows_by lost file frames) (omega arith) behind
 
 -- the frames of items that stand end to end
 frames_behind : (lost : ℕ → Bool) (file : List ℕ) (part : Part) (ps : List Placed) (from to : ℕ) → AreEndToEnd part file from ps to → IsBehind from (rows_by lost file (frames_of ps))
@@ -162,22 +161,14 @@ behind_head steps lost file (Some head) (p ∷ ps) from to h e nothing first =
 
 -- ---- the front
 
-pub stop_within : (part : Part) (file : List ℕ) (from : ℕ) (ps : List Placed) (to : ℕ) → AreEndToEnd part file from ps to → from ≤ length file → to ≤ length file
-stop_within part file from [] to e within = omega (arith, e, within)
-stop_within part file from (p ∷ ps) to e within = stop_within part file (p.offset + size_of p.item) ps to e.2 (item_of-is part file p.offset p.item e.1).within
-
 -- the items of the front are the bytes up to their end
 front_bytes : (file : List ℕ) → bytes_of_items file (run Front file 0).items ≡ take (run Front file 0).stop file
 front_bytes file =
     let r = run Front file 0 in
     let all = bytes-ends Front file 0 r.items r.stop (run-ends Front file 0) in
-    let within = stop_within Front file 0 r.items r.stop (run-ends Front file 0) (omega arith) in
+    let within = ends-within Front file 0 r.items r.stop (run-ends Front file 0) (omega arith) in
     let long : length (bytes_of_items file r.items) ≡ r.stop = omega (arith, ap length all, length-append (bytes_of_items file r.items) (drop r.stop file), length-drop r.stop file, within) in
     sym (take_at (bytes_of_items file r.items) (drop r.stop file) r.stop long) ∙ ap (take r.stop) all
-
-front_end-is : (file : List ℕ) → front_end_of file ≡ (run Front file 0).stop
-unfolding front_end_of
-front_end-is file = refl
 
 -- ---- the whole file
 
@@ -208,14 +199,6 @@ laid_end from [] to laid = laid
 laid_end from (row ∷ rows) to laid = omega (arith, laid.0, laid_end (row_end row) rows to laid.2)
 
 -- ---- a survey over a folder
-
-surveyed_by : (long : Bool) (file : List ℕ) (size allowed : ℕ) (s : SurveyFields) → (if long then Err (TooLong size) else surveyed file allowed) ≡ Ok s → surveyed file allowed ≡ Ok s
-surveyed_by true file size allowed s e = absurd cc
-surveyed_by false file size allowed s e = e
-
-pub survey_of-surveyed : (file : List ℕ) (allowed : ℕ) (s : SurveyFields) → survey_of file allowed ≡ Ok s → surveyed file allowed ≡ Ok s
-unfolding survey_of
-survey_of-surveyed file allowed s e = surveyed_by (nat_lt longest_file (length file)) file (length file) allowed s e
 
 fields-length : (file : List ℕ) (start : Start) → (fields_from file start).length ≡ length file
 unfolding fields_from

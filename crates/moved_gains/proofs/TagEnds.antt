@@ -5,7 +5,8 @@ use Rattle.file_tag.proofs.FoundTag.{tag-within, last-within}
 use Rattle.sync_survey.specs.declared.places.Piece.{Piece}
 use Rattle.sync_survey.specs.Faults.{SurveyFields, longest_file}
 use Rattle.sync_survey.specs.Survey.{IsLaidOut}
-use Rattle.moved_gains.proofs.TagPlaces.{tag_some, tag_none}
+use Rattle.file_tag.proofs.ReadingLaws.{place-some}
+use Rattle.moved_gains.proofs.TagPlaces.{tag_none}
 
 -- the tag, or the place for one, is within the file
 pub tag_at-most : (s : SurveyFields) → IsLaidOut s → tag_at s ≤ longest_file
@@ -13,11 +14,11 @@ tag_at-most s laid = at (tag_block s) refl
   where
     at : (o : Option Piece) → tag_block s ≡ o → tag_at s ≤ longest_file
     at None none = omega (arith, (tag_none s none).0, last-within s laid)
-    at (Some b) some = omega (arith, (tag_some s b some).0, tag-within s b laid some, laid.few)
+    at (Some b) some = omega (arith, (place-some s b some).0, tag-within s b laid some, laid.few)
 
 pub tag_end-most : (s : SurveyFields) → IsLaidOut s → tag_at s + tag_length s ≤ longest_file
 tag_end-most s laid = at (tag_block s) refl
   where
     at : (o : Option Piece) → tag_block s ≡ o → tag_at s + tag_length s ≤ longest_file
     at None none = omega (arith, (tag_none s none).0, (tag_none s none).1, last-within s laid)
-    at (Some b) some = omega (arith, (tag_some s b some).0, (tag_some s b some).1, tag-within s b laid some, laid.few)
+    at (Some b) some = omega (arith, (place-some s b some).0, (place-some s b some).1, tag-within s b laid some, laid.few)

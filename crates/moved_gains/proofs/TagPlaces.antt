@@ -1,5 +1,5 @@
 -- Where the tag of a file stands among its frames: in front of all of them, or behind some and in front of the others.
-use Rattle.std.proofs.Common.{◌≡◌, ℕ, suc, ◌+◌, ◌-◌, ◌<◌, ◌≤◌, true, false, List, [], ◌∷◌, ◌++◌, length, take, drop, map, Bool, cond, Option, Some, None, Ok, refl, sym, ◌∙◌, ap, ap₂, subst, arith, inl, inr, length-drop, append-nil}
+use Rattle.std.proofs.Common.{◌≡◌, ℕ, suc, ◌+◌, ◌<◌, ◌≤◌, true, false, List, [], ◌∷◌, ◌++◌, length, take, drop, map, Bool, cond, Option, Some, None, Ok, refl, sym, ◌∙◌, ap, ap₂, subst, arith, inl, inr, length-drop, append-nil}
 use Rattle.std.specs.Prelude.{◌⊎◌}
 use Rattle.std.specs.List.{find, cons_option, enumerate_from}
 use Rattle.std.specs.Option.{option_or}
@@ -22,7 +22,6 @@ use Rattle.sync_survey.specs.declared.runs.Part.TheVariants.{Front, Stream}
 use Rattle.sync_survey.specs.Items.{item_at, size_of}
 use Rattle.sync_survey.specs.Runs.{Placed, Run, run, AreEndToEnd, frame_as, block_as, frames_of, blocks_of}
 use Rattle.sync_survey.specs.declared.survey_fault.SurveyFault.{SurveyFault}
-use Rattle.sync_survey.specs.Start.{front_end_of, IsLeastStart}
 use Rattle.sync_survey.specs.Walk.{stream_run, head_of, numbered, fault_at, end_fault}
 use Rattle.sync_survey.specs.MainData.{row_of, rows_of, marked_row, marked}
 use Rattle.sync_survey.specs.Faults.{SurveyFields, surveyed}
@@ -34,7 +33,10 @@ use Rattle.sync_survey.proofs.WalkLaws.{first_item}
 use Rattle.sync_survey.proofs.ItemLists.{ends-rise, ends-within}
 use Rattle.sync_survey.proofs.SurveyParts.{frames_from, told_from, IsRead, surveyed-parts}
 use Rattle.file_tag.specs.Places.{is_tag, tag_block, tag_at, tag_length, last_end}
-use Rattle.file_tag.proofs.FoundTag.{found_case}
+use Rattle.file_tag.proofs.FoundTag.{found_case, last_more}
+use Rattle.file_tag.proofs.WholeFiles.{front_end-is}
+use Rattle.file_tag.proofs.ReadingLaws.{place-some}
+use Rattle.moved_gains.proofs.EditedRuns.{low_cases}
 use Rattle.moved_gains.specs.declared.shift.Steps.{Steps}
 use Rattle.moved_gains.specs.Gains.{moved_side}
 use Rattle.moved_gains.specs.Edited.{is_lost_at}
@@ -59,11 +61,9 @@ module _ (lost : ℕ → Bool) (file : List ℕ) where
 
   end_more : (part : Part) (at : ℕ) (item : Item) (frames : List PlacedFrame) (to : ℕ) → 0 < size_of item → EndBy (at + size_of item) (by frames) to → EndBy at (by (cons_option (frame_as at item) frames)) to
   end_more part at (Frame h) frames to some ends = (omega arith, omega (arith, some), ends)
-  end_more part at Free frames to some ends = end_earlier at (at + 0) (by frames) to (omega arith) ends
   end_more part at (Block b) frames to some ends = end_earlier at (at + b.length) (by frames) to (omega arith) ends
   end_more part at Zero frames to some ends = end_earlier at (at + 1) (by frames) to (omega arith) ends
-  end_more part at End frames to some ends = end_earlier at (at + 0) (by frames) to (omega arith) ends
-  end_more part at Nothing frames to some ends = end_earlier at (at + 0) (by frames) to (omega arith) ends
+  end_more part at _ frames to some ends = end_earlier at (at + 0) (by frames) to (omega arith) ends
 
   -- the frames of items that stand end to end
   pub items_end : (part : Part) (from : ℕ) (ps : List Placed) (to : ℕ) → AreEndToEnd part file from ps to → EndBy from (by (frames_of ps)) to
@@ -93,11 +93,7 @@ module _ (lost : ℕ → Bool) (file : List ℕ) where
 
     sized_more : (part : Part) (at : ℕ) (item : Item) (frames : List PlacedFrame) → IsItemOf part file at item → AreSized steps file (by frames) → AreSized steps file (by (cons_option (frame_as at item) frames))
     sized_more part at (Frame h) frames here sized = (one_sized part at h here (lost at), sized)
-    sized_more part at Free frames here sized = sized
-    sized_more part at (Block b) frames here sized = sized
-    sized_more part at Zero frames here sized = sized
-    sized_more part at End frames here sized = sized
-    sized_more part at Nothing frames here sized = sized
+    sized_more part at _ frames here sized = sized
 
     pub items_sized : (part : Part) (from : ℕ) (ps : List Placed) (to : ℕ) → AreEndToEnd part file from ps to → AreSized steps file (by (frames_of ps))
     items_sized part from [] to ends = tt
@@ -176,9 +172,6 @@ module _ (lost : ℕ → Bool) (file : List ℕ) where
 
 -- ---- the end of the last frame
 
-pub last_more : (r q : Row) (rows : List Row) → last_end (r ∷ q ∷ rows) ≡ last_end (q ∷ rows)
-last_more r q rows = let m : length (r ∷ q ∷ rows) - 1 ≡ suc (length (q ∷ rows) - 1) = omega arith in rw m refl
-
 -- all frames stand in front of it
 pub last_ends : (from : ℕ) (row : Row) (rows : List Row) (to : ℕ) → EndBy from (row ∷ rows) to → EndBy from (row ∷ rows) (last_end (row ∷ rows)) × (last_end (row ∷ rows) ≤ to)
 last_ends from row [] to ends = ((ends.0, ends.1, omega arith), ends.2)
@@ -221,19 +214,8 @@ marked_long : (head : Option Head) (rows : List Row) → length (marked head row
 unfolding marked
 marked_long head rows = each_long head rows 0 rows
 
-pub tag_some : (s : SurveyFields) (b : Piece) → tag_block s ≡ Some b → (tag_at s ≡ b.offset) × (tag_length s ≡ b.block.length)
-tag_some s b is = (rw is refl, rw is refl)
-
 pub tag_none : (s : SurveyFields) → tag_block s ≡ None → (tag_at s ≡ last_end s.frames) × (tag_length s ≡ 0)
 tag_none s is = (rw is refl, rw is refl)
-
-low_cases : (file : List ℕ) (start : Start) → IsLeastStart file start → start.front_end ≤ start.first.offset
-low_cases file start (inl same) = omega (arith, same)
-low_cases file start (inr least) = omega (arith, least.0)
-
-front_end-is : (file : List ℕ) → front_end_of file ≡ (run Front file 0).stop
-unfolding front_end_of
-front_end-is file = refl
 
 module _ (steps : ℕ → Steps) (file : List ℕ) (allowed : ℕ) (start : Start) (read : IsRead file allowed start) where
   abbrev s : SurveyFields
@@ -307,7 +289,7 @@ module _ (steps : ℕ → Steps) (file : List ℕ) (allowed : ℕ) (start : Star
 
   among_by : (b : Piece) → tag_block s ≡ Some b → first < b.offset → IsCut lost file first (numbered head (start.first ∷ frames_of later.items)) b later.stop → IsAmong s
   among_by b is beyond cut =
-      let tag = tag_some s b is in
+      let tag = place-some s b is in
       let high = end_rises (b.offset + b.block.length) (rows_by lost file cut.behind) later.stop cut.rest in
       record {
         before = rows_by lost file cut.before;
@@ -357,7 +339,7 @@ module _ (steps : ℕ → Steps) (file : List ℕ) (allowed : ℕ) (start : Star
 
   place_by : (x y : Option Piece) → find is_tag (blocks_of front.items) ≡ x → find is_tag (blocks_of later.items) ≡ y → tag_block s ≡ option_or x y → IsInFront s ⊎ IsAmong s
   place_by (Some b) y front_is later_is is =
-      let tag = tag_some s b is in
+      let tag = place-some s b is in
       let here = items_within lost file Front 0 front.items b front.stop (run-ends Front file 0) front_is in
       inl (record { some = omega (arith, tag.1, here.0); before = omega (arith, tag.0, tag.1, here.1, front_stop) })
   place_by None (Some b) front_is later_is is =

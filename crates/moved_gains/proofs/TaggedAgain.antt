@@ -18,10 +18,10 @@ use Rattle.moved_gains.specs.declared.shift.Steps.{Steps}
 use Rattle.moved_gains.specs.Edited.{edited}
 use Rattle.moved_gains.specs.Streams.{moved_row, junk_length, moved_survey}
 use Rattle.outside.specs.Pass.{bytes_between}
-use Rattle.moved_gains.proofs.MovingLaws.{moved_from, IsBehind, moved_from-later, written-edited}
+use Rattle.moved_gains.proofs.MovingLaws.{moved_from, IsBehind, moved_from-later, written-edited, behind_earlier}
 use Rattle.moved_gains.proofs.WrittenLaws.{EndBy, moved_to, AreSized, moved_to-long, moved_split}
 use Rattle.moved_gains.proofs.TagPlaces.{IsAmong, IsInFront, StandsSomewhere, stands_somewhere}
-use Rattle.moved_gains.proofs.WrittenTag.{length_moved, at_front, at_behind, is_behind, is_earlier, sized_front}
+use Rattle.moved_gains.proofs.WrittenTag.{length_moved, at_front, at_behind, is_behind, sized_front}
 use Rattle.moved_gains.proofs.MovedSurvey.{surveyed-edited}
 use Rattle.moved_gains.proofs.FramesThere.{AreFramesOf, frames_there}
 use Rattle.moved_gains.proofs.MovedAgain.{AllTogether, stood, AreMovedBy, ends_again, moved_again, moved_whole_to}
@@ -117,7 +117,7 @@ module _ (steps : ℕ → Steps) (file : List ℕ) (allowed : ℕ) (s : SurveyFi
         (moved_is
         ∙ ap (λ (l : List ℕ). take junk file ++ l)
         (ap (moved_from steps file s.first) among.all
-        ∙ moved_split steps file s.first a among.before among.behind among.front (is_earlier a (a + size) among.behind (omega arith) next)
+        ∙ moved_split steps file s.first a among.before among.behind among.front (behind_earlier a (a + size) among.behind (omega arith) next)
         ∙ ap (λ (l : List ℕ). before ++ l) (moved_from-later steps file a size among.behind next ∙ ap (λ (l : List ℕ). own ++ l) (moved_whole_to steps file (a + size) among.behind)))
         ∙ sym (append_assoc (take junk file) before (own ++ from_tag)))
 

@@ -8,6 +8,8 @@ use Rattle.sync_survey.specs.declared.places.Piece.{Piece}
 use Rattle.sync_survey.specs.declared.rows.Row.{Row}
 use Rattle.sync_survey.specs.Faults.{SurveyFields, surveyed}
 use Rattle.file_tag.specs.Places.{is_tag, tag_block, tag_at, tag_length, last_end, with_tag}
+use Rattle.file_tag.proofs.FoundTag.{last_more}
+use Rattle.file_tag.proofs.ReadingLaws.{place-some}
 use Rattle.moved_gains.specs.declared.moving.NewTag.{NewTag}
 use Rattle.moved_gains.specs.declared.shift.Steps.{Steps}
 use Rattle.moved_gains.specs.Edited.{edited}
@@ -15,9 +17,9 @@ use Rattle.moved_gains.specs.Streams.{moved_row, moved_block, junk_length, moved
 use Rattle.moved_gains.specs.Change.{Change, retag, changed}
 use Rattle.outside.specs.Pass.{bytes_between}
 use Rattle.moved_gains.specs.Moving.{row_end, copied, written_from, IsTagOf, IsNewTag}
-use Rattle.moved_gains.proofs.MovingLaws.{moved_from, IsBehind, moved_from-later, written-edited}
+use Rattle.moved_gains.proofs.MovingLaws.{moved_from, IsBehind, moved_from-later, written-edited, behind_earlier}
 use Rattle.moved_gains.proofs.WrittenLaws.{written-none, EndBy, moved_to, AreSized, moved_to-long, moved_split, before_tag, around_tag, written-behind, written-split}
-use Rattle.moved_gains.proofs.TagPlaces.{last_more, tag_some, tag_none, IsAmong, IsInFront, StandsSomewhere, stands_somewhere}
+use Rattle.moved_gains.proofs.TagPlaces.{tag_none, IsAmong, IsInFront, StandsSomewhere, stands_somewhere}
 
 -- ---- the tag of the edited file
 
@@ -69,7 +71,7 @@ module _ (steps : ℕ → Steps) (s : SurveyFields) where
     where
       at : (o : Option Piece) → tag_block s ≡ o → tag_length m ≡ tag_length s
       at None is = (tag_none m (none_moved is)).1 ∙ sym (tag_none s is).1
-      at (Some b) is = (tag_some m (moved_block s.first gap b) (some_moved b is)).1 ∙ size_kept s.first gap b ∙ sym (tag_some s b is).1
+      at (Some b) is = (place-some m (moved_block s.first gap b) (some_moved b is)).1 ∙ size_kept s.first gap b ∙ sym (place-some s b is).1
 
   -- a tag in front of the frames stays where it is
   pub at_front : tag_at s < s.first → 0 < tag_length s → tag_at m ≡ tag_at s
@@ -78,9 +80,9 @@ module _ (steps : ℕ → Steps) (s : SurveyFields) where
       at : (o : Option Piece) → tag_block s ≡ o → tag_at m ≡ tag_at s
       at None is = absurd (omega (arith, some, (tag_none s is).1))
       at (Some b) is =
-          let place = (tag_some s b is).0 in
+          let place = (place-some s b is).0 in
           let low : ltb b.offset s.first ≡ true = lt-ltb b.offset s.first (omega (arith, front, place)) in
-          (tag_some m (moved_block s.first gap b) (some_moved b is)).0
+          (place-some m (moved_block s.first gap b) (some_moved b is)).0
           ∙ ap (λ c. (cond c b (record b { offset = b.offset - gap })).offset) low
           ∙ sym place
 
@@ -96,9 +98,9 @@ module _ (steps : ℕ → Steps) (s : SurveyFields) where
       at None is =
           (tag_none m (none_moved is)).0 ∙ ap last_end frames_moved ∙ last s.frames ends some ∙ ap (λ n. n - gap) (sym (tag_none s is).0)
       at (Some b) is =
-          let place = (tag_some s b is).0 in
+          let place = (place-some s b is).0 in
           let high : ltb b.offset s.first ≡ false = le-ltb b.offset s.first (omega (arith, low, place)) in
-          (tag_some m (moved_block s.first gap b) (some_moved b is)).0
+          (place-some m (moved_block s.first gap b) (some_moved b is)).0
           ∙ ap (λ c. (cond c b (record b { offset = b.offset - gap })).offset) high
           ∙ ap (λ n. n - gap) (sym place)
 
@@ -107,10 +109,6 @@ module _ (steps : ℕ → Steps) (s : SurveyFields) where
 pub is_behind : (at : ℕ) (rows : List Row) (to : ℕ) → EndBy at rows to → IsBehind at rows
 is_behind at [] to ends = tt
 is_behind at (row ∷ rows) to ends = ends.0
-
-pub is_earlier : (at later : ℕ) (rows : List Row) → at ≤ later → IsBehind later rows → IsBehind at rows
-is_earlier at later [] low behind = tt
-is_earlier at later (row ∷ rows) low behind = omega (arith, low, behind)
 
 pub sized_front : (steps : ℕ → Steps) (file : List ℕ) (before behind : List Row) → AreSized steps file (before ++ behind) → AreSized steps file before
 sized_front steps file [] behind sized = tt
@@ -187,7 +185,7 @@ module _ (steps : ℕ → Steps) (file : List ℕ) (allowed : ℕ) (s : SurveyFi
       moved_is
       ∙ ap (λ (l : List ℕ). take junk file ++ l)
       (ap (moved_from steps file s.first) among.all
-      ∙ moved_split steps file s.first a among.before among.behind among.front (is_earlier a (a + size) among.behind (omega arith) behind_rest)
+      ∙ moved_split steps file s.first a among.before among.behind among.front (behind_earlier a (a + size) among.behind (omega arith) behind_rest)
       ∙ ap (λ (l : List ℕ). before ++ l) (moved_from-later steps file a size among.behind behind_rest))
       ∙ sym (append_assoc (take junk file) before (own ++ rest)) in
       let place : length front ≡ a - junk_length s = omega (arith, length-append (take junk file) before, long, before_long, known.junk, among.low) in

@@ -1,6 +1,6 @@
 -- A file that is read once from front to back and written with moved gains and with another tag.
 use Rattle.std.specs.Prelude.{◌≡◌, ℕ, ◌+◌, ◌&&◌, nat_le, if◌then◌else◌, Option, Some, None, length, List, [], ◌∷◌, ◌++◌, take, drop}
-use Rattle.frame_header.specs.Tables.{class_of, length_of}
+use Rattle.frame_header.specs.Tables.{class_of, length_of, overhead_of}
 use Rattle.side_info.specs.Frame.{side_in, frame_with}
 use Rattle.sync_survey.specs.declared.rows.Row.{Row}
 use Rattle.file_tag.specs.Places.{tag_at, tag_length}
@@ -17,6 +17,10 @@ row_length row = length_of (class_of row.header) row.header.slot
 
 abbrev pub row_end : Row → ℕ
 row_end row = row.offset + row_length row
+
+-- the bytes before its main data: header, check word and side information
+abbrev pub row_overhead : Row → ℕ
+row_overhead row = overhead_of (class_of row.header) row.header.protected
 
 -- the side information of the row is what stands in the file
 abbrev pub IsRowOf : List ℕ → Row → Type 0

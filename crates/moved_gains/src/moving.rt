@@ -12,7 +12,7 @@ ghost use Rattle.moved_gains.specs.Buffers.{AreFresh};
 ghost use Rattle.sync_survey.specs.Limits.{most_frames};
 ghost use Rattle.moved_gains.specs.Change.{changed, change_in};
 ghost use Rattle.moved_gains.specs.Course.{steps_over, AreNumbered};
-ghost use Rattle.moved_gains.specs.Moving.{row_length, row_end, row_bytes, IsRowOf, AreRowsOf, moved_bytes, moved_row_bytes, bytes_around, copied, written_from, IsNewTag};
+ghost use Rattle.moved_gains.specs.Moving.{row_length, row_end, row_overhead, row_bytes, IsRowOf, AreRowsOf, moved_bytes, moved_row_bytes, bytes_around, copied, written_from, IsNewTag};
 
 use crate::buffers::Buffers;
 use crate::change::Change;
@@ -41,7 +41,7 @@ fn frame_length(header: &Header) -> u32
 /// the check word that is right for them. A lost frame stays.
 #[inline(always)]
 fn move_front(steps: &Steps, row: &Row, front: &mut [u8])
-    requires { overhead_of (class_of row.now.header) row.now.header.protected ≤ length front.old }
+    requires { row_overhead row.now ≤ length front.old }
     ensures { side_in row.now.header front.old ≡ row.now.side →
         front.new ≡ moved_bytes steps.now row.now front.old }
 {
@@ -152,7 +152,7 @@ impl<'a> GainPass<'a> {
         waiting: &mut WriteBuffer,
     ) -> Result<(), PassFault>
         requires target { IsThere (D.files folder.old) self.now.pass.output.now }
-        requires reached { overhead_of (class_of moved.now.row.now.header) moved.now.row.now.header.protected ≤ size }
+        requires reached { row_overhead moved.now.row.now ≤ size }
         requires few { size ≤ 38 }
         requires within { size ≤ length frame.now }
         requires told { (file : List ℕ) → Holds (D.files folder.old) self.now.pass.input.now file →
@@ -184,8 +184,7 @@ impl<'a> GainPass<'a> {
         waiting: &mut WriteBuffer,
     ) -> Result<(), PassFault>
         requires target { IsThere (D.files folder.old) self.now.pass.output.now }
-        requires room { overhead_of (class_of moved.now.row.now.header) moved.now.row.now.header.protected
-            ≤ length frame.now }
+        requires room { row_overhead moved.now.row.now ≤ length frame.now }
         requires told { (file : List ℕ) → Holds (D.files folder.old) self.now.pass.input.now file →
             IsRowOf file moved.now.row.now × (frame.now ≡ row_bytes file moved.now.row.now) }
         ensures written { OnOk result (Writes self.now.pass

@@ -30,39 +30,24 @@ use Rattle.mp3_cli.proofs.LegalLaws.{legal-by}
 
 by_status : (why : Why) → (1 ≤ status_by why) × (status_by why ≤ 4) × (status_by why ≢ 2)
 by_status Rejected = (omega arith, omega arith, λ e. absurd (omega (arith, e)))
-by_status NoMemory = (omega arith, omega arith, λ e. absurd (omega (arith, e)))
-by_status Missing = (omega arith, omega arith, λ e. absurd (omega (arith, e)))
-by_status Unread = (omega arith, omega arith, λ e. absurd (omega (arith, e)))
-by_status Shorter = (omega arith, omega arith, λ e. absurd (omega (arith, e)))
-by_status (Unwritten k) = (omega arith, omega arith, λ e. absurd (omega (arith, e)))
-by_status Unsent = (omega arith, omega arith, λ e. absurd (omega (arith, e)))
+by_status _ = (omega arith, omega arith, λ e. absurd (omega (arith, e)))
 
 -- ---- a failed write to standard output
 
 input_sent : (kind : InputKind) → by_kind (record { absent = Missing; unread = Unread; shorter = Shorter; too_much = NoMemory; refused = Rejected }) kind ≡ Unsent → ⊥
 input_sent IsAbsent e = absurd cc
-input_sent NotRead e = absurd cc
-input_sent Shrank e = absurd cc
-input_sent IsTooMuch e = absurd cc
-input_sent AtFault e = absurd cc
+input_sent _ e = absurd cc
 
 -- is the one fault with which something was sent
 module _ (command : Command) (files : Files) (old new : Heard) where
   pub sent_rose : (fault : EditFault) → why_of fault ≡ Unsent → Says command files old new (Some fault) → Rose old.faults new.faults
-  sent_rose (EqualNames place) is says = absurd cc
   sent_rose (Input place fault) is says = absurd (input_sent (kind_of fault) is)
-  sent_rose (Refused refusal) is says = absurd cc
-  sent_rose (Write place) is says = absurd cc
   sent_rose NotSent is says = says.rose
-  sent_rose Memory is says = absurd cc
+  sent_rose _ is says = absurd cc
 
   pub sent_none : (fault : EditFault) → (why_of fault ≡ Unsent → ⊥) → Says command files old new (Some fault) → new ≡ old
-  sent_none (EqualNames place) other says = says
-  sent_none (Input place fault) other says = says
-  sent_none (Refused refusal) other says = says
-  sent_none (Write place) other says = says
   sent_none NotSent other says = absurd (other refl)
-  sent_none Memory other says = says
+  sent_none _ other says = says
 
 -- ---- no line
 
@@ -95,11 +80,7 @@ module _ (command : Command) (old new : Seen) (out_old out_new err_old err_new :
   stays_by : (fault : EditFault) (why : Why) → status ≡ status_by why → status ≢ 3 → LeavesBy command old new fault why → new ≡ old
   stays_by fault Rejected is other left = left.stays
   stays_by fault NoMemory is other left = left.stays
-  stays_by fault Missing is other left = absurd (other is)
-  stays_by fault Unread is other left = absurd (other is)
-  stays_by fault Shorter is other left = absurd (other is)
-  stays_by fault (Unwritten k) is other left = absurd (other is)
-  stays_by fault Unsent is other left = absurd (other is)
+  stays_by fault _ is other left = absurd (other is)
 
   pub kept : status ≢ 0 → status ≢ 3 → new.files ≡ old.files
   kept some other = at case_of
@@ -174,12 +155,7 @@ module _ (command : Command) (old new : Seen) (out_old out_new err_old err_new :
 
     failed_here : (fault : EditFault) (why : Why) → all.fault ≡ Some fault → status ≡ status_by why → status ≤ 2 → why_of fault ≡ why → LeavesBy command old new fault why → IsAsDefinedBy (command.makes f)
     failed_here fault Rejected e is low w left = refused_here fault e is w left
-    failed_here fault NoMemory e is low w left = absurd (omega (arith, is, low))
-    failed_here fault Missing e is low w left = absurd (omega (arith, is, low))
-    failed_here fault Unread e is low w left = absurd (omega (arith, is, low))
-    failed_here fault Shorter e is low w left = absurd (omega (arith, is, low))
-    failed_here fault (Unwritten k) e is low w left = absurd (omega (arith, is, low))
-    failed_here fault Unsent e is low w left = absurd (omega (arith, is, low))
+    failed_here fault _ e is low w left = absurd (omega (arith, is, low))
 
     pub as_defined : status ≤ 2 → IsOutcome (command_outcome command f) (world old out_old err_old) (world new out_new err_new) status
     as_defined low = at case_of
@@ -200,13 +176,12 @@ module _ (command : Command) (old new : Seen) (out_old out_new err_old err_new :
 
     not_failed : (made : Made) (fault : EditFault) (why : Why) → command.makes f ≡ Ok made → (Rose old.counts.read_faults new.counts.read_faults → ⊥) → (Rose old.counts.write_faults new.counts.write_faults → ⊥) → (Rose out_old.faults out_new.faults → ⊥) → status ≢ 4
         → all.fault ≡ Some fault → why_of fault ≡ why → status ≡ status_by why → LeavesBy command old new fault why → ⊥
-    not_failed made fault Rejected ok reads writes sends found e w is left = not_made made fault ok (gives (Err fault) left.defined)
-    not_failed made fault Missing ok reads writes sends found e w is left = not_made made fault ok (gives (Err fault) left.defined)
     not_failed made fault Unread ok reads writes sends found e w is left = reads left.rose
     not_failed made fault Shorter ok reads writes sends found e w is left = told_twice left.before
     not_failed made fault (Unwritten k) ok reads writes sends found e w is left = writes left.rose
     not_failed made fault NoMemory ok reads writes sends found e w is left = found is
     not_failed made fault Unsent ok reads writes sends found e w is left = sends (sent_rose command old.files out_old out_new fault w (says_here (Some fault) e))
+    not_failed made fault _ ok reads writes sends found e w is left = not_made made fault ok (gives (Err fault) left.defined)
 
     -- where it is done the files are those before with all that it makes
     pub files_where_done : status ≡ 0 → (made : Made) × (command.makes f ≡ Ok made) × (new.files ≡ Some (written made.outputs f))
@@ -295,12 +270,8 @@ module _ (command : Command) (no_text : IsSilent command) (files : Files) (out :
 
   -- so it is silent with every fault that it has
   says_fault : (fault : EditFault) → HasNumbers command fault → Says command files out out (Some fault)
-  says_fault (EqualNames place) numbers = refl
-  says_fault (Input place fault) numbers = refl
-  says_fault (Refused refusal) numbers = refl
-  says_fault (Write place) numbers = refl
   says_fault NotSent numbers = absurd (numbers no_text.always)
-  says_fault Memory numbers = refl
+  says_fault _ numbers = refl
 
 -- the answer of such a command, from what it promises
 pub silent_answers : {T : Type 0} (command : Command) → IsSilent command → (r : Result T EditFault) (old new : Seen) (out err_old err_new : Heard) (status : ℕ)
@@ -422,10 +393,7 @@ module _ (text : List ℕ) (some : Some text ≢ Some []) (now : Seen) where
     said_left : (fault : EditFault) → IsDrillFault fault → Leaves (said_command text) now now fault × HasNumbers (said_command text) fault
     said_left NotSent is = (record { made = text_made; told = refl; counts = refl }, some)
     said_left Memory is = (record { names = refl; takes = none_early; stays = refl }, tt)
-    said_left (EqualNames place) is = absurd is
-    said_left (Input place fault) is = absurd is
-    said_left (Refused refusal) is = absurd is
-    said_left (Write place) is = absurd is
+    said_left _ is = absurd is
 
     said_fault : (fault : EditFault) → IsDrillFault fault → Says (said_command text) now.files out_old out_new (Some fault) → status ≡ fault_status (Some fault) → GetsLine err_old err_new (line_of (said_command text) (Some fault))
         → Answers (said_command text) (world now out_old err_old) (world now out_new err_new) status

@@ -1,7 +1,7 @@
 //! Lines as lists of parts, and how they are sent.
-ghost use Rattle.std.specs.Prelude.{◌≡◌, ◌≤◌, ◌<◌, ◌+◌, ◌%◌, ◌++◌, ◌∷◌, [], OnOk, OnErr, length, map, flat_map};
+ghost use Rattle.std.specs.Prelude.{◌≡◌, ◌≤◌, ◌<◌, ◌+◌, ◌%◌, ◌++◌, ◌∷◌, [], OnOk, OnErr, codes, length, map, flat_map};
 ghost use Rattle.splitting.specs.Split.{piece_name as piece_name_lem};
-ghost use Rattle.mp3_cli.specs.Lines.{hex_digit as hex_digit_lem, hex_word, Text, spelled_part, spelled, part_of};
+ghost use Rattle.mp3_cli.specs.Lines.{hex_digit as hex_digit_lem, hex_word, Text, Number, Name, spelled_part, spelled, part_of};
 ghost use Rattle.mp3_cli.specs.Texts.{GotWhole, GotFront, GotLine};
 
 use arrayvec::ArrayVec;
@@ -50,6 +50,26 @@ pub(crate) fn text_line(text: &str) -> Line<'_>
     ensures { map part_of result.items ≡ Text text.now ∷ [] }
 {
     line(&[Part::Text(text)])
+}
+
+/// A line of a text and a number.
+pub(crate) fn number_line(text: &str, number: u64) -> Line<'_>
+    ensures { map part_of result.items ≡ Text text.now ∷ Number number ∷ Text (codes "\n") ∷ [] }
+{
+    line(&[Part::Text(text), Part::Number(number), Part::Text("\n")])
+}
+
+/// A line of a name, a text and a number.
+pub(crate) fn named_line<'a>(name: &'a str, text: &'a str, number: u64) -> Line<'a>
+    ensures { map part_of result.items
+        ≡ Name name.now ∷ Text text.now ∷ Number number ∷ Text (codes "\n") ∷ [] }
+{
+    line(&[
+        Part::Name(name),
+        Part::Text(text),
+        Part::Number(number),
+        Part::Text("\n"),
+    ])
 }
 
 /// Sends the pieces one after another, and stops at the first that fails.

@@ -8,7 +8,7 @@ ghost use Rattle.outside.specs.Files.{Files};
 ghost use Rattle.commands.specs.Said.{heard, Says, fault_of};
 
 use crate::output_names::Outputs;
-use crate::parts::{Line, Part, line, send_line, send_text, text_line};
+use crate::parts::{Line, Part, line, named_line, number_line, send_line, send_text, text_line};
 use cue_sheet::CueFault;
 use edits::{EditFault, Refusal};
 use fade_plan::EnvelopeFault;
@@ -130,36 +130,11 @@ fn input_parts<'a>(name: &'a str, fault: &SurveyFault) -> Line<'a>
             Part::Number(size),
             Part::Text(" bytes\n"),
         ]),
-        SurveyFault::NoFrame(at) => line(&[
-            Part::Name(name),
-            Part::Text(": no frame at "),
-            Part::Number(at),
-            Part::Text("\n"),
-        ]),
-        SurveyFault::LostSync(at) => line(&[
-            Part::Name(name),
-            Part::Text(": lost synchronisation at "),
-            Part::Number(at),
-            Part::Text("\n"),
-        ]),
-        SurveyFault::Truncated(at) => line(&[
-            Part::Name(name),
-            Part::Text(": truncated at "),
-            Part::Number(at),
-            Part::Text("\n"),
-        ]),
-        SurveyFault::FreeFormat(at) => line(&[
-            Part::Name(name),
-            Part::Text(": free format at "),
-            Part::Number(at),
-            Part::Text("\n"),
-        ]),
-        SurveyFault::Mixed(at) => line(&[
-            Part::Name(name),
-            Part::Text(": mixed class at "),
-            Part::Number(at),
-            Part::Text("\n"),
-        ]),
+        SurveyFault::NoFrame(at) => named_line(name, ": no frame at ", at),
+        SurveyFault::LostSync(at) => named_line(name, ": lost synchronisation at ", at),
+        SurveyFault::Truncated(at) => named_line(name, ": truncated at ", at),
+        SurveyFault::FreeFormat(at) => named_line(name, ": free format at ", at),
+        SurveyFault::Mixed(at) => named_line(name, ": mixed class at ", at),
         SurveyFault::CheckWord(at, said, right) => line(&[
             Part::Name(name),
             Part::Text(": check word at "),
@@ -180,12 +155,7 @@ fn input_parts<'a>(name: &'a str, fault: &SurveyFault) -> Line<'a>
             Part::Number(present),
             Part::Text("\n"),
         ]),
-        SurveyFault::Overlap(at) => line(&[
-            Part::Name(name),
-            Part::Text(": overlap at "),
-            Part::Number(at),
-            Part::Text("\n"),
-        ]),
+        SurveyFault::Overlap(at) => named_line(name, ": overlap at ", at),
         SurveyFault::Overrun(at, bits, room) => line(&[
             Part::Name(name),
             Part::Text(": overrun at "),
@@ -196,12 +166,7 @@ fn input_parts<'a>(name: &'a str, fault: &SurveyFault) -> Line<'a>
             Part::Number(u64::from(room)),
             Part::Text("\n"),
         ]),
-        SurveyFault::TooManyFrames(at) => line(&[
-            Part::Name(name),
-            Part::Text(": too many frames at "),
-            Part::Number(at),
-            Part::Text("\n"),
-        ]),
+        SurveyFault::TooManyFrames(at) => named_line(name, ": too many frames at ", at),
         SurveyFault::Shrunk(first, second) => line(&[
             Part::Name(name),
             Part::Text(": shrunk from "),
@@ -220,18 +185,8 @@ fn sheet_parts<'a>(name: &'a str, fault: &CueFault) -> Line<'a>
     ensures { map part_of result.items ≡ Name name.now ∷ sheet_parts_lem fault.now }
 {
     match *fault {
-        CueFault::Line(number) => line(&[
-            Part::Name(name),
-            Part::Text(": bad line "),
-            Part::Number(u64::from(number)),
-            Part::Text("\n"),
-        ]),
-        CueFault::NotRising(number) => line(&[
-            Part::Name(name),
-            Part::Text(": not rising at line "),
-            Part::Number(u64::from(number)),
-            Part::Text("\n"),
-        ]),
+        CueFault::Line(number) => named_line(name, ": bad line ", u64::from(number)),
+        CueFault::NotRising(number) => named_line(name, ": not rising at line ", u64::from(number)),
         CueFault::NoTracks => line(&[Part::Name(name), Part::Text(": no tracks\n")]),
         CueFault::Memory => line(&[Part::Name(name)]),
     }
@@ -242,12 +197,7 @@ fn curve_parts<'a>(name: &'a str, fault: &EnvelopeFault) -> Line<'a>
     ensures { map part_of result.items ≡ Name name.now ∷ curve_parts_lem fault.now }
 {
     match *fault {
-        EnvelopeFault::Line(number) => line(&[
-            Part::Name(name),
-            Part::Text(": bad line "),
-            Part::Number(u64::from(number)),
-            Part::Text("\n"),
-        ]),
+        EnvelopeFault::Line(number) => named_line(name, ": bad line ", u64::from(number)),
         EnvelopeFault::NoPoints => line(&[Part::Name(name), Part::Text(": no points\n")]),
         EnvelopeFault::Memory => line(&[Part::Name(name)]),
     }
@@ -281,27 +231,11 @@ fn refusal_parts<'a>(refusal: &Refusal, inputs: &[&'a str]) -> Line<'a>
             Part::Text("\n"),
         ]),
         Refusal::Mono => text_line("one channel only\n"),
-        Refusal::Joint(offset) => line(&[
-            Part::Text("joint stereo at "),
-            Part::Number(offset),
-            Part::Text("\n"),
-        ]),
-        Refusal::TagTooLarge(length) => line(&[
-            Part::Text("tag too large, "),
-            Part::Number(length),
-            Part::Text("\n"),
-        ]),
-        Refusal::BadTag(offset) => line(&[
-            Part::Text("bad tag at "),
-            Part::Number(offset),
-            Part::Text("\n"),
-        ]),
+        Refusal::Joint(offset) => number_line("joint stereo at ", offset),
+        Refusal::TagTooLarge(length) => number_line("tag too large, ", length),
+        Refusal::BadTag(offset) => number_line("bad tag at ", offset),
         Refusal::NoUndo => text_line("no undo item\n"),
-        Refusal::BadUndo(offset) => line(&[
-            Part::Text("bad undo item at "),
-            Part::Number(offset),
-            Part::Text("\n"),
-        ]),
+        Refusal::BadUndo(offset) => number_line("bad undo item at ", offset),
         Refusal::UndoRange(sum) => line(&[
             Part::Text("undo sum "),
             Part::Signed(sum),
@@ -321,11 +255,7 @@ fn refusal_parts<'a>(refusal: &Refusal, inputs: &[&'a str]) -> Line<'a>
             Part::Number(frames),
             Part::Text(" frames\n"),
         ]),
-        Refusal::NoRate(rate) => line(&[
-            Part::Text("no rate "),
-            Part::Number(u64::from(rate)),
-            Part::Text("\n"),
-        ]),
+        Refusal::NoRate(rate) => number_line("no rate ", u64::from(rate)),
         Refusal::Unfit(frame) => line(&[
             Part::Text("frame "),
             Part::Number(u64::from(frame)),
@@ -343,12 +273,7 @@ fn refusal_parts<'a>(refusal: &Refusal, inputs: &[&'a str]) -> Line<'a>
         ]),
         Refusal::Sheet(fault) => sheet_parts(name_in(inputs, SHEET), &fault),
         Refusal::Curve(fault) => curve_parts(name_in(inputs, SHEET), &fault),
-        Refusal::CurveNotRising(number) => line(&[
-            Part::Name(name_in(inputs, SHEET)),
-            Part::Text(": not rising at line "),
-            Part::Number(u64::from(number)),
-            Part::Text("\n"),
-        ]),
+        Refusal::CurveNotRising(number) => named_line(name_in(inputs, SHEET), ": not rising at line ", u64::from(number)),
     }
 }
 

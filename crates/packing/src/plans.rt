@@ -60,7 +60,7 @@ fn of_rate(fault: RateFault) -> EditFault
 fn plan_menu(alloc: Global, class: Class, rows: &[Row], menu: &[Slot]) -> Result<Plan, RateFault>
     requires class { AreOfClass class (map need_of rows.now) }
     requires some { 1 ≤ length rows.now }
-    requires few { length rows.now ≤ 2900000 }
+    requires few { length rows.now ≤ most_frames }
     requires slots { 1 ≤ length menu.now }
     requires ascending { AreAscending class menu.now }
     ensures { MatchResult result
@@ -81,7 +81,7 @@ fn plan_rates(
     rates: Rates,
 ) -> Result<Plan, EditFault>
     requires laid { IsLaidOut (tells survey.now) }
-    requires few { length (tells survey.now).frames ≤ 2900000 }
+    requires few { length (tells survey.now).frames ≤ most_frames }
     requires some { chosen.now.from < chosen.now.to }
     requires within { chosen.now.to ≤ length (tells survey.now).frames }
     ensures { MatchResult result

@@ -1,6 +1,6 @@
 -- What the command leaves, by its steps.
-use Rattle.std.proofs.Common.{◌≡◌, ℕ, ◌+◌, ◌<◌, ◌≤◌, true, false, cond, List, [], ◌∷◌, length, map, Option, Some, None, Result, Ok, Err, refl, sym, ◌∙◌, ap, subst, inl, inr, is_some}
-use Rattle.std.specs.Prelude.{◌⊎◌, nat_lt, IfSome, IfErr}
+use Rattle.std.proofs.Common.{◌≡◌, ℕ, ◌+◌, ◌<◌, ◌≤◌, List, [], ◌∷◌, length, map, Option, Some, None, Result, Ok, Err, refl, sym, ◌∙◌, ap, subst, inl, inr, is_some}
+use Rattle.std.specs.Prelude.{◌⊎◌, IfSome, IfErr}
 use Rattle.bit_fields.specs.Bits.{AreBytes}
 use Rattle.outside.specs.Files.{Contents, Files, Holds, IsThere}
 use Rattle.outside.proofs.FilesLaws.{there_holds}
@@ -11,24 +11,26 @@ use Rattle.cue_sheet.specs.Places.{frame_at}
 use Rattle.cue_sheet.specs.Cues.{cue_of}
 use Rattle.frame_header.specs.Fields.{ClassFields}
 use Rattle.sync_survey.specs.declared.survey_fault.SurveyFault.{SurveyFault}
-use Rattle.sync_survey.specs.declared.survey_fault.SurveyFault.TheVariants.{Absent, TooLong}
+use Rattle.sync_survey.specs.declared.survey_fault.SurveyFault.TheVariants.{Absent}
 use Rattle.sync_survey.specs.Faults.{longest_file, SurveyFields, surveyed, HoldsStream}
 use Rattle.sync_survey.specs.Survey.{survey_of}
 use Rattle.sync_survey.proofs.BytesFaults.{IsOfBytes, surveyed_of_bytes}
 use Rattle.sync_survey.proofs.FoldersLaws.{survey_of-short}
 use Rattle.commands.specs.declared.fault.EditFault.{EditFault}
-use Rattle.commands.specs.declared.fault.EditFault.TheVariants.{EqualNames, Input, Refused, Write, Sent, Memory}
-use Rattle.commands.specs.declared.fault.Refusal.TheVariants.{SheetTooLarge}
+use Rattle.commands.specs.declared.fault.EditFault.TheVariants.{EqualNames, Input, Refused, Memory}
 use Rattle.frame_edits.specs.declared.chosen.Slots.TheVariants.{Own}
 use Rattle.commands.proofs.RefusingLaws.{unless_late, then_late, then_ok}
+use Rattle.commands.proofs.SheetLaws.{sheet-late}
+use Rattle.commands.proofs.InputLaws.{of_bytes_behind}
 use Rattle.commands.specs.Refusing.{then_made}
+use Rattle.commands.specs.Sheet.{sheet_in}
 use Rattle.frame_edits.specs.Chosen.{Chosen, cut_refuses, chosen_file, chosen_stream, stream_with, stream_chosen_by, cut_choice, laid_with}
 use Rattle.commands.specs.Command.{Output, Made, Command, clash_of, Gives, written, written_to, AreStreams, HoldsStreams}
-use Rattle.commands.specs.Left.{Why, Rejected, Missing, Unread, Shorter, Unwritten, Unsent, NoMemory, why_of, Seen, IsLate, IsDone, IsWrittenTo, TakesMemory, LeavesBy, Leaves, IsRefusal}
+use Rattle.commands.specs.Left.{Why, Rejected, Missing, Unread, Shorter, Unwritten, NoMemory, why_of, Seen, IsLate, IsDone, IsWrittenTo, TakesMemory, LeavesBy, Leaves, IsRefusal}
 use Rattle.commands.specs.One.{most_frames, IsFileFaultBy, IsFileFault}
 use Rattle.sync_survey.proofs.SurveyedFiles.{survey_of-sound}
 use Rattle.frame_edits.proofs.ChosenLaws.{cut_proper}
-use Rattle.splitting.specs.Split.{longest_sheet, frames_between, with_first, chosen_from, chosen_at, pieces_from, made_of, made_at, made_by, made_where, unless_equal, made_result, streams_of, streams_at, streams_by, streams_where, Placing, split_command_of, given, with_end, places_in, places_where, told_by, placing_of}
+use Rattle.splitting.specs.Split.{frames_between, with_first, chosen_from, chosen_at, pieces_from, made_of, made_at, made_by, made_where, unless_equal, made_result, streams_of, streams_at, streams_by, streams_where, Placing, split_command_of, given, with_end, places_where, told_by, placing_of}
 use Rattle.splitting.specs.declared.piece.Piece.{Piece}
 use Rattle.splitting.specs.declared.split_file.Points.{Points}
 use Rattle.splitting.specs.declared.split_file.Points.TheVariants.{Places, Sheet as InSheet}
@@ -57,13 +59,8 @@ takes : (r : Result Made EditFault) → IfErr r IsLate → TakesMemory r
 takes (Ok made) late = tt
 takes (Err fault) late = late
 
-of-bytes-late : (fault : SurveyFault) → IsOfBytes fault → IsLate (Input 0 fault)
-of-bytes-late Absent is = absurd is
-of-bytes-late (TooLong size) is = absurd is
-of-bytes-late _ is = refl
-
 by-late : (prefix file : List ℕ) (places : Result (List Place) EditFault) (r : Result SurveyFields SurveyFault) → IfErr places IsLate → ((fault : SurveyFault) → r ≡ Err fault → IsOfBytes fault) → IfErr (made_by prefix places file r) IsLate
-by-late prefix file places (Err fault) late of_bytes = of-bytes-late fault (of_bytes fault refl)
+by-late prefix file places (Err fault) late of_bytes = of_bytes_behind fault (of_bytes fault refl)
 by-late prefix file places (Ok s) late of_bytes = made-late prefix file s places late
 
 short-late : (prefix file : List ℕ) (places : Result (List Place) EditFault) → IfErr places IsLate → length file ≤ longest_file → IfErr (made_where prefix places (Some file)) IsLate
@@ -82,12 +79,8 @@ end-late : (r : Result (List Place) CueFault) → IfErr (with_end r) IsLate
 end-late (Ok starts) = tt
 end-late (Err fault) = refl
 
-in-late : (sheet : List ℕ) → IfErr (places_in sheet) IsLate
-in-late sheet = elim (nat_lt longest_sheet (length sheet)) as (λ b. IfErr (cond b (Err (Refused (SheetTooLarge (length sheet)))) (with_end (cue_of sheet))) IsLate) [ true ↦ refl | false ↦ end-late (cue_of sheet) ]
-
 where-late : (o : Option (List ℕ)) → IfErr (places_where o) IsLate
-where-late None = refl
-where-late (Some sheet) = in-late sheet
+where-late o = then_late (sheet_in o) (λ bytes. with_end (cue_of bytes)) (sheet-late o) (λ bytes. end-late (cue_of bytes))
 
 told-late : (sheet : List ℕ) → AreLate (told_by sheet)
 told-late sheet f = where-late (f sheet)
@@ -187,9 +180,8 @@ module _ (points : Points) (input prefix : List ℕ) where
           record { defined = subst (λ e. Gives command old.files (Err e)) (sym h.0) (input-missing old.files h.1); rose = h.2; files = h.3 }
       input-left-by Unread h = record { rose = h.rose; files = inl h.files }
       input-left-by Shorter h = record { rose = h.rose; counts = h.counts; before = h.untold_before; after = h.untold_after }
-      input-left-by (Unwritten k) h = absurd h
-      input-left-by Unsent h = absurd h
       input-left-by NoMemory h = record { names = apart; takes = input-takes old.files h.there h.few; stays = h.stays }
+      input-left-by _ h = absurd h
 
       pub input-left : IsFileFault 0 most_frames input old new fault → Leaves command old new fault
       input-left h = input-left-by (why_of fault) h
@@ -279,9 +271,8 @@ module _ (points : Points) (input prefix : List ℕ) where
       places-left-by fault Missing h = record { defined = places-refused s old.files there surveyed fault h.0; rose = h.1; files = h.2 }
       places-left-by fault Unread h = record { rose = h.rose; files = inl h.files }
       places-left-by fault Shorter h = record { rose = h.rose; counts = h.counts; before = h.untold_before; after = h.untold_after }
-      places-left-by fault (Unwritten k) h = absurd h
-      places-left-by fault Unsent h = absurd h
       places-left-by fault NoMemory h = record { names = apart; takes = behind-takes s old.files there surveyed; stays = h }
+      places-left-by fault _ h = absurd h
 
       -- there are no places
       pub places-left : (fault : EditFault) → IsPlacesFault placing mid new fault → Leaves command old new fault
@@ -295,11 +286,7 @@ module _ (points : Points) (input prefix : List ℕ) where
         pub range-left : (fault : EditFault) → new ≡ mid → (fault ≡ Memory) ⊎ (IsRefusal cut_refuses fault × (chosen_at s.class (length s.frames) places ≡ Err fault)) → Leaves command old new fault
         range-left fault same (inl is) = subst (Leaves command old new) (sym is) (memory-left same)
         range-left (Refused refusal) same (inr h) = record { defined = range-refused s old.files there surveyed places are (Refused refusal) h.1; stays = same ∙ stays }
-        range-left (EqualNames place) same (inr h) = absurd h.0
-        range-left (Input place fault) same (inr h) = absurd h.0
-        range-left (Write place) same (inr h) = absurd h.0
-        range-left Sent same (inr h) = absurd h.0
-        range-left Memory same (inr h) = absurd h.0
+        range-left _ same (inr h) = absurd h.0
 
         module _ (pieces : List Piece) (named : ArePieces prefix s 1 pieces) (chosen : chosen_at s.class (length s.frames) places ≡ Ok (map chosen_of pieces)) where
           pub split-done : ((bytes : List ℕ) → Holds mid.files input bytes → new.files ≡ with_outputs (outputs_of s pieces bytes) mid.files) → is_some new.files ≡ is_some mid.files → new.counts ≡ mid.counts → IsDone command old new
@@ -313,13 +300,10 @@ module _ (points : Points) (input prefix : List ℕ) where
           part-left k h = part s old.files there surveyed places are pieces named chosen k new.files h
 
           split-left-by : (fault : EditFault) (why : Why) → IsPiecesFaultBy (outputs_of s pieces) input old new why → LeavesBy command old new fault why
-          split-left-by fault Rejected h = absurd h
-          split-left-by fault Missing h = absurd h
           split-left-by fault Unread h = record { rose = h.rose; files = inr (h.place, part-left h.place h.files) }
           split-left-by fault Shorter h = record { rose = h.rose; counts = h.counts; before = h.untold_before; after = h.untold_after }
           split-left-by fault (Unwritten k) h = record { rose = h.rose; files = part-left k h.files }
-          split-left-by fault Unsent h = absurd h
-          split-left-by fault NoMemory h = absurd h
+          split-left-by fault _ h = absurd h
 
           -- a fault of the second pass
           pub split-left : (fault : EditFault) → IsPiecesFault (outputs_of s pieces) input mid new fault → Leaves command old new fault

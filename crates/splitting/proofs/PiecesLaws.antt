@@ -33,9 +33,6 @@ one-chosen frames from to more done first is =
     ap (λ r. chosen_before done (then_made r (λ c. with_first c (chosen_from frames to more)))) is
     ∙ before-first done first (chosen_from frames to more)
 
-pub not-chosen : (frames from to : ℕ) (more : List ℕ) (done : List Chosen) (fault : EditFault) → frames_between frames from to ≡ Err fault → chosen_before done (chosen_from frames from (to ∷ more)) ≡ Err fault
-not-chosen frames from to more done fault is = ap (λ r. chosen_before done (then_made r (λ c. with_first c (chosen_from frames to more)))) is
-
 -- up to this place, and then behind it
 pub place-chosen : (class : ClassFields) (frames index from : ℕ) (rest : List Place) (d : Place) (done : List Chosen) (first : Chosen) (whole : Result (List Chosen) EditFault) → index < length rest
     → frames_between frames from (frame_at class frames (get_or rest index d)) ≡ Ok first → chosen_before done (chosen_from frames from (map (frame_at class frames) (drop index rest))) ≡ whole

@@ -1,5 +1,5 @@
 -- One file cut at places: the frames between two neighbouring places are a piece, a file of its own.
-use Rattle.std.specs.Prelude.{ℕ, ◌≤◌, ◌+◌, ◌/◌, ◌%◌, ◌||◌, nat_lt, if◌then◌else◌, Bool, true, false, List, [], ◌∷◌, ◌++◌, length, map, replicate, codes, Option, Some, None, Result, Ok, Err}
+use Rattle.std.specs.Prelude.{ℕ, ◌≤◌, ◌+◌, ◌/◌, ◌%◌, ◌||◌, Bool, true, false, List, [], ◌∷◌, ◌++◌, length, map, replicate, codes, Option, Some, None, Result, Ok, Err}
 use Rattle.std.specs.List.{All, range_with_len}
 use Rattle.frame_header.specs.Fields.{ClassFields}
 use Rattle.outside.specs.Files.{Contents}
@@ -17,8 +17,9 @@ use Rattle.sync_survey.specs.Survey.{survey_of}
 use Rattle.commands.specs.declared.fault.EditFault.{EditFault}
 use Rattle.commands.specs.declared.fault.EditFault.TheVariants.{EqualNames, Input, Refused}
 use Rattle.commands.specs.declared.fault.Refusal.{Refusal}
-use Rattle.commands.specs.declared.fault.Refusal.TheVariants.{SheetTooLarge, Sheet}
+use Rattle.commands.specs.declared.fault.Refusal.TheVariants.{Sheet}
 use Rattle.commands.specs.Refusing.{then_made}
+use Rattle.commands.specs.Sheet.{sheet_read, sheet_in, sheet_refuses as read_refuses}
 use Rattle.commands.specs.Command.{Output, Made, Command, clash_from}
 use Rattle.commands.specs.One.{most_frames}
 use Rattle.frame_edits.specs.declared.chosen.Slots.TheVariants.{Own}
@@ -130,10 +131,6 @@ split_at_command places input prefix = split_command (given places) [] input pre
 
 -- ---- a cue sheet
 
--- it may have so many bytes
-abbrev pub longest_sheet : ℕ
-longest_sheet = 65536
-
 -- from each start on, and up to the end
 abbrev pub with_end : Result (List Place) CueFault → Result (List Place) EditFault
 with_end (Ok starts) = Ok (starts ++ End ∷ [])
@@ -141,11 +138,10 @@ with_end (Err fault) = Err (Refused (Sheet fault))
 
 -- the places that the bytes of a cue sheet say
 abbrev pub places_in : List ℕ → Result (List Place) EditFault
-places_in sheet = if nat_lt longest_sheet (length sheet) then Err (Refused (SheetTooLarge (length sheet))) else with_end (cue_of sheet)
+places_in sheet = then_made (sheet_read sheet) (λ bytes. with_end (cue_of bytes))
 
 abbrev pub places_where : Option (List ℕ) → Result (List Place) EditFault
-places_where None = Err (Input 1 Absent)
-places_where (Some sheet) = places_in sheet
+places_where sheet = then_made (sheet_in sheet) (λ bytes. with_end (cue_of bytes))
 
 abbrev pub is_of_sheet : CueFault → Bool
 is_of_sheet NoRoom = false
@@ -153,9 +149,8 @@ is_of_sheet _ = true
 
 -- what may be refused of a sheet
 abbrev pub sheet_refuses : Refusal → Bool
-sheet_refuses (SheetTooLarge size) = nat_lt longest_sheet size
 sheet_refuses (Sheet fault) = is_of_sheet fault
-sheet_refuses _ = false
+sheet_refuses refusal = read_refuses refusal
 
 -- and of the places that it says
 abbrev pub told_refuses : Refusal → Bool

@@ -1,8 +1,8 @@
 -- The steps of a command that cuts a file.
 use Rattle.std.specs.Prelude.{◌≡◌, ◌≢◌, ℕ, ◌+◌, ◌<◌, true, List, [], ◌∷◌, length, map, string_bytes, Option, Some, Result, Err, IfSome, is_some, option_map}
-use Rattle.outside.specs.Files.{Files, Holds, IsThere, IsMissing}
+use Rattle.outside.specs.Files.{Files, Holds, IsThere}
 use Rattle.outside.specs.Counts.{Rose}
-use Rattle.sync_survey.specs.declared.survey_fault.SurveyFault.TheVariants.{Absent, Read, Shrunk, Memory as NoRoom}
+use Rattle.sync_survey.specs.declared.survey_fault.SurveyFault.TheVariants.{Read, Shrunk, Memory as NoRoom}
 use Rattle.sync_survey.specs.Faults.{SurveyFields}
 use Rattle.commands.specs.declared.fault.EditFault.{EditFault}
 use Rattle.commands.specs.declared.fault.EditFault.TheVariants.{Input, Refused, Write as Unwritable, Memory}
@@ -13,6 +13,7 @@ use Rattle.commands.specs.Kinds.{HasRightNumbers}
 use Rattle.commands.specs.Command.{Output, written, written_to}
 use Rattle.commands.specs.Left.{Why, Rejected, Missing, Unread, Shorter, Unwritten, Unsent, NoMemory, why_of, Seen}
 use Rattle.commands.specs.One.{ReadsNothing, LosesInput}
+use Rattle.commands.specs.Sheet.{IsSheetFaultBy as IsUnreadBy, IsOfSheet as IsOfRead}
 use Rattle.frame_edits.specs.Chosen.{Chosen, chosen_in, chosen_file}
 use Rattle.frame_edits.specs.Selected.{IsSelected}
 use Rattle.splitting.specs.declared.piece.Piece.{Piece}
@@ -28,20 +29,9 @@ pub record RefusesSheet (name : List ℕ) (old new : Seen) (fault : EditFault) :
   pub bytes : (bytes : List ℕ) → Holds old.files name bytes → places_where (Some bytes) ≡ Err fault
   pub stays : new ≡ old
 
-pub record MissesSheet (name : List ℕ) (old new : Seen) (fault : EditFault) : Type 0 where
-  pub is : fault ≡ Input 1 Absent
-  pub missing : IsMissing old.files name
-  pub rose : Rose old.counts.misses new.counts.misses
-  pub files : new.files ≡ old.files
-
 abbrev pub IsSheetFaultBy : List ℕ → Seen → Seen → EditFault → Why → Type 0
 IsSheetFaultBy name old new fault Rejected = RefusesSheet name old new fault
-IsSheetFaultBy name old new fault Missing = MissesSheet name old new fault
-IsSheetFaultBy name old new fault Unread = ReadsNothing old new
-IsSheetFaultBy name old new fault Shorter = LosesInput old new
-IsSheetFaultBy name old new fault (Unwritten k) = ⊥
-IsSheetFaultBy name old new fault Unsent = ⊥
-IsSheetFaultBy name old new fault NoMemory = new ≡ old
+IsSheetFaultBy name old new fault why = IsUnreadBy name old new fault why
 
 -- what a fault says that was met while the sheet was read
 abbrev pub IsSheetFault : List ℕ → Seen → Seen → EditFault → Type 0
@@ -49,10 +39,8 @@ IsSheetFault name old new fault = IsSheetFaultBy name old new fault (why_of faul
 
 -- the fault is one of the sheet, or want of memory
 abbrev pub IsOfSheet : EditFault → Type 0
-IsOfSheet (Input place fault) = (place ≡ 1) × (fault ≢ NoRoom) × HasRightNumbers fault
 IsOfSheet (Refused refusal) = sheet_refuses refusal ≡ true
-IsOfSheet Memory = Unit {0}
-IsOfSheet _ = ⊥
+IsOfSheet fault = IsOfRead fault
 
 -- ---- the places
 

@@ -4,6 +4,7 @@ ghost use Rattle.std.specs.List.{All};
 ghost use Rattle.cue_sheet.specs.Places.{IsPlace};
 ghost use Rattle.sync_survey.specs.Faults.{tells};
 ghost use Rattle.sync_survey.specs.Survey.{IsLaidOut};
+ghost use Rattle.commands.specs.One.{most_frames};
 ghost use Rattle.frame_edits.specs.Chosen.{chosen_in, cut_refuses};
 ghost use Rattle.commands.specs.Left.{IsRefusal};
 ghost use Rattle.splitting.specs.Split.{piece_name as piece_name_lem, frames_between, chosen_at};
@@ -35,7 +36,7 @@ fn make_piece(
     to: u64,
 ) -> Result<Piece, EditFault>
     requires laid { IsLaidOut (tells survey.now) }
-    requires few { length (tells survey.now).frames ≤ 2900000 }
+    requires few { length (tells survey.now).frames ≤ most_frames }
     requires number { number ≤ 99 }
     ensures name { IfOk result (λ piece. string_bytes piece.name ≡
         piece_name_lem prefix.now number) }
@@ -66,7 +67,7 @@ pub(crate) fn make_pieces(
     requires some { 1 ≤ length places.now }
     requires most { length places.now ≤ 100 }
     requires laid { IsLaidOut (tells survey.now) }
-    requires few { length (tells survey.now).frames ≤ 2900000 }
+    requires few { length (tells survey.now).frames ≤ most_frames }
     ensures pieces { IfOk result (λ pieces. ArePieces prefix.now (tells survey.now) 1
         pieces.items) }
     ensures count { IfOk result (λ pieces. length pieces.items + 1 ≡ length places.now) }

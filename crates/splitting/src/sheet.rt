@@ -5,8 +5,9 @@ ghost use Rattle.outside.specs.Files.{Holds, IsThere};
 ghost use Rattle.outside.specs.Counts.{OnlyReads};
 ghost use Rattle.cue_sheet.specs.Places.{IsPlace};
 ghost use Rattle.commands.specs.Left.{seen};
-ghost use Rattle.splitting.specs.Split.{longest_sheet, places_in as places_in_lem, places_where};
+ghost use Rattle.splitting.specs.Split.{places_in as places_in_lem, places_where};
 ghost use Rattle.splitting.specs.Steps.{IsSheetFault, IsOfSheet};
+ghost use Rattle.commands.specs.Sheet.{longest_sheet};
 
 use commands::{EditFault, Refusal, sheet_bytes};
 use cue_sheet::{Cue, CueFault, Place};

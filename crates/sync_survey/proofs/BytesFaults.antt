@@ -12,7 +12,7 @@ use Rattle.sync_survey.specs.declared.places.PlacedFrame.{PlacedFrame}
 use Rattle.sync_survey.specs.declared.places.Start.{Start}
 use Rattle.sync_survey.specs.declared.rows.Row.{Row}
 use Rattle.sync_survey.specs.declared.survey_fault.SurveyFault.{SurveyFault}
-use Rattle.sync_survey.specs.declared.survey_fault.SurveyFault.TheVariants.{Absent, TooLong, NoFrame, LostSync, Truncated, FreeFormat, Mixed, CheckWord, BackPointer, Overlap, Overrun, TooManyFrames, Shrunk, Read, Memory}
+use Rattle.sync_survey.specs.declared.survey_fault.SurveyFault.TheVariants.{Absent, TooLong, NoFrame, LostSync, Truncated, FreeFormat, Shrunk, Read, Memory}
 use Rattle.sync_survey.specs.Items.{item_at, fits, same_class}
 use Rattle.sync_survey.specs.Start.{start_behind, start_at, front_end_of, start_of}
 use Rattle.sync_survey.specs.Walk.{fault_at, end_fault, walk_from}
@@ -31,19 +31,10 @@ IsOfBytes _ = Unit {0}
 pub of_bytes_rightly : (fault : SurveyFault) → IsOfBytes fault → RefusesRightly fault
 of_bytes_rightly Absent is = absurd is
 of_bytes_rightly (TooLong size) is = absurd is
-of_bytes_rightly (NoFrame at) is = (refl, tt)
-of_bytes_rightly (LostSync at) is = (refl, tt)
-of_bytes_rightly (Truncated at) is = (refl, tt)
-of_bytes_rightly (FreeFormat at) is = (refl, tt)
-of_bytes_rightly (Mixed at) is = (refl, tt)
-of_bytes_rightly (CheckWord at said right) is = (refl, tt)
-of_bytes_rightly (BackPointer at begin present) is = (refl, tt)
-of_bytes_rightly (Overlap at) is = (refl, tt)
-of_bytes_rightly (Overrun at bits room) is = (refl, tt)
-of_bytes_rightly (TooManyFrames at) is = (refl, tt)
 of_bytes_rightly (Shrunk first second) is = absurd is
 of_bytes_rightly Read is = absurd is
 of_bytes_rightly Memory is = absurd is
+of_bytes_rightly _ is = (refl, tt)
 
 -- ---- lists of faults
 
@@ -128,9 +119,7 @@ start_of_bytes : (file : List ℕ) (at : ℕ) (item : Item) (fault : SurveyFault
 start_of_bytes file at (Frame h) fault is = fits_of_bytes at _ (fits file at (Frame h)) fault is
 start_of_bytes file at Free fault is = let same : FreeFormat at ≡ fault = cc in subst IsOfBytes same tt
 start_of_bytes file at (Block b) fault is = let same : Truncated at ≡ fault = cc in subst IsOfBytes same tt
-start_of_bytes file at Zero fault is = junk_of_bytes at _ fault is
-start_of_bytes file at End fault is = junk_of_bytes at _ fault is
-start_of_bytes file at Nothing fault is = junk_of_bytes at _ fault is
+start_of_bytes file at _ fault is = junk_of_bytes at _ fault is
 
 begun_of_bytes : (file : List ℕ) (fault : SurveyFault) → start_of file ≡ Err fault → IsOfBytes fault
 unfolding start_of

@@ -7,8 +7,8 @@ use Rattle.frame_header.specs.Tables.{class_of}
 use Rattle.side_info.specs.Side.{payload_bits}
 use Rattle.side_info.specs.CheckWord.{check_word_of}
 use Rattle.side_info.specs.Frame.{word_said}
-use Rattle.outside.specs.Files.{Files, Holds, IsMissing}
-use Rattle.outside.specs.Counts.{Counts, Rose}
+use Rattle.outside.specs.Files.{Files, Holds}
+use Rattle.outside.specs.Counts.{Counts}
 use Rattle.sync_survey.specs.declared.items.Item.{Item}
 use Rattle.sync_survey.specs.declared.items.Item.TheVariants.{Frame, Free, Block, Zero, End, Nothing}
 use Rattle.sync_survey.specs.declared.places.Head.{Head}
@@ -19,16 +19,17 @@ use Rattle.sync_survey.specs.declared.runs.Part.{Part}
 use Rattle.sync_survey.specs.declared.runs.Part.TheVariants.{Stream}
 use Rattle.sync_survey.specs.declared.surveys.Survey.{Survey}
 use Rattle.sync_survey.specs.declared.survey_fault.SurveyFault.{SurveyFault}
-use Rattle.sync_survey.specs.declared.survey_fault.SurveyFault.TheVariants.{Absent, TooLong, NoFrame, LostSync, Truncated, FreeFormat, Mixed, CheckWord, BackPointer, Overlap, Overrun, TooManyFrames, Shrunk, Read, Memory}
+use Rattle.sync_survey.specs.declared.survey_fault.SurveyFault.TheVariants.{Absent, TooLong, LostSync, Truncated, FreeFormat, Mixed, CheckWord, BackPointer, Overlap, Overrun, TooManyFrames, Shrunk, Read, Memory}
 use Rattle.sync_survey.specs.Items.{item_at, size_of, same_class}
 use Rattle.sync_survey.specs.Runs.{Placed, AreEndToEnd, frame_as, frames_of}
 use Rattle.sync_survey.specs.Start.{start_of}
 use Rattle.sync_survey.specs.Walk.{stream_run, head_of, numbered, fault_at, end_fault, walk_from}
 use Rattle.sync_survey.specs.MainData.{rows_of, lacks_data, place, end_before}
 use Rattle.sync_survey.specs.Faults.{where_true, has_wrong_word, points_too_far, overlaps, overruns, room_for_data, own_faults, data_faults, faults_at, frame_faults, all_faults, first_of, class_from, faults_from, fault_place, NoneBefore, SurveyFields, fields_from, unless_fault, survey_by, surveyed, longest_file}
-use Rattle.sync_survey.specs.Kinds.{IsRefused, kind_of, by_kind}
-use Rattle.sync_survey.specs.Survey.{survey_of, RefusesBytes, HasShrunk, AsksForMemory, IsSurveyFault, IsRefusal}
-use Rattle.sync_survey.proofs.RunsLaws.{cons_list, item_of-is, run-ends}
+use Rattle.sync_survey.specs.Kinds.{IsRefused, kind_of}
+use Rattle.sync_survey.specs.Survey.{survey_of, RefusesBytes, IsSurveyFaultBy, IsSurveyFault, IsRefusal}
+use Rattle.sync_survey.proofs.ItemLists.{ends-within}
+use Rattle.sync_survey.proofs.RunsLaws.{cons_list, run-ends}
 use Rattle.sync_survey.proofs.StartLaws.{start-first}
 
 -- ---- lists of faults
@@ -145,11 +146,7 @@ all_least file head class allowed at to rows later fault rise behind last is =
 
 rising_more : (file : List ℕ) (at : ℕ) (item : Item) (rows : List PlacedFrame) (to : ℕ) → AreRising at (rows_of file rows) to → AreRising at (rows_of file (option_to_list (frame_as at item) ++ rows)) to
 rising_more file at (Frame h) rows to rise = (omega arith, rise)
-rising_more file at Free rows to rise = rise
-rising_more file at (Block b) rows to rise = rise
-rising_more file at Zero rows to rise = rise
-rising_more file at End rows to rise = rise
-rising_more file at Nothing rows to rise = rise
+rising_more file at _ rows to rise = rise
 
 rising_less : (low high : ℕ) (rows : List Row) (to : ℕ) → low ≤ high → AreRising high rows to → AreRising low rows to
 rising_less low high [] to le rise = omega (arith, le, rise)
@@ -191,10 +188,6 @@ one_only (Some f) fault e =
     let same : f ≡ fault = cc in
     (omega (arith, ap fault_place same), tt)
 
-stop_in : (part : Part) (file : List ℕ) (from : ℕ) (ps : List Placed) (to : ℕ) → AreEndToEnd part file from ps to → from ≤ length file → to ≤ length file
-stop_in part file from [] to ends within = omega (arith, ends, within)
-stop_in part file from (p ∷ ps) to ends within = stop_in part file (p.offset + size_of p.item) ps to ends.2 (item_of-is part file p.offset p.item ends.1).within
-
 -- the first fault of a file with this start has the least offset
 pub first_is_least : (file : List ℕ) (allowed : ℕ) (start : Start) (fault : SurveyFault) → start.first.offset ≤ length file → first_of (faults_from file allowed start) ≡ Some fault → NoneBefore (fault_place fault) (faults_from file allowed start)
 unfolding faults_from walk_from
@@ -206,7 +199,7 @@ first_is_least file allowed start fault within is =
     let o = end_fault file frames (fault_at stream.stop (item_at file stream.stop)) in
     all_least file head (class_from start) allowed start.first.offset stream.stop (rows_of file frames) (option_to_list o) fault
     (rise_numbered file start.first.offset head (frames_of stream.items) stream.stop (items_rise file Stream start.first.offset stream.items stream.stop ends))
-    (end_place file frames stream.stop (fault_at stream.stop (item_at file stream.stop)) (stop_in Stream file start.first.offset stream.items stream.stop ends within) refl)
+    (end_place file frames stream.stop (fault_at stream.stop (item_at file stream.stop)) (ends-within Stream file start.first.offset stream.items stream.stop ends within) refl)
     (λ f found. one_only o f found) is
 
 -- ---- the refusal of a survey
@@ -234,19 +227,10 @@ none_at_all (x ∷ xs) = (omega arith, none_at_all xs)
 nowhere : (fault : SurveyFault) → (fault_place fault ≡ 0) ⊎ (kind_of fault ≡ IsRefused)
 nowhere Absent = inl refl
 nowhere (TooLong size) = inl refl
-nowhere (NoFrame at) = inr refl
-nowhere (LostSync at) = inr refl
-nowhere (Truncated at) = inr refl
-nowhere (FreeFormat at) = inr refl
-nowhere (Mixed at) = inr refl
-nowhere (CheckWord at said right) = inr refl
-nowhere (BackPointer at begin present) = inr refl
-nowhere (Overlap at) = inr refl
-nowhere (Overrun at bits room) = inr refl
-nowhere (TooManyFrames at) = inr refl
 nowhere (Shrunk first second) = inl refl
 nowhere Read = inl refl
 nowhere Memory = inl refl
+nowhere _ = inr refl
 
 long_by : (file : List ℕ) (allowed : ℕ) (fault : SurveyFault) (start : Start) (b : Bool) → start_of file ≡ Ok start → cond b (Err (TooLong (length file))) (surveyed file allowed) ≡ Err fault → NoneBefore (fault_place fault) (faults_from file allowed start)
 long_by file allowed fault start true begun e =
@@ -265,17 +249,7 @@ refusal_first : (name : List ℕ) (files : Files) (allowed : ℕ) (before after 
     → IsFirstOf files name allowed fault
 refusal_first name files allowed before after fault is (inl zero) = λ bytes holds start begun. subst (λ n. NoneBefore n (faults_from bytes allowed start)) (sym zero) (none_at_all (faults_from bytes allowed start))
 refusal_first name files allowed before after fault is (inr kind) =
-    let refuses : RefusesBytes name files allowed before after fault = subst
-    (λ k. by_kind
-    (record {
-      absent = IsMissing files name × Rose before.misses after.misses;
-      unread = Rose before.read_faults after.read_faults;
-      shorter = HasShrunk files before after;
-      too_much = AsksForMemory name files before after;
-      refused = RefusesBytes name files allowed before after fault;
-    })
-    k)
-    kind is in
+    let refuses : RefusesBytes name files allowed before after fault = subst (IsSurveyFaultBy name files allowed before after fault) kind is in
     λ bytes holds start begun. of_file bytes allowed fault start begun (refuses.bytes bytes holds)
 
 pub refused_first : (name : List ℕ) (files : Files) (allowed : ℕ) (before after : Counts) (r : Result Survey SurveyFault) → IfErr r (IsRefusal name files allowed before after) → IfErr r (IsFirstOf files name allowed)

@@ -8,16 +8,16 @@ use Rattle.bit_fields.proofs.BitsLaws.{AreBytes-from_slice}
 use Rattle.outside.specs.Exact.{HasReadCause}
 use Rattle.outside.specs.declared.exact.ReadFault.{ReadFault}
 use Rattle.outside.specs.declared.exact.ReadFault.TheVariants.{Failed, Shrunk as ShrunkRead}
-use Rattle.outside.specs.Files.{Files, Holds, IsThere, IsMissing, AreOctets}
-use Rattle.outside.specs.Counts.{Counts, Rose}
+use Rattle.outside.specs.Files.{Files, Holds, IsThere, AreOctets}
+use Rattle.outside.specs.Counts.{Counts}
 use Rattle.sync_survey.specs.declared.places.Start.{Start}
 use Rattle.sync_survey.specs.declared.survey_fault.SurveyFault.{SurveyFault}
 use Rattle.sync_survey.specs.declared.survey_fault.SurveyFault.TheVariants.{TooLong, Memory}
 use Rattle.sync_survey.specs.Looks.{look_size, Shows}
 use Rattle.sync_survey.specs.Start.{start_of}
 use Rattle.sync_survey.specs.Faults.{survey_by, surveyed, longest_file}
-use Rattle.sync_survey.specs.Kinds.{of_read, by_kind, RefusesRightly}
-use Rattle.sync_survey.specs.Survey.{survey_of, RefusesBytes, HasShrunk, AsksForMemory, IsRefusal, HasLength}
+use Rattle.sync_survey.specs.Kinds.{of_read, RefusesRightly}
+use Rattle.sync_survey.specs.Survey.{survey_of, RefusesBytes, IsSurveyFaultBy, IsRefusal, HasLength}
 
 -- ---- by the length
 
@@ -80,17 +80,7 @@ refusal_later name files mid allowed before between after fault same_files same_
 
 kind_refusal : (name : List ℕ) (files : Files) (allowed : ℕ) (before after : Counts) (fault : SurveyFault) → RefusesRightly fault → RefusesBytes name files allowed before after fault → IsRefusal name files allowed before after fault
 kind_refusal name files allowed before after fault rightly refuses = record {
-  cause = subst
-      (λ kind. by_kind
-      (record {
-        absent = IsMissing files name × Rose before.misses after.misses;
-        unread = Rose before.read_faults after.read_faults;
-        shorter = HasShrunk files before after;
-        too_much = AsksForMemory name files before after;
-        refused = RefusesBytes name files allowed before after fault;
-      })
-      kind)
-      (sym rightly.0) refuses;
+  cause = subst (IsSurveyFaultBy name files allowed before after fault) (sym rightly.0) refuses;
   numbers = rightly.1;
 }
 

@@ -2,7 +2,7 @@
 use Rattle.std.proofs.Common.{◌≡◌, ℕ, ◌+◌, ◌≤◌, List, [], ◌∷◌, ◌++◌, length, None, refl, sym, ◌∙◌, ap, subst, arith, append_assoc, append-nil}
 use Rattle.std.specs.Prelude.{option_to_list}
 use Rattle.sync_survey.specs.declared.items.Item.{Item}
-use Rattle.sync_survey.specs.declared.items.Item.TheVariants.{Frame, Free, Block, Zero, End, Nothing}
+use Rattle.sync_survey.specs.declared.items.Item.TheVariants.{Block}
 use Rattle.sync_survey.specs.declared.places.Piece.{Piece}
 use Rattle.sync_survey.specs.declared.runs.Part.TheVariants.{Front}
 use Rattle.sync_survey.specs.Items.{size_of}
@@ -56,12 +56,8 @@ laid_none : (from : ℕ) (blocks : List Piece) (to later : ℕ) → BlocksAreLai
 laid_none from blocks to later laid low = subst (λ l. BlocksAreLaid from l later) (sym (append-nil blocks)) (pieces_later from blocks to later laid low)
 
 laid_by : (blocks : List Piece) (at size : ℕ) (item : Item) → BlocksAreLaid 0 blocks at → size_of item ≤ size → BlocksAreLaid 0 (blocks ++ option_to_list (block_as at item)) (at + size)
-laid_by blocks at size (Frame h) laid least = laid_none 0 blocks at (at + size) laid (omega arith)
-laid_by blocks at size Free laid least = laid_none 0 blocks at (at + size) laid (omega arith)
 laid_by blocks at size (Block b) laid least = laid_push 0 blocks at (at + size) (record { offset = at; block = b }) laid (omega arith) (omega (arith, least))
-laid_by blocks at size Zero laid least = laid_none 0 blocks at (at + size) laid (omega arith)
-laid_by blocks at size End laid least = laid_none 0 blocks at (at + size) laid (omega arith)
-laid_by blocks at size Nothing laid least = laid_none 0 blocks at (at + size) laid (omega arith)
+laid_by blocks at size _ laid least = laid_none 0 blocks at (at + size) laid (omega arith)
 
 pub blocks_more : (blocks later : List Piece) (at size : ℕ) (item : Item) → BlocksAreLaid 0 blocks at → size_of item ≤ size → later ≡ blocks ++ option_to_list (block_as at item) → BlocksAreLaid 0 later (at + size)
 blocks_more blocks later at size item laid least kept = subst (λ l. BlocksAreLaid 0 l (at + size)) (sym kept) (laid_by blocks at size item laid least)

@@ -1,8 +1,7 @@
 -- An item is known by its own bytes: whatever bytes stand behind them, it is what stands at their front.
-use Rattle.std.proofs.Common.{◌≡◌, ℕ, ◌+◌, ◌-◌, ◌≤◌, Bool, true, false, cond, leb, List, ◌++◌, length, take, drop, Some, Ok, Err, refl, sym, ◌∙◌, ap, codes, arith}
-use Rattle.std.specs.Str.{bytes_eq}
-use Rattle.std.proofs.lemmas.Bool.{false≢true, leb-true, leb-false}
-use Rattle.std.proofs.lemmas.List.{length-take, length-drop, length-take-le, take-append-le, take-take, drop-take, get_or-take, take_at}
+use Rattle.std.proofs.Common.{◌≡◌, ℕ, ◌+◌, ◌≤◌, true, cond, leb, List, ◌++◌, length, take, drop, Some, Ok, Err, refl, sym, ◌∙◌, ap, codes, arith}
+use Rattle.std.proofs.lemmas.Bool.{false≢true}
+use Rattle.std.proofs.lemmas.List.{length-take, length-drop, length-take-le, take-append-le, take-take, get_or-take, take_at}
 use Rattle.frame_header.specs.declared.header.NotHeader.TheVariants.{No}
 use Rattle.frame_header.specs.Fields.{HeaderFields, IsHeader}
 use Rattle.frame_header.specs.Tables.{class_of, length_of}
@@ -12,26 +11,15 @@ use Rattle.frame_header.proofs.HeaderLaws.{IsClass-class_of}
 use Rattle.tag_blocks.specs.declared.block.Kind.{Kind}
 use Rattle.tag_blocks.specs.declared.block.Kind.TheVariants.{Id3v2, Id3v1, Ape}
 use Rattle.tag_blocks.specs.declared.block.Block.{Block as TagBlock}
-use Rattle.tag_blocks.specs.Blocks.{begins_with, is_id3v2, id3v2_length, is_id3v1, is_ape, ape_length, begins, length_as, front_as, block_front}
-use Rattle.tag_blocks.proofs.BlocksLaws.{block_front-own, block_front-begins, block_front-any}
+use Rattle.tag_blocks.specs.Blocks.{is_id3v2, id3v2_length, is_id3v1, is_ape, ape_length, begins, length_as, front_as, block_front}
+use Rattle.tag_blocks.proofs.BlocksLaws.{long_take, part_take, text_take, block_front-own, block_front-begins, block_front-any}
 use Rattle.sync_survey.specs.declared.items.Item.{Item}
-use Rattle.sync_survey.specs.declared.items.Item.TheVariants.{Frame, Free, Block, Zero, End, Nothing}
+use Rattle.sync_survey.specs.declared.items.Item.TheVariants.{Frame, Block, Zero}
 use Rattle.sync_survey.specs.declared.runs.Part.TheVariants.{Stream}
 use Rattle.sync_survey.specs.Items.{header_front, Stands, item_front, item_at, size_of}
 use Rattle.sync_survey.specs.Runs.{belongs}
 use Rattle.sync_survey.proofs.ItemsLaws.{stands-at, header_front-in_range}
 use Rattle.sync_survey.proofs.OneItem.{stands-only}
-
--- ---- a length that is asked for shows in as many bytes
-
-long_cases : (k n : ℕ) (bytes : List ℕ) → k ≤ n → (a b : Bool) → leb k (length (take n bytes)) ≡ a → leb k (length bytes) ≡ b → a ≡ b
-long_cases k n bytes within true true e f = refl
-long_cases k n bytes within false false e f = refl
-long_cases k n bytes within true false e f = absurd (omega (arith, leb-true k (length (take n bytes)) e, leb-false k (length bytes) f, length-take n bytes))
-long_cases k n bytes within false true e f = absurd (omega (arith, leb-false k (length (take n bytes)) e, leb-true k (length bytes) f, length-take n bytes))
-
-long_take : (k n : ℕ) (bytes : List ℕ) → k ≤ n → leb k (length (take n bytes)) ≡ leb k (length bytes)
-long_take k n bytes within = long_cases k n bytes within _ _ refl refl
 
 -- ---- a block
 
@@ -40,14 +28,6 @@ abbrev pub known_by : Kind → ℕ
 known_by Id3v2 = 10
 known_by Id3v1 = 3
 known_by Ape = 32
-
-part_take : (at many n : ℕ) (bytes : List ℕ) → at + many ≤ n → take many (drop at (take n bytes)) ≡ take many (drop at bytes)
-part_take at many n bytes within =
-    let split : n ≡ at + (n - at) = omega arith in
-    ap (λ k. take many (drop at (take k bytes))) split ∙ ap (take many) (drop-take at (n - at) bytes) ∙ take-take many (n - at) (drop at bytes) (omega arith)
-
-text_take : (text : List ℕ) (n : ℕ) (bytes : List ℕ) → length text ≤ n → begins_with text (take n bytes) ≡ begins_with text bytes
-text_take text n bytes within = ap (bytes_eq text) (take-take (length text) n bytes within)
 
 begins-take : (kind : Kind) (n : ℕ) (bytes : List ℕ) → known_by kind ≤ n → begins kind (take n bytes) ≡ begins kind bytes
 unfolding is_id3v2 is_id3v1 is_ape
@@ -120,11 +100,9 @@ stands_kept (Frame h) bytes rest here is within =
     header_front-four (take size bytes ++ rest) bytes
     (take-append-le 4 (take size bytes) rest (omega (arith, least, within, length-take size bytes)) ∙ take-take 4 size bytes least)
     ∙ here
-stands_kept Free bytes rest here is within = absurd (false≢true is)
 stands_kept (Block b) bytes rest here is within = block_front-bytes bytes rest b here within
 stands_kept Zero bytes rest here is within = take-append-le 1 (take 1 bytes) rest (omega (arith, within, length-take 1 bytes)) ∙ take-take 1 1 bytes (omega arith) ∙ here
-stands_kept End bytes rest here is within = absurd (false≢true is)
-stands_kept Nothing bytes rest here is within = absurd (false≢true is)
+stands_kept _ bytes rest here is within = absurd (false≢true is)
 
 -- the bytes of a whole item of a file are that item
 pub kept_item : (file : List ℕ) (at : ℕ) (item : Item) → item_at file at ≡ item → belongs Stream item ≡ true → at + size_of item ≤ length file → IsItem item (take (size_of item) (drop at file))

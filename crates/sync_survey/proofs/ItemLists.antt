@@ -3,7 +3,7 @@ use Rattle.std.proofs.Common.{◌≡◌, ℕ, ◌+◌, ◌-◌, ◌<◌, ◌≤�
 use Rattle.std.specs.List.{cons_option}
 use Rattle.std.proofs.lemmas.List.{drop-drop, drop_at}
 use Rattle.sync_survey.specs.declared.items.Item.{Item}
-use Rattle.sync_survey.specs.declared.items.Item.TheVariants.{Frame, Free, Block, Zero, End, Nothing}
+use Rattle.sync_survey.specs.declared.items.Item.TheVariants.{Frame, Free, Block, End, Nothing}
 use Rattle.sync_survey.specs.declared.places.PlacedFrame.{PlacedFrame}
 use Rattle.sync_survey.specs.declared.places.Piece.{Piece}
 use Rattle.sync_survey.specs.declared.runs.Part.{Part}
@@ -17,12 +17,10 @@ use Rattle.sync_survey.proofs.ItemBytes.{IsItem, kept_item}
 
 -- what may stand before the first frame may stand behind it
 pub stream_belongs : (part : Part) (item : Item) → belongs part item ≡ true → belongs Stream item ≡ true
-stream_belongs part (Frame h) is = refl
 stream_belongs part Free is = is
-stream_belongs part (Block b) is = refl
-stream_belongs part Zero is = refl
 stream_belongs part End is = is
 stream_belongs part Nothing is = is
+stream_belongs part _ is = refl
 
 pub ends-stream : (part : Part) (file : List ℕ) (from : ℕ) (ps : List Placed) (to : ℕ) → AreEndToEnd part file from ps to → AreEndToEnd Stream file from ps to
 ends-stream part file from [] to ends = ends
@@ -112,35 +110,23 @@ nearer_piece gap p = record p { offset = p.offset - gap }
 
 frame_more : (gap at : ℕ) (item : Item) (xs ys : List PlacedFrame) → xs ≡ map (nearer_frame gap) ys → cons_option (frame_as (at - gap) item) xs ≡ map (nearer_frame gap) (cons_option (frame_as at item) ys)
 frame_more gap at (Frame h) xs ys same = ap (λ l. record { offset = at - gap; header = h } ∷ l) same
-frame_more gap at Free xs ys same = same
-frame_more gap at (Block b) xs ys same = same
-frame_more gap at Zero xs ys same = same
-frame_more gap at End xs ys same = same
-frame_more gap at Nothing xs ys same = same
+frame_more gap at _ xs ys same = same
 
 pub frames-nearer : (gap : ℕ) (ps : List Placed) → frames_of (map (nearer gap) ps) ≡ map (nearer_frame gap) (frames_of ps)
 frames-nearer gap [] = refl
 frames-nearer gap (p ∷ ps) = frame_more gap p.offset p.item (frames_of (map (nearer gap) ps)) (frames_of ps) (frames-nearer gap ps)
 
 block_more : (gap at : ℕ) (item : Item) (xs ys : List Piece) → xs ≡ map (nearer_piece gap) ys → cons_option (block_as (at - gap) item) xs ≡ map (nearer_piece gap) (cons_option (block_as at item) ys)
-block_more gap at (Frame h) xs ys same = same
-block_more gap at Free xs ys same = same
 block_more gap at (Block b) xs ys same = ap (λ l. record { offset = at - gap; block = b } ∷ l) same
-block_more gap at Zero xs ys same = same
-block_more gap at End xs ys same = same
-block_more gap at Nothing xs ys same = same
+block_more gap at _ xs ys same = same
 
 pub blocks-nearer : (gap : ℕ) (ps : List Placed) → blocks_of (map (nearer gap) ps) ≡ map (nearer_piece gap) (blocks_of ps)
 blocks-nearer gap [] = refl
 blocks-nearer gap (p ∷ ps) = block_more gap p.offset p.item (blocks_of (map (nearer gap) ps)) (blocks_of ps) (blocks-nearer gap ps)
 
 one_mapped : (f g : Piece → Piece) (at : ℕ) (item : Item) (ys : List Piece) → ((p : Piece) → p.offset ≡ at → f p ≡ g p) → map f ys ≡ map g ys → map f (cons_option (block_as at item) ys) ≡ map g (cons_option (block_as at item) ys)
-one_mapped f g at (Frame h) ys same rest = rest
-one_mapped f g at Free ys same rest = rest
 one_mapped f g at (Block b) ys same rest = ap₂ (λ (p : Piece) (l : List Piece). p ∷ l) (same (record { offset = at; block = b }) refl) rest
-one_mapped f g at Zero ys same rest = rest
-one_mapped f g at End ys same rest = rest
-one_mapped f g at Nothing ys same rest = rest
+one_mapped f g at _ ys same rest = rest
 
 -- what is done to blocks in front of an offset, and what is done to blocks from an offset on
 pub blocks-between : (part : Part) (f g : Piece → Piece) (file : List ℕ) (low high from : ℕ) (ps : List Placed) (to : ℕ) → ((p : Piece) → low ≤ p.offset → p.offset < high → f p ≡ g p) → AreEndToEnd part file from ps to → low ≤ from → to ≤ high
@@ -155,11 +141,7 @@ blocks-between part f g file low high from (p ∷ ps) to same ends begin end =
 
 frame_count : (at : ℕ) (item : Item) (xs : List PlacedFrame) → length (cons_option (frame_as at item) xs) ≤ 1 + length xs
 frame_count at (Frame h) xs = omega arith
-frame_count at Free xs = omega arith
-frame_count at (Block b) xs = omega arith
-frame_count at Zero xs = omega arith
-frame_count at End xs = omega arith
-frame_count at Nothing xs = omega arith
+frame_count at _ xs = omega arith
 
 -- there are no more frames than bytes
 pub frames-few : (part : Part) (file : List ℕ) (from : ℕ) (ps : List Placed) (to : ℕ) → AreEndToEnd part file from ps to → from + length (frames_of ps) ≤ to

@@ -11,7 +11,7 @@ use Rattle.tag_blocks.specs.declared.block.Block.{Block as TagBlock}
 use Rattle.tag_blocks.specs.Blocks.{block_front}
 use Rattle.tag_blocks.proofs.BlocksLaws.{block_front-least}
 use Rattle.sync_survey.specs.declared.items.Item.{Item}
-use Rattle.sync_survey.specs.declared.items.Item.TheVariants.{Frame, Free, Block, Zero, End, Nothing}
+use Rattle.sync_survey.specs.declared.items.Item.TheVariants.{Frame, Block, Zero, Nothing}
 use Rattle.sync_survey.specs.declared.runs.Part.{Part}
 use Rattle.sync_survey.specs.Items.{header_front, Stands, by_header, by_block, by_byte, item_front, item_at, size_of}
 use Rattle.sync_survey.specs.Runs.{belongs}
@@ -52,11 +52,9 @@ frame_some h fields = omega (arith, area_some (class_of h) h.slot (IsClass-class
 
 pub some_by : (bytes : List ℕ) (part : Part) (item : Item) → Stands bytes item → belongs part item ≡ true → 0 < size_of item
 some_by bytes part (Frame h) here is = frame_some h (header_front-in_range bytes h here)
-some_by bytes part Free here is = absurd (false≢true is)
 some_by bytes part (Block b) here is = omega (arith, block_front-least bytes b here)
 some_by bytes part Zero here is = omega arith
-some_by bytes part End here is = absurd (false≢true is)
-some_by bytes part Nothing here is = absurd (false≢true is)
+some_by bytes part _ here is = absurd (false≢true is)
 
 pub size-some : (part : Part) (file : List ℕ) (at : ℕ) (item : Item) → item_at file at ≡ item → belongs part item ≡ true → 0 < size_of item
 size-some part file at item is belongs = some_by (drop at file) part item (stands-at file at item is) belongs

@@ -14,7 +14,7 @@ use Rattle.side_info.specs.Side.{SideFits}
 use Rattle.side_info.proofs.FrameLaws.{fits-side_in}
 use Rattle.sync_survey.specs.declared.found.Found.{Found}
 use Rattle.sync_survey.specs.declared.items.Item.{Item}
-use Rattle.sync_survey.specs.declared.items.Item.TheVariants.{Frame, Free, Block, Zero, End, Nothing}
+use Rattle.sync_survey.specs.declared.items.Item.TheVariants.{Frame}
 use Rattle.sync_survey.specs.declared.runs.Part.{Part}
 use Rattle.sync_survey.specs.declared.runs.Part.TheVariants.{Stream}
 use Rattle.sync_survey.specs.declared.places.Head.{Head}
@@ -217,11 +217,7 @@ AllKnown (p ∷ ps) = IsHeader p.header × AllKnown ps
 known_cons : (file : List ℕ) (at : ℕ) (item : Item) (ps : List PlacedFrame) → item_at file at ≡ item → AllKnown ps → AllKnown (cons_option (frame_as at item) ps)
 unfolding AllKnown
 known_cons file at (Frame h) ps is behind = (header_front-in_range _ h (stands-at file at (Frame h) is), behind)
-known_cons file at Free ps is behind = behind
-known_cons file at (Block b) ps is behind = behind
-known_cons file at Zero ps is behind = behind
-known_cons file at End ps is behind = behind
-known_cons file at Nothing ps is behind = behind
+known_cons file at _ ps is behind = behind
 
 known_items : (part : Part) (file : List ℕ) (from : ℕ) (ps : List Placed) (to : ℕ) → AreEndToEnd part file from ps to → AllKnown (frames_of ps)
 unfolding AllKnown

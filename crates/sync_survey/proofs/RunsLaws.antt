@@ -5,7 +5,7 @@ use Rattle.std.specs.List.{cons_option}
 use Rattle.std.proofs.lemmas.Bool.{false≢true, leb-true, le-leb}
 use Rattle.std.proofs.lemmas.List.{take-append-drop, drop-drop}
 use Rattle.sync_survey.specs.declared.items.Item.{Item}
-use Rattle.sync_survey.specs.declared.items.Item.TheVariants.{Frame, Free, Block, Zero, End, Nothing}
+use Rattle.sync_survey.specs.declared.items.Item.TheVariants.{Frame}
 use Rattle.sync_survey.specs.declared.runs.Part.{Part}
 use Rattle.sync_survey.specs.declared.runs.Part.TheVariants.{Front}
 use Rattle.sync_survey.specs.Items.{item_at, size_of, fits}
@@ -158,11 +158,7 @@ cons_list (Some x) xs = refl
 
 no_frame : (at : ℕ) (item : Item) → belongs Front item ≡ true → frame_as at item ≡ None
 no_frame at (Frame h) is = absurd (false≢true is)
-no_frame at Free is = refl
-no_frame at (Block b) is = refl
-no_frame at Zero is = refl
-no_frame at End is = refl
-no_frame at Nothing is = refl
+no_frame at _ is = refl
 
 front_onward : (file : List ℕ) (at : ℕ) (next : ℕ → Run) (o : Option Item) → item_of Front file at ≡ o → ((later : ℕ) → frames_of (next later).items ≡ []) → frames_of (onward at next o).items ≡ []
 front_onward file at next None is none = refl

@@ -7,7 +7,7 @@ use Rattle.std.specs.List.{range_with_len, cons_option}
 use Rattle.frame_header.specs.Fields.{HeaderFields}
 use Rattle.frame_header.specs.Tables.{class_of, length_of}
 use Rattle.sync_survey.specs.declared.items.Item.{Item}
-use Rattle.sync_survey.specs.declared.items.Item.TheVariants.{Frame, Free, Block, Zero, End, Nothing}
+use Rattle.sync_survey.specs.declared.items.Item.TheVariants.{Frame, Free, Block, End}
 use Rattle.sync_survey.specs.declared.places.PlacedFrame.{PlacedFrame}
 use Rattle.sync_survey.specs.declared.survey_fault.SurveyFault.{SurveyFault}
 use Rattle.sync_survey.specs.declared.places.Start.{Start}
@@ -104,11 +104,7 @@ anchor_cases file at h false p is anchor e = absurd cc
 
 anchored_cases : (file : List ℕ) (at : ℕ) (item : Item) (p : PlacedFrame) → item_at file at ≡ item → anchored file at item ≡ Some p → IsAnchoredAt file at p
 anchored_cases file at (Frame h) p is e = anchor_cases file at h _ p is refl e
-anchored_cases file at Free p is e = absurd cc
-anchored_cases file at (Block b) p is e = absurd cc
-anchored_cases file at Zero p is e = absurd cc
-anchored_cases file at End p is e = absurd cc
-anchored_cases file at Nothing p is e = absurd cc
+anchored_cases file at _ p is e = absurd cc
 
 pub anchored_frame-is : (file : List ℕ) (at : ℕ) (p : PlacedFrame) → anchored_frame file at ≡ Some p → IsAnchoredAt file at p
 unfolding anchored_frame
@@ -172,9 +168,7 @@ start_cases : (file : List ℕ) (at : ℕ) (item : Item) (s : Start) → item_at
 start_cases file at (Frame h) s is e = fits_cases file at h _ _ s is refl e
 start_cases file at Free s is e = absurd cc
 start_cases file at (Block b) s is e = absurd cc
-start_cases file at Zero s is e = behind_cases file at _ s refl e
-start_cases file at End s is e = behind_cases file at _ s refl e
-start_cases file at Nothing s is e = behind_cases file at _ s refl e
+start_cases file at _ s is e = behind_cases file at _ s refl e
 
 pub start-first : (file : List ℕ) (s : Start) → start_of file ≡ Ok s → IsFirstFrame file s
 unfolding start_of
@@ -203,9 +197,7 @@ front_cases : (file : List ℕ) (at : ℕ) (item : Item) (s : Start) → start_a
 front_cases file at (Frame h) s e = front_fits at (record { offset = at; header = h }) _ _ s e
 front_cases file at Free s e = absurd cc
 front_cases file at (Block b) s e = absurd cc
-front_cases file at Zero s e = front_behind at _ s e
-front_cases file at End s e = front_behind at _ s e
-front_cases file at Nothing s e = front_behind at _ s e
+front_cases file at _ s e = front_behind at _ s e
 
 -- the start keeps where the blocks and zero bytes at the front end
 pub start-front : (file : List ℕ) (s : Start) → start_of file ≡ Ok s → s.front_end ≡ front_end_of file
@@ -218,11 +210,7 @@ module _ (file : List ℕ) (at : ℕ) (front : List ℕ) (left : ℕ) (shows : S
   none_by : (item : Item) → item_at file at ≡ item → ((h : HeaderFields) → item ≡ Frame h → has_anchor file at h ≡ false) → anchored_frame file at ≡ None
   unfolding anchored_frame
   none_by (Frame h) is without = ap (anchored file at) is ∙ ap (λ b. cond b (Some (record { offset = at; header = h })) None) (without h refl)
-  none_by Free is without = ap (anchored file at) is
-  none_by (Block b) is without = ap (anchored file at) is
-  none_by Zero is without = ap (anchored file at) is
-  none_by End is without = ap (anchored file at) is
-  none_by Nothing is without = ap (anchored file at) is
+  none_by _ is without = ap (anchored file at) is
 
   -- no frame stands here
   pub shown_none : (item : Item) → item ≡ item_front front → ((h : HeaderFields) → item ≡ Frame h → ⊥) → anchored_frame file at ≡ None

@@ -69,11 +69,7 @@ few_before _ = Unit {0}
 
 pub few_by : (front : List ℕ) (item : Item) → item ≡ item_front front → ((h : HeaderFields) → item ≡ Frame h → size_of item ≤ 1441) → few_before item
 few_by front (Frame h) is few = omega (arith, overhead_few front (Frame h) h is refl, few h refl)
-few_by front Free is few = tt
-few_by front (Block b) is few = tt
-few_by front Zero is few = tt
-few_by front End is few = tt
-few_by front Nothing is few = tt
+few_by front _ is few = tt
 
 module _ (file : List ℕ) (start : Start) (head : Option Head) (allowed : ℕ) (old : Found) (at : ℕ)
     (so_far : IsMarkedTo file start head allowed old.rows.items old.pieces.items old.before.place old.before.ended at) (front : List ℕ) (left : ℕ) (shows : Shows file at front left) where
@@ -154,19 +150,13 @@ module _ (file : List ℕ) (start : Start) (head : Option Head) (allowed : ℕ) 
       ∙ sym (faults_shown file at front left shows h few (class_from start) allowed old.before.place old.before.ended (length old.rows.items))
       ∙ is)
   refused begun Free size fault few passes is = absurd is
-  refused begun (Block b) size fault few passes is = absurd is
-  refused begun Zero size fault few passes is = absurd is
-  refused begun End size fault few passes is = absurd is
-  refused begun Nothing size fault few passes is = absurd is
+  refused begun _ size fault few passes is = absurd is
 
 pub fault_rightly : (class : ClassFields) (allowed at : ℕ) (item : Item) (front : List ℕ) (old : Found) (fault : SurveyFault) → IsFrameFault class allowed at item front old fault → RefusesRightly fault
 fault_rightly class allowed at (Frame h) front old fault is =
     frame_rightly (word_said front) class allowed old.before.place old.before.ended (length old.rows.items) (row_in at h front) fault is
 fault_rightly class allowed at Free front old fault is = absurd is
-fault_rightly class allowed at (Block b) front old fault is = absurd is
-fault_rightly class allowed at Zero front old fault is = absurd is
-fault_rightly class allowed at End front old fault is = absurd is
-fault_rightly class allowed at Nothing front old fault is = absurd is
+fault_rightly class allowed at _ front old fault is = absurd is
 
 -- ---- where frames and blocks stand
 
@@ -227,10 +217,7 @@ few_more class allowed at front old new (Frame h) keeps few =
     let kept = record r { lost = lacks_data old.before.place old.before.ended r } in
     omega (arith, fewer (length old.rows.items) allowed sound.few few, ap length keeps.rows, length-append old.rows.items (kept ∷ []))
 few_more class allowed at front old new Free keeps few = omega (arith, ap length keeps.rows, few)
-few_more class allowed at front old new (Block b) keeps few = omega (arith, ap length keeps.rows, few)
-few_more class allowed at front old new Zero keeps few = omega (arith, ap length keeps.rows, few)
-few_more class allowed at front old new End keeps few = omega (arith, ap length keeps.rows, few)
-few_more class allowed at front old new Nothing keeps few = omega (arith, ap length keeps.rows, few)
+few_more class allowed at front old new _ keeps few = omega (arith, ap length keeps.rows, few)
 
 -- ---- the refusal of one item
 

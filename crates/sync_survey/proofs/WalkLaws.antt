@@ -6,7 +6,7 @@ use Rattle.frame_header.specs.Tables.{class_of, length_of}
 use Rattle.info_header.specs.HeadText.{head_text_of}
 use Rattle.std.proofs.lemmas.List.{take-take}
 use Rattle.sync_survey.specs.declared.items.Item.{Item}
-use Rattle.sync_survey.specs.declared.items.Item.TheVariants.{Frame, Free, Block, Zero, End, Nothing}
+use Rattle.sync_survey.specs.declared.items.Item.TheVariants.{Frame, End}
 use Rattle.sync_survey.specs.declared.runs.Part.TheVariants.{Stream}
 use Rattle.sync_survey.specs.declared.survey_fault.SurveyFault.{SurveyFault}
 use Rattle.sync_survey.specs.declared.places.PlacedFrame.{PlacedFrame}
@@ -69,12 +69,8 @@ walk-is file start head frames blocks stop found =
 -- ---- where the walk ends
 
 at_end : (rest : List ℕ) (at : ℕ) (item : Item) → Stands rest item → fault_at at item ≡ None → rest ≡ []
-at_end rest at (Frame h) here e = absurd cc
-at_end rest at Free here e = absurd cc
-at_end rest at (Block b) here e = absurd cc
-at_end rest at Zero here e = absurd cc
 at_end rest at End here e = here
-at_end rest at Nothing here e = absurd cc
+at_end rest at _ here e = absurd cc
 
 pub no_fault : (file : List ℕ) (frames : List PlacedFrame) (o : Option SurveyFault) → end_fault file frames o ≡ None → o ≡ None
 no_fault file frames None e = refl
@@ -82,12 +78,8 @@ no_fault file [] (Some fault) e = absurd cc
 no_fault file (p ∷ ps) (Some fault) e = absurd cc
 
 stop_by : (bytes : List ℕ) (at : ℕ) (item : Item) (r d : SurveyFault) → Stands bytes item → 0 < length bytes → r ≡ unwrap_or (fault_at at item) d → fault_at at item ≡ Some r
-stop_by bytes at (Frame h) r d here some is = ap Some (sym is)
-stop_by bytes at Free r d here some is = ap Some (sym is)
-stop_by bytes at (Block b) r d here some is = ap Some (sym is)
-stop_by bytes at Zero r d here some is = ap Some (sym is)
 stop_by bytes at End r d here some is = absurd (omega (arith, ap length here, some))
-stop_by bytes at Nothing r d here some is = ap Some (sym is)
+stop_by bytes at _ r d here some is = ap Some (sym is)
 
 -- before the end of the file something stops the walk
 pub stop_is : (bytes : List ℕ) (at : ℕ) (r d : SurveyFault) → 0 < length bytes → r ≡ unwrap_or (fault_at at (item_front bytes)) d → fault_at at (item_front bytes) ≡ Some r

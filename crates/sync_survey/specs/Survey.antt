@@ -17,8 +17,7 @@ use Rattle.sync_survey.specs.MainData.{place, end_before, is_lost}
 use Rattle.sync_survey.specs.Faults.{SurveyFields, surveyed, data_faults, faults_from, fault_place, NoneBefore, longest_file}
 use Rattle.sync_survey.specs.Start.{start_of}
 use Rattle.sync_survey.specs.Walk.{head_of}
-use Rattle.sync_survey.specs.Kinds.{kind_of, by_kind, HasRightNumbers}
-use Rattle.sync_survey.specs.Kinds.InputKind.{IsRefused}
+use Rattle.sync_survey.specs.Kinds.{InputKind, IsRefused, kind_of, by_kind, HasRightNumbers}
 
 -- the survey of a file with these bytes, or why there is none: it is too long, or else its first fault
 unfoldable pub survey_of : List ℕ → ℕ → Result SurveyFields SurveyFault
@@ -59,8 +58,8 @@ pub record AsksForMemory (name : List ℕ) (files : Files) (before after : Count
 
 -- why there is no survey, by the fault's kind: the file isn't there, could not be read, became shorter, there is no memory, or it is
 -- refused
-abbrev pub IsSurveyFault : List ℕ → Files → ℕ → Counts → Counts → SurveyFault → Type 0
-IsSurveyFault name files allowed before after fault = by_kind
+abbrev pub IsSurveyFaultBy : List ℕ → Files → ℕ → Counts → Counts → SurveyFault → InputKind → Type 0
+IsSurveyFaultBy name files allowed before after fault kind = by_kind
     (record {
       absent = IsMissing files name × Rose before.misses after.misses;
       unread = Rose before.read_faults after.read_faults;
@@ -68,7 +67,10 @@ IsSurveyFault name files allowed before after fault = by_kind
       too_much = AsksForMemory name files before after;
       refused = RefusesBytes name files allowed before after fault;
     })
-    (kind_of fault)
+    kind
+
+abbrev pub IsSurveyFault : List ℕ → Files → ℕ → Counts → Counts → SurveyFault → Type 0
+IsSurveyFault name files allowed before after fault = IsSurveyFaultBy name files allowed before after fault (kind_of fault)
 
 -- with the right numbers
 pub record IsRefusal (name : List ℕ) (files : Files) (allowed : ℕ) (before after : Counts) (fault : SurveyFault) : Type 0 where

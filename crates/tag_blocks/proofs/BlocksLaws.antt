@@ -32,12 +32,7 @@ first_of text bytes some is =
 
 id3v2_first : (bytes : List ℕ) → is_id3v2 bytes ≡ true → get_or bytes 0 0 ≡ 73
 unfolding is_id3v2
-id3v2_first bytes is =
-    let four = both _ _ is in
-    let three = both _ _ four.0 in
-    let two = both _ _ three.0 in
-    let one = both _ _ two.0 in
-    first_of (codes "ID3") bytes (lit< tt) one.1
+id3v2_first bytes is = first_of (codes "ID3") bytes (lit< tt) (both _ _ (both _ _ (both _ _ (both _ _ is).0).0).0).1
 
 id3v1_first : (bytes : List ℕ) → is_id3v1 bytes ≡ true → get_or bytes 0 0 ≡ 84
 unfolding is_id3v1
@@ -45,13 +40,7 @@ id3v1_first bytes is = first_of (codes "TAG") bytes (lit< tt) is
 
 ape_first : (bytes : List ℕ) → is_ape bytes ≡ true → get_or bytes 0 0 ≡ 65
 unfolding is_ape
-ape_first bytes is =
-    let five = both _ _ is in
-    let four = both _ _ five.0 in
-    let three = both _ _ four.0 in
-    let two = both _ _ three.0 in
-    let one = both _ _ two.0 in
-    first_of (codes "APETAGEX") bytes (lit< tt) one.1
+ape_first bytes is = first_of (codes "APETAGEX") bytes (lit< tt) (both _ _ (both _ _ (both _ _ (both _ _ (both _ _ is).0).0).0).0).1
 
 pub begins-first : (kind : Kind) (bytes : List ℕ) → begins kind bytes ≡ true → get_or bytes 0 0 ≡ first_byte kind
 begins-first Id3v2 bytes is = id3v2_first bytes is
@@ -158,15 +147,15 @@ long_cases k n bytes within false false e f = refl
 long_cases k n bytes within true false e f = absurd (omega (arith, leb-true k (length (take n bytes)) e, leb-false k (length bytes) f, length-take n bytes))
 long_cases k n bytes within false true e f = absurd (omega (arith, leb-false k (length (take n bytes)) e, leb-true k (length bytes) f, length-take n bytes))
 
-long_take : (k n : ℕ) (bytes : List ℕ) → k ≤ n → leb k (length (take n bytes)) ≡ leb k (length bytes)
+pub long_take : (k n : ℕ) (bytes : List ℕ) → k ≤ n → leb k (length (take n bytes)) ≡ leb k (length bytes)
 long_take k n bytes within = long_cases k n bytes within _ _ refl refl
 
-part_take : (at many n : ℕ) (bytes : List ℕ) → at + many ≤ n → take many (drop at (take n bytes)) ≡ take many (drop at bytes)
+pub part_take : (at many n : ℕ) (bytes : List ℕ) → at + many ≤ n → take many (drop at (take n bytes)) ≡ take many (drop at bytes)
 part_take at many n bytes within =
     let split : n ≡ at + (n - at) = omega arith in
     ap (λ k. take many (drop at (take k bytes))) split ∙ ap (take many) (drop-take at (n - at) bytes) ∙ take-take many (n - at) (drop at bytes) (omega arith)
 
-text_take : (text : List ℕ) (n : ℕ) (bytes : List ℕ) → length text ≤ n → begins_with text (take n bytes) ≡ begins_with text bytes
+pub text_take : (text : List ℕ) (n : ℕ) (bytes : List ℕ) → length text ≤ n → begins_with text (take n bytes) ≡ begins_with text bytes
 text_take text n bytes within = ap (bytes_eq text) (take-take (length text) n bytes within)
 
 begins-take : (kind : Kind) (n : ℕ) (bytes : List ℕ) → 32 ≤ n → begins kind (take n bytes) ≡ begins kind bytes

@@ -23,16 +23,13 @@ pub returns-clause-exact : goal.returns-clause-exact
 returns-clause-exact g c =
     let own = c.deref.result.now in
     let same : own ≡ c.in_ok-block.block.items = c.deref.ensures.value in
-    let long : length own ≡ c.args.piece.now.block.length = ap length same ∙ c.in_ok-block.ensures.length in
     ok_by c.tag_at_offset.result _ _ c.tag_at_offset.ensures.tag
-    (block-tag c.args.name.now (g.D.Folder.files c.args.folder.now) (tells c.args.survey.now) c.requires.surveyed c.args.piece.now c.requires.tag own (λ bytes holds. same ∙ c.in_ok-block.ensures.bytes bytes holds) long)
+    (block-tag c.args.name.now (g.D.Folder.files c.args.folder.now) (tells c.args.survey.now) c.requires.surveyed c.args.piece.now c.requires.tag own (λ bytes holds. same ∙ c.in_ok-block.ensures.bytes bytes holds) (ap length same ∙ c.in_ok-block.ensures.length))
 
 pub returns-clause-cause : goal.returns-clause-cause
 returns-clause-cause g c =
-    let own = c.deref.result.now in
-    let same : own ≡ c.in_ok-block.block.items = c.deref.ensures.value in
-    let long : length own ≡ c.args.piece.now.block.length = ap length same ∙ c.in_ok-block.ensures.length in
+    let same : c.deref.result.now ≡ c.in_ok-block.block.items = c.deref.ensures.value in
     err_by c.tag_at_offset.result _ _ c.tag_at_offset.ensures.cause
     (λ fault cause.
-    block-cause c.args.name.now (g.D.Folder.files c.args.folder.now) (tells c.args.survey.now) c.requires.surveyed c.args.piece.now c.requires.tag own (λ bytes holds. same ∙ c.in_ok-block.ensures.bytes bytes holds) long
-    (g.D.Folder.counts c.args.folder.now) (g.D.Folder.counts c.read_block.new.folder) fault c.in_ok-block.ensures.done cause)
+    block-cause c.args.name.now (g.D.Folder.files c.args.folder.now) (tells c.args.survey.now) c.requires.surveyed c.args.piece.now c.requires.tag c.deref.result.now (λ bytes holds. same ∙ c.in_ok-block.ensures.bytes bytes holds)
+    (ap length same ∙ c.in_ok-block.ensures.length) (g.D.Folder.counts c.args.folder.now) (g.D.Folder.counts c.read_block.new.folder) fault c.in_ok-block.ensures.done cause)

@@ -3,9 +3,9 @@ use Rattle.std.proofs.Common.{sym, subst}
 use Rattle.std.proofs.lemmas.Result.{on_ok_weaker, on_err_weaker}
 use Rattle.slot_plan.specs.Plans.{entries}
 use Rattle.sync_survey.specs.Faults.{tells}
-use Rattle.frame_edits.specs.Laid.{file_laid, IsLaidInfo}
+use Rattle.frame_edits.specs.Laid.{IsLaidInfo}
 use Rattle.frame_edits.specs.Chosen.{chosen_in, laid_by}
-use Rattle.frame_edits.specs.Selected.{laid_in, selected_file}
+use Rattle.frame_edits.specs.Selected.{selected_file}
 use Rattle.frame_edits.proofs.LaidPass.{appends-as, appends-as_prefix, file-is}
 use Rattle.frame_edits.proofs.writing.write_selection.Goals as goal
 
@@ -23,16 +23,12 @@ write_laid-requires-clause-writable g c =
 
 pub returns-clause-written : goal.returns-clause-written
 returns-clause-written g c =
-    let s = tells c.args.relay.now.survey.now in
-    let selection = c.args.selection.now in
     on_ok_weaker c.write_laid.result
-    (appends-as (λ file. file_laid (laid_in selection) file s) (selected_file s selection) (λ file holds. file-is (chosen_in selection.chosen) (entries selection.planned.plan) file s c.requires.selected.plan))
+    (appends-as _ (selected_file (tells c.args.relay.now.survey.now) c.args.selection.now) (λ file holds. file-is (chosen_in c.args.selection.now.chosen) (entries c.args.selection.now.planned.plan) file (tells c.args.relay.now.survey.now) c.requires.selected.plan))
     c.write_laid.ensures.written
 
 pub returns-clause-prefix : goal.returns-clause-prefix
 returns-clause-prefix g c =
-    let s = tells c.args.relay.now.survey.now in
-    let selection = c.args.selection.now in
     on_err_weaker c.write_laid.result
-    (appends-as_prefix (λ file. file_laid (laid_in selection) file s) (selected_file s selection) (λ file holds. file-is (chosen_in selection.chosen) (entries selection.planned.plan) file s c.requires.selected.plan))
+    (appends-as_prefix _ (selected_file (tells c.args.relay.now.survey.now) c.args.selection.now) (λ file holds. file-is (chosen_in c.args.selection.now.chosen) (entries c.args.selection.now.planned.plan) file (tells c.args.relay.now.survey.now) c.requires.selected.plan))
     c.write_laid.ensures.prefix

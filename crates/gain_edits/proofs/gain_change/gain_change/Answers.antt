@@ -2,6 +2,7 @@
 use Rattle.std.proofs.Common.{◌≡◌, ◌≤◌, ℕ, Bool, true, false, List, Result, Ok, Err, refl, sym, ◌∙◌, ap, inr, subst}
 use Rattle.std.specs.Prelude.{IfErr, MatchResult}
 use Rattle.std.proofs.lemmas.Result.{err_from_is_err_and}
+use Rattle.outside.specs.Files.{Holds}
 use Rattle.tag_blocks.specs.declared.undo.Undo.{Undo}
 use Rattle.tag_blocks.specs.Tags.{TagFields}
 use Rattle.tag_blocks.specs.UndoItems.{undo_from}
@@ -23,7 +24,9 @@ use Rattle.commands.proofs.RefusingLaws.{of_err}
 use Rattle.gain_edits.proofs.TagFaults.{tag_is_input, choice_is_input, answer_is_input, answer_numbers, answer_ok, IsAnswer}
 use Rattle.gain_edits.proofs.Refusals.{plain_may, noted_may, noted_item_may}
 use Rattle.moved_gains.proofs.TagEnds.{tag_at-most}
+use Rattle.gain_edits.proofs.gain_change.gain_change.Given as given
 use Rattle.gain_edits.proofs.gain_change.gain_change.Goals as goal
+use Rattle.gain_edits.proofs.gain_change.gain_change.Goals.{After-noted_change}
 
 -- ---- what the definition says
 
@@ -95,21 +98,23 @@ returns-in_err-undo-clause-numbers g c =
     rw (p.1, p.2, c.if-not-tags.false)
     (refusal_numbers (gain_refuses true) _ (of_err (IsRefusal (gain_refuses true)) _ _ (noted_item_may c.tag_place.result.offset (undo_from 32 c.in-Ok.tag.items)) (sym c.in_err-undo.ensures)))
 
+-- the file's change is the noted one
+noted : (g : given.Over) (c : After-noted_change g) (bytes : List ℕ) → Holds (g.D.Folder.files c.args.folder.now) c.args.name.now bytes
+    → gain_change c.args.shift.now c.args.tags bytes (tells c.args.survey.now) ≡ noted_change c.args.shift.now (tells c.args.survey.now) c.in-Ok.tag c.in_ok-undo.undo
+noted g c bytes holds =
+    with_item c.args.shift.now c.args.tags bytes (tells c.args.survey.now) c.in-Ok.tag c.in_ok-undo.undo c.if-not-tags.false (c.in-Ok.ensures.exact bytes holds)
+    (ap (λ n. noted_undo n (undo_from 32 c.in-Ok.tag.items)) (sym c.tag_place.ensures.offset) ∙ sym c.in_ok-undo.ensures)
+
 pub returns-clause-change : goal.returns-clause-change
 returns-clause-change g c =
-    let s = tells c.args.survey.now in
-    answer_ok (gain_change c.args.shift.now c.args.tags) (gain_refuses true) c.args.name.now (g.D.Folder.files c.args.folder.now) _ (g.D.Folder.counts c.args.folder.now) _ c.read_tag.ensures.files s c.requires.there c.requires.surveyed (noted_change c.args.shift.now s c.in-Ok.tag c.in_ok-undo.undo)
-    (noted_may c.args.shift.now s c.in-Ok.tag c.in_ok-undo.undo) c.in-Ok.ensures.done
-    (λ bytes holds. with_item c.args.shift.now c.args.tags bytes s c.in-Ok.tag c.in_ok-undo.undo c.if-not-tags.false (c.in-Ok.ensures.exact bytes holds) (ap (λ n. noted_undo n (undo_from 32 c.in-Ok.tag.items)) (sym c.tag_place.ensures.offset) ∙ sym c.in_ok-undo.ensures))
-    c.noted_change.result c.noted_change.ensures.change
+    answer_ok (gain_change c.args.shift.now c.args.tags) (gain_refuses true) c.args.name.now (g.D.Folder.files c.args.folder.now) _ (g.D.Folder.counts c.args.folder.now) _ c.read_tag.ensures.files (tells c.args.survey.now) c.requires.there c.requires.surveyed _
+    (noted_may c.args.shift.now (tells c.args.survey.now) c.in-Ok.tag c.in_ok-undo.undo) c.in-Ok.ensures.done (noted g (goal.at.returns-clause-change g c).After-noted_change) c.noted_change.result c.noted_change.ensures.change
 
 pub returns-clause-refused : goal.returns-clause-refused
 returns-clause-refused g c =
     let s = tells c.args.survey.now in
-    answer_is_input (gain_change c.args.shift.now c.args.tags) (gain_refuses true) c.args.name.now (g.D.Folder.files c.args.folder.now) _ (g.D.Folder.counts c.args.folder.now) _ c.read_tag.ensures.files s c.requires.there c.requires.surveyed (noted_change c.args.shift.now s c.in-Ok.tag c.in_ok-undo.undo)
-    (noted_may c.args.shift.now s c.in-Ok.tag c.in_ok-undo.undo) c.in-Ok.ensures.done
-    (λ bytes holds. with_item c.args.shift.now c.args.tags bytes s c.in-Ok.tag c.in_ok-undo.undo c.if-not-tags.false (c.in-Ok.ensures.exact bytes holds) (ap (λ n. noted_undo n (undo_from 32 c.in-Ok.tag.items)) (sym c.tag_place.ensures.offset) ∙ sym c.in_ok-undo.ensures))
-    c.noted_change.result c.noted_change.ensures.change
+    answer_is_input (gain_change c.args.shift.now c.args.tags) (gain_refuses true) c.args.name.now (g.D.Folder.files c.args.folder.now) _ (g.D.Folder.counts c.args.folder.now) _ c.read_tag.ensures.files s c.requires.there c.requires.surveyed _
+    (noted_may c.args.shift.now s c.in-Ok.tag c.in_ok-undo.undo) c.in-Ok.ensures.done (noted g (goal.at.returns-clause-refused g c).After-noted_change) c.noted_change.result c.noted_change.ensures.change
 
 pub returns-clause-numbers : goal.returns-clause-numbers
 returns-clause-numbers g c =

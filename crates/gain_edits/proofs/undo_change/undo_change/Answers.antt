@@ -1,6 +1,7 @@
 -- The tag is read, then its undo item, and then the steps that it says are taken.
 use Rattle.std.proofs.Common.{◌≡◌, ◌≤◌, ℕ, List, Ok, Err, refl, sym, ◌∙◌, ap, subst}
 use Rattle.std.proofs.lemmas.Result.{err_from_is_err_and}
+use Rattle.outside.specs.Files.{Holds}
 use Rattle.tag_blocks.specs.declared.undo.Undo.{Undo}
 use Rattle.tag_blocks.specs.Tags.{TagFields}
 use Rattle.tag_blocks.specs.UndoItems.{undo_from}
@@ -19,7 +20,9 @@ use Rattle.commands.proofs.RefusingLaws.{of_err}
 use Rattle.gain_edits.proofs.TagFaults.{tag_is_input, choice_is_input, answer_is_input, answer_numbers, answer_ok}
 use Rattle.gain_edits.proofs.Refusals.{undone_may, found_item_may}
 use Rattle.moved_gains.proofs.TagEnds.{tag_at-most}
+use Rattle.gain_edits.proofs.undo_change.undo_change.Given as given
 use Rattle.gain_edits.proofs.undo_change.undo_change.Goals as goal
+use Rattle.gain_edits.proofs.undo_change.undo_change.Goals.{After-undone_change}
 
 -- ---- what the definition says
 
@@ -63,21 +66,22 @@ returns-in_err-undo-clause-numbers g c =
     let p = err_from_is_err_and c.from_residual.result c.from_residual.ensures.1 in
     rw (p.1, p.2) (refusal_numbers undo_refuses _ (of_err (IsRefusal undo_refuses) _ _ (found_item_may c.tag_place.result.offset (undo_from 32 c.in-Ok.tag.items)) (sym c.in_err-undo.ensures)))
 
+-- the file's change is the one that its item tells of
+undone : (g : given.Over) (c : After-undone_change g) (bytes : List ℕ) → Holds (g.D.Folder.files c.args.folder.now) c.args.name.now bytes
+    → undo_change bytes (tells c.args.survey.now) ≡ undone_change (tells c.args.survey.now) c.in-Ok.tag c.in_ok-undo.undo
+undone g c bytes holds =
+    with_item bytes (tells c.args.survey.now) c.in-Ok.tag c.in_ok-undo.undo (c.in-Ok.ensures.exact bytes holds) (ap (λ n. found_undo n (undo_from 32 c.in-Ok.tag.items)) (sym c.tag_place.ensures.offset) ∙ sym c.in_ok-undo.ensures)
+
 pub returns-clause-change : goal.returns-clause-change
 returns-clause-change g c =
-    let s = tells c.args.survey.now in
-    answer_ok undo_change undo_refuses c.args.name.now (g.D.Folder.files c.args.folder.now) _ (g.D.Folder.counts c.args.folder.now) _ c.read_tag.ensures.files s c.requires.there c.requires.surveyed (undone_change s c.in-Ok.tag c.in_ok-undo.undo)
-    (undone_may s c.in-Ok.tag c.in_ok-undo.undo) c.in-Ok.ensures.done
-    (λ bytes holds. with_item bytes s c.in-Ok.tag c.in_ok-undo.undo (c.in-Ok.ensures.exact bytes holds) (ap (λ n. found_undo n (undo_from 32 c.in-Ok.tag.items)) (sym c.tag_place.ensures.offset) ∙ sym c.in_ok-undo.ensures))
-    c.undone_change.result c.undone_change.ensures.change
+    answer_ok undo_change undo_refuses c.args.name.now (g.D.Folder.files c.args.folder.now) _ (g.D.Folder.counts c.args.folder.now) _ c.read_tag.ensures.files (tells c.args.survey.now) c.requires.there c.requires.surveyed _
+    (undone_may (tells c.args.survey.now) c.in-Ok.tag c.in_ok-undo.undo) c.in-Ok.ensures.done (undone g (goal.at.returns-clause-change g c).After-undone_change) c.undone_change.result c.undone_change.ensures.change
 
 pub returns-clause-refused : goal.returns-clause-refused
 returns-clause-refused g c =
     let s = tells c.args.survey.now in
-    answer_is_input undo_change undo_refuses c.args.name.now (g.D.Folder.files c.args.folder.now) _ (g.D.Folder.counts c.args.folder.now) _ c.read_tag.ensures.files s c.requires.there c.requires.surveyed (undone_change s c.in-Ok.tag c.in_ok-undo.undo)
-    (undone_may s c.in-Ok.tag c.in_ok-undo.undo) c.in-Ok.ensures.done
-    (λ bytes holds. with_item bytes s c.in-Ok.tag c.in_ok-undo.undo (c.in-Ok.ensures.exact bytes holds) (ap (λ n. found_undo n (undo_from 32 c.in-Ok.tag.items)) (sym c.tag_place.ensures.offset) ∙ sym c.in_ok-undo.ensures))
-    c.undone_change.result c.undone_change.ensures.change
+    answer_is_input undo_change undo_refuses c.args.name.now (g.D.Folder.files c.args.folder.now) _ (g.D.Folder.counts c.args.folder.now) _ c.read_tag.ensures.files s c.requires.there c.requires.surveyed _
+    (undone_may s c.in-Ok.tag c.in_ok-undo.undo) c.in-Ok.ensures.done (undone g (goal.at.returns-clause-refused g c).After-undone_change) c.undone_change.result c.undone_change.ensures.change
 
 pub returns-clause-numbers : goal.returns-clause-numbers
 returns-clause-numbers g c =

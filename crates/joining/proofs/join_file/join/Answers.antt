@@ -60,9 +60,7 @@ making g c mid ss same surveys =
 
 pub returns-clause-done : goal.returns-clause-done
 returns-clause-done g c =
-    let files = g.D.Folder.files in
-    let counts = g.D.Folder.counts in
-    one_done (join_task (map string_bytes c.args.inputs.now)) c.args.output.now (sym c.clash.ensures ∙ c.in_default.is) _ (seen (files c.args.folder.now) (counts c.args.folder.now)) (seen (files c.survey_all.new.folder) (counts c.survey_all.new.folder)) _
+    one_done (join_task (map string_bytes c.args.inputs.now)) c.args.output.now (sym c.clash.ensures ∙ c.in_default.is) _ _ (seen (g.D.Folder.files c.survey_all.new.folder) (g.D.Folder.counts c.survey_all.new.folder)) _
     (ap₂ seen c.survey_all.ensures.files c.in_ok-surveys.ensures.done) (making g (goal.at.returns-clause-done g c).In_ok-surveys _ _ c.survey_all.ensures.files (ap (map tells) c.deref-2.ensures.value))
     c.write_joined.ensures.told c.write_joined.result c.write_joined.ensures.written c.write_joined.ensures.done
 

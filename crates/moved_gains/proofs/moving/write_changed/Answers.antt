@@ -2,7 +2,7 @@
 use Rattle.std.proofs.Common.{◌≡◌, ◌++◌, List, [], ℕ, Option, length, refl, sym, ◌∙◌, ap, ap₂, subst, arith, Ok, append-nil}
 use Rattle.std.specs.Prelude.{IfErr}
 use Rattle.std.proofs.lemmas.Result.{err_from_is_err_and, on_ok_weaker, on_err_weaker}
-use Rattle.outside.specs.Pass.{HasPassCause}
+use Rattle.outside.specs.Pass.{Writes, HasPassCause}
 use Rattle.outside.proofs.PassedLaws.{on_err}
 use Rattle.outside.proofs.PassLaws.{writes_held, writes_there, writes_then, writes_as, writes_all, writes_end, writes_behind_none, part_behind_none, prefix_as, prefix_then, cause_behind, causes_behind}
 use Rattle.sync_survey.specs.declared.rows.Row.{Row}
@@ -19,7 +19,9 @@ use Rattle.moved_gains.specs.Moving.{AreRowsOf, copied, written_from, IsNewTag}
 use Rattle.moved_gains.proofs.MovingLaws.{laid_end, survey_of-length, survey_of-rows}
 use Rattle.sync_survey.proofs.SurveyedFiles.{survey_of-parts}
 use Rattle.moved_gains.proofs.WrittenTag.{written-changed}
+use Rattle.moved_gains.proofs.moving.write_changed.Given as given
 use Rattle.moved_gains.proofs.moving.write_changed.Goals as goal
+use Rattle.moved_gains.proofs.moving.write_changed.Goals.{In_ok-move_frames}
 
 -- the bytes up to the junk, and those from the first frame on
 abbrev both : (ℕ → Steps) → Option NewTag → ℕ → ℕ → List Row → List ℕ → List ℕ
@@ -50,14 +52,11 @@ copy-requires-clause-within g c =
 pub returns-in_err-copy-clause-prefix : goal.returns-in_err-copy-clause-prefix
 returns-in_err-copy-clause-prefix g c =
     let s = tells c.args.survey.now in
-    let change = change_in c.args.change.now (tells c.args.survey.now) in
-    let steps = change.steps in
-    let tag = c.new_tag.result in
-    let junk = c.junk-junk.result.0 in
+    let change = change_in c.args.change.now s in
     on_err c.from_residual.result
     (part_behind_none c.requires.fresh.none
-    (prefix_as (record { input = c.args.input; output = c.args.output; length = c.length.result }) (λ file. changed change file s) (λ file. written_from steps tag file s.first s.frames)
-    (λ file holds. sym (are_changed c.args.change.now tag file s junk s.first s.frames c.new_tag.ensures (ap (λ r. r.0) c.junk-junk.ensures) refl refl (c.requires.exact file holds)))
+    (prefix_as (record { input = c.args.input; output = c.args.output; length = c.length.result }) (λ file. changed change file s) (λ file. written_from change.steps c.new_tag.result file s.first s.frames)
+    (λ file holds. sym (are_changed c.args.change.now c.new_tag.result file s c.junk-junk.result.0 s.first s.frames c.new_tag.ensures (ap (λ r. r.0) c.junk-junk.ensures) refl refl (c.requires.exact file holds)))
     c.in_err-copy.ensures.prefix))
 
 pub move_frames-requires-clause-told : goal.move_frames-requires-clause-told
@@ -69,18 +68,14 @@ move_frames-requires-clause-told g c file holds =
 pub returns-in_err-move_frames-clause-prefix : goal.returns-in_err-move_frames-clause-prefix
 returns-in_err-move_frames-clause-prefix g c =
     let s = tells c.args.survey.now in
-    let change = change_in c.args.change.now (tells c.args.survey.now) in
-    let steps = change.steps in
-    let tag = c.new_tag.result in
-    let junk = c.junk-junk.result.0 in
     let first = c.first.result in
     let rows = c.frames.result.now in
-    let part = prefix_then _ c.requires.apart c.in_ok-copy.ensures.written c.in_err-move_frames.ensures.prefix in
+    let parts = both (steps_over c.args.change.now.course rows) c.new_tag.result c.junk-junk.result.0 first rows in
     on_err c.from_residual-in_err-move_frames.result
     (part_behind_none c.requires.fresh.none
-    (prefix_as (record { input = c.args.input; output = c.args.output; length = c.length.result }) (λ file. changed change file s) (λ file. [])
-    (λ file holds. sym (append-nil (both (steps_over c.args.change.now.course rows) tag junk first rows file) ∙ are_changed c.args.change.now tag file s junk first rows c.new_tag.ensures (ap (λ r. r.0) c.junk-junk.ensures) c.first.ensures c.frames.ensures (c.requires.exact file holds)))
-    part))
+    (prefix_as (record { input = c.args.input; output = c.args.output; length = c.length.result }) (λ file. changed (change_in c.args.change.now s) file s) (λ file. [])
+    (λ file holds. sym (append-nil (parts file) ∙ are_changed c.args.change.now _ file s _ first rows c.new_tag.ensures (ap (λ r. r.0) c.junk-junk.ensures) c.first.ensures c.frames.ensures (c.requires.exact file holds)))
+    (prefix_then _ c.requires.apart c.in_ok-copy.ensures.written c.in_err-move_frames.ensures.prefix)))
 
 pub returns-in_err-move_frames-clause-cause : goal.returns-in_err-move_frames-clause-cause
 returns-in_err-move_frames-clause-cause g c =
@@ -93,31 +88,22 @@ finish-requires g c =
     let output = c.args.output.now in
     writes_there _ c.requires.apart c.in_ok-move_frames.ensures.written output (writes_there _ c.requires.apart c.in_ok-copy.ensures.written output c.requires.target)
 
-pub returns-clause-written : goal.returns-clause-written
-returns-clause-written g c =
+-- once the frames went on, what waits is the end of the changed file
+moved : (g : given.Over) (c : In_ok-move_frames g)
+    → Writes (record { input = c.args.input; output = c.args.output; length = c.length.result }) (λ file. changed (change_in c.args.change.now (tells c.args.survey.now)) file (tells c.args.survey.now)) [] c.move_frames.new.buffers.waiting
+    (g.D.Folder.files c.args.folder.now) (g.D.Folder.files c.move_frames.new.folder)
+moved g c =
     let s = tells c.args.survey.now in
-    let change = change_in c.args.change.now (tells c.args.survey.now) in
-    let tag = c.new_tag.result in
-    let junk = c.junk-junk.result.0 in
-    let first = c.first.result in
-    let rows = c.frames.result.now in
-    let all = writes_then _ c.requires.apart c.in_ok-copy.ensures.written c.in_ok-move_frames.ensures.written in
-    let moved = writes_as _ (λ file. changed change file s)
-    (λ file holds. are_changed c.args.change.now tag file s junk first rows c.new_tag.ensures (ap (λ r. r.0) c.junk-junk.ensures) c.first.ensures c.frames.ensures (c.requires.exact file holds)) all in
-    on_ok_weaker c.finish.result (writes_all _ (λ file. changed change file s) (writes_behind_none c.requires.fresh.none moved)) c.finish.ensures.appended
+    writes_behind_none c.requires.fresh.none
+    (writes_as _ (λ file. changed (change_in c.args.change.now s) file s)
+    (λ file holds. are_changed c.args.change.now c.new_tag.result file s c.junk-junk.result.0 c.first.result c.frames.result.now c.new_tag.ensures (ap (λ r. r.0) c.junk-junk.ensures) c.first.ensures c.frames.ensures (c.requires.exact file holds))
+    (writes_then _ c.requires.apart c.in_ok-copy.ensures.written c.in_ok-move_frames.ensures.written))
+
+pub returns-clause-written : goal.returns-clause-written
+returns-clause-written g c = on_ok_weaker c.finish.result (writes_all _ _ (moved g (goal.at.returns-clause-written g c).In_ok-move_frames)) c.finish.ensures.appended
 
 pub returns-clause-prefix : goal.returns-clause-prefix
-returns-clause-prefix g c =
-    let s = tells c.args.survey.now in
-    let change = change_in c.args.change.now (tells c.args.survey.now) in
-    let tag = c.new_tag.result in
-    let junk = c.junk-junk.result.0 in
-    let first = c.first.result in
-    let rows = c.frames.result.now in
-    let all = writes_then _ c.requires.apart c.in_ok-copy.ensures.written c.in_ok-move_frames.ensures.written in
-    let moved = writes_as _ (λ file. changed change file s)
-    (λ file holds. are_changed c.args.change.now tag file s junk first rows c.new_tag.ensures (ap (λ r. r.0) c.junk-junk.ensures) c.first.ensures c.frames.ensures (c.requires.exact file holds)) all in
-    on_err_weaker c.finish.result (writes_end _ (λ file. changed change file s) (writes_behind_none c.requires.fresh.none moved)) c.finish.ensures.prefix
+returns-clause-prefix g c = on_err_weaker c.finish.result (writes_end _ _ (moved g (goal.at.returns-clause-prefix g c).In_ok-move_frames)) c.finish.ensures.prefix
 
 pub returns-clause-cause : goal.returns-clause-cause
 returns-clause-cause g c =

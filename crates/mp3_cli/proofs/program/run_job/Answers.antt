@@ -63,9 +63,7 @@ returns-in-Cut-clause-answers g c =
 -- in each mode the input alone is read
 packed_inputs : (mode : PackMode) (input output : List ℕ) → (pack_mode_command mode input output).inputs ≡ input ∷ []
 packed_inputs Least input output = refl
-packed_inputs (Constant rate) input output = refl
-packed_inputs (Floor rate) input output = refl
-packed_inputs Best input output = refl
+packed_inputs _ input output = refl
 
 pub returns-in-Pack-clause-answers : goal.returns-in-Pack-clause-answers
 returns-in-Pack-clause-answers g c =

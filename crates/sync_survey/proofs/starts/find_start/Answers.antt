@@ -8,28 +8,33 @@ use Rattle.sync_survey.specs.Looks.{Shows}
 use Rattle.sync_survey.proofs.LooksLaws.{item_at-shown}
 use Rattle.sync_survey.proofs.FoldersLaws.{refusal_later, start_ok, start_err, start_refusal}
 use Rattle.sync_survey.proofs.StartLaws.{start_is}
+use Rattle.sync_survey.proofs.starts.find_start.Given as given
 use Rattle.sync_survey.proofs.starts.find_start.Goals as goal
+use Rattle.sync_survey.proofs.starts.find_start.Goals.{After-item_front}
 
 -- where this many bytes are left, and this item stands at the front of what is shown
 started : (file front : List ℕ) (at left : ℕ) → at ≡ front_end_of file → Shows file at front left → start_of file ≡ start_at file at (item_front front)
 started file front at left end shows = start_is file at (item_front front) end (sym (item_at-shown file at front left shows))
 
+-- so the start is by the item that was shown
+module _ (g : given.Over) (c : After-item_front g) where
+  left_is : (bytes : List ℕ) → Holds (g.D.Folder.files c.args.folder.now) c.args.name.now bytes → Shows bytes c.args.front_end c.look.new.feed.given c.in_ok-left.left
+  left_is bytes holds = c.in_ok-left.ensures.shows bytes holds
+
+  begun : (bytes : List ℕ) → Holds (g.D.Folder.files c.args.folder.now) c.args.name.now bytes → start_of bytes ≡ start_at bytes c.args.front_end c.item_front.result
+  begun bytes holds =
+      started bytes c.look.new.feed.given c.args.front_end c.in_ok-left.left (c.requires.front bytes holds) (left_is bytes holds) ∙ ap (start_at bytes c.args.front_end) (ap item_front (sym c.bytes.ensures) ∙ sym c.item_front.ensures)
+
 pub returns-in-Some-clause-start : goal.returns-in-Some-clause-start
 returns-in-Some-clause-start g c =
-    start_ok c.in-Some.start (g.D.Folder.files c.args.folder.now) c.args.name.now (λ bytes holds.
-    let shows = c.in_ok-left.ensures.shows bytes holds in
-    started bytes c.look.new.feed.given c.args.front_end c.in_ok-left.left (c.requires.front bytes holds) shows
-    ∙ ap (start_at bytes c.args.front_end) (ap item_front (sym c.bytes.ensures) ∙ sym c.item_front.ensures)
-    ∙ c.in-Some.ensures.start bytes shows.left_is)
+    let at = (goal.at.returns-in-Some-clause-start g c).After-item_front in
+    start_ok c.in-Some.start (g.D.Folder.files c.args.folder.now) c.args.name.now (λ bytes holds. begun g at bytes holds ∙ c.in-Some.ensures.start bytes (left_is g at bytes holds).left_is)
 
 pub returns-in-Some-clause-refused : goal.returns-in-Some-clause-refused
 returns-in-Some-clause-refused g c =
+    let at = (goal.at.returns-in-Some-clause-refused g c).After-item_front in
     start_err c.in-Some.start c.args.name.now (g.D.Folder.files c.args.folder.now) (g.D.Folder.counts c.args.folder.now) (g.D.Folder.counts c.look.new.folder) c.args.size c.requires.known c.in_ok-left.ensures.done
-    c.in-Some.ensures.refused (λ bytes holds.
-    let shows = c.in_ok-left.ensures.shows bytes holds in
-    started bytes c.look.new.feed.given c.args.front_end c.in_ok-left.left (c.requires.front bytes holds) shows
-    ∙ ap (start_at bytes c.args.front_end) (ap item_front (sym c.bytes.ensures) ∙ sym c.item_front.ensures)
-    ∙ c.in-Some.ensures.start bytes shows.left_is)
+    c.in-Some.ensures.refused (λ bytes holds. begun g at bytes holds ∙ c.in-Some.ensures.start bytes (left_is g at bytes holds).left_is)
 
 pub returns-in_err-first-clause-refused : goal.returns-in_err-first-clause-refused
 returns-in_err-first-clause-refused g c =
@@ -39,20 +44,14 @@ returns-in_err-first-clause-refused g c =
 
 pub returns-in-Some-2-clause-start : goal.returns-in-Some-2-clause-start
 returns-in-Some-2-clause-start g c = λ bytes holds.
-    let shows = c.in_ok-left.ensures.shows bytes holds in
+    let at = (goal.at.returns-in-Some-2-clause-start g c).After-item_front in
     let there = subst (λ f. Holds f c.args.name.now bytes) (sym c.in_ok-left.ensures.files) holds in
-    started bytes c.look.new.feed.given c.args.front_end c.in_ok-left.left (c.requires.front bytes holds) shows
-    ∙ ap (start_at bytes c.args.front_end) (ap item_front (sym c.bytes.ensures) ∙ sym c.item_front.ensures)
-    ∙ c.in_default.ensures.start bytes shows.left_is
-    ∙ ap (start_behind c.args.front_end) (sym (c.in_ok-first.ensures.first bytes there) ∙ c.in-Some-2.is)
+    begun g at bytes holds ∙ c.in_default.ensures.start bytes (left_is g at bytes holds).left_is ∙ ap (start_behind c.args.front_end) (sym (c.in_ok-first.ensures.first bytes there) ∙ c.in-Some-2.is)
 
 pub returns-in-None-clause-refused : goal.returns-in-None-clause-refused
 returns-in-None-clause-refused g c = λ allowed.
     start_refusal c.args.name.now (g.D.Folder.files c.args.folder.now) allowed (g.D.Folder.counts c.args.folder.now) (g.D.Folder.counts c.first_anchored.new.folder) c.args.size _ c.requires.known
     (c.in_ok-first.ensures.done ∙ c.in_ok-left.ensures.done) (refl, tt) (λ bytes holds.
-    let shows = c.in_ok-left.ensures.shows bytes holds in
+    let at = (goal.at.returns-in-None-clause-refused g c).After-item_front in
     let there = subst (λ f. Holds f c.args.name.now bytes) (sym c.in_ok-left.ensures.files) holds in
-    started bytes c.look.new.feed.given c.args.front_end c.in_ok-left.left (c.requires.front bytes holds) shows
-    ∙ ap (start_at bytes c.args.front_end) (ap item_front (sym c.bytes.ensures) ∙ sym c.item_front.ensures)
-    ∙ c.in_default.ensures.start bytes shows.left_is
-    ∙ ap (start_behind c.args.front_end) (sym (c.in_ok-first.ensures.first bytes there) ∙ c.in-None.is))
+    begun g at bytes holds ∙ c.in_default.ensures.start bytes (left_is g at bytes holds).left_is ∙ ap (start_behind c.args.front_end) (sym (c.in_ok-first.ensures.first bytes there) ∙ c.in-None.is))

@@ -5,11 +5,14 @@ use Rattle.outside.specs.Files.{Holds}
 use Rattle.sync_survey.specs.Faults.{tells}
 use Rattle.commands.specs.declared.fault.EditFault.TheVariants.{Memory}
 use Rattle.commands.specs.Left.{seen}
+use Rattle.commands.specs.One.{IsEarlyFault}
 use Rattle.commands.proofs.InputLaws.{input_is_early, input_numbers, memory_is_input}
 use Rattle.frame_edits.specs.Chosen.{choosing, stream_chosen}
-use Rattle.frame_edits.specs.Choices.{choosing_by, refused_by}
+use Rattle.frame_edits.specs.Choices.{choosing_by, refused_by, task_of}
 use Rattle.frame_edits.proofs.EditLaws.{edit_makes}
+use Rattle.frame_edits.proofs.edit.FrameEditEdit.prepare.Given as given
 use Rattle.frame_edits.proofs.edit.FrameEditEdit.prepare.Goals as goal
+use Rattle.frame_edits.proofs.edit.FrameEditEdit.prepare.Goals.{In_ok-chosen}
 
 pub returns-in_err-survey-clause-refused : goal.returns-in_err-survey-clause-refused
 returns-in_err-survey-clause-refused g c =
@@ -23,25 +26,25 @@ returns-in_err-survey-clause-numbers g c =
     let p = err_from_is_err_and c.from_residual.result c.from_residual.ensures.1 in
     rw (p.1, p.2) (input_numbers (choosing (choosing_by edit.choice)) (stream_chosen (choosing_by edit.choice)) (refused_by edit.choice) edit.input.now _ (c.in_err-survey.ensures.numbers (refused_by edit.choice)))
 
+-- want of memory, once the frames were chosen
+forgot : (g : given.Over) (c : In_ok-chosen g) → IsEarlyFault (task_of c.args.self.now.choice c.args.self.now.input.now)
+    (seen (g.D.Folder.files c.args.folder.now) (g.D.Folder.counts c.args.folder.now)) (seen (g.D.Folder.files c.find.new.folder) (g.D.Folder.counts c.find.new.folder)) Memory
+forgot g c =
+    let choosing_it = choosing (choosing_by c.args.self.now.choice) in
+    let input = c.args.self.now.input.now in
+    input_is_early choosing_it (stream_chosen (choosing_by c.args.self.now.choice)) (refused_by c.args.self.now.choice) input _ _ Memory
+    (memory_is_input choosing_it input _ _ (tells c.in_ok-survey.survey) c.in_ok-survey.ensures.there c.in_ok-survey.ensures.surveyed
+    (ap₂ seen (c.find.ensures.files ∙ c.survey_input.ensures.files) (c.in_ok-chosen.ensures.done ∙ c.in_ok-survey.ensures.done)))
+
 pub returns-in_err-planned-clause-refused : goal.returns-in_err-planned-clause-refused
 returns-in_err-planned-clause-refused g c =
-    let edit = c.args.self.now in
-    let old = seen (g.D.Folder.files c.args.folder.now) (g.D.Folder.counts c.args.folder.now) in
     let p = err_from_is_err_and c.from_residual-in_err-planned.result c.from_residual-in_err-planned.ensures.1 in
-    rw (p.1, p.2)
-    (input_is_early (choosing (choosing_by edit.choice)) (stream_chosen (choosing_by edit.choice)) (refused_by edit.choice) edit.input.now old _ Memory
-    (memory_is_input (choosing (choosing_by edit.choice)) edit.input.now old _ (tells c.in_ok-survey.survey) c.in_ok-survey.ensures.there c.in_ok-survey.ensures.surveyed
-    (ap₂ seen (c.find.ensures.files ∙ c.survey_input.ensures.files) (c.in_ok-chosen.ensures.done ∙ c.in_ok-survey.ensures.done))))
+    rw (p.1, p.2) (forgot g (goal.at.returns-in_err-planned-clause-refused g c).In_ok-chosen)
 
 pub returns-in_err-buffers-clause-refused : goal.returns-in_err-buffers-clause-refused
 returns-in_err-buffers-clause-refused g c =
-    let edit = c.args.self.now in
-    let old = seen (g.D.Folder.files c.args.folder.now) (g.D.Folder.counts c.args.folder.now) in
     let p = err_from_is_err_and c.from_residual-in_err-buffers.result c.from_residual-in_err-buffers.ensures.1 in
-    rw (p.1, p.2)
-    (input_is_early (choosing (choosing_by edit.choice)) (stream_chosen (choosing_by edit.choice)) (refused_by edit.choice) edit.input.now old _ Memory
-    (memory_is_input (choosing (choosing_by edit.choice)) edit.input.now old _ (tells c.in_ok-survey.survey) c.in_ok-survey.ensures.there c.in_ok-survey.ensures.surveyed
-    (ap₂ seen (c.find.ensures.files ∙ c.survey_input.ensures.files) (c.in_ok-chosen.ensures.done ∙ c.in_ok-survey.ensures.done))))
+    rw (p.1, p.2) (forgot g (goal.at.returns-in_err-buffers-clause-refused g c).In_ok-chosen)
 
 pub returns-clause-making : goal.returns-clause-making
 returns-clause-making g c =

@@ -1,16 +1,18 @@
 -- One block more goes on, where it is chosen.
-use Rattle.std.proofs.Common.{◌≡◌, ◌+◌, ◌≤◌, length, List, ◌∷◌, [], drop, refl, sym, ◌∙◌, ap, subst, arith}
+use Rattle.std.proofs.Common.{◌≡◌, ℕ, ◌+◌, ◌≤◌, length, List, ◌∷◌, [], ◌++◌, drop, refl, sym, ◌∙◌, ap, subst, arith}
 use Rattle.std.proofs.lemmas.Result.{err_from_is_err_and}
 use Rattle.std.proofs.lemmas.List.{drop_all}
 use Rattle.std.specs.Prelude.{slice_index_or}
 use Rattle.outside.proofs.PassedLaws.{on_err}
 use Rattle.tag_blocks.specs.declared.block.Kind.TheVariants.{Id3v2}
 use Rattle.sync_survey.specs.declared.places.Piece.{Piece}
-use Rattle.sync_survey.specs.Faults.{tells}
+use Rattle.sync_survey.specs.Faults.{SurveyFields, tells}
 use Rattle.laying.specs.Copying.{chosen_bytes}
 use Rattle.outside.proofs.PassLaws.{up_to_begun, up_to_more, up_to_prefix, up_to_end, cause_behind}
 use Rattle.laying.proofs.CopyLaws.{chosen-next, block-at, block-within}
+use Rattle.laying.proofs.relay.Relay.copy_blocks.Given as given
 use Rattle.laying.proofs.relay.Relay.copy_blocks.Goals as goal
+use Rattle.laying.proofs.relay.Relay.copy_blocks.Goals.{After-copy_chosen}
 
 -- what stands where there is no block
 abbrev no_block : Piece
@@ -34,18 +36,31 @@ copy_chosen-requires-clause-within g c =
     subst (λ (l : List Piece). (slice_index_or l k no_block).offset + (slice_index_or l k no_block).block.length ≤ s.length) (sym c.blocks-block-items.ensures)
     (block-within 0 s.length s.blocks k (slice_index_or s.blocks k no_block) (drop (k + 1) s.blocks) here c.requires.ready.laid.blocks)
 
+-- the block that was asked for, and those behind it
+module _ (g : given.Over) (c : After-copy_chosen g) where
+  abbrev s : SurveyFields
+  s = tells c.args.self.now.survey.now
+
+  abbrev k : ℕ
+  k = c.loop-block.block-index
+
+  abbrev p : Piece
+  p = slice_index_or c.blocks-block-items.result.now k no_block
+
+  abbrev chosen : List Piece → List ℕ → List ℕ
+  chosen blocks file = chosen_bytes c.args.in_front s blocks file
+
+  here : drop k s.blocks ≡ p ∷ drop (k + 1) s.blocks
+  here = block-at s.blocks k no_block (omega (arith, c.loop-block-test.true, ap length c.blocks-block-items.ensures)) ∙ ap (λ (l : List Piece). slice_index_or l k no_block ∷ drop (k + 1) s.blocks) (sym c.blocks-block-items.ensures)
+
+  next : (file : List ℕ) → chosen (drop k s.blocks) file ≡ chosen (p ∷ []) file ++ chosen (drop (k + 1) s.blocks) file
+  next file = ap (λ (l : List Piece). chosen l file) here ∙ chosen-next c.args.in_front s p (drop (k + 1) s.blocks) file
+
 pub returns-in_err-copy_chosen-clause-prefix : goal.returns-in_err-copy_chosen-clause-prefix
 returns-in_err-copy_chosen-clause-prefix g c =
-    let self = c.args.self.now in
-    let s = tells self.survey.now in
-    let chosen = chosen_bytes c.args.in_front s in
-    let k = c.loop-block.block-index in
-    let p = slice_index_or c.blocks-block-items.result.now k no_block in
-    let here : drop k s.blocks ≡ p ∷ drop (k + 1) s.blocks =
-    block-at s.blocks k no_block (omega (arith, c.loop-block-test.true, ap length c.blocks-block-items.ensures)) ∙ ap (λ (l : List Piece). slice_index_or l k no_block ∷ drop (k + 1) s.blocks) (sym c.blocks-block-items.ensures) in
+    let at = (goal.at.returns-in_err-copy_chosen-clause-prefix g c).After-copy_chosen in
     on_err c.from_residual.result
-    (up_to_prefix self.pass c.requires.ready.pass.apart c.loop-block.invariant.up_to
-    (chosen (p ∷ [])) (chosen (drop (k + 1) s.blocks)) (λ file holds. ap (λ (l : List Piece). chosen l file) here ∙ chosen-next c.args.in_front s p (drop (k + 1) s.blocks) file) c.in_err-copy_chosen.ensures.prefix)
+    (up_to_prefix c.args.self.now.pass c.requires.ready.pass.apart c.loop-block.invariant.up_to _ (chosen g at (drop (c.loop-block.block-index + 1) (tells c.args.self.now.survey.now).blocks)) (λ file holds. next g at file) c.in_err-copy_chosen.ensures.prefix)
 
 pub returns-in_err-copy_chosen-clause-cause : goal.returns-in_err-copy_chosen-clause-cause
 returns-in_err-copy_chosen-clause-cause g c =
@@ -55,16 +70,9 @@ returns-in_err-copy_chosen-clause-cause g c =
 
 pub loop-block-preserved : goal.loop-block-preserved
 loop-block-preserved g c =
-    let self = c.args.self.now in
-    let s = tells self.survey.now in
-    let chosen = chosen_bytes c.args.in_front s in
-    let k = c.loop-block.block-index in
-    let p = slice_index_or c.blocks-block-items.result.now k no_block in
-    let here : drop k s.blocks ≡ p ∷ drop (k + 1) s.blocks =
-    block-at s.blocks k no_block (omega (arith, c.loop-block-test.true, ap length c.blocks-block-items.ensures)) ∙ ap (λ (l : List Piece). slice_index_or l k no_block ∷ drop (k + 1) s.blocks) (sym c.blocks-block-items.ensures) in
+    let at = (goal.at.loop-block-preserved g c).After-copy_chosen in
     record {
-      up_to = up_to_more self.pass c.requires.ready.pass.apart c.loop-block.invariant.up_to
-          (chosen (p ∷ [])) (chosen (drop (k + 1) s.blocks)) (λ file holds. ap (λ (l : List Piece). chosen l file) here ∙ chosen-next c.args.in_front s p (drop (k + 1) s.blocks) file) c.in_ok-copy_chosen.ensures.written;
+      up_to = up_to_more c.args.self.now.pass c.requires.ready.pass.apart c.loop-block.invariant.up_to _ _ (λ file holds. next g at file) c.in_ok-copy_chosen.ensures.written;
       ready = c.in_ok-copy_chosen.ensures.ready;
       counts = c.in_ok-copy_chosen.ensures.done ∙ c.loop-block.invariant.counts;
     }

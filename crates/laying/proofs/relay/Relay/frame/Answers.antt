@@ -11,29 +11,53 @@ use Rattle.frame_writer.proofs.WritingLaws.{ok-map, err-map}
 use Rattle.sync_survey.specs.MainData.{side_of}
 use Rattle.sync_survey.specs.Faults.{tells}
 use Rattle.part_needs.specs.Needs.{need_of}
-use Rattle.laying.specs.Relaid.{frame_of, moved_to}
 use Rattle.frame_writer.specs.Writing.{writing}
-use Rattle.laying.specs.Passing.{IsOver, Lays, LaysPart, writing_in}
+use Rattle.laying.specs.Passing.{IsOver, Lays, GivesPart, moved_frame, own_reach, writing_in}
 use Rattle.laying.proofs.PlannedFrames.{begun_fits}
 use Rattle.laying.proofs.ChosenFrames.{side_fits}
 use Rattle.laying.proofs.ReadLaws.{over-next}
 use Rattle.laying.proofs.PassLaws.{ready-later, over-later, lays_one, part_one, part_none}
+use Rattle.laying.proofs.relay.Relay.frame.Given as given
 use Rattle.laying.proofs.relay.Relay.frame.Goals as goal
+use Rattle.laying.proofs.relay.Relay.frame.Goals.{After-with_begin, After-cut_payload-payload}
 
 -- how far back main data may begin behind a frame
 abbrev behind : ClassFields → HeaderFields → ℕ → ℕ → ℕ
 behind c h begin bytes = min (window_of c.version) (begin + area_of (class_of h) h.slot h.protected - bytes)
 
+-- once the area was read
+module _ (g : given.Over) (c : After-with_begin g) where
+  -- the window is over all main data up to the end of the frame's own area
+  over : IsOver c.read_area.new.window c.args.self.now.pass.input.now (g.D.Folder.files c.read_area.new.folder) (tells c.args.self.now.survey.now) (c.args.i + 1)
+  over =
+      let input = c.args.self.now.pass.input.now in
+      let s = tells c.args.self.now.survey.now in
+      over-next c.args.buffers.now.window c.read_area.new.window input (g.D.Folder.files c.read_area.new.folder) s c.args.i c.args.row.now c.requires.found
+      (subst (λ f. IsOver c.args.buffers.now.window input f s c.args.i) (sym c.read_area.ensures.files) c.requires.over) c.in_ok-read_area.ensures.area
+
+  -- the side information that the writer gets says where the main data begin now
+  side : c.with_begin.result ≡ record (side_of c.args.row.now) { main_data_begin = c.args.place.now.begin }
+  side = c.with_begin.ensures ∙ ap (λ (t : Side). record t { main_data_begin = c.args.place.now.begin }) c.side_of.ensures
+
+-- the writer gets the frame in its slot
+told : (g : given.Over) (c : After-cut_payload-payload g) → IsOver c.read_area.new.window c.args.self.now.pass.input.now (g.D.Folder.files c.read_area.new.folder) (tells c.args.self.now.survey.now) (c.args.i + 1)
+    → c.with_begin.result ≡ record (side_of c.args.row.now) { main_data_begin = c.args.place.now.begin } → (file : List ℕ) → Holds (g.D.Folder.files c.read_area.new.folder) c.args.self.now.pass.input.now file
+    → (record { kept = record { header = c.with_slot.result; side = c.with_begin.result }; payload = c.cut_payload-payload.result }) ∷ [] ≡ moved_frame c.args.self.now c.args.i c.args.row.now c.args.place.now file
+told g c over_is side_is file holds =
+    let payload = c.cut_payload-payload.ensures.told file over_is.main over_is.held over_is.long (over_is.is file holds) in
+    let header = c.with_slot.ensures in
+    λ j. (record { kept = record { header = header j; side = side_is j }; payload = payload j }) ∷ []
+
 pub returns-in_err-read_area-clause-part : goal.returns-in_err-read_area-clause-part
 returns-in_err-read_area-clause-part g c =
     let self = c.args.self.now in
-    let s = tells self.survey.now in
-    let files = g.D.Folder.files in
-    let made = λ (file : List ℕ). moved_to c.args.place.now (frame_of file s c.args.i c.args.row.now) ∷ [] in
+    let old = g.D.Folder.files c.args.folder.now in
+    let made = moved_frame self c.args.i c.args.row.now c.args.place.now in
+    let last = own_reach self c.args.row.now c.args.place.now in
     let near : c.args.place.now.begin ≤ c.args.buffers.now.writer.waiting.free = omega (arith, c.requires.begin) in
     on_err c.from_residual.result
-    (subst (λ f. LaysPart self.pass.input.now self.pass.output.now made (behind s.class (record c.args.row.now.header { slot = c.args.place.now.slot }) c.args.place.now.begin (need_of c.args.row.now).bytes) (writing_in c.args.buffers.now) (files c.args.folder.now) f) (sym c.read_area.ensures.files)
-    (part_none self.pass.input.now self.pass.output.now made (behind s.class (record c.args.row.now.header { slot = c.args.place.now.slot }) c.args.place.now.begin (need_of c.args.row.now).bytes) (writing_in c.args.buffers.now) (files c.args.folder.now) c.requires.ready.pass.target (λ file holds more begins. near)))
+    (subst (λ f. GivesPart self made last c.args.buffers.now old f) (sym c.read_area.ensures.files)
+    (part_none self.pass.input.now self.pass.output.now made last (writing_in c.args.buffers.now) old c.requires.ready.pass.target (λ file holds more begins. near)))
 
 pub write_frame-requires-clause-fits : goal.write_frame-requires-clause-fits
 write_frame-requires-clause-fits g c =
@@ -41,70 +65,48 @@ write_frame-requires-clause-fits g c =
     let row = c.args.row.now in
     let class = c.args.buffers.now.writer.class in
     let well = c.requires.ready.laid.placed c.args.i row c.requires.found in
-    subst (SideFits class) (sym (c.with_begin.ensures ∙ ap (λ (t : Side). record t { main_data_begin = c.args.place.now.begin }) c.side_of.ensures))
+    subst (SideFits class) (sym (side g (goal.at.write_frame-requires-clause-fits g c).After-with_begin))
     (begun_fits class (side_of row) c.args.place.now.begin (subst (λ d. SideFits d (side_of row)) (sym c.requires.class) (side_fits s.class row.lost row.side well.fits)) (omega (arith, c.requires.begin)))
 
 pub returns-clause-lays : goal.returns-clause-lays
 returns-clause-lays g c =
-    let self = c.args.self.now in
-    let s = tells self.survey.now in
+    let at = goal.at.returns-clause-lays g c in
+    let pass = c.args.self.now.pass in
     let files = g.D.Folder.files in
-    let over =
-    over-next c.args.buffers.now.window c.read_area.new.window self.pass.input.now (files c.read_area.new.folder) s c.args.i c.args.row.now c.requires.found (subst (λ f. IsOver c.args.buffers.now.window self.pass.input.now f s c.args.i) (sym c.read_area.ensures.files) c.requires.over) c.in_ok-read_area.ensures.area in
-    let made = λ (file : List ℕ). moved_to c.args.place.now (frame_of file s c.args.i c.args.row.now) ∷ [] in
-    let side = c.with_begin.ensures ∙ ap (λ (t : Side). record t { main_data_begin = c.args.place.now.begin }) c.side_of.ensures in
-    let told : (file : List ℕ) → Holds (files c.read_area.new.folder) self.pass.input.now file → (record { kept = record { header = c.with_slot.result; side = c.with_begin.result }; payload = c.cut_payload-payload.result }) ∷ [] ≡ made file =
-    λ file holds.
-    let payload = c.cut_payload-payload.ensures.told file over.main over.held over.long (over.is file holds) in
-    let header = c.with_slot.ensures in
-    λ j. (record { kept = record { header = header j; side = side j }; payload = payload j }) ∷ [] in
+    let old = writing_in c.args.buffers.now in
+    let new = writing c.write_frame.new.writer c.write_frame.new.unsent in
+    let made = moved_frame c.args.self.now c.args.i c.args.row.now c.args.place.now in
     ok-map c.write_frame.result
-    (λ on. subst (λ f. Lays self.pass.input.now self.pass.output.now made (writing_in c.args.buffers.now) (writing c.write_frame.new.writer c.write_frame.new.unsent) f (files c.write_frame.new.folder)) c.read_area.ensures.files
-    (lays_one self.pass.input.now self.pass.output.now made _ (writing_in c.args.buffers.now) (writing c.write_frame.new.writer c.write_frame.new.unsent) (files c.read_area.new.folder) (files c.write_frame.new.folder) told on))
+    (λ on. subst (λ f. Lays pass.input.now pass.output.now made old new f (files c.write_frame.new.folder)) c.read_area.ensures.files
+    (lays_one pass.input.now pass.output.now made _ old new (files c.read_area.new.folder) (files c.write_frame.new.folder) (told g at.After-cut_payload-payload (over g at.After-with_begin) (side g at.After-with_begin)) on))
     c.write_frame.ensures.written
 
 pub returns-clause-part : goal.returns-clause-part
 returns-clause-part g c =
+    let at = goal.at.returns-clause-part g c in
     let self = c.args.self.now in
-    let s = tells self.survey.now in
+    let made = moved_frame self c.args.i c.args.row.now c.args.place.now in
+    let last = own_reach self c.args.row.now c.args.place.now in
     let files = g.D.Folder.files in
-    let over =
-    over-next c.args.buffers.now.window c.read_area.new.window self.pass.input.now (files c.read_area.new.folder) s c.args.i c.args.row.now c.requires.found (subst (λ f. IsOver c.args.buffers.now.window self.pass.input.now f s c.args.i) (sym c.read_area.ensures.files) c.requires.over) c.in_ok-read_area.ensures.area in
-    let made = λ (file : List ℕ). moved_to c.args.place.now (frame_of file s c.args.i c.args.row.now) ∷ [] in
-    let side = c.with_begin.ensures ∙ ap (λ (t : Side). record t { main_data_begin = c.args.place.now.begin }) c.side_of.ensures in
     let header = c.with_slot.ensures in
     let size : length c.cut_payload-payload.result ≡ (need_of c.args.row.now).bytes = c.cut_payload-payload.ensures.size in
-    let begin : c.with_begin.result.main_data_begin ≡ c.args.place.now.begin = ap (λ (t : Side). t.main_data_begin) side in
+    let begin : c.with_begin.result.main_data_begin ≡ c.args.place.now.begin = ap (λ (t : Side). t.main_data_begin) (side g at.After-with_begin) in
     let class = c.requires.class in
-    let reach : reach_of c.write_frame.new.writer ≡ behind s.class (record c.args.row.now.header { slot = c.args.place.now.slot }) c.args.place.now.begin (need_of c.args.row.now).bytes =
-    c.write_frame.ensures.reach ∙ (λ j. behind (class j) (header j) (begin j) (size j)) in
-    let told : (file : List ℕ) → Holds (files c.read_area.new.folder) self.pass.input.now file → (record { kept = record { header = c.with_slot.result; side = c.with_begin.result }; payload = c.cut_payload-payload.result }) ∷ [] ≡ made file =
-    λ file holds.
-    let payload = c.cut_payload-payload.ensures.told file over.main over.held over.long (over.is file holds) in
-    λ j. (record { kept = record { header = header j; side = side j }; payload = payload j }) ∷ [] in
+    let reach : reach_of c.write_frame.new.writer ≡ own_reach self c.args.row.now c.args.place.now = c.write_frame.ensures.reach ∙ (λ j. behind (class j) (header j) (begin j) (size j)) in
     err-map c.write_frame.result
-    (λ part. subst (λ f. LaysPart self.pass.input.now self.pass.output.now made (behind s.class (record c.args.row.now.header { slot = c.args.place.now.slot }) c.args.place.now.begin (need_of c.args.row.now).bytes) (writing_in c.args.buffers.now) f (files c.write_frame.new.folder)) c.read_area.ensures.files
-    (part_one self.pass.input.now self.pass.output.now made (behind s.class (record c.args.row.now.header { slot = c.args.place.now.slot }) c.args.place.now.begin (need_of c.args.row.now).bytes) _ (writing_in c.args.buffers.now) c.write_frame.new.writer (files c.read_area.new.folder) (files c.write_frame.new.folder) told (omega (arith, reach)) part))
+    (λ part. subst (λ f. GivesPart self made last c.args.buffers.now f (files c.write_frame.new.folder)) c.read_area.ensures.files
+    (part_one self.pass.input.now self.pass.output.now made last _ (writing_in c.args.buffers.now) c.write_frame.new.writer (files c.read_area.new.folder) (files c.write_frame.new.folder) (told g at.After-cut_payload-payload (over g at.After-with_begin) (side g at.After-with_begin)) (omega (arith, reach)) part))
     c.write_frame.ensures.part
 
 pub cut_payload-payload-requires-clause-over : goal.cut_payload-payload-requires-clause-over
 cut_payload-payload-requires-clause-over g c =
-    let self = c.args.self.now in
-    let s = tells self.survey.now in
-    let files = g.D.Folder.files in
-    let over =
-    over-next c.args.buffers.now.window c.read_area.new.window self.pass.input.now (files c.read_area.new.folder) s c.args.i c.args.row.now c.requires.found (subst (λ f. IsOver c.args.buffers.now.window self.pass.input.now f s c.args.i) (sym c.read_area.ensures.files) c.requires.over) c.in_ok-read_area.ensures.area in
-    (over.main, over.held, over.long)
+    let is = over g (goal.at.cut_payload-payload-requires-clause-over g c).After-with_begin in
+    (is.main, is.held, is.long)
 
 pub returns-clause-over : goal.returns-clause-over
 returns-clause-over g c =
-    let self = c.args.self.now in
-    let s = tells self.survey.now in
-    let files = g.D.Folder.files in
-    let over =
-    over-next c.args.buffers.now.window c.read_area.new.window self.pass.input.now (files c.read_area.new.folder) s c.args.i c.args.row.now c.requires.found (subst (λ f. IsOver c.args.buffers.now.window self.pass.input.now f s c.args.i) (sym c.read_area.ensures.files) c.requires.over) c.in_ok-read_area.ensures.area in
     ok-map c.write_frame.result
-    (λ on. over-later c.read_area.new.window self.pass.input.now self.pass.output.now s (c.args.i + 1) _ _ on.passed c.requires.ready.pass.apart on.files over)
+    (λ on. over-later c.read_area.new.window c.args.self.now.pass.input.now c.args.self.now.pass.output.now (tells c.args.self.now.survey.now) (c.args.i + 1) _ _ on.passed c.requires.ready.pass.apart on.files (over g (goal.at.returns-clause-over g c).After-with_begin))
     c.write_frame.ensures.written
 
 pub returns-clause-ready : goal.returns-clause-ready

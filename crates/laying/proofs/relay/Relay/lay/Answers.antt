@@ -32,26 +32,20 @@ returns-in_err-frames-clause-prefix g c =
 
 pub returns-clause-written : goal.returns-clause-written
 returns-clause-written g c =
-    let self = c.args.self.now in
-    let made = section_frames (tells self.survey.now) c.args.section.now in
+    let made = section_frames (tells c.args.self.now.survey.now) c.args.section.now in
     let b = c.args.buffers.now in
-    let files = g.D.Folder.files in
     on_ok_weaker c.finish.result
-    (λ passed. subst (λ f. Writes self.pass (λ file. frame_bytes (made file)) b.waiting c.finish.new.unsent f (files c.finish.new.folder)) c.read_before.ensures.files
-    (lays-written self.pass made b.waiting (writing_in b) (files c.read_before.new.folder) (new-behind b.writer b.waiting c.requires.new)
-    (writing_in c.frames.new.buffers) (files c.frames.new.folder) c.in_ok-frames.ensures.lays c.finish.new.unsent (files c.finish.new.folder) passed))
+    (λ passed. subst (λ f. Writes c.args.self.now.pass (λ file. frame_bytes (made file)) b.waiting c.finish.new.unsent f (g.D.Folder.files c.finish.new.folder)) c.read_before.ensures.files
+    (lays-written c.args.self.now.pass made b.waiting (writing_in b) _ (new-behind b.writer b.waiting c.requires.new) (writing_in c.frames.new.buffers) _ c.in_ok-frames.ensures.lays c.finish.new.unsent _ passed))
     c.finish.ensures.passed
 
 pub returns-clause-prefix : goal.returns-clause-prefix
 returns-clause-prefix g c =
-    let self = c.args.self.now in
-    let made = section_frames (tells self.survey.now) c.args.section.now in
+    let made = section_frames (tells c.args.self.now.survey.now) c.args.section.now in
     let b = c.args.buffers.now in
-    let files = g.D.Folder.files in
     on_err_weaker c.finish.result
-    (λ part. subst (λ f. WritesPrefix self.pass (λ file. frame_bytes (made file)) b.waiting f (files c.finish.new.folder)) c.read_before.ensures.files
-    (lays-prefix self.pass made b.waiting (writing_in b) (files c.read_before.new.folder) (new-behind b.writer b.waiting c.requires.new)
-    (writing_in c.frames.new.buffers) (files c.frames.new.folder) c.in_ok-frames.ensures.lays (files c.finish.new.folder) part))
+    (λ part. subst (λ f. WritesPrefix c.args.self.now.pass (λ file. frame_bytes (made file)) b.waiting f (g.D.Folder.files c.finish.new.folder)) c.read_before.ensures.files
+    (lays-prefix c.args.self.now.pass made b.waiting (writing_in b) _ (new-behind b.writer b.waiting c.requires.new) (writing_in c.frames.new.buffers) _ c.in_ok-frames.ensures.lays _ part))
     c.finish.ensures.prefix
 
 pub returns-clause-cause : goal.returns-clause-cause

@@ -1,13 +1,16 @@
 -- A lead-in, or the frame.
-use Rattle.std.proofs.Common.{ℕ, ◌+◌, ◌-◌, ◌≤◌, min, cond, false, List, [], ◌∷◌, sym, ◌∙◌, ap, subst, arith}
+use Rattle.std.proofs.Common.{◌≡◌, ℕ, ◌+◌, ◌-◌, ◌≤◌, min, Bool, cond, true, false, List, [], ◌∷◌, sym, ◌∙◌, ap, subst, arith}
 use Rattle.frame_header.specs.Tables.{class_of, area_of, window_of}
 use Rattle.outside.proofs.PassedLaws.{on_err}
 use Rattle.sync_survey.specs.Faults.{tells}
 use Rattle.part_needs.specs.Needs.{need_of}
-use Rattle.laying.specs.Relaid.{frame_of, moved_to, lead_in_before, placed_as}
-use Rattle.laying.specs.Fits.{reach_behind}
+use Rattle.laying.specs.Relaid.{frame_of, moved_to, lead_in_before}
+use Rattle.frame_writer.specs.Frames.{Frame}
 use Rattle.frame_writer.specs.Writing.{writing}
-use Rattle.laying.specs.Passing.{Lays, LaysPart, writing_in}
+use Rattle.slot_plan.specs.declared.needs.Placed.{Placed}
+use Rattle.sync_survey.specs.declared.rows.Row.{Row}
+use Rattle.laying.specs.declared.relay.Relay.{Relay}
+use Rattle.laying.specs.Passing.{GivesFrames, GivesPart, writing_in, placed_frame, window_in, reach_at}
 use Rattle.laying.proofs.PassLaws.{ready-later, over-later, lays_one, part_one}
 use Rattle.laying.proofs.RelayLaws.{reach-lead}
 use Rattle.laying.proofs.relay.Relay.place.Goals as goal
@@ -15,44 +18,40 @@ use Rattle.laying.proofs.relay.Relay.place.Goals as goal
 pub lead_in-requires-clause-class : goal.lead_in-requires-clause-class
 lead_in-requires-clause-class g c = (c.requires.ready.laid.placed c.args.i c.args.row.now c.requires.found).class_is ∙ sym c.requires.class
 
+-- what stands at a place of the plan, and how far back main data may begin behind it, by whether it is a lead-in
+abbrev frame_by : Relay → ℕ → Row → Placed → Bool → List ℕ → List Frame
+frame_by relay i row p lead file = cond lead (lead_in_before p row.header) (moved_to p (frame_of file (tells relay.survey.now) i row)) ∷ []
+
+abbrev reach_by : Relay → Row → Placed → Bool → ℕ
+reach_by relay row p lead = min (window_in (tells relay.survey.now)) (p.begin + area_of (class_of row.header) p.slot (cond lead false row.header.protected) - cond lead 0 (need_of row).bytes)
+
 pub returns-in_err-lead_in-clause-part : goal.returns-in_err-lead_in-clause-part
 returns-in_err-lead_in-clause-part g c =
     let self = c.args.self.now in
-    let s = tells self.survey.now in
     let row = c.args.row.now in
     let p = c.args.place.now in
-    let files = g.D.Folder.files in
-    let window = window_of s.class.version in
-    let made = λ (file : List ℕ). placed_as p (frame_of file s c.args.i row) ∷ [] in
-    let reach : reach_behind window p (need_of row) ≤ c.lead_in.new.writer.waiting.free =
+    let window = window_in (tells self.survey.now) in
+    let reach : reach_at self row p ≤ c.lead_in.new.writer.waiting.free =
     omega (arith, reach-lead window p (need_of row) c.if-place.true, c.lead_in.ensures.reach, ap (λ class. window_of class.version) c.requires.class) in
     on_err c.from_residual.result
-    (part_one self.pass.input.now self.pass.output.now made (reach_behind window p (need_of row)) (lead_in_before p row.header) (writing_in c.args.buffers.now) c.lead_in.new.writer (files c.args.folder.now) (files c.lead_in.new.folder)
-    (λ file holds. ap (λ b. cond b (lead_in_before p row.header) (moved_to p (frame_of file s c.args.i row)) ∷ []) (sym c.if-place.true)) reach c.in_err-lead_in.ensures.part)
+    (part_one self.pass.input.now self.pass.output.now (placed_frame self c.args.i row p) (reach_at self row p) (lead_in_before p row.header) (writing_in c.args.buffers.now) c.lead_in.new.writer (g.D.Folder.files c.args.folder.now) (g.D.Folder.files c.lead_in.new.folder)
+    (λ file holds. ap (λ lead. frame_by self c.args.i row p lead file) (sym c.if-place.true)) reach c.in_err-lead_in.ensures.part)
 
 pub returns-in_err-frame-clause-part : goal.returns-in_err-frame-clause-part
 returns-in_err-frame-clause-part g c =
-    let self = c.args.self.now in
-    let s = tells self.survey.now in
-    let row = c.args.row.now in
-    let p = c.args.place.now in
-    let need = need_of row in
-    let files = g.D.Folder.files in
     on_err c.from_residual-in_err-frame.result
     (subst
-    (λ b. LaysPart self.pass.input.now self.pass.output.now (λ file. cond b (lead_in_before p row.header) (moved_to p (frame_of file s c.args.i row)) ∷ [])
-    (min (window_of s.class.version) (p.begin + area_of (class_of row.header) p.slot (cond b false row.header.protected) - cond b 0 need.bytes)) (writing_in c.args.buffers.now) (files c.args.folder.now) (files c.frame.new.folder))
+    (λ lead. GivesPart c.args.self.now (frame_by c.args.self.now c.args.i c.args.row.now c.args.place.now lead) (reach_by c.args.self.now c.args.row.now c.args.place.now lead) c.args.buffers.now
+    (g.D.Folder.files c.args.folder.now) (g.D.Folder.files c.frame.new.folder))
     (sym c.if-place.false) c.in_err-frame.ensures.part)
 
 pub returns-in_ok-lead_in-clause-lays : goal.returns-in_ok-lead_in-clause-lays
 returns-in_ok-lead_in-clause-lays g c =
-    let self = c.args.self.now in
-    let s = tells self.survey.now in
-    let row = c.args.row.now in
+    let pass = c.args.self.now.pass in
     let p = c.args.place.now in
-    let files = g.D.Folder.files in
-    lays_one self.pass.input.now self.pass.output.now (λ file. placed_as p (frame_of file s c.args.i row) ∷ []) (lead_in_before p row.header) (writing_in c.args.buffers.now) (writing c.lead_in.new.writer c.lead_in.new.unsent) (files c.args.folder.now) (files c.lead_in.new.folder)
-    (λ file holds. ap (λ b. cond b (lead_in_before p row.header) (moved_to p (frame_of file s c.args.i row)) ∷ []) (sym c.if-place.true)) c.in_ok-lead_in.ensures.written
+    let row = c.args.row.now in
+    lays_one pass.input.now pass.output.now (placed_frame c.args.self.now c.args.i row p) (lead_in_before p row.header) (writing_in c.args.buffers.now) (writing c.lead_in.new.writer c.lead_in.new.unsent) (g.D.Folder.files c.args.folder.now) (g.D.Folder.files c.lead_in.new.folder)
+    (λ file holds. ap (λ lead. frame_by c.args.self.now c.args.i row p lead file) (sym c.if-place.true)) c.in_ok-lead_in.ensures.written
 
 pub returns-in_ok-lead_in-clause-over : goal.returns-in_ok-lead_in-clause-over
 returns-in_ok-lead_in-clause-over g c =
@@ -68,12 +67,6 @@ returns-in_ok-lead_in-clause-ready g c =
 
 pub returns-in_ok-frame-clause-lays : goal.returns-in_ok-frame-clause-lays
 returns-in_ok-frame-clause-lays g c =
-    let self = c.args.self.now in
-    let s = tells self.survey.now in
-    let row = c.args.row.now in
-    let p = c.args.place.now in
-    let files = g.D.Folder.files in
     subst
-    (λ b. Lays self.pass.input.now self.pass.output.now (λ file. cond b (lead_in_before p row.header) (moved_to p (frame_of file s c.args.i row)) ∷ []) (writing_in c.args.buffers.now) (writing_in c.frame.new.buffers)
-    (files c.args.folder.now) (files c.frame.new.folder))
+    (λ lead. GivesFrames c.args.self.now (frame_by c.args.self.now c.args.i c.args.row.now c.args.place.now lead) c.args.buffers.now c.frame.new.buffers (g.D.Folder.files c.args.folder.now) (g.D.Folder.files c.frame.new.folder))
     (sym c.if-place.false) c.in_ok-frame.ensures.lays

@@ -2,6 +2,8 @@
 use Rattle.std.proofs.Common.{◌≡◌, ◌++◌, List, ℕ, [], sym, ◌∙◌, append_assoc, append-nil}
 use Rattle.std.specs.List.{concat}
 use Rattle.std.proofs.lemmas.Result.{on_ok_weaker, on_err_weaker, err_from_is_err_and}
+use Rattle.outside.specs.Files.{Files}
+use Rattle.outside.specs.Pass.{Writes}
 use Rattle.outside.proofs.PassedLaws.{on_err}
 use Rattle.outside.proofs.PassLaws.{prefix_as, writes_as, writes_then, prefix_then, writes_all, writes_end, writes_behind_none, part_behind_none, cause_behind, causes_behind}
 use Rattle.frame_writer.specs.Frames.{frame_bytes}
@@ -10,7 +12,9 @@ use Rattle.laying.specs.declared.section.Section.{Section}
 use Rattle.laying.specs.Written.{front_blocks, back_blocks}
 use Rattle.laying.specs.Passing.{section_frames, section_front, section_file}
 use Rattle.laying.proofs.PassLaws.{ready-later}
+use Rattle.laying.proofs.relay.Relay.write.Given as given
 use Rattle.laying.proofs.relay.Relay.write.Goals as goal
+use Rattle.laying.proofs.relay.Relay.write.Goals.{In_ok-copy_blocks}
 
 -- the other blocks
 abbrev back : SurveyFields → List ℕ → List ℕ
@@ -44,27 +48,34 @@ returns-in_err-copy_blocks-clause-cause g c =
     let p = err_from_is_err_and c.from_residual-in_err-copy_blocks.result c.from_residual-in_err-copy_blocks.ensures.1 in
     rw (p.1, p.2) (cause_behind c.in_ok-write_frames.ensures.written c.args.self.now.pass.length _ _ _ c.in_ok-write_frames.ensures.done _ c.in_err-copy_blocks.ensures.cause)
 
+-- the frames with what stands before them, and then the other blocks
+module _ (g : given.Over) (c : In_ok-copy_blocks g) where
+  abbrev s : SurveyFields
+  s = tells c.args.self.now.survey.now
+
+  abbrev old : Files
+  old = g.D.Folder.files c.args.folder.now
+
+  abbrev new : Files
+  new = g.D.Folder.files c.copy_blocks.new.folder
+
+  both : Writes c.args.self.now.pass (λ file. section_front s c.args.section.now file ++ back s file) c.args.buffers.now.waiting c.copy_blocks.new.waiting old new
+  both = writes_then c.args.self.now.pass c.requires.ready.pass.apart c.in_ok-write_frames.ensures.written c.in_ok-copy_blocks.ensures.written
+
+  all : Writes c.args.self.now.pass (section_file s c.args.section.now) [] c.copy_blocks.new.waiting old new
+  all = writes_behind_none c.requires.none (writes_as c.args.self.now.pass (section_file s c.args.section.now) (λ file holds. whole s c.args.section.now file) both)
+
 pub returns-clause-written : goal.returns-clause-written
 returns-clause-written g c =
-    let s = tells c.args.self.now.survey.now in
-    let section = c.args.section.now in
-    let pass = c.args.self.now.pass in
-    let both = writes_behind_none c.requires.none (writes_as pass (section_file s section) (λ file holds. whole s section file) (writes_then pass c.requires.ready.pass.apart c.in_ok-write_frames.ensures.written c.in_ok-copy_blocks.ensures.written)) in
-    on_ok_weaker c.finish.result (λ is. writes_all pass (section_file s section) both is) c.finish.ensures.appended
+    on_ok_weaker c.finish.result (λ is. writes_all c.args.self.now.pass _ (all g (goal.at.returns-clause-written g c).In_ok-copy_blocks) is) c.finish.ensures.appended
 
 pub returns-clause-prefix : goal.returns-clause-prefix
 returns-clause-prefix g c =
-    let s = tells c.args.self.now.survey.now in
-    let section = c.args.section.now in
-    let pass = c.args.self.now.pass in
-    let both = writes_behind_none c.requires.none (writes_as pass (section_file s section) (λ file holds. whole s section file) (writes_then pass c.requires.ready.pass.apart c.in_ok-write_frames.ensures.written c.in_ok-copy_blocks.ensures.written)) in
-    on_err_weaker c.finish.result (λ part. writes_end pass (section_file s section) both part) c.finish.ensures.prefix
+    on_err_weaker c.finish.result (λ part. writes_end c.args.self.now.pass _ (all g (goal.at.returns-clause-prefix g c).In_ok-copy_blocks) part) c.finish.ensures.prefix
 
 pub returns-clause-cause : goal.returns-clause-cause
 returns-clause-cause g c =
-    let pass = c.args.self.now.pass in
-    let both = writes_then pass c.requires.ready.pass.apart c.in_ok-write_frames.ensures.written c.in_ok-copy_blocks.ensures.written in
-    causes_behind both pass.length _ _ _ (c.in_ok-copy_blocks.ensures.done ∙ c.in_ok-write_frames.ensures.done) c.finish.result c.finish.ensures.cause
+    causes_behind (both g (goal.at.returns-clause-cause g c).In_ok-copy_blocks) c.args.self.now.pass.length _ _ _ (c.in_ok-copy_blocks.ensures.done ∙ c.in_ok-write_frames.ensures.done) c.finish.result c.finish.ensures.cause
 
 pub returns-clause-ready : goal.returns-clause-ready
 returns-clause-ready g c =

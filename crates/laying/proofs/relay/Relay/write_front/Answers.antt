@@ -17,17 +17,13 @@ returns-in_err-copy_blocks-clause-prefix g c =
 
 pub returns-clause-written : goal.returns-clause-written
 returns-clause-written g c =
-    let pass = c.args.self.now.pass in
     on_ok_weaker c.push.result
-    (λ passed. writes_then pass c.requires.ready.pass.apart c.in_ok-copy_blocks.ensures.written (writes_piece pass (λ file. c.args.info.now) (λ file holds. refl) passed))
-    c.push.ensures.passed
+    (λ passed. writes_then c.args.self.now.pass c.requires.ready.pass.apart c.in_ok-copy_blocks.ensures.written (writes_piece c.args.self.now.pass (λ file. c.args.info.now) (λ file holds. refl) passed)) c.push.ensures.passed
 
 pub returns-clause-prefix : goal.returns-clause-prefix
 returns-clause-prefix g c =
-    let pass = c.args.self.now.pass in
     on_err_weaker c.push.result
-    (λ part. prefix_then pass c.requires.ready.pass.apart c.in_ok-copy_blocks.ensures.written (prefix_piece pass (λ file. c.args.info.now) (λ file holds. refl) part))
-    c.push.ensures.prefix
+    (λ part. prefix_then c.args.self.now.pass c.requires.ready.pass.apart c.in_ok-copy_blocks.ensures.written (prefix_piece c.args.self.now.pass (λ file. c.args.info.now) (λ file holds. refl) part)) c.push.ensures.prefix
 
 pub returns-clause-cause : goal.returns-clause-cause
 returns-clause-cause g c =

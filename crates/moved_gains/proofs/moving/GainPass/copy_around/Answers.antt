@@ -38,27 +38,21 @@ copy-requires-2-clause-ready g c = passed_ready c.args.self.now.pass c.in_ok-pus
 pub returns-clause-written : goal.returns-clause-written
 returns-clause-written g c =
     let pass = c.args.self.now.pass in
-    let tag = c.args.tag.now in
     let apart = c.requires.ready.apart in
-    let second = writes_piece pass (λ file. tag.bytes.now) (λ file holds. refl) c.in_ok-push.ensures.passed in
-    on_ok_weaker c.copy-2.result
-    (λ third. writes_then pass apart c.in_ok-copy.ensures.written (writes_then pass apart second third))
+    let second = writes_piece pass (λ file. c.args.tag.now.bytes.now) (λ file holds. refl) c.in_ok-push.ensures.passed in
+    on_ok_weaker c.copy-2.result (λ third. writes_then pass apart c.in_ok-copy.ensures.written (writes_then pass apart second third))
     c.copy-2.ensures.written
 
 pub returns-clause-prefix : goal.returns-clause-prefix
 returns-clause-prefix g c =
-    let pass = c.args.self.now.pass in
-    let tag = c.args.tag.now in
-    let apart = c.requires.ready.apart in
-    let second = writes_piece pass (λ file. tag.bytes.now) (λ file holds. refl) c.in_ok-push.ensures.passed in
     on_err_weaker c.copy-2.result
-    (λ third. prefix_then pass apart c.in_ok-copy.ensures.written (prefix_then pass apart second third))
+    (λ third. prefix_then c.args.self.now.pass c.requires.ready.apart c.in_ok-copy.ensures.written
+    (prefix_then c.args.self.now.pass c.requires.ready.apart (writes_piece c.args.self.now.pass (λ file. c.args.tag.now.bytes.now) (λ file holds. refl) c.in_ok-push.ensures.passed) third))
     c.copy-2.ensures.prefix
 
 pub returns-clause-cause : goal.returns-clause-cause
 returns-clause-cause g c =
     let pass = c.args.self.now.pass in
-    let tag = c.args.tag.now in
-    let second = writes_piece pass (λ file. tag.bytes.now) (λ file holds. refl) c.in_ok-push.ensures.passed in
+    let second = writes_piece pass (λ file. c.args.tag.now.bytes.now) (λ file holds. refl) c.in_ok-push.ensures.passed in
     causes_behind c.in_ok-copy.ensures.written pass.length _ _ _ c.in_ok-copy.ensures.done c.copy-2.result
     (causes_behind second pass.length _ _ _ c.in_ok-push.ensures.done c.copy-2.result c.copy-2.ensures.cause)

@@ -1,20 +1,23 @@
 -- One frame more, and what stands before it, goes on.
-use Rattle.std.proofs.Common.{◌≡◌, ◌+◌, ◌<◌, ◌++◌, ◌∷◌, List, [], ℕ, Option, length, get_or, drop, refl, sym, ◌∙◌, ap, ap₂, subst, arith}
+use Rattle.std.proofs.Common.{◌≡◌, ◌+◌, ◌<◌, ◌≤◌, ◌++◌, ◌∷◌, List, ℕ, Option, length, get_or, drop, refl, sym, ◌∙◌, ap, ap₂, subst, arith}
 use Rattle.std.proofs.lemmas.List.{drop_all}
 use Rattle.std.proofs.lemmas.Result.{err_from_is_err_and, on_ok_weaker, on_err_weaker}
+use Rattle.outside.specs.Files.{Holds}
 use Rattle.outside.proofs.PassedLaws.{on_err}
 use Rattle.outside.proofs.PassLaws.{up_to_begun, up_to_held, up_to_more, up_to_prefix, up_to_last, up_to_last_prefix, cause_behind, causes_behind}
 use Rattle.sync_survey.specs.declared.rows.Row.{Row}
 use Rattle.sync_survey.specs.Survey.{AreLaid}
 use Rattle.moved_gains.specs.declared.moving.NewTag.{NewTag}
 use Rattle.moved_gains.specs.declared.shift.Steps.{Steps}
-use Rattle.moved_gains.specs.Course.{steps_over}
+use Rattle.moved_gains.specs.Course.{steps_in, steps_over}
 use Rattle.moved_gains.specs.Moving.{row_end, AreRowsOf, moved_row_bytes, copied, written_from}
 use Rattle.moved_gains.proofs.CourseLaws.{frame_steps}
 use Rattle.moved_gains.proofs.Rows.{next_row}
 use Rattle.moved_gains.proofs.MovingLaws.{laid_end}
 use Rattle.moved_gains.proofs.WrittenLaws.{left_at, left_behind}
+use Rattle.moved_gains.proofs.moving.GainPass.move_frames.Given as given
 use Rattle.moved_gains.proofs.moving.GainPass.move_frames.Goals as goal
+use Rattle.moved_gains.proofs.moving.GainPass.move_frames.Goals.{After-from, After-copy-2}
 
 -- the frame at i, and those behind it
 here : (rows : List Row) (i : ℕ) (row : Row) → i < length rows → row ≡ get_or rows i row → drop i rows ≡ row ∷ drop (i + 1) rows
@@ -46,25 +49,48 @@ loop-frame-init g c =
       counts = refl;
     }
 
+-- the frame that is next, and those behind it
+module _ (g : given.Over) (c : After-from g) where
+  abbrev rows : List Row
+  rows = c.args.rows.now
+
+  abbrev row : Row
+  row = c.index-rows-frame.result
+
+  abbrev i : ℕ
+  i = c.loop-frame.frame
+
+  abbrev steps : ℕ → Steps
+  steps = steps_over c.args.self.now.course.now rows
+
+  is : drop i rows ≡ row ∷ drop (i + 1) rows
+  is = here rows i row (omega (arith, c.loop-frame-test.true)) c.index-rows-frame.is
+
+  all_laid : AreLaid c.loop-frame.at (row ∷ drop (i + 1) rows) c.args.self.now.pass.length
+  all_laid = laid c.loop-frame.at c.args.self.now.pass.length rows i row is c.loop-frame.invariant.laid
+
+  within : row_end row ≤ c.args.self.now.pass.length
+  within = laid_end (row_end row) (drop (i + 1) rows) c.args.self.now.pass.length all_laid.2
+
+  abbrev up_to_row : List ℕ → List ℕ
+  up_to_row file = copied c.args.self.now.tag file c.loop-frame.at c.from.result
+
+  abbrev later : List ℕ → List ℕ
+  later file = left steps c.args.self.now.tag rows i row file
+
+  next : (file : List ℕ) → Holds (g.D.Folder.files c.args.folder.now) c.args.self.now.pass.input.now file → written_from steps c.args.self.now.tag file c.loop-frame.at (drop i rows) ≡ up_to_row file ++ later file
+  next file holds = left_up_to steps c.args.self.now.tag file c.loop-frame.at c.from.result rows i row is c.from.ensures
+
+  own : steps row.offset ≡ steps_in c.args.self.now.course.now i
+  own = frame_steps c.args.self.now.course.now rows i row c.requires.numbered (omega (arith, c.loop-frame-test.true)) c.index-rows-frame.is
+
 pub copy-requires-clause-within : goal.copy-requires-clause-within
-copy-requires-clause-within g c =
-    let rows = c.args.rows.now in
-    let row = c.index-rows-frame.result in
-    let i = c.loop-frame.frame in
-    let size = c.args.self.now.pass.length in
-    let all_laid = laid c.loop-frame.at size rows i row (here rows i row (omega (arith, c.loop-frame-test.true)) c.index-rows-frame.is) c.loop-frame.invariant.laid in
-    omega (arith, laid_end (row_end row) (drop (i + 1) rows) size all_laid.2)
+copy-requires-clause-within g c = omega (arith, within g (goal.at.copy-requires-clause-within g c).After-from)
 
 pub returns-in_err-copy-clause-prefix : goal.returns-in_err-copy-clause-prefix
 returns-in_err-copy-clause-prefix g c =
-    let self = c.args.self.now in
-    let rows = c.args.rows.now in
-    let row = c.index-rows-frame.result in
-    let i = c.loop-frame.frame in
-    let is = here rows i row (omega (arith, c.loop-frame-test.true)) c.index-rows-frame.is in
-    on_err c.from_residual.result
-    (up_to_prefix self.pass c.requires.ready.apart c.loop-frame.invariant.up_to
-    (λ file. copied self.tag file c.loop-frame.at c.from.result) (left (steps_over self.course.now c.args.rows.now) self.tag rows i row) (λ file holds. left_up_to (steps_over self.course.now c.args.rows.now) self.tag file c.loop-frame.at c.from.result rows i row is c.from.ensures) c.in_err-copy.ensures.prefix)
+    let at = (goal.at.returns-in_err-copy-clause-prefix g c).After-from in
+    on_err c.from_residual.result (up_to_prefix c.args.self.now.pass c.requires.ready.apart c.loop-frame.invariant.up_to (up_to_row g at) (later g at) (next g at) c.in_err-copy.ensures.prefix)
 
 pub returns-in_err-copy-clause-cause : goal.returns-in_err-copy-clause-cause
 returns-in_err-copy-clause-cause g c =
@@ -72,41 +98,24 @@ returns-in_err-copy-clause-cause g c =
     rw (p.1, p.2) (cause_behind c.loop-frame.invariant.up_to.written c.args.self.now.pass.length _ _ _ c.loop-frame.invariant.counts _ c.in_err-copy.ensures.cause)
 
 pub move_frame-requires-clause-within : goal.move_frame-requires-clause-within
-move_frame-requires-clause-within g c =
-    let rows = c.args.rows.now in
-    let row = c.index-rows-frame.result in
-    let i = c.loop-frame.frame in
-    let size = c.args.self.now.pass.length in
-    let all_laid = laid c.loop-frame.at size rows i row (here rows i row (omega (arith, c.loop-frame-test.true)) c.index-rows-frame.is) c.loop-frame.invariant.laid in
-    laid_end (row_end row) (drop (i + 1) rows) size all_laid.2
+move_frame-requires-clause-within g c = within g (goal.at.move_frame-requires-clause-within g c).After-from
 
 pub move_frame-requires-clause-told : goal.move_frame-requires-clause-told
 move_frame-requires-clause-told g c file holds =
-    let self = c.args.self.now in
-    let rows = c.args.rows.now in
-    let row = c.index-rows-frame.result in
-    let i = c.loop-frame.frame in
-    let is = here rows i row (omega (arith, c.loop-frame-test.true)) c.index-rows-frame.is in
-    let before = up_to_more self.pass c.requires.ready.apart c.loop-frame.invariant.up_to
-    (λ file. copied self.tag file c.loop-frame.at c.from.result) (left (steps_over self.course.now c.args.rows.now) self.tag rows i row) (λ file holds. left_up_to (steps_over self.course.now c.args.rows.now) self.tag file c.loop-frame.at c.from.result rows i row is c.from.ensures) c.in_ok-copy.ensures.written in
-    (told file rows i row is (c.loop-frame.invariant.told file (up_to_held self.pass c.requires.ready.apart before file holds))).0
+    let at = (goal.at.move_frame-requires-clause-told g c).After-from in
+    let before = up_to_more c.args.self.now.pass c.requires.ready.apart c.loop-frame.invariant.up_to (up_to_row g at) (later g at) (next g at) c.in_ok-copy.ensures.written in
+    (told file c.args.rows.now c.loop-frame.frame c.index-rows-frame.result (is g at) (c.loop-frame.invariant.told file (up_to_held c.args.self.now.pass c.requires.ready.apart before file holds))).0
 
 pub returns-in_err-at-clause-prefix : goal.returns-in_err-at-clause-prefix
 returns-in_err-at-clause-prefix g c =
+    let at = (goal.at.returns-in_err-at-clause-prefix g c).After-from in
     let self = c.args.self.now in
-    let apart = c.requires.ready.apart in
-    let rows = c.args.rows.now in
     let row = c.index-rows-frame.result in
-    let i = c.loop-frame.frame in
-    let is = here rows i row (omega (arith, c.loop-frame-test.true)) c.index-rows-frame.is in
-    let before = up_to_more self.pass apart c.loop-frame.invariant.up_to
-    (λ file. copied self.tag file c.loop-frame.at c.from.result) (left (steps_over self.course.now c.args.rows.now) self.tag rows i row) (λ file holds. left_up_to (steps_over self.course.now c.args.rows.now) self.tag file c.loop-frame.at c.from.result rows i row is c.from.ensures) c.in_ok-copy.ensures.written in
-    let own : steps_over self.course.now rows row.offset ≡ c.steps-steps.result =
-    frame_steps self.course.now rows i row c.requires.numbered (omega (arith, c.loop-frame-test.true)) c.index-rows-frame.is ∙ sym c.steps-steps.ensures in
+    let before = up_to_more self.pass c.requires.ready.apart c.loop-frame.invariant.up_to (up_to_row g at) (later g at) (next g at) c.in_ok-copy.ensures.written in
     on_err c.from_residual-in_err-at.result
-    (up_to_prefix self.pass apart before
-    (λ file. moved_row_bytes c.steps-steps.result file row) (λ file. written_from (steps_over self.course.now rows) self.tag file (row_end row) (drop (i + 1) rows))
-    (λ file holds. ap (λ s. moved_row_bytes s file row ++ written_from (steps_over self.course.now rows) self.tag file (row_end row) (drop (i + 1) rows)) own) c.in_err-at.ensures.prefix)
+    (up_to_prefix self.pass c.requires.ready.apart before
+    (λ file. moved_row_bytes c.steps-steps.result file row) (λ file. written_from (steps g at) self.tag file (row_end row) (drop (c.loop-frame.frame + 1) c.args.rows.now))
+    (λ file holds. ap (λ s. moved_row_bytes s file row ++ written_from (steps g at) self.tag file (row_end row) (drop (c.loop-frame.frame + 1) c.args.rows.now)) (own g at ∙ sym c.steps-steps.ensures)) c.in_err-at.ensures.prefix)
 
 pub returns-in_err-at-clause-cause : goal.returns-in_err-at-clause-cause
 returns-in_err-at-clause-cause g c =
@@ -118,48 +127,40 @@ returns-in_err-at-clause-cause g c =
 
 pub loop-frame-preserved : goal.loop-frame-preserved
 loop-frame-preserved g c =
+    let at = (goal.at.loop-frame-preserved g c).After-from in
     let self = c.args.self.now in
-    let apart = c.requires.ready.apart in
-    let rows = c.args.rows.now in
     let row = c.index-rows-frame.result in
-    let i = c.loop-frame.frame in
-    let is = here rows i row (omega (arith, c.loop-frame-test.true)) c.index-rows-frame.is in
-    let all_laid = laid c.loop-frame.at self.pass.length rows i row is c.loop-frame.invariant.laid in
+    let behind = drop (c.loop-frame.frame + 1) c.args.rows.now in
     let end = c.in_ok-at.at in
-    let own : steps_over self.course.now rows row.offset ≡ c.steps-steps.result =
-    frame_steps self.course.now rows i row c.requires.numbered (omega (arith, c.loop-frame-test.true)) c.index-rows-frame.is ∙ sym c.steps-steps.ensures in
     let end_is : row_end row ≡ end = sym c.in_ok-at.ensures.end in
-    let before = up_to_more self.pass apart c.loop-frame.invariant.up_to
-    (λ file. copied self.tag file c.loop-frame.at c.from.result) (left (steps_over self.course.now c.args.rows.now) self.tag rows i row) (λ file holds. left_up_to (steps_over self.course.now c.args.rows.now) self.tag file c.loop-frame.at c.from.result rows i row is c.from.ensures) c.in_ok-copy.ensures.written in
+    let before = up_to_more self.pass c.requires.ready.apart c.loop-frame.invariant.up_to (up_to_row g at) (later g at) (next g at) c.in_ok-copy.ensures.written in
     record {
-      laid = subst (λ n. AreLaid n (drop (i + 1) rows) self.pass.length) end_is all_laid.2;
-      told = λ file holds. (told file rows i row is (c.loop-frame.invariant.told file holds)).1;
-      up_to = up_to_more self.pass apart before
-          (λ file. moved_row_bytes c.steps-steps.result file row) (λ file. written_from (steps_over self.course.now rows) self.tag file end (drop (i + 1) rows))
-          (λ file holds. ap₂ (λ s n. moved_row_bytes s file row ++ written_from (steps_over self.course.now rows) self.tag file n (drop (i + 1) rows)) own end_is) c.in_ok-at.ensures.written;
+      laid = subst (λ n. AreLaid n behind self.pass.length) end_is (all_laid g at).2;
+      told = λ file holds. (told file c.args.rows.now c.loop-frame.frame row (is g at) (c.loop-frame.invariant.told file holds)).1;
+      up_to = up_to_more self.pass c.requires.ready.apart before
+          (λ file. moved_row_bytes c.steps-steps.result file row) (λ file. written_from (steps g at) self.tag file end behind)
+          (λ file holds. ap₂ (λ s n. moved_row_bytes s file row ++ written_from (steps g at) self.tag file n behind) (own g at ∙ sym c.steps-steps.ensures) end_is) c.in_ok-at.ensures.written;
       ready = c.in_ok-at.ensures.ready;
       counts = c.in_ok-at.ensures.done ∙ c.in_ok-copy.ensures.done ∙ c.loop-frame.invariant.counts;
     }
 
+-- behind the last frame
+module _ (g : given.Over) (c : After-copy-2 g) where
+  abbrev rest : List ℕ → List ℕ
+  rest file = copied c.args.self.now.tag file c.loop-frame.at c.args.self.now.pass.length
+
+  last : (file : List ℕ) → Holds (g.D.Folder.files c.args.folder.now) c.args.self.now.pass.input.now file → written_from (steps_over c.args.self.now.course.now c.args.rows.now) c.args.self.now.tag file c.loop-frame.at (drop c.loop-frame.frame c.args.rows.now) ≡ rest file
+  last file holds =
+      left_behind (steps_over c.args.self.now.course.now c.args.rows.now) c.args.self.now.tag file c.loop-frame.at c.args.self.now.pass.length (drop c.loop-frame.frame c.args.rows.now)
+      (drop_all c.loop-frame.frame c.args.rows.now (omega (arith, c.loop-frame-test.false))) (c.requires.ready.length_is file holds)
+
 pub returns-clause-written : goal.returns-clause-written
 returns-clause-written g c =
-    let self = c.args.self.now in
-    let rows = drop c.loop-frame.frame c.args.rows.now in
-    let none : rows ≡ [] = drop_all c.loop-frame.frame c.args.rows.now (omega (arith, c.loop-frame-test.false)) in
-    on_ok_weaker c.copy-2.result
-    (up_to_last self.pass c.requires.ready.apart c.loop-frame.invariant.up_to
-    (λ file. copied self.tag file c.loop-frame.at self.pass.length) (λ file holds. left_behind (steps_over self.course.now c.args.rows.now) self.tag file c.loop-frame.at self.pass.length rows none (c.requires.ready.length_is file holds)))
-    c.copy-2.ensures.written
+    on_ok_weaker c.copy-2.result (up_to_last c.args.self.now.pass c.requires.ready.apart c.loop-frame.invariant.up_to _ (last g (goal.at.returns-clause-written g c).After-copy-2)) c.copy-2.ensures.written
 
 pub returns-clause-prefix : goal.returns-clause-prefix
 returns-clause-prefix g c =
-    let self = c.args.self.now in
-    let rows = drop c.loop-frame.frame c.args.rows.now in
-    let none : rows ≡ [] = drop_all c.loop-frame.frame c.args.rows.now (omega (arith, c.loop-frame-test.false)) in
-    on_err_weaker c.copy-2.result
-    (up_to_last_prefix self.pass c.requires.ready.apart c.loop-frame.invariant.up_to
-    (λ file. copied self.tag file c.loop-frame.at self.pass.length) (λ file holds. left_behind (steps_over self.course.now c.args.rows.now) self.tag file c.loop-frame.at self.pass.length rows none (c.requires.ready.length_is file holds)))
-    c.copy-2.ensures.prefix
+    on_err_weaker c.copy-2.result (up_to_last_prefix c.args.self.now.pass c.requires.ready.apart c.loop-frame.invariant.up_to _ (last g (goal.at.returns-clause-prefix g c).After-copy-2)) c.copy-2.ensures.prefix
 
 pub returns-clause-cause : goal.returns-clause-cause
 returns-clause-cause g c =

@@ -11,8 +11,11 @@ use Rattle.sync_survey.specs.declared.rows.Row.{Row}
 use Rattle.moved_gains.specs.declared.shift.Steps.{Steps}
 use Rattle.moved_gains.specs.Gains.{moved_side}
 use Rattle.moved_gains.specs.Moving.{row_length, IsRowOf, row_bytes, moved_bytes, moved_row_bytes}
+use Rattle.outside.specs.Files.{Holds}
 use Rattle.outside.proofs.PassLaws.{writes_piece, prefix_piece}
+use Rattle.moved_gains.proofs.moving.GainPass.push_moved.Given as given
 use Rattle.moved_gains.proofs.moving.GainPass.push_moved.Goals as goal
+use Rattle.moved_gains.proofs.moving.GainPass.push_moved.Goals.{After-push_both}
 
 -- what was put before the rest is the front of the frame, where its row is one of the file
 front_is : (steps : Steps) (file given old new : List ℕ) (size : ℕ) (row : Row) → overhead_of (class_of row.header) row.header.protected ≤ size → overhead_of (class_of row.header) row.header.protected ≤ row_length row
@@ -39,26 +42,22 @@ are_moved steps file given old new size row room whole told given_is old_is move
     ap₂ (λ (l m : List ℕ). l ++ m) (front_is steps file given old new size row room whole told given_is old_is moved) rest_is
     ∙ moved_parts row.lost row.header (moved_side steps row.side) size (row_bytes file row) room
 
+made : (g : given.Over) (c : After-push_both g) (file : List ℕ) → Holds (g.D.Folder.files c.args.folder.now) c.args.self.now.pass.input.now file
+    → c.move_front.new.front ++ take (length c.args.frame.now - c.args.size) (drop c.args.size c.args.frame.now) ≡ moved_row_bytes c.args.moved.now.steps file c.args.moved.now.row.now
+made g c file holds =
+    let row = c.args.moved.now.row.now in
+    let told = c.requires.told file holds in
+    are_moved c.args.moved.now.steps file c.args.frame.now c.copy_from_slice.new.self c.move_front.new.front c.args.size row c.requires.reached
+    (omega (arith, c.requires.reached, c.requires.within, ap length told.1, length-take (row_length row) (drop row.offset file))) told.0 told.1 c.copy_from_slice.ensures.after c.move_front.ensures
+
 pub returns-clause-written : goal.returns-clause-written
 returns-clause-written g c =
-    let self = c.args.self.now in
-    let steps = c.args.moved.now.steps in
-    let row = c.args.moved.now.row.now in
-    let size = c.args.size in
-    let frame = c.args.frame.now in
     on_ok_weaker c.push_both.result
-    (writes_piece self.pass (λ file. moved_row_bytes steps file row)
-    (λ file holds. are_moved steps file frame c.copy_from_slice.new.self c.move_front.new.front size row c.requires.reached (omega (arith, c.requires.reached, c.requires.within, ap length (c.requires.told file holds).1, length-take (row_length row) (drop row.offset file))) (c.requires.told file holds).0 (c.requires.told file holds).1 c.copy_from_slice.ensures.after c.move_front.ensures))
+    (writes_piece c.args.self.now.pass (λ file. moved_row_bytes c.args.moved.now.steps file c.args.moved.now.row.now) (made g (goal.at.returns-clause-written g c).After-push_both))
     c.push_both.ensures.passed
 
 pub returns-clause-prefix : goal.returns-clause-prefix
 returns-clause-prefix g c =
-    let self = c.args.self.now in
-    let steps = c.args.moved.now.steps in
-    let row = c.args.moved.now.row.now in
-    let size = c.args.size in
-    let frame = c.args.frame.now in
     on_err_weaker c.push_both.result
-    (prefix_piece self.pass (λ file. moved_row_bytes steps file row)
-    (λ file holds. are_moved steps file frame c.copy_from_slice.new.self c.move_front.new.front size row c.requires.reached (omega (arith, c.requires.reached, c.requires.within, ap length (c.requires.told file holds).1, length-take (row_length row) (drop row.offset file))) (c.requires.told file holds).0 (c.requires.told file holds).1 c.copy_from_slice.ensures.after c.move_front.ensures))
+    (prefix_piece c.args.self.now.pass (λ file. moved_row_bytes c.args.moved.now.steps file c.args.moved.now.row.now) (made g (goal.at.returns-clause-prefix g c).After-push_both))
     c.push_both.ensures.prefix

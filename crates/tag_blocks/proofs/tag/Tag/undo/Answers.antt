@@ -7,27 +7,10 @@ use Rattle.tag_blocks.proofs.tag.Tag.undo.Goals as goal
 
 pub length-requires : goal.length-requires
 length-requires c =
-    let items = c.deref-item-items.result.now in
-    let i = c.loop-item.item-index in
-    omega (
-      arith,
-      ap item_length c.item-item.is,
-      sum_by-drop_more item_length items i c.item-item.result c.loop-item-test.true,
-      c.loop-item.invariant.place,
-      ap items_length c.deref-item-items.ensures.value,
-      items_length-most _ c.self.invariant,
-    )
+    let more = sum_by-drop_more item_length c.deref-item-items.result.now c.loop-item.item-index c.item-item.result c.loop-item-test.true in
+    omega (arith, ap item_length c.item-item.is, more, c.loop-item.invariant.place, ap items_length c.deref-item-items.ensures.value, items_length-most _ c.self.invariant)
 
 pub overflow_add-place : goal.overflow_add-place
 overflow_add-place c =
-    let items = c.deref-item-items.result.now in
-    let i = c.loop-item.item-index in
-    omega (
-      arith,
-      ap item_length c.item-item.is,
-      sum_by-drop_more item_length items i c.item-item.result c.loop-item-test.true,
-      c.loop-item.invariant.place,
-      ap items_length c.deref-item-items.ensures.value,
-      items_length-most _ c.self.invariant,
-      c.length.ensures,
-    )
+    let more = sum_by-drop_more item_length c.deref-item-items.result.now c.loop-item.item-index c.item-item.result c.loop-item-test.true in
+    omega (arith, ap item_length c.item-item.is, more, c.loop-item.invariant.place, ap items_length c.deref-item-items.ensures.value, items_length-most _ c.self.invariant, c.length.ensures)
