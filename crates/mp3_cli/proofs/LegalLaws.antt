@@ -1,5 +1,5 @@
 -- What is legal is what is accepted, whatever the words ask for.
-use Rattle.std.proofs.Common.{◌↔◌, ℕ, [], Result, Ok, Err, refl}
+use Rattle.std.proofs.Common.{◌≡◌, ◌↔◌, ℕ, List, [], Result, Ok, Err, refl}
 use Rattle.outside.specs.Files.{Contents}
 use Rattle.job_words.specs.Asked.{Asked, Help, Version, ListFile, Gain, Undo, Cut, Pack, SplitAt, SplitBy, Join, Drill, Fade, Salvage}
 use Rattle.job_words.specs.Words.{job_of}
