@@ -17,7 +17,7 @@ use Rattle.commands.specs.declared.fault.EditFault.TheVariants.{Input, Refused}
 use Rattle.commands.specs.declared.fault.Refusal.TheVariants.{Differ}
 use Rattle.commands.specs.Refusing.{then_made}
 use Rattle.commands.specs.One.{most_frames, NeedsMemory, Refuses, IsEarlyFaultBy, IsEarlyFault, first_input}
-use Rattle.commands.specs.Left.{Why, Rejected, Missing, Unread, Shorter, Unwritten, Unsent, NoMemory, why_of, Seen, IsLate}
+use Rattle.commands.specs.Left.{Why, Rejected, Missing, Unwritten, Unsent, NoMemory, why_of, Seen, IsLate}
 use Rattle.sync_survey.proofs.SurveyedFiles.{survey_of-parts}
 use Rattle.commands.proofs.InputLaws.{of_bytes_behind}
 use Rattle.commands.proofs.RefusingLaws.{then_late}

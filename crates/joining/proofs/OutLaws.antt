@@ -11,7 +11,7 @@ use Rattle.frame_writer.specs.Frames.{frame_bytes}
 use Rattle.laid_files.specs.LaidFiles.{laid_file}
 use Rattle.info_header.specs.InfoFrame.{info_frame}
 use Rattle.outside.specs.declared.pass.PassFault.{PassFault}
-use Rattle.outside.specs.declared.pass.PassFault.TheVariants.{Read, Shrunk, Write}
+use Rattle.outside.specs.declared.pass.PassFault.TheVariants.{Read}
 use Rattle.laying.specs.Relaid.{Part, frames_in, relaid}
 use Rattle.laying.specs.Written.{front_blocks, plain_info}
 use Rattle.outside.proofs.PassLaws.{input_held, still_there, cause_later}

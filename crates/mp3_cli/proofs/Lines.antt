@@ -78,11 +78,6 @@ line_more f xs i d sent_first sent_before sent_after faults_first faults_before 
 pub line_is : (sent_before sent_after : Sent) (faults_before faults_after : ℕ) (line other : List ℕ) → line ≡ other → GotLine sent_before sent_after faults_before faults_after line → GotLine sent_before sent_after faults_before faults_after other
 line_is sent_before sent_after faults_before faults_after line other same got = subst (λ (l : List ℕ). GotLine sent_before sent_after faults_before faults_after l) same got
 
--- what holds of every error
-pub on_error : {T E P : Type 0} (r : Result T E) → P → OnErr r P
-on_error (Ok x) p = tt
-on_error (Err e) p = p
-
 -- the parts of the code, one after another
 pub spelled_parts : (parts : List CodePart) → flat_map (λ part. spelled_part (part_of part)) parts ≡ spelled (map part_of parts)
 spelled_parts [] = refl

@@ -6,10 +6,10 @@ use Rattle.outside.specs.Files.{Contents, Files, untold, Sent, sent_more}
 use Rattle.outside.specs.Counts.{Rose}
 use Rattle.outside.proofs.FilesLaws.{sent_nothing}
 use Rattle.commands.specs.declared.fault.EditFault.{EditFault}
-use Rattle.commands.specs.declared.fault.EditFault.TheVariants.{EqualNames, Input, Refused, Write, Sent as NotSent, Memory}
-use Rattle.commands.specs.Kinds.{InputKind, IsAbsent, IsUnread as NotRead, IsShorter as Shrank, IsTooMuch, IsRefused as AtFault, kind_of, by_kind}
+use Rattle.commands.specs.declared.fault.EditFault.TheVariants.{EqualNames, Input, Sent as NotSent, Memory}
+use Rattle.commands.specs.Kinds.{InputKind, IsAbsent, kind_of, by_kind}
 use Rattle.commands.specs.One.{Task, most_frames, made_result, made_of, one_command}
-use Rattle.commands.specs.Command.{Made, Command, clash_from, clash_of, written, Gives, HoldsStreams}
+use Rattle.commands.specs.Command.{Made, Command, clash_from, clash_of, written, Gives}
 use Rattle.commands.specs.Refusing.{then_made}
 use Rattle.frame_edits.specs.Chosen.{Chosen}
 use Rattle.cue_sheet.specs.declared.place.Place.{Place}
@@ -23,7 +23,7 @@ use Rattle.commands.specs.Left.{Why, Rejected, Missing, Unread, Shorter, Unwritt
 use Rattle.job_words.specs.Asked.{Asked}
 use Rattle.job_words.specs.Words.{job_of}
 use Rattle.mp3_cli.specs.Texts.{status_by, bad_word_line, GotWhole, GotFront, GotLine}
-use Rattle.mp3_cli.specs.Run.{said_command, command_of, fault_status, line_of, GetsLine, world, Answers, made_outcome, command_outcome, job_outcome, outcome, IsOutcome, IsLegalBy, IsLegal}
+use Rattle.mp3_cli.specs.Run.{said_command, command_of, fault_status, line_of, GetsLine, world, Ends, Answers, made_outcome, command_outcome, job_outcome, outcome, IsOutcome, IsLegalBy, IsLegal}
 use Rattle.mp3_cli.proofs.LegalLaws.{legal-by}
 
 -- ---- statuses
@@ -82,20 +82,6 @@ module _ (command : Command) (old new : Seen) (out_old out_new err_old err_new :
   stays_by fault NoMemory is other left = left.stays
   stays_by fault _ is other left = absurd (other is)
 
-  pub kept : status ≢ 0 → status ≢ 3 → new.files ≡ old.files
-  kept some other = at case_of
-    where
-      at : Case → new.files ≡ old.files
-      at (Done is e) = absurd (some is)
-      at (Failed fault why e is w left) = ap (λ (s : Seen). s.files) (stays_by fault why is other left)
-
-  pub counted : status ≢ 3 → new.counts ≡ old.counts
-  counted other = at case_of
-    where
-      at : Case → new.counts ≡ old.counts
-      at (Done is e) = (all.done e).counts
-      at (Failed fault why e is w left) = ap (λ (s : Seen). s.counts) (stays_by fault why is other left)
-
   pub quiet : status ≡ 0 → err_new.sent ≡ err_old.sent
   quiet zero_is = at case_of
     where
@@ -109,24 +95,6 @@ module _ (command : Command) (old new : Seen) (out_old out_new err_old err_new :
 
   nothing_by : (fault : EditFault) (why : Why) → all.fault ≡ Some fault → status ≡ status_by why → status ≢ 3 → why_of fault ≡ why → out_new ≡ out_old
   nothing_by fault why e is other w = sent_none command old.files out_old out_new fault (λ unsent. other (is ∙ ap status_by (sym w ∙ unsent))) (says_here (Some fault) e)
-
-  pub silent : status ≢ 0 → status ≢ 3 → out_new.sent ≡ out_old.sent
-  silent some other = at case_of
-    where
-      at : Case → out_new.sent ≡ out_old.sent
-      at (Done is e) = absurd (some is)
-      at (Failed fault why e is w left) = ap (λ (h : Heard). h.sent) (nothing_by fault why e is other w)
-
-  pub always_said : status ≡ 0 → IfSome command.always (λ text. out_new.sent ≡ sent_more out_old.sent text)
-  always_said zero_is = at case_of
-    where
-      text : SaysAll command old.files out_old out_new → (o : Option (List ℕ)) → command.always ≡ o → IfSome o (λ text. out_new.sent ≡ sent_more out_old.sent text)
-      text says None same = tt
-      text says (Some t) same = says.text t (inl same)
-
-      at : Case → IfSome command.always (λ text. out_new.sent ≡ sent_more out_old.sent text)
-      at (Done is e) = text (says_here None e) command.always refl
-      at (Failed fault why e is w left) = absurd (omega (arith, is, zero_is, (by_status why).0))
 
   -- ---- over files that are told
   module _ (f : Contents) (told : old.files ≡ Some f) where
@@ -246,12 +214,6 @@ abbrev text_in : Result Made EditFault → List ℕ
 text_in (Ok made) = made.text
 text_in (Err fault) = []
 
-abbrev ok_made : Made → Result Made EditFault
-ok_made made = Ok made
-
-made_is : (a b : Made) → ok_made a ≡ ok_made b → a ≡ b
-made_is a b e = cc
-
 some_is : {A : Type 0} (a b : A) → Some a ≡ Some b → a ≡ b
 some_is a b e = cc
 
@@ -273,65 +235,21 @@ module _ (command : Command) (no_text : IsSilent command) (files : Files) (out :
   says_fault NotSent numbers = absurd (numbers no_text.always)
   says_fault _ numbers = refl
 
--- the answer of such a command, from what it promises
-pub silent_answers : {T : Type 0} (command : Command) → IsSilent command → (r : Result T EditFault) (old new : Seen) (out err_old err_new : Heard) (status : ℕ)
-    → OnOk r (IsDone command old new) → IfErr r (Leaves command old new) → IfErr r (HasNumbers command)
-    → ((place : ℕ) → clash_of command ≡ Some place → fault_of r ≡ Some (EqualNames place)) → status ≡ fault_status (fault_of r) → GetsLine err_old err_new (line_of command (fault_of r))
-    → Answers command (world old out err_old) (world new out err_new) status
-silent_answers command no_text (Ok x) old new out err_old err_new status done left numbers names status_is line = record {
-  fault = None;
-  status_is = status_is;
-  line = line;
-  says = says_nothing command no_text old.files out;
-  done = λ e. done;
-  left = tt;
-  numbers = tt;
-  names = names;
-}
-silent_answers command no_text (Err fault) old new out err_old err_new status done left numbers names status_is line = record {
-  fault = Some fault;
-  status_is = status_is;
-  line = line;
-  says = says_fault command no_text old.files out fault numbers;
-  done = λ e. absurd cc;
-  left = left;
-  numbers = numbers;
-  names = names;
-}
+-- how such a command ends, from what it promises
+pub silent_ends : {T : Type 0} (command : Command) → IsSilent command → (r : Result T EditFault) (old new : Seen) (out : Heard) → OnOk r (IsDone command old new) → IfErr r (Leaves command old new) → IfErr r (HasNumbers command)
+    → ((place : ℕ) → IsErrOf r (EqualNames place) ↔ (clash_of command ≡ Some place)) → Ends command old new out out (fault_of r)
+silent_ends command no_text (Ok x) old new out done left numbers names =
+    record { says = says_nothing command no_text old.files out; done = λ e. done; left = tt; numbers = tt; names = λ place clash. ap fault_of ((names place).1 clash) }
+silent_ends command no_text (Err fault) old new out done left numbers names =
+    record { says = says_fault command no_text old.files out fault numbers; done = λ e. absurd cc; left = left; numbers = numbers; names = λ place clash. ap fault_of ((names place).1 clash) }
 
--- the same where the names are told apart
-pub command_answers : {T : Type 0} (command : Command) → IsSilent command → (r : Result T EditFault) (old new : Seen) (out err_old err_new : Heard) (status : ℕ)
-    → OnOk r (IsDone command old new) → IfErr r (Leaves command old new) → IfErr r (HasNumbers command)
-    → ((place : ℕ) → IsErrOf r (EqualNames place) ↔ (clash_of command ≡ Some place)) → status ≡ fault_status (fault_of r) → GetsLine err_old err_new (line_of command (fault_of r))
-    → Answers command (world old out err_old) (world new out err_new) status
-command_answers command no_text r old new out err_old err_new status done left numbers names status_is line =
-    silent_answers command no_text r old new out err_old err_new status done left numbers (λ place clash. ap fault_of ((names place).1 clash)) status_is line
-
--- the answer of a command with a text
-pub told_answers : {T : Type 0} (command : Command) (r : Result T EditFault) (old new : Seen) (out_old out_new err_old err_new : Heard) (status : ℕ)
-    → OnOk r (IsDone command old new) → IfErr r (Leaves command old new) → Says command old.files out_old out_new (fault_of r) → IfErr r (HasNumbers command)
-    → ((place : ℕ) → IsErrOf r (EqualNames place) ↔ (clash_of command ≡ Some place)) → status ≡ fault_status (fault_of r) → GetsLine err_old err_new (line_of command (fault_of r))
-    → Answers command (world old out_old err_old) (world new out_new err_new) status
-told_answers command (Ok x) old new out_old out_new err_old err_new status done left says numbers names status_is line = record {
-  fault = None;
-  status_is = status_is;
-  line = line;
-  says = says;
-  done = λ e. done;
-  left = tt;
-  numbers = tt;
-  names = λ place clash. ap fault_of ((names place).1 clash);
-}
-told_answers command (Err fault) old new out_old out_new err_old err_new status done left says numbers names status_is line = record {
-  fault = Some fault;
-  status_is = status_is;
-  line = line;
-  says = says;
-  done = λ e. absurd cc;
-  left = left;
-  numbers = numbers;
-  names = λ place clash. ap fault_of ((names place).1 clash);
-}
+-- how a command with a text ends
+pub told_ends : {T : Type 0} (command : Command) (r : Result T EditFault) (old new : Seen) (out_old out_new : Heard) → OnOk r (IsDone command old new) → IfErr r (Leaves command old new) → Says command old.files out_old out_new (fault_of r)
+    → IfErr r (HasNumbers command) → ((place : ℕ) → IsErrOf r (EqualNames place) ↔ (clash_of command ≡ Some place)) → Ends command old new out_old out_new (fault_of r)
+told_ends command (Ok x) old new out_old out_new done left says numbers names =
+    record { says = says; done = λ e. done; left = tt; numbers = tt; names = λ place clash. ap fault_of ((names place).1 clash) }
+told_ends command (Err fault) old new out_old out_new done left says numbers names =
+    record { says = says; done = λ e. absurd cc; left = left; numbers = numbers; names = λ place clash. ap fault_of ((names place).1 clash) }
 
 -- ---- a command that makes one file
 
@@ -389,40 +307,28 @@ module _ (text : List ℕ) (some : Some text ≢ Some []) (now : Seen) where
       at None = tt
       at (Some f) = tt
 
-  module _ (out_old out_new err_old err_new : Heard) (status : ℕ) where
-    said_left : (fault : EditFault) → IsDrillFault fault → Leaves (said_command text) now now fault × HasNumbers (said_command text) fault
-    said_left NotSent is = (record { made = text_made; told = refl; counts = refl }, some)
-    said_left Memory is = (record { names = refl; takes = none_early; stays = refl }, tt)
-    said_left _ is = absurd is
+  said_left : (fault : EditFault) → IsDrillFault fault → Leaves (said_command text) now now fault × HasNumbers (said_command text) fault
+  said_left NotSent is = (record { made = text_made; told = refl; counts = refl }, some)
+  said_left Memory is = (record { names = refl; takes = none_early; stays = refl }, tt)
+  said_left _ is = absurd is
 
-    said_fault : (fault : EditFault) → IsDrillFault fault → Says (said_command text) now.files out_old out_new (Some fault) → status ≡ fault_status (Some fault) → GetsLine err_old err_new (line_of (said_command text) (Some fault))
-        → Answers (said_command text) (world now out_old err_old) (world now out_new err_new) status
-    said_fault fault is says status_is line = record {
-      fault = Some fault;
-      status_is = status_is;
-      line = line;
-      says = says;
-      done = λ e. absurd cc;
-      left = (said_left fault is).0;
-      numbers = (said_left fault is).1;
-      names = λ place e. absurd cc;
-    }
-
-    pub said_answers : {T : Type 0} (r : Result T EditFault) → Says (said_command text) now.files out_old out_new (fault_of r) → IfErr r IsDrillFault → status ≡ fault_status (fault_of r)
-        → GetsLine err_old err_new (line_of (said_command text) (fault_of r)) → Answers (said_command text) (world now out_old err_old) (world now out_new err_new) status
-    said_answers (Ok x) says is status_is line = record {
-      fault = None;
-      status_is = status_is;
-      line = line;
-      says = says;
-      done = λ e. record { made = text_made; told = refl; counts = refl };
-      left = tt;
-      numbers = tt;
-      names = λ place e. absurd cc;
-    }
-    said_answers (Err fault) says is status_is line = said_fault fault is says status_is line
+  pub said_ends : {T : Type 0} (r : Result T EditFault) (out_old out_new : Heard) → Says (said_command text) now.files out_old out_new (fault_of r) → IfErr r IsDrillFault → Ends (said_command text) now now out_old out_new (fault_of r)
+  said_ends (Ok x) out_old out_new says is = record { says = says; done = λ e. record { made = text_made; told = refl; counts = refl }; left = tt; numbers = tt; names = λ place e. absurd cc }
+  said_ends (Err fault) out_old out_new says is = record { says = says; done = λ e. absurd cc; left = (said_left fault is).0; numbers = (said_left fault is).1; names = λ place e. absurd cc }
 
 -- a failed write is one of these faults
 pub sent_alone : {T : Type 0} (r : Result T EditFault) → IfErr r (λ fault. fault ≡ NotSent) → IfErr r IsDrillFault
 sent_alone (Ok x) is = tt
 sent_alone (Err fault) is = subst IsDrillFault (sym is) tt
+
+-- ---- how a command ended, with its status and its line
+
+pub ends_answers : (command : Command) (old new : Seen) (out_old out_new err_old err_new : Heard) (fault : Option EditFault) (status : ℕ) → Ends command old new out_old out_new fault → status ≡ fault_status fault
+    → GetsLine err_old err_new (line_of command fault) → Answers command (world old out_old err_old) (world new out_new err_new) status
+ends_answers command old new out_old out_new err_old err_new fault status ends status_is line =
+    record { fault = fault; status_is = status_is; line = line; says = ends.says; done = ends.done; left = ends.left; numbers = ends.numbers; names = ends.names }
+
+-- with status 0 it was done
+pub done_where_zero : {T P : Type 0} (r : Result T EditFault) → fault_status (fault_of r) ≡ 0 → OnOk r P → P
+done_where_zero (Ok x) zero_is p = p
+done_where_zero (Err fault) zero_is p = absurd (omega (arith, zero_is, (by_status (why_of fault)).0))

@@ -79,6 +79,15 @@ pub record World : Type 0 where
 abbrev pub world : Seen → Heard → Heard → World
 world folder out err = record { folder = folder; out = out; err = err }
 
+-- How a command ended, with this fault or none: the text of the command is there where it was done, and a fault has its cause and what it
+-- leaves. Equal names are found whatever else is at fault.
+pub record Ends (command : Command) (old new : Seen) (out_old out_new : Heard) (fault : Option EditFault) : Type 0 where
+  pub says : Says command old.files out_old out_new fault
+  pub done : fault ≡ None → IsDone command old new
+  pub left : IfSome fault (Leaves command old new)
+  pub numbers : IfSome fault (HasNumbers command)
+  pub names : (place : ℕ) → clash_of command ≡ Some place → fault ≡ Some (EqualNames place)
+
 -- The command was done, or there is a fault with its status, its line, its cause and what it leaves. The line is there whole, or a
 -- prefix of it where a write failed; the text of the command is there where it was done. Equal names are found whatever else is at fault.
 pub record Answers (command : Command) (old new : World) (status : ℕ) : Type 0 where

@@ -1,6 +1,7 @@
 //! The program but for its `main`: what it does, and the lines that it writes.
 #![tactic(auto)]
 
+mod job_names;
 mod laws;
 mod output_names;
 mod parts;

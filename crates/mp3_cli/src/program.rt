@@ -1,5 +1,5 @@
 //! All that the program does.
-ghost use Rattle.std.specs.Prelude.{◌≡◌, ◌≢◌, ◌↔◌, ◌≤◌, ℕ, [], ◌∷◌, Some, Ok, length, map, string_bytes, IfSome, IsErr};
+ghost use Rattle.std.specs.Prelude.{◌≡◌, ◌≢◌, ◌↔◌, ◌≤◌, ℕ, [], ◌∷◌, Some, Ok, map, string_bytes, IfSome, OnOk, IsErr};
 ghost use Rattle.outside.specs.Files.{Contents, sent_more};
 ghost use Rattle.outside.specs.Counts.{Rose, NoneFell};
 ghost use Rattle.commands.specs.Command.{HoldsStreams};
@@ -9,11 +9,11 @@ ghost use Rattle.job_words.specs.Words.{job_of, IsSound};
 ghost use Rattle.job_words.specs.Code.{asked};
 ghost use Rattle.mp3_cli.specs.Names.{names_in};
 ghost use Rattle.mp3_cli.specs.Texts.{GotLine};
-ghost use Rattle.mp3_cli.specs.Run.{command_of, always_of, fault_status, result_line, world, Answers, AnswersWords, outcome, IsOutcome, IsLegal, HoldsAllStreams};
+ghost use Rattle.mp3_cli.specs.Run.{command_of, always_of, fault_status, result_line, world, Ends, Answers, AnswersWords, outcome, IsOutcome, IsLegal, HoldsAllStreams};
 
+use crate::job_names::{inputs_of, outputs_of};
 use crate::output_names::Outputs;
 use crate::texts::{say_help, say_version, send_bad_word, send_fault, status};
-use arrayvec::ArrayVec;
 use drill::drill;
 use edits::{EditFault, Points, cut, fade, gain, join, list, pack_with, salvage, split, undo};
 use job_words::{Job, job};
@@ -40,19 +40,72 @@ fn report<E: Sink>(
     }
 }
 
-// The words as names.
-fn names_of(words: &[String]) -> ArrayVec<&str, 64>
-    requires { length words.now ≤ 64 }
-    ensures { map (λ name. name.now) result.items ≡ map string_bytes words.now }
+/// Does what the job asks for.
+fn do_job<D: Folder, T: Sink>(
+    alloc: Global,
+    job: Job,
+    folder: &mut D,
+    out: &mut T,
+) -> Result<(), EditFault>
+    requires sound { IsSound (asked job) }
+    ensures ends { Ends (command_of (asked job.entry))
+        (seen (D.files folder.old) (D.counts folder.old))
+        (seen (D.files folder.new) (D.counts folder.new))
+        (heard (T.sent out.old) (T.faults out.old)) (heard (T.sent out.new) (T.faults out.new))
+        (fault_of result) }
+    ensures streams { OnOk result (HoldsStreams (command_of (asked job.entry))
+        (D.files folder.old)) }
+    ensures counts { NoneFell (D.counts folder.old) (D.counts folder.new) }
 {
-    let mut names = ArrayVec::new();
-    for word in words {
-        names.push(word.as_str());
+    match job {
+        Job::Help => say_help(out),
+        Job::Version => say_version(out),
+        Job::List { input } => list(alloc, folder, input, out),
+        Job::Gain {
+            shift,
+            tags,
+            input,
+            output,
+        } => gain(alloc, folder, input, output, &shift, tags),
+        Job::Undo { input, output } => undo(alloc, folder, input, output),
+        Job::Cut {
+            from,
+            to,
+            least,
+            input,
+            output,
+        } => cut(alloc, folder, input, &from, &to, least, output),
+        Job::Pack {
+            mode,
+            input,
+            output,
+        } => pack_with(alloc, folder, input, output, &mode),
+        Job::SplitAt {
+            input,
+            prefix,
+            places,
+        } => {
+            let points = Points::Places(places.as_slice());
+            split(alloc, folder, input, &points, prefix)
+        }
+        Job::SplitBy {
+            input,
+            prefix,
+            sheet,
+        } => split(alloc, folder, input, &Points::Sheet(sheet), prefix),
+        Job::Join { output, inputs } => join(alloc, folder, output, inputs),
+        Job::Drill { seed, count } => drill(alloc, seed, count, out),
+        Job::Fade {
+            back,
+            input,
+            output,
+            sheet,
+        } => fade(alloc, folder, input, output, sheet, back),
+        Job::Salvage { input, output } => salvage(alloc, folder, input, output, out),
     }
-    names
 }
 
-/// Does what the job asks for, and answers the status.
+/// Does what the job asks for, reports how it ended, and answers the status.
 fn run_job<D: Folder, T: Sink, E: Sink>(
     alloc: Global,
     job: Job,
@@ -71,90 +124,10 @@ fn run_job<D: Folder, T: Sink, E: Sink>(
         (D.files folder.old) }
     ensures counts { NoneFell (D.counts folder.old) (D.counts folder.new) }
 {
-    match job {
-        Job::Help => {
-            let done = say_help(out);
-            report(err, done, &[], &Outputs::None)
-        }
-        Job::Version => {
-            let done = say_version(out);
-            report(err, done, &[], &Outputs::None)
-        }
-        Job::List { input } => {
-            let done = list(alloc, folder, input, out);
-            report(err, done, &[input], &Outputs::None)
-        }
-        Job::Gain {
-            shift,
-            tags,
-            input,
-            output,
-        } => {
-            let done = gain(alloc, folder, input, output, &shift, tags);
-            report(err, done, &[input], &Outputs::One(output))
-        }
-        Job::Undo { input, output } => {
-            let done = undo(alloc, folder, input, output);
-            report(err, done, &[input], &Outputs::One(output))
-        }
-        Job::Cut {
-            from,
-            to,
-            least,
-            input,
-            output,
-        } => {
-            let done = cut(alloc, folder, input, &from, &to, least, output);
-            report(err, done, &[input], &Outputs::One(output))
-        }
-        Job::Pack {
-            mode,
-            input,
-            output,
-        } => {
-            let done = pack_with(alloc, folder, input, output, &mode);
-            report(err, done, &[input], &Outputs::One(output))
-        }
-        Job::SplitAt {
-            input,
-            prefix,
-            places,
-        } => {
-            let points = Points::Places(places.as_slice());
-            let done = split(alloc, folder, input, &points, prefix);
-            report(err, done, &[input], &Outputs::Pieces(prefix))
-        }
-        Job::SplitBy {
-            input,
-            prefix,
-            sheet,
-        } => {
-            let done = split(alloc, folder, input, &Points::Sheet(sheet), prefix);
-            report(err, done, &[input, sheet], &Outputs::Pieces(prefix))
-        }
-        Job::Join { output, inputs } => {
-            let done = join(alloc, folder, output, inputs);
-            let names = names_of(inputs);
-            report(err, done, names.as_slice(), &Outputs::One(output))
-        }
-        Job::Drill { seed, count } => {
-            let done = drill(alloc, seed, count, out);
-            report(err, done, &[], &Outputs::None)
-        }
-        Job::Fade {
-            back,
-            input,
-            output,
-            sheet,
-        } => {
-            let done = fade(alloc, folder, input, output, sheet, back);
-            report(err, done, &[input, sheet], &Outputs::One(output))
-        }
-        Job::Salvage { input, output } => {
-            let done = salvage(alloc, folder, input, output, out);
-            report(err, done, &[input], &Outputs::One(output))
-        }
-    }
+    let inputs = inputs_of(&job);
+    let outputs = outputs_of(&job);
+    let done = do_job(alloc, job, folder, out);
+    report(err, done, inputs.as_slice(), &outputs)
 }
 
 /// Does what the words ask for over the folder, and answers the status: 0 where it was done, 1 for a refused

@@ -273,7 +273,11 @@ fn refusal_parts<'a>(refusal: &Refusal, inputs: &[&'a str]) -> Line<'a>
         ]),
         Refusal::Sheet(fault) => sheet_parts(name_in(inputs, SHEET), &fault),
         Refusal::Curve(fault) => curve_parts(name_in(inputs, SHEET), &fault),
-        Refusal::CurveNotRising(number) => named_line(name_in(inputs, SHEET), ": not rising at line ", u64::from(number)),
+        Refusal::CurveNotRising(number) => named_line(
+            name_in(inputs, SHEET),
+            ": not rising at line ",
+            u64::from(number),
+        ),
     }
 }
 

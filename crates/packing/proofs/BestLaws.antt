@@ -1,6 +1,6 @@
 -- The frames of a well-formed file have a best plan, and can be laid by it.
-use Rattle.std.proofs.Common.{◌≡◌, ℕ, ◌+◌, ◌<◌, ◌≤◌, true, false, Bool, List, [], ◌∷◌, length, map, Contains, Option, Some, None, Result, Ok, Err, refl, sym, ◌∙◌, ap, subst, arith, get_or, append-nil}
-use Rattle.std.specs.Prelude.{unwrap_or, ◌↔◌, IfOk}
+use Rattle.std.proofs.Common.{◌≡◌, ℕ, ◌+◌, ◌<◌, ◌≤◌, true, false, Bool, List, [], ◌∷◌, length, map, Contains, Option, Some, None, Result, Ok, Err, refl, sym, ap, subst, arith}
+use Rattle.std.specs.Prelude.{unwrap_or, IfOk}
 use Rattle.std.proofs.lemmas.List.{length-map}
 use Rattle.frame_header.specs.Fields.{SlotFields, ClassFields, IsSlot}
 use Rattle.frame_header.specs.Tables.{window_of}
@@ -16,7 +16,6 @@ use Rattle.best_plan.specs.Best.{items_behind, IsBestPlan}
 use Rattle.best_plan.specs.BestOf.{best_plan_of}
 use Rattle.best_plan.proofs.BestOfLaws.{best-plan-of}
 use Rattle.best_plan.proofs.ExistsLaw.{best-exists}
-use Rattle.part_needs.specs.Needs.{need_of}
 use Rattle.part_needs.specs.Fit.{IsPlaced, any_choice}
 use Rattle.part_needs.proofs.PartsLaws.{parts_are}
 use Rattle.laying.proofs.FitLaws.{Asks, items-fit, asks-each}

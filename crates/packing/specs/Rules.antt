@@ -1,9 +1,6 @@
 -- How the frames of a file get their slots, and how many frames it may have.
 use Rattle.std.specs.Prelude.{ℕ, Bool, List, [], unwrap_or, Option, Some, None, Result, Ok, Err}
-use Rattle.frame_header.specs.Fields.{ClassFields}
 use Rattle.frame_header.specs.Tables.{window_of}
-use Rattle.slot_plan.specs.declared.needs.Need.{Need}
-use Rattle.slot_plan.specs.declared.needs.Placed.{Placed}
 use Rattle.best_plan.specs.BestOf.{best_plan_of}
 use Rattle.part_needs.specs.Fit.{any_choice}
 use Rattle.sync_survey.specs.declared.survey_fault.SurveyFault.{SurveyFault}

@@ -1,5 +1,5 @@
 -- A clash of names, what was met before the output is created, and the second pass.
-use Rattle.std.proofs.Common.{◌≡◌, [], List, ℕ, length, map, string_bytes, sym, ◌∙◌, ap, ap₂, subst, arith, append-nil}
+use Rattle.std.proofs.Common.{◌≡◌, [], List, ℕ, map, string_bytes, sym, ◌∙◌, ap, ap₂, subst, arith, append-nil}
 use Rattle.std.proofs.lemmas.List.{length-map}
 use Rattle.std.proofs.lemmas.Result.{err_from_is_err_and}
 use Rattle.sync_survey.specs.Faults.{SurveyFields, tells}

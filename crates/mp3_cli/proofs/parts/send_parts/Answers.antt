@@ -1,8 +1,9 @@
 -- A part that was sent, and one that failed.
 use Rattle.std.proofs.Common.{refl, sym, ◌∙◌, arith}
 use Rattle.outside.proofs.FilesLaws.{sent_nothing}
+use Rattle.outside.proofs.PassedLaws.{on_err}
 use Rattle.mp3_cli.specs.Lines.{spelled_part, part_of}
-use Rattle.mp3_cli.proofs.Lines.{front_failed, line_more, on_error}
+use Rattle.mp3_cli.proofs.Lines.{front_failed, line_more}
 use Rattle.mp3_cli.proofs.parts.send_parts.Goals as goal
 
 pub loop-part-init : goal.loop-part-init
@@ -11,7 +12,7 @@ loop-part-init g c = record { later = omega arith; done = refl; sent = sym (sent
 pub returns-in_err-send_part-clause-front : goal.returns-in_err-send_part-clause-front
 returns-in_err-send_part-clause-front g c =
     let front = c.in_err-send_part.ensures.front in
-    on_error c.from_residual.result
+    on_err c.from_residual.result
     (front_failed (λ part. spelled_part (part_of part)) c.args.parts.now c.loop-part.part-index _
     (g.T.Sink.sent c.args.sink.now) (g.T.Sink.sent c.loop-part.sink) (g.T.Sink.sent c.send_part.new.sink)
     (g.T.Sink.faults c.args.sink.now) (g.T.Sink.faults c.loop-part.sink) (g.T.Sink.faults c.send_part.new.sink)

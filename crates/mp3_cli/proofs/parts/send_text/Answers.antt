@@ -1,7 +1,8 @@
 -- A piece that was sent, and one that failed.
 use Rattle.std.proofs.Common.{[], refl, sym, ◌∙◌, arith}
 use Rattle.outside.proofs.FilesLaws.{sent_nothing}
-use Rattle.mp3_cli.proofs.Lines.{front_failed, line_more, on_error}
+use Rattle.outside.proofs.PassedLaws.{on_err}
+use Rattle.mp3_cli.proofs.Lines.{front_failed, line_more}
 use Rattle.mp3_cli.proofs.parts.send_text.Goals as goal
 
 pub loop-piece-init : goal.loop-piece-init
@@ -9,7 +10,7 @@ loop-piece-init g c = record { later = omega arith; done = refl; sent = sym (sen
 
 pub returns-in_err-send_all-clause-front : goal.returns-in_err-send_all-clause-front
 returns-in_err-send_all-clause-front g c =
-    on_error c.from_residual.result
+    on_err c.from_residual.result
     (front_failed (λ piece. piece.now) c.args.pieces.now c.loop-piece.piece-index (record { ref_ptr = (0, 0); now = [] })
     (g.T.Sink.sent c.args.sink.now) (g.T.Sink.sent c.loop-piece.sink) (g.T.Sink.sent c.send_all.new.sink)
     (g.T.Sink.faults c.args.sink.now) (g.T.Sink.faults c.loop-piece.sink) (g.T.Sink.faults c.send_all.new.sink)

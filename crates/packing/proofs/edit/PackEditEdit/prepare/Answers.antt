@@ -9,7 +9,6 @@ use Rattle.commands.specs.Left.{seen}
 use Rattle.commands.proofs.InputLaws.{memory_is_input}
 use Rattle.frame_edits.specs.Chosen.{chosen_in}
 use Rattle.packing.specs.Packing.{needs_of, packing}
-use Rattle.packing.specs.Ready.{IsReady}
 use Rattle.packing.specs.Rules.{plan_by, refuses_by}
 use Rattle.packing.proofs.PackingLaws.{input_moved, plan_is_input, plan_numbers, planned_is}
 use Rattle.packing.proofs.RuleLaws.{rule_early, rule_numbers, rule_makes}

@@ -1,6 +1,6 @@
 -- The names so far.
 use Rattle.std.proofs.Common.{◌≡◌, ◌≤◌, length, map, take, string_bytes}
-use Rattle.mp3_cli.proofs.program.names_of.Given as goal
+use Rattle.mp3_cli.proofs.job_names.names_of.Given as goal
 
 abbrev pub invariant-loop-word : goal.invariant-loop-word
 invariant-loop-word l = (map (λ name. name.now) l.names.items ≡ map string_bytes (take l.word-index l.words)) × (length l.names.items ≡ l.word-index) × (length l.words ≤ 64)

@@ -1,0 +1,78 @@
+//! The names of the files that a job reads and writes.
+ghost use Rattle.std.specs.Prelude.{◌≡◌, ◌≤◌, length, map, string_bytes};
+ghost use Rattle.job_words.specs.Words.{IsSound};
+ghost use Rattle.job_words.specs.Code.{asked};
+ghost use Rattle.mp3_cli.specs.Names.{names_in};
+ghost use Rattle.mp3_cli.specs.Run.{command_of};
+
+use crate::output_names::Outputs;
+use arrayvec::ArrayVec;
+use job_words::Job;
+
+/// Names, 64 at most.
+type Names<'a> = ArrayVec<&'a str, 64>;
+
+// These names.
+fn names<'a>(all: &[&'a str]) -> Names<'a>
+    requires { length all.now ≤ 64 }
+    ensures { result.items ≡ all.now }
+{
+    let mut names = Names::new();
+    names.try_extend_from_slice(all).unwrap();
+    names
+}
+
+// The words as names.
+fn names_of(words: &[String]) -> Names<'_>
+    requires { length words.now ≤ 64 }
+    ensures { map (λ name. name.now) result.items ≡ map string_bytes words.now }
+{
+    let mut names = Names::new();
+    for word in words {
+        names.push(word.as_str());
+    }
+    names
+}
+
+/// The names of the files that a job reads.
+pub(crate) fn inputs_of<'a>(job: &Job<'a>) -> ArrayVec<&'a str, 64>
+    requires { IsSound (asked job.now) }
+    ensures { map (λ name. name.now) result.items ≡ (command_of (asked job.now)).inputs }
+{
+    match *job {
+        Job::Help => Names::new(),
+        Job::Version => Names::new(),
+        Job::Drill { .. } => Names::new(),
+        Job::List { input } => names(&[input]),
+        Job::Gain { input, .. } => names(&[input]),
+        Job::Undo { input, .. } => names(&[input]),
+        Job::Cut { input, .. } => names(&[input]),
+        Job::Pack { input, .. } => names(&[input]),
+        Job::SplitAt { input, .. } => names(&[input]),
+        Job::SplitBy { input, sheet, .. } => names(&[input, sheet]),
+        Job::Fade { input, sheet, .. } => names(&[input, sheet]),
+        Job::Salvage { input, .. } => names(&[input]),
+        Job::Join { inputs, .. } => names_of(inputs),
+    }
+}
+
+/// The names of the files that a job writes.
+pub(crate) fn outputs_of<'a>(job: &Job<'a>) -> Outputs<'a>
+    ensures { names_in result ≡ (command_of (asked job.now)).outputs }
+{
+    match *job {
+        Job::Help => Outputs::None,
+        Job::Version => Outputs::None,
+        Job::Drill { .. } => Outputs::None,
+        Job::List { .. } => Outputs::None,
+        Job::Gain { output, .. } => Outputs::One(output),
+        Job::Undo { output, .. } => Outputs::One(output),
+        Job::Cut { output, .. } => Outputs::One(output),
+        Job::Pack { output, .. } => Outputs::One(output),
+        Job::Fade { output, .. } => Outputs::One(output),
+        Job::Join { output, .. } => Outputs::One(output),
+        Job::Salvage { output, .. } => Outputs::One(output),
+        Job::SplitAt { prefix, .. } => Outputs::Pieces(prefix),
+        Job::SplitBy { prefix, .. } => Outputs::Pieces(prefix),
+    }
+}
