@@ -8,7 +8,7 @@ ghost use Rattle.joining.specs.Join.{join_command};
 use crate::inputs::name_at;
 use crate::planned::plan_join;
 use crate::surveys::survey_all;
-use crate::written::write_joined;
+use crate::written::{new_buffers, write_joined};
 use commands::EditFault;
 use outside::Folder;
 use std::alloc::Global;
@@ -69,5 +69,6 @@ pub fn join<D: Folder>(
     }
     let surveys = survey_all(alloc, folder, inputs)?;
     let planned = plan_join(alloc, &surveys)?;
-    write_joined(alloc, folder, inputs, output, &surveys, &planned)
+    let mut buffers = new_buffers(alloc, &surveys)?;
+    write_joined(folder, inputs, output, &surveys, &planned, &mut buffers)
 }

@@ -1,5 +1,5 @@
 //! The second pass of a join.
-ghost use Rattle.std.specs.Prelude.{◌≡◌, ◌≤◌, ◌++◌, List, ℕ, [], ◌∷◌, length, map, drop, string_bytes, None, is_some, IfErr, OnOk, OnErr};
+ghost use Rattle.std.specs.Prelude.{◌≡◌, ◌≤◌, ◌++◌, List, ℕ, [], ◌∷◌, length, map, drop, string_bytes, None, is_some, IfOk, IfErr, IfSome, OnOk, OnErr};
 ghost use Rattle.outside.specs.Files.{IsThere, Holds};
 ghost use Rattle.outside.specs.Counts.{NoneFell};
 ghost use Rattle.std.specs.List.{concat};
@@ -11,7 +11,7 @@ ghost use Rattle.commands.specs.One.{most_frames, holding, IsPassFault, first_in
 ghost use Rattle.commands.specs.Command.{clash_from};
 ghost use Rattle.commands.specs.Left.{seen};
 ghost use Rattle.joining.specs.Join.{joined_file};
-ghost use Rattle.joining.specs.Inputs.{IsOfJoin, AreInputs, told_parts};
+ghost use Rattle.joining.specs.Inputs.{IsOfJoin, AreInputs, CanBeJoined, class_in, told_parts};
 ghost use Rattle.joining.specs.Laying.{IsPlanned, AreSources, HasJoinCause};
 
 use crate::inputs::{known_at, name_at};
@@ -20,7 +20,7 @@ use commands::EditFault;
 use frame_edits::Planned;
 use laying::{Buffers, Relay};
 use outside::{Folder, Pass, PassFault};
-use std::alloc::Global;
+use std::alloc::{AllocError, Global};
 use sync_survey::Survey;
 
 /// Appends to the output the blocks of an input that go in front, and an Info frame of these bytes.
@@ -101,14 +101,23 @@ fn append_joined<'a, D: Folder>(
     }
 }
 
-/// Creates the output and writes it. All memory is taken before.
+/// The memory of the pass over all inputs.
+pub(crate) fn new_buffers(alloc: Global, surveys: &[Survey]) -> Result<Buffers, AllocError>
+    requires { CanBeJoined (map tells surveys.now) }
+    ensures { IfOk result (λ buffers. IfSome (class_in (map tells surveys.now))
+        (λ class. IsFresh class buffers)) }
+{
+    Buffers::new(alloc, known_at(surveys, 0).class())
+}
+
+/// Creates the output and writes it. It takes no memory.
 pub(crate) fn write_joined<D: Folder>(
-    alloc: Global,
     folder: &mut D,
     inputs: &[String],
     output: &str,
     surveys: &[Survey],
     planned: &Planned,
+    buffers: &mut Buffers,
 ) -> Result<(), EditFault>
     requires some { 1 ≤ length inputs.now }
     requires few { length inputs.now ≤ 64 }
@@ -116,6 +125,8 @@ pub(crate) fn write_joined<D: Folder>(
         (map tells surveys.now) }
     requires apart { clash_from (output.now ∷ []) 0 (map string_bytes inputs.now) ≡ None }
     requires planned { IsPlanned (map tells surveys.now) planned.now }
+    requires fresh { IfSome (class_in (map tells surveys.now))
+        (λ class. IsFresh class buffers.old) }
     ensures written { OnOk result ((bytes : List ℕ)
         → Holds (D.files folder.old) (first_input (map string_bytes inputs.now)) bytes
         → D.files folder.new ≡ holding (D.files folder.old) output.now
@@ -138,9 +149,8 @@ pub(crate) fn write_joined<D: Folder>(
         length: survey.length(),
     };
     let first = Relay { pass, survey };
-    let mut buffers = Buffers::new(alloc, survey.class())?;
     let Ok(()) = folder.create(output) else {
         return Err(EditFault::Write(0));
     };
-    append_joined(&first, folder, inputs, surveys, planned, &mut buffers)
+    append_joined(&first, folder, inputs, surveys, planned, buffers)
 }

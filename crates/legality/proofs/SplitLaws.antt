@@ -189,9 +189,7 @@ end-parts (Err fault) places e = absurd cc
 
 -- the places are those of the bytes of the sheet
 by-sheet : (o : Option (List ℕ)) → places_where o ≡ then_made (sheet_in o) (λ bytes. with_end (cue_of bytes))
-by-sheet None = refl
-by-sheet (Some sheet) = elim (nat_lt longest_sheet (length sheet)) as
-    (λ b. cond b (Err (Refused (SheetTooLarge (length sheet)))) (with_end (cue_of sheet)) ≡ then_made (cond b (Err (Refused (SheetTooLarge (length sheet)))) (Ok sheet)) (λ bytes. with_end (cue_of bytes))) [ true ↦ refl | false ↦ refl ]
+by-sheet o = refl
 
 pub cue-parts : (o : Option (List ℕ)) (places : List Place) → places_where o ≡ Ok places → IsCue o places
 cue-parts o places e =

@@ -9,7 +9,9 @@ use Rattle.commands.specs.Left.{seen}
 use Rattle.commands.specs.One.{IsMaking, NeedsMemory, first_input}
 use Rattle.commands.proofs.MakeLaws.{clash_left, early_left, one_done, one_left, one_streams}
 use Rattle.joining.specs.Join.{joined_file, join_task}
-use Rattle.joining.specs.Inputs.{CanBeJoined, told_parts}
+use Rattle.std.specs.Prelude.{IfSome}
+use Rattle.laying.specs.Passing.{IsFresh}
+use Rattle.joining.specs.Inputs.{CanBeJoined, class_in, told_parts}
 use Rattle.joining.specs.Laying.{IsPlanned}
 use Rattle.joining.proofs.PlanLaws.{inputs-join}
 use Rattle.joining.proofs.InputLaws.{join-late, found-input}
@@ -47,9 +49,28 @@ returns-in_err-planned-clause-left g c =
     rw (p.1, p.2)
     (early_left (join_task names) c.args.output.now (sym c.clash.ensures ∙ c.in_default.is) (join-late names) old new Memory (subst (λ (l : List (List ℕ)). NeedsMemory (first_input l) old new) (append-nil names) found))
 
+pub new_buffers-requires : goal.new_buffers-requires
+new_buffers-requires g c = subst (λ l. CanBeJoined (map tells l)) (sym c.deref-2.ensures.value) (can g (goal.at.new_buffers-requires g c).In_ok-surveys)
+
+pub returns-in_err-buffers-clause-left : goal.returns-in_err-buffers-clause-left
+returns-in_err-buffers-clause-left g c =
+    let names = map string_bytes c.args.inputs.now in
+    let files = g.D.Folder.files in
+    let counts = g.D.Folder.counts in
+    let old = seen (files c.args.folder.now) (counts c.args.folder.now) in
+    let new = seen (files c.survey_all.new.folder) (counts c.survey_all.new.folder) in
+    let found = found-input _ names [] _ old new c.in_ok-surveys.ensures.inputs (omega (arith, c.requires.some, length-map c.args.inputs.now string_bytes)) (ap₂ seen c.survey_all.ensures.files c.in_ok-surveys.ensures.done) in
+    let p = err_from_is_err_and c.from_residual-in_err-buffers.result c.from_residual-in_err-buffers.ensures.1 in
+    rw (p.1, p.2)
+    (early_left (join_task names) c.args.output.now (sym c.clash.ensures ∙ c.in_default.is) (join-late names) old new Memory (subst (λ (l : List (List ℕ)). NeedsMemory (first_input l) old new) (append-nil names) found))
+
+pub write_joined-requires-clause-fresh : goal.write_joined-requires-clause-fresh
+write_joined-requires-clause-fresh g c =
+    subst (λ l. IfSome (class_in (map tells l)) (λ class. IsFresh class c.in_ok-buffers.buffers)) (c.deref-2.ensures.value ∙ sym c.deref-3.ensures.value) c.in_ok-buffers.ensures
+
 pub write_joined-requires-clause-planned : goal.write_joined-requires-clause-planned
 write_joined-requires-clause-planned g c =
-    subst (λ l. IsPlanned (map tells l) c.in_ok-planned.planned) (c.deref.ensures.value ∙ sym c.deref-2.ensures.value) c.in_ok-planned.ensures
+    subst (λ l. IsPlanned (map tells l) c.in_ok-planned.planned) (c.deref.ensures.value ∙ sym c.deref-3.ensures.value) c.in_ok-planned.ensures
 
 -- what is made of the inputs, by what is known of them behind the survey
 making : (g : given.Over) (c : In_ok-surveys g) (mid : Files) (ss : List SurveyFields) → mid ≡ g.D.Folder.files c.args.folder.now → ss ≡ map tells c.in_ok-surveys.surveys.items
@@ -61,7 +82,7 @@ making g c mid ss same surveys =
 pub returns-clause-done : goal.returns-clause-done
 returns-clause-done g c =
     one_done (join_task (map string_bytes c.args.inputs.now)) c.args.output.now (sym c.clash.ensures ∙ c.in_default.is) _ _ (seen (g.D.Folder.files c.survey_all.new.folder) (g.D.Folder.counts c.survey_all.new.folder)) _
-    (ap₂ seen c.survey_all.ensures.files c.in_ok-surveys.ensures.done) (making g (goal.at.returns-clause-done g c).In_ok-surveys _ _ c.survey_all.ensures.files (ap (map tells) c.deref-2.ensures.value))
+    (ap₂ seen c.survey_all.ensures.files c.in_ok-surveys.ensures.done) (making g (goal.at.returns-clause-done g c).In_ok-surveys _ _ c.survey_all.ensures.files (ap (map tells) c.deref-3.ensures.value))
     c.write_joined.ensures.told c.write_joined.result c.write_joined.ensures.written c.write_joined.ensures.done
 
 pub returns-clause-left : goal.returns-clause-left
@@ -69,7 +90,7 @@ returns-clause-left g c =
     let files = g.D.Folder.files in
     let counts = g.D.Folder.counts in
     one_left (join_task (map string_bytes c.args.inputs.now)) c.args.output.now (sym c.clash.ensures ∙ c.in_default.is) _ (seen (files c.args.folder.now) (counts c.args.folder.now)) (seen (files c.survey_all.new.folder) (counts c.survey_all.new.folder)) _
-    (ap₂ seen c.survey_all.ensures.files c.in_ok-surveys.ensures.done) (making g (goal.at.returns-clause-left g c).In_ok-surveys _ _ c.survey_all.ensures.files (ap (map tells) c.deref-2.ensures.value))
+    (ap₂ seen c.survey_all.ensures.files c.in_ok-surveys.ensures.done) (making g (goal.at.returns-clause-left g c).In_ok-surveys _ _ c.survey_all.ensures.files (ap (map tells) c.deref-3.ensures.value))
     c.write_joined.ensures.told c.write_joined.result c.write_joined.ensures.left
 
 pub returns-clause-streams : goal.returns-clause-streams

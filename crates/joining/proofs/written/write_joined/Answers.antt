@@ -4,13 +4,14 @@ use Rattle.outside.specs.Files.{Holds, IsThere}
 use Rattle.outside.proofs.FilesLaws.{emptied_there}
 use Rattle.std.proofs.lemmas.List.{length-map}
 use Rattle.frame_writer.proofs.WritingLaws.{ok-map}
-use Rattle.sync_survey.specs.Faults.{tells}
+use Rattle.std.specs.Prelude.{IfSome}
+use Rattle.sync_survey.specs.Faults.{SurveyFields, tells}
 use Rattle.laying.specs.Passing.{IsFresh}
 use Rattle.commands.specs.One.{most_frames, holding, IsPassFault, first_input}
 use Rattle.commands.specs.Left.{seen}
 use Rattle.commands.proofs.OutputLaws.{output_whole, told_whole, told_prefix}
 use Rattle.joining.specs.Join.{joined_file}
-use Rattle.joining.specs.Inputs.{CanBeJoined, AreAlike, told_parts}
+use Rattle.joining.specs.Inputs.{CanBeJoined, AreAlike, class_in, told_parts}
 use Rattle.joining.specs.Laying.{AreSources}
 use Rattle.joining.proofs.PlanLaws.{can-some}
 use Rattle.joining.proofs.StreamLaws.{sources-inputs, first-source}
@@ -43,7 +44,7 @@ append_joined-requires-clause-target g c =
     subst (λ f. IsThere f c.args.output.now) (sym c.in-Ok.ensures.created) (emptied_there (g.D.Folder.files c.args.folder.now) c.args.output.now)
 
 pub append_joined-requires-clause-fresh : goal.append_joined-requires-clause-fresh
-append_joined-requires-clause-fresh g c = subst (λ k. IsFresh k c.in_ok-buffers.buffers) c.class.ensures c.in_ok-buffers.ensures
+append_joined-requires-clause-fresh g c = subst (λ (l : List SurveyFields). IfSome (class_in l) (λ class. IsFresh class c.args.buffers.now)) c.known_at-survey.ensures c.requires.fresh
 
 pub returns-clause-written : goal.returns-clause-written
 returns-clause-written g c =
