@@ -57,6 +57,9 @@ fn tag_at_offset(alloc: Global, offset: u64, block: &[u8]) -> Result<Tag, FileTa
         (record { kind = Ape; length = length block.now })
         → tag_of_block offset block.now ≡ Ok tag) }
     ensures cause { IfErr result (IsBlockCause offset block.now) }
+    ensures elsewhere { (block_front block.now ≡ Some
+        (record { kind = Ape; length = length block.now }) → ⊥)
+        → result ≡ Err (FileTagFault.Bad offset) }
 {
     match block_at(block) {
         Some(front) if matches!(front.kind, Kind::Ape) && front.length == block.len() as u64 => {
