@@ -1,14 +1,15 @@
 //! The next usable frame.
-ghost use Rattle.std.specs.Prelude.{◌≡◌, ◌+◌, ◌^◌, ◌<◌, ◌≤◌, ℕ, List, false, length, IfOk, IfErr, IfSome, OnOk};
-ghost use Rattle.frame_header.specs.Fields.{ClassFields};
+ghost use Rattle.std.specs.Prelude.{◌≡◌, ◌+◌, ◌^◌, ◌<◌, ◌≤◌, ℕ, List, Ok, false, length, IfOk, IfErr, IfSome, OnOk};
+ghost use Rattle.frame_header.specs.Fields.{ClassFields, HeaderFields};
 ghost use Rattle.sync_survey.specs.Start.{is_anchor as is_anchor_lem};
 ghost use Rattle.outside.specs.Files.{Holds};
 ghost use Rattle.outside.specs.Counts.{OnlyReads};
 ghost use Rattle.outside.specs.Feed.{IsFedFrom};
 ghost use Rattle.sync_survey.specs.declared.items.Item.TheVariants.{Frame};
-ghost use Rattle.sync_survey.specs.Items.{size_of, item_front as item_front_lem};
+ghost use Rattle.sync_survey.specs.Items.{size_of, header_front as header_front_lem, item_front as item_front_lem};
+ghost use Rattle.sync_survey.specs.Looks.{ReachArea};
 ghost use Rattle.sync_survey.specs.Survey.{HasLength};
-ghost use Rattle.salvage.specs.Usable.{next_usable as next_usable_lem};
+ghost use Rattle.salvage.specs.Usable.{is_usable, next_usable as next_usable_lem};
 ghost use Rattle.salvage.specs.Walk.{first_frame as first_frame_lem};
 ghost use Rattle.salvage.specs.Damaged.{IsReadRefusal};
 ghost use Rattle.salvage.specs.Steps.{may_begin as may_begin_lem, may_begin_block as may_begin_block_lem, HasNoHeader, IsBare};
@@ -63,6 +64,20 @@ fn is_anchor(class: Class, bytes: &[u8]) -> bool
     }
 }
 
+/// Whether the frame that these bytes begin with is usable for the role. They are those at the offset.
+// It stands apart, and reads the header once more, so that a search reads no more of a header than it needs.
+#[inline(never)]
+fn admits_front(role: &Role, bytes: &[u8], offset: u64) -> bool
+    requires room { (h : HeaderFields) → header_front_lem bytes.now ≡ Ok h → ReachArea h bytes.now }
+    ensures { (h : HeaderFields) → header_front_lem bytes.now ≡ Ok h
+        → result ≡ is_usable role.now (record { offset = offset; header = h }) bytes.now }
+{
+    let Ok(header) = header_front(bytes) else {
+        return false;
+    };
+    role.admits(&PlacedFrame { offset, header }, bytes)
+}
+
 /// Whether a usable anchored frame may stand at this place of a look at the offset. It is judged where the look
 /// shows all of it and the 32 bytes behind it.
 fn may_stand(role: &Role, front: &[u8], place: usize, offset: u64) -> bool
@@ -81,11 +96,7 @@ fn may_stand(role: &Role, front: &[u8], place: usize, offset: u64) -> bool
     if !is_anchor(header.class(), bytes_behind(front, end)) {
         return false;
     }
-    let frame = PlacedFrame {
-        offset: offset + place as u64,
-        header,
-    };
-    role.admits(&frame, bytes)
+    admits_front(role, bytes, offset + place as u64)
 }
 
 /// The first place of a look, from one on and before another, where a header may begin; that other where none

@@ -1,12 +1,13 @@
 -- No header stands there, or the frame has no anchor or isn't usable.
 use Rattle.std.proofs.Common.{◌≡◌, ◌+◌, ◌≤◌, length, drop, Ok, refl, sym, ◌∙◌, ap, arith, length-drop}
+use Rattle.frame_header.specs.Fields.{HeaderFields}
 use Rattle.frame_header.specs.Tables.{class_of, length_of}
 use Rattle.sync_survey.specs.declared.items.Item.TheVariants.{Frame}
 use Rattle.sync_survey.specs.Items.{header_front, item_front}
 use Rattle.sync_survey.specs.Start.{is_anchor}
 use Rattle.sync_survey.proofs.StepLaws.{overhead_few}
 use Rattle.salvage.specs.Usable.{is_usable}
-use Rattle.salvage.proofs.SearchLaws.{header_of, frame_of_header, bare_unanchored, bare_unusable}
+use Rattle.salvage.proofs.SearchLaws.{header_of, headers_same, frame_of_header, bare_unanchored, bare_unusable}
 use Rattle.salvage.proofs.search.may_stand.Goals as goal
 
 pub returns-in_default : goal.returns-in_default
@@ -25,13 +26,17 @@ returns-then-not-is_anchor c = λ _.
     ∙ sym c.is_anchor.ensures
     ∙ c.if-not-is_anchor.true)
 
-pub admits-requires-clause-room : goal.admits-requires-clause-room
-admits-requires-clause-room c =
-    let h = c.in-Ok.header in
-    let bytes = drop c.args.place c.args.front.now in
-    let here : header_front bytes ≡ Ok h = ap header_front (sym c.bytes_behind-bytes.ensures) ∙ sym c.header_front.ensures ∙ c.in-Ok.is in
-    let room = overhead_few bytes (Frame h) h (sym (frame_of_header bytes h here)) refl in
-    omega (arith, room, c.if-end-front.false, c.length.ensures.length, length-drop c.args.place c.args.front.now, ap length c.bytes_behind-bytes.ensures)
+pub admits_front-requires : goal.admits_front-requires
+admits_front-requires c = record {
+  room = λ h is.
+      let bytes = drop c.args.place c.args.front.now in
+      let here : header_front bytes ≡ Ok c.in-Ok.header = ap header_front (sym c.bytes_behind-bytes.ensures) ∙ sym c.header_front.ensures ∙ c.in-Ok.is in
+      let there : header_front bytes ≡ Ok h = ap header_front (sym c.bytes_behind-bytes.ensures) ∙ is in
+      let same = headers_same bytes c.in-Ok.header h here there in
+      let room = overhead_few bytes (Frame h) h (sym (frame_of_header bytes h there)) refl in
+      let long : length_of (class_of c.in-Ok.header) c.in-Ok.header.slot ≡ length_of (class_of h) h.slot = ap (λ (f : HeaderFields). length_of (class_of f) f.slot) same in
+      omega (arith, room, long, c.if-end-front.false, c.length.ensures.length, length-drop c.args.place c.args.front.now, ap length c.bytes_behind-bytes.ensures);
+}
 
 pub returns : goal.returns
 returns c = λ none.
@@ -41,4 +46,6 @@ returns c = λ none.
     let here : header_front (drop place front) ≡ Ok h = ap header_front (sym c.bytes_behind-bytes.ensures) ∙ sym c.header_front.ensures ∙ c.in-Ok.is in
     let near : place + length_of (class_of h) h.slot ≤ 4064 = omega (arith, c.if-end-gt-REACH.false, c.length.ensures.length) in
     bare_unusable c.args.role.now c.args.offset front place h here near
-    (ap (is_usable c.args.role.now (record { offset = c.args.offset + place; header = h })) (sym c.bytes_behind-bytes.ensures) ∙ sym c.admits.ensures ∙ none)
+    (ap (is_usable c.args.role.now (record { offset = c.args.offset + place; header = h })) (sym c.bytes_behind-bytes.ensures)
+    ∙ sym (c.admits_front.ensures h (sym c.header_front.ensures ∙ c.in-Ok.is))
+    ∙ none)
