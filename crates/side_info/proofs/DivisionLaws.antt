@@ -7,7 +7,7 @@ use Rattle.std.proofs.lemmas.List.{take_more}
 use Rattle.std.specs.Int.{bit_at}
 use Rattle.bit_fields.specs.Bits.{bits, bits_of, AreBits}
 use Rattle.bit_fields.proofs.BitsLaws.{AreBits-bits_of, bits-append, bits-one}
-use Rattle.side_info.specs.declared.division.TheConstants.{REMAINDERS}
+use Rattle.side_info.specs.declared.division.TheConstants.{REMAINDERS, REMAINDERS_2, REMAINDERS_3, REMAINDERS_4}
 use Rattle.side_info.specs.CheckWord.{polynomial, bit_step, remainder}
 
 -- ---- one bit
@@ -160,6 +160,115 @@ module _ (word byte : ℕ) (small : word < 2 ^ 16) (few : byte < 256) where
       ∙ ap₂ bit_xor entry (moved ∙ sym lowest)
       ∙ xor_comm (get_or REMAINDERS left 0) (word * 256 % 65536))
 
+-- ---- four bytes, by a table for each
+
+-- the word after eight zero bits
+abbrev behind : ℕ → ℕ
+behind word = remainder word eight_zeros
+
+behind-xor : (a b : ℕ) → behind (bit_xor a b) ≡ bit_xor (behind a) (behind b)
+behind-xor a b = remainder-xor eight_zeros a b zeros_are_bits
+
+-- a byte comes to the top of the word
+remainder-top : (word byte : ℕ) → byte < 256 → remainder word (bits_of 8 byte) ≡ behind (bit_xor word (byte * 256))
+remainder-top word byte few =
+    let gone : remainder (byte * 256) (bits_of 8 byte) ≡ 0 = eqb-true _ _ (passes 256 (λ b. eqb (remainder (b * 256) (bits_of 8 b)) 0) byte cancels few) in
+    let back : bit_xor (byte * 256) (bit_xor word (byte * 256)) ≡ word =
+    ap (bit_xor (byte * 256)) (xor_comm word (byte * 256)) ∙ sym (xor_assoc (byte * 256) (byte * 256) word) ∙ ap (λ x. bit_xor x word) (xor_self (byte * 256)) in
+    ap (λ w. remainder w (bits_of 8 byte)) (sym back)
+    ∙ remainder-xor (bits_of 8 byte) (byte * 256) (bit_xor word (byte * 256)) (AreBits-bits_of 8 byte)
+    ∙ ap₂ bit_xor gone (ap (remainder (bit_xor word (byte * 256))) (zeros-bits_of byte))
+
+-- it meets the upper byte
+over : (high low byte : ℕ) → low < 256 → bit_xor (high * 256 + low) (byte * 256) ≡ bit_xor (bit_xor high byte * 256) low
+over high low byte few =
+    ap (bit_xor (high * 256 + low)) (sym (add-zero (byte * 256)))
+    ∙ xor_block 8 high byte low 0 few (lit< tt)
+    ∙ ap (λ x. bit_xor high byte * 256 + x) (xor_zero_r low)
+    ∙ sym (xor_shifted (bit_xor high byte) 8 low few)
+
+both_high : (a b : ℕ) → bit_xor (a * 256) (b * 256) ≡ bit_xor a b * 256
+both_high a b = rw (← add-zero (a * 256), ← add-zero (b * 256), ← add-zero (bit_xor a b * 256)) (xor_block 8 a b 0 0 (lit< tt) (lit< tt))
+
+-- each table has what eight more zero bits make of the one before
+tabled-2 : all_below 256 (λ b. eqb (remainder (get_or REMAINDERS b 0) eight_zeros) (get_or REMAINDERS_2 b 0)) ≡ true
+unfolding remainder bit_step
+tabled-2 = refl
+
+tabled-3 : all_below 256 (λ b. eqb (remainder (get_or REMAINDERS_2 b 0) eight_zeros) (get_or REMAINDERS_3 b 0)) ≡ true
+unfolding remainder bit_step
+tabled-3 = refl
+
+tabled-4 : all_below 256 (λ b. eqb (remainder (get_or REMAINDERS_3 b 0) eight_zeros) (get_or REMAINDERS_4 b 0)) ≡ true
+unfolding remainder bit_step
+tabled-4 = refl
+
+module _ (byte : ℕ) (few : byte < 256) where
+  entry : behind (byte * 256) ≡ get_or REMAINDERS byte 0
+  entry = eqb-true _ _ (passes 256 (λ b. eqb (remainder (b * 256) eight_zeros) (get_or REMAINDERS b 0)) byte tabled few)
+
+  entry-2 : behind (behind (byte * 256)) ≡ get_or REMAINDERS_2 byte 0
+  entry-2 = ap behind entry ∙ eqb-true _ _ (passes 256 (λ b. eqb (remainder (get_or REMAINDERS b 0) eight_zeros) (get_or REMAINDERS_2 b 0)) byte tabled-2 few)
+
+  entry-3 : behind (behind (behind (byte * 256))) ≡ get_or REMAINDERS_3 byte 0
+  entry-3 = ap behind entry-2 ∙ eqb-true _ _ (passes 256 (λ b. eqb (remainder (get_or REMAINDERS_2 b 0) eight_zeros) (get_or REMAINDERS_3 b 0)) byte tabled-3 few)
+
+  entry-4 : behind (behind (behind (behind (byte * 256)))) ≡ get_or REMAINDERS_4 byte 0
+  entry-4 = ap behind entry-3 ∙ eqb-true _ _ (passes 256 (λ b. eqb (remainder (get_or REMAINDERS_3 b 0) eight_zeros) (get_or REMAINDERS_4 b 0)) byte tabled-4 few)
+
+module _ (word a b c d : ℕ) (small : word < 2 ^ 16) (a_few : a < 256) (b_few : b < 256) (c_few : c < 256) (d_few : d < 256) where
+  -- what meets the upper byte of the word, and what meets the lower
+  abbrev upper : ℕ
+  upper = bit_xor (word / 256) a
+
+  abbrev lower : ℕ
+  lower = bit_xor (word % 256) b
+
+  after_a : remainder word (bits_of 8 a) ≡ bit_xor (behind (upper * 256)) (word % 256 * 256)
+  after_a =
+      let low : word % 256 < 256 = mod_below word 256 (lit< tt) in
+      let whole : word ≡ word / 256 * 256 + word % 256 = omega arith in
+      let moved : behind (word % 256) ≡ word % 256 * 256 = eqb-true _ _ (passes 256 (λ low. eqb (remainder low eight_zeros) (low * 256)) (word % 256) moves low) in
+      remainder-top word a a_few
+      ∙ ap behind (ap (λ w. bit_xor w (a * 256)) whole ∙ over (word / 256) (word % 256) a low)
+      ∙ behind-xor (upper * 256) (word % 256)
+      ∙ ap (bit_xor (behind (upper * 256))) moved
+
+  after_b : remainder (remainder word (bits_of 8 a)) (bits_of 8 b) ≡ bit_xor (behind (behind (upper * 256))) (behind (lower * 256))
+  after_b =
+      ap (λ w. remainder w (bits_of 8 b)) after_a
+      ∙ remainder-top (bit_xor (behind (upper * 256)) (word % 256 * 256)) b b_few
+      ∙ ap behind (xor_assoc (behind (upper * 256)) (word % 256 * 256) (b * 256) ∙ ap (bit_xor (behind (upper * 256))) (both_high (word % 256) b))
+      ∙ behind-xor (behind (upper * 256)) (lower * 256)
+
+  after_c : remainder (remainder (remainder word (bits_of 8 a)) (bits_of 8 b)) (bits_of 8 c)
+      ≡ bit_xor (bit_xor (behind (behind (behind (upper * 256)))) (behind (behind (lower * 256)))) (behind (c * 256))
+  after_c =
+      let x = behind (behind (upper * 256)) in
+      let y = behind (lower * 256) in
+      ap (λ w. remainder w (bits_of 8 c)) after_b
+      ∙ remainder-top (bit_xor x y) c c_few
+      ∙ behind-xor (bit_xor x y) (c * 256)
+      ∙ ap (λ w. bit_xor w (behind (c * 256))) (behind-xor x y)
+
+  after_d : remainder (remainder (remainder (remainder word (bits_of 8 a)) (bits_of 8 b)) (bits_of 8 c)) (bits_of 8 d)
+      ≡ bit_xor (bit_xor (bit_xor (behind (behind (behind (behind (upper * 256))))) (behind (behind (behind (lower * 256))))) (behind (behind (c * 256)))) (behind (d * 256))
+  after_d =
+      let x = behind (behind (behind (upper * 256))) in
+      let y = behind (behind (lower * 256)) in
+      let z = behind (c * 256) in
+      ap (λ w. remainder w (bits_of 8 d)) after_c
+      ∙ remainder-top (bit_xor (bit_xor x y) z) d d_few
+      ∙ behind-xor (bit_xor (bit_xor x y) z) (d * 256)
+      ∙ ap (λ w. bit_xor w (behind (d * 256))) (behind-xor (bit_xor x y) z ∙ ap (λ w. bit_xor w (behind z)) (behind-xor x y))
+
+  pub remainder-four : bit_xor (bit_xor (bit_xor (get_or REMAINDERS_4 (bit_xor (word / 256) a) 0) (get_or REMAINDERS_3 (bit_xor (word % 256) b) 0)) (get_or REMAINDERS_2 c 0)) (get_or REMAINDERS d 0)
+      ≡ remainder (remainder (remainder (remainder word (bits_of 8 a)) (bits_of 8 b)) (bits_of 8 c)) (bits_of 8 d)
+  remainder-four =
+      let upper_few : upper < 256 = xor_lt 8 (word / 256) a (omega (arith, small)) a_few in
+      let lower_few : lower < 256 = xor_lt 8 (word % 256) b (mod_below word 256 (lit< tt)) b_few in
+      sym (after_d ∙ ap₂ bit_xor (ap₂ bit_xor (ap₂ bit_xor (entry-4 upper upper_few) (entry-3 lower lower_few)) (entry-2 c c_few)) (entry d d_few))
+
 -- ---- bytes
 -- one byte more
 pub remainder-more : (word : ℕ) (xs : List ℕ) (i : ℕ) → i < length xs → remainder (remainder word (bits (take i xs))) (bits_of 8 (get_or xs i 0)) ≡ remainder word (bits (take (i + 1) xs))
@@ -169,6 +278,22 @@ remainder-more word xs i h =
     (ap (λ bs. bits (take i xs) ++ bs) (sym (bits-one (get_or xs i 0)))
     ∙ sym (bits-append (take i xs) (get_or xs i 0 ∷ []))
     ∙ ap bits (sym (take_more xs i 0 h)))
+
+-- four bytes more
+pub remainder-four_more : (word : ℕ) (xs : List ℕ) (i : ℕ) → i + 4 ≤ length xs
+    → remainder (remainder (remainder (remainder (remainder word (bits (take i xs))) (bits_of 8 (get_or xs i 0))) (bits_of 8 (get_or xs (i + 1) 0))) (bits_of 8 (get_or xs (i + 2) 0))) (bits_of 8 (get_or xs (i + 3) 0))
+    ≡ remainder word (bits (take (i + 4) xs))
+remainder-four_more word xs i room =
+    let second = remainder-more word xs (i + 1) (omega (arith, room)) in
+    let third = remainder-more word xs (i + 2) (omega (arith, room)) in
+    let fourth = remainder-more word xs (i + 3) (omega (arith, room)) in
+    let two : i + 1 + 1 ≡ i + 2 = omega arith in
+    let three : i + 2 + 1 ≡ i + 3 = omega arith in
+    let four : i + 3 + 1 ≡ i + 4 = omega arith in
+    ap (λ w. remainder (remainder (remainder w (bits_of 8 (get_or xs (i + 1) 0))) (bits_of 8 (get_or xs (i + 2) 0))) (bits_of 8 (get_or xs (i + 3) 0))) (remainder-more word xs i (omega (arith, room)))
+    ∙ ap (λ w. remainder (remainder w (bits_of 8 (get_or xs (i + 2) 0))) (bits_of 8 (get_or xs (i + 3) 0))) (second ∙ ap (λ n. remainder word (bits (take n xs))) two)
+    ∙ ap (λ w. remainder w (bits_of 8 (get_or xs (i + 3) 0))) (third ∙ ap (λ n. remainder word (bits (take n xs))) three)
+    ∙ fourth ∙ ap (λ n. remainder word (bits (take n xs))) four
 
 pub remainder-bits_append : (word : ℕ) (xs ys : List ℕ) → remainder (remainder word (bits xs)) (bits ys) ≡ remainder word (bits (xs ++ ys))
 remainder-bits_append word xs ys = sym (remainder-append (bits xs) (bits ys) word) ∙ ap (remainder word) (sym (bits-append xs ys))

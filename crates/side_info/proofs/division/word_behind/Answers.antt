@@ -1,14 +1,15 @@
--- One byte more.
-use Rattle.std.proofs.Common.{sym, ap, ◌∙◌}
-use Rattle.bit_fields.proofs.BitsLaws.{bits-nil}
+-- The bytes behind the last four follow one at a time.
+use Rattle.std.proofs.Common.{◌-◌, ◌*◌, ◌/◌, length, take, drop, ap, ap₂, ◌∙◌, arith, take_all, length-drop, take-append-drop}
+use Rattle.bit_fields.specs.Bits.{bits}
 use Rattle.side_info.specs.CheckWord.{remainder}
-use Rattle.side_info.proofs.DivisionLaws.{remainder-nil, remainder-more}
+use Rattle.side_info.proofs.DivisionLaws.{remainder-bits_append}
 use Rattle.side_info.proofs.division.word_behind.Goals as goal
 
-pub loop-byte-init : goal.loop-byte-init
-loop-byte-init c = sym (ap (remainder c.args.word) bits-nil ∙ remainder-nil c.args.word)
-
-pub loop-byte-preserved : goal.loop-byte-preserved
-loop-byte-preserved c =
-    let e = remainder-more c.args.word c.args.bytes.now c.loop-byte.byte-index c.loop-byte-test.true in
-    cc
+pub returns : goal.returns
+returns c =
+    let xs = c.args.bytes.now in
+    let k = 4 * (length xs / 4) in
+    c.behind_bytes.ensures
+    ∙ ap₂ (λ w ys. remainder w (bits ys)) c.behind_fours.ensures (take_all (length xs - k) (drop k xs) (omega (arith, length-drop k xs)))
+    ∙ remainder-bits_append c.args.word (take k xs) (drop k xs)
+    ∙ ap (λ ys. remainder c.args.word (bits ys)) (take-append-drop k xs)
