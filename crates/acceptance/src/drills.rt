@@ -3,8 +3,8 @@
 use acceptance_kit::rows::{MORE, More, ROW, Row, first_difference, wants_memory};
 use acceptance_kit::running::{Ended, sink, words_of};
 use acceptance_kit::{failing, files};
+use in_memory::MemFolder;
 use mp3_cli::run;
-use outside::MemFolder;
 use std::alloc::{AllocError, AllocGlobal, Global};
 use std::process::Abort;
 use std::test::Fail;

@@ -3,7 +3,7 @@
 use crate::check_words::WRONG_M;
 use acceptance_kit::running::{Ended, folder_of_frames, run_over, sink};
 use acceptance_kit::scripts::first_unlike;
-use outside::{MemFolder, MemSink};
+use in_memory::{MemFolder, MemSink};
 use std::alloc::{AllocError, AllocGlobal, Global};
 use std::process::Abort;
 use std::test::Fail;

@@ -6,7 +6,7 @@ use acceptance_kit::running::{folder_of_file, list_to};
 use acceptance_kit::scripts::first_unlike;
 use acceptance_kit::steps::{Steps, first_strayed};
 use acceptance_kit::{kinds, steps};
-use outside::MemFolder;
+use in_memory::MemFolder;
 use std::alloc::{AllocError, AllocGlobal};
 use std::process::Abort;
 use std::test::Fail;

@@ -3,7 +3,7 @@
 use acceptance_kit::rows::{Failing, File, MORE, More, ROW, Row, first_difference};
 use acceptance_kit::steps::{Steps, first_strayed};
 use acceptance_kit::{kinds, steps};
-use outside::Call;
+use in_memory::Call;
 use std::test::Fail;
 use test_files::files::Stretch;
 use test_files::frames::{G, G_LOWER, Z};

@@ -4,7 +4,8 @@
 
 use crate::failing;
 use crate::running::{Ended, run_with_room};
-use outside::{Call, Folder, MemFolder};
+use in_memory::{Call, MemFolder};
+use outside::Folder;
 use std::alloc::{AllocError, Global};
 use test_files::files::{Stretch, bytes_of};
 

@@ -1,7 +1,8 @@
 //! Commands in words, over a folder in memory.
 
+use in_memory::{MemFolder, MemSink};
 use mp3_cli::run;
-use outside::{Folder, MemFolder, MemSink};
+use outside::Folder;
 use std::alloc::{AllocError, Global};
 use test_files::files::{Stretch, bytes_of};
 use test_files::frames::{Frame, file_of};

@@ -21,7 +21,7 @@
 
 use crate::rows::{Found, bytes_differ, difference_of_done, difference_of_sent, wants_memory};
 use crate::running::{Ended, run_with_room};
-use outside::{Call, MemFolder};
+use in_memory::{Call, MemFolder};
 use std::alloc::{AllocError, AllocFailed, Global};
 use test_files::named::FILES;
 use test_files::texts::{Named, TextFault, bytes_of_words, define, number_of};

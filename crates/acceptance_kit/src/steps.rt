@@ -3,7 +3,7 @@
 use crate::kinds;
 use crate::rows::{File, difference_of_files, put_files, wants_memory};
 use crate::running::{Ended, run_with_room};
-use outside::{Call, MemFolder};
+use in_memory::{Call, MemFolder};
 use std::alloc::{AllocError, Global};
 use test_files::files::bytes_of;
 

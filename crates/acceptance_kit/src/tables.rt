@@ -5,7 +5,7 @@
 macro_rules! failing {
     ($($call:ident $number:literal),+) => {
         $crate::rows::More {
-            fails: Some(&[$($crate::rows::Failing { call: outside::Call::$call, number: $number }),+]),
+            fails: Some(&[$($crate::rows::Failing { call: in_memory::Call::$call, number: $number }),+]),
             ..$crate::rows::MORE
         }
     };
@@ -106,7 +106,7 @@ macro_rules! refused {
 macro_rules! kinds {
     ($($call:ident $least:literal $($line:literal),+ $(after $written:literal)?;)+) => {
         &[$($crate::steps::Kind {
-            call: outside::Call::$call,
+            call: in_memory::Call::$call,
             lines: &[$($line),+],
             least: $least,
             written: 0 $(+ $written)?,

@@ -69,7 +69,13 @@ pub(crate) fn table_of<P: Policy>(
     for i in (0..needs.len()).rev() {
         let need = &needs[i];
         let areas = areas_of(need, policy);
-        append_frame(window, need.bytes as u32, areas.as_slice(), &mut sums, &mut places)?;
+        append_frame(
+            window,
+            need.bytes as u32,
+            areas.as_slice(),
+            &mut sums,
+            &mut places,
+        )?;
     }
     Ok(Table {
         sums: sums.by_free,

@@ -3,7 +3,8 @@
 use commands::EditFault;
 use drill::drill;
 use drill_stream::{StreamFault, Summary, send_summary, stream_folder, write_stream};
-use outside::{Call, Failed, MemFolder, MemSink};
+use in_memory::{Call, MemFolder, MemSink};
+use outside::Failed;
 use std::alloc::{AllocError, AllocGlobal, Global};
 use std::process::Abort;
 use std::test::Fail;

@@ -3,7 +3,7 @@
 //! A test owns its folder and ends in one place, and all else borrows it: at each end of the owner the folder is let go, which
 //! costs the check much.
 
-use outside::MemFolder;
+use in_memory::MemFolder;
 use std::alloc::{AllocError, AllocGlobal, Global};
 use std::process::Abort;
 use test_files::files::{Stretch, bytes_of};

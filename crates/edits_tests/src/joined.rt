@@ -3,7 +3,7 @@
 use crate::files::{are_same, expect_file, expect_part, length_of, put_file};
 use cue_sheet::Place;
 use edits::{EditFault, Refusal, cut, join};
-use outside::{Call, MemFolder};
+use in_memory::{Call, MemFolder};
 use std::alloc::{AllocError, AllocGlobal, Global};
 use std::process::Abort;
 use std::test::Fail;

@@ -1,7 +1,7 @@
 //! A file of more frames than any other of the tests has: its list and its packing find memory for all of them.
 
 use edits::{list, pack};
-use outside::{MemFolder, MemSink};
+use in_memory::{MemFolder, MemSink};
 use std::alloc::{AllocError, AllocGlobal, Global};
 use std::test::Fail;
 

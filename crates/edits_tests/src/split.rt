@@ -7,7 +7,7 @@ ghost use Rattle.cue_sheet.specs.Places.{IsPlace};
 use crate::files::{are_same, length_of, put_file};
 use cue_sheet::{CueFault, Place};
 use edits::{EditFault, Points, Refusal, cut, split};
-use outside::{Call, MemFolder};
+use in_memory::{Call, MemFolder};
 use std::alloc::{AllocError, AllocGlobal, Global};
 use std::process::Abort;
 use std::test::Fail;

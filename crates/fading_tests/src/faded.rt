@@ -3,7 +3,7 @@
 use commands::{EditFault, Refusal};
 use fade_plan::EnvelopeFault;
 use fading::fade;
-use outside::MemFolder;
+use in_memory::MemFolder;
 use std::alloc::{AllocError, AllocGlobal, Global};
 use std::process::Abort;
 use std::rt::HostRuntime;

@@ -1,6 +1,6 @@
 //! What a survey finds in a file.
 
-use outside::MemFolder;
+use in_memory::MemFolder;
 use std::alloc::{AllocError, AllocGlobal, Global};
 use std::process::Abort;
 use sync_survey::{Piece, Survey, SurveyFault, survey};

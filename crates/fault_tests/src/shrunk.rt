@@ -1,7 +1,7 @@
 //! Files that are shorter than the folder says.
 
 use crate::stretches::Z;
-use outside::{MemFolder, ShortFolder};
+use in_memory::{MemFolder, ShortFolder};
 use std::alloc::{AllocError, Global};
 use std::test::Fail;
 use sync_survey::{SurveyFault, survey};

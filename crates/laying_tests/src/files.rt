@@ -7,8 +7,9 @@ ghost use Rattle.part_needs.specs.Needs.{need_of};
 ghost use Rattle.laying.specs.Fits.{FitsFrom};
 
 use crate::outputs::{expect_output, put_input};
+use in_memory::MemFolder;
 use laying::{Buffers, Relay, Section};
-use outside::{Folder, MemFolder, Pass, PassFault};
+use outside::{Folder, Pass, PassFault};
 use slot_plan::Placed;
 use std::alloc::{AllocError, AllocGlobal};
 use std::process::Abort;

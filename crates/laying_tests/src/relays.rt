@@ -1,8 +1,9 @@
 //! A part worked out by hand: frames of MPEG-1, 44,100 Hz and 128 kbit/s in two channels have 417 bytes and an area of 381
 //! (ISO/IEC 11172-3, 2.4.3.1), a lead-in at 32 kbit/s 104 and an area of 68.
 use crate::outputs::{expect_output, put_input};
+use in_memory::MemFolder;
 use laying::{Buffers, Relay, Section, asked_plans, plans_fit};
-use outside::{Folder, MemFolder, Pass, PassFault};
+use outside::{Folder, Pass, PassFault};
 use part_needs::{Parts, one_part_fits};
 use slot_plan::Keep;
 use std::alloc::{AllocError, AllocGlobal};

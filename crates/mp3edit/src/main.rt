@@ -12,7 +12,8 @@ ghost use Rattle.job_words.specs.Words.{job_of};
 ghost use Rattle.mp3_cli.specs.Run.{always_of, world, AnswersWords, IsLegal, HoldsAllStreams};
 
 use mp3_cli::run;
-use outside::{DiskFolder, Folder, Sink, StdSink};
+use on_disk::{DiskFolder, StdSink};
+use outside::{Folder, Sink};
 use std::alloc::Global;
 use std::fs::File;
 use std::process::ExitCode;

@@ -5,6 +5,3 @@ pub mod FeedLaws
 pub mod PassedLaws
 pub mod PassLaws
 pub mod SentLaws
-pub mod KnownLaws
-mod SlotsLaws
-pub mod ShortLaws

@@ -1,12 +1,5 @@
 pub mod Files
 pub mod Counts
-pub mod Held
-pub mod Plan
-pub mod Slots
-pub mod Memory
-pub mod Short
-pub mod Real
-pub mod Opening
 pub mod Faults
 pub mod Feed
 pub mod Passed

@@ -8,7 +8,8 @@ mod shaky;
 mod short;
 mod slow;
 
-use outside::{Call, Failed, Folder, MemFolder, MemSink, read_full, send_all, write_all};
+use in_memory::{Call, MemFolder, MemSink};
+use outside::{Failed, Folder, read_full, send_all, write_all};
 use std::process::Abort;
 use std::test::Fail;
 

@@ -2,7 +2,7 @@
 //! worked out by hand.
 
 use commands::{EditFault, Refusal};
-use outside::MemFolder;
+use in_memory::MemFolder;
 use packing::{PackMode, pack_with};
 use std::alloc::AllocGlobal;
 use std::process::Abort;

@@ -3,7 +3,8 @@ ghost use Rattle.std.specs.Prelude.{◌<◌, ◌≤◌, length, IfOk};
 ghost use Rattle.sync_survey.specs.Faults.{tells};
 ghost use Rattle.sync_survey.specs.Survey.{IsLaidOut};
 
-use outside::{Folder, MemFolder};
+use in_memory::MemFolder;
+use outside::Folder;
 use part_needs::{Parts, one_part_fits};
 use slot_plan::{Keep, Need, Placed, Plan};
 use std::alloc::{AllocError, AllocGlobal};

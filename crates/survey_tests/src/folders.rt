@@ -2,7 +2,8 @@
 
 use crate::untold::Untold;
 use frame_header::{Class, Header, Slot, Version};
-use outside::{Call, Folder, MemFolder};
+use in_memory::{Call, MemFolder};
+use outside::Folder;
 use std::alloc::{AllocError, AllocGlobal, Global};
 use std::process::Abort;
 use std::test::Fail;

@@ -3,7 +3,7 @@
 use crate::files::{expect_file, expect_part, put_file};
 use cue_sheet::Place;
 use edits::{EditFault, Refusal, cut, pack};
-use outside::MemFolder;
+use in_memory::MemFolder;
 use std::alloc::{AllocError, AllocGlobal, Global};
 use std::process::Abort;
 use std::test::Fail;

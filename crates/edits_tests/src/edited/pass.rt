@@ -3,7 +3,8 @@
 use crate::edited::slow::{Slow, Trouble};
 use crate::files::{expect_file, put_file};
 use edits::{Channels, EditFault, Shift, gain};
-use outside::{Folder, MemFolder};
+use in_memory::MemFolder;
+use outside::Folder;
 use std::alloc::{AllocError, AllocGlobal, Global};
 use std::process::Abort;
 use std::test::Fail;

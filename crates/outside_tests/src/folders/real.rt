@@ -1,7 +1,8 @@
 //! What the system does with real files and streams.
 use super::copied;
 use super::shaky::{Moves, Notes, Shaky};
-use outside::{DiskFolder, Failed, FindFault, Folder, Sink, StdSink};
+use on_disk::{DiskFolder, StdSink};
+use outside::{Failed, FindFault, Folder, Sink};
 use std::fs;
 use std::os::unix::fs::symlink;
 use std::process::Abort;

@@ -1,6 +1,7 @@
 //! A buffer in front of a sink.
 
-use outside::{Failed, MemSink, SendBuffer};
+use in_memory::MemSink;
+use outside::{Failed, SendBuffer};
 use std::alloc::{AllocError, Global};
 use std::process::Abort;
 use std::test::Fail;

@@ -1,6 +1,7 @@
 //! A folder whose files are shorter than it says.
 
-use outside::{Failed, FindFault, Folder, MemFolder, ShortFolder, read_full};
+use in_memory::{MemFolder, ShortFolder};
+use outside::{Failed, FindFault, Folder, read_full};
 use std::process::Abort;
 use std::test::Fail;
 

@@ -1,0 +1,2 @@
+mod SlotsLaws
+pub mod ShortLaws

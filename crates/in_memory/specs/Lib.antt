@@ -1,0 +1,5 @@
+pub mod Held
+pub mod Plan
+pub mod Slots
+pub mod Memory
+pub mod Short

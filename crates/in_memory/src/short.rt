@@ -1,0 +1,183 @@
+//! A folder that says greater lengths than it gives, for tests.
+ghost use Rattle.std.specs.Prelude.{◌≡◌, ℕ, ◌+◌, ◌-◌, ◌<◌, ◌≤◌, [], ◌++◌, List, None, Some, Ok, length, take, drop, min, true, false, IfOk, OnOk, OnErr, IsErrOf, IsTrue, is_err, option_copied, ◌⊎◌, unwrap_or};
+ghost use Rattle.outside.specs.Files.{untold, with_file, emptied, appended, Holds, IsThere, IsMissing, AreOctets};
+ghost use Rattle.in_memory.specs.Memory.{contents_of, counts_of};
+ghost use Rattle.in_memory.specs.Short.{create_missing_fails, IsCreated};
+ghost use Rattle.outside.specs.Counts.{OnlyReads, OnlyWrites, NothingFailed, Rose};
+
+use crate::memory_folder::MemFolder;
+use outside::{Failed, FindFault, Folder};
+
+/// A folder over one in memory that tells nothing, and whose files are shorter than `find` says, as where another program
+/// cuts them off while they are read. Its calls are those of the folder inside, but for three things: `find` answers so many
+/// bytes more than there are, or `u64::MAX` where that passes it; `read` gives no byte of a name that isn't inside; and
+/// `write` first creates such a name inside, and fails where that fails.
+#[derive(Drop)]
+pub struct ShortFolder {
+    inner: MemFolder,
+    extra: u64,
+    // The reads, into some room, of names that aren't inside.
+    unread: u64,
+}
+
+impl ShortFolder {
+    ghost use Rattle.in_memory.specs.Memory.{contents_of};
+
+    /// The folder whose files seem `extra` bytes longer than those of this one. It takes no memory.
+    pub fn new(inner: MemFolder, extra: u64) -> Self
+        ensures inner { result.inner ≡ inner }
+        ensures extra { result.extra ≡ extra }
+        ensures unread { result.unread ≡ 0 }
+    {
+        ShortFolder {
+            inner,
+            extra,
+            unread: 0,
+        }
+    }
+
+    /// The bytes of a file of the folder inside, or `None` where the name isn't there.
+    pub fn get(&self, name: &str) -> Option<&[u8]>
+        ensures { option_copied result ≡ contents_of self.now.inner name.now }
+    {
+        self.inner.get(name)
+    }
+}
+
+/// Creates a file of no bytes where the name isn't there, so that bytes can be appended to it.
+fn create_missing(folder: &mut MemFolder, name: &str) -> Result<(), Failed>
+    ensures fails { is_err result ≡ create_missing_fails folder.old name.now }
+    ensures there { OnOk result (IsThere (Some (contents_of folder.new)) name.now) }
+    ensures made { OnOk result (IsCreated folder.old folder.new name.now) }
+    ensures failed { OnErr result (Rose (counts_of folder.old).write_faults
+        (counts_of folder.new).write_faults) }
+    ensures done { OnOk result (counts_of folder.new ≡ counts_of folder.old) }
+    ensures counts { OnlyWrites (counts_of folder.old) (counts_of folder.new) }
+{
+    if folder.get(name).is_some() {
+        return Ok(());
+    }
+    folder.create(name)
+}
+
+impl Folder for ShortFolder {
+    ghost use Rattle.in_memory.specs.Memory.{contents_of, bytes_of, is_to_fail, find_answer, create_fails, Called};
+    ghost use Rattle.in_memory.specs.Short.{short_counts, is_inside, longer, short_write_fails};
+    ghost use Rattle.in_memory.specs.declared.memory_folder.Call.{Call};
+
+    ghost files = { λ _. untold };
+
+    ghost counts = { λ folder. short_counts folder };
+
+    fn find(&mut self, name: &str) -> Result<u64, FindFault>
+        ensures found { IfOk result (λ n. (bytes : List ℕ) → Holds untold name.now bytes
+            → n ≡ length bytes) }
+        ensures there { OnOk result (IsThere untold name.now) }
+        ensures octets { OnOk result ((bytes : List ℕ) → Holds untold name.now bytes
+            → AreOctets bytes) }
+        ensures missing { IsErrOf result FindFault.Absent → IsMissing untold name.now }
+        ensures absent { IsErrOf result FindFault.Absent
+            → Rose (short_counts self.old).misses (short_counts self.new).misses }
+        ensures failed { IsErrOf result FindFault.Failed
+            → Rose (short_counts self.old).read_faults (short_counts self.new).read_faults }
+        ensures files { untold ≡ untold }
+        ensures ends { (short_counts self.new).ends ≡ (short_counts self.old).ends }
+        ensures done { OnOk result (short_counts self.new ≡ short_counts self.old) }
+        ensures counts { OnlyReads (short_counts self.old) (short_counts self.new) }
+        ensures exact { result ≡ longer self.old.extra (find_answer self.old.inner name.now) }
+        ensures inside { contents_of self.new.inner ≡ contents_of self.old.inner }
+        ensures called { Called self.old.inner self.new.inner Call.Find }
+        ensures extra { self.new.extra ≡ self.old.extra }
+        ensures unread { self.new.unread ≡ self.old.unread }
+    {
+        let size = self.inner.find(name)?;
+        Ok(size.saturating_add(self.extra))
+    }
+
+    fn read(&mut self, name: &str, at: u64, into: &mut [u8]) -> Result<usize, Failed>
+        requires { IsThere untold name.now }
+        ensures bound { IfOk result (λ k. k ≤ length into.old) }
+        ensures bytes { IfOk result (λ k. (bytes : List ℕ) → Holds untold name.now bytes
+            → take k into.new ≡ take k (drop at bytes)) }
+        ensures rest { IfOk result (λ k. drop k into.new ≡ drop k into.old) }
+        ensures end { IfOk result (λ k. (bytes : List ℕ) → Holds untold name.now bytes
+            → k ≡ 0 → (length into.old ≡ 0) ⊎ (length bytes ≤ at)) }
+        ensures within { IfOk result (λ k. (bytes : List ℕ) → Holds untold name.now bytes
+            → k ≤ length bytes - at) }
+        ensures ended { IfOk result (λ k. k ≡ 0 → 0 < length into.old
+            → Rose (short_counts self.old).ends (short_counts self.new).ends) }
+        ensures failed { OnErr result (Rose (short_counts self.old).read_faults
+            (short_counts self.new).read_faults) }
+        ensures files { untold ≡ untold }
+        ensures got { IfOk result (λ k. (0 < k) ⊎ (length into.old ≡ 0)
+            → short_counts self.new ≡ short_counts self.old) }
+        ensures done { OnOk result (NothingFailed (short_counts self.old)
+            (short_counts self.new)) }
+        ensures counts { OnlyReads (short_counts self.old) (short_counts self.new) }
+        ensures none { is_inside self.old name.now ≡ false → result ≡ Ok 0 }
+        ensures fails { is_inside self.old name.now ≡ true
+            → is_err result ≡ is_to_fail self.old.inner Call.Read }
+        ensures whole { IfOk result (λ k. k ≡ min (length into.old)
+            (length (bytes_of self.old.inner name.now) - at)) }
+        ensures given { IfOk result (λ k.
+            take k into.new ≡ take k (drop at (bytes_of self.old.inner name.now))) }
+        ensures kept { OnErr result (into.new ≡ into.old) }
+        ensures inside { contents_of self.new.inner ≡ contents_of self.old.inner }
+        ensures called { is_inside self.old name.now ≡ true
+            → Called self.old.inner self.new.inner Call.Read }
+        ensures uncalled { is_inside self.old name.now ≡ false → self.new.inner ≡ self.old.inner }
+        ensures extra { self.new.extra ≡ self.old.extra }
+    {
+        if self.inner.get(name).is_none() {
+            if !into.is_empty() {
+                self.unread = self.unread.saturating_add(1);
+            }
+            return Ok(0);
+        }
+        self.inner.read(name, at, into)
+    }
+
+    #[tactic(auto, unfolding(outside::specs::Files::emptied))]
+    fn create(&mut self, name: &str) -> Result<(), Failed>
+        ensures created { OnOk result (untold ≡ emptied untold name.now) }
+        ensures kept { OnErr result (untold ≡ untold) }
+        ensures failed { OnErr result (Rose (short_counts self.old).write_faults
+            (short_counts self.new).write_faults) }
+        ensures done { OnOk result (short_counts self.new ≡ short_counts self.old) }
+        ensures counts { OnlyWrites (short_counts self.old) (short_counts self.new) }
+        ensures fails { is_err result ≡ create_fails self.old.inner name.now }
+        ensures inside { OnOk result (Some (contents_of self.new.inner) ≡
+            emptied (Some (contents_of self.old.inner)) name.now) }
+        ensures inside_kept { OnErr result (contents_of self.new.inner ≡
+            contents_of self.old.inner) }
+        ensures called { Called self.old.inner self.new.inner Call.Create }
+        ensures extra { self.new.extra ≡ self.old.extra }
+        ensures unread { self.new.unread ≡ self.old.unread }
+    {
+        self.inner.create(name)
+    }
+
+    #[tactic(auto, unfolding(outside::specs::Files::appended))]
+    fn write(&mut self, name: &str, bytes: &[u8]) -> Result<usize, Failed>
+        requires { IsThere untold name.now }
+        ensures bound { IfOk result (λ k. k ≤ length bytes.now) }
+        ensures some { IfOk result (λ k. 0 < length bytes.now → 0 < k) }
+        ensures written { IfOk result (λ k. untold ≡ appended untold name.now
+            (take k bytes.now)) }
+        ensures kept { OnErr result (untold ≡ untold) }
+        ensures failed { OnErr result (Rose (short_counts self.old).write_faults
+            (short_counts self.new).write_faults) }
+        ensures done { OnOk result (short_counts self.new ≡ short_counts self.old) }
+        ensures counts { OnlyWrites (short_counts self.old) (short_counts self.new) }
+        ensures fails { is_err result ≡ short_write_fails self.old name.now bytes.now }
+        ensures whole { IfOk result (λ k. k ≡ length bytes.now) }
+        ensures inside { OnOk result (contents_of self.new.inner ≡ with_file
+            (contents_of self.old.inner) name.now
+            (bytes_of self.old.inner name.now ++ bytes.now)) }
+        ensures extra { self.new.extra ≡ self.old.extra }
+        ensures unread { self.new.unread ≡ self.old.unread }
+    {
+        create_missing(&mut self.inner, name)?;
+        self.inner.write(name, bytes)
+    }
+}

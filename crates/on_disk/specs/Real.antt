@@ -1,0 +1,61 @@
+-- What a folder of real files and a real stream count and keep open, and what open files tell.
+use Rattle.std.specs.Prelude.{◌≡◌, ℕ, ◌≤◌, List, length, take, drop, Option, Some, IsSome, Ok, option_map, option_and_then, string_bytes, pos}
+use Rattle.std.specs.Io.KnownBytes.{Appends}
+use Rattle.std.specs.Io.Seek.{SeekMoves}
+use Rattle.std.specs.declared.io.traits.SeekFrom.TheVariants.{End}
+use Rattle.on_disk.specs.declared.disk.DiskFolder.{DiskFolder}
+use Rattle.on_disk.specs.declared.disk.Opened.{Opened}
+use Rattle.on_disk.specs.declared.stream.StdSink.{StdSink}
+use Rattle.outside.specs.Counts.{Counts}
+
+abbrev pub disk_counts : {R File Dir : Type 0} → DiskFolder R File Dir → Counts
+disk_counts folder = folder.tally
+
+-- the name that an open file was opened by
+abbrev pub open_name : {File : Type 0} → Option (Opened File) → Option (List ℕ)
+open_name opened = option_map (λ o. string_bytes o.name) opened
+
+-- the name of the file that is open for reading
+abbrev pub found_name : {R File Dir : Type 0} → DiskFolder R File Dir → Option (List ℕ)
+found_name folder = open_name folder.found
+
+abbrev pub found_file : {R File Dir : Type 0} → DiskFolder R File Dir → Option File
+found_file folder = option_map (λ opened. opened.file) folder.found
+
+-- the name of the file that is open for appending
+abbrev pub created_name : {R File Dir : Type 0} → DiskFolder R File Dir → Option (List ℕ)
+created_name folder = open_name folder.created
+
+-- what the file that is open for appending holds, where one is open and tells it
+abbrev pub created_bytes : {R File Dir : Type 0} → (File → Option (List ℕ)) → DiskFolder R File Dir → Option (List ℕ)
+created_bytes contents folder = option_and_then (λ opened. contents opened.file) folder.created
+
+-- a file tells where it stands, and that these are its bytes
+pub record TellsBytes {File : Type 0} (position : File → Option ℕ) (bytes : File → Option (List ℕ)) (file : File) (xs : List ℕ) : Type 0 where
+  pub stands : IsSome (position file)
+  pub holds : bytes file ≡ Some xs
+
+-- the file of this name is open for reading, and tells that these are its bytes
+pub record HasOpen {R File Dir : Type 0} (position : File → Option ℕ) (bytes : File → Option (List ℕ)) (folder : DiskFolder R File Dir) (name xs : List ℕ) : Type 0 where
+  pub file : File
+  pub found : found_file folder ≡ Some file
+  pub named : found_name folder ≡ Some name
+  pub tells : TellsBytes position bytes file xs
+
+-- reads give the bytes of a file from where it stands on, as those of a cursor over bytes in memory do
+pub record ReadsOn {File : Type 0} (remaining : File → Option (List ℕ)) (position : File → Option ℕ) (bytes : File → Option (List ℕ)) : Type 0 where
+  pub gives : (file : File) (at : ℕ) (xs : List ℕ) → position file ≡ Some at → bytes file ≡ Some xs → remaining file ≡ Some (drop at xs)
+
+-- a seek to the end led to this place
+pub record EndsAt {File : Type 0} (position : File → Option ℕ) (bytes : File → Option (List ℕ)) (sought : File) (place : ℕ) : Type 0 where
+  pub before : File
+  pub moved : SeekMoves {E = ⊥} (position before) (position sought) (bytes before) (End (pos 0)) (Ok place)
+
+abbrev pub stream_faults : {W : Type 0} → StdSink W → ℕ
+stream_faults sink = sink.faults
+
+-- known bytes grew by a prefix of these
+pub record GrewByPrefix (old new : Option (List ℕ)) (bytes : List ℕ) : Type 0 where
+  pub count : ℕ
+  pub within : count ≤ length bytes
+  pub grew : Appends old new (take count bytes)

@@ -1,0 +1,397 @@
+//! Real files.
+ghost use Rattle.std.specs.Prelude.{◌≡◌, ℕ, ◌<◌, ◌≤◌, List, length, take, drop, IfOk, OnOk, OnErr, IsErrOf, if◌then◌else◌, ◌==◌, ◌&&◌, nat_lt, ◌⊎◌, ◌-◌, ◌≢◌, Some, IfSome, IsTrue, true, ◌↔◌, min};
+ghost use Rattle.std.specs.List.{list_any};
+ghost use Rattle.std.specs.Fs.{new_options};
+ghost use Rattle.std.specs.Io.KnownBytes.{Appends, Keeps, WriteAppends};
+ghost use Rattle.on_disk.specs.Real.{open_name, TellsBytes, ReadsOn};
+ghost use Rattle.outside.specs.Files.{untold, emptied, appended, Holds, IsThere, IsMissing, AreOctets};
+ghost use Rattle.outside.specs.Counts.{none_counted, with_miss, with_end, with_read_fault, with_write_fault, OnlyReads, OnlyWrites, NothingFailed, Rose};
+
+use crate::noted::{FileId, Noted, Opening, opening_of};
+use crate::reading::{length_of, read_part};
+use crate::writing::write_some;
+use outside::{Failed, FindFault, Folder, Tally};
+use std::alloc::Global;
+use std::fs::{File, OpenFile, OpenOptions};
+use std::io::{Read, Seek, Write};
+use std::rt::Files;
+use std::{fs, io};
+
+// A file that is kept open, with the name that it was opened by.
+#[derive(Drop)]
+struct Opened<F> {
+    name: String,
+    file: F,
+}
+
+impl<F: Write> Opened<F> {
+    fn append(&mut self, bytes: &[u8]) -> Result<usize, Failed>
+        ensures name { self.new.name ≡ self.old.name }
+        ensures bound { IfOk result (λ k. k ≤ length bytes.now) }
+        ensures some { IfOk result (λ k. 0 < length bytes.now → 0 < k) }
+        ensures appended { WriteAppends (F.contents self.old.file)
+            (F.contents self.new.file) result bytes.now }
+    {
+        write_some(&mut self.file, bytes)
+    }
+}
+
+impl<F: Read + Seek> Opened<F> {
+    fn read_part(&mut self, at: u64, into: &mut [u8]) -> io::Result<usize>
+        ensures name { self.new.name ≡ self.old.name }
+        ensures bound { IfOk result (λ k. k ≤ length into.old) }
+        ensures rest { IfOk result (λ k. drop k into.new ≡ drop k into.old) }
+        ensures whole { (xs : List ℕ) → TellsBytes F.stream_position F.stream_bytes self.old.file xs
+            → IfOk result (λ k. k ≡ min (length into.old) (length xs - at)) }
+        ensures bytes { ReadsOn F.remaining F.stream_position F.stream_bytes → (xs : List ℕ)
+            → TellsBytes F.stream_position F.stream_bytes self.old.file xs
+            → IfOk result (λ k. take k into.new ≡ take k (drop at xs)) }
+    {
+        read_part(&mut self.file, at, into)
+    }
+}
+
+// Whether a file is open that was opened by this name.
+fn is_open<F>(opened: &Option<Opened<F>>, name: &str) -> bool
+    ensures { IsTrue result ↔ (open_name opened.now ≡ Some name.now) }
+{
+    match opened {
+        Some(opened) => opened.name.as_str() == name,
+        None => false,
+    }
+}
+
+/// A folder of real files, over a runtime that reaches them. It tells nothing of their contents.
+///
+/// Not proved is what the system does: that the files behave as the trait says. They do while nobody
+/// else changes them and two names don't name one file. Against two names `create` helps: it fails where
+/// its name leads to a file that this folder found before, by device and inode, so no file is emptied that
+/// is still to be read. (A runtime that gives all files one device and inode has every `create` fail that
+/// follows a `find`.)
+///
+/// It keeps two files open, the one last found or read and the one last created, and opens others anew. A
+/// growth of memory that is refused counts as a fault of the call.
+#[derive(Drop)]
+pub struct DiskFolder<'a, R: Files> {
+    rt: &'a R,
+    alloc: Global,
+    tally: Tally,
+    noted: Noted,
+    found: Option<Opened<R::File>>,
+    created: Option<Opened<R::File>>,
+}
+
+impl<'a, R: Files> DiskFolder<'a, R> {
+    ghost use Rattle.on_disk.specs.Real.{disk_counts, found_name, found_file, created_name, created_bytes, EndsAt, HasOpen};
+
+    /// A folder with all counts 0. It takes no memory.
+    pub fn new(rt: &'a R, alloc: Global) -> Self
+        ensures { disk_counts result ≡ none_counted }
+    {
+        DiskFolder {
+            rt,
+            alloc,
+            tally: Tally::new(),
+            noted: Noted::new(),
+            found: None,
+            created: None,
+        }
+    }
+
+    // Opens a regular file, notes it, keeps it open and gives its length.
+    fn locate(&mut self, name: &str) -> Result<u64, FindFault>
+        ensures tally { disk_counts self.new ≡ disk_counts self.old }
+        ensures opened { OnOk result (found_name self.new ≡ Some name.now) }
+        ensures length { IfOk result (λ n. IfSome (found_file self.new)
+            (λ file. EndsAt R.File.stream_position R.File.stream_bytes file n)) }
+        ensures created { self.new.created ≡ self.old.created }
+    {
+        let (mut file, id) = open_regular(self.rt, name)?;
+        let length = length_of(&mut file)?;
+        let name = String::from_str(self.alloc, name)?;
+        self.keep(name, file, id)?;
+        Ok(length)
+    }
+
+    // Notes a file that was found, and keeps it open for reading.
+    fn keep(&mut self, name: String, file: R::File, id: FileId) -> Result<(), FindFault>
+        ensures tally { disk_counts self.new ≡ disk_counts self.old }
+        ensures opened { OnOk result (self.new.found ≡ Some (record { name = name; file = file })) }
+        ensures noted { OnOk result (IsTrue
+            (list_any (λ found. ⟦<FileId as PartialEq>⟧.eq found id) self.new.noted.files.items)) }
+        ensures created { self.new.created ≡ self.old.created }
+    {
+        if !self.noted.note(id) {
+            return Err(FindFault::Failed);
+        }
+        self.found = Some(Opened { name, file });
+        Ok(())
+    }
+
+    // Makes the file of this name the one that is kept open for reading.
+    fn open_to_read(&mut self, name: &str) -> Result<(), FindFault>
+        ensures tally { disk_counts self.new ≡ disk_counts self.old }
+        ensures opened { OnOk result (found_name self.new ≡ Some name.now) }
+        ensures same { found_name self.old ≡ Some name.now → self.new.found ≡ self.old.found }
+        ensures created { self.new.created ≡ self.old.created }
+    {
+        if is_open(&self.found, name) {
+            return Ok(());
+        }
+        let (file, _) = open_regular(self.rt, name)?;
+        let name = String::from_str(self.alloc, name)?;
+        self.found = Some(Opened { name, file });
+        Ok(())
+    }
+
+    // Reads what there is from the place on, as much as fits.
+    fn read_there(&mut self, name: &str, at: u64, into: &mut [u8]) -> Result<usize, Failed>
+        ensures bound { IfOk result (λ k. k ≤ length into.old) }
+        ensures rest { IfOk result (λ k. drop k into.new ≡ drop k into.old) }
+        ensures tally { disk_counts self.new ≡ disk_counts self.old }
+        ensures opened { OnOk result (found_name self.new ≡ Some name.now) }
+        ensures whole { (xs : List ℕ) → HasOpen R.File.stream_position R.File.stream_bytes self.old
+            name.now xs → IfOk result (λ k. k ≡ min (length into.old) (length xs - at)) }
+        ensures open_bytes { ReadsOn R.File.remaining R.File.stream_position R.File.stream_bytes
+            → (xs : List ℕ) → HasOpen R.File.stream_position R.File.stream_bytes self.old name.now
+            xs → IfOk result (λ k. take k into.new ≡ take k (drop at xs)) }
+        ensures created { self.new.created ≡ self.old.created }
+    {
+        self.open_to_read(name)?;
+        match &mut self.found {
+            Some(opened) => Ok(opened.read_part(at, into)?),
+            None => Err(Failed),
+        }
+    }
+
+    // Opens the file of this name, empties it where it is a regular one, and keeps it open. A file that is empty is
+    // left as it is: some file systems write a file that was cut off to the disk when it is closed.
+    fn make_empty(&mut self, name: &str) -> Result<(), Failed>
+        ensures tally { disk_counts self.new ≡ disk_counts self.old }
+        ensures opened { OnOk result (created_name self.new ≡ Some name.now) }
+        ensures found { self.new.found ≡ self.old.found }
+        ensures noted { self.new.noted ≡ self.old.noted }
+    {
+        let kept = String::from_str(self.alloc, name)?;
+        let file = appending(true).open(self.rt, name)?;
+        let metadata = file.metadata()?;
+        match opening_of(&self.noted, &FileId::of(&metadata), metadata.is_file()) {
+            Opening::Refused => return Err(Failed),
+            Opening::Emptied if metadata.len() > 0 => file.set_len(0)?,
+            Opening::Emptied | Opening::Kept => {}
+        }
+        self.created = Some(Opened { name: kept, file });
+        Ok(())
+    }
+
+    // Appends a front of the bytes to the file of this name.
+    fn append(&mut self, name: &str, bytes: &[u8]) -> Result<usize, Failed>
+        ensures bound { IfOk result (λ k. k ≤ length bytes.now) }
+        ensures some { IfOk result (λ k. 0 < length bytes.now → 0 < k) }
+        ensures tally { disk_counts self.new ≡ disk_counts self.old }
+        ensures appended { created_name self.old ≡ Some name.now
+            → IfOk result (λ k. Appends (created_bytes R.File.contents self.old)
+            (created_bytes R.File.contents self.new) (take k bytes.now)) }
+        ensures aside { created_name self.old ≢ Some name.now
+            → self.new.created ≡ self.old.created }
+        ensures kept { OnErr result (Keeps (created_bytes R.File.contents self.old)
+            (created_bytes R.File.contents self.new)) }
+        ensures opened { created_name self.new ≡ created_name self.old }
+        ensures found { self.new.found ≡ self.old.found }
+    {
+        if !is_open(&self.created, name) {
+            return append_anew(self.rt, name, bytes);
+        }
+        match &mut self.created {
+            Some(opened) => opened.append(bytes),
+            None => Err(Failed),
+        }
+    }
+}
+
+// Opens the file of this name for one write.
+fn append_anew<R: Files>(rt: &R, name: &str, bytes: &[u8]) -> Result<usize, Failed>
+    ensures bound { IfOk result (λ k. k ≤ length bytes.now) }
+    ensures some { IfOk result (λ k. 0 < length bytes.now → 0 < k) }
+{
+    let mut file = appending(false).open(rt, name)?;
+    write_some(&mut file, bytes)
+}
+
+// How a file is opened to be written: each write goes to its end, and opening it empties nothing.
+fn appending(creates: bool) -> OpenOptions
+    ensures { result ≡ record new_options { append = true; create = creates } }
+{
+    let mut options = OpenOptions::new();
+    options.append(true).create(creates);
+    options
+}
+
+// Opens a regular file for reading. Anything else is looked at first, since to open a pipe may block.
+fn open_regular<R: Files>(rt: &R, name: &str) -> Result<(R::File, FileId), FindFault> {
+    if !fs::metadata(rt, name)?.is_file() {
+        return Err(FindFault::Failed);
+    }
+    let file = File::open(rt, name)?;
+    let metadata = file.metadata()?;
+    if !metadata.is_file() {
+        return Err(FindFault::Failed);
+    }
+    Ok((file, FileId::of(&metadata)))
+}
+
+impl<'a, R: Files> Folder for DiskFolder<'a, R> {
+    ghost use Rattle.on_disk.specs.Real.{disk_counts, found_name, found_file, created_name, created_bytes, EndsAt, HasOpen};
+
+    ghost files = { λ _. untold };
+
+    ghost counts = { λ folder. disk_counts folder };
+
+    /// The length of a regular file in bytes. The file is kept open for `read`.
+    ///
+    /// # Errors
+    /// `Absent` where the system says that the name isn't found, and `Failed` for every other error. What
+    /// isn't a regular file, as a directory or a pipe, is a fault, and nothing blocks on it. So is a
+    /// file that this folder finds after 65 others.
+    fn find(&mut self, name: &str) -> Result<u64, FindFault>
+        ensures found { IfOk result (λ n. (bytes : List ℕ) → Holds untold name.now bytes
+            → n ≡ length bytes) }
+        ensures there { OnOk result (IsThere untold name.now) }
+        ensures octets { OnOk result ((bytes : List ℕ) → Holds untold name.now bytes
+            → AreOctets bytes) }
+        ensures missing { IsErrOf result FindFault.Absent → IsMissing untold name.now }
+        ensures absent { IsErrOf result FindFault.Absent
+            → Rose (disk_counts self.old).misses (disk_counts self.new).misses }
+        ensures failed { IsErrOf result FindFault.Failed
+            → Rose (disk_counts self.old).read_faults (disk_counts self.new).read_faults }
+        ensures files { untold ≡ untold }
+        ensures ends { (disk_counts self.new).ends ≡ (disk_counts self.old).ends }
+        ensures done { OnOk result (disk_counts self.new ≡ disk_counts self.old) }
+        ensures counts { OnlyReads (disk_counts self.old) (disk_counts self.new) }
+        // What the library knows of the open file.
+        ensures opened { OnOk result (found_name self.new ≡ Some name.now) }
+        ensures length { IfOk result (λ n. IfSome (found_file self.new)
+            (λ file. EndsAt R.File.stream_position R.File.stream_bytes file n)) }
+        ensures created_stays { self.new.created ≡ self.old.created }
+        ensures absent_counts { IsErrOf result FindFault.Absent
+            → disk_counts self.new ≡ with_miss (disk_counts self.old) }
+        ensures failed_counts { IsErrOf result FindFault.Failed
+            → disk_counts self.new ≡ with_read_fault (disk_counts self.old) }
+    {
+        match self.locate(name) {
+            Ok(length) => Ok(length),
+            Err(FindFault::Absent) => {
+                self.tally.count_miss();
+                Err(FindFault::Absent)
+            }
+            Err(FindFault::Failed) => {
+                self.tally.count_read_fault();
+                Err(FindFault::Failed)
+            }
+        }
+    }
+
+    /// Bytes of the file from the place `at` on, as many as there are and fit.
+    ///
+    /// # Errors
+    /// Where the system gives an error, and where the file is cut short while it is read.
+    fn read(&mut self, name: &str, at: u64, into: &mut [u8]) -> Result<usize, Failed>
+        ensures bound { IfOk result (λ k. k ≤ length into.old) }
+        ensures bytes { IfOk result (λ k. (bytes : List ℕ) → Holds untold name.now bytes
+            → take k into.new ≡ take k (drop at bytes)) }
+        ensures rest { IfOk result (λ k. drop k into.new ≡ drop k into.old) }
+        ensures end { IfOk result (λ k. (bytes : List ℕ) → Holds untold name.now bytes → k ≡ 0
+            → (length into.old ≡ 0) ⊎ (length bytes ≤ at)) }
+        ensures within { IfOk result (λ k. (bytes : List ℕ) → Holds untold name.now bytes
+            → k ≤ length bytes - at) }
+        ensures ended { IfOk result (λ k. k ≡ 0 → 0 < length into.old
+            → Rose (disk_counts self.old).ends (disk_counts self.new).ends) }
+        ensures failed { OnErr result (Rose (disk_counts self.old).read_faults
+            (disk_counts self.new).read_faults) }
+        ensures files { untold ≡ untold }
+        ensures got { IfOk result (λ k. (0 < k) ⊎ (length into.old ≡ 0)
+            → disk_counts self.new ≡ disk_counts self.old) }
+        ensures done { OnOk result (NothingFailed (disk_counts self.old) (disk_counts self.new)) }
+        ensures counts { OnlyReads (disk_counts self.old) (disk_counts self.new) }
+        // What the library knows of the open file: its own bytes were read, as many as there are and fit.
+        ensures opened { OnOk result (found_name self.new ≡ Some name.now) }
+        ensures whole { (xs : List ℕ) → HasOpen R.File.stream_position R.File.stream_bytes self.old
+            name.now xs → IfOk result (λ k. k ≡ min (length into.old) (length xs - at)) }
+        ensures open_bytes { ReadsOn R.File.remaining R.File.stream_position R.File.stream_bytes
+            → (xs : List ℕ) → HasOpen R.File.stream_position R.File.stream_bytes self.old name.now
+            xs → IfOk result (λ k. take k into.new ≡ take k (drop at xs)) }
+        ensures created_stays { self.new.created ≡ self.old.created }
+        ensures read_counts { IfOk result
+            (λ k. disk_counts self.new ≡ (if k == 0 && nat_lt 0 (length into.old) then with_end
+            (disk_counts self.old) else disk_counts self.old)) }
+        ensures failed_counts { OnErr result
+            (disk_counts self.new ≡ with_read_fault (disk_counts self.old)) }
+    {
+        let Ok(count) = self.read_there(name, at, into) else {
+            self.tally.count_read_fault();
+            return Err(Failed);
+        };
+        if count == 0 && !into.is_empty() {
+            self.tally.count_end();
+        }
+        Ok(count)
+    }
+
+    /// Makes the name a file of no bytes. What isn't a regular file is opened and left as it is. A file that
+    /// this folder found is left as it is too, by whatever name, and the call fails.
+    #[tactic(auto, unfolding(outside::specs::Files::emptied))]
+    fn create(&mut self, name: &str) -> Result<(), Failed>
+        ensures created { OnOk result (untold ≡ emptied untold name.now) }
+        ensures kept { OnErr result (untold ≡ untold) }
+        ensures failed { OnErr result (Rose (disk_counts self.old).write_faults
+            (disk_counts self.new).write_faults) }
+        ensures done { OnOk result (disk_counts self.new ≡ disk_counts self.old) }
+        ensures counts { OnlyWrites (disk_counts self.old) (disk_counts self.new) }
+        ensures opened { OnOk result (created_name self.new ≡ Some name.now) }
+        ensures found_stays { self.new.found ≡ self.old.found }
+        ensures noted_stay { self.new.noted ≡ self.old.noted }
+        ensures failed_counts { OnErr result
+            (disk_counts self.new ≡ with_write_fault (disk_counts self.old)) }
+    {
+        if self.make_empty(name).is_err() {
+            self.tally.count_write_fault();
+            return Err(Failed);
+        }
+        Ok(())
+    }
+
+    /// Appends a front of the bytes to the file, which has to be there.
+    ///
+    /// # Errors
+    /// Where the system gives an error, and where it takes no byte of a piece that has some.
+    #[tactic(auto, unfolding(outside::specs::Files::appended))]
+    fn write(&mut self, name: &str, bytes: &[u8]) -> Result<usize, Failed>
+        ensures bound { IfOk result (λ k. k ≤ length bytes.now) }
+        ensures some { IfOk result (λ k. 0 < length bytes.now → 0 < k) }
+        ensures written { IfOk result (λ k. untold ≡ appended untold name.now (take k bytes.now)) }
+        ensures kept { OnErr result (untold ≡ untold) }
+        ensures failed { OnErr result (Rose (disk_counts self.old).write_faults
+            (disk_counts self.new).write_faults) }
+        ensures done { OnOk result (disk_counts self.new ≡ disk_counts self.old) }
+        ensures counts { OnlyWrites (disk_counts self.old) (disk_counts self.new) }
+        // What the library knows of the open file: exactly these bytes came to its end, and none in a call that
+        // fails.
+        ensures appended { created_name self.old ≡ Some name.now
+            → IfOk result (λ k. Appends (created_bytes R.File.contents self.old)
+            (created_bytes R.File.contents self.new) (take k bytes.now)) }
+        ensures aside { created_name self.old ≢ Some name.now
+            → self.new.created ≡ self.old.created }
+        ensures unwritten { OnErr result (Keeps (created_bytes R.File.contents self.old)
+            (created_bytes R.File.contents self.new)) }
+        ensures opened { created_name self.new ≡ created_name self.old }
+        ensures found_stays { self.new.found ≡ self.old.found }
+        ensures failed_counts { OnErr result
+            (disk_counts self.new ≡ with_write_fault (disk_counts self.old)) }
+    {
+        let Ok(count) = self.append(name, bytes) else {
+            self.tally.count_write_fault();
+            return Err(Failed);
+        };
+        Ok(count)
+    }
+}

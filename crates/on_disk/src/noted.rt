@@ -1,0 +1,86 @@
+//! The files that a folder found, so that none of them is emptied.
+ghost use Rattle.std.specs.Prelude.{◌≡◌, [], ◌∷◌, ◌++◌, length, ◌||◌, ◌&&◌, not, nat_lt, if◌then◌else◌};
+ghost use Rattle.std.specs.List.{list_any};
+ghost use Rattle.on_disk.specs.Opening.{opening_of_lem};
+
+use arrayvec::ArrayVec;
+use std::fs::Metadata;
+use std::os::unix::fs::MetadataExt;
+
+// The 64 inputs of a join, and a cue sheet.
+const MOST_FILES: usize = 65;
+
+/// What tells one file from every other, whatever its names.
+#[derive(Clone, Copy, Default, PartialEq, Eq)]
+pub struct FileId {
+    device: u64,
+    inode: u64,
+}
+
+impl FileId {
+    pub fn of(metadata: &Metadata) -> Self {
+        FileId {
+            device: metadata.dev(),
+            inode: metadata.ino(),
+        }
+    }
+}
+
+/// Up to 65 files.
+#[derive(Drop)]
+pub struct Noted {
+    files: ArrayVec<FileId, MOST_FILES>,
+}
+
+impl Noted {
+    pub fn new() -> Self
+        ensures { result.files.items ≡ [] }
+    {
+        Noted {
+            files: ArrayVec::new(),
+        }
+    }
+
+    pub fn has(&self, file: &FileId) -> bool
+        ensures { result ≡ list_any (λ noted. ⟦<FileId as PartialEq>⟧.eq noted file.now)
+            self.now.files.items }
+    {
+        self.files.as_slice().contains(file)
+    }
+
+    /// Notes a file unless it is noted already, and says whether it is noted now.
+    pub fn note(&mut self, file: FileId) -> bool
+        ensures answer { result ≡ (list_any
+            (λ noted. ⟦<FileId as PartialEq>⟧.eq noted file) self.old.files.items || nat_lt
+            (length self.old.files.items) MOST_FILES) }
+        ensures noted { self.new.files.items
+            ≡ (if result && not (list_any
+            (λ noted. ⟦<FileId as PartialEq>⟧.eq noted file) self.old.files.items) then
+            self.old.files.items ++ file ∷ [] else self.old.files.items) }
+    {
+        self.has(&file) || self.files.try_push(file).is_ok()
+    }
+}
+
+/// What `create` does with a file that it opened.
+#[derive(Clone, Copy, Debug, PartialEq, Eq)]
+pub enum Opening {
+    /// The file was found before: it is left as it is, and the call fails.
+    Refused,
+    /// A regular file loses its bytes.
+    Emptied,
+    /// What isn't a regular file, as a terminal, is left as it is.
+    Kept,
+}
+
+/// Whether a file may be emptied.
+pub fn opening_of(noted: &Noted, file: &FileId, is_regular: bool) -> Opening
+    ensures { result ≡ opening_of_lem (list_any
+        (λ found. ⟦<FileId as PartialEq>⟧.eq found file.now) noted.now.files.items) is_regular }
+{
+    match (noted.has(file), is_regular) {
+        (true, _) => Opening::Refused,
+        (false, true) => Opening::Emptied,
+        (false, false) => Opening::Kept,
+    }
+}

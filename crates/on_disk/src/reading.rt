@@ -1,0 +1,37 @@
+//! The length of a real file, and parts of it.
+ghost use Rattle.std.specs.Prelude.{◌≡◌, ◌-◌, ◌≤◌, ℕ, List, length, take, drop, min, pos, IfOk};
+ghost use Rattle.on_disk.specs.Real.{TellsBytes, ReadsOn};
+ghost use Rattle.std.specs.Io.Seek.{SeekMoves};
+ghost use Rattle.std.specs.Io.KnownBytes.{Keeps};
+
+use std::io;
+use std::io::{Read, Seek, SeekFrom};
+
+/// The place of the file's end.
+pub fn length_of<F: Seek>(file: &mut F) -> io::Result<u64>
+    ensures length { (xs : List ℕ) → TellsBytes F.stream_position F.stream_bytes file.old xs
+        → IfOk result (λ n. n ≡ length xs) }
+    ensures moves { SeekMoves (F.stream_position file.old) (F.stream_position file.new)
+        (F.stream_bytes file.old) (SeekFrom.End (pos 0)) result }
+    ensures bytes { Keeps (F.stream_bytes file.old) (F.stream_bytes file.new) }
+{
+    file.seek(SeekFrom::End(0))
+}
+
+/// Reads what there is of the file from the place `at` on, as much as fits. The rest of `into` stays.
+pub fn read_part<F: Read + Seek>(file: &mut F, at: u64, into: &mut [u8]) -> io::Result<usize>
+    ensures bound { IfOk result (λ k. k ≤ length into.old) }
+    ensures rest { IfOk result (λ k. drop k into.new ≡ drop k into.old) }
+    ensures whole { (xs : List ℕ) → TellsBytes F.stream_position F.stream_bytes file.old xs
+        → IfOk result (λ k. k ≡ min (length into.old) (length xs - at)) }
+    ensures bytes { ReadsOn F.remaining F.stream_position F.stream_bytes → (xs : List ℕ)
+        → TellsBytes F.stream_position F.stream_bytes file.old xs
+        → IfOk result (λ k. take k into.new ≡ take k (drop at xs)) }
+{
+    let there = length_of(file)?.saturating_sub(at);
+    let count = into.len().min(there as usize);
+    file.seek(SeekFrom::Start(at))?;
+    // A read isn't promised to leave the buffer behind the bytes that it counts, so it gets no more.
+    file.read_exact(&mut into[..count])?;
+    Ok(count)
+}

@@ -1,0 +1,34 @@
+//! One write to a real file or stream.
+ghost use Rattle.std.specs.Prelude.{◌<◌, ◌≤◌, length, IfOk};
+ghost use Rattle.std.specs.Io.KnownBytes.{WriteAppends};
+
+use outside::Failed;
+use std::io;
+use std::io::{ErrorKind, Write};
+
+/// Writes a front of the bytes, at least one where there are any, again where a signal came first.
+#[tactic(auto, using(crate::proofs::KnownLaws::none_appended))]
+pub fn write_some<W: Write>(writer: &mut W, bytes: &[u8]) -> Result<usize, Failed>
+    ensures bound { IfOk result (λ k. k ≤ length bytes.now) }
+    ensures some { IfOk result (λ k. 0 < length bytes.now → 0 < k) }
+    ensures passed { WriteAppends (W.contents writer.old) (W.contents writer.new) result bytes.now }
+{
+    let count = write_once(writer, bytes)?;
+    if count == 0 && !bytes.is_empty() {
+        return Err(Failed);
+    }
+    Ok(count)
+}
+
+fn write_once<W: Write>(writer: &mut W, bytes: &[u8]) -> io::Result<usize>
+    ensures bound { IfOk result (λ k. k ≤ length bytes.now) }
+    ensures passed { WriteAppends (W.contents writer.old) (W.contents writer.new) result bytes.now }
+{
+    for _ in 0..u64::MAX {
+        match writer.write(bytes) {
+            Err(error) if error.kind() == ErrorKind::Interrupted => {}
+            answer => return answer,
+        }
+    }
+    Err(io::Error::from(ErrorKind::Interrupted))
+}

@@ -1,6 +1,0 @@
--- A write that a signal cut short leaves the writer as it was.
-use Rattle.std.specs.Io.KnownBytes.{Keeps}
-use Rattle.outside.proofs.writing.write_once.Given as goal
-
-abbrev pub invariant-loop : goal.invariant-loop
-invariant-loop g l = Keeps (g.W.Write.contents l.initial.writer) (g.W.Write.contents l.writer)
