@@ -1,4 +1,4 @@
-//! What stands in a file, line by line. The lines are worked out by hand from the frames' bytes.
+//! What is in a file, line by line. The lines are worked out by hand from the frames' bytes.
 
 use crate::reservoirs;
 use crate::reservoirs::{FIRST, SECOND};

@@ -51,7 +51,7 @@ $ gain -s s -g -1 a o
 > o SECOND FIRST SECOND
 ";
 
-/// The first gain out of range is behind them.
+/// The first gain out of range is after them.
 static OUT_OF_RANGE: &str = "
 < a SECOND FIRST SECOND
 $ gain -s s -g 156 a o

@@ -45,7 +45,7 @@ $ gain -s s -g 0 a o
 ! 1 a: no frame at 0
 ";
 
-/// What is at fault in the input `a`: bytes behind a frame that are no item.
+/// What is at fault in the input `a`: bytes after a frame that are no item.
 static NO_ITEM: &str = "
 # bytes that are no item
 < a FIRST SECOND 0041

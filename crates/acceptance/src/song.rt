@@ -12,7 +12,7 @@ use test_files::frames::Frame;
 use test_files::table;
 
 /// Four joint stereo frames of changing rates at 44,100 Hz, whose main data begin in the areas of the frames
-/// before them. Behind them the same four may stand again. The second channel of the third is silent.
+/// before them. After them the same four may stand again. The second channel of the third is silent.
 const FRAMES: [Frame; 4] = table! {
     Frame { header, word, side, area, length }
     ([0xff, 0xfb, 0x90, 0x64], None,
@@ -29,7 +29,7 @@ const FRAMES: [Frame; 4] = table! {
         522)
 };
 
-/// The same with all gains 3 more, but for the silent channel.
+/// The same with all gains 3 more, except the silent channel.
 const LOUDER: [Frame; 4] = table! {
     Frame { header, word, side, area, length }
     ([0xff, 0xfb, 0x90, 0x64], None,

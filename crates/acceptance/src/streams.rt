@@ -58,7 +58,7 @@ $ gain -s s -g -5 a o
 > o 00*1 G_LOWER 00*3 ID3V2_BLOCK G_LOWER PROTECTED_G_LOWER APE 00*1 G_LOWER 00*2
 ";
 
-/// Gains out of range behind other items.
+/// Gains out of range after other items.
 static OUT_OF_RANGE: &str = "
 < a HEAD PADDED G
 $ gain -s s -g 1 a o

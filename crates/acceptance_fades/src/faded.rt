@@ -40,7 +40,7 @@ $ fade a o s
 > o AT_100 AT_100 AT_100 AT_96
 ";
 
-/// What stands beside the frames that move.
+/// What is beside the frames that move.
 static OTHERS: &str = "
 # lost and silent frames stay, and have numbers
 < a LOST AT_100 Z AT_100

@@ -35,7 +35,7 @@ pub struct Row {
     pub more: Option<&'static More>,
 }
 
-/// What few rows say. It stands apart from them, since each reference of a row costs the check of its table.
+/// What few rows say. It is apart from them, since each reference of a row costs the check of its table.
 pub struct More {
     /// Names that a command may write, each with `room`; where it isn't said, `o` alone.
     pub outputs: Option<&'static [&'static str]>,
@@ -231,7 +231,7 @@ pub fn difference_of_files(
     Ok(None)
 }
 
-/// Whether the row says of this name that a file stands there.
+/// Whether the row says of this name that a file is there.
 fn may_be_there(row: &'static Row, after: &'static [File], name: &str) -> bool {
     is_named(row.files, name) || is_named(after, name) || is_named(row.others(), name)
 }
@@ -366,7 +366,7 @@ fn run_done(
     difference_of_done(alloc, &ended)
 }
 
-/// Runs the commands but for the last.
+/// Runs the commands except the last.
 fn run_front(
     alloc: Global,
     folder: &mut MemFolder,

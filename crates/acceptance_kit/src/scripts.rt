@@ -11,13 +11,13 @@
 //! $ gain -g 1 a o         a command; all but the last have to be done
 //! ! 1 a: no frame at 0    the status of the last one, and its line on standard error; where it isn't said, 0 and none
 //! | 1 frames              a line of its text on standard output; where none is said, none
-//! > o FIRST_LOUDER        a file that is there behind it
+//! > o FIRST_LOUDER        a file that is there after it
 //! ~ o FIRST               a file that must have become another than this
 //! - x                     a further name that must be absent
 //! ```
 //!
 //! A file that was there and isn't named by `>` has to stay, and a name of the outputs that no line of a file names has to be
-//! absent. A line `NAME = words` defines bytes for the lines behind it.
+//! absent. A line `NAME = words` defines bytes for the lines after it.
 
 use crate::rows::{Found, bytes_differ, difference_of_done, difference_of_sent, wants_memory};
 use crate::running::{Ended, run_with_room};
@@ -68,12 +68,12 @@ fn none_of(found: Option<Found>) -> Result<(), Stop> {
     }
 }
 
-/// A name, and what is behind it.
+/// A name, and what is after it.
 fn parted(text: &'static str) -> (&'static str, &'static str) {
     text.split_once(' ').unwrap_or((text, ""))
 }
 
-/// What is behind this front in the first line that has it.
+/// What is after this front in the first line that has it.
 fn said(row: &'static str, front: &str) -> Option<&'static str> {
     for line in row.lines() {
         if let Some(rest) = line.strip_prefix(front) {
@@ -83,7 +83,7 @@ fn said(row: &'static str, front: &str) -> Option<&'static str> {
     None
 }
 
-/// What is behind this front in the last line that has it.
+/// What is after this front in the last line that has it.
 fn last_said(row: &'static str, front: &str) -> Option<&'static str> {
     let mut last = None;
     for line in row.lines() {
@@ -168,7 +168,7 @@ fn run_done(alloc: Global, folder: &mut MemFolder, words: &'static str) -> Resul
     none_of(difference_of_done(alloc, &ended)?)
 }
 
-/// Runs the commands but for the last.
+/// Runs the commands except the last.
 fn run_front(alloc: Global, folder: &mut MemFolder, row: &'static str) -> Result<(), Stop> {
     let mut waiting = None;
     for line in row.lines() {
@@ -244,7 +244,7 @@ fn compare_file(
     none_of(found_in_file(alloc, folder, names, file)?)
 }
 
-/// Compares the files that are there behind the last command.
+/// Compares the files that are there after the last command.
 fn compare_made(
     alloc: Global,
     folder: &MemFolder,

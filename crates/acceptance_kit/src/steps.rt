@@ -44,7 +44,7 @@ pub struct Steps {
 pub enum Stray {
     /// A file of the command was changed.
     Changed,
-    /// The outputs aren't whole up to one, of which there is a prefix, with nothing behind it.
+    /// The outputs aren't whole up to one, of which there is a prefix, with nothing after it.
     NoPrefix,
     /// A command is done with less, or a call fails where all was written.
     Written(usize),
@@ -67,7 +67,7 @@ pub struct Strayed {
     pub stray: Stray,
 }
 
-/// How far the outputs were written, where they are whole up to one, of which there is a prefix, with nothing behind it.
+/// How far the outputs were written, where they are whole up to one, of which there is a prefix, with nothing after it.
 #[derive(Clone, Copy)]
 enum Progress {
     Whole(usize),

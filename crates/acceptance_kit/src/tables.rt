@@ -1,4 +1,4 @@
-//! Rows of tables as few words. They are macros, so that a row stands on one line.
+//! Rows of tables as few words. They are macros, so that a row is on one line.
 
 /// Calls that are to fail, as `Find 1, Read 2`: the kind, and the number of the call, counted from 1.
 #[macro_export]
@@ -59,14 +59,14 @@ macro_rules! done {
     };
 }
 
-/// Commands that are refused, or that fail: the same with a status and a line in place of what is written. `leaves` says what stands
+/// Commands that are refused, or that fail: the same with a status and a line in place of what is written. `leaves` says what is there
 /// in the outputs nonetheless:
 ///
 /// ```text
 /// "what": "gain -g 1 a o" with FIRST_WRITE, "a" = &[..] => 3 "o: write fault\n" leaves "o" = &[];
 /// ```
 ///
-/// Where all rows have the same words and the status 1, the words and the input stand before them:
+/// Where all rows have the same words and the status 1, the words and the input are before them:
 ///
 /// ```text
 /// "gain -g 1 a o", "a"; "what": &[..] => "a: no frame at 0\n";
@@ -115,7 +115,7 @@ macro_rules! kinds {
 }
 
 /// Commands whose calls fail in turn: the words, the room of each output, the files there before, those that are written, and the
-/// kinds of calls: `"gain -g 1 a o" room 417, "a" = &[..] => "o" = &[..]; KINDS;`. Where a text is all that is written, it stands in
+/// kinds of calls: `"gain -g 1 a o" room 417, "a" = &[..] => "o" = &[..]; KINDS;`. Where a text is all that is written, it is in
 /// place of the files, without a room: `"list a", "a" = &[..] => "1 frames\n"; KINDS;`.
 #[macro_export]
 macro_rules! steps {

@@ -6,7 +6,7 @@ use std::test::Fail;
 use test_files::files::Stretch;
 use test_files::frames::{Frame, Z};
 
-/// 4 times 136 bits of main data, 68 bytes. Behind them are the first bytes of the frame behind it.
+/// 4 times 136 bits of main data, 68 bytes. After them are the first bytes of the frame after it.
 pub const SHORT: Frame = Frame {
     side: &[
         0x00, 0x00, 0x00, 0x88, 0x00, 0x00, 0x00, 0x00, 0x00, 0x00, 0x11, 0x00, 0x00, 0x00, 0x00,
@@ -34,7 +34,7 @@ const SHORT_AT_32: Frame = Frame {
     ..SHORT
 };
 
-/// The second at 160 kbit/s behind it, with an area of 486.
+/// The second at 160 kbit/s after it, with an area of 486.
 const LONG_AT_160: Frame = Frame {
     header: [0xff, 0xfb, 0xa0, 0x00],
     side: &[
@@ -78,7 +78,7 @@ const LARGE: Frame = Frame {
     ..Z
 };
 
-/// A lead-in of 80 kbit/s, whose area of 225 bytes has main data of the frame behind it.
+/// A lead-in of 80 kbit/s, whose area of 225 bytes has main data of the frame after it.
 const LEAD_IN_OF_80: Frame = Frame {
     header: [0xff, 0xfb, 0x60, 0x00],
     area: &[0x55; 225],
@@ -86,7 +86,7 @@ const LEAD_IN_OF_80: Frame = Frame {
     ..Z
 };
 
-/// The frame at 256 kbit/s behind it, with an area of 799.
+/// The frame at 256 kbit/s after it, with an area of 799.
 const LARGE_AT_256: Frame = Frame {
     header: [0xff, 0xfb, 0xd0, 0x00],
     side: &[

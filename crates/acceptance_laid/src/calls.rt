@@ -1,4 +1,4 @@
-//! Calls of the outside that fail while frames are read and laid anew.
+//! Calls of the outside that fail while frames are read and laid out again.
 
 use crate::cuts::A_1_ALONE;
 use crate::joins::{B, BOTH};

@@ -22,7 +22,7 @@ SMALL_FROM_227 = fff314c0 e332000190 ~24
 SMALL_LEAD_IN = fff394c0 ~13 55*200 ~240
 ";
 
-/// A_1 at 160 kbit/s, where all its main data stand in its own area of 486 bytes.
+/// A_1 at 160 kbit/s, where all its main data are in its own area of 486 bytes.
 pub const A_1_ALONE: Frame = Frame {
     header: [0xff, 0xfb, 0xa0, 0x00],
     side: b"\0\0\x03\x20\0\x32\0\0\0\0\x64\0\x06\x40\0\0\0\x0c\x80\0\xc8\0\0\0\x01\x90\0\x19",

@@ -29,13 +29,13 @@ BOTH = INFO_FRONT 'Xing' 0000000f000000040000061b 22*25 66*25 aa*25 bb*25 INFO_R
 const B_0: Frame =
     frame! { side: b"\x14\0\x03\x20\0\x32\0\0\0\0\x64\0\x06\x40\0\0\0\x0c\x80\0\xc8\0\0\0\x01\x90\0\x19", area: &[0x55; 360], ..Z };
 
-/// The file B: a head, whose area ends with the first 40 bytes of the main data of the frame behind it.
+/// The file B: a head, whose area ends with the first 40 bytes of the main data of the frame after it.
 pub const B: &[Stretch] = &end_to_end! {
     Filled(&[0xff, 0xfb, 0x90, 0x00], 0, 32), Bytes(b"Info"), Fill(0, 337), Fill(0x55, 40),
     Frames(&[B_0])
 };
 
-/// A_1 with 62 bytes of B_0 behind its own main data, up to the end of its area.
+/// A_1 with 62 bytes of B_0 after its own main data, up to the end of its area.
 const A_1_FULL: Frame = frame! { area: &[0x55; 381], ..A_1 };
 
 /// The lead-in before B_0, full of its main data. It has none itself, and they could begin 62 bytes before it.

@@ -51,16 +51,16 @@ const LEAST_FROM_511: Frame = quiet!(0xff 0x80, LEAST);
 /// A file of a thousand frames.
 const THOUSAND: Stretch = Repeated(&[QUIET], 1000);
 
-/// What stands behind the first two of a thousand.
+/// What is after the first two of a thousand.
 const REST_OF_1000: Stretch = Repeated(&[QUIET_FROM_511], 998);
 
-/// What stands behind the first eight of a thousand.
+/// What is after the first eight of a thousand.
 const REST_OF_LEAST: Stretch = Repeated(&[LEAST_FROM_511], 992);
 
-/// What stands behind the first two of two thousand.
+/// What is after the first two of two thousand.
 const REST_OF_2000: Stretch = Repeated(&[QUIET_FROM_511], 1998);
 
-/// What stands behind the first two of five hundred.
+/// What is after the first two of five hundred.
 const REST_OF_500: Stretch = Repeated(&[QUIET_FROM_511], 498);
 
 static CUT: [Steps; 1] = steps! {

@@ -32,7 +32,7 @@ THREE_BITS_ALONE = fffb1000 000000030032 ~36 e0 ~104
 LOST = fffb9000 bf0000080032 ~417
 ";
 
-/// A's first frame at 112 kbit/s, with an area of 329 bytes: behind its 300 bytes are 29 of the frame behind it.
+/// A's first frame at 112 kbit/s, with an area of 329 bytes: after its 300 bytes are 29 of the frame after it.
 pub const A_0_LESS: Frame =
     frame! { header: [0xff, 0xfb, 0x80, 0x00], area: &[0x55; 329], length: 365, ..A_0_ALONE };
 

@@ -1,4 +1,4 @@
-//! Where tags stand in a file that is laid anew.
+//! Where tags are in a file that is laid out again.
 
 use crate::songs;
 use acceptance_kit::scripts::first_unlike;

@@ -9,12 +9,12 @@ use test_files::files::Stretch::{Bytes, Fill, Frames};
 use test_files::frame;
 use test_files::frames::{Frame, Z};
 
-/// A lead-in of 96 kbit/s, 313 bytes, whose area of 277 bytes has main data of the frame behind it.
+/// A lead-in of 96 kbit/s, 313 bytes, whose area of 277 bytes has main data of the frame after it.
 pub const LEAD_IN_OF_96: Frame =
     frame! { header: [0xff, 0xfb, 0x70, 0x00], area: &[0x55; 277], length: 313, ..Z };
 
-/// A's first frame at 96 kbit/s. Its main data begin 277 bytes before its own area: behind the last 23 are 254 of the frame
-/// behind it.
+/// A's first frame at 96 kbit/s. Its main data begin 277 bytes before its own area: after the last 23 are 254 of the frame
+/// after it.
 pub const A_0_OF_96: Frame = Frame {
     header: [0xff, 0xfb, 0x70, 0x00],
     side: b"\x8a\x80\x02\x58\0\x32\0\0\0\0\x4b\0\x06\x40\0\0\0\x09\x60\0\xc8\0\0\0\x01\x2c\0\x19",

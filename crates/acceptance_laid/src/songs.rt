@@ -32,7 +32,7 @@ TWO_OF_1042 = 'Info' 0000000f0000000200000412
 ";
 
 /// MPEG-1, 44,100 Hz, 128 kbit/s, stereo, with an area of 381 bytes: 4 times 600 bits of main data, which are 300 bytes. All
-/// gains of these files are 100, and all bytes of main data 55 (hex). Behind its own main data are the first 81 bytes of A_1's.
+/// gains of these files are 100, and all bytes of main data 55 (hex). After its own main data are the first 81 bytes of A_1's.
 pub const A_0: Frame =
     frame! { side: b"\0\0\x02\x58\0\x32\0\0\0\0\x4b\0\x06\x40\0\0\0\x09\x60\0\xc8\0\0\0\x01\x2c\0\x19", area: &[0x55; 381], ..Z };
 
@@ -53,7 +53,7 @@ pub const A_1_FROM_68: Frame = Frame {
     ..Z
 };
 
-/// A lead-in of 32 kbit/s, whose area of 68 bytes has main data of the frame behind it.
+/// A lead-in of 32 kbit/s, whose area of 68 bytes has main data of the frame after it.
 pub const LEAD_IN: Frame =
     frame! { header: [0xff, 0xfb, 0x10, 0x00], area: &[0x55; 68], length: 104, ..Z };
 
@@ -72,7 +72,7 @@ pub const INFO: Stretch = Bytes(&[0xff, 0xfb, 0x50, 0x00]);
 /// Side information that is all 0, of MPEG-1 with two channels.
 pub const NO_SIDE: Stretch = Fill(0, 32);
 
-/// The quality 0 and 36 bytes of extension behind the table, and the 16 bytes behind the 156 of the fields.
+/// The quality 0 and 36 bytes of extension after the table, and the 16 bytes after the 156 of the fields.
 pub const INFO_REST: Stretch = Fill(0, 56);
 
 /// The fields in front of the table of an Info frame: `cut a 1 2 o` of the file A.

@@ -7,7 +7,7 @@ use test_files::files::Stretch::{Bytes, Fill, Frames};
 use test_files::frame;
 use test_files::frames::{Frame, Z};
 
-/// MPEG-1, 44,100 Hz, 128 kbit/s, stereo, with an area of 381 bytes: 4 times 600 bits of main data, 300 bytes. Behind them are
+/// MPEG-1, 44,100 Hz, 128 kbit/s, stereo, with an area of 381 bytes: 4 times 600 bits of main data, 300 bytes. After them are
 /// the first 81 bytes of the next frame's.
 const FIRST: Frame =
     frame! { side: b"\0\0\x02\x58\0\x32\0\0\0\0\x4b\0\x06\x40\0\0\0\x09\x60\0\xc8\0\0\0\x01\x2c\0\x19", area: &[0x55; 381], ..Z };
@@ -30,7 +30,7 @@ const NO_SIDE: Stretch = Fill(0, 32);
 /// Its fields up to the table, in front of one frame.
 const ONE_OF_625: Stretch = Bytes(b"Info\0\0\0\x0f\0\0\0\x01\0\0\x02\x71");
 
-/// What is behind the table.
+/// What is after the table.
 const INFO_REST: Stretch = Fill(0, 56);
 
 const LOST_FIRST: More = More {

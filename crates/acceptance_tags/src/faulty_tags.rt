@@ -10,7 +10,7 @@ const DEFINED: &str = "
 ALONE = 'APETAGEX' d00700004000000001000000000000a0 00*8 0b 00*7 'MP3GAIN' 5f 'UNDO' 00 '-001,-001,W' 'APETAGEX' d0070000400000000100000000000080 00*8
 ";
 
-/// A file of 513 bytes, whose tag stands at 417: the tag of the undo item `-001,-001,W` with another value at one place in its
+/// A file of 513 bytes, whose tag is at 417: the tag of the undo item `-001,-001,W` with another value at one place in its
 /// header.
 static HEADERS: &str = "
 # byte 8 is d1
@@ -90,7 +90,7 @@ $ gain -u a o
 ! 1 bad tag at 449
 ";
 
-/// The same behind the item.
+/// The same after the item.
 static FOOTERS: &str = "
 # The footer.
 # byte 64 is 00

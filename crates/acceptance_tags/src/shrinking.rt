@@ -1,4 +1,4 @@
-//! A file that becomes shorter behind the survey: while its tag is read, or in the second pass.
+//! A file that becomes shorter after the survey: while its tag is read, or in the second pass.
 
 use crate::blocks::UNDO;
 use acceptance_kit::rows::other_end;

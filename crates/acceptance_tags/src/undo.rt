@@ -87,7 +87,7 @@ $ gain -u a o
 > o JOINT
 ";
 
-/// The same of tags and of what else stands in a file.
+/// The same of tags and of what else is in a file.
 static UNDONE_TAGS: &str = "
 # the item alone goes, with a key in other letters
 < a G_LOWER THREE_FRONT '+005,+005,N' THREE_END

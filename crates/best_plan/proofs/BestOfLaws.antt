@@ -131,7 +131,7 @@ among-roomy window free (item ∷ items) placed has =
 
 -- ---- the one that costs least
 
--- it doesn't come behind
+-- it doesn't come after
 before-not_behind : (ms ns : List ℕ) → comes_before ns ms ≡ false → IsNotBehind ms ns
 unfolding comes_before IsNotBehind
 before-not_behind [] [] is = tt
@@ -158,7 +158,7 @@ not_behind-before (m ∷ ms) [] is = absurd is
 not_behind-before (m ∷ ms) (n ∷ ns) (inl less) = later n m (comes_before ns ms) less
 not_behind-before (m ∷ ms) (n ∷ ns) (inr at) = same n m (comes_before ns ms) at.0 (not_behind-before ms ns at.1)
 
--- no list is behind itself, and what isn't behind one that isn't behind a third isn't behind that
+-- no list is after itself, and what isn't after one that isn't after a third isn't after that
 not_behind-self : (ns : List ℕ) → IsNotBehind ns ns
 unfolding IsNotBehind
 not_behind-self [] = tt
@@ -175,7 +175,7 @@ not_behind-on (l ∷ ls) (m ∷ ms) (n ∷ ns) (inl less) (inr at) = inl (omega 
 not_behind-on (l ∷ ls) (m ∷ ms) (n ∷ ns) (inr at) (inl more) = inl (omega (arith, more, at.0))
 not_behind-on (l ∷ ls) (m ∷ ms) (n ∷ ns) (inr at) (inr also) = inr (at.0 ∙ also.0, not_behind-on ls ms ns at.1 also.1)
 
--- what comes before isn't behind
+-- what comes before isn't after
 before-first : (ms ns : List ℕ) → comes_before ms ns ≡ true → IsNotBehind ms ns
 unfolding comes_before IsNotBehind
 before-first [] [] is = tt

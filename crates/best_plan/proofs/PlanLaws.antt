@@ -25,7 +25,7 @@ unfolding frames_of
 frames-own choices [] = refl
 frames-own choices (need ∷ needs) = ap (λ l. own_frame need ∷ l) (frames-own choices needs)
 
--- behind a whole window the frames can keep their slots
+-- after a whole window the frames can keep their slots
 pub whole-sum : (window : ℕ) (choices : HeaderFields → List SlotFields) (needs : List Need) (sums places : List ℕ) → length needs ≤ 200000 → IsFeasible window window (map own_frame needs) → IsTable window choices needs sums places
     → get_or sums window 0 ≤ 288200000
 whole-sum window choices needs sums places few feasible table =
@@ -100,7 +100,7 @@ plan-behind window choices needs d class sums places lead free old new placed so
       whole = subst (IsBestFor window 0 (items_behind true choices needs)) all (lead-whole window choices needs d class sums places lead walk.more free some is table by gives walk.best);
     }
 
--- ---- what the call over all slots stands on, and what it gives
+-- ---- what the call over all slots is on, and what it gives
 pub lead-ready : (window room : ℕ) (class : ClassFields) (sums areas : List ℕ) (slots : List SlotFields) (cost place : ℕ) → room ≡ window → areas ≡ areas_with class false slots → slots ≡ all_slots → room ≤ area_of class largest_slot false
     → All (λ n. n ≤ 1441) areas → get_or sums window 0 ≤ 288200000 → IsChoice room 0 0 areas sums cost place → IsChoice window 0 0 (areas_with class false all_slots) sums cost place × (cost < nothing)
 lead-ready window room class sums areas slots cost place same are all spanned most some is =

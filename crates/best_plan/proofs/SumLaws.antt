@@ -14,7 +14,7 @@ use Rattle.best_plan.specs.Best.{IsShortest}
 use Rattle.best_plan.specs.Rows.{nothing, sum_with, IsChoice}
 use Rattle.best_plan.specs.Table.{areas_for, IsTable}
 
--- behind as many free bytes as the window or fewer, a layout is that every frame's main data fit
+-- after as many free bytes as the window or fewer, a layout is that every frame's main data fit
 pub fits-laid : (window free : ℕ) (frames : List Frame) → IsFeasible window free frames → AllFit window free frames
 unfolding IsFeasible
 fits-laid window free frames feasible = fit-layout window 0 free free frames feasible.0 (omega arith) feasible.1
@@ -32,7 +32,7 @@ fold-add a (n ∷ ns) = omega (arith, fold-add (a + n) ns, fold-add (0 + n) ns)
 pub sum-cons : (n : ℕ) (ns : List ℕ) → sum (n ∷ ns) ≡ n + sum ns
 sum-cons n ns = omega (arith, fold-add (0 + n) ns)
 
--- the least sum of all lists that fit behind so many free bytes
+-- the least sum of all lists that fit after so many free bytes
 pub record IsLeastSum (window free : ℕ) (opens : List Open) (cost : ℕ) : Type 0 where
   pub least : (others : List ℕ) → AreChosen opens others → AllFit window free (frames_of opens others) → cost ≤ sum others
   pub some : cost < nothing → (areas : List ℕ) × AreChosen opens areas × AllFit window free (frames_of opens areas) × (sum areas ≡ cost)
@@ -133,7 +133,7 @@ sum-is window free opens areas cost is sums some =
     let found = sums.some some in
     omega (arith, sums.least areas is.chosen is.fit, is.shortest found.0 found.1 found.2, found.3)
 
--- a lesser area stands before a greater one
+-- a lesser area is before a greater one
 place-before : (ns : List ℕ) (j k : ℕ) → Ascend ns → j < length ns → k < length ns → get_or ns j 0 < get_or ns k 0 → j < k
 place-before ns j k ascend within here less =
     elim (cases_lt j k) as (λ _. j < k) [

@@ -10,20 +10,20 @@ use Rattle.slot_plan.specs.Lists.{Open, AreChosen, frames_of, CanBeLaid, IsNotBe
 use Rattle.slot_plan.specs.Parts.{Item, open_of, item_of, lead_in_of}
 use Rattle.slot_plan.specs.Plans.{AreFor, areas_in}
 
--- Among the choices that have a layout behind so many free bytes, the list with the least sum, and the lexicographically least of these.
+-- Among the choices that have a layout after so many free bytes, the list with the least sum, and the lexicographically least of these.
 pub record IsShortest (window free : ℕ) (opens : List Open) (areas : List ℕ) : Type 0 where
   pub chosen : AreChosen opens areas
   pub feasible : IsFeasible window free (frames_of opens areas)
   pub shortest : (others : List ℕ) → AreChosen opens others → IsFeasible window free (frames_of opens others) → sum areas ≤ sum others
   pub first : (others : List ℕ) → AreChosen opens others → IsFeasible window free (frames_of opens others) → sum others ≡ sum areas → IsNotBehind areas others
 
--- what stands where these frames were to be placed, laid as early as may be
+-- what is where these frames were to be placed, laid as early as may be
 pub record IsBestFor (window free : ℕ) (items : List Item) (placed : List Placed) : Type 0 where
   pub slots : AreFor items placed
   pub best : IsShortest window free (map open_of items) (areas_in items placed)
   pub begins : map (λ p. p.begin) placed ≡ begins_of window 0 free (frames_of (map open_of items) (areas_in items placed))
 
--- the frames of a part, where it has one behind a lead-in of any slot
+-- the frames of a part, where it has one after a lead-in of any slot
 unfoldable pub items_behind : Bool → (HeaderFields → List SlotFields) → List Need → List Item
 items_behind false choices needs = map (item_of choices) needs
 items_behind true choices [] = []

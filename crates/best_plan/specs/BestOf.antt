@@ -9,11 +9,11 @@ use Rattle.slot_plan.specs.Parts.{Item, area_in}
 use Rattle.slot_plan.specs.Plans.{areas_in}
 use Rattle.slot_plan.specs.Reserve.{free_behind}
 
--- a slot of an item behind so many free bytes
+-- a slot of an item after so many free bytes
 abbrev pub placed_at : ℕ → Item → SlotFields → Placed
 placed_at free item slot = record { lead_in = item.lead_in; slot = slot; begin = free }
 
--- all lists of slots with which the main data have room behind so many free bytes
+-- all lists of slots with which the main data have room after so many free bytes
 unfoldable pub plans_of : ℕ → ℕ → List Item → List (List Placed)
 plans_of window free [] = [] ∷ []
 plans_of window free (item ∷ items) =
@@ -47,6 +47,6 @@ abbrev pub or_behind : Option (List Placed) → Option (List Placed) → Option 
 or_behind (Some placed) behind = Some placed
 or_behind None behind = behind
 
--- the best plan of a part: without a lead-in where there is one without, else behind one
+-- the best plan of a part: without a lead-in where there is one without, else after one
 abbrev pub best_plan_of : ℕ → (HeaderFields → List SlotFields) → List Need → Option (List Placed)
 best_plan_of window choices needs = or_behind (best_of window 0 (items_behind false choices needs)) (best_of window 0 (items_behind true choices needs))

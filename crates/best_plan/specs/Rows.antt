@@ -6,7 +6,7 @@ use Rattle.slot_plan.specs.Reserve.{free_behind}
 abbrev pub nothing : ℕ
 nothing = 4294967295
 
--- the sum of this area and of the least sum behind it
+-- the sum of this area and of the least sum after it
 abbrev pub sum_with : ℕ → ℕ → ℕ → List ℕ → ℕ → ℕ
 sum_with window free bytes later area = area + slice_index later (free_behind window free bytes area)
 
@@ -58,7 +58,7 @@ pub record IsFirst (bytes : ℕ) (areas : List ℕ) (free place : ℕ) : Type 0 
   pub fits : bytes ≤ free + slice_index areas place
   pub small : (k : ℕ) → k < place → free + slice_index areas k < bytes
 
--- behind fewer free bytes than these the areas before this place are too small, and behind as many or more the last of them isn't
+-- after fewer free bytes than these the areas before this place are too small, and after as many or more the last of them isn't
 pub record IsEndAt (window bytes : ℕ) (areas : List ℕ) (place end : ℕ) : Type 0 where
   pub within : end ≤ window + 1
   pub small : (free k : ℕ) → free < end → k < place → free + slice_index areas k < bytes

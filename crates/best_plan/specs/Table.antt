@@ -13,7 +13,7 @@ use Rattle.best_plan.specs.Rows.{nothing, IsChoice, IsRow}
 abbrev pub areas_for : (HeaderFields → List SlotFields) → Need → List ℕ
 areas_for choices need = (open_of (item_of choices need)).areas
 
--- the row of a frame in front of the rows of the frames behind it
+-- the row of a frame in front of the rows of the frames after it
 pub record IsRowBefore (window : ℕ) (choices : HeaderFields → List SlotFields) (need : Need) (IsBehind : List ℕ → List ℕ → Type 0) (sums places : List ℕ) : Type 0 where
   pub later : List ℕ
   pub before : List ℕ
@@ -24,7 +24,7 @@ pub record IsRowBefore (window : ℕ) (choices : HeaderFields → List SlotField
   pub most : All (λ n. n ≤ 1441) (areas_for choices need)
   pub own : Contains (areas_for choices need) (own_area need)
 
--- behind the last frame there are no areas
+-- after the last frame there are no areas
 pub record IsEnd (window : ℕ) (sums places : List ℕ) : Type 0 where
   pub width : length sums ≡ window + 1
   pub zeros : (free : ℕ) → free ≤ window → slice_index sums free ≡ 0
@@ -35,13 +35,13 @@ unfoldable pub IsTable : ℕ → (HeaderFields → List SlotFields) → List Nee
 IsTable window choices [] sums places = IsEnd window sums places
 IsTable window choices (need ∷ needs) sums places = IsRowBefore window choices need (IsTable window choices needs) sums places
 
--- some list fits behind so many free bytes, by the table
+-- some list fits after so many free bytes, by the table
 pub record CanWalk (window : ℕ) (choices : HeaderFields → List SlotFields) (free : ℕ) (needs : List Need) (places : List ℕ) : Type 0 where
   pub sums : List ℕ
   pub table : IsTable window choices needs sums places
   pub some : slice_index sums free < nothing
 
--- the frames were placed behind what was placed before
+-- the frames were placed after what was placed before
 pub record Walks (window : ℕ) (choices : HeaderFields → List SlotFields) (free : ℕ) (needs : List Need) (old new : List Placed) : Type 0 where
   pub more : List Placed
   pub appended : new ≡ old ++ more

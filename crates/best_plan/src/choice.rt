@@ -1,4 +1,4 @@
-//! Of the areas of one frame, the one with which it and all frames behind it have the fewest bytes.
+//! Of the areas of one frame, the one with which it and all frames after it have the fewest bytes.
 ghost use Rattle.std.specs.Prelude.{◌≡◌, ℕ, ◌+◌, ◌<◌, ◌≤◌, All, AllPairs, length, slice_index};
 ghost use Rattle.slot_plan.specs.Parts.{areas_with};
 ghost use Rattle.slot_plan.specs.Reserve.{free_behind as free_behind_lem};
@@ -17,7 +17,7 @@ pub(crate) struct Choice {
     pub(crate) place: u8,
 }
 
-/// What is known before areas are gone over: those before a place are too small, and no sum behind them is below these, by
+/// What is known before areas are gone over: those before a place are too small, and no sum after them is below these, by
 /// itself and together with the bytes that are free.
 #[derive(Clone, Copy)]
 pub(crate) struct Known {
@@ -39,7 +39,7 @@ pub(crate) fn areas_among(class: Class, protected: bool, slots: &[Slot]) -> Arra
     areas
 }
 
-/// The free bytes behind a frame: what it leaves of those before it and its own area, but no more than the window.
+/// The free bytes after a frame: what it leaves of those before it and its own area, but no more than the window.
 pub(crate) fn free_behind(window: u32, free: u32, bytes: u32, area: u32) -> u32
     requires window { window ≤ 511 }
     requires free { free ≤ window }
@@ -51,7 +51,7 @@ pub(crate) fn free_behind(window: u32, free: u32, bytes: u32, area: u32) -> u32
     (free + area - bytes).min(window)
 }
 
-/// The sum of an area and of the least sum behind it; nothing where the main data don't fit.
+/// The sum of an area and of the least sum after it; nothing where the main data don't fit.
 fn sum_behind(window: u32, free: u32, bytes: u32, area: u32, later: &[u32]) -> u32
     requires window { window ≤ 511 }
     requires free { free ≤ window }
@@ -87,7 +87,7 @@ pub(crate) fn bounds_of(later: &[u32]) -> Known
     known
 }
 
-/// A place before which all areas are too small, by one before which they were behind fewer free bytes.
+/// A place before which all areas are too small, by one before which they were after fewer free bytes.
 pub(crate) fn too_small(free: u32, bytes: u32, areas: &[u32], from: usize) -> usize
     requires free { free ≤ 511 }
     requires areas { All (λ n. n ≤ 1441) areas.now }
@@ -105,8 +105,8 @@ pub(crate) fn too_small(free: u32, bytes: u32, areas: &[u32], from: usize) -> us
     0
 }
 
-/// The first area of the least sum behind so many free bytes, where `later` holds the least sums of the frames
-/// behind, by the bytes that are free before them. It stops at the first area that can't be bettered by what follows.
+/// The first area of the least sum after so many free bytes, where `later` holds the least sums of the frames
+/// after, by the bytes that are free before them. It stops at the first area that can't be bettered by what follows.
 pub(crate) fn best_choice(
     window: u32,
     free: u32,

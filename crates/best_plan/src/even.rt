@@ -38,7 +38,7 @@ pub(crate) fn has_room(window: u32, bytes: u32, areas: &[u32]) -> bool
     true
 }
 
-/// Behind fewer free bytes than these the areas before this place are too small.
+/// After fewer free bytes than these the areas before this place are too small.
 fn end_at(window: u32, bytes: u32, areas: &[u32], place: usize) -> u32
     requires window { window ≤ 511 }
     requires place { place < length areas.now }

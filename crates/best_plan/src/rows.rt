@@ -1,4 +1,4 @@
-//! The choices of one frame behind any number of free bytes.
+//! The choices of one frame after any number of free bytes.
 ghost use Rattle.std.specs.Prelude.{◌≡◌, ◌+◌, ◌<◌, ◌≤◌, All, AllPairs, IsTrue, length, slice_index, IfOk};
 ghost use Rattle.best_plan.specs.Rows.{nothing, IsEven, HasRoom, AppendsRow};
 

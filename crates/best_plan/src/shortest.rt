@@ -14,7 +14,7 @@ use frame_header::Class;
 use slot_plan::{Need, Placed, Plan, Policy};
 use std::alloc::{AllocError, Global};
 
-/// The lead-in with which all frames have the fewest bytes, where `sums` holds those of the frames behind it.
+/// The lead-in with which all frames have the fewest bytes, where `sums` holds those of the frames after it.
 fn lead_in(class: Class, window: u32, sums: &[u32]) -> Placed
     requires window { window ≡ window_of class.version }
     requires sums { length sums.now ≡ window + 1 }
@@ -34,7 +34,7 @@ fn lead_in(class: Class, window: u32, sums: &[u32]) -> Placed
     }
 }
 
-/// The list of areas with the least sum that has a layout, and the lexicographically least of those, behind a
+/// The list of areas with the least sum that has a layout, and the lexicographically least of those, after a
 /// lead-in of any slot where the frames have no layout without one. Main data start as early as they may (ISO/IEC
 /// 11172-3, 2.4.2.7). Want of memory is the one refusal.
 pub fn best<P: Policy>(alloc: Global, needs: &[Need], policy: &P) -> Result<Plan, AllocError>

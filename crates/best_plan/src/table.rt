@@ -9,7 +9,7 @@ use arrayvec::ArrayVec;
 use slot_plan::{Need, Policy};
 use std::alloc::{AllocError, Global};
 
-/// The choices of all frames behind any number of free bytes.
+/// The choices of all frames after any number of free bytes.
 #[derive(Drop)]
 pub(crate) struct Table {
     /// The least sums from the first frame on, by the bytes that are free before it.
@@ -18,7 +18,7 @@ pub(crate) struct Table {
     pub(crate) places: Vec<u8>,
 }
 
-/// The sums behind the last frame: there are no areas.
+/// The sums after the last frame: there are no areas.
 fn no_areas(alloc: Global, window: u32) -> Result<Vec<u32>, AllocError>
     requires window { window ≤ 511 }
     ensures { IfOk result (λ sums. IsEnd window sums.items []) }

@@ -26,7 +26,7 @@ fn frame_at<P: Policy>(need: &Need, place: u8, free: u32, policy: &P) -> Placed
     }
 }
 
-/// Places the frames behind so many free bytes.
+/// Places the frames after so many free bytes.
 pub(crate) fn walk<P: Policy>(
     window: u32,
     free: u32,

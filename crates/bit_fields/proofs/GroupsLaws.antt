@@ -33,7 +33,7 @@ pub spelled-cons : (width n : ℕ) (widths ns : List ℕ) → spelled (width ∷
 unfolding spelled
 spelled-cons width n widths ns = refl
 
--- a group is the first number behind what stands before it
+-- a group is the first number after what is before it
 pub group-numbers_at : (from width : ℕ) (bs : List ℕ) → numbers_at (width ∷ []) (drop from bs) ≡ group from width bs ∷ []
 unfolding group numbers_at
 group-numbers_at from width bs = refl
@@ -174,7 +174,7 @@ group-take from width n bs h =
     ∙ ap (λ ds. number (take width ds)) (drop-take from (n - from) bs)
     ∙ ap number (take-take width (n - from) (drop from bs) (omega arith))
 
--- a group behind a front
+-- a group after a front
 pub group-behind : (from width : ℕ) (cs bs : List ℕ) → group (length cs + from) width (cs ++ bs) ≡ group from width bs
 unfolding group
 group-behind from width cs bs = ap (λ ds. number (take width ds)) (drop-append-add cs bs from)
@@ -211,7 +211,7 @@ module _ (bs : List ℕ) (at width value : ℕ) (room : at + width ≤ length bs
       (AreBits-append (take at bs) (bits_of width value) (AreBits-take at bs h) (AreBits-bits_of width value))
       (AreBits-drop (at + width) bs h)
 
-  -- what stands before it stays, and the value follows
+  -- what is before it stays, and the value follows
   pub take-put : take (at + width) (take at bs ++ bits_of width value ++ drop (at + width) bs) ≡ take at bs ++ bits_of width value
   take-put =
       take_at (take at bs ++ bits_of width value) (drop (at + width) bs) (at + width)
@@ -233,7 +233,7 @@ module _ (bs : List ℕ) (at width value : ℕ) (room : at + width ≤ length bs
       ∙ group-front from size (take at bs) (bits_of width value ++ drop (at + width) bs) (simp length-take (omega arith))
       ∙ group-take from size at bs h
 
-  -- groups behind it stay
+  -- groups after it stay
   pub group-put_behind : (from size : ℕ) → at + width ≤ from → group from size (take at bs ++ bits_of width value ++ drop (at + width) bs) ≡ group from size bs
   group-put_behind from size h =
       let l : length (take at bs ++ bits_of width value) ≡ at + width = length-append (take at bs) (bits_of width value) ∙ ap₂ (λ m n. m + n) (length-take-le at bs (omega arith)) (length-bits_of width value) in

@@ -105,7 +105,7 @@ put_in_part bs start size offset n vs h l =
     ∙ sym (append_assoc (take start bs) (take offset (take size (drop start bs)) ++ vs) (drop (start + offset + n) bs))
     ∙ ap (λ cs. cs ++ drop (start + offset + n) bs) (sym (append_assoc (take start bs) (take offset (take size (drop start bs))) vs) ∙ ap (λ cs. cs ++ vs) front)
 
--- the bytes that a group reaches, written anew
+-- the bytes that a group reaches, written again
 module _ (xs ys : List ℕ) (from n first last window value : ℕ) (low : 8 * first ≤ from) (high : from + n ≤ 8 * last) (ordered : first ≤ last) (within : last ≤ length xs) (fits : value < 2 ^ n) where
   pub reached : length (take (last - first) (drop first xs)) ≡ last - first
   reached = length-take-le (last - first) (drop first xs) (simp length-drop (omega arith))

@@ -28,7 +28,7 @@ bits-set xs place word within =
     ∙ ap₂ (λ cs ds. cs ++ ds) (bits_of-mod 8 word) (sym (drop-bits (place + 1) xs) ∙ ap (λ k. drop k (bits xs)) behind))
     ∙ sym (append_assoc (take (8 * place) (bits xs)) (bits_of 8 word) (drop (8 * place + 8) (bits xs)))
 
--- ---- the lowest bits of one number, and behind them the highest of another
+-- ---- the lowest bits of one number, and after them the highest of another
 module _ (above kept below left : ℕ) (few : kept < 64) (fits : below < 2 ^ (64 - kept + left)) where
   upper : above * 2 ^ (64 - kept) % 2 ^ 64 ≡ above % 2 ^ kept * 2 ^ (64 - kept)
   upper =
@@ -71,7 +71,7 @@ into_last word size high low n cs e is =
     ∙ into_word word size high low n cs [] e is
     ∙ ap (λ ds. bits_of 64 word ++ ds) (append-nil (bits_of low n))
 
--- what was put follows what stands before it
+-- what was put follows what is before it
 pub put_next : (b0 b1 done : List ℕ) (at width value : ℕ) → take at b0 ≡ done → at + width ≤ length b0 → b1 ≡ take at b0 ++ bits_of width value ++ drop (at + width) b0 → (take (at + width) b1 ≡ done ++ bits_of width value) × (length b1 ≡ length b0)
 put_next b0 b1 done at width value before room e =
     (ap (take (at + width)) e ∙ take-put b0 at width value room ∙ ap (λ bs. bs ++ bits_of width value) before, ap length e ∙ length-put b0 at width value room)

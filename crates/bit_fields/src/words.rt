@@ -21,7 +21,7 @@ pub fn set_low_byte(bytes: &mut [u8], place: usize, word: u64)
     bytes[place] = (word % 256) as u8;
 }
 
-/// A word of the lowest `kept` bits of one number, and behind them of the bits of another above its lowest `left`.
+/// A word of the lowest `kept` bits of one number, and after them of the bits of another above its lowest `left`.
 #[inline]
 pub fn spanned(above: u64, kept: u32, below: u64, left: u32) -> u64
     requires some { 1 ≤ kept }

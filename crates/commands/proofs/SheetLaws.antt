@@ -12,7 +12,7 @@ use Rattle.commands.specs.declared.fault.Refusal.TheVariants.{SheetTooLarge}
 use Rattle.commands.specs.Left.{seen, IsLate}
 use Rattle.commands.specs.Sheet.{longest_sheet, sheet_in, IsSheetFault, IsOfSheet}
 
--- want of memory is met behind its refusals
+-- want of memory is met after its refusals
 pub sheet-late : (sheet : Option (List ℕ)) → IfErr (sheet_in sheet) IsLate
 sheet-late None = refl
 sheet-late (Some bytes) = elim (nat_lt longest_sheet (length bytes)) as (λ b. IfErr (cond b (Err (Refused (SheetTooLarge (length bytes)))) (Ok bytes)) IsLate) [ true ↦ refl | false ↦ tt ]

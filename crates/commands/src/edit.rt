@@ -11,7 +11,7 @@ use crate::fault::EditFault;
 use outside::{Folder, PassFault};
 use std::alloc::Global;
 
-/// A command that makes one file, but for the output's name: what it reads and decides before the output is created, and
+/// A command that makes one file, except the output's name: what it reads and decides before the output is created, and
 /// how it writes it.
 pub trait Edit {
     /// What is known and made ready before the output is created, with all memory.

@@ -15,7 +15,7 @@ use sync_survey::SurveyFault;
 #[derive(Clone, Copy, Debug, PartialEq, Eq)]
 pub enum Refusal {
     /// A gain would leave the range from 0 to 255: the offset of its frame in bytes, its granule, its
-    /// channel, and the gain that stands there.
+    /// channel, and the gain that is there.
     GainRange(u64, u8, u8, u8),
     /// One channel is to change, and the file has only one.
     Mono,
@@ -37,7 +37,7 @@ pub enum Refusal {
     Range(u64, u64, u64),
     /// No frame of the class has this bit rate, in kbit/s.
     NoRate(u16),
-    /// Up to this frame, counted from 0, the main data have no room in slots of the bit rates that are allowed, even behind a
+    /// Up to this frame, counted from 0, the main data have no room in slots of the bit rates that are allowed, even after a
     /// lead-in.
     Unfit(u32),
     /// The frames of this input, counted from 0, are of another class than those of the first.
@@ -48,7 +48,7 @@ pub enum Refusal {
     Sheet(CueFault),
     /// The sheet of a fade is at fault. Never `Memory`.
     Curve(EnvelopeFault),
-    /// The point in this line of the sheet of a fade, counted from 1, isn't behind the one before it.
+    /// The point in this line of the sheet of a fade, counted from 1, isn't after the one before it.
     CurveNotRising(u32),
 }
 
@@ -93,7 +93,7 @@ impl<T: Drop> From<AllocFailed<T>> for EditFault {
     }
 }
 
-/// The fault of the one input of a command; want of memory stands alone.
+/// The fault of the one input of a command; want of memory is alone.
 impl From<SurveyFault> for EditFault {
     ghost from_gives = { λ fault e. e ≡ of_input fault };
 

@@ -16,7 +16,7 @@ use outside::Folder;
 use std::alloc::Global;
 use sync_survey::{Survey, SurveyFault, survey};
 
-/// The fault of the survey of an input, counted from 0; want of memory stands alone.
+/// The fault of the survey of an input, counted from 0; want of memory is alone.
 fn of_survey(place: u32, fault: SurveyFault) -> EditFault
     ensures { result ≡ of_survey_lem place fault }
 {

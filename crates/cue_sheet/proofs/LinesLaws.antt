@@ -11,11 +11,11 @@ use Rattle.cue_sheet.proofs.PartsLaws.{other_parts, parts_are}
 abbrev is_end : ℕ → Bool
 is_end byte = byte == 10
 
--- no line begins behind the end
+-- no line begins after the end
 pub no_lines : (text : List ℕ) (at : ℕ) → length text < at → lines_from text at ≡ []
 no_lines text at end = ap (λ b. cond b (lines_in (drop at text)) []) (lt-leb at (length text) end)
 
--- the lines behind the first
+-- the lines after the first
 others_are : (text : List ℕ) (at n : ℕ) → at ≤ length text → n ≤ length (drop at text) → map strip_carriage_return (other_parts is_end (drop n (drop at text))) ≡ lines_from text (at + n + 1)
 others_are text at n within most =
     elim (cases_lt n (length (drop at text))) [

@@ -3,7 +3,7 @@ use Rattle.std.proofs.Common.{◌≡◌, ℕ, suc, ◌+◌, Bool, true, false, c
 use Rattle.std.specs.List.{slice_split, onto_first, position_or_len}
 use Rattle.std.proofs.lemmas.List.Splits.{slice_split-cons_yes, slice_split-cons_no}
 
--- the parts behind the first, of what stands behind it
+-- the parts after the first, of what is after it
 abbrev pub other_parts : (ℕ → Bool) → List ℕ → List (List ℕ)
 other_parts p [] = []
 other_parts p (end ∷ rest) = slice_split p rest

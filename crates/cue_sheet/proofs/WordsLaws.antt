@@ -1,4 +1,4 @@
--- The first word of a line, and the words behind it.
+-- The first word of a line, and the words after it.
 use Rattle.std.proofs.Common.{◌≡◌, ℕ, suc, ◌+◌, ◌<◌, ◌==◌, Bool, true, false, cond, List, [], ◌∷◌, length, take, drop, not, filter, refl, sym, ap, subst, ◌∙◌, arith}
 use Rattle.std.specs.List.{slice_split, prefix_len, position_or_len}
 use Rattle.std.proofs.lemmas.Bool.{ne_eqb}
@@ -60,7 +60,7 @@ here t some none =
     ∙ ap (λ b. cond b (take (position_or_len is_blank t) t ∷ filter is_some_word (other_parts is_blank (drop (position_or_len is_blank t) t))) (filter is_some_word (other_parts is_blank (drop (position_or_len is_blank t) t)))) (some_word t some none)
     ∙ ap (λ words. take (position_or_len is_blank t) t ∷ words) (others_are t)
 
--- the first word of a line, and those behind it
+-- the first word of a line, and those after it
 pub next_word_is : (line t : List ℕ) → t ≡ drop (prefix_len is_blank line) line → 0 < length t → words_of line ≡ take (position_or_len is_blank t) t ∷ words_of (drop (position_or_len is_blank t) t)
 next_word_is line t is some = sym (behind_blanks line) ∙ ap words_of (sym is) ∙ here t some (ap (prefix_len is_blank) is ∙ no_more_blanks line)
 

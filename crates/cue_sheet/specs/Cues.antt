@@ -55,7 +55,7 @@ entry_in line = entry_of (words_of line)
 abbrev pub entries_of : List ℕ → List Entry
 entries_of bytes = map entry_in (lines_of bytes)
 
--- ---- what stands before a line
+-- ---- what is before a line
 
 abbrev pub has_track : List Entry → Bool
 has_track before = nat_le 1 (count_by is_track before)
@@ -90,8 +90,8 @@ pub record IsSeen (before : List Entry) (seen : Seen) : Type 0 where
 abbrev pub line_fault : Bool → ℕ → Option CueFault
 line_fault is line = if is then Some (Line line) else None
 
--- The fault of a line with this number behind others. FILE stands once, TRACK 99 times, INDEX behind a TRACK line, and in one
--- track its number 1 once; a start is behind the one before it.
+-- The fault of a line with this number after others. FILE is there once, TRACK 99 times, INDEX after a TRACK line, and in one
+-- track its number 1 once; a start is after the one before it.
 abbrev pub fault_in : ℕ → List Entry → Entry → Option CueFault
 fault_in line before Passed = None
 fault_in line before File = line_fault (list_any is_file before) line
@@ -107,7 +107,7 @@ fault_in line before Broken = Some (Line line)
 unfoldable pub fault_of : List Entry → Entry → Option CueFault
 fault_of before entry = fault_in (length before + 1) before entry
 
--- the first fault of lines behind others
+-- the first fault of lines after others
 unfoldable pub first_fault : List Entry → List Entry → Option CueFault
 first_fault before [] = None
 first_fault before (entry ∷ more) = option_or (fault_of before entry) (first_fault (before ++ (entry ∷ [])) more)
@@ -149,6 +149,6 @@ pub record AreStarts (places : List Place) : Type 0 where
 
 -- ---- what is left of a text
 
--- the lines from a place on, where a line begins there; none behind the end
+-- the lines from a place on, where a line begins there; none after the end
 abbrev pub entries_from : List ℕ → ℕ → List Entry
 entries_from text at = map entry_in (lines_from text at)

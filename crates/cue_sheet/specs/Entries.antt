@@ -1,4 +1,4 @@
--- What a line of a cue sheet says by its words, whatever stands before it.
+-- What a line of a cue sheet says by its words, whatever is before it.
 use Rattle.std.specs.Prelude.{ℕ, ◌+◌, ◌*◌, ◌==◌, ◌&&◌, nat_le, if◌then◌else◌, Bool, false, List, [], ◌∷◌, Option, Some, None, option_map, option_and_then, codes}
 use Rattle.std.specs.List.{before_first, after_first}
 use Rattle.std.specs.Str.{str_eq_ignore_ascii_case}
@@ -43,11 +43,11 @@ disc_frames minutes seconds frames = (60 * minutes + seconds) * 75 + frames
 abbrev pub minutes_in : List ℕ → Option ℕ
 minutes_in word = number_in 2 4 9999 (before_first is_colon word)
 
--- behind the first colon two digits of at most 59
+-- after the first colon two digits of at most 59
 abbrev pub seconds_in : List ℕ → Option ℕ
 seconds_in word = number_in 2 2 59 (before_first is_colon (after_first is_colon word))
 
--- and behind the second colon two digits of at most 74
+-- and after the second colon two digits of at most 74
 abbrev pub frames_in : List ℕ → Option ℕ
 frames_in word = number_in 2 2 74 (after_first is_colon (after_first is_colon word))
 

@@ -16,7 +16,7 @@ is_dot byte = byte == 46
 abbrev pub frame_number : List ℕ → Option Place
 frame_number word = option_map Frame (number_in 1 7 9999999 word)
 
--- behind the seconds stands nothing, or a dot and one or two digits
+-- after the seconds stands nothing, or a dot and one or two digits
 abbrev pub hundredths_of : List ℕ → Option ℕ
 hundredths_of [] = Some 0
 hundredths_of (dot ∷ digits) = number_in 1 2 99 digits
@@ -25,14 +25,14 @@ hundredths_of (dot ∷ digits) = number_in 1 2 99 digits
 abbrev pub time_in : ℕ → ℕ → ℕ → Place
 time_in minutes seconds hundredths = Time ((60 * minutes + seconds) * 100 + hundredths) 100
 
--- behind the first dot stand the seconds, up to the next dot or the end, and then the hundredths
+-- after the first dot stand the seconds, up to the next dot or the end, and then the hundredths
 abbrev pub seconds_in : List ℕ → Option ℕ
 seconds_in rest = number_in 1 2 59 (before_first is_dot rest)
 
 abbrev pub hundredths_in : List ℕ → Option ℕ
 hundredths_in rest = hundredths_of (drop (position_or_len is_dot rest) rest)
 
--- the time of minutes and what stands behind the first dot
+-- the time of minutes and what is after the first dot
 unfoldable pub time_of : List ℕ → List ℕ → Option Place
 time_of minutes rest =
     option_and_then (λ m. option_and_then (λ s. option_map (time_in m s) (hundredths_in rest)) (seconds_in rest)) (number_in 1 4 9999 minutes)

@@ -92,11 +92,11 @@ impl Cue {
     /// passed over. Lines end with a line feed or at the end of the sheet; a carriage return at a line's end is dropped.
     /// Words are separated by spaces and tabs, and keywords are compared without ASCII case. The first word decides:
     ///
-    /// - `FILE`: the rest isn't read. It stands once;
+    /// - `FILE`: the rest isn't read. It is there once;
     /// - `TRACK`: one or two digits, from 1 to 99, and `AUDIO` follow. It stands 99 times at most. The numbers may repeat
     ///   and fall;
     /// - `INDEX`: one or two digits follow, and a time `mm:ss:ff` of two to four digits, two of at most 59, and two of at
-    ///   most 74, frames of 1/75 second. A `TRACK` line stands before it, and number 1 stands once in a track: there
+    ///   most 74, frames of 1/75 second. A `TRACK` line is before it, and number 1 is there once in a track: there
     ///   the track starts. Each start is greater than the one before it;
     /// - any other line isn't read.
     ///

@@ -11,7 +11,7 @@ pub enum CueFault {
     /// This line breaks its rule.
     #[error("line {0} is not well-formed")]
     Line(u32),
-    /// The start in this line isn't behind the one before it.
+    /// The start in this line isn't after the one before it.
     #[error("the start in line {0} is not behind the one before it")]
     NotRising(u32),
     /// No line is at fault, and no track has a start.

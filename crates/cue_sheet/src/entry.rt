@@ -17,7 +17,7 @@ pub(crate) enum Entry {
     Index,
     /// An index with number 1, at so many parts of 1/75 second.
     Start(u32),
-    /// A line that breaks its rule, whatever stands before it.
+    /// A line that breaks its rule, whatever is before it.
     Broken,
 }
 
@@ -50,7 +50,7 @@ fn read_time(word: &[u8]) -> Option<u32>
     Some((60 * minutes + seconds) * 75 + frames)
 }
 
-/// What stands behind `TRACK`: a number and `AUDIO`.
+/// What is after `TRACK`: a number and `AUDIO`.
 fn read_track(rest: &[u8]) -> Entry
     ensures { result ≡ of_two track_of (words_of rest.now) }
 {
@@ -71,7 +71,7 @@ fn index_at(number: &[u8], time: &[u8]) -> Entry
     }
 }
 
-/// What stands behind `INDEX`: a number and a time.
+/// What is after `INDEX`: a number and a time.
 fn read_index(rest: &[u8]) -> Entry
     ensures { result ≡ of_two index_of (words_of rest.now) }
 {
@@ -81,7 +81,7 @@ fn read_index(rest: &[u8]) -> Entry
     }
 }
 
-/// What a line says, by its first word and what stands behind it.
+/// What a line says, by its first word and what is after it.
 #[tactic(auto, unfolding(crate::specs::Entries::entry_of))]
 fn entry_behind(first: &[u8], rest: &[u8]) -> Entry
     ensures { result ≡ entry_of (first.now ∷ words_of rest.now) }

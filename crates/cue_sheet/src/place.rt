@@ -14,7 +14,7 @@ pub enum Place {
     /// So many parts of a second from the start, and how many parts a second has, from 1 to 100. It is before the
     /// frame that is heard then.
     Time(u32, u32),
-    /// Behind the last frame.
+    /// After the last frame.
     End,
 }
 
@@ -27,7 +27,7 @@ impl Default for Place {
     }
 }
 
-// What stands behind the seconds: nothing, or a dot and one or two digits.
+// What is after the seconds: nothing, or a dot and one or two digits.
 fn read_hundredths(tail: &[u8]) -> Option<u32>
     ensures hundredths { result ≡ hundredths_of tail.now }
     ensures most { IfSome result (λ hundredths. hundredths ≤ 99) }
@@ -38,7 +38,7 @@ fn read_hundredths(tail: &[u8]) -> Option<u32>
     }
 }
 
-// Minutes, and what stands behind the first dot.
+// Minutes, and what is after the first dot.
 #[tactic(auto, unfolding(crate::specs::Places::time_of))]
 fn read_time(minutes: &[u8], rest: &[u8]) -> Option<Place>
     ensures time { result ≡ time_of minutes.now rest.now }

@@ -15,7 +15,7 @@ pub(crate) struct Seen {
     file: bool,
     /// How many TRACK lines are among them.
     tracks: u32,
-    /// Whether a start stands behind the last TRACK line.
+    /// Whether a start is after the last TRACK line.
     started: bool,
     /// The time of the last start.
     last: Option<u32>,

@@ -37,14 +37,14 @@ pub fn without_mark(bytes: &[u8]) -> &[u8]
     }
 }
 
-/// What stands before the first such byte, or all of it where there is none.
+/// What is before the first such byte, or all of it where there is none.
 pub(crate) fn front_of(text: &[u8], byte: u8) -> &[u8]
     ensures { result.now ≡ before_first (λ b. b == byte) text.now }
 {
     &text[..place_of(text, byte)]
 }
 
-/// What stands behind the first such byte, or nothing where there is none.
+/// What is after the first such byte, or nothing where there is none.
 pub(crate) fn behind(text: &[u8], byte: u8) -> &[u8]
     ensures { result.now ≡ after_first (λ b. b == byte) text.now }
 {
@@ -71,7 +71,7 @@ fn is_blank(byte: u8) -> bool
     byte == b' ' || byte == b'\t'
 }
 
-/// How many blanks stand at the front.
+/// How many blanks are at the front.
 fn blanks(text: &[u8]) -> usize
     ensures blanks { result ≡ prefix_len is_blank_lem text.now }
     ensures within { result ≤ length text.now }
@@ -83,7 +83,7 @@ fn blanks(text: &[u8]) -> usize
     count
 }
 
-/// How many bytes stand before the first blank.
+/// How many bytes are before the first blank.
 fn word_length(text: &[u8]) -> usize
     ensures word { result ≡ position_or_len is_blank_lem text.now }
     ensures within { result ≤ length text.now }
@@ -95,7 +95,7 @@ fn word_length(text: &[u8]) -> usize
     count
 }
 
-/// A word and what stands behind it.
+/// A word and what is after it.
 #[derive(Clone, Copy)]
 pub struct Word<'a> {
     pub word: &'a [u8],

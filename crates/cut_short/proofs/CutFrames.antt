@@ -156,7 +156,7 @@ module _ (file : List ℕ) (n : ℕ) (within : n ≤ length file) (start : Start
   abbrev later : Run
   later = run Stream file behind
 
-  -- the items behind the first frame
+  -- the items after the first frame
   pub r : IsCutRun file n within Stream behind later.items later.stop
   r = cut-run file n within Stream behind later.items later.stop (run-ends Stream file behind) kept
 

@@ -69,7 +69,7 @@ module _ (file : List ℕ) (n : ℕ) (within : n ≤ length file) where
   cut-run part from (p ∷ ps) to ends low =
       run-more part from p ps to ends low (λ kept. cut-run part (p.offset + size_of p.item) ps to ends.2 kept) (cases_lt n (p.offset + size_of p.item))
 
-  -- ---- where nothing of the part stands whole
+  -- ---- where nothing of the part is whole
 
   -- a fault that a file that was cut may have, or none
   abbrev pub MayBeCut : Option SurveyFault → Type 0

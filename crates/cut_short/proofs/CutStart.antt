@@ -29,7 +29,7 @@ use Rattle.sync_survey.proofs.RunsLaws.{both, item_of-is}
 use Rattle.sync_survey.proofs.StartLaws.{anchored_frame-is, first_anchored-none}
 use Rattle.cut_short.proofs.CutItems.{text-long, cut, length-cut, drop-cut, IsCutThrough}
 
--- ---- no frame behind an item that was cut through and isn't known
+-- ---- no frame after an item that was cut through and isn't known
 
 least-24 : (h : HeaderFields) → IsHeader h → 24 ≤ length_of (class_of h) h.slot
 least-24 h is = omega (arith, by_version (class_of h).version, length-least (class_of h) h.slot (IsClass-class_of h is) is.slot)

@@ -1,4 +1,4 @@
--- Draws, one behind the other, and the main data that are made of them.
+-- Draws, one after the other, and the main data that are made of them.
 use Rattle.std.proofs.Common.{◌≡◌, get_or, set, ℕ, zero, suc, ◌+◌, ◌-◌, ◌*◌, ◌/◌, ◌%◌, ◌<◌, List, [], ◌∷◌, ◌++◌, length, take, drop, map, refl, sym, ◌∙◌, ap, arith, append_assoc, zero-add}
 use Rattle.std.proofs.lemmas.List.{drop_more, set_at, map-append, length-map}
 use Rattle.bit_fields.specs.Bits.{bits, bytes, AreBytes}

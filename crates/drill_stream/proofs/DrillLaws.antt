@@ -40,7 +40,7 @@ AreBits-zeros (suc n) = (lit< tt, AreBits-zeros n)
 header-is : IsHeader drill_header
 header-is = record { slot = (lit≤ tt, lit≤ tt); frequency_index = lit≤ tt; mode = lit≤ tt; mode_extension = lit≤ tt; emphasis = lit≤ tt }
 
--- what is kept of bytes, and 0 behind it
+-- what is kept of bytes, and 0 after it
 abbrev spelled : ℕ → List ℕ → List ℕ
 spelled count octets = take count (bits octets) ++ zeros (8 * length octets - count)
 
@@ -50,7 +50,7 @@ AreBits-spelled count octets = AreBits-append (take count (bits octets)) (zeros 
 bits-first : (count : ℕ) (octets : List ℕ) → count ≤ 8 * length octets → bits (first_bits count octets) ≡ spelled count octets
 bits-first count octets few = bits-bytes (length octets) (spelled count octets) (AreBits-spelled count octets) (length-spelled count octets few)
 
--- behind the bits the payload is 0
+-- after the bits the payload is 0
 filled : (count state : ℕ) → drop count (bits (drawn_payload count state)) ≡ zeros (8 * ((count + 7) / 8) - count)
 unfolding drawn_payload
 filled count state =
@@ -125,7 +125,7 @@ none-left : {X : Type 0} (xs : List X) → length xs ≡ 0 → xs ≡ []
 none-left [] none = refl
 none-left (x ∷ xs) none = absurd (omega (arith, none))
 
--- the first bits of a byte and 0 behind them
+-- the first bits of a byte and 0 after them
 part-low : (high low octet : ℕ) → octet < 64 → octet / 2 ^ low % 2 ^ high * 2 ^ low < 64
 part-low high low octet small = omega (arith, small, mod-most (octet / 2 ^ low) (2 ^ high), part-most (octet / 2 ^ low % 2 ^ high) (octet / 2 ^ low) octet (2 ^ low) (mod-most (octet / 2 ^ low) (2 ^ high)) (div-most octet (2 ^ low)))
   where

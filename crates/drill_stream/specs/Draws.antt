@@ -1,7 +1,7 @@
 -- Numbers that look as if drawn by chance, from a linear congruential generator modulo 2 ^ 31.
 use Rattle.std.specs.Prelude.{ℕ, zero, suc, ◌+◌, ◌*◌, ◌/◌, ◌%◌, List, [], ◌∷◌}
 
--- the state behind one draw
+-- the state after one draw
 abbrev pub next_state : ℕ → ℕ
 next_state state = (state * 1103515245 + 12345) % 2147483648
 
@@ -9,7 +9,7 @@ next_state state = (state * 1103515245 + 12345) % 2147483648
 abbrev pub drawn : ℕ → ℕ
 drawn state = state / 65536
 
--- the state behind so many draws
+-- the state after so many draws
 unfoldable pub state_behind : ℕ → ℕ → ℕ
 state_behind zero state = state
 state_behind (suc count) state = state_behind count (next_state state)

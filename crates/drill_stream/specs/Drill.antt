@@ -64,7 +64,7 @@ drawn_side begin state = side_with begin (drawn_lengths begin state) (drawn_gain
 abbrev pub drawn_bytes : ℕ → ℕ → List ℕ
 drawn_bytes count state = map (λ draw. draw % 64) (draws count state)
 
--- the first so many bits of bytes, and 0 behind them to the end of the last byte
+-- the first so many bits of bytes, and 0 after them to the end of the last byte
 abbrev pub first_bits : ℕ → List ℕ → List ℕ
 first_bits count octets = bytes (take count (bits octets) ++ zeros (8 * length octets - count))
 
@@ -98,7 +98,7 @@ pub record Before : Type 0 where
 abbrev pub area_start : ℕ → ℕ
 area_start i = 381 * i
 
--- where its main data begin: behind those before it, but no more than 511 bytes before its own area
+-- where its main data begin: after those before it, but no more than 511 bytes before its own area
 abbrev pub data_start : ℕ → Before → ℕ
 data_start i b = max b.ended (area_start i - 511)
 

@@ -11,7 +11,7 @@ use Rattle.slot_plan.specs.Plans.{IsPlan}
 use Rattle.part_needs.specs.Needs.{need_of}
 use Rattle.drill_stream.specs.Drill.{drill_header, frame_at, drill_frames, drill_stream}
 
--- there is no head, no block and no junk, and the frames stand one behind the other from the first byte on; none is lost
+-- there is no head, no block and no junk, and the frames follow one after the other from the first byte on; none is lost
 abbrev pub drill_fields : ℕ → ℕ → SurveyFields
 drill_fields seed count = record {
   frames = rows_from 0 (drill_frames seed count);

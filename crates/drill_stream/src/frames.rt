@@ -83,7 +83,7 @@ pub(crate) fn draw_side(draws: &mut Draws, begin: u16) -> Side
 }
 
 /// These bytes as main data of so many bits, at most 7,136, as many as they are for: the unused low bits of the last byte
-/// are 0. They stand in the window, in place of what it held.
+/// are 0. They are in the window, in place of what it held.
 fn pack<'w>(bytes: &[u8], bits: u32, window: &'w mut Window) -> Payload<'w>
     requires few { bits ≤ 7136 }
     requires size { length bytes.now ≡ (bits + 7) / 8 }

@@ -8,7 +8,7 @@ pub fn streams_hold()
 {}
 
 /// Whatever the number, a survey of the stream of 1 to 20,000 frames that allows as many has no fault. It finds the frames
-/// one behind the other from the first byte on, the first with main_data_begin 0, and no head, no block and no junk.
+/// one after the other from the first byte on, the first with main_data_begin 0, and no head, no block and no junk.
 pub fn streams_are_surveyed()
     ensures surveyed { StreamsAreSurveyed }
     ensures first { FirstBeginsInItsArea }

@@ -21,11 +21,11 @@ pub struct Summary {
     pub bytes_in: u64,
     /// The length of the packed file in bytes.
     pub bytes_out: u64,
-    /// The empty frames in the packed file that stand in front of others to make room for their main data.
+    /// The empty frames in the packed file that are in front of others to make room for their main data.
     pub lead_ins: u64,
 }
 
-/// Puts a number and a word behind a text.
+/// Puts a number and a word after a text.
 fn put_number(text: &mut ArrayVec<u8, ROOM>, number: u64, word: &[u8])
     requires { length text.old.items + 20 + length word.now ≤ 128 }
     ensures text { text.new.items ≡ text.old.items ++ (decimal number ++ word.now) }

@@ -8,11 +8,11 @@
 //! | `list` | `listing` | sends what a file holds, a line for each frame and block, to a sink |
 //! | `gain`, `undo` | `gain_edits` | moves the gains of a file, and takes back what the file's tag says of that |
 //! | `fade` | `fading` | moves the gains of a file by a curve over its frames |
-//! | `cut`, `pack` | `frame_edits` | lays chosen frames, or all, anew in one file |
+//! | `cut`, `pack` | `frame_edits` | lays out chosen frames, or all, again in one file |
 //! | `pack_with` | `packing` | packs in a mode: with the least slots, one bit rate alone, or bit rates from one on |
-//! | `split` | `splitting` | lays the frames between places anew, a file for each piece |
-//! | `join` | `joining` | lays the frames of several files anew in one |
-//! | `salvage` | `salvaging` | lays what can be read of a damaged file anew, and sends what is missing to a sink |
+//! | `split` | `splitting` | lays out the frames between places again, a file for each piece |
+//! | `join` | `joining` | lays out the frames of several files again in one |
+//! | `salvage` | `salvaging` | lays out what can be read of a damaged file again, and sends what is missing to a sink |
 //!
 //! What they share, the faults and the one body of those that make one file, is in `commands`.
 

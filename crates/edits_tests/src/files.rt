@@ -1,4 +1,4 @@
-//! What a test puts into a folder, and what stands in its files.
+//! What a test puts into a folder, and what is in its files.
 //!
 //! A test owns its folder and ends in one place, and all else borrows it: at each end of the owner the folder is let go, which
 //! costs the check much.
@@ -47,7 +47,7 @@ pub fn expect_file<R: Abort + AllocGlobal>(
     Ok(())
 }
 
-/// Asserts that so many bytes stand in the file of this name, and that these do at a place.
+/// Asserts that so many bytes are in the file of this name, and that these do at a place.
 pub fn expect_part(
     rt: &impl Abort,
     folder: &MemFolder,

@@ -12,7 +12,7 @@ use test_files::files::Stretch::{Bytes, Fill, Filled};
 use test_files::files::{INFO_FRONT, OF_300, OF_400, Stretch, TWO, bytes_of};
 use test_files::{end_to_end, table};
 
-/// A head, whose area has 40 bytes of the main data of the one frame behind it, and that frame, of 400 bytes.
+/// A head, whose area has 40 bytes of the main data of the one frame after it, and that frame, of 400 bytes.
 static HEADED: [Stretch; 6] = end_to_end! {
     Filled(&[0xff, 0xfb, 0x90, 0x00], 0, 32), Bytes(b"Info"), Fill(0, 337), Fill(0x33, 40),
     Filled(&[0xff, 0xfb, 0x90, 0x00, 0x14, 0x00, 0x0c, 0x80], 0, 28), Fill(0x33, 360 + 21)
@@ -39,7 +39,7 @@ static TWICE: [Stretch; 12] = end_to_end! {
     Filled(&[0xff, 0xfb, 0x90, 0x00, 0x47, 0x80, 0x0c, 0x80], 0, 28), Fill(0x22, 257), Fill(0, 124)
 };
 
-/// A lead-in of 32 kbit/s, with an area of 68, behind the first two of these, and the frame of the headed file. Its main data
+/// A lead-in of 32 kbit/s, with an area of 68, after the first two of these, and the frame of the headed file. Its main data
 /// begin 130 bytes before its own area.
 static BEHIND: [Stretch; 7] = end_to_end! {
     OF_400, Fill(0x22, 319), Fill(0x33, 62),
@@ -55,7 +55,7 @@ fn put_files(alloc: Global, folder: &mut MemFolder) -> Result<(), AllocError> {
     folder.reserve("o", 4000)
 }
 
-/// Puts the file of two frames behind a block in front, and room for `o` and `p`.
+/// Puts the file of two frames after a block in front, and room for `o` and `p`.
 fn put_block(alloc: Global, folder: &mut MemFolder) -> Result<(), AllocError> {
     put_file(alloc, folder, "a", &[&BLOCK, TWO])?;
     folder.reserve("o", 4000)?;
@@ -129,7 +129,7 @@ fn expect_lead_in<R: Abort + AllocGlobal>(rt: &R, folder: &mut MemFolder) -> Res
     Ok(())
 }
 
-/// A lead-in stands between the files, as it does where the second is cut out alone.
+/// A lead-in is between the files, as it does where the second is cut out alone.
 #[test]
 fn lead_in_between(rt: HostRuntime) -> Result<(), Fail> {
     let mut folder = MemFolder::new(rt.alloc());
@@ -160,7 +160,7 @@ fn expect_one_block<R: Abort + AllocGlobal>(rt: &R, folder: &mut MemFolder) -> R
     Ok(())
 }
 
-/// Of several files the first one's block in front stands alone.
+/// Of several files the first one's block in front is alone.
 #[test]
 fn one_block_in_front(rt: HostRuntime) -> Result<(), Fail> {
     let mut folder = MemFolder::new(rt.alloc());

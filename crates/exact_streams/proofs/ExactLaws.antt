@@ -25,7 +25,7 @@ needs-length [] (f ∷ fs) are = absurd are
 needs-length (need ∷ needs) [] are = absurd are
 needs-length (need ∷ needs) (f ∷ fs) are = omega (arith, needs-length needs fs are.2)
 
--- what stands at the front of a part's stream: as many frames as were planned, and at least one
+-- what is at the front of a part's stream: as many frames as were planned, and at least one
 pub record IsSized (needs : List Need) (stream : List StreamFrame) : Type 0 where
   pub some : 0 < length needs
   pub same : length stream ≡ length needs

@@ -1,4 +1,4 @@
--- A stream of the frames of several parts, as they are, each part behind at most one lead-in.
+-- A stream of the frames of several parts, as they are, each part after at most one lead-in.
 use Rattle.std.specs.Prelude.{◌≡◌, List, [], ◌∷◌, ◌++◌}
 use Rattle.sync_survey.specs.MainData.{StreamFrame}
 use Rattle.laying.specs.Relaid.{silent_before}

@@ -1,4 +1,4 @@
--- What holds of the streams and plans of the commands that lay main data anew.
+-- What holds of the streams and plans of the commands that lay out main data again.
 use Rattle.std.specs.Prelude.{◌≡◌, ℕ, ◌<◌, ◌≤◌, List, [], ◌∷◌, map, flat_map, length, slice_range, Ok}
 use Rattle.frame_header.specs.Fields.{SlotFields, HeaderFields, ClassFields}
 use Rattle.frame_header.specs.Tables.{window_of}

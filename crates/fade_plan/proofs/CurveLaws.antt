@@ -1,4 +1,4 @@
--- The last point up to a frame and the first one behind it, among points that are parted there.
+-- The last point up to a frame and the first one after it, among points that are parted there.
 use Rattle.std.proofs.Common.{◌≡◌, ℕ, suc, ◌+◌, ◌-◌, ◌<◌, ◌≤◌, Bool, true, false, cond, nat_le, nat_lt, List, [], ◌∷◌, ◌++◌, length, get_or, take, drop, map, Some, None, option_map, refl, sym, ap, ap₂, subst, ◌∙◌, arith, length-drop, length-append}
 use Rattle.std.specs.Prelude.{reverse, find}
 use Rattle.std.specs.List.{All, AllWithin, slice_get}
@@ -76,7 +76,7 @@ first_of frame xs ys all =
     find_mapped (λ p. nat_lt frame p.frame) in_curve (xs ++ ys)
     ∙ ap (option_map in_curve) (find-append (behind frame) xs ys ∙ ap (λ o. option_or o (find (behind frame) ys)) (none_passes (behind frame) xs (not_behind frame xs all)))
 
--- the points up to a frame, and those behind it
+-- the points up to a frame, and those after it
 pub record AreParted (frame : ℕ) (points xs ys : List Point) : Type 0 where
   pub whole : points ≡ xs ++ ys
   pub front : All (λ p. up_to frame p ≡ true) xs

@@ -55,7 +55,7 @@ curve_rises class frames points curve e =
     let parts = made_of (not_rising class frames points) (map (curve_point class frames) points) curve e in
     subst AreRising parts.1 (rises class frames points parts.0)
 
--- ---- the points up to a frame, and those behind it
+-- ---- the points up to a frame, and those after it
 
 front_all : (frame : ℕ) (xs ys : List CurvePoint) (d : CurvePoint) → AreRising (xs ++ ys) → 0 < length xs → (get_or xs (length xs - 1) d).frame ≤ frame → All (λ p. p.frame ≤ frame) xs
 front_all frame xs ys d rising some low k e less =

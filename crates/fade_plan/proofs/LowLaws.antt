@@ -123,7 +123,7 @@ curve_made class frames xs ys is low =
     ap Ok (ap (map in_curve) is ∙ same_points class frames xs)
     ∙ ap (λ o. unless_at o (map (curve_point class frames) (map in_envelope xs))) (low ∙ ap first_low is ∙ low_placed class frames xs)
 
--- what a vector holds after its points were written anew
+-- what a vector holds after its points were written again
 pub whole_again : (n : ℕ) (new old : List Point) → length new ≡ n → length old ≡ n → take n (new ++ drop (length new) old) ≡ new
 whole_again n new old size same =
     ap (λ t. take n (new ++ t)) (drop_all (length new) old (omega (arith, size, same))) ∙ ap (take n) (append-nil new) ∙ take_all n new (omega (arith, size))

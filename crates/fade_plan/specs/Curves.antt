@@ -36,7 +36,7 @@ curve_of class frames points = unless_at (not_rising class frames points) (map (
 
 -- ---- steps
 
--- the last point at or before a frame, and the first one behind it
+-- the last point at or before a frame, and the first one after it
 abbrev pub last_up_to : List CurvePoint → ℕ → Option CurvePoint
 last_up_to points frame = find (λ point. nat_le point.frame frame) (reverse points)
 

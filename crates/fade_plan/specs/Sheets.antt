@@ -21,7 +21,7 @@ pub record EnvelopePoint : Type 0 where
 abbrev pub size_in : List ℕ → Option ℤ
 size_in digits = option_map pos (number_in 1 3 255 digits)
 
--- such digits behind `+` or `-` or alone
+-- such digits after `+` or `-` or alone
 abbrev pub steps_in : List ℕ → Option ℤ
 steps_in [] = None
 steps_in (first ∷ rest) =
@@ -68,13 +68,13 @@ is_point Passed = false
 is_point (At place steps) = true
 is_point Broken = false
 
--- behind so many points a line is at fault where it is none, or one too many: a sheet has at most 1,000
+-- after so many points a line is at fault where it is none, or one too many: a sheet has at most 1,000
 abbrev pub is_at_fault : ℕ → Entry → Bool
 is_at_fault points Passed = false
 is_at_fault points (At place steps) = nat_le 1000 points
 is_at_fault points Broken = true
 
--- the number of the first line at fault, of lines behind others; lines are counted from 1
+-- the number of the first line at fault, of lines after others; lines are counted from 1
 unfoldable pub first_fault : List Entry → List Entry → Option ℕ
 first_fault before [] = None
 first_fault before (entry ∷ more) =

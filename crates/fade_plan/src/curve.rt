@@ -32,7 +32,7 @@ fn are_up_to(points: &[Point], frame: u64, count: usize) -> bool
     points[count - 1].frame <= frame
 }
 
-/// Whether all others are behind it.
+/// Whether all others are after it.
 fn are_behind(points: &[Point], frame: u64, count: usize) -> bool
     requires rising { IsNonDecreasingBy (λ point. point.frame) points.now }
     requires within { count ≤ length points.now }

@@ -28,7 +28,7 @@ fn read_size(digits: &[u8]) -> Option<i16>
     Some(size as i16)
 }
 
-/// Such digits behind `+` or `-` or alone.
+/// Such digits after `+` or `-` or alone.
 #[tactic(auto, unfolding(cue_sheet::specs::Digits::number_in))]
 fn read_steps(word: &[u8]) -> Option<i16>
     ensures steps { result ≡ steps_in word.now }

@@ -40,7 +40,7 @@ fn entry_at(text: &[u8], at: usize) -> EntryAt
     }
 }
 
-/// Whether a line is at fault behind so many points.
+/// Whether a line is at fault after so many points.
 fn is_at_fault(points: usize, entry: Entry) -> bool
     ensures { result ≡ is_at_fault_lem points entry }
 {

@@ -120,7 +120,7 @@ module _ (sheet : List ℕ) (back : Bool) (input : List ℕ) where
       pub change_early : (fault : EditFault) → IsChangeFault sheet back s old new fault → IsEarlyFault (fade_task sheet back input) old new fault
       change_early fault h = change_by fault (why_of fault) h
 
-      -- behind the survey, by which nothing changed
+      -- after the survey, by which nothing changed
       pub change_early_behind : (fault : EditFault) (mid : Seen) → mid ≡ old → IsChangeFault sheet back s mid new fault → IsEarlyFault (fade_task sheet back input) old new fault
       change_early_behind fault mid stays h = change_early fault (subst (λ (m : Seen). IsChangeFault sheet back s m new fault) stays h)
 

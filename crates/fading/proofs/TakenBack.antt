@@ -1,4 +1,4 @@
--- A fade is taken back by the same sheet the other way: all bytes of the file come back, but for the junk.
+-- A fade is taken back by the same sheet the other way: all bytes of the file come back, except the junk.
 use Rattle.std.proofs.Common.{◌≡◌, ◌≢◌, ℕ, suc, ◌-◌, ◌||◌, Bool, true, false, cond, not, List, [], ◌∷◌, ◌++◌, length, take, drop, map, Option, Some, None, Result, Ok, Err, ℤ, refl, sym, ◌∙◌, ap, ap₂, subst, take-append-drop}
 use Rattle.std.specs.Prelude.{slice_get, option_map, bytes_eq}
 use Rattle.std.proofs.lemmas.Bool.{false≢true}
@@ -85,7 +85,7 @@ module _ (curve : List CurvePoint) (back : Bool) (file : List ℕ) (s : SurveyFi
   abbrev two : ℕ → Steps
   two = steps_over (Along curve (not back)) m.frames
 
-  -- where what stands at an offset of the file stands then
+  -- where what is at an offset of the file is there then
   abbrev nearer : ℕ → ℕ
   nearer x = x - junk_length s
 

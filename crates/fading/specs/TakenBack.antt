@@ -10,7 +10,7 @@ use Rattle.commands.specs.One.{most_frames, made_of}
 use Rattle.gain_edits.specs.Change.{changed_file}
 use Rattle.fading.specs.Fade.{fade_change, fade_command}
 
--- It is accepted and makes the file again, but for the junk before its first frame; a file without junk comes back whole, byte for byte. The stream
+-- It is accepted and makes the file again, except the junk before its first frame; a file without junk comes back whole, byte for byte. The stream
 -- of the file comes back in every case.
 pub record IsFadedBack (sheet : Option (List ℕ)) (back : Bool) (file faded : List ℕ) (s : SurveyFields) : Type 0 where
   pub made : changed_file (fade_change sheet (not back)) faded ≡ Ok (without_junk s file)

@@ -37,7 +37,7 @@ const FRONT_1: Stretch = Bytes(&[
     0x00, 0x00, 0x00, 0x00,
 ]);
 
-/// Two frames with 300 and 400 bytes of main data, one behind the other, each 55.
+/// Two frames with 300 and 400 bytes of main data, one after the other, each 55.
 const TWO_FRAMES: &[Stretch] = &end_to_end! {
     FRONT_0, Fill(0x55, 381),
     FRONT_1, Fill(0x55, 319), Fill(0, 62)

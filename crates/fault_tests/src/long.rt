@@ -8,7 +8,7 @@ use tag_blocks::{Block, Kind};
 use test_files::files::Stretch::{Bytes, Fill};
 use test_files::files::{Stretch, bytes_of};
 
-/// ID3v2 with 100,000 bytes behind its header: 6 * 16,384 + 13 * 128 + 32.
+/// ID3v2 with 100,000 bytes after its header: 6 * 16,384 + 13 * 128 + 32.
 const LONG_ID3V2: &[u8] = &[b'I', b'D', b'3', 4, 0, 0, 0, 6, 13, 32];
 
 const LONG_BLOCK: Block = Block {
@@ -65,7 +65,7 @@ fn zero_bytes_over_several_buffers(rt: HostRuntime) -> Result<(), Fail> {
     Ok(())
 }
 
-/// A frame with one bit too many, whose header or side information stands across the end of the buffer.
+/// A frame with one bit too many, whose header or side information is across the end of the buffer.
 #[test]
 fn a_frame_across_the_end_of_the_buffer(rt: HostRuntime) -> Result<(), Fail> {
     for offset in 65_490..65_540 {

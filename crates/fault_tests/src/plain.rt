@@ -39,7 +39,7 @@ struct Frame {
     area_at: usize,
 }
 
-/// What stands at an offset.
+/// What is at an offset.
 #[derive(Clone, Copy)]
 enum Found {
     Frame(Frame),
@@ -191,7 +191,7 @@ fn is_whole(file: &[u8], at: usize, length: usize) -> bool {
     at.saturating_add(length) <= file.len()
 }
 
-/// The offset behind all whole blocks and zero bytes from the file's front on.
+/// The offset after all whole blocks and zero bytes from the file's front on.
 fn front_end(file: &[u8]) -> usize {
     let mut at = 0;
     for _ in file {
@@ -249,7 +249,7 @@ struct Stream {
 }
 
 impl Stream {
-    /// Takes in what stands at the offset, and gives the offset behind it.
+    /// Takes in what is at the offset, and gives the offset after it.
     fn take_in(&mut self, file: &[u8], at: usize) -> Result<Option<usize>, AllocError> {
         let offset = at as u64;
         let length = match found_at(file, at) {
@@ -296,7 +296,7 @@ fn begins_with_text(bytes: &[u8]) -> bool {
     bytes.starts_with(b"Xing") || bytes.starts_with(b"Info")
 }
 
-/// Whether the frame has a text behind its side information, or where that would end without check word.
+/// Whether the frame has a text after its side information, or where that would end without check word.
 fn is_head(file: &[u8], frame: &Frame) -> bool {
     let bytes = bytes_from(file, frame.at);
     let early = bytes_from(bytes, side_size(&frame.class).saturating_add(4));
@@ -341,7 +341,7 @@ fn remainder_behind(word: u16, bytes: &[u8], from: usize, to: usize) -> u16 {
     word
 }
 
-/// The check word that stands in a protected frame.
+/// The check word that is in a protected frame.
 fn word_said(bytes: &[u8]) -> u16 {
     match bytes {
         [_, _, _, _, high, low, ..] => u16::from_be_bytes([*high, *low]),
@@ -356,7 +356,7 @@ fn word_right(frame: &Frame, bytes: &[u8]) -> u16 {
     remainder_behind(header, bytes, side_at, frame.area_at.saturating_mul(8))
 }
 
-/// The areas of these frames, one behind the other.
+/// The areas of these frames, one after the other.
 fn main_data(alloc: Global, file: &[u8], frames: &[Frame]) -> Result<Vec<u8>, AllocError> {
     let mut joined = Vec::new(alloc);
     for frame in frames {

@@ -7,7 +7,7 @@ use test_files::frames;
 /// The header of a frame of 417 bytes: MPEG-1, 44,100 Hz, 128 kbit/s, stereo, without check word.
 pub const HEADER: Stretch = Bytes(&[0xff, 0xfb, 0x90, 0x00]);
 
-/// What stands behind that header in a silent frame.
+/// What is after that header in a silent frame.
 pub const SILENCE: Stretch = Fill(0, 413);
 
 /// A silent frame.

@@ -1,4 +1,4 @@
--- The tag's block that a survey tells: it is an APEv2 block, within the file, and stands there.
+-- The tag's block that a survey tells: it is an APEv2 block, within the file, and is there.
 use Rattle.std.proofs.Common.{suc, ◌≡◌, ℕ, ◌+◌, ◌-◌, ◌≤◌, Bool, true, false, cond, List, [], ◌∷◌, length, take, drop, Option, Some, None, Ok, Err, refl, sym, ◌∙◌, ap, subst, arith, length-drop}
 use Rattle.std.specs.List.{find, cons_option}
 use Rattle.std.specs.Option.{option_or}
@@ -43,7 +43,7 @@ found_by : (x b : Piece) (xs : List Piece) (P : Type 0) (t : Bool) → is_tag x 
 found_by x b xs P true is e here later = here is cc
 found_by x b xs P false is e here later = later is e
 
--- the first that is a tag is the first of all, or the first of those behind it
+-- the first that is a tag is the first of all, or the first of those after it
 pub found_case : (x b : Piece) (xs : List Piece) (P : Type 0) → find is_tag (x ∷ xs) ≡ Some b → (is_tag x ≡ true → x ≡ b → P) → (is_tag x ≡ false → find is_tag xs ≡ Some b → P) → P
 found_case x b xs P e here later = found_by x b xs P (is_tag x) refl e here later
 
@@ -69,7 +69,7 @@ tag_laid from (x ∷ xs) to b laid e =
 pub tag-within : (s : SurveyFields) (b : Piece) → IsLaidOut s → tag_block s ≡ Some b → b.offset + b.block.length ≤ s.length
 tag-within s b laid e = tag_laid 0 s.blocks s.length b laid.blocks e
 
--- ---- it stands in the file
+-- ---- it is in the file
 
 module _ (part : Part) (file : List ℕ) where
   one_found : (at : ℕ) (item : Item) (bs : List Piece) (b : Piece) → item_of part file at ≡ Some item → (find is_tag bs ≡ Some b → item_of part file b.offset ≡ Some (Block b.block))
@@ -84,7 +84,7 @@ module _ (part : Part) (file : List ℕ) where
   one_found at End bs b here later e = later e
   one_found at Nothing bs b here later e = later e
 
-  -- among items that stand end to end
+  -- among items that follow end to end
   pub found_item : (from : ℕ) (ps : List Placed) (to : ℕ) (b : Piece) → AreEndToEnd part file from ps to → find is_tag (blocks_of ps) ≡ Some b → item_of part file b.offset ≡ Some (Block b.block)
   found_item from [] to b ends e = absurd cc
   found_item from (p ∷ ps) to b ends e = one_found p.offset p.item (blocks_of ps) b ends.1 (found_item (p.offset + size_of p.item) ps to b ends.2) e

@@ -1,4 +1,4 @@
--- Items of a file that stand in another one, each at an offset that its own decides.
+-- Items of a file that are in another one, each at an offset that its own decides.
 use Rattle.std.proofs.Common.{◌≡◌, ℕ, ◌+◌, ◌-◌, ◌<◌, ◌≤◌, List, [], ◌∷◌, ◌++◌, length, take, drop, map, Some, refl, sym, ◌∙◌, ap, subst, arith, length-drop}
 use Rattle.std.specs.List.{cons_option}
 use Rattle.std.proofs.lemmas.List.{length-take, take-append-drop}
@@ -23,7 +23,7 @@ unfolding item_at
 there own at item file bytes is same =
     ap item_front (sym (take-append-drop own (drop at file)) ∙ ap (λ l. l ++ drop own (drop at file)) same) ∙ is.known (drop own (drop at file))
 
--- a whole item stands where its bytes stand
+-- a whole item is where its bytes stand
 pub item-moved : (file new : List ℕ) (at place : ℕ) (item : Item) → item_of Stream file at ≡ Some item → take (size_of item) (drop place new) ≡ take (size_of item) (drop at file) → item_of Stream new place ≡ Some item
 item-moved file new at place item is same =
     let here = item_of-is Stream file at item is in
@@ -44,13 +44,13 @@ frame_by to p = record p { offset = to p.offset }
 abbrev pub piece_by : (ℕ → ℕ) → Piece → Piece
 piece_by to p = record p { offset = to p.offset }
 
--- the bytes of the file between two offsets stand in the other one, where their offsets then are
+-- the bytes of the file between two offsets are in the other one, where their offsets then are
 pub record IsMovedTo (to : ℕ → ℕ) (file new : List ℕ) (from end at : ℕ) : Type 0 where
   pub place : (x : ℕ) → from ≤ x → x < end → to x ≡ at + (x - from)
   pub same : (x k : ℕ) → from ≤ x → x < end → x + k ≤ end → take k (drop (to x) new) ≡ take k (drop x file)
 
 module _ (to : ℕ → ℕ) (file new : List ℕ) where
-  -- so far behind the first offset
+  -- so far after the first offset
   behind : (from end at size : ℕ) → IsMovedTo to file new from end at → IsMovedTo to file new (from + size) end (at + size)
   behind from end at size moved = record {
     place = λ x low high. omega (arith, moved.place x (omega (arith, low)) high, low);
@@ -127,7 +127,7 @@ pub blocks-by : (to : ℕ → ℕ) (ps : List Placed) → blocks_of (map (placed
 blocks-by to [] = refl
 blocks-by to (p ∷ ps) = block_more to p.offset p.item (blocks_of (map (placed_by to) ps)) (blocks_of ps) (blocks-by to ps)
 
--- ---- one list behind another
+-- ---- one list after another
 
 pub ends-append : (part : Part) (file : List ℕ) (from : ℕ) (ps : List Placed) (mid : ℕ) (qs : List Placed) (end : ℕ) → AreEndToEnd part file from ps mid → AreEndToEnd part file mid qs end → AreEndToEnd part file from (ps ++ qs) end
 ends-append part file from [] mid qs end ends more = subst (λ n. AreEndToEnd part file n qs end) (sym ends) more

@@ -1,4 +1,4 @@
--- Frames that stand in another file as they stand in this one, each at an offset that its own decides: they have the same rows, faults and
+-- Frames that are in another file as they are in this one, each at an offset that its own decides: they have the same rows, faults and
 -- marks, and hold the same stream.
 use Rattle.std.proofs.Common.{false, ◌≡◌, ℕ, zero, suc, ◌+◌, ◌≤◌, Bool, List, [], ◌∷◌, ◌++◌, take, drop, map, Option, option_map, Some, None, refl, sym, ◌∙◌, ap, ap₂, subst, arith}
 use Rattle.std.specs.Prelude.{sum_by, slice_get, flat_map}
@@ -112,7 +112,7 @@ module _ (to : ℕ → ℕ) (head : Option Head) where
         (subst (λ n. IsSound class_said class allowed (place head rows i) n i (row_by to r)) (sym (end-by i))
         (subst (λ w. IsSound w class allowed (place head rows i) (end_before head rows i) i (row_by to r)) (sym same) plain))
 
--- what stands at i among moved rows is the row there, moved
+-- what is at i among moved rows is the row there, moved
 row_get : (to : ℕ → ℕ) (rows : List Row) (i : ℕ) (r : Row) → slice_get (map (row_by to) rows) i ≡ Some r → (q : Row) × (slice_get rows i ≡ Some q) × (row_by to q ≡ r)
 row_get to [] i r is = absurd cc
 row_get to (q ∷ rows) zero r is = (q, refl, cc)

@@ -50,7 +50,7 @@ module _ (file : List ℕ) (allowed : ℕ) (start : Start) (read : IsRead file a
   one_block : new_blocks n s ≡ piece ∷ []
   one_block = let some : (n == 0) ≡ false = ne_eqb n 0 (λ e. omega (arith, e, block_front-least block _ is)) in rw some refl
 
-  -- no tag stands before it
+  -- no tag is before it
   none_before : find is_tag (filter (stands_before s) s.blocks) ≡ None
   none_before = ap (find is_tag) (before_is file allowed start read no_junk block (inr is)) ∙ (split file allowed start read no_junk).none
 

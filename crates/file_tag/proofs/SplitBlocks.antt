@@ -1,4 +1,4 @@
--- The blocks before the tag of a file, and those behind it, by their offsets.
+-- The blocks before the tag of a file, and those after it, by their offsets.
 use Rattle.std.proofs.Common.{◌≡◌, ℕ, ◌+◌, ◌<◌, ◌≤◌, Bool, true, false, List, [], ◌∷◌, ◌++◌, map, Option, Some, None, refl, ◌∙◌, ap, ap₂, arith, append-nil}
 use Rattle.std.specs.Prelude.{filter, option_to_list}
 use Rattle.std.specs.List.{cons_option}
@@ -81,7 +81,7 @@ module _ (s : SurveyFields) (before behind : List Piece) (old : Option Piece) (e
   old_behind None old_is = refl
   old_behind (Some b) old_is = one_false (stands_behind s) b (lt-leb (tag_at s + tag_length s) b.offset (omega (arith, old_is.0, old_is.1)))
 
-  -- those that stand before it
+  -- those that are before it
   pub blocks-before : filter (stands_before s) blocks ≡ before
   blocks-before =
       three (stands_before s) before [] []
@@ -90,7 +90,7 @@ module _ (s : SurveyFields) (before behind : List Piece) (old : Option Piece) (e
       (keeps_none (stands_before s) (tag_at s + tag_length s) end behind high (λ b above below. le-ltb b.offset (tag_at s) (omega (arith, above))))
       ∙ append-nil before
 
-  -- those that stand behind it
+  -- those that are after it
   pub blocks-behind : filter (stands_behind s) blocks ≡ behind
   blocks-behind =
       three (stands_behind s) [] [] behind

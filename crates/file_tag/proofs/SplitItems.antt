@@ -1,4 +1,4 @@
--- The items of a file, split at its tag, or behind the last frame where it has none.
+-- The items of a file, split at its tag, or after the last frame where it has none.
 use Rattle.std.proofs.Common.{Bool, cond, ◌≡◌, ℕ, ◌+◌, true, false, List, [], ◌∷◌, ◌++◌, map, Option, Some, None, refl, sym, ◌∙◌, ap, subst, arith}
 use Rattle.std.specs.List.{find, cons_option, enumerate_from}
 use Rattle.frame_header.specs.Tables.{class_of, length_of}
@@ -20,7 +20,7 @@ pub cons-append : {X : Type 0} (o : Option X) (xs ys : List X) → cons_option o
 cons-append None xs ys = refl
 cons-append (Some x) xs ys = refl
 
--- The items of a file are those up to an offset, these blocks, and those from a later offset on; no tag stands before them.
+-- The items of a file are those up to an offset, these blocks, and those from a later offset on; no tag is before them.
 pub record IsSplit (file : List ℕ) (ps : List Placed) (from cut next to : ℕ) (old : List Piece) : Type 0 where
   pub front : List Placed
   pub rest : List Placed
@@ -71,9 +71,9 @@ split-tag file from (q ∷ ps) to b ends e =
     subst (λ n. IsSplitAt file n (q ∷ ps) to b) ends.0
     (tag_more file q.offset q.item ps to b ends.1 ends.2 (split-tag file (q.offset + size_of q.item) ps to b ends.2) e)
 
--- ---- behind the last frame
+-- ---- after the last frame
 
--- the last of a frame and those behind it
+-- the last of a frame and those after it
 abbrev pub final : PlacedFrame → List PlacedFrame → PlacedFrame
 final p [] = p
 final p (q ∷ qs) = final q qs
@@ -149,6 +149,6 @@ last_numbered file None p rest some = last_placed file p rest
 last_numbered file (Some head) p [] some = absurd (some refl)
 last_numbered file (Some head) p (q ∷ qs) some = last_placed file q qs
 
--- it is the last of all, which may stand behind a head
+-- it is the last of all, which may be after a head
 pub last-told : (file : List ℕ) (head : Option Head) (p : PlacedFrame) (rest : List PlacedFrame) → ((numbered head (p ∷ rest) ≡ []) → ⊥) → last_end (marked head (rows_of file (numbered head (p ∷ rest)))) ≡ stop_of (final p rest)
 last-told file head p rest some = last_marked head (rows_of file (numbered head (p ∷ rest))) ∙ last_numbered file head p rest some

@@ -1,4 +1,4 @@
--- The bytes of a file with another tag: those before it and those behind it stand there as they were.
+-- The bytes of a file with another tag: those before it and those after it are there as they were.
 use Rattle.std.proofs.Common.{◌≡◌, ℕ, ◌+◌, ◌-◌, ◌<◌, ◌≤◌, Bool, true, false, cond, ltb, List, ◌++◌, length, take, drop, refl, sym, ◌∙◌, ap, subst, arith, length-append, length-drop}
 use Rattle.std.proofs.lemmas.Bool.{lt-ltb, le-ltb}
 use Rattle.std.proofs.lemmas.List.{length-take-le, take-append-le, take-take, drop-drop, drop-take, drop_at, take_at}
@@ -55,7 +55,7 @@ module _ (bytes file : List ℕ) (s : SurveyFields) (room : tag_at s + tag_lengt
   pub stays : (x : ℕ) → x < cut → moved_at n s x ≡ x
   stays x low = let is : ltb x cut ≡ true = lt-ltb x cut low in ap (λ (b : Bool). cond b x (x - gone + n)) is
 
-  -- what stood behind it
+  -- what stood after it
   pub follows : (x : ℕ) → cut ≤ x → moved_at n s x ≡ x - gone + n
   follows x high = let is : ltb x cut ≡ false = le-ltb x cut high in ap (λ (b : Bool). cond b x (x - gone + n)) is
 

@@ -18,7 +18,7 @@ pub not_in_front : (file : List ℕ) (at : ℕ) (h : HeaderFields) → item_at f
 unfolding item_of
 not_in_front file at h is = ap (whole Front file at) is
 
--- from an offset on the file has this first frame, these frames behind it and these blocks, and no junk
+-- from an offset on the file has this first frame, these frames after it and these blocks, and no junk
 pub record IsClean (file : List ℕ) (from : ℕ) (p : PlacedFrame) (rest : List PlacedFrame) (blocks : List Piece) : Type 0 where
   pub front : (run Front file from).stop ≡ p.offset
   pub first : item_of Stream file p.offset ≡ Some (Frame p.header)

@@ -38,7 +38,7 @@ TagAgain =
 abbrev pub own_bytes : List ℕ → SurveyFields → List ℕ
 own_bytes file s = take (tag_length s) (drop (tag_at s) file)
 
--- The bytes of the file's own tag are such as may stand there, and in their place give the file. Where a tag stands there and is read,
+-- The bytes of the file's own tag are such as may be there, and in their place give the file. Where a tag is there and is read,
 -- they are the bytes of that tag.
 pub record HasOwnTag (file : List ℕ) (s : SurveyFields) : Type 0 where
   pub same : with_tag (own_bytes file s) s file ≡ file

@@ -37,7 +37,7 @@ last_end rows = end_of (slice_get rows (length rows - 1))
     end_of None = 0
     end_of (Some r) = frame_end r
 
--- the offset of the tag, or the place for one, right behind the last frame
+-- the offset of the tag, or the place for one, right after the last frame
 abbrev pub tag_at : SurveyFields → ℕ
 tag_at s = place_of s.frames (tag_block s)
   where
@@ -65,7 +65,7 @@ with_tag bytes s file = take (tag_at s) file ++ (bytes ++ drop (tag_at s + tag_l
 
 -- ---- what a survey tells of that file
 
--- where what stands at an offset of the file stands then, if the new tag has n bytes: what stood behind the tag follows the new one
+-- where what is at an offset of the file is there then, if the new tag has n bytes: what stood after the tag follows the new one
 abbrev pub moved_at : ℕ → SurveyFields → ℕ → ℕ
 moved_at n s at = if nat_lt at (tag_at s) then at else at - tag_length s + n
 
@@ -82,7 +82,7 @@ moved_piece n s piece = record piece { offset = moved_at n s piece.offset }
 abbrev pub new_blocks : ℕ → SurveyFields → List Piece
 new_blocks n s = if n == 0 then [] else record { offset = tag_at s; block = record { kind = Ape; length = n } } ∷ []
 
--- the block stands in front of the tag, or behind it
+-- the block is in front of the tag, or after it
 abbrev pub stands_before : SurveyFields → Piece → Bool
 stands_before s piece = nat_lt piece.offset (tag_at s)
 

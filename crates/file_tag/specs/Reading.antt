@@ -30,7 +30,7 @@ in_file at (Ok tag) = Ok tag
 in_file at (Err (BadTag inside)) = Err (Bad (at + inside))
 in_file at (Err NoMemory) = Err Memory
 
--- the tag of a block that stands at an offset of a file, or why it isn't read: it is too long, or else at fault
+-- the tag of a block that is at an offset of a file, or why it isn't read: it is too long, or else at fault
 abbrev pub tag_of_block : ℕ → List ℕ → Result TagFields FileTagFault
 tag_of_block at block = if nat_lt longest_tag (length block) then Err (TooLarge (length block)) else in_file at (tag_of block)
 
@@ -56,7 +56,7 @@ abbrev pub RefusesTag : List ℕ → Files → SurveyFields → FileTagFault →
 RefusesTag name files s fault = (bytes : List ℕ) → Holds files name bytes → file_tag bytes s ≡ Err fault
 
 -- Why the tag isn't read: it is too long, or at fault at one of its bytes; or a call failed; or a file of which nothing is told had the
--- survey's length, and a read before it gave no byte; or there is no memory. All counts stay but for a failed call and an early end.
+-- survey's length, and a read before it gave no byte; or there is no memory. All counts stay except a failed call and an early end.
 abbrev pub IsTagCause : List ℕ → Files → SurveyFields → Counts → Counts → FileTagFault → Type 0
 IsTagCause name files s before after (TooLarge size) = RefusesTag name files s (TooLarge size) × (size ≡ tag_length s) × (longest_tag < size) × (after ≡ before)
 IsTagCause name files s before after (Bad at) = RefusesTag name files s (Bad at) × (tag_at s ≤ at) × (0 < tag_length s → at < tag_at s + tag_length s) × (after ≡ before)

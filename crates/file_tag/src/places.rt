@@ -49,7 +49,7 @@ fn last_end(frames: &[Row]) -> u64
     }
 }
 
-/// Where the file's tag stands and how long it is, or where a new one goes: right behind the last frame, with
+/// Where the file's tag stands and how long it is, or where a new one goes: right after the last frame, with
 /// length 0.
 pub fn tag_place(survey: &Survey) -> TagPlace
     requires { IsLaidOut (tells survey.now) }

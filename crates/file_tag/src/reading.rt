@@ -73,7 +73,7 @@ fn tag_at_offset(alloc: Global, offset: u64, block: &[u8]) -> Result<Tag, FileTa
     }
 }
 
-/// The tag of the block, which stands in the file.
+/// The tag of the block, which is in the file.
 fn read_piece<D: Folder>(
     alloc: Global,
     folder: &mut D,
@@ -114,7 +114,7 @@ fn read_piece<D: Folder>(
 /// - `Shrunk` with the survey's length and the offset where a read gave no byte, before the end of the block. It comes
 ///   only where the folder doesn't tell its files;
 /// - `Bad` with the offset in the file of the first fault that `Tag::read` has, and, where the folder doesn't tell its
-///   files, with that of the block where no such block stands there any more;
+///   files, with that of the block where no such block is there any more;
 /// - `Memory` where there is no memory for the tag's items.
 pub fn read_tag<D: Folder>(
     alloc: Global,

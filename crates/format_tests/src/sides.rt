@@ -221,7 +221,7 @@ const MPEG_2_MONO: Class = Class {
 // A protected MPEG-2 header of one channel at 24,000 Hz.
 const MONO_HEADER: [u8; 4] = [0xff, 0xf2, 0x14, 0xc0];
 
-/// Side bytes behind that header, and their check word.
+/// Side bytes after that header, and their check word.
 struct Checked {
     bytes: [u8; 9],
     word: u16,
@@ -253,7 +253,7 @@ fn check_words(rt: HostRuntime) -> Result<(), Fail> {
     Ok(())
 }
 
-// The frame with other gains, which stands at the front of these bytes.
+// The frame with other gains, which is at the front of these bytes.
 fn expect_gains<R: Abort + AllocGlobal>(
     rt: &R,
     header: &Header,

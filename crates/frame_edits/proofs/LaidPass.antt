@@ -1,4 +1,4 @@
--- The pass that lays chosen frames anew.
+-- The pass that lays out chosen frames again.
 use Rattle.std.proofs.Common.{◌≡◌, ◌≢◌, ℕ, List, ◌++◌, take, Some, None, refl, sym, subst, ◌∙◌, ap, inl, inr, arith, get_or, length}
 use Rattle.std.specs.Prelude.{◌⊎◌, ◌<◌, ◌≤◌, slice_get, slice_range}
 use Rattle.std.specs.List.{concat}

@@ -1,4 +1,4 @@
--- A file of frames chosen of another, laid anew into slots: what is cut out, and what is packed.
+-- A file of frames chosen of another, laid out again into slots: what is cut out, and what is packed.
 use Rattle.std.specs.Prelude.{ℕ, nat_lt, nat_le, ◌&&◌, if◌then◌else◌, Bool, true, false, List, [], ◌∷◌, length, map, slice_range, replicate, Option, Some, None, Result, Ok, Err}
 use Rattle.frame_header.specs.Fields.{SlotFields, HeaderFields}
 use Rattle.frame_header.specs.Tables.{window_of}

@@ -36,7 +36,7 @@ frames_laid laid file s = relaid (frames_in (part_laid laid file s)) laid.placed
 abbrev pub info_laid : Laid → List ℕ → SurveyFields → Info
 info_laid laid file s = info_for s.class (frames_laid laid file s) laid.quality laid.extension
 
--- The ID3v2 blocks that stand in front of the first frame, an Info frame like this first one that is chosen, the frames, and all other
+-- The ID3v2 blocks that are in front of the first frame, an Info frame like this first one that is chosen, the frames, and all other
 -- blocks; of no frames there is no file.
 abbrev pub file_from : Option Row → Laid → List ℕ → SurveyFields → List ℕ
 file_from None laid file s = []

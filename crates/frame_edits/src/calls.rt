@@ -21,13 +21,13 @@ fn slots_of(least: bool) -> Slots
 }
 
 /// Writes the output, which is the frames of the input from one place on and before another, with all main data: its ID3v2
-/// blocks that stand in front of the first frame, an Info frame, these frames in the slots of their plan, and all other
+/// blocks that are in front of the first frame, an Info frame, these frames in the slots of their plan, and all other
 /// blocks. Each frame keeps its own bit rate and padding; with `least` each has the least with which all main data have
-/// room (ISO/IEC 11172-3, 2.4.2.7). A lead-in, one empty frame, stands in front where the first frames' main data need room.
+/// room (ISO/IEC 11172-3, 2.4.2.7). A lead-in, one empty frame, is in front where the first frames' main data need room.
 ///
 /// Refuses, in this order: `EqualNames(0)` where the names are equal, byte for byte; `Input(0, ..)` with the fault of the
 /// survey of the input, of which 2,900,000 frames are allowed; `Range` with the numbers of the two frames and that of all
-/// frames where there is no frame between the places, or where the second is behind all frames. Then nothing was created.
+/// frames where there is no frame between the places, or where the second is after all frames. Then nothing was created.
 ///
 /// `Input` with `Read` and `Write(0)` come only where a call of that kind failed, `Input` with `Absent` only where the input
 /// isn't there, and every other answer only where none failed; after `Write(0)` the output is as it was or
@@ -65,7 +65,7 @@ pub fn cut<D: Folder>(
 }
 
 /// Writes the output, which is all frames of the input, each with the least bit rate and padding with which all main data
-/// have room (ISO/IEC 11172-3, 2.4.2.7): its ID3v2 blocks that stand in front of the first frame, an Info frame with the
+/// have room (ISO/IEC 11172-3, 2.4.2.7): its ID3v2 blocks that are in front of the first frame, an Info frame with the
 /// quality and extension of the input's, the frames, and all other blocks.
 ///
 /// Refuses, in this order: `EqualNames(0)` where the names are equal, byte for byte; `Input(0, ..)` with the fault of the

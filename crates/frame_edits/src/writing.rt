@@ -1,4 +1,4 @@
-//! The pass that lays chosen frames anew.
+//! The pass that lays out chosen frames again.
 ghost use Rattle.std.specs.Prelude.{◌≡◌, ◌≢◌, List, ℕ, [], is_some, IfErr, OnOk, OnErr};
 ghost use Rattle.outside.specs.Files.{Holds, IsThere};
 ghost use Rattle.outside.specs.Counts.{NoneFell};

@@ -149,7 +149,7 @@ pub IsClass-class_of : (h : HeaderFields) → IsHeader h → IsClass (class_of h
 IsClass-class_of h is = let channels = channels_in_range (eqb h.mode 3) in (is.frequency_index, channels.0, channels.1)
 
 -- ---- the bits that a header is written as
--- the numbers of groups one behind the other, from a bit on
+-- the numbers of groups one after the other, from a bit on
 abbrev groups_from : ℕ → List ℕ → List ℕ → List ℕ
 groups_from at [] bs = []
 groups_from at (width ∷ widths) bs = group at width bs ∷ groups_from (at + width) widths bs

@@ -196,7 +196,7 @@ unfolding area_of overhead_of side_size_of
 area-most c s true class slot = omega (arith, length-most c s class slot, side-least c.version c.channels)
 area-most c s false class slot = omega (arith, length-most c s class slot, side-least c.version c.channels)
 
--- the longest frame of a version's shortest class is longer than the window by more than what stands before the area
+-- the longest frame of a version's shortest class is longer than the window by more than what is before the area
 spans : (version : Version) (frequency channels : ℕ) → frequency < 3 → window_of version + 4 + side_bytes_of version channels ≤ length_of (record { version = version; frequency_index = frequency; channels = channels }) largest_slot
 unfolding length_of rate_of frequency_of
 spans One zero channels h = elim (eqb channels 1) as (λ b. 515 + cond b 17 32 ≤ 1045) [ true ↦ lit≤ tt | false ↦ lit≤ tt ]

@@ -120,7 +120,7 @@ impl Class {
         ensures area { result ≡ area_of self.now slot protected }
         ensures some { 1 ≤ result }
         ensures most { result ≤ 1441 }
-        // With what stands before it, it is the frame.
+        // With what is before it, it is the frame.
         ensures whole { overhead_of self.now protected + result ≡ length_of self.now slot }
     {
         let check_word = if protected { 2 } else { 0 };

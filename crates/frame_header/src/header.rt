@@ -39,7 +39,7 @@ fn is_set(word: u32, at: u32) -> bool
     group_of(word, at, 1) == 1
 }
 
-/// The first 11 bits are ones and the two behind them aren't 01, the layer is III, and no forbidden bit rate
+/// The first 11 bits are ones and the two after them aren't 01, the layer is III, and no forbidden bit rate
 /// and no reserved frequency stands.
 #[tactic(auto, unfolding(crate::specs::Reading::is_readable))]
 fn is_readable(word: u32) -> bool

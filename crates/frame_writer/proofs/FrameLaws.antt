@@ -30,7 +30,7 @@ use Rattle.frame_writer.specs.Laws.{LaidSteps, HaveRoom, FewWait}
 
 -- ---- areas cut off one after another
 
--- frames behind others
+-- frames after others
 pub framed-more : (ks js : List Kept) (xs ys : List ℕ) → length xs ≡ areas_in ks → framed (ks ++ js) (xs ++ ys) ≡ framed ks xs ++ framed js ys
 framed-more [] js [] ys long = refl
 framed-more [] js (x ∷ xs) ys long = absurd (omega (arith, long))
@@ -163,7 +163,7 @@ front-put h s four frame new is put =
     ∙ ap (λ (xs : List ℕ). bytes (header_bits h) ++ xs) (sym (append_assoc (word_part h s) (bytes (side_bits (class_of h) s)) (drop n frame)))
     ∙ sym (append_assoc (bytes (header_bits h)) (word_part h s ++ bytes (side_bits (class_of h) s)) (drop n frame))
 
--- the bytes of a first frame, and those of the frames behind it
+-- the bytes of a first frame, and those of the frames after it
 pub first-framed : (k : Kept) (ks : List Kept) (bytes : List ℕ) → first_bytes k bytes ++ framed ks (drop (area_in k) bytes) ≡ framed (k ∷ ks) bytes
 first-framed k ks bytes = append_assoc (front_of k.header k.side) (take (area_in k) bytes) (framed ks (drop (area_in k) bytes))
 
@@ -172,7 +172,7 @@ side_bytes-most One channels = elim (eqb channels 1) as (λ b. cond b 17 32 ≤ 
 side_bytes-most Two channels = elim (eqb channels 1) as (λ b. cond b 9 17 ≤ 32) [ true ↦ lit≤ tt | false ↦ lit≤ tt ]
 side_bytes-most TwoFive channels = elim (eqb channels 1) as (λ b. cond b 9 17 ≤ 32) [ true ↦ lit≤ tt | false ↦ lit≤ tt ]
 
--- what stands before an area has at most 38 bytes
+-- what is before an area has at most 38 bytes
 pub overhead-most : (c : ClassFields) (protected : Bool) → overhead_of c protected ≤ 38
 unfolding overhead_of side_size_of
 overhead-most c true = omega (arith, side_bytes-most c.version c.channels)
@@ -226,7 +226,7 @@ many c m [] class are is = omega arith
 many c m (k ∷ ks) class are is =
     omega (arith, mul-suc m (length ks), many c m ks class are.3 is, kept-least c k class are.0 are.1, is)
 
--- so many bytes behind the first frame, so many frames
+-- so many bytes after the first frame, so many frames
 few_behind : (version : Version) (n bytes : ℕ) → least_of version * n ≤ bytes → bytes < window_of version → n + 1 < 256
 few_behind One n bytes all behind = omega (arith, all, behind)
 few_behind Two n bytes all behind = omega (arith, all, behind)

@@ -22,7 +22,7 @@ abbrev pub up_to : ℕ → ℕ → List Piece → List ℕ
 up_to end area_start [] = []
 up_to end area_start (p ∷ ps) = zeros (start_of area_start p - end) ++ (p.payload ++ up_to (end_of area_start p) (area_start + p.area) ps)
 
--- behind the last main data all is 0
+-- after the last main data all is 0
 laid_up_to : (end area_start : ℕ) (ps : List Piece) → laid_from end area_start ps ≡ up_to end area_start ps ++ zeros (areas_end area_start ps - data_end end area_start ps)
 laid_up_to end area_start [] = refl
 laid_up_to end area_start (p ∷ ps) =
@@ -59,7 +59,7 @@ fit-more : (end area_start : ℕ) (ps : List Piece) (p : Piece) → CanBeLaidFro
 fit-more end area_start [] p fits from to = (from, to, tt)
 fit-more end area_start (q ∷ ps) p fits from to = (fits.0, fits.1, fit-more (end_of area_start q) (area_start + q.area) ps p fits.2 from to)
 
--- ---- a queue of the bytes up to the end of the last main data, with zeros behind it
+-- ---- a queue of the bytes up to the end of the last main data, with zeros after it
 
 -- where the bytes handed on and those in the queue end
 stored : (given items : List ℕ) (free : ℕ) (ps : List Piece) → given ++ (items ++ zeros free) ≡ laid ps → free + data_end 0 0 ps ≤ areas_end 0 ps →
@@ -192,7 +192,7 @@ zeros_first : (end area_start free : ℕ) (qs : List Piece) → BeginsWithin fre
 zeros_first end area_start free [] within = (0, omega arith, [], ap zeros (omega arith) ∙ sym (append-nil (zeros (area_start - 0 - end))))
 zeros_first end area_start free (q ∷ qs) within = (q.begin, within, q.payload ++ laid_from (end_of area_start q) (area_start + q.area) qs, refl)
 
--- a front of a list with zeros behind it is one of the list and fewer zeros
+-- a front of a list with zeros after it is one of the list and fewer zeros
 front_of_zeros : (given bytes front rest : List ℕ) (n m : ℕ) → given ++ bytes ≡ front ++ zeros n → m ≤ n → n - m ≤ length bytes → (more : List ℕ) × (front ++ (zeros m ++ rest) ≡ given ++ more)
 front_of_zeros given bytes front rest n m same few many =
     let all : given ++ bytes ≡ (front ++ zeros m) ++ zeros (n - m) =
@@ -207,7 +207,7 @@ front_of_zeros given bytes front rest n m same few many =
           ∙ append_assoc given (drop (length given) (front ++ zeros m)) rest,
     )
 
--- what was handed on stays, whatever is laid behind it within what is free
+-- what was handed on stays, whatever is laid after it within what is free
 pub laid-later : (given : List ℕ) (waiting : Waiting) (ps qs : List Piece) → AreLaid given waiting ps → BeginsWithin waiting.free qs → (rest : List ℕ) × (laid (ps ++ qs) ≡ given ++ rest)
 laid-later given waiting ps qs are within =
     let end = data_end 0 0 ps in
@@ -233,7 +233,7 @@ first-parts n free stored items now views within stores =
     ∙ sym (take_two n items (zeros free))
     ∙ ap (take n) views
 
--- what is left behind them
+-- what is left after them
 pub left-is : (n free stored : ℕ) (items left now : List ℕ) → stored ≡ min n (length items) → left ≡ drop stored items → items ++ zeros free ≡ now → n ≤ length now → left ++ zeros (free - (n - stored)) ≡ drop n now
 left-is n free stored items left now stores leaves views within =
     ap (λ (xs : List ℕ). xs ++ zeros (free - (n - stored))) leaves

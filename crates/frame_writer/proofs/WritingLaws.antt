@@ -91,7 +91,7 @@ first-part name unsent old c k ks left waiting less f g view is rest drops step 
   prefix = prefix;
 }
 
--- what stood there before, and behind it what is taken
+-- what stood there before, and after it what is taken
 pub behind-more : {base bytes : List ℕ} {old new : Held} {fs : List Frame} → (h : HandedOn old new) → AreBehind base bytes old fs → AreBehind base (bytes ++ h.moved) new fs
 behind-more {base} {bytes} {old} {new} {fs} h are = record {
   taken = are.taken ++ h.moved;
@@ -109,7 +109,7 @@ passed-same name unsent mid new f g p h =
     ∙ p.split
     ∙ sym (append_assoc p.passed new.unsent (held_bytes new.held)))
 
--- the frame behind those before waits, in front of the file the same bytes
+-- the frame after those before waits, in front of the file the same bytes
 module _ (name : List ℕ) (f : Frame) (old : Writing) (mid : Held) where
   abbrev Waits : Type 0
   Waits = (taken : List ℕ) (fs : List Frame) → AreWritten taken old.held fs → AreWritten taken mid (fs ++ f ∷ [])
@@ -140,7 +140,7 @@ module _ (name : List ℕ) (f : Frame) (old : Writing) (mid : Held) where
         subst (λ (xs : List ℕ). AreBehind base xs held (fs ++ f ∷ [])) (append_assoc out old.unsent part.on.moved) (behind-more part.on (behind-frame waits are));
   }
 
--- behind frames that were handed on
+-- after frames that were handed on
 pub part-then : (name : List ℕ) (old mid : Writing) (held : Held) (f g h : Files) → GoesOn name old mid f g → HandedOn old.held mid.held → HandedPart name mid held g h → HandedPart name old held f h
 unfolding handed-then
 part-then name old mid held f g h passed on part =
@@ -157,7 +157,7 @@ pub none-left : (held : Held) (unsent : List ℕ) → length held.kept ≡ 0 →
 none-left held unsent none =
     ap (λ (ks : List Kept). unsent ++ framed ks held.waiting.bytes) (nil_from_length held.kept none) ∙ append-nil unsent
 
--- two pieces, one behind the other
+-- two pieces, one after the other
 pub passed-two : {name mid after : List ℕ} {f g h : Files} (before a b c : List ℕ) → a ++ b ≡ c → PassedOn name (before ++ a) mid f g → PassedOn name (mid ++ b) after g h → PassedOn name (before ++ c) after f h
 passed-two {name} {mid} {after} {f} {g} {h} before a b c is p q =
     subst (λ (xs : List ℕ). PassedOn name xs after f h) (append_assoc before a b ∙ ap (λ (xs : List ℕ). before ++ xs) is) (passed_more b p q)

@@ -10,7 +10,7 @@ use Rattle.side_info.specs.Frame.{word_part}
 use Rattle.frame_writer.specs.declared.frames.Kept.{Kept}
 use Rattle.frame_writer.specs.Laid.{Piece, Waiting, laid, laid_behind, AreLaid}
 
--- what stands before the area: the header, the check word of a protected frame, which is right for this header and this side
+-- what is before the area: the header, the check word of a protected frame, which is right for this header and this side
 -- information, and the side information
 unfoldable pub front_of : HeaderFields → Side → List ℕ
 front_of h s = bytes (header_bits h) ++ (word_part h s ++ bytes (side_bits (class_of h) s))

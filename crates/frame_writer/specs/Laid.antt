@@ -1,5 +1,5 @@
 -- Main data laid into the areas of frames (main_data_begin, ISO/IEC 11172-3 and 13818-3, 2.4.2.7). Places are counted among the bytes of
--- all areas, one area behind the other.
+-- all areas, one area after the other.
 use Rattle.std.specs.Prelude.{◌≡◌, ℕ, ◌+◌, ◌-◌, ◌≤◌, List, [], ◌∷◌, ◌++◌, length, take, drop, replicate}
 
 -- a frame's main data, its main_data_begin, and how many bytes its own area has
@@ -29,14 +29,14 @@ abbrev pub data_end : ℕ → ℕ → List Piece → ℕ
 data_end end area_start [] = end
 data_end end area_start (p ∷ ps) = data_end (end_of area_start p) (area_start + p.area) ps
 
--- no main data begin before those before them end, and none end behind their frame's own area
+-- no main data begin before those before them end, and none end after their frame's own area
 abbrev pub CanBeLaidFrom : ℕ → ℕ → List Piece → Type 0
 CanBeLaidFrom end area_start [] = Unit {0}
 CanBeLaidFrom end area_start (p ∷ ps) =
     (end + p.begin ≤ area_start) × (end_of area_start p ≤ area_start + p.area) × CanBeLaidFrom (end_of area_start p) (area_start + p.area) ps
 
 -- the bytes from the end of the main data before these frames to the end of their areas: up to the start of each frame's main data 0,
--- then these, and behind the last 0
+-- then these, and after the last 0
 abbrev pub laid_from : ℕ → ℕ → List Piece → List ℕ
 laid_from end area_start [] = zeros (area_start - end)
 laid_from end area_start (p ∷ ps) =
@@ -51,16 +51,16 @@ laid ps = laid_from 0 0 ps
 
 -- ---- areas that wait
 
--- the bytes of areas that wait, and how many at their end stand behind the main data that were laid last
+-- the bytes of areas that wait, and how many at their end are after the main data that were laid last
 pub record Waiting : Type 0 where
   pub bytes : List ℕ
   pub free : ℕ
 
--- these bytes at a place in place of as many that stand there
+-- these bytes at a place in place of as many that are there
 abbrev pub put_at : ℕ → List ℕ → List ℕ → List ℕ
 put_at place more bytes = take place bytes ++ (more ++ drop (place + length more) bytes)
 
--- what waits behind main data that are laid from so many bytes before an area of this length on
+-- what waits after main data that are laid from so many bytes before an area of this length on
 abbrev pub laid_behind : Waiting → List ℕ → ℕ → ℕ → List ℕ
 laid_behind w payload begin area = put_at (length w.bytes - begin) payload (w.bytes ++ zeros area)
 

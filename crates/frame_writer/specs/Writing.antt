@@ -40,13 +40,13 @@ pub record HandedOn (old new : Held) : Type 0 where
   pub class : new.class ≡ old.class
   pub written : (taken : List ℕ) (fs : List Frame) → AreWritten taken old fs → AreWritten (taken ++ moved) new fs
 
--- these bytes are some that stood there before, and behind them those that were taken of these frames
+-- these bytes are some that stood there before, and after them those that were taken of these frames
 pub record AreBehind (base bytes : List ℕ) (held : Held) (fs : List Frame) : Type 0 where
   pub taken : List ℕ
   pub is : bytes ≡ base ++ taken
   pub written : AreWritten taken held fs
 
--- what was appended before and what waits are the bytes that stood there before, and behind them those of these frames
+-- what was appended before and what waits are the bytes that stood there before, and after them those of these frames
 abbrev pub IsWriterOf : List ℕ → List ℕ → Writing → List Frame → Type 0
 IsWriterOf base out w fs = AreBehind base (out ++ w.unsent) w.held fs
 
@@ -62,7 +62,7 @@ pub record HandedPart (name : List ℕ) (old : Writing) (held : Held) (before af
   pub on : HandedOn old.held held
   pub prefix : AppendedPrefix name (old.unsent ++ on.moved) before after
 
--- A frame was given and a write failed: a prefix was appended of bytes that no later main data can reach, and the frames behind these
+-- A frame was given and a write failed: a prefix was appended of bytes that no later main data can reach, and the frames after these
 -- wait.
 pub record WritesPart (name : List ℕ) (f : Frame) (old : Writing) (held : Held) (before after : Files) : Type 0 where
   pub settled : List ℕ

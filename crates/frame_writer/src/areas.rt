@@ -14,14 +14,14 @@ use std::marker::Model;
 /// As many bytes of areas as may wait.
 const CAPACITY: usize = 8192;
 
-/// What stands before the start of main data and behind the end of those before.
+/// What is before the start of main data and after the end of those before.
 static ZEROS: [u8; CAPACITY] = [0; CAPACITY];
 
 /// The areas of frames whose main data were laid, as far as they weren't taken. Contracts see the bytes that wait, 0
-/// where no main data stand, and how many of them, at their end, stand behind the main data that were laid last.
+/// where no main data stand, and how many of them, at their end, are after the main data that were laid last.
 #[derive(Drop)]
 pub struct Areas {
-    // The bytes up to the end of the main data laid last. Behind them only zeros wait.
+    // The bytes up to the end of the main data laid last. After them only zeros wait.
     queue: ByteQueue,
     free: u32,
 }
@@ -60,7 +60,7 @@ impl Areas {
         self.queue.len() + self.free as usize
     }
 
-    /// How many bytes at the end of what waits stand behind the main data that were laid last: the next main data may
+    /// How many bytes at the end of what waits are after the main data that were laid last: the next main data may
     /// begin in them.
     pub fn free(&self) -> u32
         ensures { result ≡ self.now.free }

@@ -19,7 +19,7 @@ use std::marker::Model;
 /// The bytes of a header.
 const HEADER_SIZE: usize = 4;
 
-/// The most bytes that stand before the area of a frame: header, check word and side information.
+/// The most bytes that are before the area of a frame: header, check word and side information.
 const FRONT: usize = 38;
 
 /// A frame without its area.
@@ -29,7 +29,7 @@ pub struct Kept {
     pub side: Side,
 }
 
-/// A frame that is to be written: what stands before its area, and its main data.
+/// A frame that is to be written: what is before its area, and its main data.
 #[derive(Drop)]
 pub struct Frame<'a> {
     pub kept: Kept,
@@ -44,8 +44,8 @@ impl<'a> Model for Frame<'a> {
     ghost view = { λ f. record { kept = f.kept; payload = f.payload } };
 }
 
-/// Writes what stands before a frame's area: the header, the check word of a protected frame, and the side
-/// information. What stands behind stays.
+/// Writes what is before a frame's area: the header, the check word of a protected frame, and the side
+/// information. What is after stays.
 #[inline(always)]
 #[tactic(auto, unfolding(crate::specs::Frames::front_of, frame_header::specs::Tables::overhead_of, side_info::specs::Frame::frame_with))]
 pub fn put_front(header: &Header, side: &Side, frame: &mut [u8])

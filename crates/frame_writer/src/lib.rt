@@ -1,4 +1,4 @@
-//! Main data laid into the areas of frames anew, and the frames written to a file: each frame's main data go where its
+//! Main data laid into the areas of frames again, and the frames written to a file: each frame's main data go where its
 //! main_data_begin says, into its own area and those before it. Memory is taken by the `new` functions alone.
 //!
 //! ```text

@@ -21,7 +21,7 @@ const MOST: usize = 256;
 
 /// Frames of one class on their way to a file: those whose main data were laid, and whose areas later main data may
 /// reach. Contracts see the class, the frames that wait and what waits of their areas. They go through a buffer in front
-/// of the file, which is the caller's: what waits in it stands before them.
+/// of the file, which is the caller's: what waits in it is before them.
 #[derive(Drop)]
 pub struct Writer {
     class: Class,
@@ -56,7 +56,7 @@ impl Writer {
         })
     }
 
-    /// Begins anew, with frames of this class. What waits is forgotten.
+    /// Begins again, with frames of this class. What waits is forgotten.
     pub fn restart(&mut self, class: Class)
         ensures { IsNew class self.new }
     {
@@ -97,7 +97,7 @@ impl Writer {
     /// Adds a frame, lays its main data, and hands on what no later main data can reach.
     ///
     /// # Errors
-    /// Where a write failed. Then a prefix of what waited, with the frame behind it, was appended, of bytes that no later
+    /// Where a write failed. Then a prefix of what waited, with the frame after it, was appended, of bytes that no later
     /// main data can reach.
     #[inline]
     pub fn frame<D: Folder>(

@@ -1,4 +1,4 @@
--- By no step, a file without fault gives its own bytes but for the junk, and its own stream.
+-- By no step, a file without fault gives its own bytes except the junk, and its own stream.
 use Rattle.std.proofs.Common.{◌≡◌, ℕ, ◌+◌, ◌-◌, ◌≤◌, Bool, true, false, cond, List, [], ◌∷◌, ◌++◌, length, take, drop, map, Option, Ok, refl, sym, ◌∙◌, ap, ap₂, subst, arith, inl, inr, length-drop}
 use Rattle.std.specs.Prelude.{◌⊎◌, IfSome}
 use Rattle.std.specs.List.{enumerate_from}

@@ -1,4 +1,4 @@
--- A noted change: what was accepted, what the new tag says, and that it is the old one but for the undo item.
+-- A noted change: what was accepted, what the new tag says, and that it is the old one except the undo item.
 use Rattle.std.proofs.Common.{◌≡◌, ℕ, ◌+◌, ◌≤◌, ltb, Bool, true, false, cond, List, [], ◌∷◌, length, Option, Some, None, Result, Ok, Err, ℤ, pos, ◌+ℤ◌, refl, sym, ◌∙◌, ap, ap₂}
 use Rattle.std.specs.Prelude.{unsigned_abs, ◌-ℤ◌}
 use Rattle.std.proofs.lemmas.Bool.{ltb-false, le-ltb}

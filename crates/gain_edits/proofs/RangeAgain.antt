@@ -148,7 +148,7 @@ pub even_opposite : (one two : Steps) → AreOpposite one two → (to : ℕ → 
 even_opposite one two opposite to [] = tt
 even_opposite one two opposite to (row ∷ rows) = (opposite, even_opposite one two opposite to rows)
 
--- none leaves it behind the one by the other, where both together are no step
+-- none leaves it after the one by the other, where both together are no step
 pub range_back : (one two : ℕ → Steps) (file : List ℕ) (to : ℕ → ℕ) (rows : List Row) → AllOpposite one two to rows → AreFramesOf file rows
     → range_fault one rows ≡ None → range_fault two (map (stood to one) rows) ≡ None
 range_back one two file to [] opposite frames free = range-nil two

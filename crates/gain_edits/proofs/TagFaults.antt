@@ -1,4 +1,4 @@
--- Why the tag isn't read, and what is refused behind it, as a fault of the command.
+-- Why the tag isn't read, and what is refused after it, as a fault of the command.
 use Rattle.std.proofs.Common.{◌≡◌, ℕ, Bool, List, Result, Ok, Err, sym, ◌∙◌, ap, ap₂, subst, inl, inr}
 use Rattle.std.specs.Prelude.{◌⊎◌, IfOk, IfErr, MatchResult}
 use Rattle.outside.specs.Files.{Files, Holds, IsThere}
@@ -24,7 +24,7 @@ use Rattle.gain_edits.specs.UndoItem.{of_tag}
 abbrev err_change : EditFault → Result Change EditFault
 err_change fault = Err fault
 
--- what the choice behind a tag answers
+-- what the choice after a tag answers
 abbrev pub IsAnswer : SurveyFields → Result CodeChange EditFault → Result Change EditFault → Type 0
 IsAnswer s r made = MatchResult r (λ change. made ≡ Ok (change_in change s)) (λ fault. (fault ≡ Memory) ⊎ (made ≡ Err fault))
 
@@ -41,7 +41,7 @@ module _ (of : Changing) (may : Refusal → Bool) (name : List ℕ) (files new :
   tag_is_input (Shrunk first second) refuses h = record { rose = h.3; counts = h.4; untold_before = h.0; untold_after = same ∙ h.0 }
   tag_is_input NoRoom refuses h = memory_is_input (changing of) name (seen files before) (seen new after) s there is (ap₂ seen same h)
 
-  -- a refusal behind it
+  -- a refusal after it
   pub choice_is_input : (fault : EditFault) → IsRefusal may fault → ((bytes : List ℕ) → Holds files name bytes → of bytes s ≡ Err fault) → after ≡ before → IsInputFault (changing of) name (seen files before) (seen new after) fault
   choice_is_input fault kind refused stays =
       let r = refusal-of may fault kind in

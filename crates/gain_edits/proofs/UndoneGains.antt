@@ -54,7 +54,7 @@ use Rattle.gain_edits.proofs.NotedAgain.{sum_again, sum_first, tag_without_none,
 
 -- ---- what is known of it
 
--- It is the file with its gains moved by all steps together, and with a tag that is the file's but for the undo item; and this says the steps
+-- It is the file with its gains moved by all steps together, and with a tag that is the file's except the undo item; and this says the steps
 -- that take all of them back.
 pub record IsGained (file : List ℕ) (s : SurveyFields) (tag : TagFields) (last : List ℕ) : Type 0 where
   pub steps : Steps
@@ -255,7 +255,7 @@ module _ (file : List ℕ) (s : SurveyFields) (tag : TagFields) (are : AreBytes 
   undone_tidied : with_tag bytes (moved_survey (even still) s) (edited (even still) file s) ≡ tidied tag s file
   undone_tidied = ap (with_tag bytes (moved_survey (even still) s)) edited_is ∙ sym tidied-is
 
-  -- the bytes of its tag are those that stand there
+  -- the bytes of its tag are those that are there
   own_cases : (read : file_tag file s ≡ Ok tag) (o : Option Piece) → tag_block s ≡ o → HasNoEmptyTag tag s → bytes ≡ own_bytes file s
   own_cases read None none has =
       let nothing : empty_tag ≡ tag = same_tag empty_tag tag (sym (file_tag-none file s none) ∙ read) in

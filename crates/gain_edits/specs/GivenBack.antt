@@ -54,7 +54,7 @@ abbrev pub opposite : Shift → Shift
 opposite shift = record shift { steps = neg_ℤ shift.steps }
 
 -- What a change of gains without a note makes of a file, with or without wrap, the opposite change accepts. It makes of it the file again, byte
--- for byte, but for the junk before its first frame. A file without junk comes back whole: `without_junk` is then the file.
+-- for byte, except the junk before its first frame. A file without junk comes back whole: `without_junk` is then the file.
 abbrev pub OppositeGivesBack : Type 0
 OppositeGivesBack =
     (shift : Shift) (file new : List ℕ) (s : SurveyFields) → AreBytes file → survey_of file most_frames ≡ Ok s

@@ -57,7 +57,7 @@ found_undo at (Found undo) = Ok undo
 abbrev pub undo_steps : Undo → Steps
 undo_steps undo = record { left = undo.left; right = undo.right; wrap = undo.wrap }
 
--- the item behind a further change: its steps are subtracted, and wrap stands once it was asked for
+-- the item after a further change: its steps are subtracted, and wrap is there once it was asked for
 abbrev pub next_undo : Shift → Undo → Undo
 next_undo shift undo = let steps = steps_of shift in record {
   left = undo.left -ℤ steps.left;

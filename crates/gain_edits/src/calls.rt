@@ -14,7 +14,7 @@ use outside::Folder;
 use std::alloc::Global;
 
 /// Writes the output, which is the input with its gains moved by the shift, but those of lost frames. With `tags` the
-/// change is noted in the file's tag, which is its first APEv2 block, or a new one right behind the last frame: the
+/// change is noted in the file's tag, which is its first APEv2 block, or a new one right after the last frame: the
 /// item `MP3GAIN_UNDO` then says the steps that take back this change and all that it told of before. Without them tags are
 /// neither read nor changed.
 ///

@@ -10,7 +10,7 @@ pub fn undo_gives_back()
 {}
 
 /// A law and no work: what a change of gains without a note makes of a file, with or without wrap, the opposite change
-/// accepts. It makes of it the file again, byte for byte, but for its junk. A proof that needs it calls this function.
+/// accepts. It makes of it the file again, byte for byte, except its junk. A proof that needs it calls this function.
 pub fn opposite_gives_back()
     ensures { OppositeGivesBack }
 {}

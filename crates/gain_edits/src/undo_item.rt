@@ -35,7 +35,7 @@ pub(crate) fn noted_undo(at: u64, tag: &Tag) -> Result<Undo, EditFault>
     requires { at ≤ longest_file }
     ensures { result ≡ noted_undo_lem at (undo_from 32 tag.now.items) }
 {
-    // No place in the tag is behind its end.
+    // No place in the tag is after its end.
     let _ = tag.length();
     match tag.undo() {
         UndoItem::Missing => Ok(Undo {
@@ -53,7 +53,7 @@ pub(crate) fn found_undo(at: u64, tag: &Tag) -> Result<Undo, EditFault>
     requires { at ≤ longest_file }
     ensures { result ≡ found_undo_lem at (undo_from 32 tag.now.items) }
 {
-    // No place in the tag is behind its end.
+    // No place in the tag is after its end.
     let _ = tag.length();
     match tag.undo() {
         UndoItem::Missing => Err(Refusal::NoUndo.into()),
@@ -94,7 +94,7 @@ fn number(steps: i16, taken: i16) -> Result<i16, Refusal>
     }
 }
 
-/// The item behind a further change: its steps are subtracted, and wrap stands once it was asked for. `UndoRange` for
+/// The item after a further change: its steps are subtracted, and wrap is there once it was asked for. `UndoRange` for
 /// the first number, the left one first, that isn't from -999 to 999.
 pub(crate) fn next_undo(shift: &Shift, undo: &Undo) -> Result<Undo, Refusal>
     ensures undo { MatchResult result

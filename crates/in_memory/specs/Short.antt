@@ -20,7 +20,7 @@ abbrev pub longer : ℕ → Result ℕ FindFault → Result ℕ FindFault
 longer extra (Ok length) = Ok (min (length + extra) (2 ^ 64 - 1))
 longer extra (Err fault) = Err fault
 
--- the `create` that stands before a `write` to a name that isn't there fails
+-- the `create` that is before a `write` to a name that isn't there fails
 abbrev pub create_missing_fails : MemFolder → List ℕ → Bool
 create_missing_fails folder name = not (is_some (contents_of folder name)) && create_fails folder name
 

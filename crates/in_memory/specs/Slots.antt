@@ -5,7 +5,7 @@ use Rattle.in_memory.specs.declared.slots.Slot.{Slot}
 use Rattle.in_memory.specs.declared.slots.Slots.{Slots}
 use Rattle.outside.specs.Files.{Contents}
 
--- the bytes of a slot, where a file stands there
+-- the bytes of a slot, where a file is there
 abbrev pub content_of : Slot → Option (List ℕ)
 content_of slot = if slot.there then Some slot.buffer.bytes else None
 

@@ -39,7 +39,7 @@ impl Schedule {
         Ok(())
     }
 
-    /// Counts a call, and says whether it is to fail. The number of calls stands at `u64::MAX` once it is
+    /// Counts a call, and says whether it is to fail. The number of calls is at `u64::MAX` once it is
     /// there.
     pub fn next_fails(&mut self) -> bool
         ensures answer { result ≡ is_next_to_fail self.old }

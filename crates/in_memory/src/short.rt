@@ -9,7 +9,7 @@ use crate::memory_folder::MemFolder;
 use outside::{Failed, FindFault, Folder};
 
 /// A folder over one in memory that tells nothing, and whose files are shorter than `find` says, as where another program
-/// cuts them off while they are read. Its calls are those of the folder inside, but for three things: `find` answers so many
+/// cuts them off while they are read. Its calls are those of the folder inside, except three things: `find` answers so many
 /// bytes more than there are, or `u64::MAX` where that passes it; `read` gives no byte of a name that isn't inside; and
 /// `write` first creates such a name inside, and fails where that fails.
 #[derive(Drop)]

@@ -62,7 +62,7 @@ info_slot-room c class = room_in c class all_slots
 
 -- ---- it is the least
 
--- the first slot with room stands at some place, and no later than another
+-- the first slot with room is at some place, and no later than another
 record IsBy (c : ClassFields) (slots : List SlotFields) (k : ℕ) (d : SlotFields) : Type 0 where
   at : ℕ
   early : at ≤ k
@@ -113,7 +113,7 @@ pub frame-is : (first : HeaderFields) (info : Info) (new cleared header : List �
 unfolding info_frame
 frame-is first info new cleared header side rest none is sides left pieces = pieces ∙ rw (none, is, sides, left) refl
 
--- what is left of the length behind the fields is what the area has besides them
+-- what is left of the length after the fields is what the area has besides them
 pub zeros-left : (c : ClassFields) (slot : SlotFields) (length side : ℕ) → length ≡ length_of c slot → side ≡ side_size_of c → length - (4 + side + 156) ≡ area_of c slot false - 156
 unfolding area_of overhead_of
 zeros-left c slot length side is sides = omega (arith, is, sides)

@@ -36,7 +36,7 @@ short_cases at frame short false is = refl
 pub has_text-short : (at : ℕ) (frame : List ℕ) → length frame < at + 4 → has_text at frame ≡ false
 has_text-short at frame short = short_cases at frame short (has_text at frame) refl
 
--- ---- a text stands at one of two places that are two bytes apart
+-- ---- a text is at one of two places that are two bytes apart
 
 byte_of : (at i place : ℕ) (frame text : List ℕ) → place ≡ at + i → i < 4 → bytes_eq (take 4 (drop at frame)) text ≡ true → get_or frame place 0 ≡ get_or text i 0
 byte_of at i place frame text there within is =
@@ -96,7 +96,7 @@ place_has : (h : HeaderFields) (frame : List ℕ) (at : ℕ) →
 place_has h frame at (inl low) = sym (ap (λ k. has_text k frame) low.1) ∙ low.0
 place_has h frame at (inr high) = sym (ap (λ k. has_text k frame) high.1) ∙ (both _ _ high.0).1
 
--- a text stands at the place
+-- a text is at the place
 pub head_text_of-has : (h : HeaderFields) (frame : List ℕ) (at : ℕ) → head_text_of h frame ≡ Some at → has_text at frame ≡ true
 unfolding head_text_of
 head_text_of-has h frame at is =

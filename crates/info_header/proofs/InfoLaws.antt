@@ -1,4 +1,4 @@
--- Laws of the fields of a head: where they stand, and what is behind them.
+-- Laws of the fields of a head: where they stand, and what is after them.
 use Rattle.std.proofs.Common.{◌≡◌, ◌⊎◌, ℕ, suc, min, ◌+◌, ◌-◌, ◌≤◌, ◌<◌, true, false, cond, List, [], ◌++◌, length, take, drop, replicate, sym, ap, ◌∙◌, append_assoc, append-nil, arith, inl, inr}
 use Rattle.std.proofs.Math.Nat.{min-eq_left, min-eq_right}
 use Rattle.std.proofs.Math.Seq.{take-append-add, take-length}
@@ -12,12 +12,12 @@ field_next : (flags field next : ℕ) → next ≡ suc field → field_place fla
 unfolding field_place
 field_next flags field next is = ap (field_place flags) is
 
--- the place behind a field that is there
+-- the place after a field that is there
 pub place-set : (flags field at : ℕ) → at ≡ field_place flags field → is_flagged flags field ≡ true → at + field_size field ≡ field_place flags (field + 1)
 place-set flags field at is set =
     ap (λ k. k + field_size field) is ∙ sym (field_next flags field (field + 1) (omega arith) ∙ ap (λ b. field_place flags field + cond b (field_size field) 0) set)
 
--- and behind one that isn't
+-- and after one that isn't
 pub place-unset : (flags field at : ℕ) → at ≡ field_place flags field → is_flagged flags field ≡ false → at ≡ field_place flags (field + 1)
 place-unset flags field at is unset =
     is ∙ sym (field_next flags field (field + 1) (omega arith) ∙ ap (λ b. field_place flags field + cond b (field_size field) 0) unset ∙ omega arith)
@@ -37,11 +37,11 @@ padded_cases n bytes (inr many) =
     let none : drop {A = ℕ} n (replicate n 0) ≡ [] = drop-replicate n n 0 ∙ ap (λ k. replicate {A = ℕ} k 0) nothing in
     rw (least, none) (append-nil (take n bytes) ∙ sym (take-append-le n bytes (replicate n 0) many))
 
--- as many bytes as there are, and zeros behind them
+-- as many bytes as there are, and zeros after them
 pub padded-parts : (n : ℕ) (bytes : List ℕ) → take (min (length bytes) n) bytes ++ drop (min (length bytes) n) (replicate n 0) ≡ padded n bytes
 padded-parts n bytes = padded_cases n bytes (cases_lt (length bytes) n)
 
--- ---- pieces one behind another
+-- ---- pieces one after another
 
 pub piece-before : (old mid new piece rest : List ℕ) → mid ≡ old ++ piece → new ≡ mid ++ rest → new ≡ old ++ (piece ++ rest)
 piece-before old mid new piece rest first then = then ∙ ap (λ (xs : List ℕ). xs ++ rest) first ∙ append_assoc old piece rest

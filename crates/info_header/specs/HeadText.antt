@@ -1,23 +1,23 @@
--- Where the text of an Info head stands in a frame. The layout of these heads is no standard's: encoders write the text right behind
+-- Where the text of an Info head is in a frame. The layout of these heads is no standard's: encoders write the text right after
 -- the side information, some with two bytes left for the check word of a protected frame and some without.
 use Rattle.std.specs.Prelude.{ℕ, ◌+◌, ◌&&◌, ◌||◌, if◌then◌else◌, Bool, List, take, drop, Option, Some, None, codes, bytes_eq}
 use Rattle.frame_header.specs.Fields.{HeaderFields}
 use Rattle.frame_header.specs.Tables.{class_of, side_size_of}
 
--- `Xing` or `Info` stands at this place of the frame; a text that the frame's end cuts short is none
+-- `Xing` or `Info` is at this place of the frame; a text that the frame's end cuts short is none
 unfoldable pub has_text : ℕ → List ℕ → Bool
 has_text at frame = let text = take 4 (drop at frame) in bytes_eq text (codes "Xing") || bytes_eq text (codes "Info")
 
--- behind the header and the side information, as if there were no check word
+-- after the header and the side information, as if there were no check word
 unfoldable pub low_place : HeaderFields → ℕ
 low_place h = 4 + side_size_of (class_of h)
 
--- behind the header, the check word and the side information
+-- after the header, the check word and the side information
 unfoldable pub high_place : HeaderFields → ℕ
 high_place h = 6 + side_size_of (class_of h)
 
--- the place of the text in bytes from the frame's first byte: the lower one, where it stands there, else, in a protected frame, the
--- higher one; none where it stands at neither
+-- the place of the text in bytes from the frame's first byte: the lower one, where it is there, else, in a protected frame, the
+-- higher one; none where it is at neither
 unfoldable pub head_text_of : HeaderFields → List ℕ → Option ℕ
 head_text_of h frame =
     if has_text (low_place h) frame then Some (low_place h)

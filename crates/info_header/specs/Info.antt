@@ -1,5 +1,5 @@
--- The fields of a head behind its text. The layout is no standard's: encoders write the text, a word of flags, and then a number of
--- frames, a number of bytes, a table of 100 entries and a quality, each where its flag is set; and behind these an extension, whose
+-- The fields of a head after its text. The layout is no standard's: encoders write the text, a word of flags, and then a number of
+-- frames, a number of bytes, a table of 100 entries and a quality, each where its flag is set; and after these an extension, whose
 -- first 36 bytes are kept. Numbers are of 32 bits and big-endian.
 use Rattle.std.specs.Prelude.{ℕ, zero, suc, ◌+◌, ◌*◌, ◌/◌, ◌==◌, ◌&&◌, min, nat_le, if◌then◌else◌, Bool, List, [], ◌∷◌, ◌++◌, length, take, drop, replicate, slice_index, Option, Some, None, codes, bytes_eq}
 use Rattle.std.specs.Int.{bit_at}
@@ -8,7 +8,7 @@ use Rattle.info_header.specs.declared.fields.Info.{Info}
 
 -- ---- what is read
 
--- the word of flags, four bytes behind the text; 0 where it isn't whole
+-- the word of flags, four bytes after the text; 0 where it isn't whole
 abbrev pub flags_in : List ℕ → ℕ
 flags_in bytes = if nat_le 8 (length bytes) then big_number 4 (take 4 (drop 4 bytes)) else 0
 
@@ -20,14 +20,14 @@ is_flagged flags field = bit_at flags field == 1
 abbrev pub field_size : ℕ → ℕ
 field_size field = slice_index (4 ∷ 4 ∷ 100 ∷ 4 ∷ []) field
 
--- Where a field begins: behind the text, the flags, and those fields before it whose flags are set. The place behind the last field is
+-- Where a field begins: after the text, the flags, and those fields before it whose flags are set. The place after the last field is
 -- that of field 4.
 unfoldable pub field_place : ℕ → ℕ → ℕ
 field_place flags zero = 8
 field_place flags (suc field) = field_place flags field + (if is_flagged flags field then field_size field else 0)
 
 -- The bytes of a field; none where its flag isn't set, or where it passes the end. Where a field passes the end, so do all that are
--- flagged behind it.
+-- flagged after it.
 unfoldable pub field_in : ℕ → ℕ → List ℕ → Option (List ℕ)
 field_in flags field bytes =
     if is_flagged flags field && nat_le (field_place flags field + field_size field) (length bytes)
@@ -39,7 +39,7 @@ abbrev pub number_of : Option (List ℕ) → Option ℕ
 number_of None = None
 number_of (Some four) = Some (big_number 4 four)
 
--- so many bytes, with zeros behind them where there are fewer
+-- so many bytes, with zeros after them where there are fewer
 abbrev pub padded : ℕ → List ℕ → List ℕ
 padded n bytes = take n (bytes ++ replicate n 0)
 

@@ -18,7 +18,7 @@ first_with_room c (slot ∷ slots) = if nat_le 156 (area_of c slot false) then s
 unfoldable pub info_slot_of : ClassFields → SlotFields
 info_slot_of c = first_with_room c all_slots
 
--- the header of the Info frame: that of the first frame behind it, without a check word and in this slot
+-- the header of the Info frame: that of the first frame after it, without a check word and in this slot
 abbrev pub info_header_of : HeaderFields → HeaderFields
 info_header_of first = record first { protected = false; slot = info_slot_of (class_of first) }
 

@@ -1,4 +1,4 @@
--- The fields of the Info frame of a file, from the frames behind it, of which the slots count alone.
+-- The fields of the Info frame of a file, from the frames after it, of which the slots count alone.
 use Rattle.std.specs.Prelude.{◌≡◌, ℕ, ◌+◌, ◌*◌, ◌/◌, ◌<◌, ◌==◌, not, Bool, true, List, [], ◌∷◌, length, take, sum_by, slice_index, replicate, Some, None}
 use Rattle.std.specs.List.{list_all}
 use Rattle.frame_header.specs.Fields.{SlotFields, ClassFields}

@@ -5,19 +5,19 @@ ghost use Rattle.info_header.specs.Info.{flags_in, field_size, field_place, fiel
 
 use byteorder::{BigEndian, ByteOrder};
 
-/// The fields of a head behind its text.
+/// The fields of a head after its text.
 #[derive(Clone, Copy, Debug, PartialEq, Eq)]
 pub struct Info {
     /// Whether the bit rate changes: the text is `Xing`, and not `Info`.
     pub vbr: bool,
-    /// The number of frames behind the head.
+    /// The number of frames after the head.
     pub frames: Option<u32>,
     /// The bytes from the head's first to the last frame's last.
     pub bytes: Option<u32>,
     /// For each hundredth of the frames, where it begins in 256th parts of the bytes.
     pub table: Option<[u8; 100]>,
     pub quality: Option<u32>,
-    /// What stands behind these fields: encoders keep the delay and their name there.
+    /// What is after these fields: encoders keep the delay and their name there.
     pub extension: [u8; 36],
 }
 
@@ -60,7 +60,7 @@ fn flags_of(bytes: &[u8]) -> u32
     }
 }
 
-/// The place behind a field, by the place where it stands if its flag is set.
+/// The place after a field, by the place where it stands if its flag is set.
 #[tactic(auto, unfolding(crate::specs::Info::field_place))]
 fn place_behind(flags: u32, field: u32, at: usize) -> usize
     requires known { field < 4 }
@@ -128,8 +128,8 @@ fn extension_at(bytes: &[u8], at: usize) -> [u8; 36]
 
 impl Info {
     /// Reads the fields of a head. `bytes` are those of the frame from the text on. A field whose flag isn't set is
-    /// `None`, and so are one that passes the end of the bytes and all behind it; there the extension is all 0. Flags
-    /// that aren't whole count as 0. The extension is 36 bytes behind the last field, with zeros for those that
+    /// `None`, and so are one that passes the end of the bytes and all after it; there the extension is all 0. Flags
+    /// that aren't whole count as 0. The extension is 36 bytes after the last field, with zeros for those that
     /// aren't there.
     #[tactic(auto, unfolding(crate::specs::Info::info_in, crate::specs::Info::field_place))]
     pub fn read(bytes: &[u8]) -> Info
@@ -152,7 +152,7 @@ impl Info {
 }
 
 /// The entry of the table for a frame that begins at `offset`, of `bytes` bytes in all, both counted from the Info
-/// frame's first byte: how many 256th parts of the bytes stand before it, rounded down, and 255 at most.
+/// frame's first byte: how many 256th parts of the bytes are before it, rounded down, and 255 at most.
 pub fn entry(offset: u32, bytes: u32) -> u8
     requires { 0 < bytes }
     ensures { result ≡ entry_of offset bytes }

@@ -1,4 +1,4 @@
-//! The fields of the Info frame of a file, from the frames behind it.
+//! The fields of the Info frame of a file, from the frames after it.
 ghost use Rattle.std.specs.Prelude.{◌≡◌, ◌*◌, ◌<◌, ◌≤◌, ◌==◌, length};
 ghost use Rattle.std.specs.List.{list_all};
 ghost use Rattle.frame_header.specs.Fields.{SlotFields};

@@ -10,7 +10,7 @@ const HEADER_SIZE: u32 = 4;
 /// The length of a check word in bytes.
 const CHECK_WORD_SIZE: u32 = 2;
 
-/// Whether `Xing` or `Info` stands at this place.
+/// Whether `Xing` or `Info` is at this place.
 #[tactic(auto, unfolding(crate::specs::HeadText::has_text))]
 fn has_text(at: u32, frame: &[u8]) -> bool
     ensures text { result ≡ has_text_lem at frame.now }
@@ -24,8 +24,8 @@ fn has_text(at: u32, frame: &[u8]) -> bool
 }
 
 /// The place of `Xing` or `Info` in a frame, in bytes from its first byte. `frame` is the frame's whole
-/// bytes. The text is looked for behind the header and the side information (`4 + side_size`), and in a
-/// protected frame then also two bytes later, behind the check word. `None` exactly where it stands at
+/// bytes. The text is looked for after the header and the side information (`4 + side_size`), and in a
+/// protected frame then also two bytes later, after the check word. `None` exactly where it is at
 /// neither place.
 #[tactic(auto, unfolding(crate::specs::HeadText::head_text_of, crate::specs::HeadText::low_place, crate::specs::HeadText::high_place))]
 pub fn head_text(header: &Header, frame: &[u8]) -> Option<u32>

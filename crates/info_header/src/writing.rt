@@ -114,8 +114,8 @@ fn append_info(into: &mut ArrayVec<u8, 1441>, info: &Info)
     append(into, &info.extension);
 }
 
-/// Writes the whole Info frame. Its header is that of `first`, the first frame behind it, without a check word and in
-/// the slot of `info_slot`. Behind it stand side information that is all 0, the fields with all four flags set
+/// Writes the whole Info frame. Its header is that of `first`, the first frame after it, without a check word and in
+/// the slot of `info_slot`. After it stand side information that is all 0, the fields with all four flags set
 /// (absent ones as 0), and zeros up to the frame's length. It takes the place of what `into` held.
 #[tactic(auto, unfolding(crate::specs::InfoFrame::info_frame))]
 pub fn write_info(first: &Header, info: &Info, into: &mut ArrayVec<u8, 1441>)

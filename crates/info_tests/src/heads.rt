@@ -11,7 +11,7 @@ use std::alloc::{AllocError, Global};
 use std::test::Fail;
 use test_files::table;
 
-/// A frame of zero bytes behind its header, but for a text.
+/// A frame of zero bytes after its header, except a text.
 struct Case {
     what: &'static str,
     header: [u8; 4],

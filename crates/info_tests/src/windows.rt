@@ -15,7 +15,7 @@ fn main_byte(place: usize) -> u8 {
     (place % 251) as u8
 }
 
-/// A window behind areas of these lengths.
+/// A window after areas of these lengths.
 fn window_over<R: AllocGlobal>(rt: &R, areas: &[usize]) -> Result<Window, Fail> {
     let mut main = [0; MANY];
     for (place, byte) in main.iter_mut().enumerate() {

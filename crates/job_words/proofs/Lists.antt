@@ -93,7 +93,7 @@ contains_filter p xs x member = All-contains (Contains xs) (filter p xs) x (All-
 
 -- ---- how far two lists agree
 
--- behind the same front, the one that agrees further does so in all
+-- after the same front, the one that agrees further does so in all
 pub further : {X Y : Type 0} (e : X → Y → Bool) (front xs ys : List X) (zs : List Y) → common_prefix_len e xs (drop (length front) zs) ≤ common_prefix_len e ys (drop (length front) zs)
     → common_prefix_len e (front ++ xs) zs ≤ common_prefix_len e (front ++ ys) zs
 further e [] xs ys zs le = le

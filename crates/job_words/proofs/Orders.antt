@@ -49,7 +49,7 @@ not_begun word words flag more other = rw (starts flag, other) refl
 never_begun : (word : List ℕ) (words : List (List ℕ)) (flag : Flag) (more : List Kind) → begins_flag word flag ≡ false → pointwise fits_kind (flag_kinds flag ++ more) (word ∷ words) ≡ false
 never_begun word words flag more other = rw (starts flag, other) refl
 
--- ---- the kinds by the flags that are given; `behind` has those of so many words behind them
+-- ---- the kinds by the flags that are given; `after` has those of so many words after them
 
 abbrev pub kinds_by : (ℕ → List Kind) → List Flag → List (List ℕ) → List Kind
 kinds_by behind given words = given_kinds given ++ behind (length words - length (given_kinds given))
@@ -62,7 +62,7 @@ kinds_by-cons behind flag given words =
     omega (arith, length-append (flag_kinds flag) rest, length-drop (length (flag_kinds flag)) words) in
     rw left (append_assoc (flag_kinds flag) rest (behind (length (drop (length (flag_kinds flag)) words) - length rest)))
 
--- no first word of these flags can be the first word behind them
+-- no first word of these flags can be the first word after them
 abbrev pub AreClear : (ℕ → List Kind) → List Flag → Type 0
 AreClear behind flags = (flag : Flag) → Contains flags flag → (word : List ℕ) → begins_flag word flag ≡ true
     → (n : ℕ) (words : List (List ℕ)) → (common_prefix_len fits_kind (behind n) (word ∷ words) ≡ 0) × (pointwise fits_kind (behind n) (word ∷ words) ≡ false)

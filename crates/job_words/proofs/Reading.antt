@@ -72,7 +72,7 @@ best_of form words = shape_with form (given_in form.flags (drop 1 words))
 best_is_listed : (form : Form) (words : List (List ℕ)) → Contains (shapes_of form) (best_of form words)
 best_is_listed form words = contains_map (shape_with form) (orders form.flags) _ (given_is_order (length form.flags) form.flags (drop 1 words))
 
--- the first kind behind the flags doesn't fit
+-- the first kind after the flags doesn't fit
 no_first : (kinds : List Kind) (more : ℕ) (word : List ℕ) (words : List (List ℕ)) → fits_kind (get_or kinds 0 Name) word ≡ false
     → (common_prefix_len fits_kind (kinds ++ replicate more (last_kind kinds)) (word ∷ words) ≡ 0) × (pointwise fits_kind (kinds ++ replicate more (last_kind kinds)) (word ∷ words) ≡ false)
 no_first [] zero word words other = (refl, refl)
@@ -237,7 +237,7 @@ reading_err table words place e =
       | None ↦ λ e'. (refl, cc)
     ] e
 
--- the reading of two tables, one behind the other
+-- the reading of two tables, one after the other
 shape_in-append : (xs ys : List Shape) (words : List (List ℕ)) → shape_in (xs ++ ys) words ≡ option_or (shape_in xs words) (shape_in ys words)
 shape_in-append xs ys words = find-append (λ shape. have_kinds (kinds_in words shape) words) xs ys
 
@@ -264,7 +264,7 @@ read_neither xs ys words first second a b =
     let here : shape_in (xs ++ ys) words ≡ None = shape_in-append xs ys words ∙ ap (λ o. option_or o (shape_in ys words)) m.0 ∙ n.0 in
     rw here (ap Err (omega (arith, m.1, n.1, furthest-append xs ys words)))
 
--- the shapes of the forms before i, at i and behind it
+-- the shapes of the forms before i, at i and after it
 shapes-more : (table : List Form) (i : ℕ) (d : Form) → i < length table → shapes (take (i + 1) table) ≡ shapes (take i table) ++ shapes_of (get_or table i d)
 shapes-more table i d lt = rw (take_more table i d lt, flat_map-append shapes_of (take i table) (get_or table i d ∷ [])) (ap (λ (last : List Shape). shapes (take i table) ++ last) (append-nil (shapes_of (get_or table i d))))
 

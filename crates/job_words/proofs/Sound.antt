@@ -183,7 +183,7 @@ all_values (kind ∷ kinds) (word ∷ words) h =
       | None ↦ λ fits. absurd cc
     ] (and_first (fits_kind kind word) (have_kinds kinds words) h)
 
--- those behind some kinds
+-- those after some kinds
 rest_values : (front kinds : List Kind) (words : List (List ℕ)) → have_kinds (front ++ kinds) words ≡ true → drop (length front) (values_of (front ++ kinds) words) ≡ values_of kinds (drop (length front) words)
 rest_values [] kinds words h = refl
 rest_values (kind ∷ front) kinds [] h = absurd cc
@@ -196,14 +196,14 @@ rest_values (kind ∷ front) kinds (word ∷ words) h =
 
 -- ---- each form
 
--- what words of these kinds, behind any flags, ask for is sound
+-- what words of these kinds, after any flags, ask for is sound
 abbrev AreSoundOf : Form → List Kind → Type 0
 AreSoundOf form kinds = (given : List Flag) (words : List (List ℕ)) → have_kinds kinds words ≡ true → IsSound (reads_of form.asks given (values_of kinds words) words)
 
 abbrev AreSound : Form → Type 0
 AreSound form = (count : ℕ) → AreSoundOf form (kinds_behind form count)
 
--- where the last kind doesn't stand again
+-- where the last kind isn't again
 once : (form : Form) → form.more ≡ 0 → AreSoundOf form form.kinds → AreSound form
 once form none sound count =
     let no_more : min form.more (count - length form.kinds) ≡ 0 = omega (arith, none) in
@@ -255,7 +255,7 @@ sheet_is_sound : AreSound sheet_form
 sheet_is_sound = once sheet_form refl (λ given words h.
     (name_there sheet_form.kinds words 0 h (omega arith) refl, name_there sheet_form.kinds words 1 h (omega arith) refl, name_there sheet_form.kinds words 3 h (omega arith) refl))
 
--- so many kinds a form has behind its flags
+-- so many kinds a form has after its flags
 length-kinds_behind : (form : Form) (count : ℕ) → length (kinds_behind form count) ≡ length form.kinds + min form.more (count - length form.kinds)
 length-kinds_behind form count = rw (length-append, length-replicate) refl
 

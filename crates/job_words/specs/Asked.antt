@@ -13,7 +13,7 @@ pub data Asked : Type 0 where
   Gain : Shift → Bool → List ℕ → List ℕ → Asked
   -- the names of the input and of the output
   Undo : List ℕ → List ℕ → Asked
-  -- the place of the first frame and that of the first behind them, whether each has the least slot, the names of the input and of the output
+  -- the place of the first frame and that of the first after them, whether each has the least slot, the names of the input and of the output
   Cut : Place → Place → Bool → List ℕ → List ℕ → Asked
   -- which bit rates are allowed, the names of the input and of the output
   Pack : PackMode → List ℕ → List ℕ → Asked

@@ -13,7 +13,7 @@ use Rattle.job_words.specs.Kinds.{Kind, Fixed, Name, Steps, Channel, Place, Rate
 use Rattle.job_words.specs.Flags.{given_kinds, first_word, is_given, orders}
 use Rattle.job_words.specs.Asked.{Asked, Help, Version, ListFile, Gain, Undo, Cut, Pack, SplitAt, SplitBy, Join, Drill, Fade, Salvage}
 
--- the command's word, the flags that may stand behind it, the kinds of the words behind those, how often the last of them may stand again,
+-- the command's word, the flags that may be after it, the kinds of the words after those, how often the last of them may stand again,
 -- and what is asked for
 pub record Form : Type 0 where
   pub command : List ℕ
@@ -122,7 +122,7 @@ shapes table = flat_map shapes_of table
 abbrev pub last_kind : List Kind → Kind
 last_kind kinds = slice_index_or kinds (length kinds - 1) Name
 
--- the kinds of so many words behind the flags: the last stands again as often as words are left for it, and as it may
+-- the kinds of so many words after the flags: the last is there again as often as words are left for it, and as it may
 abbrev pub kinds_behind : Form → ℕ → List Kind
 kinds_behind form count = form.kinds ++ replicate (min form.more (count - length form.kinds)) (last_kind form.kinds)
 
@@ -139,17 +139,17 @@ kinds_for shape count = front_of shape ++ kinds_behind shape.form (count - lengt
 
 -- ---- what is asked for
 
--- a change of the channels, by the steps and of the files that stand from this place on
+-- a change of the channels, by the steps and of the files that are from this place on
 abbrev pub gain_asked : Channels → List Flag → List Said → ℕ → Asked
 gain_asked channels given values place =
     Gain (record { channels = channels; steps = steps_said (said_at values place); wrap = is_given given Wrapping })
     (not (is_given given Tagless)) (name_at values (place + 1)) (name_at values (place + 2))
 
--- a packing in this mode, of the files that stand from this place on
+-- a packing in this mode, of the files that are from this place on
 abbrev pub pack_asked : PackMode → List Said → ℕ → Asked
 pack_asked mode values place = Pack mode (name_at values place) (name_at values (place + 1))
 
--- by the flags that are given, by what the words behind them say, and by these words themselves
+-- by the flags that are given, by what the words after them say, and by these words themselves
 abbrev pub reads_of : Asks → List Flag → List Said → List (List ℕ) → Asked
 reads_of asks.Help given values words = Help
 reads_of asks.Version given values words = Version
@@ -178,7 +178,7 @@ asked_of shape words =
 
 -- ---- what holds of each form
 
--- no flag's first word can be the first word behind the flags
+-- no flag's first word can be the first word after the flags
 abbrev pub is_clear : Form → Bool
 is_clear form = list_all (λ flag. not (fits_kind (slice_index_or form.kinds 0 Name) (first_word flag))) form.flags
 

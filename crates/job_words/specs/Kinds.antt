@@ -35,7 +35,7 @@ is_name (first ∷ rest) = not (first == 45)
 abbrev pub step_count : List ℕ → Option ℕ
 step_count digits = number_in 1 3 255 digits
 
--- such digits behind `+` or `-` or alone
+-- such digits after `+` or `-` or alone
 abbrev pub steps_of : List ℕ → Option ℤ
 steps_of [] = None
 steps_of (first ∷ rest) =

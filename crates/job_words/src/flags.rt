@@ -113,14 +113,14 @@ fn next_flag(flags: &[Flag], words: &[String]) -> Option<Flag>
     }
 }
 
-/// The items behind so many.
+/// The items after so many.
 pub(crate) fn behind<T>(items: &[T], count: usize) -> &[T]
     ensures { result.now ≡ drop count items.now }
 {
     &items[count.min(items.len())..]
 }
 
-/// The flags that stand behind the first word, each at most once.
+/// The flags that are after the first word, each at most once.
 pub(crate) fn given_in(flags: &[Flag], words: &[String]) -> Flags
     requires { length flags.now ≤ 4 }
     ensures given { result.items ≡ given_in_lem flags.now (drop 1 (map string_bytes words.now)) }

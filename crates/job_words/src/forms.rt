@@ -265,7 +265,7 @@ fn name_at<'a>(values: &[Value<'a>], place: usize) -> &'a str
     value_at(values, place).name()
 }
 
-// A change of these channels by the steps and of the files that stand from a place on, counted from 0.
+// A change of these channels by the steps and of the files that are from a place on, counted from 0.
 fn gain<'a>(channels: Channels, given: &[Flag], values: &[Value<'a>], place: usize) -> Job<'a>
     requires { place ≤ 2 }
     ensures { asked result ≡ gain_asked channels given.now (map value_said values.now) place }
@@ -282,7 +282,7 @@ fn gain<'a>(channels: Channels, given: &[Flag], values: &[Value<'a>], place: usi
     }
 }
 
-// A packing in this mode of the files that stand from a place on, counted from 0.
+// A packing in this mode of the files that are from a place on, counted from 0.
 fn pack<'a>(mode: PackMode, values: &[Value<'a>], place: usize) -> Job<'a>
     requires { place ≤ 2 }
     ensures { asked result ≡ pack_asked mode (map value_said values.now) place }
@@ -295,7 +295,7 @@ fn pack<'a>(mode: PackMode, values: &[Value<'a>], place: usize) -> Job<'a>
 }
 
 impl Asks {
-    /// What is asked for by these flags, by what the words behind them say, and by these words themselves.
+    /// What is asked for by these flags, by what the words after them say, and by these words themselves.
     pub(crate) fn job<'a>(
         self,
         given: &[Flag],
@@ -417,7 +417,7 @@ fn front_kinds(command: &'static str, given: &[Flag]) -> Kinds
 }
 
 impl Form {
-    // Appends the kinds of so many words behind the flags.
+    // Appends the kinds of so many words after the flags.
     fn append_behind(&self, kinds: &mut Kinds, count: usize)
         requires front { length kinds.old.items ≤ 9 }
         requires readable { IsReadable (form_given self.now) }

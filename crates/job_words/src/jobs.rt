@@ -12,7 +12,7 @@ pub enum Job<'a> {
     Help,
     /// Say which program it is.
     Version,
-    /// Say what stands in the file `input`.
+    /// Say what is in the file `input`.
     List {
         /// The name of the file to read.
         input: &'a str,
@@ -39,7 +39,7 @@ pub enum Job<'a> {
     Cut {
         /// The place of the first frame.
         from: Place,
-        /// The place of the first frame behind them.
+        /// The place of the first frame after them.
         to: Place,
         /// Whether each frame has the least bit rate and padding with room for it, and doesn't keep its own.
         least: bool,

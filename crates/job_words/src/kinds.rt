@@ -77,7 +77,7 @@ fn read_size(digits: &[u8]) -> Option<i16>
     read_number(digits, 1, 3, 255).map(|size| size as i16)
 }
 
-// Such digits behind `+` or `-` or alone.
+// Such digits after `+` or `-` or alone.
 #[tactic(auto, unfolding(cue_sheet::specs::Digits::number_in))]
 fn read_steps(word: &str) -> Option<i16>
     ensures { result ≡ steps_of word.now }

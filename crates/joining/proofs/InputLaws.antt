@@ -26,7 +26,7 @@ use Rattle.joining.specs.Inputs.{IsInput, IsPartFaultBy, IsPartFault, Follows, A
 
 -- ---- one more
 
--- the class that an input behind these has to have
+-- the class that an input after these has to have
 abbrev pub class_after : Option ClassFields → List SurveyFields → Option ClassFields
 class_after first [] = first
 class_after first (s ∷ ss) = class_after (Some (unwrap_or first s.class)) ss
@@ -95,7 +95,7 @@ then-then : (r : Result (List Part) EditFault) (g h : List Part → List Part) �
 then-then (Ok parts) g h = refl
 then-then (Err fault) g h = refl
 
--- what is left to be looked at behind these
+-- what is left to be looked at after these
 pub parts-behind : (place : ℕ) (first : Option ClassFields) (allowed : ℕ) (f : Contents) (before after : List (List ℕ)) (ss : List SurveyFields) → AreInputs first allowed (Some f) before ss
     → parts_from place first allowed f (before ++ after) ≡ then_made (parts_from (place + length before) (class_after first ss) (allowed - frames_of ss) f after) (λ parts. ok_parts (parts_in f before ss ++ parts))
 unfolding parts_from parts_in frames_of
@@ -150,7 +150,7 @@ parts-fault f before name after ss fault are is =
 
 -- ---- memory
 
--- a refusal of an input behind the first is found after memory was taken
+-- a refusal of an input after the first is found after memory was taken
 input-late : (place : ℕ) (fault : SurveyFault) → (place == 0) ≡ false → IsLate (Input place fault)
 input-late place Absent behind = behind
 input-late place (TooLong size) behind = behind
@@ -205,7 +205,7 @@ found-next : (before : List (List ℕ)) (name : List ℕ) (after : List (List �
 found-next [] name after ss old new are needs = needs
 found-next (n ∷ before) name after ss old new are needs = found-input most_frames (n ∷ before) (name ∷ after) ss old new are (omega arith) needs.stays
 
--- ---- a fault of an input, behind those before it
+-- ---- a fault of an input, after those before it
 
 module _ (before : List (List ℕ)) (name : List ℕ) (after : List (List ℕ)) (ss : List SurveyFields) where
   refuses-by : (files : Files) (fault : EditFault) → AreInputs None most_frames files before ss → IfSome files (λ f. part_of (length before) (class_after None ss) (most_frames - frames_of ss) (f name) ≡ Err fault) → Refuses (join_task (before ++ name ∷ after)) files fault

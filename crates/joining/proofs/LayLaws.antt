@@ -63,7 +63,7 @@ sources-needs class output (Some f) key file (name ∷ names) (s ∷ ss) holds a
     (whole-needs (unwrap_or (f name) []) s (are.0.exact (unwrap_or (f name) []) (told-holds (Some f) key file name holds are.0.there)))
     (sources-needs class output (Some f) key file names ss holds are.2)
 
--- where they are told, an input's frames are before those of the inputs behind it
+-- where they are told, an input's frames are before those of the inputs after it
 pub own-split : (files : Files) (key told name : List ℕ) (s : SurveyFields) (names : List (List ℕ)) (ss : List SurveyFields) (placed : List Placed) → Holds files key told
     → relaid (told_frames files (name ∷ names) (s ∷ ss)) placed ≡ whole_frames s placed (told_file files name) ++ relaid (told_frames files names ss) (drop (places_for (length s.frames) placed) placed)
 unfolding parts_in

@@ -41,7 +41,7 @@ source-ready relay files fed source target long fed_from = record {
   laid = source.laid;
 }
 
--- the plan fits the input, and behind it those that follow
+-- the plan fits the input, and after it those that follow
 fits-input : (class : ClassFields) (reach : ℕ) (s : SurveyFields) (ss : List SurveyFields) (placed : List Placed) → s.class ≡ class → FitsFrom (window_of class.version) reach (needs_of (rows_of (s ∷ ss))) placed
     → FitsFrom (window_of s.class.version) reach (map need_of s.frames) (own_places (length s.frames) placed)
     × FitsFrom (window_of class.version) (whole_reach reach s placed) (needs_of (rows_of ss)) (drop (places_for (length s.frames) placed) placed)

@@ -30,7 +30,7 @@ use Rattle.commands.specs.One.{Task, first_input, one_command, most_frames}
 abbrev pub whole_part : List ℕ → SurveyFields → Part
 whole_part file s = record { file = file; survey = s; from = 0; to = length s.frames }
 
--- frames of this class may follow: any where no input stands before, else those of the first input's class
+-- frames of this class may follow: any where no input is before, else those of the first input's class
 abbrev pub may_follow : Option ClassFields → ClassFields → Bool
 may_follow None class = true
 may_follow (Some first) class = same_class class first
@@ -65,7 +65,7 @@ plan_of class parts = the_plan (window_of class.version) own_choice (map needs_i
 abbrev pub joined_frames : ClassFields → List Part → List Frame
 joined_frames class parts = relaid (flat_map frames_in parts) (plan_of class parts)
 
--- The ID3v2 blocks that stand in front of the first frame of the first part, an Info frame like this first frame, and the frames; of no
+-- The ID3v2 blocks that are in front of the first frame of the first part, an Info frame like this first frame, and the frames; of no
 -- frames there is no file.
 abbrev pub joined_from : Option Row → Part → List Part → List ℕ
 joined_from None part parts = []

@@ -27,8 +27,8 @@ fn clash(output: &str, inputs: &[String]) -> Option<u32>
 }
 
 /// Writes the output, which is all frames of the inputs, 1 to 64 of one class, in their order and with all main data: the
-/// ID3v2 blocks of the first input that stand in front of its first frame, an Info frame, and the frames in the slots of
-/// their plan, each with its own bit rate and padding (ISO/IEC 11172-3, 2.4.2.7). A lead-in, one empty frame, stands in
+/// ID3v2 blocks of the first input that are in front of its first frame, an Info frame, and the frames in the slots of
+/// their plan, each with its own bit rate and padding (ISO/IEC 11172-3, 2.4.2.7). A lead-in, one empty frame, is in
 /// front of the frames of each input whose first main data need room. No other block of any input is written.
 ///
 /// Refuses, in this order: `EqualNames` with the first input, counted from 0, whose name is the output's, byte for byte;

@@ -25,7 +25,7 @@ fn may_follow(first: Option<Class>, class: Class) -> bool
     }
 }
 
-/// What is known of an input, counted from 0, of which so many frames are allowed, behind a first one of this class.
+/// What is known of an input, counted from 0, of which so many frames are allowed, after a first one of this class.
 ///
 /// # Errors
 /// `Input` with that number and the fault of the survey; `Differ` with it where the input's frames are of another class;

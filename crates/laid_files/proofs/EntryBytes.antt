@@ -40,7 +40,7 @@ header_front-is h rest is =
     ∙ ap header_at (take_at four rest 4 (length-header h))
     ∙ header_at-bytes four h is (bits-bytes 4 (header_bits h) (AreBits-header_bits h) (length-header_bits h))
 
--- ---- what stands before the area
+-- ---- what is before the area
 
 length-word_by : (h : HeaderFields) (s : Side) (b : Bool) → length (cond b (bytes (bits_of 16 (check_word_of h s))) []) + 4 ≡ side_place b
 length-word_by h s true = ap (λ n. n + 4) (length-word (check_word_of h s))

@@ -1,4 +1,4 @@
--- The Info frame: its bytes are an item, its text stands behind its side information, and how long its area is.
+-- The Info frame: its bytes are an item, its text is after its side information, and how long its area is.
 use Rattle.std.proofs.Common.{get_or, ◌≡◌, ℕ, ◌+◌, ◌-◌, ◌||◌, cond, Bool, true, false, suc, ◌<◌, List, [], ◌∷◌, ◌++◌, length, take, drop, replicate, Option, Some, None, refl, sym, ◌∙◌, ap, codes, arith, append_assoc, length-append}
 use Rattle.std.specs.Prelude.{IfSome}
 use Rattle.std.specs.Str.{bytes_eq}
@@ -158,7 +158,7 @@ module _ (first : HeaderFields) (info : Info) (header : IsHeader first) (sizes :
   unfolding low_place
   low-is = refl
 
-  -- its text stands right behind the side information
+  -- its text is right after the side information
   pub info_text : head_text_of h (info_frame first info) ≡ Some (low_place h)
   info_text =
       head_text-low h (info_frame first info)

@@ -39,20 +39,20 @@ well-laid end area_start (q ∷ ps) (suc i) p fits is =
     let behind = well-laid (end_of area_start q) (area_start + q.area) ps i p fits.2 is in
     record { later = omega (arith, fits.0, behind.later); begins = behind.begins; ends = behind.ends }
 
--- behind it the main data of the frame end that was laid last
+-- after it the main data of the frame end that was laid last
 pub data_end-next : (end area_start : ℕ) (ps : List Piece) (i : ℕ) (p : Piece) → slice_get ps i ≡ Some p → data_end end area_start (take (suc i) ps) ≡ end_of (areas_end area_start (take i ps)) p
 data_end-next end area_start [] i p is = absurd cc
 data_end-next end area_start (q ∷ ps) zero p is = let same : q ≡ p = cc in ap (end_of area_start) same
 data_end-next end area_start (q ∷ ps) (suc i) p is = data_end-next (end_of area_start q) (area_start + q.area) ps i p is
 
--- behind the last there is no further
+-- after the last there is no further
 pub take-last : (ps : List Piece) (i : ℕ) → slice_get ps i ≡ None → take (suc i) ps ≡ take i ps
 take-last [] zero is = refl
 take-last [] (suc i) is = refl
 take-last (q ∷ ps) zero is = absurd cc
 take-last (q ∷ ps) (suc i) is = ap (λ (rest : List Piece). q ∷ rest) (take-last ps i is)
 
--- its main data stand where its main_data_begin says
+-- its main data are where its main_data_begin says
 pub laid-there : (end area_start : ℕ) (ps : List Piece) (i : ℕ) (p : Piece) → CanBeLaidFrom end area_start ps → slice_get ps i ≡ Some p
     → (rest : List ℕ) × (drop (start_of (areas_end area_start (take i ps)) p - end) (laid_from end area_start ps) ≡ p.payload ++ rest)
 laid-there end area_start [] i p fits is = absurd cc

@@ -1,4 +1,4 @@
--- Frames into whose areas bytes were laid: the items that they are, and what is read back of them where they stand in a file.
+-- Frames into whose areas bytes were laid: the items that they are, and what is read back of them where they are in a file.
 use Rattle.std.proofs.Common.{◌≡◌, ℕ, zero, suc, ◌+◌, ◌≤◌, ◌==◌, ◌&&◌, not, Bool, true, false, List, [], ◌∷◌, ◌++◌, length, take, drop, map, Some, refl, sym, ◌∙◌, ap, ap₂, subst, arith, append_assoc, length-append, length-drop, take-append-drop}
 use Rattle.std.specs.Prelude.{flat_map, slice_get, sum_by}
 use Rattle.std.proofs.lemmas.Bool.{eq-eqb}
@@ -48,12 +48,12 @@ framed-whole c (f ∷ fs) bytes entries many =
       framed-whole c fs (drop n bytes) entries.1 (omega (arith, many, length-drop n bytes)),
     )
 
--- the frames one behind the other, the first of them at an offset
+-- the frames one after the other, the first of them at an offset
 abbrev pub frames_at : ℕ → List Frame → List PlacedFrame
 frames_at at [] = []
 frames_at at (f ∷ fs) = record { offset = at; header = f.kept.header } ∷ frames_at (at + frame_length f) fs
 
--- among them and blocks behind them they are the frames
+-- among them and blocks after them they are the frames
 pub frames-placed : (at : ℕ) (fs : List Frame) (blocks : List (List ℕ)) (are : IsBlocks blocks) → frames_of (placed at (frame_items fs ++ block_items blocks are)) ≡ frames_at at fs
 frames-placed at [] blocks are = blocks-no_frame at blocks are
 frames-placed at (f ∷ fs) blocks are = ap (λ (l : List PlacedFrame). record { offset = at; header = f.kept.header } ∷ l) (frames-placed (at + frame_length f) fs blocks are)
@@ -72,9 +72,9 @@ blocks-behind c at (f ∷ fs) bytes blocks are entries many =
     omega (arith, long, length-append front (take n bytes), length-append front (take n bytes ++ more), length-append (take n bytes) more) in
     blocks-behind c (at + frame_length f) fs (drop n bytes) blocks are entries.1 (omega (arith, many, length-drop n bytes)) ∙ ap (λ m. blocks_from m blocks) place
 
--- ---- where they stand in a file
+-- ---- where they are in a file
 
--- from an offset on the frames stand one behind the other, and their areas are these bytes
+-- from an offset on the frames follow one after the other, and their areas are these bytes
 abbrev pub StandFrom : List ℕ → ℕ → List Frame → List ℕ → Type 0
 StandFrom file at [] bytes = bytes ≡ []
 StandFrom file at (f ∷ fs) bytes =
@@ -113,7 +113,7 @@ rows-there c file at (f ∷ fs) bytes entries stand =
     ap₂ (λ (s : Side) (rows : List Row). record { offset = at; header = k.header; side = s; lost = false } ∷ rows) side
     (rows-there c file (at + frame_length f) fs (drop n bytes) entries.1 stand.3)
 
--- their areas, one behind the other
+-- their areas, one after the other
 pub areas-there : (c : ClassFields) (file : List ℕ) (at : ℕ) (fs : List Frame) (bytes : List ℕ) → AreEntries c fs → StandFrom file at fs bytes
     → flat_map (λ (r : Row). area_bytes file r.offset r.header) (rows_from at fs) ≡ bytes
 areas-there c file at [] bytes entries stand = sym stand

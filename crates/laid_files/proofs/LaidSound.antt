@@ -28,7 +28,7 @@ either_most : (b : Bool) (m n most : ℕ) → m ≤ most → n ≤ most → cond
 either_most true m n most first second = first
 either_most false m n most first second = second
 
--- the place of the own area is behind those of the head and of the frames before it; main data were laid from the end of the head's area on
+-- the place of the own area is after those of the head and of the frames before it; main data were laid from the end of the head's area on
 module _ (file : List ℕ) (c : ClassFields) (head : ℕ) (end area_start : ℕ) (f : Frame) (r : Row) (row : IsRowOf file c f r)
     (begins : end + f.kept.side.main_data_begin ≤ area_start) (ends : end_of area_start (piece_of f) ≤ area_start + (piece_of f).area) where
   begin-is : r.side.main_data_begin ≡ f.kept.side.main_data_begin
@@ -54,7 +54,7 @@ module _ (file : List ℕ) (c : ClassFields) (head : ℕ) (end area_start : ℕ)
     within = le-ltb _ _ (omega (arith, end-there, ends, ap own_area row.header));
   }
 
-  -- behind it the main data end no later than those that were laid; a silent frame moves no end
+  -- after it the main data end no later than those that were laid; a silent frame moves no end
   pub behind-most : (ended : ℕ) → ended ≤ head + end → end_behind (head + area_start) ended (Some r) ≤ head + end_of area_start (piece_of f)
   behind-most ended before =
       either_most (is_silent r || lacks_data (head + area_start) ended r) ended (end_of_data (head + area_start) r) (head + end_of area_start (piece_of f)) (omega (arith, begins, before)) (omega (arith, end-there))

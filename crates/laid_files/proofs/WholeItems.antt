@@ -1,4 +1,4 @@
--- Bytes that are items, one behind the other: where they stand in a file, they are its run.
+-- Bytes that are items, one after the other: where they are in a file, they are its run.
 use Rattle.std.proofs.Common.{◌≡◌, ℕ, ◌+◌, ◌≤◌, true, List, [], ◌∷◌, ◌++◌, length, take, drop, Some, None, refl, sym, ◌∙◌, ap, subst, arith, append_assoc, length-append, length-drop}
 use Rattle.std.specs.List.{concat}
 use Rattle.std.specs.Prelude.{option_map, option_to_list}
@@ -20,7 +20,7 @@ use Rattle.laid_files.specs.LaidFiles.{IsBlock, IsBlocks, blocks_from}
 
 -- ---- whole items
 
--- these bytes are these items of the part, one behind the other
+-- these bytes are these items of the part, one after the other
 abbrev pub AreWhole : Part → List Item → List ℕ → Type 0
 AreWhole part [] bytes = bytes ≡ []
 AreWhole part (item ∷ items) bytes = (own : List ℕ) × (rest : List ℕ) × (bytes ≡ own ++ rest) × IsItem item own × (belongs part item ≡ true) × AreWhole part items rest
@@ -32,7 +32,7 @@ whole-append part (x ∷ xs) ys front back are behind =
 
 -- ---- where they stand
 
--- the items one behind the other, the first of them at an offset
+-- the items one after the other, the first of them at an offset
 abbrev pub placed : ℕ → List Item → List Placed
 placed at [] = []
 placed at (item ∷ items) = record { offset = at; item = item } ∷ placed (at + size_of item) items
@@ -54,7 +54,7 @@ whole-end part file at (item ∷ items) bytes behind are within is =
       subst (AreEndToEnd part file (at + size) (placed (at + size) items)) to (whole-end part file (at + size) items rest behind are.5 room next),
     )
 
--- they are the run, where no further item of the part stands behind them
+-- they are the run, where no further item of the part is after them
 pub whole-run : (part : Part) (file : List ℕ) (at : ℕ) (items : List Item) (bytes behind : List ℕ) → AreWhole part items bytes → at ≤ length file → drop at file ≡ bytes ++ behind
     → item_of part file (at + length bytes) ≡ None → run part file at ≡ record { items = placed at items; stop = at + length bytes }
 whole-run part file at items bytes behind are within is none = run-only part file at (placed at items) (at + length bytes) (whole-end part file at items bytes behind are within is) none
@@ -83,7 +83,7 @@ pub blocks-no_frame : (at : ℕ) (blocks : List (List ℕ)) (are : IsBlocks bloc
 blocks-no_frame at [] are = refl
 blocks-no_frame at (b ∷ blocks) are = blocks-no_frame (at + are.0.0.length) blocks are.1
 
--- they stand one behind the other
+-- they follow one after the other
 pub blocks-placed : (at : ℕ) (blocks : List (List ℕ)) (are : IsBlocks blocks) → blocks_of (placed at (block_items blocks are)) ≡ blocks_from at blocks
 blocks-placed at [] are = refl
 blocks-placed at (b ∷ blocks) are =

@@ -1,4 +1,4 @@
--- Files into whose frames all main data were laid anew: blocks of tags, an Info frame, the frames, and other blocks
+-- Files into whose frames all main data were laid out again: blocks of tags, an Info frame, the frames, and other blocks
 -- (ISO/IEC 11172-3 and 13818-3, 2.4.1 and 2.4.2.7).
 use Rattle.std.specs.Prelude.{◌≡◌, ℕ, ◌+◌, ◌-◌, ◌*◌, ◌<◌, false, List, [], ◌∷◌, ◌++◌, length, take, drop, slice_index_or, Some, IfSome, option_map, option_to_list}
 use Rattle.std.specs.List.{concat}
@@ -20,7 +20,7 @@ use Rattle.sync_survey.specs.declared.rows.Row.{Row}
 use Rattle.sync_survey.specs.MainData.{StreamFrame, no_slot, part_lengths, parts_of}
 use Rattle.sync_survey.specs.Faults.{SurveyFields}
 
--- ---- what stands in such a file
+-- ---- what is in such a file
 
 -- these are the bytes of one block
 abbrev pub IsBlock : List ℕ → Type 0
@@ -92,21 +92,21 @@ pub record IsLaidFile (c : ClassFields) (front : List (List ℕ)) (first : Heade
 abbrev pub frame_length : Frame → ℕ
 frame_length f = length_of (class_of f.kept.header) f.kept.header.slot
 
--- frames one behind the other, the first of them at an offset; none is lost
+-- frames one after the other, the first of them at an offset; none is lost
 abbrev pub rows_from : ℕ → List Frame → List Row
 rows_from at [] = []
 rows_from at (f ∷ frames) = record { offset = at; header = f.kept.header; side = f.kept.side; lost = false } ∷ rows_from (at + frame_length f) frames
 
--- blocks one behind the other, the first of them at an offset
+-- blocks one after the other, the first of them at an offset
 abbrev pub blocks_from : ℕ → List (List ℕ) → List Piece
 blocks_from at [] = []
 blocks_from at (b ∷ blocks) = option_to_list (option_map (λ block. record { offset = at; block = block }) (block_front b)) ++ blocks_from (at + length b) blocks
 
--- the Info frame at an offset is a head; its text stands right behind its side information
+-- the Info frame at an offset is a head; its text is right after its side information
 abbrev pub head_at : ℕ → HeaderFields → Head
 head_at at first = record { offset = at; header = info_header_of first; text_at = low_place (info_header_of first) }
 
--- where the frames behind the Info frame begin
+-- where the frames after the Info frame begin
 abbrev pub frames_place : List (List ℕ) → HeaderFields → Info → ℕ
 frames_place front first info = length (concat front) + length (info_frame first info)
 

@@ -1,4 +1,4 @@
--- Laws of files into whose frames all main data were laid anew.
+-- Laws of files into whose frames all main data were laid out again.
 use Rattle.std.specs.Prelude.{◌≡◌, ℕ, ◌≤◌, List, length, map, Ok}
 use Rattle.frame_header.specs.Fields.{HeaderFields, ClassFields}
 use Rattle.info_header.specs.declared.fields.Info.{Info}
@@ -18,6 +18,6 @@ LaidSurvey =
     (c : ClassFields) (front : List (List ℕ)) (first : HeaderFields) (info : Info) (frames : List Frame) (back : List (List ℕ)) (allowed : ℕ) → IsLaidFile c front first info frames back → length frames ≤ allowed
     → surveyed (laid_file front first info frames back) allowed ≡ Ok (laid_fields front first info frames back)
 
--- the bytes of each block of a file without fault are a block, and so may stand in such a file
+-- the bytes of each block of a file without fault are a block, and so may be in such a file
 abbrev pub SurveyedBlocks : Type 0
 SurveyedBlocks = (file : List ℕ) (allowed : ℕ) (s : SurveyFields) → surveyed file allowed ≡ Ok s → IsBlocks (map (block_bytes file) s.blocks)

@@ -1,4 +1,4 @@
-//! Laws of files into whose frames all main data were laid anew. Each function does nothing: a proof that needs its law
+//! Laws of files into whose frames all main data were laid out again. Each function does nothing: a proof that needs its law
 //! calls it.
 ghost use Rattle.laid_files.specs.Laws.{LaidStream, LaidSurvey, SurveyedBlocks};
 
@@ -9,13 +9,13 @@ pub fn laid_stream()
 {}
 
 /// A survey of such a file that allows at least as many frames as it has has no fault. It finds the Info frame as the
-/// head, behind the blocks and no junk, and the frames and blocks where they were put; none of the frames is lost.
+/// head, after the blocks and no junk, and the frames and blocks where they were put; none of the frames is lost.
 pub fn laid_survey()
     ensures { LaidSurvey }
 {}
 
 /// The bytes of each block that a survey of a file without fault tells are those of a block, wherever they are put, so they
-/// may stand in front of and behind the frames of such a file.
+/// may be in front of and after the frames of such a file.
 pub fn surveyed_blocks()
     ensures { SurveyedBlocks }
 {}

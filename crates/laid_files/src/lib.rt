@@ -1,6 +1,6 @@
-//! Files of which all main data were laid anew: blocks of tags, an Info frame, the frames with the main data of all of
+//! Files of which all main data were laid out again: blocks of tags, an Info frame, the frames with the main data of all of
 //! them in their areas, and other blocks. A file that is put together from frames of other files has this form. The
-//! definitions stand in `specs/`; there is no code, and the laws say what a survey of such a file tells.
+//! definitions are in `specs/`; there is no code, and the laws say what a survey of such a file tells.
 #![tactic(auto)]
 
 mod laws;

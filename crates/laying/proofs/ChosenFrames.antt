@@ -137,7 +137,7 @@ rows-first file zero (r ∷ rows) are = tt
 rows-first file (suc i) [] are = tt
 rows-first file (suc i) (r ∷ rows) are = (are.0, rows-first file i rows are.1)
 
--- so many main data stand before frame i
+-- so many main data are before frame i
 pub main-place : (file : List ℕ) (head : Option Head) (rows : List Row) (i : ℕ) → HasWholeHead file head → AreWholeRows file rows → length (main_bytes file head (take i rows)) ≡ place head rows i
 unfolding place main_bytes
 main-place file head rows i front are =

@@ -1,4 +1,4 @@
--- Blocks that are copied, one behind the other.
+-- Blocks that are copied, one after the other.
 use Rattle.std.proofs.Common.{◌≡◌, ℕ, zero, suc, ◌+◌, ◌<◌, ◌≤◌, cond, Bool, true, false, List, [], ◌∷◌, ◌++◌, length, map, drop, refl, sym, ◌∙◌, ap, subst, arith, append-nil}
 use mathlib.Core.Bool.{beq}
 use Rattle.std.specs.Prelude.{filter, not, slice_index_or}

@@ -13,7 +13,7 @@ use Rattle.frame_writer.specs.Writing.{Writing, writing, waiting_bytes, IsNew, I
 use Rattle.frame_writer.proofs.FrameLaws.{laid-steps, later-frames}
 use Rattle.laying.specs.Passing.{Lays, LaysPart}
 
--- behind what waits no frame was given yet
+-- after what waits no frame was given yet
 pub new-behind : {class : ClassFields} (held : Held) (waiting : List ℕ) → IsNew class held → IsWriterOf waiting [] (writing held waiting) []
 new-behind held waiting new = record { taken = []; is = sym (append-nil waiting); written = new.written }
 

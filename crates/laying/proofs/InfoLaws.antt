@@ -1,4 +1,4 @@
--- The fields of an Info frame by the slots of the frames behind it.
+-- The fields of an Info frame by the slots of the frames after it.
 use Rattle.std.proofs.Common.{◌≡◌, ℕ, ◌+◌, ◌*◌, ◌/◌, ◌<◌, ◌==◌, ◌&&◌, Bool, List, [], ◌∷◌, length, map, take, Option, Some, refl, sym, ◌∙◌, ap, ap₂, arith}
 use Rattle.std.specs.Prelude.{not, slice_index}
 use Rattle.std.specs.List.{list_all, range_with_len}

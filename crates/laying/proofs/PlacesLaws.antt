@@ -1,4 +1,4 @@
--- The first places of a plan, which all frames of one input take, and those behind them.
+-- The first places of a plan, which all frames of one input take, and those after them.
 use Rattle.std.proofs.Common.{◌≡◌, ℕ, zero, suc, ◌+◌, ◌-◌, ◌<◌, ◌≤◌, Bool, true, false, List, [], ◌∷◌, ◌++◌, length, map, take, drop, Option, Some, None, refl, sym, ◌∙◌, ap, ap₂, subst, arith, length-append}
 use Rattle.std.specs.Prelude.{slice_range, flat_map}
 use Rattle.std.specs.List.{enumerate_from}
@@ -80,7 +80,7 @@ pub behind-frame : (b : Bool) (frames next : ℕ) → b ≡ false → next ≡ f
 behind-frame true frames next is same = absurd cc
 behind-frame false frames next is same = sym same
 
--- ---- a plan of some frames, and of others behind them
+-- ---- a plan of some frames, and of others after them
 
 behind-append : {X : Type 0} (b : Bool) (x : X) (xs ys : List X) → left_behind b x (xs ++ ys) ≡ left_behind b x xs ++ ys
 behind-append true x xs ys = refl

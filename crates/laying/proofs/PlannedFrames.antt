@@ -254,7 +254,7 @@ AllNeedsOf [] (fs ∷ more) = ⊥
 AllNeedsOf (needs ∷ parts) [] = ⊥
 AllNeedsOf (needs ∷ parts) (fs ∷ more) = AreNeedsOf needs fs × AllNeedsOf parts more
 
--- one part behind the other
+-- one part after the other
 abbrev pub joined : List (List Frame) → List Frame
 joined [] = []
 joined (fs ∷ more) = fs ++ joined more
@@ -274,7 +274,7 @@ only_one slot other has = first_of_one slot other has.0 (omega (arith, has.1)) h
     first_of_one : (slot other : SlotFields) (k : ℕ) → k ≡ 0 → get_or (slot ∷ []) k other ≡ other → slot ≡ other
     first_of_one slot other k zero_is same = ap (λ n. get_or (slot ∷ []) n other) (sym zero_is) ∙ same
 
--- the frames of a part, with others behind it
+-- the frames of a part, with others after it
 items-follow : (c : ClassFields) (choices : HeaderFields → List SlotFields) (needs : List Need) (fs : List Frame) (rest : List Item) (more : List Frame) → AreSlots choices → AreEntries c fs → AreNeedsOf needs fs
     → Follow rest more → Follow (map (item_of choices) needs ++ rest) (fs ++ more)
 items-follow c choices [] [] rest more slots are needs_are follow = follow

@@ -185,7 +185,7 @@ over-next before after input files s i r found over has = record {
   is = λ file holds. ap₂ (λ (l m : List ℕ). l ++ m) (over.is file holds) (has.is file holds) ∙ sym (main-next file s.head s.frames i r found);
 }
 
--- one more behind those from a first one on
+-- one more after those from a first one on
 pub last-next : (before after input : List ℕ) (files : Files) (s : SurveyFields) (first i : ℕ) (r : Row) → slice_get s.frames i ≡ Some r → IsOverLast before input files s first i → HasArea before after input files r
     → IsOverLast after input files s first (i + 1)
 last-next before after input files s first i r found over has = record {

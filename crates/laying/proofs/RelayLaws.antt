@@ -43,7 +43,7 @@ item-next (y ∷ xs) (suc i) x within is =
     let more : suc i + 1 ≡ suc (i + 1) = omega arith in
     item-next xs i x (omega (arith, within)) is ∙ ap (λ n. x ∷ drop n (y ∷ xs)) (sym more)
 
--- what is left behind a lead-in or a frame
+-- what is left after a lead-in or a frame
 pub left-range : {X : Type 0} (xs : List X) (i to next : ℕ) (x : X) (b : Bool) → slice_get xs i ≡ Some x → i < to → next ≡ i + cond b 0 1 → left_behind b x (slice_range xs (i + 1) to) ≡ slice_range xs next to
 left-range xs i to next x true found within is =
     let same : next ≡ i = omega (arith, is) in
@@ -156,7 +156,7 @@ begins-left window reach (need ∷ needs) [] placed more are fits begins = absur
 begins-left window reach (need ∷ needs) (f ∷ fs) [] more are fits begins = absurd fits
 begins-left window reach (need ∷ needs) (f ∷ fs) (p ∷ placed) more are fits begins = omega (arith, one_begin p.lead_in p f, fits.0)
 
--- frames that are left behind those of which a write failed
+-- frames that are left after those of which a write failed
 pub part_more : (input output : List ℕ) (made rest whole : List ℕ → List Frame) (reach last : ℕ) (old : Writing) (before after : Files)
     → ((file : List ℕ) → Holds before input file → (more : List Frame) → BeginsWithin last (pieces more) → BeginsWithin reach (pieces (rest file ++ more)))
     → ((file : List ℕ) → Holds before input file → made file ++ rest file ≡ whole file)

@@ -14,12 +14,12 @@ bytes_at lead_in need = if lead_in then 0 else need.bytes
 abbrev pub area_at : Placed → Need → ℕ
 area_at p need = area_of (class_of need.header) p.slot (if p.lead_in then false else need.header.protected)
 
--- how many bytes before the area behind it main data may begin
+-- how many bytes before the area after it main data may begin
 abbrev pub reach_behind : ℕ → Placed → Need → ℕ
 reach_behind window p need = min window (p.begin + area_at p need - bytes_at p.lead_in need)
 
 -- Where main data may begin so many bytes before the first area: there is a place for each frame, and none is left; each main_data_begin is
--- within reach, and no main data end behind their own area.
+-- within reach, and no main data end after their own area.
 unfoldable pub FitsFrom : ℕ → ℕ → List Need → List Placed → Type 0
 FitsFrom window reach [] [] = Unit {0}
 FitsFrom window reach [] (p ∷ placed) = ⊥
@@ -27,7 +27,7 @@ FitsFrom window reach (need ∷ needs) [] = ⊥
 FitsFrom window reach (need ∷ needs) (p ∷ placed) =
     (p.begin ≤ reach) × (bytes_at p.lead_in need ≤ p.begin + area_at p need) × FitsFrom window (reach_behind window p need) (left_behind p.lead_in need needs) placed
 
--- the reach behind all of them
+-- the reach after all of them
 unfoldable pub last_reach : ℕ → ℕ → List Need → List Placed → ℕ
 last_reach window reach [] placed = reach
 last_reach window reach (need ∷ needs) [] = reach
@@ -38,7 +38,7 @@ abbrev pub AreInSlots : List Placed → Type 0
 AreInSlots [] = Unit {0}
 AreInSlots (p ∷ placed) = IsSlot p.slot × AreInSlots placed
 
--- a plan by which frames can be laid, behind no frames
+-- a plan by which frames can be laid, after no frames
 pub record IsFitting (window : ℕ) (needs : List Need) (placed : List Placed) : Type 0 where
   pub fits : FitsFrom window 0 needs placed
   pub slots : AreInSlots placed

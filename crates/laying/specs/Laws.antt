@@ -32,22 +32,22 @@ EntriesHold =
     (c : ClassFields) (choices : HeaderFields → List SlotFields) (parts : List Part) (placed : List Placed) → 1 ≤ length parts → AreParts c parts → AreSlots choices → IsPlan (window_of c.version) choices (map needs_in parts) placed
     → AreLaidAs c (relaid (flat_map frames_in parts) placed) (with_lead_ins placed (flat_map stream_in parts))
 
--- so a file of them between blocks and behind an Info frame is well-formed, and that is its stream
+-- so a file of them between blocks and after an Info frame is well-formed, and that is its stream
 abbrev pub FilesHold : Type 0
 FilesHold =
     (c : ClassFields) (choices : HeaderFields → List SlotFields) (parts : List Part) (placed : List Placed) → 1 ≤ length parts → AreParts c parts → AreSlots choices → IsPlan (window_of c.version) choices (map needs_in parts) placed
     → (front : List (List ℕ)) (first : HeaderFields) (info : Info) (back : List (List ℕ)) → IsBlocks front → IsHeader first → class_of first ≡ c → HasInfoSizes info → IsBlocks back
     → HoldsStream (laid_file front first info (relaid (flat_map frames_in parts) placed) back) (with_lead_ins placed (flat_map stream_in parts))
 
--- the survey of a file without fault is one by which its frames can be laid anew
+-- the survey of a file without fault is one by which its frames can be laid out again
 abbrev pub SurveysAreHad : Type 0
 SurveysAreHad = (file : List ℕ) (allowed : ℕ) (s : SurveyFields) → surveyed file allowed ≡ Ok s → HasSurvey file s
 
--- the blocks of a file that are kept may stand in such a file
+-- the blocks of a file that are kept may be in such a file
 abbrev pub BlocksAreKept : Type 0
 BlocksAreKept = (file : List ℕ) (s : SurveyFields) → HasSurvey file s → IsBlocks (front_blocks file s) × IsBlocks (back_blocks file s)
 
--- a plan of parts can be written frame by frame, behind no frames
+-- a plan of parts can be written frame by frame, after no frames
 abbrev pub PlansFit : Type 0
 PlansFit =
     (window : ℕ) (choices : HeaderFields → List SlotFields) (parts : List (List Row)) (placed : List Placed) → IsPlan window choices (map (map need_of) parts) placed

@@ -1,4 +1,4 @@
--- What a pass that lays frames anew makes of its output.
+-- What a pass that lays out frames again makes of its output.
 use Rattle.std.specs.Prelude.{◌≡◌, ℕ, ◌+◌, ◌-◌, ◌==◌, ◌≤◌, min, if◌then◌else◌, List, [], ◌∷◌, ◌++◌, length, take, map, slice_range}
 use Rattle.std.specs.List.{concat}
 use Rattle.frame_header.specs.Fields.{ClassFields}
@@ -55,7 +55,7 @@ pub record IsOver (window input : List ℕ) (files : Files) (s : SurveyFields) (
   pub long : length main ≡ place s.head s.frames i
   pub is : (file : List ℕ) → Holds files input file → main ≡ main_bytes file s.head (take i s.frames)
 
--- so many bytes of main data stand before the first frame whose area was read; where it is the first of all, that of the head was too
+-- so many bytes of main data are before the first frame whose area was read; where it is the first of all, that of the head was too
 abbrev pub skipped_before : SurveyFields → ℕ → ℕ
 skipped_before s first = if first == 0 then 0 else place s.head s.frames first
 
@@ -104,7 +104,7 @@ GivesPart relay made reach old before after = LaysPart relay.pass.input.now rela
 abbrev pub moved_frame : Relay → ℕ → Row → Placed → List ℕ → List Frame
 moved_frame relay i row p file = moved_to p (frame_of file (tells relay.survey.now) i row) ∷ []
 
--- what stands at a place of the plan: the lead-in in front of frame i, or the frame
+-- what is at a place of the plan: the lead-in in front of frame i, or the frame
 abbrev pub placed_frame : Relay → ℕ → Row → Placed → List ℕ → List Frame
 placed_frame relay i row p file = placed_as p (frame_of file (tells relay.survey.now) i row) ∷ []
 
@@ -115,18 +115,18 @@ planned_frames relay from to placed file = relaid (slice_range (all_frames file 
 abbrev pub window_in : SurveyFields → ℕ
 window_in s = window_of s.class.version
 
--- how many bytes before the next area main data may begin behind this frame in its slot
+-- how many bytes before the next area main data may begin after this frame in its slot
 abbrev pub own_reach : Relay → Row → Placed → ℕ
 own_reach relay row p = min (window_in (tells relay.survey.now)) (p.begin + area_of (class_of row.header) p.slot row.header.protected - (need_of row).bytes)
 
--- behind what stands at this place of the plan
+-- after what is at this place of the plan
 abbrev pub reach_at : Relay → Row → Placed → ℕ
 reach_at relay row p = reach_behind (window_in (tells relay.survey.now)) p (need_of row)
 
 abbrev pub needs_from : SurveyFields → ℕ → ℕ → List Need
 needs_from s from to = map need_of (slice_range s.frames from to)
 
--- behind all places
+-- after all places
 abbrev pub reach_behind_all : ℕ → Relay → ℕ → ℕ → List Placed → ℕ
 reach_behind_all reach relay from to placed = last_reach (window_in (tells relay.survey.now)) reach (needs_from (tells relay.survey.now) from to) placed
 

@@ -1,4 +1,4 @@
--- The first places of a plan, which all frames of one input take, where those of others are behind them.
+-- The first places of a plan, which all frames of one input take, where those of others are after them.
 use Rattle.std.specs.Prelude.{ℕ, zero, suc, Bool, true, false, List, [], ◌∷◌, length, map, take, slice_range}
 use Rattle.frame_header.specs.Tables.{window_of}
 use Rattle.slot_plan.specs.declared.needs.Placed.{Placed}
@@ -8,7 +8,7 @@ use Rattle.sync_survey.specs.Faults.{SurveyFields}
 use Rattle.laying.specs.Relaid.{all_frames, relaid}
 use Rattle.laying.specs.Fits.{last_reach}
 
--- how many frames are left behind a lead-in, or behind one of one more
+-- how many frames are left after a lead-in, or after one of one more
 abbrev pub frames_behind : Bool → ℕ → ℕ
 frames_behind true frames = suc frames
 frames_behind false frames = frames
@@ -27,6 +27,6 @@ own_places frames placed = take (places_for frames placed) placed
 abbrev pub whole_frames : SurveyFields → List Placed → List ℕ → List Frame
 whole_frames s placed file = relaid (slice_range (all_frames file s) 0 (length s.frames)) placed
 
--- how many bytes before the next area main data may begin behind them
+-- how many bytes before the next area main data may begin after them
 abbrev pub whole_reach : ℕ → SurveyFields → List Placed → ℕ
 whole_reach reach s placed = last_reach (window_of s.class.version) reach (map need_of s.frames) placed

@@ -1,4 +1,4 @@
--- Frames that are chosen of surveyed files, and the same frames in the slots of a plan with all main data laid anew (main_data_begin
+-- Frames that are chosen of surveyed files, and the same frames in the slots of a plan with all main data laid out again (main_data_begin
 -- and main data, ISO/IEC 11172-3 and 13818-3, 2.4.2.7).
 use Rattle.std.specs.Prelude.{◌≡◌, ℕ, ◌+◌, ◌-◌, ◌*◌, ◌/◌, ◌<◌, ◌≤◌, if◌then◌else◌, false, List, [], ◌∷◌, ◌++◌, length, map, slice_range, Contains, Bool, true}
 use Rattle.std.specs.List.{enumerate_from}
@@ -73,7 +73,7 @@ needs_in p = map need_of (rows_in p)
 abbrev pub moved_to : Placed → Frame → Frame
 moved_to p f = record { kept = record { header = record f.kept.header { slot = p.slot }; side = record f.kept.side { main_data_begin = p.begin } }; payload = f.payload }
 
--- a lead-in: an empty frame without a check word, else with the header of the frame behind it
+-- a lead-in: an empty frame without a check word, else with the header of the frame after it
 abbrev pub lead_in_before : Placed → HeaderFields → Frame
 lead_in_before p h = record { kept = record { header = record h { protected = false; slot = p.slot }; side = record no_side { main_data_begin = p.begin } }; payload = [] }
 
@@ -83,7 +83,7 @@ lead_in_to p behind = lead_in_before p behind.kept.header
 abbrev pub placed_as : Placed → Frame → Frame
 placed_as p f = if p.lead_in then lead_in_to p f else moved_to p f
 
--- what is left behind a lead-in is all, behind a frame the others
+-- what is left after a lead-in is all, after a frame the others
 abbrev pub left_behind : {X : Type 0} → Bool → X → List X → List X
 left_behind true x xs = x ∷ xs
 left_behind false x xs = xs
@@ -96,7 +96,7 @@ relaid (f ∷ frames) (p ∷ placed) = placed_as p f ∷ relaid (left_behind p.l
 
 -- ---- their stream
 
--- a lead-in as a frame of a stream, by the frame behind it: no field of its side information is set, and it has no main data
+-- a lead-in as a frame of a stream, by the frame after it: no field of its side information is set, and it has no main data
 abbrev pub silent_before : StreamFrame → StreamFrame
 silent_before behind = record {
   header = record behind.header { protected = false };

@@ -1,4 +1,4 @@
--- What laying frames anew asks of the survey of a file: that its frames and blocks are whole there, and that the main data of each frame are
+-- What laying frames again asks of the survey of a file: that its frames and blocks are whole there, and that the main data of each frame are
 -- among the areas. The survey of a file without fault is such a one (`SurveysAreHad`), and so is that of what is left of a damaged file.
 use Rattle.std.specs.Prelude.{◌≡◌, ℕ, ◌+◌, ◌≤◌, List, [], ◌∷◌, length, map, Option, Some, None}
 use Rattle.frame_header.specs.Fields.{HeaderFields, IsHeader}

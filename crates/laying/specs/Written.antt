@@ -1,4 +1,4 @@
--- A file of chosen frames: blocks, an Info frame, the frames with all main data laid anew, and other blocks.
+-- A file of chosen frames: blocks, an Info frame, the frames with all main data laid out again, and other blocks.
 use Rattle.std.specs.Prelude.{ℕ, ◌+◌, ◌*◌, ◌/◌, ◌&&◌, not, nat_lt, Bool, true, false, List, [], length, map, filter, take, drop, replicate, Option, Some, None}
 use Rattle.std.specs.List.{range_with_len}
 use Rattle.frame_header.specs.Fields.{SlotFields, ClassFields}
@@ -20,7 +20,7 @@ abbrev pub is_id3v2 : Kind → Bool
 is_id3v2 Id3v2 = true
 is_id3v2 _ = false
 
--- an ID3v2 block that stands before the first frame or the head
+-- an ID3v2 block that is before the first frame or the head
 abbrev pub goes_in_front : SurveyFields → Piece → Bool
 goes_in_front s p = is_id3v2 p.block.kind && nat_lt p.offset s.first
 

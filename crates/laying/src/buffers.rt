@@ -1,4 +1,4 @@
-//! All memory of a pass that lays frames anew.
+//! All memory of a pass that lays out frames again.
 ghost use Rattle.std.specs.Prelude.{IfOk};
 ghost use Rattle.laying.specs.Passing.{IsFresh};
 
@@ -8,7 +8,7 @@ use outside::{Feed, WriteBuffer};
 use reservoir::Window;
 use std::alloc::{AllocError, Global};
 
-/// All memory of a pass that lays frames anew: the bytes of the input that are read, the main data in reach, the frames
+/// All memory of a pass that lays out frames again: the bytes of the input that are read, the main data in reach, the frames
 /// that wait, and the bytes in front of the output. It is taken before the first output is created, and serves for all.
 #[derive(Drop)]
 pub struct Buffers {

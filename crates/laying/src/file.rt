@@ -39,7 +39,7 @@ impl<'a> Relay<'a> {
         self.pass.push(folder, info, waiting)
     }
 
-    /// Adds to what waits for the output the file of a section but for what goes behind its frames.
+    /// Adds to what waits for the output the file of a section except what goes after its frames.
     fn write_frames<D: Folder>(
         &self,
         folder: &mut D,
@@ -69,7 +69,7 @@ impl<'a> Relay<'a> {
         self.lay(folder, section, buffers)
     }
 
-    /// Appends to the output a file of the frames of a section of the input: the input's ID3v2 blocks that stand before
+    /// Appends to the output a file of the frames of a section of the input: the input's ID3v2 blocks that are before
     /// its first frame, an Info frame of these bytes, the frames as at `lay`, and all other blocks of the input. Nothing waits
     /// in the buffer in front of the output; what else the buffers hold may be of whatever was written before. It takes no
     /// memory.

@@ -9,26 +9,26 @@ pub fn entries_hold()
     ensures { EntriesHold }
 {}
 
-/// A file of these frames, with blocks and an Info frame in front of them and blocks behind, is well-formed, and its stream
+/// A file of these frames, with blocks and an Info frame in front of them and blocks after, is well-formed, and its stream
 /// is the lead-ins and the chosen frames.
 pub fn files_hold()
     ensures { FilesHold }
 {}
 
 /// The survey of a file without fault tells frames and blocks that are whole there, and main data that are among the areas:
-/// so its frames can be laid anew.
+/// so its frames can be laid out again.
 pub fn surveys_are_had()
     ensures { SurveysAreHad }
 {}
 
-/// The bytes of the blocks that a survey tells of its file, those that go in front of the frames and all others, may stand in
+/// The bytes of the blocks that a survey tells of its file, those that go in front of the frames and all others, may be in
 /// such a file.
 pub fn blocks_are_kept()
     ensures { BlocksAreKept }
 {}
 
 /// A plan of parts can be written frame by frame: no main_data_begin reaches back before the end of the main data before,
-/// or further than the window, and no main data end behind their own area (main_data_begin, ISO/IEC 11172-3 and 13818-3,
+/// or further than the window, and no main data end after their own area (main_data_begin, ISO/IEC 11172-3 and 13818-3,
 /// 2.4.2.7).
 pub fn plans_fit()
     ensures { PlansFit }

@@ -1,4 +1,4 @@
-//! Frames of surveyed files in the slots of a plan, with all main data laid anew, as they are cut, split, joined and packed.
+//! Frames of surveyed files in the slots of a plan, with all main data laid out again, as they are cut, split, joined and packed.
 #![tactic(auto)]
 
 mod blocks;

@@ -33,7 +33,7 @@ pub struct Relay<'a> {
     pub survey: &'a Survey,
 }
 
-/// The bytes of a frame that stand before its main data.
+/// The bytes of a frame that are before its main data.
 #[tactic(auto, unfolding(frame_header::specs::Tables::overhead_of))]
 fn overhead(header: &Header) -> u32
     ensures overhead { result ≡ overhead_of (class_of header.now) header.now.protected }
@@ -78,7 +78,7 @@ impl<'a> Relay<'a> {
         }
     }
 
-    /// Gives a lead-in to the writer: an empty frame without a check word, with the header of the frame behind it.
+    /// Gives a lead-in to the writer: an empty frame without a check word, with the header of the frame after it.
     fn lead_in<D: Folder>(
         &self,
         folder: &mut D,
@@ -171,7 +171,7 @@ impl<'a> Relay<'a> {
         Ok(())
     }
 
-    /// The first of the frames before frame `i` whose areas are all that a window holds: with those behind it it has at
+    /// The first of the frames before frame `i` whose areas are all that a window holds: with those after it it has at
     /// least 2,048 bytes, or it is the first of all.
     fn first_held(&self, i: usize) -> usize
         requires within { i ≤ length (tells self.now.survey.now).frames }
@@ -292,7 +292,7 @@ impl<'a> Relay<'a> {
         self.write_frame(folder, &frame, &mut buffers.writer, &mut buffers.waiting)
     }
 
-    /// Gives to the writer what stands at a place of the plan: a lead-in in front of frame `i`, or that frame. The answer
+    /// Gives to the writer what is at a place of the plan: a lead-in in front of frame `i`, or that frame. The answer
     /// is the number of the next frame.
     fn place<D: Folder>(
         &self,
@@ -412,7 +412,7 @@ impl<'a> Relay<'a> {
     }
 
     /// Adds to what waits for the output the frames of a section, in the slots and with the lead-ins of their plan, with all
-    /// main data laid anew. The writer is new, and the window may hold whatever it does. It takes no memory.
+    /// main data laid out again. The writer is new, and the window may hold whatever it does. It takes no memory.
     ///
     /// # Errors
     /// `Read` where a read failed; `Shrunk`, the length that the input was found with and the one that it had when it was

@@ -32,14 +32,14 @@ const LAST_REST: Stretch = Fill(0x66, 125);
 /// 32nd.
 const FRAME: Stretch = Bytes(&[0xff, 0xfb, 0x90, 0x00, 0x00, 0x00, 0x09, 0x60]);
 
-/// A block in front of two frames, and two behind them.
+/// A block in front of two frames, and two after them.
 static INPUT: [Stretch; 14] = end_to_end! {
     LONG_BLOCK, Fill(0x44, 3000), Fill(0x55, 4000), FRAME, Fill(0, 28), Fill(0x11, 300), Fill(0x22, 81),
     FRAME, Fill(0, 28), Fill(0x11, 300), Fill(0x22, 81),
     SHORT_BLOCK, ID3V1, LAST_REST
 };
 
-/// The same blocks, around four bytes in place of an Info frame and the first frame, in which 0 stands behind its main data.
+/// The same blocks, around four bytes in place of an Info frame and the first frame, in which 0 is after its main data.
 static OUTPUT: [Stretch; 11] = end_to_end! {
     LONG_BLOCK, Fill(0x44, 3000), Fill(0x55, 4000), Bytes(b"info"), FRAME, Fill(0, 28), Fill(0x11, 300),
     Fill(0, 81),

@@ -15,7 +15,7 @@ use test_files::files::Stretch::{Bytes, Fill};
 use test_files::files::{Stretch, bytes_of};
 use test_files::table;
 
-/// MPEG-1, 128 kbit/s at 44,100 Hz in two channels: 417 bytes, of which 4 and 32 stand before the area.
+/// MPEG-1, 128 kbit/s at 44,100 Hz in two channels: 417 bytes, of which 4 and 32 are before the area.
 const PLAIN: [u8; 4] = [0xff, 0xfb, 0x90, 0x00];
 
 /// At 64 kbit/s 208 bytes, and at 128 kbit/s 417, or with padding 418.
@@ -90,7 +90,7 @@ fn one_bit_rate(rt: HostRuntime) -> Result<(), Fail> {
     Ok(())
 }
 
-/// A first frame, and a silent one behind it.
+/// A first frame, and a silent one after it.
 struct Case {
     name: &'static str,
     file: &'static [Stretch],

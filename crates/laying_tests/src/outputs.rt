@@ -1,4 +1,4 @@
-//! What a test puts into a folder, and what stands in a file afterwards.
+//! What a test puts into a folder, and what is in a file afterwards.
 //!
 //! A test owns its folder and ends in one place, and all else borrows it: at each end of the owner the folder is let go, which
 //! costs the check much.

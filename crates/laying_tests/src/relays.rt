@@ -14,14 +14,14 @@ use test_files::end_to_end;
 use test_files::files::Stretch::{Fill, Filled};
 use test_files::files::{OF_300, OF_400, Stretch};
 
-/// Main data of 300 bytes, and of 400 that begin right behind them, 81 bytes before the second area. Of the side information
+/// Main data of 300 bytes, and of 400 that begin right after them, 81 bytes before the second area. Of the side information
 /// main_data_begin is the first 9 bits, and the bits of the first channel's main data are those from the 21st to the 32nd.
 static INPUT: [Stretch; 6] = end_to_end! {
     OF_300, Fill(0x11, 300), Fill(0x22, 81),
     OF_400, Fill(0x22, 319), Fill(0x33, 62)
 };
 
-/// The second frame alone: 68 of its bytes stand in the lead-in's area, and the other 332 in its own.
+/// The second frame alone: 68 of its bytes are in the lead-in's area, and the other 332 in its own.
 static OUTPUT: [Stretch; 5] = end_to_end! {
     Filled(&[0xff, 0xfb, 0x10, 0x00], 0, 32), Fill(0x22, 68),
     Filled(&[0xff, 0xfb, 0x90, 0x00, 0x22, 0x00, 0x0c, 0x80], 0, 28), Fill(0x22, 332), Fill(0, 49)

@@ -111,7 +111,7 @@ pub record IsLegalFade (sheet : List ℕ) (back : Bool) (files : Contents) (inpu
 
 -- ---- cut and split
 
--- between the places there is a frame, and none of them is behind the last frame
+-- between the places there is a frame, and none of them is after the last frame
 abbrev pub IsRange : SurveyFields → Place → Place → Type 0
 IsRange s from to = (frame_at s.class (length s.frames) from < frame_at s.class (length s.frames) to) × (frame_at s.class (length s.frames) to ≤ length s.frames)
 
@@ -135,7 +135,7 @@ pub record IsLegalSheet (sheet : List ℕ) (files : Contents) (input : Input) : 
 abbrev pub IsRate : ℕ → ClassFields → Type 0
 IsRate rate class = (slot : SlotFields) × Contains all_slots slot × (rate_of class slot ≡ rate)
 
--- Some list of slots of this bit rate, padded or not, has room for the main data of all frames, behind a lead-in of such a slot or without one
+-- Some list of slots of this bit rate, padded or not, has room for the main data of all frames, after a lead-in of such a slot or without one
 -- (main_data_begin, 2.4.2.7).
 abbrev pub HasRoom : ℕ → SurveyFields → Type 0
 HasRoom rate s = (lead_in : Bool) × CanBeLaidFrom (window_of s.class.version) lead_in (menu_in (Only rate) s.class) (map need_of s.frames)

@@ -14,7 +14,7 @@ use Rattle.listing.specs.declared.things.Thing.TheVariants.{Block, Junk}
 use Rattle.listing.specs.declared.things.Things.{Things}
 use Rattle.listing.specs.Things.{offset_of, head_of, frames_from, stream_things, things_of, put_in, in_order, before, merged, stream_left, left, first_of}
 
--- each stands at or behind the one before it, and the first at or behind a place
+-- each is at or after the one before it, and the first at or after a place
 abbrev pub Rises : ℕ → List Thing → Type 0
 Rises from [] = Unit {0}
 Rises from (t ∷ ts) = (from ≤ offset_of t) × Rises (offset_of t) ts
@@ -30,13 +30,13 @@ unfolding merged
 merged_nil [] = refl
 merged_nil (t ∷ ts) = ap (λ us. t ∷ us) (merged_nil ts)
 
--- what stands before all of a list is met first
+-- what is before all of a list is met first
 merged_first : (ts : List Thing) (u : Thing) (us : List Thing) (from : ℕ) → Rises from ts → offset_of u < from → merged ts (u ∷ us) ≡ u ∷ merged ts us
 unfolding merged
 merged_first [] u us from rises lt = refl
 merged_first (t ∷ ts) u us from rises lt = rw (lt-ltb (offset_of u) (offset_of t) (omega (arith, rises.0, lt))) refl
 
--- and what stands at or behind a place is put behind the thing there
+-- and what is at or after a place is put after the thing there
 put_before : (t : Thing) (ts us : List Thing) → Rises (offset_of t) ts → Rises (offset_of t) us → put_in t (merged ts us) ≡ t ∷ merged ts us
 unfolding merged
 put_before t [] us rises behind = put_first t us behind
@@ -106,7 +106,7 @@ things_in_order s laid = in_order_both (map Block s.blocks) (stream_things s) 0 
 
 -- ---- the walk
 
--- what stands before a thing is met before it
+-- what is before a thing is met before it
 pub before_stream : (t : Thing) (behind : List Thing → List Thing) (us : List Thing) (offset : ℕ) → option_map offset_of (first_of us) ≡ Some offset → offset < offset_of t
     → (first_of (before t behind us) ≡ first_of us) × (drop 1 (before t behind us) ≡ before t behind (drop 1 us))
 before_stream t behind [] offset is lt = absurd cc

@@ -1,4 +1,4 @@
--- What stands in a file, in order of the offsets.
+-- What is in a file, in order of the offsets.
 use Rattle.std.specs.Prelude.{ℕ, ◌-◌, nat_lt, if◌then◌else◌, List, [], ◌∷◌, ◌++◌, map, drop, Option, Some, None, option_to_list}
 use Rattle.std.specs.List.{enumerate_from}
 use Rattle.sync_survey.specs.declared.places.Head.{Head}
@@ -37,7 +37,7 @@ things_of s = map Block s.blocks ++ stream_things s
 
 -- ---- in order of their offsets
 
--- a thing before the first of these that doesn't stand before it
+-- a thing before the first of these that isn't before it
 abbrev pub put_in : Thing → List Thing → List Thing
 put_in t [] = t ∷ []
 put_in t (u ∷ us) = if nat_lt (offset_of u) (offset_of t) then u ∷ put_in t us else t ∷ u ∷ us
@@ -48,7 +48,7 @@ in_order (t ∷ ts) = put_in t (in_order ts)
 
 -- ---- what a walk over them has left
 
--- the thing, or before it those of the others that stand before it
+-- the thing, or before it those of the others that are before it
 abbrev pub before : Thing → (List Thing → List Thing) → List Thing → List Thing
 before t behind [] = t ∷ behind []
 before t behind (u ∷ us) = if nat_lt (offset_of u) (offset_of t) then u ∷ before t behind us else t ∷ behind (u ∷ us)

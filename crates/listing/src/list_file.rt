@@ -40,7 +40,7 @@ fn send_listing<T: Sink>(survey: &Survey, mut buffer: SendBuffer, out: &mut T) -
     buffer.finish(out)
 }
 
-/// Sends what stands in the file to `out`: a line for each thing in order of the offsets, and a summary. Nothing
+/// Sends what is in the file to `out`: a line for each thing in order of the offsets, and a summary. Nothing
 /// is written to the folder.
 ///
 /// | thing | line |
@@ -48,7 +48,7 @@ fn send_listing<T: Sink>(survey: &Survey, mut buffer: SendBuffer, out: &mut T) -
 /// | tag | `block KIND at O: L bytes`, KIND is `ID3v2`, `ID3v1` or `APEv2` |
 /// | junk before the first frame | `junk at O: L bytes` |
 /// | Xing or Info head | `head at O: L bytes` |
-/// | frame | `frame I at O: R kbit/s, begin B, bits P`, with ` padded` behind `kbit/s` where padding is set, and with `, lost` at its end where it is lost |
+/// | frame | `frame I at O: R kbit/s, begin B, bits P`, with ` padded` after `kbit/s` where padding is set, and with `, lost` at its end where it is lost |
 /// | summary | `N frames, V, F Hz, C channels, M.SS.HH` |
 ///
 /// O is an offset and L a length in bytes, I the number of the frame, counted from 0 without the head, R its bit

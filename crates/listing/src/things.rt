@@ -1,4 +1,4 @@
-//! What stands in a file, in order of the offsets.
+//! What is in a file, in order of the offsets.
 ghost use Rattle.std.specs.Prelude.{◌≡◌, drop, map, option_map, option_to_list};
 ghost use Rattle.sync_survey.specs.Faults.{tells};
 ghost use Rattle.sync_survey.specs.Survey.{IsLaidOut};
@@ -76,7 +76,7 @@ impl<'a> Things<'a> {
         }
     }
 
-    /// The first thing that is left; the walk goes behind it.
+    /// The first thing that is left; the walk goes after it.
     pub(crate) fn next(&mut self) -> Option<Thing>
         ensures first { result ≡ first_of (left self.old) }
         ensures rest { left self.new ≡ drop 1 (left self.old) }

@@ -26,7 +26,7 @@ before row rows at low = ap (λ (b : Bool). cond b (suc (number_at rows at)) (nu
 behind : (row : Row) (rows : List Row) (at : ℕ) → at ≤ row.offset → number_at (row ∷ rows) at ≡ number_at rows at
 behind row rows at high = ap (λ (b : Bool). cond b (suc (number_at rows at)) (number_at rows at)) (le-ltb row.offset at high)
 
--- no frame stands before an offset that isn't behind the first
+-- no frame is before an offset that isn't after the first
 none_before : (at from : ℕ) (rows : List Row) → at ≤ from → AreRising from rows → number_at rows at ≡ 0
 none_before at from [] low rise = refl
 none_before at from (row ∷ rows) low rise =

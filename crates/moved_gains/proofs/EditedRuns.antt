@@ -34,7 +34,7 @@ use Rattle.moved_gains.proofs.EditedItems.{frame_whole, moved-cons, moved_are, A
 abbrev pub gap_of : Start → ℕ
 gap_of start = start.first.offset - start.front_end
 
--- the first frame stands where the junk began
+-- the first frame is where the junk began
 abbrev pub moved_start : Start → Start
 moved_start start = record { front_end = start.front_end; first = record { offset = start.front_end; header = start.first.header } }
 
@@ -231,7 +231,7 @@ module _ (steps : ℕ → Steps) (file : List ℕ) (allowed : ℕ) (start : Star
   moved_by None is = (record { whole = first_frame; rest = after; stands = ap (λ n. drop n new_file) place ∙ is }, later_moved)
   moved_by (Some found) is = later_moved
 
-  -- the frames of the file stand in the edited one, with moved gains where they aren't lost
+  -- the frames of the file are in the edited one, with moved gains where they aren't lost
   pub frames-moved : AreMovedAt steps lost file new_file gap (frames_from file start)
   frames-moved = subst (λ (r : Run). AreMovedAt steps lost file new_file gap (numbered head (frames_of r.items))) (sym stream_is) (moved_by head new-stands)
 

@@ -1,4 +1,4 @@
--- Frames that stand in another file with moved gains, moved again: what is written of them there is what is written here with all steps together.
+-- Frames that are in another file with moved gains, moved again: what is written of them there is what is written here with all steps together.
 use Rattle.std.proofs.Common.{◌≡◌, ℕ, ◌+◌, ◌-◌, ◌<◌, ◌≤◌, Bool, true, false, cond, List, [], ◌∷◌, ◌++◌, length, take, drop, map, ◌+ℤ◌, refl, sym, ◌∙◌, ap, ap₂, subst, arith, length-drop}
 use Rattle.std.proofs.lemmas.List.{drop-drop, take_all, take_at, drop_at}
 use Rattle.frame_header.specs.Fields.{HeaderFields}
@@ -73,7 +73,7 @@ bytes_again steps one two all file row is sum to here = ap (λ (x : Steps). move
 abbrev pub AreMovedBy : (ℕ → ℕ) → ℕ → ℕ → ℕ → Type 0
 AreMovedBy to at end there = (x : ℕ) → at ≤ x → x < end → to x ≡ x - at + there
 
--- the frames stand there in their order
+-- the frames are there in their order
 pub ends_again : (steps : ℕ → Steps) (to : ℕ → ℕ) (at end there : ℕ) (rows : List Row) → EndBy at rows end → AreMovedBy to at end there → EndBy there (map (stood to steps) rows) (end - at + there)
 ends_again steps to at end there [] ends place = omega arith
 ends_again steps to at end there (row ∷ rows) ends place =

@@ -223,7 +223,7 @@ then-with one two all strict_one strict_two strict_all left right m p a b g h k 
     (record { first = on_left g f.first w.first; second = on_right h f.second w.second; third = on_left k f.third w.third; fourth = on_right l f.fourth w.fourth })
     strict_two
 
--- where no gain leaves the range by one change nor by both together, none leaves it by the other change behind the one; with wrap none does ever
+-- where no gain leaves the range by one change nor by both together, none leaves it by the other change after the one; with wrap none does ever
 pub side_then : (one two all : Steps) (s : Side) → IsShaped s → two.wrap ≡ one.wrap || all.wrap → all.left ≡ one.left +ℤ two.left → all.right ≡ one.right +ℤ two.right
     → stuck_in one s ≡ None → stuck_in all s ≡ None → stuck_in two (moved_side one s) ≡ None
 side_then one two all s shaped wraps left right first whole = by_wrap one.wrap all.wrap refl refl

@@ -51,7 +51,7 @@ right_by true said right e is = eqb-true said right (not_cases (said == right) e
     not_cases false h = absurd cc
 right_by false said right e is = absurd cc
 
--- the side information and the check word of a whole frame stand in its own bytes
+-- the side information and the check word of a whole frame are in its own bytes
 pub own-side : (file : List ℕ) (p : PlacedFrame) → IsWhole p.header (frame_bytes file p) → side_in p.header (frame_bytes file p) ≡ side_in p.header (drop p.offset file)
 own-side file p whole =
     let room = whole_room p.header (frame_bytes file p) whole in
@@ -75,7 +75,7 @@ pub words_right : (file : List ℕ) (ps : List PlacedFrame) → ((i : ℕ) (r : 
 words_right file [] each = tt
 words_right file (p ∷ ps) each = (each 0 (row_of file p) refl, words_right file ps (λ i r is. each (suc i) r is))
 
--- ---- a frame that stands in another file, with moved gains where it isn't lost
+-- ---- a frame that is in another file, with moved gains where it isn't lost
 
 -- such a frame, not marked
 abbrev pub moved_plain : (ℕ → Steps) → (ℕ → Bool) → ℕ → Row → Row
@@ -255,7 +255,7 @@ sound-moved steps lost said new_said gap class allowed place_now ended count new
       few = sound.few;
     }
 
--- what stands at i among moved rows is the row there, moved
+-- what is at i among moved rows is the row there, moved
 moved_get : (steps : ℕ → Steps) (lost : ℕ → Bool) (gap : ℕ) (rows : List Row) (i : ℕ) (r : Row) → slice_get (map (moved_plain steps lost gap) rows) i ≡ Some r → (q : Row) × (slice_get rows i ≡ Some q) × (moved_plain steps lost gap q ≡ r)
 moved_get steps lost gap [] i r is = absurd cc
 moved_get steps lost gap (q ∷ rows) zero r is = (q, refl, cc)

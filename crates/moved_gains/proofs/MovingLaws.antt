@@ -37,7 +37,7 @@ use Rattle.moved_gains.specs.Moving.{row_end, AreRowsOf, moved_row_bytes}
 use Rattle.moved_gains.proofs.EditedItems.{moved-nil, moved-cons}
 use Rattle.moved_gains.proofs.LostOffsets.{rows_by, marked-by, walk_rising}
 
--- the bytes of the file from an offset on, with the gains of these frames moved, which stand behind it in their order
+-- the bytes of the file from an offset on, with the gains of these frames moved, which are after it in their order
 unfoldable pub moved_from : (ℕ → Steps) → List ℕ → ℕ → List Row → List ℕ
 moved_from steps file at [] = drop at file
 moved_from steps file at (row ∷ rows) = bytes_between file at row.offset ++ (moved_row_bytes (steps row.offset) file row ++ moved_from steps file (row_end row) rows)
@@ -51,7 +51,7 @@ pub moved_from-cons : (steps : ℕ → Steps) (file : List ℕ) (at : ℕ) (row 
 unfolding moved_from
 moved_from-cons steps file at row rows = refl
 
--- the first of these frames stands at this offset or behind it
+-- the first of these frames is at this offset or after it
 abbrev pub IsBehind : ℕ → List Row → Type 0
 IsBehind at [] = Unit {0}
 IsBehind at (row ∷ rows) = at ≤ row.offset
@@ -84,7 +84,7 @@ behind_item lost file at (Block b) frames behind = behind_earlier at (at + b.len
 behind_item lost file at Zero frames behind = behind_earlier at (at + 1) (rows_by lost file frames) (omega arith) behind
 behind_item lost file at _ frames behind = behind_earlier at (at + 0) (rows_by lost file frames) (omega arith) behind
 
--- the frames of items that stand end to end
+-- the frames of items that follow end to end
 frames_behind : (lost : ℕ → Bool) (file : List ℕ) (part : Part) (ps : List Placed) (from to : ℕ) → AreEndToEnd part file from ps to → IsBehind from (rows_by lost file (frames_of ps))
 frames_behind lost file part [] from to e = tt
 frames_behind lost file part (p ∷ ps) from to e =
@@ -121,7 +121,7 @@ item_step steps lost part file frames at Zero here behind = kept steps lost file
 item_step steps lost part file frames at End here behind = kept steps lost file frames at End behind
 item_step steps lost part file frames at Nothing here behind = kept steps lost file frames at Nothing behind
 
--- items that stand end to end are written as the moved items
+-- items that follow end to end are written as the moved items
 pub moved_from-items : (steps : ℕ → Steps) (lost : ℕ → Bool) (part : Part) (file : List ℕ) (ps : List Placed) (from to : ℕ) → AreEndToEnd part file from ps to
     → moved_from steps file from (rows_by lost file (frames_of ps)) ≡ moved_items steps lost file ps ++ drop to file
 moved_from-items steps lost part file [] from to e =
@@ -143,7 +143,7 @@ whole steps lost file ps from to e nothing =
     ∙ ap (λ (l : List ℕ). moved_items steps lost file ps ++ l) nothing
     ∙ append-nil (moved_items steps lost file ps)
 
--- behind the head, where the first frame is one
+-- after the head, where the first frame is one
 behind_head : (steps : ℕ → Steps) (lost : ℕ → Bool) (file : List ℕ) (head : Option Head) (ps : List Placed) (from to : ℕ) (h : HeaderFields) → AreEndToEnd Stream file from ps to → drop to file ≡ [] → item_at file from ≡ Frame h
     → moved_from steps file from (rows_by lost file (numbered head (frames_of ps))) ≡ moved_stream steps lost file head ps
 behind_head steps lost file None ps from to h e nothing first = whole steps lost file ps from to e nothing
@@ -191,9 +191,9 @@ written-edited steps file allowed s e =
     ∙ ap (λ n. moved_stream steps lost file s.head (run Stream file n).items) (sym walk.first_is) in
     ap₂ (λ (l m : List ℕ). l ++ m) (ap (λ n. take n file) junk ∙ sym (front_bytes file)) moved
 
--- ---- frames one behind the other
+-- ---- frames one after the other
 
--- they end where they may
+-- they end where they may be
 pub laid_end : (from : ℕ) (rows : List Row) (to : ℕ) → AreLaid from rows to → from ≤ to
 laid_end from [] to laid = laid
 laid_end from (row ∷ rows) to laid = omega (arith, laid.0, laid_end (row_end row) rows to laid.2)

@@ -1,4 +1,4 @@
--- Where the tag of a file stands among its frames: in front of all of them, or behind some and in front of the others.
+-- Where the tag of a file is among its frames: in front of all of them, or after some and in front of the others.
 use Rattle.std.proofs.Common.{◌≡◌, ℕ, suc, ◌+◌, ◌<◌, ◌≤◌, true, false, List, [], ◌∷◌, ◌++◌, length, take, drop, map, Bool, cond, Option, Some, None, Ok, refl, sym, ◌∙◌, ap, ap₂, subst, arith, inl, inr, length-drop, append-nil}
 use Rattle.std.specs.Prelude.{◌⊎◌}
 use Rattle.std.specs.List.{find, cons_option, enumerate_from}
@@ -65,7 +65,7 @@ module _ (lost : ℕ → Bool) (file : List ℕ) where
   end_more part at Zero frames to some ends = end_earlier at (at + 1) (by frames) to (omega arith) ends
   end_more part at _ frames to some ends = end_earlier at (at + 0) (by frames) to (omega arith) ends
 
-  -- the frames of items that stand end to end
+  -- the frames of items that follow end to end
   pub items_end : (part : Part) (from : ℕ) (ps : List Placed) (to : ℕ) → AreEndToEnd part file from ps to → EndBy from (by (frames_of ps)) to
   items_end part from [] to ends = omega (arith, ends)
   items_end part from (p ∷ ps) to ends =
@@ -99,7 +99,7 @@ module _ (lost : ℕ → Bool) (file : List ℕ) where
     items_sized part from [] to ends = tt
     items_sized part from (p ∷ ps) to ends = sized_more part p.offset p.item (frames_of ps) (item_of-is part file p.offset p.item ends.1) (items_sized part (p.offset + size_of p.item) ps to ends.2)
 
-  -- ---- the frames in front of a block, and those behind it
+  -- ---- the frames in front of a block, and those after it
 
   pub record IsCut (from : ℕ) (frames : List PlacedFrame) (b : Piece) (to : ℕ) : Type 0 where
     pub before : List PlacedFrame
@@ -172,7 +172,7 @@ module _ (lost : ℕ → Bool) (file : List ℕ) where
 
 -- ---- the end of the last frame
 
--- all frames stand in front of it
+-- all frames are in front of it
 pub last_ends : (from : ℕ) (row : Row) (rows : List Row) (to : ℕ) → EndBy from (row ∷ rows) to → EndBy from (row ∷ rows) (last_end (row ∷ rows)) × (last_end (row ∷ rows) ≤ to)
 last_ends from row [] to ends = ((ends.0, ends.1, omega arith), ends.2)
 last_ends from row (q ∷ rows) to ends =
@@ -181,7 +181,7 @@ last_ends from row (q ∷ rows) to ends =
 
 -- ---- where the tag stands
 
--- the tag stands behind some frames, and in front of the others; or there is none, and all frames stand in front of its place
+-- the tag is after some frames, and in front of the others; or there is none, and all frames are in front of its place
 pub record IsAmong (s : SurveyFields) : Type 0 where
   pub before : List Row
   pub behind : List Row
@@ -192,7 +192,7 @@ pub record IsAmong (s : SurveyFields) : Type 0 where
   pub rest : EndBy (tag_at s + tag_length s) behind s.length
   pub up : tag_at s + tag_length s ≤ s.length
 
--- it stands in front of the junk
+-- it is in front of the junk
 pub record IsInFront (s : SurveyFields) : Type 0 where
   pub some : 0 < tag_length s
   pub before : tag_at s + tag_length s ≤ s.junk
@@ -260,7 +260,7 @@ module _ (steps : ℕ → Steps) (file : List ℕ) (allowed : ℕ) (start : Star
   stop_within : later.stop ≤ length file
   stop_within = ends-within Stream file (first + size) later.items later.stop later_ends first_whole.within
 
-  -- the frames of the survey, by the items behind the first
+  -- the frames of the survey, by the items after the first
   rows_told : s.frames ≡ rows_by lost file (numbered head (start.first ∷ frames_of later.items))
   rows_told =
       marked-by file head first (frames_from file start) (walk_rising file start head)

@@ -25,7 +25,7 @@ pub left_at : (steps : ℕ → Steps) (tag : Option NewTag) (file : List ℕ) (a
     → written_from steps tag file at (drop i rows) ≡ copied tag file at row.offset ++ (moved_row_bytes (steps row.offset) file row ++ written_from steps tag file (row_end row) (drop (i + 1) rows))
 left_at steps tag file at rows i row is = ap (written_from steps tag file at) is ∙ written-cons steps tag file at row (drop (i + 1) rows)
 
--- behind the last frame that is the rest of the file
+-- after the last frame that is the rest of the file
 pub left_behind : (steps : ℕ → Steps) (tag : Option NewTag) (file : List ℕ) (at size : ℕ) (rows : List Row) → rows ≡ [] → length file ≡ size → written_from steps tag file at rows ≡ copied tag file at size
 left_behind steps tag file at size rows none is = ap (written_from steps tag file at) none ∙ written-nil steps tag file at ∙ ap (copied tag file at) is
 
@@ -41,9 +41,9 @@ written-none steps file at (row ∷ rows) =
     ∙ ap (λ (l : List ℕ). bytes_between file at row.offset ++ (moved_row_bytes (steps row.offset) file row ++ l)) (written-none steps file (row_end row) rows)
     ∙ sym (moved_from-cons steps file at row rows)
 
--- ---- frames in front of the tag, and frames behind it
+-- ---- frames in front of the tag, and frames after it
 
--- these frames, none of which is empty, stand in their order between two offsets
+-- these frames, none of which is empty, are in their order between two offsets
 abbrev pub EndBy : ℕ → List Row → ℕ → Type 0
 EndBy from [] to = from ≤ to
 EndBy from (row ∷ rows) to = (from ≤ row.offset) × (row.offset < row_end row) × EndBy (row_end row) rows to
@@ -84,7 +84,7 @@ moved_to-long steps file at to (row ∷ rows) sized ends within =
 pub append_three : (a b c d : List ℕ) → (a ++ (b ++ c)) ++ d ≡ a ++ (b ++ (c ++ d))
 append_three a b c d = append_assoc a (b ++ c) d ∙ ap (λ (l : List ℕ). a ++ l) (append_assoc b c d)
 
--- the moved bytes up to an offset that isn't behind the next frame, and those from it on
+-- the moved bytes up to an offset that isn't after the next frame, and those from it on
 pub moved_split : (steps : ℕ → Steps) (file : List ℕ) (at to : ℕ) (before behind : List Row) → EndBy at before to → IsBehind to behind
     → moved_from steps file at (before ++ behind) ≡ moved_to steps file at to before ++ moved_from steps file to behind
 moved_split steps file at to [] behind ends next =
@@ -122,7 +122,7 @@ module _ (steps : ℕ → Steps) (file : List ℕ) (tag : NewTag) where
       let c : leb tag.end to ≡ true = le-leb tag.end to high in
       rw (a, b, c) refl
 
-  -- all frames stand behind the tag
+  -- all frames are after the tag
   pub written-behind : (at : ℕ) (rows : List Row) (to : ℕ) → tag.at < at → EndBy at rows to → written_from steps (Some tag) file at rows ≡ moved_from steps file at rows
   written-behind at [] to past ends = written-nil steps (Some tag) file at ∙ behind_tag at (length file) past ∙ rest-is file at ∙ sym (moved_from-nil steps file at)
   written-behind at (row ∷ rows) to past ends =
@@ -130,7 +130,7 @@ module _ (steps : ℕ → Steps) (file : List ℕ) (tag : NewTag) where
       ∙ ap₂ (λ (a b : List ℕ). a ++ (moved_row_bytes (steps row.offset) file row ++ b)) (behind_tag at row.offset past) (written-behind (row_end row) rows to (omega (arith, past, ends.0, ends.1)) ends.2)
       ∙ sym (moved_from-cons steps file at row rows)
 
-  -- the tag stands in front of these frames, or at the end
+  -- the tag is in front of these frames, or at the end
   written-next : (at : ℕ) (behind : List Row) (to : ℕ) → at ≤ tag.at → tag.at ≤ tag.end → tag.end ≤ length file → EndBy tag.end behind to
       → written_from steps (Some tag) file at behind ≡ bytes_between file at tag.at ++ (new ++ moved_from steps file tag.end behind)
   written-next at [] to low up within ends =
@@ -144,7 +144,7 @@ module _ (steps : ℕ → Steps) (file : List ℕ) (tag : NewTag) where
       ∙ append_three (bytes_between file at tag.at) new (bytes_between file tag.end row.offset) rest
       ∙ ap (λ (l : List ℕ). bytes_between file at tag.at ++ (new ++ l)) (sym (moved_from-cons steps file tag.end row behind))
 
-  -- it stands behind some frames, and in front of the others
+  -- it is after some frames, and in front of the others
   pub written-split : (at : ℕ) (before behind : List Row) (to : ℕ) → EndBy at before tag.at → tag.at ≤ tag.end → tag.end ≤ length file → EndBy tag.end behind to
       → written_from steps (Some tag) file at (before ++ behind) ≡ moved_to steps file at tag.at before ++ (new ++ moved_from steps file tag.end behind)
   written-split at [] behind to ends up within next = written-next at behind to ends up within next

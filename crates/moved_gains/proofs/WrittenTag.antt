@@ -86,7 +86,7 @@ module _ (steps : ℕ → Steps) (s : SurveyFields) where
           ∙ ap (λ c. (cond c b (record b { offset = b.offset - gap })).offset) low
           ∙ sym place
 
-  -- one behind the first frame's offset stands nearer to the front by the junk
+  -- one after the first frame's offset is nearer to the front by the junk
   pub at_behind : (to : ℕ) → s.first ≤ tag_at s → EndBy s.first s.frames to → 0 < length s.frames → tag_at m ≡ tag_at s - gap
   at_behind to low ends some = at (tag_block s) refl
     where

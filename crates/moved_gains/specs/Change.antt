@@ -8,7 +8,7 @@ use Rattle.moved_gains.specs.Course.{steps_over}
 use Rattle.moved_gains.specs.Edited.{edited}
 use Rattle.moved_gains.specs.Streams.{moved_survey}
 
--- by how many steps the gains of the frame at an offset move, and the bytes that stand in place of the tag, where it changes: none, where it is taken out
+-- by how many steps the gains of the frame at an offset move, and the bytes that are in place of the tag, where it changes: none, where it is taken out
 pub record Change : Type 0 where
   pub steps : ℕ → Steps
   pub tag : Option (List ℕ)

@@ -19,7 +19,7 @@ abbrev pub steps_in : Course → ℕ → Steps
 steps_in (Even steps) frame = steps
 steps_in (Along curve back) frame = alike (steps_back back (steps_at curve frame))
 
--- as many of these frames stand before an offset: the number of the one that stands there
+-- as many of these frames are before an offset: the number of the one that is there
 abbrev pub number_at : List Row → ℕ → ℕ
 number_at [] at = 0
 number_at (row ∷ rows) at = if nat_lt row.offset at then suc (number_at rows at) else number_at rows at
@@ -28,6 +28,6 @@ number_at (row ∷ rows) at = if nat_lt row.offset at then suc (number_at rows a
 abbrev pub AreNumbered : List Row → Type 0
 AreNumbered rows = (i : ℕ) (row : Row) → slice_get rows i ≡ Some row → number_at rows row.offset ≡ i
 
--- the steps of the frame that stands at an offset of a file with these frames
+-- the steps of the frame that is at an offset of a file with these frames
 abbrev pub steps_over : Course → List Row → ℕ → Steps
 steps_over course rows at = steps_in course (number_at rows at)

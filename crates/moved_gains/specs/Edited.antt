@@ -32,7 +32,7 @@ moved_item steps lost Zero bytes = bytes
 moved_item steps lost End bytes = bytes
 moved_item steps lost Nothing bytes = bytes
 
--- the same of items of a file, one behind the other, where a frame at an offset moves by the steps there, and the frames at these offsets are lost
+-- the same of items of a file, one after the other, where a frame at an offset moves by the steps there, and the frames at these offsets are lost
 unfoldable pub moved_items : (ℕ → Steps) → (ℕ → Bool) → List ℕ → List Placed → List ℕ
 moved_items steps lost file ps = flat_map (λ (p : Placed). moved_item (steps p.offset) (lost p.offset) p.item (bytes_in file p)) ps
 
@@ -41,7 +41,7 @@ abbrev pub moved_stream : (ℕ → Steps) → (ℕ → Bool) → List ℕ → Op
 moved_stream steps lost file None ps = moved_items steps lost file ps
 moved_stream steps lost file (Some head) ps = bytes_of_items file (take 1 ps) ++ moved_items steps lost file (drop 1 ps)
 
--- a lost frame of these stands at the offset
+-- a lost frame of these is at the offset
 abbrev pub is_lost_at : List Row → ℕ → Bool
 is_lost_at [] at = false
 is_lost_at (row ∷ rows) at = (row.lost && row.offset == at) || is_lost_at rows at

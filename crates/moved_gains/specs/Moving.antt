@@ -22,7 +22,7 @@ row_end row = row.offset + row_length row
 abbrev pub row_overhead : Row → ℕ
 row_overhead row = overhead_of (class_of row.header) row.header.protected
 
--- the side information of the row is what stands in the file
+-- the side information of the row is what is in the file
 abbrev pub IsRowOf : List ℕ → Row → Type 0
 IsRowOf file row = side_in row.header (drop row.offset file) ≡ row.side
 
@@ -45,20 +45,20 @@ moved_row_bytes steps file row = moved_bytes steps row (row_bytes file row)
 abbrev pub bytes_around : NewTag → ℕ → ℕ → List ℕ → List ℕ
 bytes_around tag from to file = bytes_between file from tag.at ++ (tag.bytes.now ++ bytes_between file tag.end to)
 
--- the bytes from one offset to another, with the new tag where what it replaces stands among them
+-- the bytes from one offset to another, with the new tag where what it replaces is among them
 abbrev pub copied : Option NewTag → List ℕ → ℕ → ℕ → List ℕ
 copied None file from to = bytes_between file from to
 copied (Some tag) file from to =
     if nat_le from tag.at && (nat_le tag.at tag.end && nat_le tag.end to) then bytes_around tag from to file else bytes_between file from to
 
--- The bytes of the file from an offset on, with the gains of these frames moved, each by the steps at its offset, which stand behind it in their order, and with the new tag,
--- where what it replaces stands between them.
+-- The bytes of the file from an offset on, with the gains of these frames moved, each by the steps at its offset, which are after it in their order, and with the new tag,
+-- where what it replaces is between them.
 unfoldable pub written_from : (ℕ → Steps) → Option NewTag → List ℕ → ℕ → List Row → List ℕ
 written_from steps tag file at [] = copied tag file at (length file)
 written_from steps tag file at (row ∷ rows) =
     copied tag file at row.offset ++ (moved_row_bytes (steps row.offset) file row ++ written_from steps tag file (row_end row) rows)
 
--- the new tag of a change stands in place of the file's
+-- the new tag of a change is in place of the file's
 abbrev pub IsTagOf : SurveyFields → Option (List ℕ) → Option NewTag → Type 0
 IsTagOf s None None = Unit {0}
 IsTagOf s (Some bytes) (Some tag) = (tag.at ≡ tag_at s) × (tag.end ≡ tag_at s + tag_length s) × (tag.bytes.now ≡ bytes)

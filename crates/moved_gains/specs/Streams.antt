@@ -24,7 +24,7 @@ moved_row steps gap row = record row { offset = row.offset - gap; side = moved_u
 abbrev pub moved_head : ℕ → Head → Head
 moved_head gap head = record head { offset = head.offset - gap }
 
--- a block before the first frame stays where it is, and one behind it stands so many bytes nearer to the front
+-- a block before the first frame stays where it is, and one after it stands so many bytes nearer to the front
 abbrev pub moved_block : ℕ → ℕ → Piece → Piece
 moved_block first gap piece = if nat_lt piece.offset first then piece else record piece { offset = piece.offset - gap }
 
@@ -41,7 +41,7 @@ moved_survey steps s = record {
   length = s.length - junk_length s;
 }
 
--- the bytes of the file but for the junk before its first frame
+-- the bytes of the file except the junk before its first frame
 abbrev pub without_junk : SurveyFields → List ℕ → List ℕ
 without_junk s file = take s.junk file ++ drop s.first file
 
@@ -57,7 +57,7 @@ moved_stream_of steps file s =
     map (λ (p : ℕ × Row). moved_stream_frame (steps p.1.offset) (stream_frame (main_bytes file s.head s.frames) s.head s.frames p.0 p.1)) (enumerate_from 0 s.frames)
 
 -- Both files are well-formed, and the stream of the new one is that of the file with the gains of each frame moved: as many frames in
--- the same order, with the same headers, the same main data, and the same side information but for the gains.
+-- the same order, with the same headers, the same main data, and the same side information except the gains.
 pub record IsStreamMoved (steps : ℕ → Steps) (file new : List ℕ) : Type 0 where
   pub before : IsWellFormed file
   pub after : IsWellFormed new

@@ -1,5 +1,5 @@
 //! The second pass over an input: it is read from front to back, and written with the gains of its frames moved,
-//! but for lost ones, and with another tag where that changes.
+//! except lost ones, and with another tag where that changes.
 ghost use Rattle.std.specs.Prelude.{◌≡◌, ◌≢◌, ◌+◌, ◌<◌, ◌≤◌, ◌^◌, ◌++◌, List, ℕ, [], length, take, drop, IfOk, IfErr, OnOk, OnErr, Ok};
 ghost use Rattle.frame_header.specs.Fields.{HeaderFields};
 ghost use Rattle.frame_header.specs.Tables.{class_of, length_of, overhead_of};
@@ -25,7 +25,7 @@ use outside::{Folder, Pass, PassFault, WriteBuffer};
 use side_info::put_gains;
 use sync_survey::{Row, Survey};
 
-/// As many bytes as stand before the main data of a frame, at most: header, check word and side information.
+/// As many bytes as are before the main data of a frame, at most: header, check word and side information.
 const MOST_OVERHEAD: usize = 38;
 
 /// The length of a frame in bytes.
@@ -37,7 +37,7 @@ fn frame_length(header: &Header) -> u32
     header.class().length_of(header.slot)
 }
 
-/// Moves the gains in the bytes of a frame that stand before its main data, and in a protected frame puts
+/// Moves the gains in the bytes of a frame that are before its main data, and in a protected frame puts
 /// the check word that is right for them. A lost frame stays.
 #[inline(always)]
 fn move_front(steps: &Steps, row: &Row, front: &mut [u8])
@@ -76,7 +76,7 @@ struct GainPass<'a> {
 }
 
 impl<'a> GainPass<'a> {
-    /// Copies the bytes from one offset to another, with the new tag where what it replaces stands among them.
+    /// Copies the bytes from one offset to another, with the new tag where what it replaces is among them.
     #[inline]
     fn copy<D: Folder>(
         &self,
@@ -238,7 +238,7 @@ impl<'a> GainPass<'a> {
         Ok(at + u64::from(length))
     }
 
-    /// Copies what stands from an offset on, and moves the gains of these frames.
+    /// Copies what is from an offset on, and moves the gains of these frames.
     #[inline(never)]
     fn move_frames<D: Folder>(
         &self,

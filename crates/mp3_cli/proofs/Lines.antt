@@ -17,7 +17,7 @@ use Rattle.mp3_cli.specs.Texts.{GotWhole, GotFront, GotLine}
 pub piece_more : {X : Type 0} (f : X → List ℕ) (xs : List X) (i : ℕ) (d : X) → i < length xs → flat_map f (take (i + 1) xs) ≡ flat_map f (take i xs) ++ f (get_or xs i d)
 piece_more f xs i d lt = rw (take_more xs i d lt, flat_map-append f (take i xs) (get_or xs i d ∷ [])) (ap (λ (last : List ℕ). flat_map f (take i xs) ++ last) (append-nil (f (get_or xs i d))))
 
--- a front of a piece behind the pieces before it
+-- a front of a piece after the pieces before it
 pub front_more : {X : Type 0} (f : X → List ℕ) (xs : List X) (i : ℕ) (d : X) (k : ℕ) → i < length xs → k ≤ length (f (get_or xs i d))
     → take (length (flat_map f (take i xs)) + k) (flat_map f xs) ≡ flat_map f (take i xs) ++ take k (f (get_or xs i d))
 front_more f xs i d k lt short =

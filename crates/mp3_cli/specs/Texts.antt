@@ -25,7 +25,7 @@ status_by _ = 3
 abbrev pub status_of : EditFault → ℕ
 status_of fault = status_by (why_of fault)
 
--- the parts of the line of a fault of the input, behind its name
+-- the parts of the line of a fault of the input, after its name
 abbrev pub input_parts : SurveyFault → List Part
 input_parts Absent = Text (codes ": absent\n") ∷ []
 input_parts (TooLong size) = Text (codes ": too long, ") ∷ Number size ∷ Text (codes " bytes\n") ∷ []
@@ -49,7 +49,7 @@ input_parts Read = Text (codes ": read fault\n") ∷ []
 -- want of memory is a fault of its own, and none of an input
 input_parts Memory = []
 
--- those of a fault of a cue sheet, behind its name
+-- those of a fault of a cue sheet, after its name
 abbrev pub sheet_parts : CueFault → List Part
 sheet_parts (Line number) = Text (codes ": bad line ") ∷ Number number ∷ Text (codes "\n") ∷ []
 sheet_parts (NotRising number) = Text (codes ": not rising at line ") ∷ Number number ∷ Text (codes "\n") ∷ []
@@ -57,7 +57,7 @@ sheet_parts NoTracks = Text (codes ": no tracks\n") ∷ []
 -- nor of a cue sheet
 sheet_parts NoSheetMemory = []
 
--- those of a fault of the sheet of a fade, behind its name
+-- those of a fault of the sheet of a fade, after its name
 abbrev pub curve_parts : EnvelopeFault → List Part
 curve_parts (BadLine number) = Text (codes ": bad line ") ∷ Number number ∷ Text (codes "\n") ∷ []
 curve_parts NoPoints = Text (codes ": no points\n") ∷ []

@@ -1,4 +1,4 @@
-//! The program but for its `main`: what it does, and the lines that it writes.
+//! The program except its `main`: what it does, and the lines that it writes.
 #![tactic(auto)]
 
 mod job_names;

@@ -42,7 +42,7 @@ pub record HasOpen {R File Dir : Type 0} (position : File → Option ℕ) (bytes
   pub named : found_name folder ≡ Some name
   pub tells : TellsBytes position bytes file xs
 
--- reads give the bytes of a file from where it stands on, as those of a cursor over bytes in memory do
+-- reads give the bytes of a file from where it is on, as those of a cursor over bytes in memory do
 pub record ReadsOn {File : Type 0} (remaining : File → Option (List ℕ)) (position : File → Option ℕ) (bytes : File → Option (List ℕ)) : Type 0 where
   pub gives : (file : File) (at : ℕ) (xs : List ℕ) → position file ≡ Some at → bytes file ≡ Some xs → remaining file ≡ Some (drop at xs)
 

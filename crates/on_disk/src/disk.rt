@@ -69,7 +69,7 @@ fn is_open<F>(opened: &Option<Opened<F>>, name: &str) -> bool
 /// is still to be read. (A runtime that gives all files one device and inode has every `create` fail that
 /// follows a `find`.)
 ///
-/// It keeps two files open, the one last found or read and the one last created, and opens others anew. A
+/// It keeps two files open, the one last found or read and the one last created, and opens others again. A
 /// growth of memory that is refused counts as a fault of the call.
 #[derive(Drop)]
 pub struct DiskFolder<'a, R: Files> {

@@ -31,7 +31,7 @@ pub fn read_part<F: Read + Seek>(file: &mut F, at: u64, into: &mut [u8]) -> io::
     let there = length_of(file)?.saturating_sub(at);
     let count = into.len().min(there as usize);
     file.seek(SeekFrom::Start(at))?;
-    // A read isn't promised to leave the buffer behind the bytes that it counts, so it gets no more.
+    // A read isn't promised to leave the buffer after the bytes that it counts, so it gets no more.
     file.read_exact(&mut into[..count])?;
     Ok(count)
 }

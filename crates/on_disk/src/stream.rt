@@ -9,7 +9,7 @@ use outside::{Failed, Sink};
 use std::io::Write;
 
 /// A sink over a writer of the library, as standard output. Each write is followed by a flush. It tells
-/// nothing of its bytes: what becomes of them behind the writer isn't proved.
+/// nothing of its bytes: what becomes of them after the writer isn't proved.
 #[derive(Drop)]
 pub struct StdSink<W: Write + Drop> {
     writer: W,

@@ -195,7 +195,7 @@ unfolding sent_more
 sent_nothing None = refl
 sent_nothing (Some s) = ap Some (append-nil s)
 
--- bytes that are told, and more behind them
+-- bytes that are told, and more after them
 pub sent_is : (s new bytes : List ℕ) → new ≡ s ++ bytes → Some new ≡ sent_more (Some s) (take (length bytes) bytes)
 unfolding sent_more
 sent_is s new bytes is = ap Some is ∙ ap (λ more. Some (s ++ more)) (sym (take_all (length bytes) bytes (omega arith)))

@@ -1,4 +1,4 @@
--- Steps of a pass, one behind the other.
+-- Steps of a pass, one after the other.
 use Rattle.std.proofs.Common.{◌≡◌, ◌≢◌, ℕ, ◌+◌, ◌-◌, ◌≤◌, List, [], ◌++◌, length, take, drop, refl, sym, ◌∙◌, ap, subst, arith, append_assoc, append-nil, length-append}
 use Rattle.std.specs.Prelude.{Result, Ok, Err, Some, None, IfErr}
 use Rattle.std.proofs.lemmas.List.{take-append-le, length-take, drop-drop}
@@ -102,7 +102,7 @@ module _ (pass : Pass) where
     files = part.files;
   }
 
--- ---- a step behind a step
+-- ---- a step after a step
 
 module _ (pass : Pass) (apart : pass.input.now ≢ pass.output.now) {made : List ℕ → List ℕ} {before mid : List ℕ} {old now : Files} (step : Writes pass made before mid old now) where
   pub writes_holds : (file : List ℕ) → Holds old pass.input.now file → Holds now pass.input.now file
@@ -121,7 +121,7 @@ module _ (pass : Pass) (apart : pass.input.now ≢ pass.output.now) {made : List
     passed = subst (λ (l : List ℕ). PassedOn pass.output.now l after old new) (append_assoc before step.piece more.piece) (passed_more more.piece step.passed more.passed);
   }
 
-  -- a step that ends early behind a step
+  -- a step that ends early after a step
   pub prefix_then : {next : List ℕ → List ℕ} {new : Files} → WritesPrefix pass next mid now new → WritesPrefix pass (λ file. made file ++ next file) before old new
   prefix_then {next} {new} more =
       let first = step.passed in
@@ -227,7 +227,7 @@ writes_behind_none {pass} {made} {before} {after} {old} {new} none step = subst 
 pub part_behind_none : {input output : List ℕ} {made : List ℕ → List ℕ} {before : List ℕ} {old new : Files} → before ≡ [] → AppendsPart input output made before old new → AppendsPrefix input output made old new
 part_behind_none {input} {output} {made} {before} {old} {new} none part = subst (λ (l : List ℕ). AppendsPart input output made l old new) none part
 
--- ---- bytes that were appended, and others behind them
+-- ---- bytes that were appended, and others after them
 
 module _ {input output : List ℕ} (apart : input ≢ output) {made : List ℕ → List ℕ} {old now : Files} (first : Appends input output made old now) where
   held_still : (file : List ℕ) → Holds old input file → Holds now input file
@@ -265,7 +265,7 @@ unfolding appended
 appended_untold None output more is = refl
 appended_untold (Some f) output more is = absurd cc
 
--- a cause behind a step that succeeded
+-- a cause after a step that succeeded
 pub cause_later : (size : ℕ) (old now : Files) (output more : List ℕ) (before mid after : Counts) (fault : PassFault) → now ≡ appended old output more → mid ≡ before
     → HasPassCause size now mid after fault → HasPassCause size old before after fault
 cause_later size old now output more before mid after Read grown same cause = subst (λ counts. HasPassCause size old counts after Read) same cause
@@ -278,7 +278,7 @@ pub causes_later : {T : Type 0} (r : Result T PassFault) (size : ℕ) (old now :
 causes_later (Ok x) size old now output more before mid after grown same cause = tt
 causes_later (Err fault) size old now output more before mid after grown same cause = cause_later size old now output more before mid after fault grown same cause
 
--- behind bytes that went on
+-- after bytes that went on
 module _ {pass : Pass} {made : List ℕ → List ℕ} {before mid : List ℕ} {old now : Files} (step : Writes pass made before mid old now) (size : ℕ) (then between after : Counts) (same : between ≡ then) where
   pub cause_behind : (fault : PassFault) → HasPassCause size now between after fault → HasPassCause size old then after fault
   cause_behind fault cause = cause_later size old now pass.output.now step.passed.passed then between after fault step.passed.files same cause

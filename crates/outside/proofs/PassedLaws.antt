@@ -20,7 +20,7 @@ passed_nothing files name bytes there = record { passed = []; split = refl; file
 pub passed_front : (name bytes : List ℕ) (n : ℕ) (f g : Files) → g ≡ appended f name (take n bytes) → PassedOn name bytes (drop n bytes) f g
 passed_front name bytes n f g is = record { passed = take n bytes; split = sym (take-append-drop n bytes); files = is }
 
--- more waits behind
+-- more waits after
 pub passed_with : {name before after : List ℕ} {f g : Files} (piece : List ℕ) → PassedOn name before after f g → PassedOn name (before ++ piece) (after ++ piece) f g
 passed_with {name} {before} {after} {f} {g} piece p = record {
   passed = p.passed;
@@ -42,7 +42,7 @@ passed_then {name} {before} {mid} {after} {f} {g} {h} p q = record {
       ∙ appended_twice f name p.passed q.passed;
 }
 
--- one piece behind the other
+-- one piece after the other
 pub passed_more : {name before mid after : List ℕ} {f g h : Files} (piece : List ℕ) → PassedOn name before mid f g → PassedOn name (mid ++ piece) after g h → PassedOn name (before ++ piece) after f h
 passed_more piece p q = passed_then (passed_with piece p) q
 

@@ -1,4 +1,4 @@
--- A piece that is written or read in several calls, one behind the other.
+-- A piece that is written or read in several calls, one after the other.
 use Rattle.std.proofs.Common.{◌≡◌, ℕ, ◌+◌, ◌-◌, ◌≤◌, List, ◌++◌, length, take, drop, sym, ◌∙◌, ap, arith, length-append, length-drop}
 use Rattle.std.proofs.lemmas.List.{length-take-le, take-take, drop-take, drop-drop, take-append-drop, take_all, drop_all, append-nil}
 use Rattle.std.proofs.Math.Seq.{take-append-add, drop-append-add}
@@ -32,7 +32,7 @@ sent_then old before now bytes m n first then =
     ∙ sent_twice old (take m bytes) (take n (drop m bytes))
     ∙ ap (sent_more old) (sym (take_then m n bytes))
 
--- a list with its end, from m on, filled anew
+-- a list with its end, from m on, filled again
 module _ (m n : ℕ) (xs ys : List ℕ) (in_range : m ≤ length xs) (as_many : length ys ≡ length xs - m) where
   pub refilled : put_mid m (length xs - m) xs ys ≡ take m xs ++ ys
   refilled =

@@ -11,7 +11,7 @@ use Rattle.outside.proofs.FilesLaws.{sent_nothing, sent_twice}
 pub sent_none : (sent : Sent) (bytes : List ℕ) → SentOn bytes bytes sent sent
 sent_none sent bytes = record { passed = []; split = refl; sent = sym (sent_nothing sent) }
 
--- all was sent, and this waits behind it
+-- all was sent, and this waits after it
 pub sent_all : (sent new : Sent) (waits piece : List ℕ) → new ≡ sent_more sent waits → SentOn (waits ++ piece) piece sent new
 sent_all sent new waits piece is = record { passed = waits; split = refl; sent = is }
 
@@ -19,7 +19,7 @@ sent_all sent new waits piece is = record { passed = waits; split = refl; sent =
 pub sent_out : (sent new : Sent) (bytes : List ℕ) → new ≡ sent_more sent bytes → SentOn bytes [] sent new
 sent_out sent new bytes is = record { passed = bytes; split = sym (append-nil bytes); sent = is }
 
--- more waits behind
+-- more waits after
 pub sent_with : {before after : List ℕ} {s t : Sent} (piece : List ℕ) → SentOn before after s t → SentOn (before ++ piece) (after ++ piece) s t
 sent_with {before} {after} {s} {t} piece p = record {
   passed = p.passed;
@@ -38,7 +38,7 @@ sent_then {before} {mid} {after} {s} {t} {u} p q = record {
   sent = q.sent ∙ ap (λ sent. sent_more sent q.passed) p.sent ∙ sent_twice s p.passed q.passed;
 }
 
--- one piece behind the other
+-- one piece after the other
 pub sent_more_on : {before mid after : List ℕ} {s t u : Sent} (piece : List ℕ) → SentOn before mid s t → SentOn (mid ++ piece) after t u → SentOn (before ++ piece) after s u
 sent_more_on piece p q = sent_then (sent_with piece p) q
 
@@ -74,7 +74,7 @@ sent_prefix_of {bytes} {s} {t} behind p = record {
   sent = p.sent ∙ ap (sent_more s) (sym (take-append-le p.count bytes behind p.within));
 }
 
--- ---- a piece that is sent at once, behind what waited
+-- ---- a piece that is sent at once, after what waited
 
 pub sent_over : {T E : Type 0} (r : Result T E) (waits piece after : List ℕ) (s t u : Sent) → t ≡ sent_more s waits → after ≡ [] → OnOk r (u ≡ sent_more t piece) → OnOk r (SentOn (waits ++ piece) after s u)
 sent_over (Err e) waits piece after s t u first none more = tt

@@ -1,7 +1,7 @@
 -- How often a folder or a sink has failed, and when that may be told.
 use Rattle.std.specs.Prelude.{◌≡◌, ℕ, ◌+◌, ◌-◌, ◌^◌, ◌≤◌, min, Result, OnOk, OnErr}
 
--- a count has grown, or stands at the greatest value of a u64
+-- a count has grown, or is at the greatest value of a u64
 abbrev pub Rose : ℕ → ℕ → Type 0
 Rose before now = min (before + 1) (2 ^ 64 - 1) ≤ now
 
@@ -49,7 +49,7 @@ pub record HasCause {T E : Type 0} (before now : ℕ) (result : Result T E) : Ty
   pub done : OnOk result (now ≡ before)
   pub failed : OnErr result (Rose before now)
 
--- a count one higher, which stands at the greatest value of a u64
+-- a count one higher, which is at the greatest value of a u64
 abbrev pub one_more : ℕ → ℕ
 one_more n = min (n + 1) (2 ^ 64 - 1)
 

@@ -74,7 +74,7 @@ impl Feed {
         &self.room[self.from..self.to]
     }
 
-    /// Gives `n` bytes of the file from the place `at` on, or as many as there are behind it, and answers how
+    /// Gives `n` bytes of the file from the place `at` on, or as many as there are after it, and answers how
     /// many. Reads only where it doesn't hold them, then as much as its buffer takes, and no more once there
     /// are `n`. It takes no memory.
     ///
@@ -119,7 +119,7 @@ impl Feed {
         self.refill(folder, name, at, n)
     }
 
-    // Moves what is held from `at` on to the front of the buffer, and reads on behind it.
+    // Moves what is held from `at` on to the front of the buffer, and reads on after it.
     #[inline(never)]
     fn refill<D: Folder>(
         &mut self,
@@ -159,7 +159,7 @@ impl Feed {
     }
 }
 
-// Moves to the front what is held at the place `at` and behind it without a gap, and says how many bytes
+// Moves to the front what is held at the place `at` and after it without a gap, and says how many bytes
 // these are.
 fn keep_from(room: &mut [u8], place: u64, held: usize, at: u64) -> usize
     requires early { place ≤ 2 ^ 32 }

@@ -62,7 +62,7 @@ impl From<AllocError> for FindFault {
 }
 
 /// A folder of files, each of a name. What it tells of them, contracts see as a map from names to bytes.
-/// A call that succeeds leaves all counts, but for a read of no byte into room, which counts an end.
+/// A call that succeeds leaves all counts, except a read of no byte into room, which counts an end.
 pub trait Folder {
     /// The files, where they are told. Whether they are told never changes.
     ghost files: { Self → Files };

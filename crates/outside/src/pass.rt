@@ -103,7 +103,7 @@ impl<'a> Pass<'a> {
         }
     }
 
-    /// Adds two pieces to what waits for the output, one behind the other.
+    /// Adds two pieces to what waits for the output, one after the other.
     ///
     /// # Errors
     /// `Write` where a write failed.

@@ -45,7 +45,7 @@ impl SendBuffer {
         })
     }
 
-    /// Adds a piece to what waits. Where it has no room behind that, what waits is sent before, and a piece of
+    /// Adds a piece to what waits. Where it has no room after that, what waits is sent before, and a piece of
     /// more than 65,536 bytes too.
     ///
     /// # Errors
@@ -92,7 +92,7 @@ impl SendBuffer {
         self.waiting = end;
     }
 
-    // Sends what waits, and then adds a piece that didn't fit behind it, or sends it too.
+    // Sends what waits, and then adds a piece that didn't fit after it, or sends it too.
     #[inline(never)]
     fn push_over<T: Sink>(&mut self, sink: &mut T, piece: &[u8]) -> Result<(), Failed>
         ensures passed { OnOk result (SentOn (self.old ++ piece.now) self.new (T.sent sink.old)

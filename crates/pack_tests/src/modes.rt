@@ -12,7 +12,7 @@ use test_files::files::Stretch::{Bytes, Fill, Filled};
 use test_files::files::{INFO_FRONT, OF_300, OF_400, Stretch, TWO, bytes_of};
 use test_files::{end_to_end, table};
 
-/// What stands in the output before, and still does where nothing is written.
+/// What is in the output before, and still does where nothing is written.
 const OLD: &[Stretch] = &[Bytes(b"old")];
 
 /// A lead-in and two frames of 313 bytes with areas of 277: without the lead-in the main data have no room. The first main
@@ -39,7 +39,7 @@ const LEAST: &[Stretch] = &end_to_end! {
     Filled(&[0xff, 0xfb, 0x90, 0x00, 0x0e, 0x80, 0x0c, 0x80], 0, 28), Fill(0x22, 371), Fill(0, 10)
 };
 
-/// A mode, its answer, and what stands in the output then.
+/// A mode, its answer, and what is in the output then.
 struct Row {
     mode: PackMode,
     answer: Result<(), EditFault>,

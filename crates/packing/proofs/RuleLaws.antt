@@ -55,7 +55,7 @@ rule_survey Best input old new fault is = survey-early most_best (packing best_p
 abbrev pub IsAllowed : Rule → List ℕ → Files → Type 0
 IsAllowed rule input files = (file : List ℕ) → Holds files input file → (s : SurveyFields) × (survey_of file (allowed_by rule) ≡ Ok s)
 
--- a fault that was met behind the survey
+-- a fault that was met after the survey
 pub rule_early : (rule : Rule) (input : List ℕ) (old new : Seen) (fault : EditFault) → IsAllowed rule input old.files → IsInputFault (packing (plan_by rule)) input old new fault → IsEarlyFault (rule_task rule input) old new fault
 rule_early (Rates rates) input old new fault sound is = input_is_early (packing (rates_plan rates)) (packed_stream (rates_plan rates)) (rates_refuse rates) input old new fault is
 rule_early Best input old new fault sound is =

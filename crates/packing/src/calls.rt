@@ -41,14 +41,14 @@ fn pack_by<D: Folder>(
 }
 
 /// Writes the output, which is all frames of the input, each with the least bit rate and padding that the mode allows and with
-/// which all main data have room (ISO/IEC 11172-3, 2.4.2.7): its ID3v2 blocks that stand in front of the first frame, an
+/// which all main data have room (ISO/IEC 11172-3, 2.4.2.7): its ID3v2 blocks that are in front of the first frame, an
 /// Info frame with the quality and extension of the input's, the frames, and all other blocks. A lead-in, one empty frame,
-/// stands in front where the main data have no room without it. With `PackMode::Best` the frames have the bit rates and
+/// is in front where the main data have no room without it. With `PackMode::Best` the frames have the bit rates and
 /// padding with which they take the fewest bytes in all, and of several such lists those of the first in the order of their areas.
 ///
 /// Refuses, in this order: `EqualNames(0)` where the names are equal, byte for byte; `Input(0, ..)` with the fault of the
 /// survey of the input, of which 2,900,000 frames are allowed, and 200,000 with `PackMode::Best`; `NoRate` with the bit rate of the mode where it isn't one of
-/// the input's class; `Unfit` with the first frame up to which the main data have no room, even behind a lead-in.
+/// the input's class; `Unfit` with the first frame up to which the main data have no room, even after a lead-in.
 /// `PackMode::Least` and `PackMode::Best` are never refused these two, and `PackMode::Floor` is never `Unfit`. Then nothing was created.
 ///
 /// `Input` with `Read` and `Write(0)` come only where a call of that kind failed, `Input` with `Absent` only where the input

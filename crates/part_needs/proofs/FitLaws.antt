@@ -1,6 +1,6 @@
--- Every part of a stream fits. In the file each frame's main data stand apart from those before, within its own area and
--- at most the window back. So before each frame at least those bytes are free that lie behind the main data before it, as far as the
--- window shows them: also where silent and lost frames, which move no end, stand between. Behind a whole window of free bytes no
+-- Every part of a stream fits. In the file each frame's main data are apart from those before, within its own area and
+-- at most the window back. So before each frame at least those bytes are free that lie after the main data before it, as far as the
+-- window shows them: also where silent and lost frames, which move no end, are between. After a whole window of free bytes no
 -- frame has fewer.
 use Rattle.std.proofs.Common.{◌≡◌, ℕ, zero, suc, ◌+◌, ◌-◌, ◌≤◌, ◌||◌, Bool, true, false, cond, List, [], ◌∷◌, take, drop, map, Option, Some, refl, sym, ap, ◌∙◌, subst, arith}
 use Rattle.std.specs.Prelude.{slice_get, slice_range, sum_by}
@@ -28,12 +28,12 @@ use Rattle.part_needs.proofs.BeginLaws.{begin-near}
 
 -- ---- one frame
 
--- the bytes behind the main data before a place, as far as the window shows them
+-- the bytes after the main data before a place, as far as the window shows them
 abbrev shown : ℕ → ℕ → ℕ → ℕ
 shown window place ended = (place - ended) - ((place - ended) - window)
 
--- A frame's main data fit in the free bytes before it and its own area, and the ends behind it lie within the areas. What is free
--- behind it is no less than what the window shows there.
+-- A frame's main data fit in the free bytes before it and its own area, and the ends after it lie within the areas. What is free
+-- after it is no less than what the window shows there.
 abbrev Goes : (window place ended area bytes free : ℕ) → Type 0
 Goes window place ended area bytes free = (bytes ≤ free + area) × (ended ≤ place + area) × (shown window (place + area) ended ≤ free_behind window free bytes area)
 
@@ -89,7 +89,7 @@ known-drop (suc n) [] all = all
 known-drop (suc n) (r ∷ rows) all = known-drop n rows all.1
 
 module _ (head : Option Head) (class : ClassFields) (rows : List Row) (placed : AreWellPlaced head class rows) where
-  -- these rows stand from number n on
+  -- these rows are from number n on
   abbrev StandFrom : ℕ → List Row → Type 0
   StandFrom n xs = (i : ℕ) (r : Row) → slice_get xs i ≡ Some r → slice_get rows (n + i) ≡ Some r
 

@@ -1,4 +1,4 @@
--- Parts one behind the other: each begins where those before it end, and each alone has its layout.
+-- Parts one after the other: each begins where those before it end, and each alone has its layout.
 use Rattle.std.proofs.Common.{◌≡◌, ℕ, suc, ◌+◌, ◌-◌, ◌<◌, ◌≤◌, List, [], ◌∷◌, ◌++◌, length, length-append, append_assoc, append-nil, take, drop, map, All, AllPairs, refl, sym, ap, ap₂, ◌∙◌, subst, arith}
 use Rattle.std.specs.Prelude.{slice_range}
 use Rattle.std.proofs.lemmas.List.{length-map, length-take-le, length-drop}
@@ -24,7 +24,7 @@ use Rattle.part_needs.proofs.FitLaws.{AreKnown, part-fits, part-known}
 
 -- ---- one part
 
--- a part has a frame, is of the class, and has a layout behind a whole window
+-- a part has a frame, is of the class, and has a layout after a whole window
 record Fits (class : ClassFields) (rows : List Row) : Type 0 where
   some : 0 < length rows
   known : AreKnown rows
@@ -225,7 +225,7 @@ places-push at [] rows = ap (λ n. n ∷ []) (omega arith)
 places-push at (first ∷ parts) rows =
     ap (λ l. at ∷ l) (places-push (at + length first) parts rows ∙ ap (λ n. places_from (at + length first) parts ++ n ∷ []) (omega (arith, length-needs first parts)))
 
--- what was asked, with a part more behind it
+-- what was asked, with a part more after it
 pub asked-push : (parts : List (List Row)) (rows : List Row) (needs : List Need) (places : List ℕ) (place : ℕ) (all : List Need) (all_places : List ℕ)
     → record { needs = needs; places = places } ≡ asked_of parts → place ≡ length needs → all ≡ needs ++ map need_of rows → all_places ≡ places ++ place ∷ []
     → record { needs = all; places = all_places } ≡ asked_of (parts ++ rows ∷ [])

@@ -1,4 +1,4 @@
--- Parts of streams, and what a plan of them stands on.
+-- Parts of streams, and what a plan of them is on.
 use Rattle.std.specs.Prelude.{◌≡◌, ℕ, ◌<◌, ◌≤◌, List, [], ◌∷◌, length, slice_index, slice_range, All, AllPairs}
 use Rattle.frame_header.specs.Fields.{SlotFields, ClassFields, HeaderFields}
 use Rattle.frame_header.specs.Tables.{window_of}
@@ -26,7 +26,7 @@ pub record IsPartOf (class : ClassFields) (rows : List Row) : Type 0 where
   pub within : to ≤ length survey.frames
   pub are : rows ≡ slice_range survey.frames from to
 
--- what `plan` stands on, but the numbers of frames and parts
+-- what `plan` is on, but the numbers of frames and parts
 pub record CanBePlanned (asked : Asked) : Type 0 where
   pub class : AreOfOneClass asked.needs
   pub some : 1 ≤ length asked.places

@@ -14,7 +14,7 @@ use Rattle.part_needs.specs.Fit.{IsPlaced, IsPartOf, AreFit}
 abbrev pub needs_between : SurveyFields → ℕ → ℕ → List Need
 needs_between s from to = map need_of (slice_range s.frames from to)
 
--- a part of a stream is of the stream's class, and has a layout in its own slots behind a whole window of free bytes
+-- a part of a stream is of the stream's class, and has a layout in its own slots after a whole window of free bytes
 abbrev pub PartFits : Type 0
 PartFits =
     (s : SurveyFields) (from to : ℕ) → IsPlaced s
@@ -27,6 +27,6 @@ OnePartFits =
     (s : SurveyFields) (from to : ℕ) → IsPlaced s → from < to → to ≤ length s.frames
     → AreFit s.class (asked_of (slice_range s.frames from to ∷ []))
 
--- so can parts of one class, one behind the other
+-- so can parts of one class, one after the other
 abbrev pub PartsFit : Type 0
 PartsFit = (class : ClassFields) (parts : List (List Row)) → 1 ≤ length parts → All (IsPartOf class) parts → AreFit class (asked_of parts)

@@ -1,4 +1,4 @@
--- What frames of surveys need where they are placed anew, part by part.
+-- What frames of surveys need where they are placed again, part by part.
 use Rattle.std.specs.Prelude.{ℕ, ◌+◌, if◌then◌else◌, List, [], ◌∷◌, length, map, flat_map}
 use Rattle.side_info.specs.Side.{payload_bytes}
 use Rattle.sync_survey.specs.declared.rows.Row.{Row}
@@ -8,11 +8,11 @@ use Rattle.slot_plan.specs.declared.needs.Need.{Need}
 abbrev pub need_of : Row → Need
 need_of r = record { header = r.header; bytes = if r.lost then 0 else payload_bytes r.side }
 
--- the frames of several parts, one part behind the other
+-- the frames of several parts, one part after the other
 unfoldable pub needs_of : List (List Row) → List Need
 needs_of parts = flat_map (map need_of) parts
 
--- the place of each part's first frame, where so many frames stand before all of them
+-- the place of each part's first frame, where so many frames are before all of them
 unfoldable pub places_from : ℕ → List (List Row) → List ℕ
 places_from at [] = []
 places_from at (rows ∷ parts) = at ∷ places_from (at + length rows) parts

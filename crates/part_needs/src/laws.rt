@@ -2,7 +2,7 @@
 ghost use Rattle.part_needs.specs.Laws.{PartFits, OnePartFits, PartsFit};
 
 /// The frames of a part of a well-formed stream are of the class of the stream, and have a layout in their own
-/// slots behind as many free bytes as the window (main_data_begin, ISO/IEC 11172-3 and 13818-3, 2.4.2.7).
+/// slots after as many free bytes as the window (main_data_begin, ISO/IEC 11172-3 and 13818-3, 2.4.2.7).
 pub fn part_fits()
     ensures { PartFits }
 {}
@@ -12,7 +12,7 @@ pub fn one_part_fits()
     ensures { OnePartFits }
 {}
 
-/// Parts of well-formed streams of one class, each with a frame, can be planned one behind the other.
+/// Parts of well-formed streams of one class, each with a frame, can be planned one after the other.
 pub fn parts_fit()
     ensures { PartsFit }
 {}

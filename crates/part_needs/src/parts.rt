@@ -1,4 +1,4 @@
-//! The parts of a plan, put together one behind the other.
+//! The parts of a plan, put together one after the other.
 ghost use Rattle.std.specs.Prelude.{◌≡◌, ◌+◌, ◌≤◌, List, [], ◌∷◌, ◌++◌, length, map, IfOk, OnOk, OnErr};
 ghost use Rattle.slot_plan.specs.Parts.{window_in, parts_of};
 ghost use Rattle.slot_plan.specs.Plans.{IsPlan, entries};
@@ -11,7 +11,7 @@ use std::alloc::{AllocError, Global};
 use std::marker::Model;
 use sync_survey::Row;
 
-/// Frames to be placed anew, and where each part of them begins: what `plan` is given.
+/// Frames to be placed again, and where each part of them begins: what `plan` is given.
 #[derive(Drop)]
 pub struct Parts {
     needs: Vec<Need>,
@@ -81,7 +81,7 @@ impl Parts {
         &self.places
     }
 
-    /// Adds a part behind those before: these frames of a survey.
+    /// Adds a part after those before: these frames of a survey.
     ///
     /// # Errors
     /// Where there is no memory. Then nothing is added.

@@ -19,7 +19,7 @@ fn end_of(needs: &[Need], parts: &[u32], at: usize) -> usize
     }
 }
 
-/// The free bytes behind a frame: what it leaves of those before it and its own area, but no more than the window.
+/// The free bytes after a frame: what it leaves of those before it and its own area, but no more than the window.
 fn free_behind(window: u32, free: u32, bytes: u32, area: u32) -> u32
     requires window { window ≤ 511 }
     requires free { free ≤ window }
@@ -68,7 +68,7 @@ pub fn are_of_one_class(needs: &[Need]) -> bool
     true
 }
 
-/// Whether the frames can be laid in their own slots behind a whole window.
+/// Whether the frames can be laid in their own slots after a whole window.
 pub fn fit(window: u32, part: &[Need]) -> bool
     requires { window ≤ 511 }
     ensures { IsTrue result → IsFeasible window window (map own_frame part.now) }

@@ -4,7 +4,7 @@ use arrayvec::ArrayVec;
 use frame_header::Slot;
 use slot_plan::{Need, Placed};
 
-/// A list that has a layout, behind so many lead-ins, and the sum of its areas.
+/// A list that has a layout, after so many lead-ins, and the sum of its areas.
 #[derive(Drop)]
 pub struct Found {
     pub sum: u32,
@@ -31,7 +31,7 @@ pub fn count_of(slots: usize, frames: usize) -> u64 {
     count
 }
 
-/// The list of this number, laid as early as may be behind so many lead-ins; none where some main data end behind
+/// The list of this number, laid as early as may be after so many lead-ins; none where some main data end after
 /// their frame.
 pub fn laid(needs: &[Need], slots: &[Slot], lead_ins: usize, number: u64) -> Option<Found> {
     let class = needs.first()?.header.class();

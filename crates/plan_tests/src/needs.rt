@@ -19,7 +19,7 @@ const OWN: u8 = 9;
 
 const LEAST: u8 = 1;
 
-/// A frame whose main data stood before the file, one of 301 bytes, and one of 400 that begin right behind them.
+/// A frame whose main data stood before the file, one of 301 bytes, and one of 400 that begin right after them.
 static FILE: [Stretch; 3] = [
     Stretch::Frame(10, 800),
     Stretch::Frame(0, 2401),

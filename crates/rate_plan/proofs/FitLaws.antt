@@ -1,4 +1,4 @@
--- Which frames fit: all do that fit in the largest slot each, behind a lead-in of that slot.
+-- Which frames fit: all do that fit in the largest slot each, after a lead-in of that slot.
 use Rattle.std.proofs.Common.{◌≡◌, ℕ, zero, suc, ◌+◌, ◌<◌, ◌≤◌, Bool, true, false, List, [], ◌∷◌, ◌++◌, map, length, get_or, take, drop, Contains, refl, sym, ap, ◌∙◌, subst, arith}
 use Rattle.std.proofs.lemmas.List.{map_more, map-append, take_all, take-take, take-append-drop, length-take-le}
 use Rattle.frame_header.specs.Fields.{SlotFields, ClassFields}
@@ -63,7 +63,7 @@ unfolding AreChosen tops_of
 tops-chosen menu [] some = tt
 tops-chosen menu (need ∷ needs) some = (has-greatest (class_of need.header) menu need.header.protected some, tops-chosen menu needs some)
 
--- ---- behind a lead-in
+-- ---- after a lead-in
 
 fit-behind : (window : ℕ) (o : Open) (opens : List Open) → AllFit window 0 (frames_of (o ∷ opens) (tops_of (o ∷ opens))) → AllFit window (free_behind window 0 o.bytes (greatest o.areas)) (frames_of opens (tops_of opens))
 unfolding AllFit frames_of tops_of
@@ -98,7 +98,7 @@ fit-laid window class menu (first ∷ needs) same some slots fit =
     let tops = subst (AllFit window (start_of window (class_of first.header) menu)) (sym (frames-top menu (first ∷ needs))) here in
     tops-can window (lead ∷ opens) (lead-chosen (class_of first.header) menu opens slots (tops-chosen menu (first ∷ needs) slots)) (lead-fit window (class_of first.header) menu opens tops)
 
--- what has a layout without a lead-in has one behind it
+-- what has a layout without a lead-in has one after it
 pub without-fit : (window : ℕ) (class : ClassFields) (menu : List SlotFields) (needs : List Need) → CanBeLaidFrom window false menu needs → AllFit window (start_of window class menu) (map (top_frame menu) needs)
 unfolding items_from
 without-fit window class menu needs can =
@@ -106,7 +106,7 @@ without-fit window class menu needs can =
 
 -- ---- one frame more
 
--- the free bytes behind some frames
+-- the free bytes after some frames
 unfoldable pub left_of : ℕ → ℕ → List Frame → ℕ
 left_of window free [] = free
 left_of window free (frame ∷ frames) = left_of window (free_behind window free frame.bytes frame.area) frames

@@ -1,4 +1,4 @@
--- The least slot of a menu by halves, and menus of slots that stand side by side among all slots.
+-- The least slot of a menu by halves, and menus of slots that are side by side among all slots.
 use Rattle.std.proofs.Common.{◌≡◌, ℕ, ◌+◌, ◌-◌, ◌<◌, ◌≤◌, Bool, inl, inr, List, length, get_or, take, drop, Contains, AllPairs, refl, sym, ap, ◌∙◌, subst, lit≤, arith}
 use Rattle.std.specs.Prelude.{slice_range}
 use Rattle.std.proofs.lemmas.List.{take-map, drop-map, get_or-take, get_or-drop, length-take-le, length-drop, get_or-map, length-map}

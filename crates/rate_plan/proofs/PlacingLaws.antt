@@ -33,7 +33,7 @@ lead-needed : (class : ClassFields) (menu : List SlotFields) (opens : List Open)
 unfolding needed
 lead-needed class menu opens = refl
 
--- frames that have a layout behind a lead-in need no more than the window, and than the largest lead-in has
+-- frames that have a layout after a lead-in need no more than the window, and than the largest lead-in has
 pub laid-need : (window : ℕ) (class : ClassFields) (menu : List SlotFields) (needs : List Need) → AreOfClass class needs → 1 ≤ length needs → CanBeLaidFrom window true menu needs
     → NeedAtMost window menu needs × (needed (opens_in (from_menu menu) needs) ≤ greatest (areas_with class false menu))
 unfolding AreOfClass items_from

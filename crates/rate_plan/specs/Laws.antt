@@ -10,7 +10,7 @@ use Rattle.slot_plan.specs.Parts.{own_frame, AreOfClass}
 use Rattle.rate_plan.specs.Menus.{AreAscending, IsMenuPlan, IsUnfit}
 use Rattle.rate_plan.specs.MenuPlan.{menu_plan}
 
--- Frames of one class that have a layout in their own slots behind a whole window are never unfit, where the largest slot is in the menu.
+-- Frames of one class that have a layout in their own slots after a whole window are never unfit, where the largest slot is in the menu.
 abbrev pub LargestSlotFits : Type 0
 LargestSlotFits =
     (class : ClassFields) (menu : List SlotFields) (needs : List Need) (i : ℕ)

@@ -23,13 +23,13 @@ abbrev pub IsMenu : List SlotFields → List Need → Type 0
 IsMenu menu [] = Unit {0}
 IsMenu menu (first ∷ needs) = AreAscending (class_of first.header) menu
 
--- the frames of a part, where it has one behind a lead-in
+-- the frames of a part, where it has one after a lead-in
 unfoldable pub items_from : Bool → List SlotFields → List Need → List Item
 items_from false menu needs = map (item_of (from_menu menu)) needs
 items_from true menu [] = []
 items_from true menu (first ∷ needs) = lead_in_of (class_of first.header) menu ∷ map (item_of (from_menu menu)) (first ∷ needs)
 
--- some list of areas from the menu has a layout, behind a lead-in or without one
+-- some list of areas from the menu has a layout, after a lead-in or without one
 abbrev pub CanBeLaidFrom : ℕ → Bool → List SlotFields → List Need → Type 0
 CanBeLaidFrom window lead_in menu needs = CanBeLaid window (map open_of (items_from lead_in menu needs))
 
@@ -39,7 +39,7 @@ pub record IsMenuPlan (window : ℕ) (menu : List SlotFields) (needs : List Need
   pub without : (lead_in ≡ false) ↔ CanBeLaidFrom window false menu needs
   pub whole : IsPlanFor window (items_from lead_in menu needs) placed
 
--- No list has a layout, behind a lead-in or without one, and this is the first frame up to which none has behind one.
+-- No list has a layout, after a lead-in or without one, and this is the first frame up to which none has after one.
 pub record IsUnfit (window : ℕ) (menu : List SlotFields) (needs : List Need) (i : ℕ) : Type 0 where
   pub never : (lead_in : Bool) → CanBeLaidFrom window lead_in menu needs → ⊥
   pub within : i < length needs

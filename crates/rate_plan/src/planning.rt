@@ -14,7 +14,7 @@ use frame_header::{Class, Slot};
 use slot_plan::{Need, Plan};
 use std::alloc::{AllocError, Global};
 
-/// The plan of frames that have a layout behind one lead-in.
+/// The plan of frames that have a layout after one lead-in.
 fn fit_plan(alloc: Global, class: Class, needs: &[Need], menu: &[Slot]) -> Result<Plan, AllocError>
     requires class { AreOfClass class needs.now }
     requires some { 1 ≤ length needs.now }
@@ -40,9 +40,9 @@ fn fit_plan(alloc: Global, class: Class, needs: &[Need], menu: &[Slot]) -> Resul
     Ok(Plan::from_placed(placed))
 }
 
-/// The lexicographically least list of areas that has a layout, all slots being of the menu, behind one lead-in where
+/// The lexicographically least list of areas that has a layout, all slots being of the menu, after one lead-in where
 /// none has a layout without one. Main data start as early as they may (ISO/IEC 11172-3, 2.4.2.7). `Unfit` exactly
-/// where no list has a layout, even behind a lead-in, with the first frame up to which none has.
+/// where no list has a layout, even after a lead-in, with the first frame up to which none has.
 pub fn rate_plan(alloc: Global, needs: &[Need], menu: &[Slot]) -> Result<Plan, RateFault>
     requires class { AreOfOneClass needs.now }
     requires some { 1 ≤ length needs.now }

@@ -14,13 +14,13 @@ use std::alloc::{AllocError, Global};
 /// The bytes that have to be free.
 #[derive(Drop)]
 pub(crate) struct Reserves {
-    /// Behind each frame, the last frame's first.
+    /// After each frame, the last frame's first.
     pub(crate) behind: Vec<u16>,
     /// Before the first frame.
     pub(crate) before: u16,
 }
 
-/// What has to be free before a frame, where so many bytes have to be free behind it.
+/// What has to be free before a frame, where so many bytes have to be free after it.
 fn needed_before(class: Class, need: &Need, behind: u16, menu: &[Slot]) -> u64
     requires slots { 1 ≤ length menu.now }
     requires ascending { AreAscending class menu.now }
@@ -31,7 +31,7 @@ fn needed_before(class: Class, need: &Need, behind: u16, menu: &[Slot]) -> u64
     (u64::from(need.bytes) + u64::from(behind)).saturating_sub(u64::from(largest))
 }
 
-/// What each frame needs behind it. Want of memory is the one refusal.
+/// What each frame needs after it. Want of memory is the one refusal.
 pub(crate) fn reserves_of(
     alloc: Global,
     class: Class,

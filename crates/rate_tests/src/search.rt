@@ -11,7 +11,7 @@ use std::alloc::AllocGlobal;
 use std::process::Abort;
 use std::test::Fail;
 
-/// The first list behind so many lead-ins.
+/// The first list after so many lead-ins.
 fn first_list(needs: &[Need], menu: &[Slot], lead_ins: usize) -> Option<Found> {
     for number in 0..count_of(menu.len(), needs.len().saturating_add(lead_ins)) {
         if let Some(found) = laid(needs, menu, lead_ins, number) {
@@ -21,7 +21,7 @@ fn first_list(needs: &[Need], menu: &[Slot], lead_ins: usize) -> Option<Found> {
     None
 }
 
-/// The first list without a lead-in, else behind one.
+/// The first list without a lead-in, else after one.
 fn searched(needs: &[Need], menu: &[Slot]) -> Option<Found> {
     if let Some(found) = first_list(needs, menu, 0) {
         return Some(found);
@@ -29,7 +29,7 @@ fn searched(needs: &[Need], menu: &[Slot]) -> Option<Found> {
     first_list(needs, menu, 1)
 }
 
-/// Up to this frame no list is found behind a lead-in, and up to each before it one is.
+/// Up to this frame no list is found after a lead-in, and up to each before it one is.
 fn expect_unfit<R: Abort>(rt: &R, needs: &Vec<Need>, menu: &[Slot], i: u32) {
     let frames = needs.as_slice();
     assert!(rt; (i as usize) < frames.len(), "{needs:?}");

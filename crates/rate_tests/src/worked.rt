@@ -37,7 +37,7 @@ static RATES: [Case; 6] = table! {
         &[Padded(96, 0), Padded(96, 122)], None)
 };
 
-/// The lead-in has no check word: 68 bytes are free behind it, and the frame has 66.
+/// The lead-in has no check word: 68 bytes are free after it, and the frame has 66.
 static FRAMES: [Case; 7] = table! {
     Case { name, frames, rates, slots, plan, unfit }
     ("behind an unprotected lead-in", &[Asked(PROTECTED, 134)], (32, 32), 28, &[LeadIn(32, 0), Frame(32, 68)],

@@ -22,7 +22,7 @@ pub frames-held : FramesAreHeld
 frames-held h s is fits =
     omega (arith, area-most (class_of h) h.slot h.protected (IsClass-class_of h is) is.slot, begin_width (class_of h).version (class_of h).channels, fits.main_data_begin)
 
--- areas behind those that the window is over already
+-- areas after those that the window is over already
 held_on : (areas : List (List ℕ)) (held main : List ℕ) → IsWindowOver held main → IsWindowOver (held_behind held areas) (main ++ joined areas)
 held_on [] held main is = subst (IsWindowOver held) (sym (append-nil main)) is
 held_on (area ∷ areas) held main is =

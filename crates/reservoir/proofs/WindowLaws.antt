@@ -12,14 +12,14 @@ use Rattle.reservoir.specs.Window.{IsWindowOver, main_bits, ArePacked}
 
 -- ---- what is held
 
--- what stands behind a front, with more behind it
+-- what is after a front, with more after it
 behind : (d k j : ℕ) (xs ys : List ℕ) → d ≤ length xs → j ≡ d + k → drop k (drop d xs ++ ys) ≡ drop j (xs ++ ys)
 behind d k j xs ys within is =
     let front : length (take d xs) ≡ d = length-take-le d xs within in
     sym (drop-append-add (take d xs) (drop d xs ++ ys) k)
     ∙ ap₂ (λ n zs. drop n zs) (omega (arith, front, is)) (sym (append_assoc (take d xs) (drop d xs) ys) ∙ ap (λ zs. zs ++ ys) (take-append-drop d xs))
 
--- what is pushed behind what was kept
+-- what is pushed after what was kept
 pub last_more : (n : ℕ) (main area : List ℕ) → keep_last n (keep_last n main ++ area) ≡ keep_last n (main ++ area)
 last_more n main area =
     let held : length (drop (length main - n) main) ≡ length main - (length main - n) = length-drop (length main - n) main in
@@ -49,7 +49,7 @@ unfolding bits_of
 bits_of-zeros zero = refl
 bits_of-zeros (suc n) = rw (zero-div (2 ^ n)) (ap (λ bs. 0 ∷ bs) (bits_of-zeros n))
 
--- the first bits of a byte, and zeros behind them
+-- the first bits of a byte, and zeros after them
 cleared : (n unused byte : ℕ) → n + unused ≡ 8 → bits (byte / 2 ^ unused * 2 ^ unused % 256 ∷ []) ≡ take n (bits_of 8 byte) ++ replicate unused 0
 cleared n unused byte all =
     bits-one (byte / 2 ^ unused * 2 ^ unused % 256)
@@ -82,7 +82,7 @@ last-packed held at n unused byte within is all some =
 pub none-packed : (held : List ℕ) (at n : ℕ) → n ≡ 0 → ArePacked [] n (main_bits held at n)
 none-packed held at n none = record { few = omega (arith, none); same = bits-nil ∙ ap (λ k. take k (drop (8 * at) (bits held)) ++ replicate (8 * 0 - k) 0) (sym none) }
 
--- bits behind whole bytes
+-- bits after whole bytes
 packed_behind : (held whole last : List ℕ) (from count rest n : ℕ) → n ≡ 8 * count + rest → whole ≡ take count (drop from held) → length whole ≡ count →
     ArePacked last rest (main_bits held (from + count) rest) → ArePacked (whole ++ last) n (main_bits held from n)
 packed_behind held whole last from count rest n is same long packed =
@@ -115,7 +115,7 @@ packed held main whole last reach count rest n is within all fits same last_is =
     ap (take n) (drop-bits from held ∙ ap bits (held_end held main reach is within) ∙ sym (drop-bits (length main - reach) main)) in
     subst (ArePacked (whole ++ last) n) end (packed_behind held whole last from count rest n all same long last_is)
 
--- ---- two lists, one behind the other
+-- ---- two lists, one after the other
 
 drop_two_cases : (from : ℕ) (xs ys : List ℕ) → (from < length xs) ⊎ (length xs ≤ from) → drop from (xs ++ ys) ≡ drop (min from (length xs)) xs ++ drop (from - min from (length xs)) ys
 drop_two_cases from xs ys (inl within) =
@@ -143,7 +143,7 @@ take_two_cases count xs ys (inr past) =
 pub take_two : (count : ℕ) (xs ys : List ℕ) → take count (xs ++ ys) ≡ take (min count (length xs)) xs ++ take (count - min count (length xs)) ys
 take_two count xs ys = take_two_cases count xs ys (cases_lt count (length xs))
 
--- the last of what is held, and of an area behind it
+-- the last of what is held, and of an area after it
 pub last-pushed : (k over : ℕ) (held area new : List ℕ) → length held ≤ 2048 → k ≡ length area - 2048 → over ≡ length held + length (drop k area) - 2048 → new ≡ drop over held ++ drop k area → new ≡ keep_last 2048 (held ++ area)
 last-pushed k over held area new few passes overs is =
     let from = length (held ++ area) - 2048 in

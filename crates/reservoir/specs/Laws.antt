@@ -7,12 +7,12 @@ use Rattle.side_info.specs.declared.side.Side.{Side}
 use Rattle.side_info.specs.Side.{SideFits}
 use Rattle.reservoir.specs.Window.{IsWindowOver}
 
--- all areas, one behind the other
+-- all areas, one after the other
 abbrev pub joined : List (List ℕ) → List ℕ
 joined [] = []
 joined (area ∷ areas) = area ++ joined areas
 
--- what is held behind these areas, pushed one after another
+-- what is held after these areas, pushed one after another
 abbrev pub held_behind : List ℕ → List (List ℕ) → List ℕ
 held_behind held [] = held
 held_behind held (area ∷ areas) = held_behind (keep_last 2048 (held ++ area)) areas

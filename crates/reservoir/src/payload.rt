@@ -9,7 +9,7 @@ use std::marker::Model;
 #[derive(Drop)]
 pub struct Payload<'a> {
     whole: &'a [u8],
-    // The bits behind the whole bytes, and zeros behind them.
+    // The bits after the whole bytes, and zeros after them.
     last: Option<u8>,
 }
 
@@ -35,7 +35,7 @@ impl<'a> Payload<'a> {
         }
     }
 
-    /// These bytes, and one behind them where it is there.
+    /// These bytes, and one after them where it is there.
     #[inline]
     pub(crate) fn new(whole: &'a [u8], last: Option<u8>) -> Payload<'a>
         ensures payload { result ≡ whole.now ++ byte_of last }

@@ -1,4 +1,4 @@
-//! A queue of bytes that stand in one piece.
+//! A queue of bytes that are in one piece.
 ghost use Rattle.std.specs.Prelude.{◌≡◌, ◌+◌, ◌-◌, ◌≤◌, [], ◌++◌, length, take, drop, IfOk};
 
 use std::alloc::{AllocError, Global};
@@ -92,7 +92,7 @@ impl ByteQueue {
     }
 }
 
-/// Moves the bytes between two places to the front, where there isn't room for so many behind them, and answers where they
+/// Moves the bytes between two places to the front, where there isn't room for so many after them, and answers where they
 /// begin then.
 #[inline]
 fn make_room(room: &mut [u8], from: usize, to: usize, more: usize) -> usize

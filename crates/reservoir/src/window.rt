@@ -60,7 +60,7 @@ impl Window {
         self.queue.len()
     }
 
-    /// Adds an area: the bytes of a frame behind its header, check word and side information. Of what was held and
+    /// Adds an area: the bytes of a frame after its header, check word and side information. Of what was held and
     /// the area the last 2,048 bytes stay.
     #[inline]
     pub fn push_area(&mut self, area: &[u8])
@@ -93,7 +93,7 @@ impl Window {
         Payload::new(&bytes[from..end], last)
     }
 
-    /// The first bits of the byte at a place, fewer than 8, and zeros behind them; of no bits none.
+    /// The first bits of the byte at a place, fewer than 8, and zeros after them; of no bits none.
     #[inline]
     fn last_byte(&self, at: usize, bits: u32) -> Option<u8>
         requires few { bits < 8 }

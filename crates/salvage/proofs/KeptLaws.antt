@@ -77,7 +77,7 @@ module _ (head : Option Head) where
     within = omega arith;
   }
 
-  -- behind a gap
+  -- after a gap
   pub kept_gap : (rows : List Row) (b : Before) → AreKeptTo head rows b → AreKeptTo head rows none_before
   kept_gap rows b kept = record {
     frames = kept.frames;

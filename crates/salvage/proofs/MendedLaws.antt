@@ -88,7 +88,7 @@ well-unmarked place ended q well = well.kept ∙ sym (none_lacks (ended == 0) (p
 well-sound : (place ended : ℕ) (q : Row) → IsWell place ended q → data_faults place ended q ≡ []
 well-sound place ended q well = no_faults (lacks_data place ended q) (points_too_far place q) (overlaps place ended q) (overruns place q) _ _ _ well.far well.apart well.within
 
--- where the main data end behind it
+-- where the main data end after it
 or_none : (silent lacks : Bool) → lacks ≡ false → (silent || lacks) ≡ silent
 or_none true lacks is = refl
 or_none false lacks is = is

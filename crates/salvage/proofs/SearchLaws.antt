@@ -146,13 +146,13 @@ not_anchor bytes class few many bare letter = by_item (item_front bytes) refl (s
 
 -- ---- where no anchored frame stands
 
--- a header other than this one doesn't stand here
+-- a header other than this one isn't here
 pub header_same : (bytes : List ℕ) (h g : HeaderFields) → header_front bytes ≡ Ok h → item_front bytes ≡ Frame g → h ≡ g
 header_same bytes h g read is =
     let header : header_front bytes ≡ Ok g = subst (Stands bytes) is (stands bytes) in
     cc
 
--- one header alone stands here
+-- one header alone is here
 pub headers_same : (bytes : List ℕ) (h g : HeaderFields) → header_front bytes ≡ Ok h → header_front bytes ≡ Ok g → h ≡ g
 headers_same bytes h g read is = cc
 
@@ -232,14 +232,14 @@ module _ (file : List ℕ) (at : ℕ) (front : List ℕ) (left : ℕ) (shows : S
       let item = item_front (drop k front) in
       ap (λ i. if_usable file role (anchored file (at + k) i)) (sym (item_at-behind file at front left shows k near)) ∙ bare_by role k item refl bare
 
-  -- none stands at the offsets that are passed
+  -- none is at the offsets that are passed
   pub passed_bare : (role : Role) (n earlier : ℕ) → n ≤ 4064 → ((k : ℕ) → 0 < k → k < n → IsBare role at front k) → at < earlier → earlier < at + n → usable_anchored file role earlier ≡ None
   passed_bare role n earlier near bare low high =
       let k = earlier - at in
       let same : at + k ≡ earlier = omega (arith, low) in
       subst (λ m. usable_anchored file role m ≡ None) same (bare_usable role k (omega (arith, near, high, low)) (bare k (omega (arith, low)) (omega (arith, high, low))))
 
--- none stands before a later offset
+-- none is before a later offset
 pub none_later : (file : List ℕ) (role : Role) (from at later earlier : ℕ) → ((k : ℕ) → from ≤ k → k < at → usable_anchored file role k ≡ None) → usable_anchored file role at ≡ None
     → ((k : ℕ) → at < k → k < later → usable_anchored file role k ≡ None) → from ≤ earlier → earlier < later → usable_anchored file role earlier ≡ None
 none_later file role from at later earlier before here behind low high = by_place (leb earlier at) (leb at earlier) refl refl

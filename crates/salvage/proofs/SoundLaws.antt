@@ -1,4 +1,4 @@
--- The frames of all runs, judged one behind the other.
+-- The frames of all runs, judged one after the other.
 use Rattle.std.proofs.Common.{◌≡◌, ℕ, zero, suc, ◌+◌, ◌≤◌, not, List, [], ◌∷◌, ◌++◌, length, map, Option, Some, None, refl, sym, ◌∙◌, ap, ap₂, arith, append_assoc, length-append}
 use Rattle.std.specs.Prelude.{flat_map, slice_get}
 use Rattle.std.specs.List.{enumerate_from}
@@ -15,7 +15,7 @@ use Rattle.salvage.specs.Judged.{judged_by, before_next, none_before, rows_here,
 
 -- ---- one run
 
--- the rows marked one behind the other
+-- the rows marked one after the other
 abbrev pub judged_from : Before → List Row → List Row
 judged_from b [] = []
 judged_from b (r ∷ rows) = judged_by b r ∷ judged_from (before_next b r) rows
@@ -40,7 +40,7 @@ module _ (head : Option Head) where
       ∙ ap (λ m. sound_end (place head rows n) m (slice_get (rows ++ r ∷ []) n)) (end-more rows (r ∷ []) n (omega arith))
       ∙ ap (sound_end (place head rows n) (end_of_sound head rows n)) (get_next rows r)
 
-  -- the main data before the frame behind these
+  -- the main data before the frame after these
   abbrev behind : List Row → Before
   behind rows = record { place = place head rows (length rows); ended = end_of_sound head rows (length rows) }
 
@@ -93,6 +93,6 @@ all_things : (file : List ℕ) (b : Before) (ts : List PlacedThing) → runs_fro
 all_things file b [] = refl
 all_things file b (t ∷ ts) = thing_first file b t.offset t.thing (runs_of ts) ∙ ap (λ l. rows_here file b t.offset t.thing ++ l) (all_things file (before_here file b t.offset t.thing) ts)
 
--- the frames of all runs are those that are met one behind the other
+-- the frames of all runs are those that are met one after the other
 pub runs-left : (file : List ℕ) (head : Option Head) (ts : List PlacedThing) → judged_runs file head (runs_of ts) ≡ rows_left file (record { place = head_area head; ended = 0 }) ts
 runs-left file head ts = runs-from file head (runs_of ts) ∙ all_things file (record { place = head_area head; ended = 0 }) ts

@@ -30,7 +30,7 @@ use Rattle.sync_survey.specs.Walk.{head_of}
 use Rattle.salvage.proofs.SoundLaws.{judged_from, judged-from}
 use Rattle.salvage.proofs.KeptLaws.{sound_within, not_false}
 
--- ---- frames one behind the other
+-- ---- frames one after the other
 
 -- a frame of the stream, by the place of its own area
 abbrev frame_at : List ℕ → ℕ → Row → StreamFrame

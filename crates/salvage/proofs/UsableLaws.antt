@@ -33,7 +33,7 @@ use Rattle.salvage.specs.Usable.{has_right_word, is_head, is_usable, if_usable, 
 use Rattle.salvage.specs.Walk.{is_read, if_read, item_read}
 use Rattle.salvage.specs.Steps.{admits_item}
 
--- a header that stands somewhere is of a frame with few bytes
+-- a header that is somewhere is of a frame with few bytes
 pub length_few : (front : List ℕ) (h : HeaderFields) → item_front front ≡ Frame h → length_of (class_of h) h.slot ≤ 1441
 length_few front h is =
     let known = item_header front (Frame h) (sym is) h refl in
@@ -49,14 +49,14 @@ header_cases : (b : Bool) (r : Result HeaderFields NotHeader) (h : HeaderFields)
 header_cases true r h e = (refl, e)
 header_cases false r h e = absurd cc
 
--- a header that stands at the front is read of four bytes
+-- a header that is at the front is read of four bytes
 pub header_four : (bytes : List ℕ) (h : HeaderFields) → header_front bytes ≡ Ok h → (4 ≤ length bytes) × (header_at (take 4 bytes) ≡ Ok h)
 unfolding header_front
 header_four bytes h e =
     let cases = header_cases _ _ h e in
     (leb-true 4 (length bytes) cases.0, cases.1)
 
--- the side information of a protected frame stands behind its check word
+-- the side information of a protected frame is after its check word
 pub side_protected : (h : HeaderFields) (bytes : List ℕ) → h.protected ≡ true → side_in h bytes ≡ side_at (class_of h) (bits (take (side_size_of (class_of h)) (drop 6 bytes)))
 unfolding side_in side_part
 side_protected h bytes is = ap (λ p. side_at (class_of h) (bits (take (side_size_of (class_of h)) (drop (side_place p) bytes)))) is
@@ -81,7 +81,7 @@ module _ (file : List ℕ) (at : ℕ) (front : List ℕ) (left : ℕ) (shows : S
       ∙ usable-take role p look_size (drop at file) (omega arith) (omega (arith, overhead-few (class_of p.header) p.header.protected)) (omega (arith, length_few front p.header is))
       ∙ ap (λ n. is_usable role p (drop n file)) (sym here)
 
-  -- whether a frame is usable that stands at a later place of the look, and ends within it
+  -- whether a frame is usable that is at a later place of the look, and ends within it
   pub usable_behind : (role : Role) (k : ℕ) (h : HeaderFields) → k + length_of (class_of h) h.slot ≤ 4064 → item_front (drop k front) ≡ Frame h
       → is_usable role (record { offset = at + k; header = h }) (drop k front) ≡ is_usable role (record { offset = at + k; header = h }) (drop (at + k) file)
   usable_behind role k h near is =

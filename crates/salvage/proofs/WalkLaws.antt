@@ -1,4 +1,4 @@
--- What stands in a damaged file, thing by thing.
+-- What is in a damaged file, thing by thing.
 use Rattle.std.proofs.Common.{◌≡◌, ℕ, zero, suc, ◌+◌, ◌-◌, ◌<◌, ◌≤◌, ◌==◌, Bool, true, false, cond, ltb, List, [], ◌∷◌, ◌++◌, length, take, drop, Option, Some, None, refl, sym, ◌∙◌, ap, subst, arith, length-drop}
 use Rattle.std.specs.Prelude.{option_to_list}
 use Rattle.std.specs.List.{prefix_len}
@@ -51,7 +51,7 @@ usable_anchored-is : (file : List ℕ) (role : Role) (at : ℕ) (p : PlacedFrame
 unfolding usable_anchored
 usable_anchored-is file role at p e = anchored_frame-is file at p (usable_by file role at (anchored_frame file at) p refl e)
 
--- it stands within the file, not before where it is looked for
+-- it is within the file, not before where it is looked for
 pub record IsNext (file : List ℕ) (from : ℕ) (p : PlacedFrame) : Type 0 where
   pub low : from ≤ p.offset
   pub frame : IsItemOf Stream file p.offset (Frame p.header)
@@ -84,7 +84,7 @@ pub gap_end-by : (file : List ℕ) (class : ClassFields) (at : ℕ) → end_by f
 unfolding gap_end
 gap_end-by file class at = refl
 
--- ---- things one behind the other
+-- ---- things one after the other
 
 module _ (file : List ℕ) (class : ClassFields) where
   thing_read : (at : ℕ) (o : Option Item) → item_read file (Later class) at ≡ o → thing_at file class at ≡ thing_by file class at o
@@ -154,7 +154,7 @@ module _ (file : List ℕ) (class : ClassFields) where
 
   -- ---- zero bytes
 
-  -- what stands between two offsets is neither a frame nor a block nor a gap
+  -- what is between two offsets is neither a frame nor a block nor a gap
   record IsSkipped (at to : ℕ) : Type 0 where
     rows : (b : Before) → rows_left file b (things file class at) ≡ rows_left file b (things file class to)
     blocks : blocks_in (things file class at) ≡ blocks_in (things file class to)
@@ -222,7 +222,7 @@ module _ (file : List ℕ) (class : ClassFields) where
       let skipped = zeros_skipped front (drop look_size (drop at file)) at split in
       subst (IsPassed at Zero) (sym many) (record { rows = skipped.rows; blocks = skipped.blocks; gaps = skipped.gaps })
 
-  -- an item that is read, with all zero bytes that are shown behind a zero byte
+  -- an item that is read, with all zero bytes that are shown after a zero byte
   pub item_passed : (at : ℕ) (front : List ℕ) (left : ℕ) (item : Item) (size : ℕ) → Shows file at front left → item_read file (Later class) at ≡ Some item
       → (item ≡ Zero → size ≡ prefix_len zero_test front) → ((item ≡ Zero → ⊥) → size ≡ size_of item) → IsPassed at item size
   item_passed at front left (Frame h) size shows is zeros own = passed_own at (Frame h) size is (own (λ e. cc))

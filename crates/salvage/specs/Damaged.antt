@@ -33,7 +33,7 @@ pub record DamagedFields : Type 0 where
 abbrev pub gap_between : ℕ → ℕ → List Gap
 gap_between from to = if nat_lt from to then record { offset = from; length = to - from } ∷ [] else []
 
--- what stands behind the head, or from the first frame on where that is none
+-- what is after the head, or from the first frame on where that is none
 abbrev pub things_from : List ℕ → PlacedFrame → List PlacedThing
 things_from file first = things file (class_of first.header) (numbered_at first (head_of file first))
 

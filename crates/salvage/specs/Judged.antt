@@ -1,4 +1,4 @@
--- What is kept of an item or a gap behind what was kept before.
+-- What is kept of an item or a gap after what was kept before.
 use Rattle.std.specs.Prelude.{◌≡◌, ℕ, ◌+◌, ◌-◌, not, List, [], ◌∷◌, ◌++◌, length, drop, Some, option_to_list}
 use Rattle.sync_survey.specs.declared.items.Item.{Item}
 use Rattle.sync_survey.specs.declared.items.Item.TheVariants.{Frame}
@@ -19,11 +19,11 @@ use Rattle.salvage.specs.Damaged.{most_frames}
 abbrev pub judged_by : Before → Row → Row
 judged_by b r = record r { lost = not (is_sound b.place b.ended r) }
 
--- the main data before the frame behind it
+-- the main data before the frame after it
 abbrev pub before_next : Before → Row → Before
 before_next b r = record { place = b.place + own_area r.header; ended = sound_end b.place b.ended (Some r) }
 
--- those before the first frame behind a gap
+-- those before the first frame after a gap
 abbrev pub none_before : Before
 none_before = record { place = 0; ended = 0 }
 
@@ -32,7 +32,7 @@ abbrev pub rows_in : Before → ℕ → List ℕ → Item → List Row
 rows_in b at bytes (Frame h) = judged_by b (row_in at h bytes) ∷ []
 rows_in b at bytes item = []
 
--- the main data behind it
+-- the main data after it
 abbrev pub before_behind : Before → ℕ → List ℕ → Item → Before
 before_behind b at bytes (Frame h) = before_next b (row_in at h bytes)
 before_behind b at bytes item = b
@@ -44,7 +44,7 @@ abbrev pub rows_here : List ℕ → Before → ℕ → Thing → List Row
 rows_here file b at (IsItem item) = rows_in b at (drop at file) item
 rows_here file b at (IsGap n) = []
 
--- the main data behind it
+-- the main data after it
 abbrev pub before_here : List ℕ → Before → ℕ → Thing → Before
 before_here file b at (IsItem item) = before_behind b at (drop at file) item
 before_here file b at (IsGap n) = none_before
@@ -56,7 +56,7 @@ rows_left file b (t ∷ ts) = rows_here file b t.offset t.thing ++ rows_left fil
 
 -- ---- what is kept
 
--- these rows, blocks and gaps are kept behind the others
+-- these rows, blocks and gaps are kept after the others
 pub record Adds (found_rows : List Row) (found_blocks : List Piece) (found_gaps : List Gap) (main : Before) (to : ℕ) (old new : Found) : Type 0 where
   pub rows : new.rows.items ≡ old.rows.items ++ found_rows
   pub pieces : new.pieces.items ≡ old.pieces.items ++ found_blocks

@@ -1,4 +1,4 @@
--- Where the main data of the frames that are kept stand among those of all frames, whatever gaps stand between.
+-- Where the main data of the frames that are kept are among those of all frames, whatever gaps are between.
 use Rattle.std.specs.Prelude.{◌≡◌, ℕ, zero, suc, ◌+◌, ◌≤◌, ◌||◌, if◌then◌else◌, true, false, List, length, slice_get, Option, Some, None}
 use Rattle.sync_survey.specs.declared.places.Head.{Head}
 use Rattle.sync_survey.specs.declared.rows.Row.{Row}
@@ -6,12 +6,12 @@ use Rattle.sync_survey.specs.MainData.{place, is_silent, end_of_data}
 use Rattle.sync_survey.specs.declared.rows.Before.{Before}
 use Rattle.salvage.specs.Sound.{is_sound}
 
--- where the main data end behind a frame: one that becomes empty, or has none, moves no end
+-- where the main data end after a frame: one that becomes empty, or has none, moves no end
 abbrev pub kept_end : ℕ → ℕ → Option Row → ℕ
 kept_end place ended None = ended
 kept_end place ended (Some r) = if r.lost || is_silent r then ended else end_of_data place r
 
--- where those end that stand before frame i of all: of the last frame before it that is kept and has some, or 0
+-- where those end that are before frame i of all: of the last frame before it that is kept and has some, or 0
 unfoldable pub end_of_kept : Option Head → List Row → ℕ → ℕ
 end_of_kept head rows zero = 0
 end_of_kept head rows (suc i) = kept_end (place head rows i) (end_of_kept head rows i) (slice_get rows i)

@@ -56,7 +56,7 @@ told_of b found = record {
   gaps = found.gaps.items;
 }
 
--- what was found, and behind it what the walk has left, is all that is read
+-- what was found, and after it what the walk has left, is all that is read
 pub record IsReadTo (file : List ℕ) (b : Begun) (found : Found) : Type 0 where
   pub rows : found.rows.items ++ rows_left file found.before (things file (class_in b) found.at) ≡ (whole_of file b).survey.frames
   pub blocks : found.pieces.items ++ blocks_in (things file (class_in b) found.at) ≡ (whole_of file b).survey.blocks
@@ -68,7 +68,7 @@ AreReadTo files name b found = (bytes : List ℕ) → Holds files name bytes →
 
 -- ---- what is known, whatever is told of the file
 
--- these gaps stand one behind the other from one offset to another, and none is empty
+-- these gaps follow one after the other from one offset to another, and none is empty
 abbrev pub GapsAreLaid : ℕ → List Gap → ℕ → Type 0
 GapsAreLaid from [] to = from ≤ to
 GapsAreLaid from (g ∷ gaps) to = (from ≤ g.offset) × (1 ≤ g.length) × GapsAreLaid (g.offset + g.length) gaps to
@@ -78,7 +78,7 @@ abbrev pub AreOfClass : ClassFields → List Row → Type 0
 AreOfClass class [] = Unit {0}
 AreOfClass class (r ∷ rows) = IsHeader r.header × (class_of r.header ≡ class) × AreOfClass class rows
 
--- what was found stands in order, before where the reading stands
+-- what was found is in order, before where the reading stands
 pub record IsLaidTo (b : Begun) (found : Found) : Type 0 where
   pub rows : AreLaid b.start.first.offset found.rows.items found.at
   pub class : AreOfClass (class_in b) found.rows.items
@@ -94,12 +94,12 @@ pub record IsReading (files : Files) (name : List ℕ) (b : Begun) (found : Foun
   pub told : AreReadTo files name b found
   pub laid : IsLaidTo b found
 
--- where it was, so it is behind a call, further on
+-- where it was, so it is after a call, further on
 pub record ReadsOn (files : Files) (name : List ℕ) (b : Begun) (old new : Found) : Type 0 where
   pub reading : IsReading files name b new
   pub on : old.at < new.at
 
--- the gaps and the junk stand before the first frame or behind it, and head, frames, blocks and gaps are within the length
+-- the gaps and the junk are before the first frame or after it, and head, frames, blocks and gaps are within the length
 pub record IsLaidOut (d : DamagedFields) : Type 0 where
   pub junk : d.survey.junk ≤ d.survey.first
   pub first : d.survey.first ≤ d.survey.length

@@ -11,12 +11,12 @@ use Rattle.salvage.specs.Walk.{Thing, IsItem, IsGap, PlacedThing}
 
 -- ---- runs of frames
 
--- a run begins with the first frame, and one behind each gap
+-- a run begins with the first frame, and one after each gap
 pub record FrameRuns : Type 0 where
   pub first : List PlacedFrame
   pub later : List (List PlacedFrame)
 
--- these runs behind a thing: a gap ends a run, and a frame belongs to the first
+-- these runs after a thing: a gap ends a run, and a frame belongs to the first
 abbrev pub runs_behind : ℕ → Thing → FrameRuns → FrameRuns
 runs_behind at (IsItem item) runs = record { first = option_to_list (frame_as at item) ++ runs.first; later = runs.later }
 runs_behind at (IsGap n) runs = record { first = []; later = runs.first ∷ runs.later }
@@ -32,12 +32,12 @@ runs_of (t ∷ ts) = runs_behind t.offset t.thing (runs_of ts)
 abbrev pub is_sound : ℕ → ℕ → Row → Bool
 is_sound place ended r = not (points_too_far place r) && not (overlaps place ended r) && not (overruns place r)
 
--- where the main data end behind a frame: one that isn't sound, or has none, moves no end
+-- where the main data end after a frame: one that isn't sound, or has none, moves no end
 abbrev pub sound_end : ℕ → ℕ → Option Row → ℕ
 sound_end place ended None = ended
 sound_end place ended (Some r) = if is_sound place ended r && not (is_silent r) then end_of_data place r else ended
 
--- where the main data end that stand before frame i of a run: those of the last sound frame before it that has some, or 0
+-- where the main data end that are before frame i of a run: those of the last sound frame before it that has some, or 0
 unfoldable pub end_of_sound : Option Head → List Row → ℕ → ℕ
 end_of_sound head rows zero = 0
 end_of_sound head rows (suc i) = sound_end (place head rows i) (end_of_sound head rows i) (slice_get rows i)
@@ -46,7 +46,7 @@ end_of_sound head rows (suc i) = sound_end (place head rows i) (end_of_sound hea
 abbrev pub judged_row : Option Head → List Row → ℕ → Row → Row
 judged_row head rows i r = record r { lost = not (is_sound (place head rows i) (end_of_sound head rows i) r) }
 
--- all frames of a run, before which the head's main data stand where there is one
+-- all frames of a run, before which the head's main data are where there is one
 unfoldable pub judged : Option Head → List Row → List Row
 judged head rows = map (λ (p : ℕ × Row). judged_row head rows p.0 p.1) (enumerate_from 0 rows)
 

@@ -19,15 +19,15 @@ may_begin first second = (first == 255) && (second / 2 % 4 == 1)
 abbrev pub may_begin_block : ℕ → Bool
 may_begin_block first = (first == 73) || ((first == 84) || (first == 65))
 
--- so many bytes of a look are searched at once: behind each of them 32 are seen
+-- so many bytes of a look are searched at once: after each of them 32 are seen
 abbrev pub reach : ℕ
 reach = 4064
 
--- no header stands at this place of a look
+-- no header is at this place of a look
 abbrev pub HasNoHeader : List ℕ → ℕ → Type 0
 HasNoHeader front k = (h : HeaderFields) → item_front (drop k front) ≡ Frame h → ⊥
 
--- No usable anchored frame stands at this place of a look at the offset: no header does, or the look shows that there is no anchor at the
+-- No usable anchored frame is at this place of a look at the offset: no header does, or the look shows that there is no anchor at the
 -- frame's end, or that the frame isn't usable.
 abbrev pub IsBare : Role → ℕ → List ℕ → ℕ → Type 0
 IsBare role offset front k =

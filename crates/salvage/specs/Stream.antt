@@ -8,7 +8,7 @@ use Rattle.sync_survey.specs.Walk.{head_of}
 use Rattle.salvage.specs.Sound.{FrameRuns, runs_of, judged}
 use Rattle.salvage.specs.Damaged.{things_from}
 
--- The frames of a run, with the main data that stand in its areas: each sound frame as it stands, and each other one as an empty frame,
+-- The frames of a run, with the main data that are in its areas: each sound frame as it stands, and each other one as an empty frame,
 -- whose side fields are all 0 and which has no main data.
 abbrev pub run_stream : List ℕ → Option Head → List Row → List StreamFrame
 run_stream file head rows = stream_frames (main_bytes file head rows) head rows

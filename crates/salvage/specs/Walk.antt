@@ -1,4 +1,4 @@
--- What stands in a damaged file: the first frame, and from there on items and gaps.
+-- What is in a damaged file: the first frame, and from there on items and gaps.
 use Rattle.std.specs.Prelude.{ℕ, zero, suc, ◌+◌, ◌-◌, nat_lt, if◌then◌else◌, Bool, true, List, [], ◌∷◌, length, drop, filter_map, Option, Some, None, option_and_then}
 use Rattle.std.specs.Option.{option_or}
 use Rattle.frame_header.specs.Fields.{ClassFields}
@@ -29,8 +29,8 @@ if_read file role at (Some item) = if is_read file role at item then Some item e
 unfoldable pub item_read : List ℕ → Role → ℕ → Option Item
 item_read file role at = if_read file role at (item_of Stream file at)
 
--- The first frame, by where the blocks and zero bytes at the front of the file end: it is usable, and stands there or, anchored, at the
--- least offset behind.
+-- The first frame, by where the blocks and zero bytes at the front of the file end: it is usable, and is there or, anchored, at the
+-- least offset after.
 unfoldable pub first_frame : List ℕ → ℕ → Option PlacedFrame
 first_frame file front_end = option_or (option_and_then (frame_as front_end) (item_read file First front_end)) (next_usable file First (front_end + 1))
 
@@ -67,14 +67,14 @@ pub record PlacedThing : Type 0 where
   pub offset : ℕ
   pub thing : Thing
 
--- at most so many things that stand end to end from an offset on
+-- at most so many things that follow end to end from an offset on
 unfoldable pub things_up_to : ℕ → List ℕ → ClassFields → ℕ → List PlacedThing
 things_up_to zero file class at = []
 things_up_to (suc most) file class at =
     let here = thing_at file class at in
     if nat_lt at (length file) then record { offset = at; thing = here } ∷ things_up_to most file class (at + size_of_thing here) else []
 
--- all things that stand end to end from an offset on: there are no more than bytes
+-- all things that follow end to end from an offset on: there are no more than bytes
 unfoldable pub things : List ℕ → ClassFields → ℕ → List PlacedThing
 things file class from = things_up_to (length file) file class from
 

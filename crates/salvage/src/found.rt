@@ -118,7 +118,7 @@ impl Found {
         Ok(())
     }
 
-    /// Keeps a gap from where the reading stands to another offset. The main data begin anew behind it.
+    /// Keeps a gap from where the reading stands to another offset. The main data begin again after it.
     pub(crate) fn skip(&mut self, to: u64) -> Result<(), AllocError>
         requires { self.old.at ≤ to }
         ensures { OnOk result (AddsGap to self.old self.new) }

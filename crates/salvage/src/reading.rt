@@ -87,7 +87,7 @@ fn end_of(next: Option<PlacedFrame>, size: u64) -> u64
     }
 }
 
-/// What a frame behind the first is wanted for.
+/// What a frame after the first is wanted for.
 fn later_role(begun: &Begun) -> Role
     ensures { result ≡ Later (class_in begun.now) }
 {
@@ -282,8 +282,8 @@ fn read_file<D: Folder>(alloc: Global, folder: &mut D, name: &str) -> Result<Dam
 /// What is read of a damaged file. The files stay.
 ///
 /// Blocks and zero bytes are passed at the front of the file. The first frame is the usable one that
-/// stands where they end, or the first usable one behind that is anchored. From there on the file is read
-/// item by item: usable frames, blocks and zero bytes. Where none of them stands whole a gap begins; it ends
+/// is where they end, or the first usable one after that is anchored. From there on the file is read
+/// item by item: usable frames, blocks and zero bytes. Where none of them is whole a gap begins; it ends
 /// where the next usable frame stands that is anchored, or with the file. A frame is usable where it is
 /// whole, of the class of the first, and its check word is right where it has one; the first one may be a
 /// head with any check word.

@@ -21,7 +21,7 @@ use sync_survey::{
     Item, PlacedFrame, SurveyFault, bytes_behind, header_front, is_same_class, item_front, look,
 };
 
-/// So many bytes of a look are searched at once: behind each of them 32 are seen.
+/// So many bytes of a look are searched at once: after each of them 32 are seen.
 const REACH: usize = 4_064;
 
 /// Whether a header may begin with these two bytes: by eight bits of the sync word and the two of the layer.
@@ -50,7 +50,7 @@ fn may_anchor(bytes: &[u8]) -> bool
     may_begin(bytes[0], bytes[1]) || may_begin_block(bytes[0])
 }
 
-/// Whether an anchor of the class stands at the front of the bytes.
+/// Whether an anchor of the class is at the front of the bytes.
 fn is_anchor(class: Class, bytes: &[u8]) -> bool
     ensures { result ≡ is_anchor_lem class (item_front_lem bytes.now) }
 {
@@ -65,7 +65,7 @@ fn is_anchor(class: Class, bytes: &[u8]) -> bool
 }
 
 /// Whether the frame that these bytes begin with is usable for the role. They are those at the offset.
-// It stands apart, and reads the header once more, so that a search reads no more of a header than it needs.
+// It is apart, and reads the header once more, so that a search reads no more of a header than it needs.
 #[inline(never)]
 fn admits_front(role: &Role, bytes: &[u8], offset: u64) -> bool
     requires room { (h : HeaderFields) → header_front_lem bytes.now ≡ Ok h → ReachArea h bytes.now }
@@ -78,8 +78,8 @@ fn admits_front(role: &Role, bytes: &[u8], offset: u64) -> bool
     role.admits(&PlacedFrame { offset, header }, bytes)
 }
 
-/// Whether a usable anchored frame may stand at this place of a look at the offset. It is judged where the look
-/// shows all of it and the 32 bytes behind it.
+/// Whether a usable anchored frame may be at this place of a look at the offset. It is judged where the look
+/// shows all of it and the 32 bytes after it.
 fn may_stand(role: &Role, front: &[u8], place: usize, offset: u64) -> bool
     requires within { place < 2 ^ 32 }
     requires early { offset < 2 ^ 32 }

@@ -64,7 +64,7 @@ static GAP_AT_END: Case = Case {
     head: None,
 };
 
-/// One frame between two stretches of junk: it points to nothing of its own run. The block behind is an anchor.
+/// One frame between two stretches of junk: it points to nothing of its own run. The block after is an anchor.
 static BETWEEN: Case = Case {
     file: &[
         FIRST,
@@ -90,7 +90,7 @@ static BETWEEN: Case = Case {
     head: None,
 };
 
-/// A block in a gap isn't read; one behind the last frame is.
+/// A block in a gap isn't read; one after the last frame is.
 static BLOCK_IN_GAP: Case = Case {
     file: &[
         FIRST,
@@ -132,7 +132,7 @@ static WRONG_WORD: Case = Case {
     head: None,
 };
 
-/// The first frame is a head whatever check word stands in it; one behind is a frame.
+/// The first frame is a head whatever check word is in it; one after is a frame.
 static HEADS: Case = Case {
     file: &[
         ID3V2,

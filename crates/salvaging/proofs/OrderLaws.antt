@@ -29,13 +29,13 @@ unfolding merged
 merged_nil [] = refl
 merged_nil (t ∷ ts) = ap (λ us. t ∷ us) (merged_nil ts)
 
--- what stands before all of a list is met first
+-- what is before all of a list is met first
 merged_first : (ts : List Line) (u : Line) (us : List Line) (from : ℕ) → Rises from ts → line_place u < from → merged ts (u ∷ us) ≡ u ∷ merged ts us
 unfolding merged
 merged_first [] u us from rises lt = refl
 merged_first (t ∷ ts) u us from rises lt = rw (lt-ltb (line_place u) (line_place t) (omega (arith, rises.0, lt))) refl
 
--- and what stands at or behind a place is put behind the line there
+-- and what is at or after a place is put after the line there
 put_before : (t : Line) (ts us : List Line) → Rises (line_place t) ts → Rises (line_place t) us → put_line t (merged ts us) ≡ t ∷ merged ts us
 unfolding merged
 put_before t [] us rises behind = put_first t us behind
@@ -118,7 +118,7 @@ report-text d r reports =
 
 -- ---- the walk
 
--- what stands before a line is met before it
+-- what is before a line is met before it
 pub before-emptied : (t : Line) (behind : List Line → List Line) (us : List Line) (offset : ℕ) → option_map line_place (first_of us) ≡ Some offset → offset < line_place t
     → (first_of (before t behind us) ≡ first_of us) × (drop 1 (before t behind us) ≡ before t behind (drop 1 us))
 before-emptied t behind [] offset is lt = absurd cc

@@ -18,7 +18,7 @@ line_of (Empty emptied) = of_emptied emptied
 
 -- ---- two lists that each are in order, as one
 
--- the line, or before it those of the others that stand before it
+-- the line, or before it those of the others that are before it
 abbrev pub before : Line → (List Line → List Line) → List Line → List Line
 before l behind [] = l ∷ behind []
 before l behind (m ∷ ms) = if nat_lt (line_place m) (line_place l) then m ∷ before l behind ms else l ∷ behind (m ∷ ms)
@@ -38,7 +38,7 @@ abbrev pub first_of : List Line → Option Line
 first_of [] = None
 first_of (l ∷ ls) = Some l
 
--- each line tells of an offset at or behind that of the one before it, and the first at or behind a place
+-- each line tells of an offset at or after that of the one before it, and the first at or after a place
 abbrev pub Rises : ℕ → List Line → Type 0
 Rises from [] = Unit {0}
 Rises from (l ∷ ls) = (from ≤ line_place l) × Rises (line_place l) ls

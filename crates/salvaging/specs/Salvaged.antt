@@ -1,4 +1,4 @@
--- The salvage command: what is left of a damaged file, laid anew, and a text that tells what is missing.
+-- The salvage command: what is left of a damaged file, laid out again, and a text that tells what is missing.
 use Rattle.std.specs.Prelude.{ℕ, Bool, false, List, [], ◌∷◌, length, replicate, Option, Some, None, Result, Ok, Err}
 use Rattle.sync_survey.specs.declared.places.PlacedFrame.{PlacedFrame}
 use Rattle.sync_survey.specs.declared.survey_fault.SurveyFault.{SurveyFault}
@@ -27,7 +27,7 @@ use Rattle.frame_edits.specs.Chosen.{Chosen, plan_of, chosen_file}
 abbrev pub all_of : SurveyFields → Chosen
 all_of s = record { from = 0; to = length s.frames; slots = Own; quality = None; extension = replicate 36 0 }
 
--- what is left, laid as a cut lays it: the ID3v2 blocks that stand in front of the first frame, an Info frame, all frames, and all other
+-- what is left, laid as a cut lays it: the ID3v2 blocks that are in front of the first frame, an Info frame, all frames, and all other
 -- blocks that were read. A frame that isn't sound has no main data.
 unfoldable pub salvaged_file : List ℕ → DamagedFields → List ℕ
 salvaged_file file d = chosen_file (all_of (mended d.survey)) file (mended d.survey)

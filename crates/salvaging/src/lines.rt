@@ -39,7 +39,7 @@ impl<'a> Lines<'a> {
         }
     }
 
-    /// The first that is left; the walk goes behind it.
+    /// The first that is left; the walk goes after it.
     pub(crate) fn next(&mut self) -> Option<Told>
         ensures first { option_map line_of result ≡ first_of (left self.old) }
         ensures rest { left self.new ≡ drop 1 (left self.old) }

@@ -23,7 +23,7 @@ fn clash(input: &str, output: &str) -> Option<u32>
 }
 
 /// Reads what can be read of a damaged file (`salvage::read_damaged`), writes what is left to the output, and then sends to
-/// `out` what is missing. The output is laid as a cut lays it: the ID3v2 blocks that stand in front of the first frame, an
+/// `out` what is missing. The output is laid as a cut lays it: the ID3v2 blocks that are in front of the first frame, an
 /// Info frame whose extension is all 0, all frames with their own bit rates and padding, and all other blocks that were read.
 /// A frame whose main data are missing becomes an empty one, and all others are as they were.
 ///

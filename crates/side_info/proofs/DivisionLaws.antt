@@ -104,7 +104,7 @@ abbrev eight_zeros : List ℕ
 eight_zeros = 0 ∷ 0 ∷ 0 ∷ 0 ∷ 0 ∷ 0 ∷ 0 ∷ 0 ∷ []
 
 -- ---- one byte, by tests of all bytes
--- a byte that stands at the top of the word cancels itself
+-- a byte that is at the top of the word cancels itself
 cancels : all_below 256 (λ b. eqb (remainder (b * 256) (bits_of 8 b)) 0) ≡ true
 unfolding remainder bit_step bits_of
 cancels = refl

@@ -45,15 +45,15 @@ between before part after all =
     let behind = subst AreBytes (drop_at before (part ++ after) (length before) refl) (AreBytes-drop (length before) (before ++ (part ++ after)) whole) in
     subst AreBytes (take_at part after (length part) refl) (AreBytes-take (length part) (part ++ after) behind)
 
--- ---- the check word that stands in a frame
+-- ---- the check word that is in a frame
 
 pub word_at : (frame : List ℕ) → 6 ≤ length frame → AreBytes frame → get_or frame 4 0 * 256 + get_or frame 5 0 ≡ number (bits (take 2 (drop 4 frame)))
 word_at (a ∷ b ∷ c ∷ d ∷ e ∷ f ∷ rest) long all = sym (number-two e f (all.1.1.1.1.0, (all.1.1.1.1.1.0, tt)))
 word_at frame long all = absurd (omega arith)
 
--- ---- room for what stands before the area
+-- ---- room for what is before the area
 
--- the frame is long enough for what stands before its area
+-- the frame is long enough for what is before its area
 abbrev pub HasRoom : HeaderFields → List ℕ → Type 0
 HasRoom h frame = overhead_of (class_of h) h.protected ≤ length frame
 
@@ -105,7 +105,7 @@ pub frame_with-unprotected : (h : HeaderFields) (s : Side) (frame : List ℕ) �
 unfolding frame_with overhead_of
 frame_with-unprotected h s frame is = rw is refl
 
--- a check word was put behind the header, and then the side information behind it
+-- a check word was put after the header, and then the side information after it
 put_both : (frame word part : List ℕ) (size : ℕ) → 6 ≤ length frame → length word ≡ 2
     → take 6 (take 4 frame ++ (word ++ drop 6 frame)) ++ (part ++ drop (6 + size) (take 4 frame ++ (word ++ drop 6 frame))) ≡ take 4 frame ++ (word ++ (part ++ drop (6 + size) frame))
 put_both frame word part size long two =

@@ -1,4 +1,4 @@
--- The last bytes of side information: at least 30 bits stand behind the last global_gain (ISO/IEC 11172-3 and 13818-3,
+-- The last bytes of side information: at least 30 bits are after the last global_gain (ISO/IEC 11172-3 and 13818-3,
 -- 2.4.1.7), so that they are the same whatever the gains are.
 use Rattle.std.proofs.Common.{◌≡◌, ℕ, ◌+◌, ◌-◌, ◌*◌, ◌≤◌, List, [], ◌∷◌, ◌++◌, length, take, drop, refl, sym, ◌∙◌, ap, ap₂, arith, sum, append-nil, append_assoc, length-append}
 use Rattle.std.specs.List.{flat_map}
@@ -23,9 +23,9 @@ use Rattle.side_info.proofs.GranuleLaws.{length-flat}
 use Rattle.side_info.proofs.SideLaws.{IsShaped, side_with, each_shaped, each_class, length-side_bits}
 use Rattle.side_info.proofs.FrameLaws.{HasRoom, overhead-is, drop-take-append, side_there, side_part-frame_with, area-frame_with, shaped-side_in}
 
--- ---- behind the gain of a granule
+-- ---- after the gain of a granule
 
--- the groups behind the first three, which have 29 bits
+-- the groups after the first three, which have 29 bits
 behind_three : (more ms : List ℕ) (a b gain : ℕ) → drop 29 (spelled (12 ∷ 9 ∷ 8 ∷ more) (a ∷ b ∷ gain ∷ ms)) ≡ spelled more ms
 behind_three more ms a b gain =
     let front = spelled (12 ∷ 9 ∷ 8 ∷ []) (a ∷ b ∷ gain ∷ []) in
@@ -37,7 +37,7 @@ behind_gain : (version : Version) (g : Granule) (gain : ℕ) → drop 29 (granul
 unfolding granule_bits granule_numbers
 behind_gain version g gain = behind_three _ _ g.part2_3_length g.big_values gain ∙ sym (behind_three _ _ g.part2_3_length g.big_values g.global_gain)
 
--- the bits behind global_gain are the same
+-- the bits after global_gain are the same
 pub bits_behind_gain : (version : Version) (g h : Granule) → AreAlike g h → drop 29 (granule_bits version h) ≡ drop 29 (granule_bits version g)
 bits_behind_gain version g h alike = sym (ap (λ k. drop 29 (granule_bits version k)) alike) ∙ behind_gain version g h.global_gain
 
@@ -55,7 +55,7 @@ last_16 TwoFive g h alike =
 abbrev pub last_granule : ClassFields → Side → Granule
 last_granule c s = granule_in s (granules_of c.version - 1) (c.channels - 1)
 
--- the bits of the granule behind a front and other granules
+-- the bits of the granule after a front and other granules
 behind_others : (c : ClassFields) (ns : List ℕ) (gs : List Granule) (last : Granule) → length ns ≡ length (front_widths c)
     → drop (sum (front_widths c) + length gs * granule_size c.version) (spelled (front_widths c) ns ++ flat_map (granule_bits c.version) (gs ++ (last ∷ []))) ≡ granule_bits c.version last
 behind_others c ns gs last long =

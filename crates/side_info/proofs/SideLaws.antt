@@ -117,7 +117,7 @@ side_at-built : (c : ClassFields) (bs : List ℕ) → side_at c bs ≡ built c (
 unfolding side_at built
 side_at-built c bs = refl
 
--- a front and granules behind it
+-- a front and granules after it
 back : (c : ClassFields) (ns : List ℕ) (gs : List Granule) → Fits (front_widths c) ns → length ns ≡ length (front_widths c) → side_at c (spelled (front_widths c) ns ++ flat_map (granule_bits c.version) gs) ≡ built c ns (flat_map (granule_bits c.version) gs)
 back c ns gs fits l =
     side_at-built c (spelled (front_widths c) ns ++ flat_map (granule_bits c.version) gs)

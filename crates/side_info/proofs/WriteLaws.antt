@@ -160,7 +160,7 @@ side_bits-parts c s l =
     ap (λ bs. front ++ bs) (two_granules c.version c.channels s.granules l)
     ∙ sym (append_assoc front (flat_map (granule_bits c.version) (take c.channels (get_or s.granules 0 []))) (second_bits c.version c.channels (get_or s.granules 1 [])))
 
--- ---- a front and granules behind it
+-- ---- a front and granules after it
 -- the bits of a front and of the granules that a version has
 abbrev Whole : Version → ℕ → ℕ → List Granule → List Granule → List ℕ
 Whole version channels front gs hs = (bits_of (front_size version channels) front ++ flat_map (granule_bits version) (take channels gs)) ++ second_bits version channels hs

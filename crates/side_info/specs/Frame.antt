@@ -8,7 +8,7 @@ use Rattle.side_info.specs.declared.side.Side.{Side}
 use Rattle.side_info.specs.Side.{side_at, side_bits}
 use Rattle.side_info.specs.CheckWord.{check_word_of}
 
--- the side information stands behind the header, or behind the check word
+-- the side information is after the header, or after the check word
 abbrev pub side_place : Bool → ℕ
 side_place protected = 4 + (if protected then 2 else 0)
 
@@ -19,7 +19,7 @@ side_part h frame = take (side_size_of (class_of h)) (drop (side_place h.protect
 unfoldable pub side_in : HeaderFields → List ℕ → Side
 side_in h frame = side_at (class_of h) (bits (side_part h frame))
 
--- the check word that stands in a protected frame
+-- the check word that is in a protected frame
 unfoldable pub word_said : List ℕ → ℕ
 word_said frame = number (bits (take 2 (drop 4 frame)))
 

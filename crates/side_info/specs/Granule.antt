@@ -18,7 +18,7 @@ preflag_width Two = 0
 preflag_width TwoFive = 0
 
 -- the width in bits of part2_3_length, big_values, global_gain, scalefac_compress, window_switching_flag, the 22 bits of
--- detail behind it, preflag, scalefac_scale and count1table_select; 0 for a field that the version lacks
+-- detail after it, preflag, scalefac_scale and count1table_select; 0 for a field that the version lacks
 abbrev pub granule_widths : Version → List ℕ
 granule_widths version = 12 ∷ 9 ∷ 8 ∷ compress_width version ∷ 1 ∷ 22 ∷ preflag_width version ∷ 1 ∷ 1 ∷ []
 

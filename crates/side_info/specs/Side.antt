@@ -22,11 +22,11 @@ front_widths c = front_widths_of c.version c.channels
 abbrev pub no_side : Side
 no_side = record { main_data_begin = 0; private_bits = 0; scfsi = 0 ∷ 0 ∷ []; granules = (no_granule ∷ no_granule ∷ []) ∷ (no_granule ∷ no_granule ∷ []) ∷ [] }
 
--- the granule and channel behind so many others
+-- the granule and channel after so many others
 abbrev pub nth_granule : Version → ℕ → List ℕ → Granule
 nth_granule version n bs = granule_at version (drop (n * granule_size version) bs)
 
--- the channels of one granule, whose first stands behind so many others; one that the class lacks is all 0
+-- the channels of one granule, whose first is after so many others; one that the class lacks is all 0
 abbrev pub channels_at : ClassFields → ℕ → List ℕ → List Granule
 channels_at c n bs = nth_granule c.version n bs ∷ (if c.channels == 1 then no_granule else nth_granule c.version (n + 1) bs) ∷ []
 

@@ -1,4 +1,4 @@
-//! The check word and the side information where they stand in a frame.
+//! The check word and the side information where they are in a frame.
 ghost use Rattle.std.specs.Prelude.{◌≡◌, ◌+◌, ◌≤◌, ◌++◌, length, take, drop};
 ghost use Rattle.bit_fields.specs.Bits.{bits, bits_of, bytes};
 ghost use Rattle.frame_header.specs.Tables.{class_of, side_size_of, overhead_of};
@@ -26,7 +26,7 @@ fn read_at_place(class: Class, place: usize, frame: &[u8], side: &mut Side)
     side.read_over(class, &frame[place..end]);
 }
 
-/// Reads the side information of the frame with this header, over what was there. Bytes behind the frame may
+/// Reads the side information of the frame with this header, over what was there. Bytes after the frame may
 /// follow (ISO/IEC 11172-3 and 13818-3, 2.4.1).
 #[tactic(auto, unfolding(crate::specs::Frame::side_in, crate::specs::Frame::side_part, frame_header::specs::Tables::overhead_of))]
 pub fn read_side(header: &Header, frame: &[u8], side: &mut Side)
@@ -42,7 +42,7 @@ pub fn read_side(header: &Header, frame: &[u8], side: &mut Side)
     read_at_place(header.class(), place, frame, side);
 }
 
-/// The side information of the frame with this header. Bytes behind the frame may follow.
+/// The side information of the frame with this header. Bytes after the frame may follow.
 pub fn side_of_frame(header: &Header, frame: &[u8]) -> Side
     requires { overhead_of (class_of header.now) header.now.protected ≤ length frame.now }
     ensures side { result ≡ side_in header.now frame.now }
@@ -53,7 +53,7 @@ pub fn side_of_frame(header: &Header, frame: &[u8]) -> Side
     side
 }
 
-/// The check word that stands in a protected frame, right behind its header.
+/// The check word that is in a protected frame, right after its header.
 #[tactic(auto, unfolding(crate::specs::Frame::word_said))]
 pub fn word_said(frame: &[u8]) -> u16
     requires { 6 ≤ length frame.now }
@@ -62,7 +62,7 @@ pub fn word_said(frame: &[u8]) -> u16
     u16::from_be_bytes([frame[4], frame[5]])
 }
 
-/// Puts a check word behind the header.
+/// Puts a check word after the header.
 pub(crate) fn put_word(word: u16, frame: &mut [u8])
     requires { 6 ≤ length frame.old }
     ensures { frame.new ≡ take 4 frame.old ++ (bytes (bits_of 16 word) ++ drop 6 frame.old) }
@@ -82,7 +82,7 @@ fn put_side_at(class: Class, side: &Side, place: usize, frame: &mut [u8])
 }
 
 /// Puts side information into the frame with this header in place of its own. A protected frame gets
-/// the check word that is right for it; all other bytes stay, also those behind the frame.
+/// the check word that is right for it; all other bytes stay, also those after the frame.
 #[tactic(auto, unfolding(crate::specs::Frame::frame_with, frame_header::specs::Tables::overhead_of))]
 pub fn put_side(header: &Header, side: &Side, frame: &mut [u8])
     requires fits { SideFits (class_of header.now) side.now }

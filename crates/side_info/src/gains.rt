@@ -1,4 +1,4 @@
-//! Gains changed where they stand in a frame.
+//! Gains changed where they are in a frame.
 ghost use Rattle.std.specs.Prelude.{◌≡◌, ℕ, ◌+◌, ◌*◌, ◌^◌, ◌≤◌, ◌++◌, List, [], length, take, drop, slice_index_or};
 ghost use Rattle.bit_fields.specs.Bits.{bits, bits_of, bytes};
 ghost use Rattle.frame_header.specs.declared.version.Version.{Version};
@@ -19,7 +19,7 @@ use crate::widths::{front_size, granule_width};
 use bit_fields::put_byte;
 use frame_header::{Class, Header, Version};
 
-/// Puts the gain of a granule and channel whose side information begins at this bit: behind the 12 bits of
+/// Puts the gain of a granule and channel whose side information begins at this bit: after the 12 bits of
 /// part2_3_length and the 9 of big_values.
 #[inline]
 fn put_gain(gain: u8, bytes: &mut [u8], at: usize)
@@ -153,7 +153,7 @@ fn put_right_word(header: &Header, frame: &mut [u8])
 /// Puts the gains of side information into the frame with this header, each into its 8 bits, and in a
 /// protected frame the check word that is then right (ISO/IEC 11172-3 and 13818-3, 2.4.1.7 and 2.4.3.1).
 /// Where the frame's own side information differs in gains alone, the frame then has this one. Header and
-/// area stay, and bytes behind the frame.
+/// area stay, and bytes after the frame.
 #[inline(always)]
 pub fn put_gains(header: &Header, side: &Side, frame: &mut [u8])
     requires { overhead_of (class_of header.now) header.now.protected ≤ length frame.old }

@@ -7,7 +7,7 @@ use frame_header::Version;
 // The widest first, so that no room is lost between them.
 #[derive(Clone, Copy, Debug, PartialEq, Eq)]
 pub struct Granule {
-    /// The 22 bits behind `window_switching`, unread: block type and table numbers, as the flag says.
+    /// The 22 bits after `window_switching`, unread: block type and table numbers, as the flag says.
     pub detail: u32,
     /// The bits of main data: scale factors and Huffman codes, 12 bits.
     pub part2_3_length: u16,

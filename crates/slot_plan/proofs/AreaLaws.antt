@@ -135,7 +135,7 @@ byte_most : (padding : Bool) → bool_byte padding ≤ 1
 byte_most true = lit≤ tt
 byte_most false = lit≤ tt
 
--- a slot that doesn't come behind another has no greater area
+-- a slot that doesn't come after another has no greater area
 pub area-le : (c : ClassFields) (p : Bool) (s t : SlotFields) → IsClass c → IsSlot s → IsSlot t → place_of s ≤ place_of t → area_of c s p ≤ area_of c t p
 area-le c p s t class is it before =
     elim (cases_lt (place_of s) (place_of t)) as (λ _. area_of c s p ≤ area_of c t p) [

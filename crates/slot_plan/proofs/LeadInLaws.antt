@@ -1,4 +1,4 @@
--- The lead-in of a part is the first entry of the least list of its frames behind one lead-in.
+-- The lead-in of a part is the first entry of the least list of its frames after one lead-in.
 use Rattle.std.proofs.Common.{◌≡◌, ℕ, zero, suc, ◌+◌, ◌-◌, ◌<◌, ◌≤◌, ◌⊎◌, inl, inr, false, List, [], ◌∷◌, map, Contains, Some, None, refl, subst, arith}
 use Rattle.std.proofs.lemmas.Bool.{cases_lt}
 use Rattle.frame_header.specs.Fields.{SlotFields, ClassFields, HeaderFields}

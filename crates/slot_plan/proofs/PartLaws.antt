@@ -14,7 +14,7 @@ use Rattle.slot_plan.specs.Parts.{item_of, open_of, own_frame, own_area, parts_o
 use Rattle.slot_plan.specs.Reserve.{greatest, needed, needed_behind, AllWithin, opens_in, AreReserves}
 use Rattle.slot_plan.proofs.ReserveLaws.{AllFit, fit-from, needed-fit}
 
--- the need at i, and those behind it
+-- the need at i, and those after it
 pub next_need : (part : List Need) (i : ℕ) (need : Need) → i < length part → need ≡ get_or part i need → drop i part ≡ need ∷ drop (i + 1) part
 next_need part i need lt is =
     let one : suc i ≡ i + 1 = omega arith in
@@ -51,7 +51,7 @@ pub chosen-cons : (choices : HeaderFields → List SlotFields) (need : Need) (pa
 unfolding AreChosen
 chosen-cons choices need part here behind = (here, behind)
 
--- behind all frames
+-- after all frames
 pub nothing_behind : (choices : HeaderFields → List SlotFields) → needed_behind (opens_in choices []) ≡ []
 unfolding needed_behind
 nothing_behind choices = refl
@@ -68,7 +68,7 @@ pub nothing_chosen : (choices : HeaderFields → List SlotFields) → AreChosen 
 unfolding AreChosen
 nothing_chosen choices = tt
 
--- the last of the list is what the first frame needs behind it
+-- the last of the list is what the first frame needs after it
 pub popped : (behind rest : List ℕ) (last : Option ℕ) (ns : List ℕ) (n : ℕ) → behind ≡ ns ++ n ∷ [] → behind ≡ rest ++ option_to_list last → 0 < length (option_to_list last) → (last ≡ Some n) × (rest ≡ ns)
 popped behind rest None ns n is parts some = absurd (omega arith)
 popped behind rest (Some m) ns n is parts some = let same = same_from_push rest ns m n (sym parts ∙ is) in (ap (λ k. Some k) same.1, same.0)
@@ -115,7 +115,7 @@ reserves-all window choices part i reserves none from =
     let all = subst (λ k. ReservesFrom window choices part k reserves.behind.items reserves.before) none from in
     record { before = all.before; behind = all.behind; most = all.most; within = all.within; own = all.own }
 
--- ---- forwards: what the next frame needs behind it
+-- ---- forwards: what the next frame needs after it
 pub next-wanted : (choices : HeaderFields → List SlotFields) (part : List Need) (i : ℕ) (need : Need) (behind rest : List ℕ) (many : ℕ) (last : Option ℕ) (wanted : ℕ) → i < length part → need ≡ get_or part i need → behind ≡ needed_behind (opens_in choices (drop i part))
     → many ≡ length behind → behind ≡ rest ++ option_to_list last → ((d : ℕ) → 0 < many → last ≡ Some (get_or behind (many - 1) d)) → wanted ≡ unwrap_or last 0
     → (wanted ≡ needed (opens_in choices (drop (i + 1) part))) × (rest ≡ needed_behind (opens_in choices (drop (i + 1) part)))
@@ -199,7 +199,7 @@ part-bounds needs parts at end ascend all within next last =
       | inr none ↦ let is = last (omega arith) in let below = all at 0 within in (omega arith, omega arith)
     ]
 
--- what the call over the part at this place stands on
+-- what the call over the part at this place is on
 pub part-ready : (needs : List Need) (parts : List ℕ) (at end window : ℕ) → AreOfOneClass needs → AllPairs (λ m n. m < n) parts → All (λ place. place < length needs) parts → at < length parts → (at + 1 < length parts → end ≡ get_or parts (at + 1) 0) → (length parts ≤ at + 1 → end ≡ length needs)
     → window ≡ window_in needs → ArePartsFeasible window (parts_of needs (drop at parts))
     → (0 < length (slice_range needs (get_or parts at 0) end)) × (window ≡ window_in (slice_range needs (get_or parts at 0) end)) × IsFeasible window window (map own_frame (slice_range needs (get_or parts at 0) end)) × ArePartsFeasible window (parts_of needs (drop (at + 1) parts))

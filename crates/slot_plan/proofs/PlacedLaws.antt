@@ -1,4 +1,4 @@
--- Frames that are placed by what is needed behind them are the plan.
+-- Frames that are placed by what is needed after them are the plan.
 use Rattle.std.proofs.Common.{◌≡◌, ℕ, zero, suc, ◌+◌, ◌-◌, ◌<◌, ◌≤◌, true, false, List, [], ◌∷◌, ◌++◌, map, length, get_or, drop, Contains, Option, Some, None, append_assoc, refl, sym, ap, ap₂, ◌∙◌, subst, arith}
 use Rattle.std.proofs.lemmas.List.{map-append, append-nil}
 use Rattle.frame_header.specs.Fields.{SlotFields, HeaderFields, ClassFields}

@@ -1,4 +1,4 @@
--- Over lists of numbers: which lists can be laid, by the bytes that are free before each frame, and that the least choice by what is needed behind is
+-- Over lists of numbers: which lists can be laid, by the bytes that are free before each frame, and that the least choice by what is needed after is
 -- the least list.
 use Rattle.std.proofs.Common.{◌≡◌, ℕ, zero, suc, ◌+◌, ◌-◌, ◌<◌, ◌≤◌, max, ◌⊎◌, inl, inr, List, [], ◌∷◌, ◌++◌, drop, Contains, refl, sym, ap, ◌∙◌, subst, arith}
 use Rattle.std.proofs.Math.Nat.{le-max_left, le-max_right}
@@ -112,7 +112,7 @@ fit-needed window free (o ∷ opens) (area ∷ some) chosen enough within =
     let rest = fit-needed window (free_behind window free o.bytes most) opens some chosen.1 (omega arith) within.1 in
     (most ∷ rest.0, (Contains-greatest o.areas area chosen.0, rest.1), (omega arith, rest.2))
 
--- each area is the least that leaves what is needed behind it
+-- each area is the least that leaves what is needed after it
 unfoldable pub AreLeastAreas : ℕ → ℕ → List Open → List ℕ → Type 0
 AreLeastAreas window free [] [] = Unit {0}
 AreLeastAreas window free [] (area ∷ areas) = ⊥
@@ -182,7 +182,7 @@ least-is window opens areas least =
       least = λ others chosen feasible. not_behind-least window 0 opens areas others (omega arith) least chosen (fit-layout window 0 0 0 (frames_of opens others) feasible.0 (omega arith) feasible.1);
     }
 
--- ---- behind more frames
+-- ---- after more frames
 pub append-needed : (xs ys : List Open) → needed ys ≡ 0 → needed (xs ++ ys) ≡ needed xs
 unfolding needed
 append-needed [] ys none = none
@@ -208,7 +208,7 @@ fit-drop window (suc k) [] fit = fit
 fit-drop window (suc k) (frame ∷ frames) fit =
     fit-drop window k frames (fit-more window (free_behind window window frame.bytes frame.area) window frames (omega arith) fit.1)
 
--- frames that can be laid behind a whole window fit from each on
+-- frames that can be laid after a whole window fit from each on
 pub fit-from : (window k : ℕ) (frames : List Frame) → IsFeasible window window frames → AllFit window window (drop k frames)
 unfolding IsFeasible
 fit-from window k frames feasible = fit-drop window k frames (fit-layout window 0 window window frames feasible.0 (omega arith) feasible.1)

@@ -10,11 +10,11 @@ use Rattle.slot_plan.specs.Parts.{open_of, item_of, lead_in_of, items_of, areas_
 use Rattle.slot_plan.specs.Plans.{IsPlan}
 use Rattle.slot_plan.specs.ThePlan.{the_plan}
 
--- a part's frames behind one lead-in, which may have any slot
+-- a part's frames after one lead-in, which may have any slot
 abbrev pub behind_any : (HeaderFields → List SlotFields) → Need → List Need → List Open
 behind_any choices first part = map open_of (lead_in_of (class_of first.header) all_slots ∷ map (item_of choices) (first ∷ part))
 
--- The lead-in of a part that can't be laid without one is what stands first in the lexicographically least list of its frames behind one lead-in.
+-- The lead-in of a part that can't be laid without one is what is first in the lexicographically least list of its frames after one lead-in.
 abbrev pub LeadInsComeFirst : Type 0
 LeadInsComeFirst =
     (window : ℕ) (choices : HeaderFields → List SlotFields) (first : Need) (part : List Need) (slot : SlotFields)

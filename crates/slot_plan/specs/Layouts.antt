@@ -1,4 +1,4 @@
--- Where the main data of each frame may stand among the main data areas of all frames.
+-- Where the main data of each frame may be among the main data areas of all frames.
 use Rattle.std.specs.Prelude.{ℕ, ◌+◌, ◌-◌, ◌≤◌, max, List, [], ◌∷◌}
 
 -- a frame: the bytes of its main data, and how many bytes its own area has
@@ -6,8 +6,8 @@ pub record Frame : Type 0 where
   pub bytes : ℕ
   pub area : ℕ
 
--- Starts of main data, where the main data before ended at `end` and so many bytes of areas stand before the frames. Each start isn't before the end of
--- the last, lies at most the window before the own area and not behind its front, and the main data end within the own area.
+-- Starts of main data, where the main data before ended at `end` and so many bytes of areas are before the frames. Each start isn't before the end of
+-- the last, lies at most the window before the own area and not after its front, and the main data end within the own area.
 unfoldable pub IsLayout : ℕ → ℕ → ℕ → List Frame → List ℕ → Type 0
 IsLayout window end before [] [] = Unit {0}
 IsLayout window end before [] (start ∷ starts) = ⊥
@@ -16,7 +16,7 @@ IsLayout window end before (frame ∷ frames) (start ∷ starts) =
     (end ≤ start) × (before ≤ start + window) × (start ≤ before) × (start + frame.bytes ≤ before + frame.area)
     × IsLayout window (start + frame.bytes) (before + frame.area) frames starts
 
--- behind so many bytes of areas that hold nothing, the frames have a layout
+-- after so many bytes of areas that hold nothing, the frames have a layout
 unfoldable pub IsFeasible : ℕ → ℕ → List Frame → Type 0
 IsFeasible window before frames = (starts : List ℕ) × IsLayout window 0 before frames starts
 

@@ -24,7 +24,7 @@ frames_of (o ∷ opens) (area ∷ areas) = record { bytes = o.bytes; area = area
 unfoldable pub CanBeLaid : ℕ → List Open → Type 0
 CanBeLaid window opens = (areas : List ℕ) × AreChosen opens areas × IsFeasible window 0 (frames_of opens areas)
 
--- in lexicographic order, the first list isn't behind the second
+-- in lexicographic order, the first list isn't after the second
 unfoldable pub IsNotBehind : List ℕ → List ℕ → Type 0
 IsNotBehind [] [] = Unit {0}
 IsNotBehind [] (n ∷ ns) = Unit {0}

@@ -56,7 +56,7 @@ own_area need = area_of (class_of need.header) need.header.slot need.header.prot
 abbrev pub own_frame : Need → Frame
 own_frame need = record { bytes = need.bytes; area = own_area need }
 
--- each part has a layout in its own slots, behind as many free bytes as the window
+-- each part has a layout in its own slots, after as many free bytes as the window
 unfoldable pub ArePartsFeasible : ℕ → List (List Need) → Type 0
 ArePartsFeasible window [] = Unit {0}
 ArePartsFeasible window (part ∷ parts) = IsFeasible window window (map own_frame part) × ArePartsFeasible window parts
@@ -82,13 +82,13 @@ parts_of needs [] = []
 parts_of needs (from ∷ []) = slice_range needs from (length needs) ∷ []
 parts_of needs (from ∷ to ∷ places) = slice_range needs from to ∷ parts_of needs (to ∷ places)
 
--- a part's frames, behind its lead-in where it has one
+-- a part's frames, after its lead-in where it has one
 unfoldable pub items_of : (HeaderFields → List SlotFields) → List Need → Option SlotFields → List Item
 items_of choices part None = map (item_of choices) part
 items_of choices [] (Some slot) = []
 items_of choices (first ∷ part) (Some slot) = lead_in_of (class_of first.header) (slot ∷ []) ∷ map (item_of choices) (first ∷ part)
 
--- The lead-in of a part alone: none where its frames can be laid without one. Else it has the least area with which they can be laid behind it.
+-- The lead-in of a part alone: none where its frames can be laid without one. Else it has the least area with which they can be laid after it.
 unfoldable pub IsLeadIn : ℕ → (HeaderFields → List SlotFields) → List Need → Option SlotFields → Type 0
 IsLeadIn window choices part None = CanBeLaid window (map open_of (items_of choices part None))
 IsLeadIn window choices [] (Some slot) = ⊥
@@ -106,7 +106,7 @@ AreLeadIns window choices [] (lead_in ∷ lead_ins) = ⊥
 AreLeadIns window choices (part ∷ parts) [] = ⊥
 AreLeadIns window choices (part ∷ parts) (lead_in ∷ lead_ins) = IsLeadIn window choices part lead_in × AreLeadIns window choices parts lead_ins
 
--- the frames of all parts, each behind its lead-in
+-- the frames of all parts, each after its lead-in
 unfoldable pub whole_of : (HeaderFields → List SlotFields) → List (List Need) → List (Option SlotFields) → List Item
 whole_of choices [] lead_ins = []
 whole_of choices (part ∷ parts) [] = []

@@ -21,7 +21,7 @@ areas_in [] placed = []
 areas_in (item ∷ items) [] = []
 areas_in (item ∷ items) (p ∷ placed) = area_in item p.slot ∷ areas_in items placed
 
--- what stands where these frames were to be placed
+-- what is where these frames were to be placed
 pub record IsPlanFor (window : ℕ) (items : List Item) (placed : List Placed) : Type 0 where
   pub slots : AreFor items placed
   pub least : IsLeast window (map open_of items) (areas_in items placed)

@@ -19,12 +19,12 @@ unfoldable pub needed : List Open → ℕ
 needed [] = 0
 needed (o ∷ opens) = (o.bytes + needed opens) - greatest o.areas
 
--- what is needed behind each frame, the last frame first
+-- what is needed after each frame, the last frame first
 unfoldable pub needed_behind : List Open → List ℕ
 needed_behind [] = []
 needed_behind (o ∷ opens) = needed_behind opens ++ needed opens ∷ []
 
--- the free bytes behind a frame: what it leaves, but no more than the window
+-- the free bytes after a frame: what it leaves, but no more than the window
 abbrev pub free_behind : ℕ → ℕ → ℕ → ℕ → ℕ
 free_behind window free bytes area = let left = (free + area) - bytes in left - (left - window)
 
@@ -38,7 +38,7 @@ pub record IsLeastSlot (wanted : ℕ) (class : ClassFields) (protected : Bool) (
 abbrev pub IsLeastFor : ℕ → (HeaderFields → List SlotFields) → HeaderFields → SlotFields → Type 0
 IsLeastFor wanted choices h slot = IsLeastSlot wanted (class_of h) h.protected (choices h) slot
 
--- each frame has the least area that leaves what is needed behind it
+-- each frame has the least area that leaves what is needed after it
 unfoldable pub ArePlaced : ℕ → ℕ → List Item → List Placed → Type 0
 ArePlaced window free [] [] = Unit {0}
 ArePlaced window free [] (p ∷ placed) = ⊥
@@ -47,7 +47,7 @@ ArePlaced window free (item ∷ items) (p ∷ placed) =
     (p.lead_in ≡ item.lead_in) × (p.begin ≡ free) × IsLeastSlot ((item.bytes + needed (map open_of items)) - free) item.class item.protected item.choices p.slot
     × ArePlaced window (free_behind window free item.bytes (area_in item p.slot)) items placed
 
--- behind each frame no more is needed than the window
+-- after each frame no more is needed than the window
 unfoldable pub AllWithin : ℕ → List Open → Type 0
 AllWithin window [] = Unit {0}
 AllWithin window (o ∷ opens) = (needed opens ≤ window) × AllWithin window opens
@@ -71,7 +71,7 @@ pub record PlacesOn (window free after : ℕ) (items left : List Item) (old new 
   pub appended : new ≡ old ++ more
   pub goes : (rest : List Item) (placed : List Placed) → needed (map open_of rest) ≡ 0 → ArePlaced window after (left ++ rest) placed → ArePlaced window free (items ++ rest) (more ++ placed)
 
--- a part was placed behind its lead-in
+-- a part was placed after its lead-in
 pub record PlacesPart (window : ℕ) (choices : HeaderFields → List SlotFields) (part : List Need) (free after : ℕ) (old new : List Placed) : Type 0 where
   pub lead_in : Option SlotFields
   pub alone : IsLeadIn window choices part lead_in

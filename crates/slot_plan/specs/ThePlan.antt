@@ -1,4 +1,4 @@
--- The plan as a function of the parts: frame by frame, each in the least area that leaves what is needed behind it.
+-- The plan as a function of the parts: frame by frame, each in the least area that leaves what is needed after it.
 use Rattle.std.specs.Prelude.{ℕ, ◌+◌, ◌-◌, ◌==◌, leb, if◌then◌else◌, Bool, false, List, [], ◌∷◌, map, Option, Some, None}
 use Rattle.frame_header.specs.Fields.{SlotFields, ClassFields, HeaderFields}
 use Rattle.frame_header.specs.Tables.{class_of, area_of}
@@ -20,7 +20,7 @@ lead_in_for choices (first ∷ part) =
     let bytes = needed (opens_in choices (first ∷ part)) in
     if bytes == 0 then None else Some (first_with bytes (class_of first.header) false all_slots)
 
--- frames behind so many free bytes
+-- frames after so many free bytes
 unfoldable pub placed_from : ℕ → ℕ → List Item → List Placed
 placed_from window free [] = []
 placed_from window free (item ∷ items) =

@@ -1,4 +1,4 @@
-//! From the first frame of a part to its last: the least slot that leaves what is needed behind it.
+//! From the first frame of a part to its last: the least slot that leaves what is needed after it.
 ghost use Rattle.std.specs.Prelude.{◌≡◌, ◌+◌, ◌-◌, ◌<◌, ◌≤◌, true, false, [], ◌∷◌, map, length, IfOk};
 ghost use Rattle.frame_header.specs.Tables.{class_of, window_of};
 ghost use Rattle.frame_header.specs.Slots.{all_slots};
@@ -12,7 +12,7 @@ use crate::reserves::reserves_of;
 use crate::slots::{free_behind, least_slot_of};
 use std::alloc::{AllocError, Global};
 
-/// The frame in the least slot that leaves so many bytes free behind it.
+/// The frame in the least slot that leaves so many bytes free after it.
 fn place_frame<P: Policy>(need: &Need, behind: u16, free: u32, policy: &P) -> Placed
     requires enough { (need.now.bytes + behind) - greatest
         (open_of (item_of (P.choices_of policy.now) need.now)).areas ≤ free }
@@ -31,7 +31,7 @@ fn place_frame<P: Policy>(need: &Need, behind: u16, free: u32, policy: &P) -> Pl
     }
 }
 
-/// The lead-in of the least area that alone leaves so many bytes free behind it.
+/// The lead-in of the least area that alone leaves so many bytes free after it.
 fn lead_in(need: &Need, behind: u16, free: u32) -> Placed
     requires enough { behind ≤ window_of need.now.header.version }
     requires free { free ≤ 511 }
@@ -50,8 +50,8 @@ fn lead_in(need: &Need, behind: u16, free: u32) -> Placed
     }
 }
 
-/// Places the frames of a part, each with what is needed behind it, the last frame's first. Gives the bytes
-/// that are free behind them.
+/// Places the frames of a part, each with what is needed after it, the last frame's first. Gives the bytes
+/// that are free after them.
 fn place_frames<P: Policy>(
     window: u32,
     free: u32,
@@ -82,7 +82,7 @@ fn place_frames<P: Policy>(
     Ok(free)
 }
 
-/// Places a part behind its lead-in, where it has one; gives the bytes that are free behind it.
+/// Places a part after its lead-in, where it has one; gives the bytes that are free after it.
 pub(crate) fn place_part<P: Policy>(
     alloc: Global,
     window: u32,

@@ -8,7 +8,7 @@ use crate::placing::place_part;
 use crate::policy::Policy;
 use std::alloc::{AllocError, Global};
 
-/// Where the part at this place ends: where the next begins, or behind the last need.
+/// Where the part at this place ends: where the next begins, or after the last need.
 pub(crate) fn end_of(needs: &[Need], parts: &[u32], at: usize) -> usize
     requires { at < length parts.now }
     ensures next { at + 1 < length parts.now → result ≡ slice_index parts.now (at + 1) }

@@ -11,13 +11,13 @@ use std::alloc::{AllocError, Global};
 /// The bytes that have to be free.
 #[derive(Drop)]
 pub(crate) struct Reserves {
-    /// Behind each frame, the last frame's first.
+    /// After each frame, the last frame's first.
     pub(crate) behind: Vec<u16>,
     /// Before the first frame.
     pub(crate) before: u16,
 }
 
-/// What has to be free before a frame, where so many bytes have to be free behind it.
+/// What has to be free before a frame, where so many bytes have to be free after it.
 fn needed_before<P: Policy>(need: &Need, behind: u16, policy: &P) -> u64
     ensures needed { result ≡ (need.now.bytes + behind) - greatest
         (open_of (item_of (P.choices_of policy.now) need.now)).areas }
@@ -28,7 +28,7 @@ fn needed_before<P: Policy>(need: &Need, behind: u16, policy: &P) -> u64
     (u64::from(need.bytes) + u64::from(behind)).saturating_sub(u64::from(largest))
 }
 
-/// What each frame of the part needs behind it. Want of memory is the one refusal.
+/// What each frame of the part needs after it. Want of memory is the one refusal.
 pub(crate) fn reserves_of<P: Policy>(
     alloc: Global,
     window: u32,

@@ -263,7 +263,7 @@ module _ (points : Points) (input prefix : List ℕ) where
                   let part = some held.0 held.1 in
                   (made held.0, makes-pieces f held.0 told held.1, part.0, part.1, part.2)
 
-    -- ---- what is left of a surveyed input, by a step behind those that left all as it was
+    -- ---- what is left of a surveyed input, by a step after those that left all as it was
 
     module _ (s : SurveyFields) (old mid new : Seen) (stays : mid ≡ old) (there : IsThere old.files input) (surveyed : (bytes : List ℕ) → Holds old.files input bytes → survey_of bytes most_frames ≡ Ok s) where
       places-left-by : (fault : EditFault) (why : Why) → IsPlacesFaultBy placing old new fault why → LeavesBy command old new fault why

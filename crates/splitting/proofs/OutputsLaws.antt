@@ -1,4 +1,4 @@
--- Outputs that are written one behind the other.
+-- Outputs that are written one after the other.
 use Rattle.std.proofs.Common.{◌≡◌, ◌≢◌, ℕ, List, [], ◌∷◌, ◌++◌, length, take, Option, Some, None, Result, Ok, Err, refl, sym, ◌∙◌, ap, ap₂, subst, string_bytes, is_some, inl, inr, arith, append-nil, length-append}
 use Rattle.std.specs.Prelude.{IfErr, OnOk, OnErr}
 use Rattle.std.proofs.Math.Seq.{take-append_seam, drop-append_seam}
@@ -36,7 +36,7 @@ unfolding with_outputs holding
 more-written xs name bytes None = refl
 more-written xs name bytes (Some f) = ap Some (sym (written-append xs (record { name = name; bytes = bytes } ∷ []) f))
 
--- behind whole ones an output wasn't created, or holds a prefix
+-- after whole ones an output wasn't created, or holds a prefix
 part-is : (xs ys : List Output) (o : Output) (count : Option ℕ) (files : Files) → with_outputs (xs ++ begun count (o ∷ ys)) files ≡ with_part (length xs) count (xs ++ o ∷ ys) files
 unfolding with_outputs with_part
 part-is xs ys o count None = refl

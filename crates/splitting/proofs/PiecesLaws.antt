@@ -33,7 +33,7 @@ one-chosen frames from to more done first is =
     ap (λ r. chosen_before done (then_made r (λ c. with_first c (chosen_from frames to more)))) is
     ∙ before-first done first (chosen_from frames to more)
 
--- up to this place, and then behind it
+-- up to this place, and then after it
 pub place-chosen : (class : ClassFields) (frames index from : ℕ) (rest : List Place) (d : Place) (done : List Chosen) (first : Chosen) (whole : Result (List Chosen) EditFault) → index < length rest
     → frames_between frames from (frame_at class frames (get_or rest index d)) ≡ Ok first → chosen_before done (chosen_from frames from (map (frame_at class frames) (drop index rest))) ≡ whole
     → chosen_before (done ++ first ∷ []) (chosen_from frames (frame_at class frames (get_or rest index d)) (map (frame_at class frames) (drop (index + 1) rest))) ≡ whole

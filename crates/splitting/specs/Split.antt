@@ -75,7 +75,7 @@ abbrev pub made_by : List ℕ → Result (List Place) EditFault → List ℕ →
 made_by prefix places file (Err fault) = Err (Input 0 fault)
 made_by prefix places file (Ok s) = then_made places (made_at prefix file s)
 
--- the input is at fault, or else there are no places, or else one is behind the next or behind the frames
+-- the input is at fault, or else there are no places, or else one is after the next or after the frames
 abbrev pub made_where : List ℕ → Result (List Place) EditFault → Option (List ℕ) → Result Made EditFault
 made_where prefix places None = Err (Input 0 Absent)
 made_where prefix places (Some file) = made_by prefix places file (survey_of file most_frames)

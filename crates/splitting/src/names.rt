@@ -37,7 +37,7 @@ pub(crate) fn piece_name(alloc: Global, prefix: &str, number: u8) -> Result<Stri
     Ok(name)
 }
 
-/// Whether the name is the prefix with the tail behind it.
+/// Whether the name is the prefix with the tail after it.
 fn is_joined(name: &[u8], prefix: &[u8], tail: &[u8]) -> bool
     ensures { result ≡ bytes_eq name.now (prefix.now ++ tail.now) }
 {

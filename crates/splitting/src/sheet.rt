@@ -14,7 +14,7 @@ use cue_sheet::{Cue, CueFault, Place};
 use outside::Folder;
 use std::alloc::Global;
 
-/// The starts that the bytes of a sheet say, and the end behind them.
+/// The starts that the bytes of a sheet say, and the end after them.
 fn places_in(alloc: Global, bytes: &[u8]) -> Result<Vec<Place>, EditFault>
     requires { length bytes.now ≤ longest_sheet }
     ensures places { MatchResult result

@@ -21,7 +21,7 @@ use std::alloc::Global;
 /// Where a file is cut.
 #[derive(Clone, Copy)]
 pub enum Points<'a> {
-    /// At these places, of which the last is behind the last piece.
+    /// At these places, of which the last is after the last piece.
     Places(&'a [Place]),
     /// At each start of a track that the cue sheet of this name says, and at the end.
     Sheet(&'a str),
@@ -76,7 +76,7 @@ fn places_of<D: Folder>(
 }
 
 /// Writes the pieces of the input, which are the frames from each place on and before the next, with all main data. Each is
-/// a file as `edits::cut` writes one that keeps the slots of its frames: the ID3v2 blocks of the input that stand in front of
+/// a file as `edits::cut` writes one that keeps the slots of its frames: the ID3v2 blocks of the input that are in front of
 /// its first frame, an Info frame, these frames in the slots of their plan, with a lead-in where their main data need
 /// room, and all other blocks. The name of a piece is the prefix, two decimal digits of its number, which is counted from
 /// 1, and `.mp3`.
@@ -85,7 +85,7 @@ fn places_of<D: Folder>(
 /// for byte, whether there are so many pieces or not, and with 1 where that of the sheet is; `Input(0, ..)` with the fault
 /// of the survey of the input, of which 2,900,000 frames are allowed; of a sheet, which is input 1, `Input(1, ..)` where it
 /// isn't there, `SheetTooLarge` with its length where it has more than 65,536 bytes, and `Sheet` with its first fault; `Range` with the numbers of the two frames and that of all frames for the first place
-/// and the next between which there is no frame, or of which the second is behind all frames. Then nothing was created.
+/// and the next between which there is no frame, or of which the second is after all frames. Then nothing was created.
 ///
 /// `Input` with `Read` and `Write` come only where a call of that kind failed, `Input` with `Absent` only where the input
 /// isn't there, and every other answer only where none failed. `Write` names the piece, counted from 0. After it, and after

@@ -1,4 +1,4 @@
-//! The second pass: pieces are written one behind the other.
+//! The second pass: pieces are written one after the other.
 ghost use Rattle.std.specs.Prelude.{◌≡◌, ◌≢◌, ◌≤◌, List, ℕ, [], length, Ok, is_some, string_bytes, IfErr, OnOk};
 ghost use Rattle.outside.specs.Files.{Holds, IsThere};
 ghost use Rattle.outside.specs.Counts.{NoneFell};
@@ -75,7 +75,7 @@ fn write_piece<'a, D: Folder>(
     write_selection(folder, &relay, &piece.selection, buffers)
 }
 
-/// Creates the outputs of the pieces and writes them, one behind the other. It takes no memory.
+/// Creates the outputs of the pieces and writes them, one after the other. It takes no memory.
 ///
 /// # Errors
 /// `Input(0, ..)` with `Read`, and with `Shrunk` only where the folder doesn't tell its files; `Write` with the number of the

@@ -50,7 +50,7 @@ const CLASS: Class = Class {
     channels: 2,
 };
 
-/// Asserts what stands where in the song.
+/// Asserts what is where in the song.
 fn expect_places<R: Abort>(rt: &R, survey: &Survey) {
     assert_eq!(rt; survey.junk(), (42, 300));
     assert_eq!(rt; survey.first(), 342);

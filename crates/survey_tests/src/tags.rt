@@ -19,7 +19,7 @@ const FRAME: Stretch = Bytes(b"\xff\xf3\x14\xc0\0\0\0\0\0\0\0\0\0\0\0\0\0\0\0\0\
 /// A zero byte.
 const ZERO: Stretch = Bytes(b"\0");
 
-/// ID3v2 without a byte behind its header: 10 bytes.
+/// ID3v2 without a byte after its header: 10 bytes.
 const ID3V2: Stretch = Bytes(b"ID3\x04\0\0\0\0\0\0");
 
 /// APEv2 with the item `Title`, `x`: 32 bytes, 15 bytes and 32 bytes.
@@ -161,7 +161,7 @@ struct Refused {
 }
 
 /// APEv2 without items by its header, of the longest size that may be, and of one byte more: 1,048,544 and 1,048,545 bytes
-/// behind the header's 32.
+/// after the header's 32.
 const LONGEST_HEADER: Stretch = Bytes(
     b"APETAGEX\xd0\x07\0\0\xe0\xff\x0f\0\0\0\0\0\0\0\0\xa0\0\0\0\0\0\0\0\0",
 );

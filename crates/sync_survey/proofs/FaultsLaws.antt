@@ -61,7 +61,7 @@ module _ (said allowed place ended count : ℕ) (r : Row) where
   pub first-count : first_of (word_faults said r) ≡ None → first_of (data_faults place ended r) ≡ None → first_of (later_faults said allowed place ended count r) ≡ first_of (count_faults count allowed r)
   first-count none sound = sym by_parts ∙ rw (none, sound) refl
 
--- ---- one frame more behind these
+-- ---- one frame more after these
 
 pub get_more : (rows more : List Row) (i : ℕ) → i < length rows → slice_get (rows ++ more) i ≡ slice_get rows i
 get_more [] more i lt = absurd (omega (arith, lt))
@@ -146,7 +146,7 @@ module _ (file : List ℕ) (head : Option Head) (class : ClassFields) (allowed :
   frame-more rows more i r within =
       ap₂ (λ m n. faults_at (word_said (drop r.offset file)) class allowed m n i r) (place-more head rows more i within) (end-more head rows more i within)
 
-  -- these frames have the same faults, and then come those behind
+  -- these frames have the same faults, and then come those after
   pub faults-more : (rows more : List Row)
       → all_faults file head class allowed (rows ++ more) ≡ all_faults file head class allowed rows ++ flat_map (λ (p : ℕ × Row). faults_of (rows ++ more) p.0 p.1) (enumerate_from (length rows) more)
   unfolding all_faults

@@ -42,7 +42,7 @@ none-less : (low high : ℕ) (xs : List SurveyFault) → low ≤ high → NoneBe
 none-less low high [] le p = tt
 none-less low high (x ∷ xs) le p = (omega (arith, le, p.0), none-less low high xs le p.1)
 
--- all of these faults stand at one offset
+-- all of these faults are at one offset
 abbrev AreAt : ℕ → List SurveyFault → Type 0
 AreAt at [] = Unit {0}
 AreAt at (fault ∷ later) = (fault_place fault ≡ at) × AreAt at later
@@ -59,7 +59,7 @@ at_none : (at : ℕ) (xs : List SurveyFault) → AreAt at xs → NoneBefore at x
 at_none at [] p = tt
 at_none at (x ∷ xs) p = (omega (arith, p.0), at_none at xs p.1)
 
--- ---- the faults of a frame stand at its offset
+-- ---- the faults of a frame are at its offset
 
 own_at : (place ended : ℕ) (r : Row) → AreAt r.offset (own_faults place ended r)
 own_at place ended r =
@@ -88,7 +88,7 @@ frame_at said class allowed place ended count r =
     (all_at r.offset (mixed ++ wrong) (data_faults place ended r) (all_at r.offset mixed wrong (one_at r.offset other (Mixed r.offset) refl) (one_at r.offset (has_wrong_word said r) word refl)) (data_at place ended r))
     (one_at r.offset (count == allowed) (TooManyFrames r.offset) refl)
 
--- ---- the faults of frames that stand one behind the other
+-- ---- the faults of frames that follow one after the other
 
 -- the offsets of these frames rise, from one on to another
 abbrev AreRising : ℕ → List Row → ℕ → Type 0
@@ -119,7 +119,7 @@ first_at at (x ∷ xs) ys fault all is later =
     let place : fault_place fault ≡ at = sym (ap fault_place same) ∙ all.0 in
     inr (place, subst (λ n. NoneBefore n ((x ∷ xs) ++ ys)) (sym place) (none-append at (x ∷ xs) ys (at_none at (x ∷ xs) all) later))
 
--- the first of the faults of frames and of what comes behind them
+-- the first of the faults of frames and of what comes after them
 least_first : (each : ℕ → Row → List SurveyFault) (own : AreOfEach each) (at to n : ℕ) (rows : List Row) (later : List SurveyFault) (fault : SurveyFault) → AreRising at rows to → NoneBefore to later
     → ((f : SurveyFault) → first_of later ≡ Some f → NoneBefore (fault_place f) later) → first_of (in_turn each n rows ++ later) ≡ Some fault → NoneBefore (fault_place fault) (in_turn each n rows ++ later)
 least_first each own at to n [] later fault rise behind last is = last fault is
@@ -142,7 +142,7 @@ unfolding all_faults
 all_least file head class allowed at to rows later fault rise behind last is =
     least_first (frame_faults file head class allowed rows) (λ i r. frame_at (word_said (drop r.offset file)) class allowed (place head rows i) (end_before head rows i) i r) at to 0 rows later fault rise behind last is
 
--- ---- the frames of a walk stand one behind the other
+-- ---- the frames of a walk follow one after the other
 
 rising_more : (file : List ℕ) (at : ℕ) (item : Item) (rows : List PlacedFrame) (to : ℕ) → AreRising at (rows_of file rows) to → AreRising at (rows_of file (option_to_list (frame_as at item) ++ rows)) to
 rising_more file at (Frame h) rows to rise = (omega arith, rise)
@@ -223,7 +223,7 @@ none_at_all : (xs : List SurveyFault) → NoneBefore 0 xs
 none_at_all [] = tt
 none_at_all (x ∷ xs) = (omega arith, none_at_all xs)
 
--- a fault that stands nowhere, or one of the file
+-- a fault that is nowhere, or one of the file
 nowhere : (fault : SurveyFault) → (fault_place fault ≡ 0) ⊎ (kind_of fault ≡ IsRefused)
 nowhere Absent = inl refl
 nowhere (TooLong size) = inl refl

@@ -42,7 +42,7 @@ passed_all file blocks at so_far none =
 pub passed_end : (file : List ℕ) (blocks : List Piece) (at size : ℕ) → size ≡ length file → size ≤ at → IsPassedTo file blocks at → IsFrontPassed file blocks at
 passed_end file blocks at size is past so_far = passed_all file blocks at so_far (item_of-past Front file at (omega (arith, is, past)))
 
--- ---- blocks one behind the other
+-- ---- blocks one after the other
 
 laid_push : (from : ℕ) (blocks : List Piece) (to later : ℕ) (b : Piece) → BlocksAreLaid from blocks to → to ≤ b.offset → b.offset + b.block.length ≤ later → BlocksAreLaid from (blocks ++ b ∷ []) later
 laid_push from [] to later b laid low high = (omega (arith, laid, low), high)

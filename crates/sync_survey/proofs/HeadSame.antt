@@ -27,7 +27,7 @@ text_by : (h : HeaderFields) (xs ys : List ℕ) → has_text (low_place h) xs �
 unfolding head_text_of
 text_by h xs ys low high = rw (low, high) refl
 
--- both places where a text may stand are behind the first bytes of the side information
+-- both places where a text may stand are after the first bytes of the side information
 places : (h : HeaderFields) → (overhead_of (class_of h) h.protected - 2 ≤ low_place h) × (overhead_of (class_of h) h.protected - 2 ≤ high_place h)
 unfolding low_place high_place
 places h = (omega (arith, overhead-most (class_of h) h.protected), omega (arith, overhead-most (class_of h) h.protected))
@@ -67,7 +67,7 @@ pub head_bytes-nearer : (old file : List ℕ) (gap : ℕ) (p : PlacedFrame) → 
 unfolding head_of
 head_bytes-nearer old file gap p same = area_placed old file gap p (head_text_of p.header (frame_bytes old p)) same
 
--- the area of a frame is what stands behind its side information
+-- the area of a frame is what is after its side information
 pub area-frame : (file : List ℕ) (p : PlacedFrame) → overhead_of (class_of p.header) p.header.protected ≤ length_of (class_of p.header) p.header.slot
     → area_bytes file p.offset p.header ≡ drop (overhead_of (class_of p.header) p.header.protected) (frame_bytes file p)
 unfolding area_of

@@ -1,4 +1,4 @@
--- An item is known by its own bytes: whatever bytes stand behind them, it is what stands at their front.
+-- An item is known by its own bytes: whatever bytes are after them, it is what is at their front.
 use Rattle.std.proofs.Common.{◌≡◌, ℕ, ◌+◌, ◌≤◌, true, cond, leb, List, ◌++◌, length, take, drop, Some, Ok, Err, refl, sym, ◌∙◌, ap, codes, arith}
 use Rattle.std.proofs.lemmas.Bool.{false≢true}
 use Rattle.std.proofs.lemmas.List.{length-take, length-drop, length-take-le, take-append-le, take-take, get_or-take, take_at}
@@ -53,7 +53,7 @@ known_within Id3v2 bytes = omega arith
 known_within Id3v1 bytes = omega arith
 known_within Ape bytes = omega arith
 
--- a block is known by its own bytes, whatever stands behind them
+-- a block is known by its own bytes, whatever is after them
 pub block_front-bytes : (bytes rest : List ℕ) (b : TagBlock) → block_front bytes ≡ Some b → b.length ≤ length bytes → block_front (take b.length bytes ++ rest) ≡ Some b
 block_front-bytes bytes rest b is within =
     let own = take b.length bytes in
@@ -73,7 +73,7 @@ header_front-four xs ys same =
 
 -- ---- an item
 
--- These bytes are an item: they are as many as it has, and whatever bytes stand behind them, it is what stands at their front.
+-- These bytes are an item: they are as many as it has, and whatever bytes are after them, it is what is at their front.
 pub record IsItem (item : Item) (own : List ℕ) : Type 0 where
   pub size : length own ≡ size_of item
   pub known : (rest : List ℕ) → item_front (own ++ rest) ≡ item
@@ -92,7 +92,7 @@ frame_item h own header long least = record {
 pub frame-least : (h : HeaderFields) → IsHeader h → 4 ≤ length_of (class_of h) h.slot
 frame-least h fields = omega (arith, area_some (class_of h) h.slot (IsClass-class_of h fields) fields.slot)
 
--- what stands at the front of bytes and is whole is known by its own bytes
+-- what is at the front of bytes and is whole is known by its own bytes
 stands_kept : (item : Item) (bytes rest : List ℕ) → Stands bytes item → belongs Stream item ≡ true → size_of item ≤ length bytes → Stands (take (size_of item) bytes ++ rest) item
 stands_kept (Frame h) bytes rest here is within =
     let size = length_of (class_of h) h.slot in

@@ -1,4 +1,4 @@
--- Bytes that are items, one behind the other: where they stand in a file, the items stand end to end.
+-- Bytes that are items, one after the other: where they are in a file, the items follow end to end.
 use Rattle.std.proofs.Common.{◌≡◌, ℕ, ◌+◌, ◌-◌, ◌<◌, ◌≤◌, true, List, [], ◌∷◌, ◌++◌, length, drop, map, None, refl, sym, ◌∙◌, ap, ap₂, arith, append_assoc, length-append, length-drop}
 use Rattle.std.specs.List.{cons_option}
 use Rattle.std.proofs.lemmas.List.{drop-drop, drop_at}
@@ -15,7 +15,7 @@ use Rattle.sync_survey.proofs.ItemBytes.{IsItem, kept_item}
 
 -- ---- items of the front
 
--- what may stand before the first frame may stand behind it
+-- what may be before the first frame may be after it
 pub stream_belongs : (part : Part) (item : Item) → belongs part item ≡ true → belongs Stream item ≡ true
 stream_belongs part Free is = is
 stream_belongs part End is = is
@@ -40,7 +40,7 @@ ends-within part file from (p ∷ ps) to ends within = ends-within part file (p.
 
 -- ---- bytes that are items
 
--- these bytes are these items, one behind the other
+-- these bytes are these items, one after the other
 abbrev pub AreItems : List Placed → List ℕ → Type 0
 AreItems [] bytes = bytes ≡ []
 AreItems (p ∷ ps) bytes = (own : List ℕ) × (rest : List ℕ) × (bytes ≡ own ++ rest) × IsItem p.item own × AreItems ps rest
@@ -68,7 +68,7 @@ pub item_at-known : (file : List ℕ) (place at : ℕ) (bytes : List ℕ) (item 
 unfolding item_at
 item_at-known file place at bytes item same is known = ap (λ n. item_front (drop n file)) same ∙ ap item_front is ∙ known
 
--- Where bytes that are items stand in another file, so many bytes nearer to its front, they stand there end to end.
+-- Where bytes that are items are in another file, so many bytes nearer to its front, they are there end to end.
 pub items-end : (part : Part) (old file : List ℕ) (gap from at : ℕ) (ps : List Placed) (to : ℕ) (bytes behind : List ℕ) → AreEndToEnd part old from ps to → from ≡ at + gap → AreItems ps bytes → at ≤ length file
     → drop at file ≡ bytes ++ behind → AreEndToEnd part file at (map (nearer gap) ps) (to - gap)
 items-end part old file gap from at [] to bytes behind ends there are within is = omega (arith, ends, there)

@@ -1,4 +1,4 @@
--- What stands at the front of bytes: one item, and no other.
+-- What is at the front of bytes: one item, and no other.
 use Rattle.std.proofs.Common.{◌≡◌, ℕ, ◌<◌, ◌==◌, Bool, true, false, cond, List, [], ◌∷◌, take, drop, Option, Some, None, Result, Ok, Err, refl, sym, ◌∙◌, ap, subst, arith}
 use Rattle.std.proofs.lemmas.Bool.{false≢true, eqb-true}
 use Rattle.frame_header.specs.declared.header.NotHeader.{NotHeader}
@@ -16,7 +16,7 @@ use Rattle.sync_survey.specs.declared.runs.Part.{Part}
 use Rattle.sync_survey.specs.Items.{header_front, Stands, by_header, by_block, by_byte, item_front, item_at, size_of}
 use Rattle.sync_survey.specs.Runs.{belongs}
 
--- ---- the item that is found stands there
+-- ---- the item that is found is there
 
 byte_stands : (b : ℕ) (bs : List ℕ) (zero : Bool) → (b == 0) ≡ zero → header_front (b ∷ bs) ≡ Err No → block_front (b ∷ bs) ≡ None → Stands (b ∷ bs) (cond zero Zero Nothing)
 byte_stands b bs true is no_header no_block = ap (λ x. x ∷ []) (eqb-true b 0 is)

@@ -16,7 +16,7 @@ use Rattle.sync_survey.proofs.OneItem.{stands-only_at}
 use Rattle.sync_survey.proofs.RunsLaws.{item_of-whole, run-next, frames-next, blocks-next}
 use Rattle.sync_survey.proofs.ItemBytes.{header_front-four}
 
--- ---- 32 bytes and the length decide what stands at an offset
+-- ---- 32 bytes and the length decide what is at an offset
 
 by_byte-take : (n : ℕ) (bytes : List ℕ) → 1 ≤ n → by_byte (take n bytes) ≡ by_byte bytes
 by_byte-take zero bytes some = absurd (omega (arith, some))
@@ -33,7 +33,7 @@ item_front-take n bytes many =
 
 -- ---- zero bytes
 
--- what stands between two offsets of a run is neither a frame nor a block
+-- what is between two offsets of a run is neither a frame nor a block
 record IsSkipped (part : Part) (file : List ℕ) (at to : ℕ) : Type 0 where
   frames : frames_of (run part file at).items ≡ frames_of (run part file to).items
   blocks : blocks_of (run part file at).items ≡ blocks_of (run part file to).items
@@ -118,7 +118,7 @@ module _ (file : List ℕ) (at : ℕ) (front : List ℕ) (left : ℕ) (shows : S
   unfolding item_at
   item_at-shown = ap item_front shows.front_is ∙ item_front-take look_size (drop at file) (omega arith)
 
-  -- what stands so many bytes behind, where 32 bytes are shown from there on
+  -- what is there so many bytes after, where 32 bytes are shown from there on
   pub item_at-behind : (size : ℕ) → size ≤ 4064 → item_front (drop size front) ≡ item_at file (at + size)
   unfolding item_at
   item_at-behind size few =
@@ -147,7 +147,7 @@ module _ (file : List ℕ) (at : ℕ) (front : List ℕ) (left : ℕ) (shows : S
   whole_here : (part : Part) (item : Item) → item ≡ item_front front → belongs part item ≡ true → 0 < size_of item → size_of item ≤ left → item_of part file at ≡ Some item
   whole_here part item is here some within = item_of-whole part file at item (sym item_at-shown ∙ sym is) here (omega (arith, some, within, shows.left_is))
 
-  -- a whole item and all zero bytes that are shown behind a zero byte are passed
+  -- a whole item and all zero bytes that are shown after a zero byte are passed
   pub passes_zeros : (part : Part) (item : Item) (size : ℕ) → item ≡ Zero → size ≡ prefix_len zero_test front → Passes part file at item size
   passes_zeros part item size is many =
       let split : drop at file ≡ front ++ drop look_size (drop at file) = sym (take-append-drop look_size (drop at file)) ∙ ap (λ l. l ++ drop look_size (drop at file)) (sym shows.front_is) in

@@ -1,4 +1,4 @@
--- Lost frames have only silent and lost frames before them, since the main data of any other frame end behind 0.
+-- Lost frames have only silent and lost frames before them, since the main data of any other frame end after 0.
 use Rattle.std.proofs.Common.{◌≡◌, ℕ, zero, suc, ◌<◌, ◌≤◌, ◌⊎◌, ◌==◌, Bool, true, false, cond, ◌&&◌, ◌||◌, List, Option, Some, None, inl, inr, refl, sym, ◌∙◌, ap, subst, arith, ⊎_elim}
 use Rattle.std.specs.Prelude.{slice_get}
 use Rattle.std.proofs.lemmas.Bool.{eq-eqb, eqb-true}
@@ -8,13 +8,13 @@ use Rattle.sync_survey.specs.declared.rows.Row.{Row}
 use Rattle.sync_survey.specs.MainData.{is_silent, end_of_data, points_too_far, lacks_data, end_behind, place, end_before, is_lost}
 use Rattle.sync_survey.specs.Laws.{AreSilentOrLost}
 
--- ---- behind one frame
+-- ---- after one frame
 
 some_bits : (n : ℕ) → (n == 0) ≡ false → 1 ≤ n
 some_bits zero e = absurd cc
 some_bits (suc n) e = omega arith
 
--- the main data of a frame that isn't silent end behind 0
+-- the main data of a frame that isn't silent end after 0
 loud_end : (place : ℕ) (r : Row) → is_silent r ≡ false → 1 ≤ end_of_data place r
 unfolding payload_bytes
 loud_end place r loud = omega (arith, some_bits (payload_bits r.side) loud)
@@ -36,7 +36,7 @@ empty_cases false true ended other empty none = none
 empty_cases false false ended other (inl e) none = absurd cc
 empty_cases false false ended other (inr e) none = absurd cc
 
--- ---- behind several
+-- ---- after several
 
 at_or_before : (j i : ℕ) → j < suc i → (j < i) ⊎ (j ≡ i)
 at_or_before zero zero lt = inr refl

@@ -1,4 +1,4 @@
--- The main data of the frames so far stand where they may, whatever is told of the file.
+-- The main data of the frames so far are where they may be, whatever is told of the file.
 use Rattle.std.proofs.Common.{◌≡◌, ℕ, zero, suc, ◌+◌, ◌<◌, ◌==◌, ◌&&◌, Bool, true, false, List, [], ◌∷◌, ◌++◌, length, length-append, take, map, Option, Some, None, Ok, refl, sym, ◌∙◌, ap, ap₂, subst, inl, inr, arith}
 use Rattle.std.specs.Prelude.{not, slice_get, sum_by, option_map}
 use Rattle.std.specs.List.{enumerate_from, cons_option}
@@ -75,7 +75,7 @@ class-sound c d e = same_class-is c d (not_not (same_class c d) e)
 
 -- ---- one frame more
 
--- the frames so far, and the two numbers behind them
+-- the frames so far, and the two numbers after them
 pub record ArePlacedTo (head : Option Head) (class : ClassFields) (rows : List Row) (place_now ended : ℕ) : Type 0 where
   pub frames : AreWellPlaced head class rows
   pub place_is : place_now ≡ place head rows (length rows)
@@ -209,7 +209,7 @@ class-start file start is =
     let h = start.first.header in
     IsClass-class_of h (header_front-in_range _ h (stands-at file start.first.offset (Frame h) (start-first file start is).frame.is))
 
--- the headers of items that stand end to end
+-- the headers of items that follow end to end
 AllKnown : List PlacedFrame → Type 0
 AllKnown [] = Unit {0}
 AllKnown (p ∷ ps) = IsHeader p.header × AllKnown ps

@@ -1,4 +1,4 @@
--- Items that stand end to end: one item more, and what they are together.
+-- Items that follow end to end: one item more, and what they are together.
 use Rattle.std.proofs.Common.{◌≡◌, ℕ, zero, suc, ◌+◌, ◌-◌, ◌<◌, ◌≤◌, Bool, true, false, cond, ◌&&◌, List, [], ◌∷◌, ◌++◌, length, drop, Option, Some, None, refl, sym, ◌∙◌, ap, subst, arith, append_assoc, append-nil}
 use Rattle.std.specs.Prelude.{option_to_list}
 use Rattle.std.specs.List.{cons_option}
@@ -19,7 +19,7 @@ both false b h = absurd (false≢true h)
 
 -- ---- one item
 
--- a whole item of the part stands at the offset
+-- a whole item of the part is at the offset
 pub record IsItemOf (part : Part) (file : List ℕ) (at : ℕ) (item : Item) : Type 0 where
   pub is : item_at file at ≡ item
   pub belongs : belongs part item ≡ true
@@ -93,11 +93,11 @@ pub run-step : (part : Part) (file : List ℕ) (at : ℕ) → run part file at �
 unfolding run
 run-step part file at = enough (length file) (suc (length file)) part file at (omega arith) (omega arith) ∙ one_more (length file) part file at
 
--- an item stands at the offset
+-- an item is at the offset
 pub run-next : (part : Part) (file : List ℕ) (at : ℕ) (item : Item) → item_of part file at ≡ Some item → run part file at ≡ behind at item (run part file (at + size_of item))
 run-next part file at item is = run-step part file at ∙ ap (onward at (run part file)) is
 
--- none stands there
+-- none is there
 pub run-stopped : (part : Part) (file : List ℕ) (at : ℕ) → item_of part file at ≡ None → run part file at ≡ stopped at
 run-stopped part file at is = run-step part file at ∙ ap (onward at (run part file)) is
 
@@ -113,12 +113,12 @@ unfolding run_up_to
 ends_up_to zero part file at = refl
 ends_up_to (suc n) part file at = onward_ends part file at (λ later. run_up_to n part file later) (item_of part file at) refl (λ later. ends_up_to n part file later)
 
--- the items of a run stand end to end from its beginning to its stop
+-- the items of a run follow end to end from its beginning to its stop
 pub run-ends : (part : Part) (file : List ℕ) (from : ℕ) → AreEndToEnd part file from (run part file from).items (run part file from).stop
 unfolding run
 run-ends part file from = ends_up_to (length file) part file from
 
--- none stands behind them: there are no more items than bytes
+-- none is after them: there are no more items than bytes
 last_onward : (part : Part) (file : List ℕ) (at : ℕ) (next : ℕ → Run) (o : Option Item) → item_of part file at ≡ o → ((item : Item) → o ≡ Some item → item_of part file (next (at + size_of item)).stop ≡ None)
     → item_of part file (onward at next o).stop ≡ None
 last_onward part file at next None is last = is
@@ -134,13 +134,13 @@ pub run-last : (part : Part) (file : List ℕ) (from : ℕ) → item_of part fil
 unfolding run
 run-last part file from = last_up_to (length file) part file from (omega arith)
 
--- items that stand end to end, where no further one stands, are the run
+-- items that follow end to end, where no further one stands, are the run
 pub run-only : (part : Part) (file : List ℕ) (from : ℕ) (ps : List Placed) (to : ℕ) → AreEndToEnd part file from ps to → item_of part file to ≡ None → run part file from ≡ record { items = ps; stop = to }
 run-only part file from [] to ends none = run-stopped part file from (ap (item_of part file) ends ∙ none) ∙ ap stopped ends
 run-only part file from (p ∷ ps) to ends none =
     ap (run part file) (sym ends.0) ∙ run-next part file p.offset p.item ends.1 ∙ ap (behind p.offset p.item) (run-only part file (p.offset + size_of p.item) ps to ends.2 none)
 
--- items that stand end to end are, with the bytes behind them, the file's bytes from their beginning on
+-- items that follow end to end are, with the bytes after them, the file's bytes from their beginning on
 pub bytes-ends : (part : Part) (file : List ℕ) (from : ℕ) (ps : List Placed) (to : ℕ) → AreEndToEnd part file from ps to → bytes_of_items file ps ++ drop to file ≡ drop from file
 bytes-ends part file from [] to ends = ap (λ at. drop at file) (sym ends)
 bytes-ends part file from (p ∷ ps) to ends =

@@ -21,11 +21,11 @@ use Rattle.sync_survey.proofs.LooksLaws.{item_at-shown, item_at-behind, fits-lef
 
 -- ---- the first of so many offsets
 
--- what stands at the first of so many offsets, from one on, where something does
+-- what is at the first of so many offsets, from one on, where something does
 abbrev pub first_of : (ℕ → Option PlacedFrame) → ℕ → ℕ → Option PlacedFrame
 first_of stands count from = slice_get (filter_map stands (range_with_len from count)) 0
 
--- nothing stands at the first offset
+-- nothing is at the first offset
 nothing_here : (o : Option PlacedFrame) (rest : List PlacedFrame) → o ≡ None → slice_get (cons_option o rest) 0 ≡ slice_get rest 0
 nothing_here o rest none = ap (λ x. slice_get (cons_option x rest) 0) none
 
@@ -35,7 +35,7 @@ first_of-none stands (suc n) from none =
     nothing_here (stands from) (filter_map stands (range_with_len (from + 1) n)) (none from (omega arith) (omega arith))
     ∙ first_of-none stands n (from + 1) (λ at low high. none at (omega (arith, low)) (omega (arith, high)))
 
--- this stands at an offset, and nothing at an earlier one
+-- this is at an offset, and nothing at an earlier one
 pub record IsFirstAt (stands : ℕ → Option PlacedFrame) (from to at : ℕ) (p : PlacedFrame) : Type 0 where
   pub low : from ≤ at
   pub high : at < to
@@ -70,7 +70,7 @@ pub first_of-nothing : (stands : ℕ → Option PlacedFrame) (count from : ℕ) 
 first_of-nothing stands zero from found at low high = absurd (omega (arith, low, high))
 first_of-nothing stands (suc n) from found at low high = is_nothing stands n from at (stands from) refl found (λ later. first_of-nothing stands n (from + 1) later at) (stands at) refl low high
 
--- what was found stands at the first offset
+-- what was found is at the first offset
 none_before : (stands : ℕ → Option PlacedFrame) (from at earlier : ℕ) (x : Option PlacedFrame) → stands from ≡ None → ((k : ℕ) → from + 1 ≤ k → k < at → stands k ≡ None) → from ≤ earlier → earlier < at → stands earlier ≡ x →
     stands earlier ≡ None
 none_before stands from at earlier None isnt none low high is = is
@@ -91,7 +91,7 @@ first_of-is stands (suc n) from p found = is_found stands n from p (stands from)
 
 -- ---- anchored frames
 
--- an anchored frame stands at the offset
+-- an anchored frame is at the offset
 pub record IsAnchoredAt (file : List ℕ) (at : ℕ) (p : PlacedFrame) : Type 0 where
   pub offset : p.offset ≡ at
   pub frame : IsItemOf Stream file p.offset (Frame p.header)
@@ -124,7 +124,7 @@ first_anchored-none count file from none = first_of-none (anchored_frame file) c
 abbrev IsFirstAnchored : List ℕ → ℕ → ℕ → Option PlacedFrame → Type 0
 IsFirstAnchored file from to r = MatchOption r ((at : ℕ) → from ≤ at → at < to → is_anchored file at ≡ false) (λ p. IsLeast (is_anchored file) from to p.offset)
 
--- and it stands at the least offset
+-- and it is at the least offset
 least_at : (file : List ℕ) (from to at : ℕ) (p : PlacedFrame) → IsFirstAt (anchored_frame file) from to at p → IsLeast (is_anchored file) from to at
 least_at file from to at p first = (first.low, first.high, ap is_some first.here, (λ earlier low high. ap is_some (first.none earlier low high)))
 
@@ -143,7 +143,7 @@ first_anchored-frame count file from p found =
 
 -- ---- the first frame
 
--- the start of a stream: its frame is whole, and none stands before it
+-- the start of a stream: its frame is whole, and none is before it
 pub record IsFirstFrame (file : List ℕ) (s : Start) : Type 0 where
   pub frame : IsItemOf Stream file s.first.offset (Frame s.first.header)
   pub least : IsLeastStart file s
@@ -212,7 +212,7 @@ module _ (file : List ℕ) (at : ℕ) (front : List ℕ) (left : ℕ) (shows : S
   none_by (Frame h) is without = ap (anchored file at) is ∙ ap (λ b. cond b (Some (record { offset = at; header = h })) None) (without h refl)
   none_by _ is without = ap (anchored file at) is
 
-  -- no frame stands here
+  -- no frame is here
   pub shown_none : (item : Item) → item ≡ item_front front → ((h : HeaderFields) → item ≡ Frame h → ⊥) → anchored_frame file at ≡ None
   shown_none item is none = none_by item (sym (item_at-shown file at front left shows) ∙ sym is) (λ h e. absurd (none h e))
 
@@ -224,7 +224,7 @@ module _ (file : List ℕ) (at : ℕ) (front : List ℕ) (left : ℕ) (shows : S
       let over : fits file at (Frame h) ≡ false = sym (fits-left file at front left shows (Frame h)) ∙ lt-leb (size_of (Frame h)) left past in
       subst (λ x. has_anchor file at x ≡ false) same (ap (λ b. b && is_anchor (class_of h) (item_at file (at + length_of (class_of h) h.slot))) over))
 
-  -- one with this behind it
+  -- one with this after it
   anchor_by : (h : HeaderFields) (behind : Item) → length_of (class_of h) h.slot ≤ left → length_of (class_of h) h.slot ≤ 4064 → behind ≡ item_front (drop (length_of (class_of h) h.slot) front)
       → has_anchor file at h ≡ is_anchor (class_of h) behind
   anchor_by h behind within few is =
@@ -256,13 +256,13 @@ none_by_end : (file : List ℕ) (from to at : ℕ) → ((earlier : ℕ) → from
 none_by_end file from to at none low end true e = anchored_frame-past file at (end (leb-true to at e))
 none_by_end file from to at none low end false e = none at low (leb-false to at e)
 
--- no anchored frame stands before the end of the file or of the search
+-- no anchored frame is before the end of the file or of the search
 pub none_anchored : (file : List ℕ) (size from to : ℕ) → size ≡ length file → min size (from + longest_junk) ≤ to → ((earlier : ℕ) → from ≤ earlier → earlier < to → anchored_frame file earlier ≡ None)
     → first_anchored longest_junk file from ≡ None
 none_anchored file size from to is end none =
     first_anchored-none longest_junk file from (λ at low high. none_by_end file from to at none low (λ behind. omega (arith, is, end, behind, high)) (leb to at) refl)
 
--- ---- the start, by what stands where the front ends
+-- ---- the start, by what is where the front ends
 
 pub start_is : (file : List ℕ) (at : ℕ) (item : Item) → at ≡ front_end_of file → item_at file at ≡ item → start_of file ≡ start_at file at item
 unfolding start_of

@@ -22,7 +22,7 @@ use Rattle.sync_survey.specs.Faults.{all_faults, first_of, class_from, faults_fr
 use Rattle.sync_survey.proofs.WalkLaws.{IsFound, walk-is, no_fault, nothing_left}
 use Rattle.sync_survey.proofs.FaultsLaws.{some-append, none-of}
 
--- ---- a frame is longer than what stands before its area
+-- ---- a frame is longer than what is before its area
 
 pub overhead-within : (h : HeaderFields) → IsHeader h → overhead_of (class_of h) h.protected ≤ length_of (class_of h) h.slot
 overhead-within h fields = omega (arith, overhead-most (class_of h) h.protected, area_some (class_of h) h.slot (IsClass-class_of h fields) fields.slot)

@@ -84,13 +84,13 @@ nothing_false b fault e = ap (λ x. where_true x fault) e
 empty_both : (xs ys : List SurveyFault) → xs ≡ [] → ys ≡ [] → xs ++ ys ≡ []
 empty_both xs ys e f = ap₂ (λ (us vs : List SurveyFault). us ++ vs) e f
 
--- main data stand where they may
+-- main data are where they may be
 pub record StandWell (place ended : ℕ) (r : Row) : Type 0 where
   pub begins : points_too_far place r ≡ false
   pub apart : overlaps place ended r ≡ false
   pub within : overruns place r ≡ false
 
--- it is of the class, its check word is right, its main data stand where they may or it is lost, and it isn't one too many
+-- it is of the class, its check word is right, its main data are where they may or it is lost, and it isn't one too many
 pub record IsSound (said : ℕ) (class : ClassFields) (allowed place ended count : ℕ) (r : Row) : Type 0 where
   pub same : not (same_class (class_of r.header) class) ≡ false
   pub word : has_wrong_word said r ≡ false
@@ -140,7 +140,7 @@ pub sound-no_data : (said : ℕ) (class : ClassFields) (allowed place ended coun
 sound-no_data said class allowed place ended count r sound =
     none-unless (lacks_data place ended r) (own_faults place ended r) (λ is. well-no_own place ended r (sound.main is))
 
--- main data without a fault stand where they may, unless the frame is lost
+-- main data without a fault are where they may be, unless the frame is lost
 pub data-none_well : (place ended : ℕ) (r : Row) → data_faults place ended r ≡ [] → lacks_data place ended r ≡ false → StandWell place ended r
 data-none_well place ended r none is = own-none_well place ended r (unless-none (lacks_data place ended r) (own_faults place ended r) none is)
 

@@ -21,7 +21,7 @@ use Rattle.sync_survey.specs.Walk.{stream_run, head_of, numbered, numbered_at, a
 use Rattle.sync_survey.proofs.ItemsLaws.{stands, stands-at}
 use Rattle.sync_survey.proofs.RunsLaws.{item_of-whole, run-next, frames-next, blocks-next, run-ends, bytes-ends}
 
--- ---- behind the head
+-- ---- after the head
 
 -- the first frame of the stream is a whole item of it
 pub first_item : (file : List ℕ) (first : PlacedFrame) → item_at file first.offset ≡ Frame first.header → first.offset + size_of (Frame first.header) ≤ length file → item_of Stream file first.offset ≡ Some (Frame first.header)
@@ -89,7 +89,7 @@ stop_is bytes at r d some is = stop_by bytes at (item_front bytes) r d (stands b
 pub nothing_left : (file : List ℕ) (stop : ℕ) → fault_at stop (item_at file stop) ≡ None → drop stop file ≡ []
 nothing_left file stop none = at_end (drop stop file) stop (item_at file stop) (stands-at file stop (item_at file stop) refl) none
 
--- the items from the first frame on, one behind the other, are the file's bytes from there to this offset
+-- the items from the first frame on, one after the other, are the file's bytes from there to this offset
 abbrev pub ReachesTo : List ℕ → Start → ℕ → Type 0
 ReachesTo file start to = bytes_of_items file (stream_run file start).items ++ drop to file ≡ drop start.first.offset file
 

@@ -16,7 +16,7 @@ pub record BeginsSo (bytes : List ℕ) (w : Walk) : Type 0 where
   pub head : w.head ≡ head_of bytes w.start.first
   pub kept : w.pieces.items ≡ blocks_of (run Front bytes 0).items
 
--- The name's file begins so: its first frame is within its length, the blocks and the junk stand before it, and the head is that frame;
+-- The name's file begins so: its first frame is within its length, the blocks and the junk are before it, and the head is that frame;
 -- where the file is told, so are its bytes.
 pub record IsWalk (files : Files) (name : List ℕ) (w : Walk) : Type 0 where
   pub known : HasLength files name w.size

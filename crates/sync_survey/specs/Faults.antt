@@ -25,7 +25,7 @@ use Rattle.sync_survey.specs.MainData.{rows_of, own_area, start_of_data, end_of_
 abbrev pub where_true : Bool → SurveyFault → List SurveyFault
 where_true holds fault = if holds then fault ∷ [] else []
 
--- this check word stands in the frame, and isn't the right one
+-- this check word is in the frame, and isn't the right one
 abbrev pub has_wrong_word : ℕ → Row → Bool
 has_wrong_word said r = r.header.protected && not (said == check_word_of r.header r.side)
 
@@ -33,7 +33,7 @@ has_wrong_word said r = r.header.protected && not (said == check_word_of r.heade
 abbrev pub overlaps : ℕ → ℕ → Row → Bool
 overlaps place ended r = nat_lt (start_of_data place r) ended
 
--- they end behind the own area
+-- they end after the own area
 abbrev pub overruns : ℕ → Row → Bool
 overruns place r = nat_lt (place + own_area r.header) (end_of_data place r)
 
@@ -56,7 +56,7 @@ data_faults place ended r = if lacks_data place ended r then [] else own_faults 
 abbrev pub word_faults : ℕ → Row → List SurveyFault
 word_faults said r = where_true (has_wrong_word said r) (CheckWord r.offset said (check_word_of r.header r.side))
 
--- the fault of a frame that so many frames stand before, where so many are allowed
+-- the fault of a frame that so many frames are before, where so many are allowed
 abbrev pub count_faults : ℕ → ℕ → Row → List SurveyFault
 count_faults count allowed r = where_true (count == allowed) (TooManyFrames r.offset)
 
@@ -64,8 +64,8 @@ count_faults count allowed r = where_true (count == allowed) (TooManyFrames r.of
 abbrev pub later_faults : ℕ → ℕ → ℕ → ℕ → ℕ → Row → List SurveyFault
 later_faults said allowed place ended count r = word_faults said r ++ data_faults place ended r ++ count_faults count allowed r
 
--- The faults of a frame, in their order: the check word that stands in it, the place of its own area among the main data, the end of
--- the main data before it, and how many frames stand before it are given, and of how many frames the file may be.
+-- The faults of a frame, in their order: the check word that is in it, the place of its own area among the main data, the end of
+-- the main data before it, and how many frames are before it are given, and of how many frames the file may be.
 unfoldable pub faults_at : ℕ → ClassFields → ℕ → ℕ → ℕ → ℕ → Row → List SurveyFault
 faults_at said class allowed place ended count r =
     where_true (not (same_class (class_of r.header) class)) (Mixed r.offset)
@@ -133,7 +133,7 @@ survey_by file allowed (Ok start) = unless_fault (first_of (faults_from file all
 unfoldable pub surveyed : List ℕ → ℕ → Result SurveyFields SurveyFault
 surveyed file allowed = survey_by file allowed (start_of file)
 
--- where a fault of the bytes stands; what isn't one stands nowhere, and has 0
+-- where a fault of the bytes stands; what isn't one is nowhere, and has 0
 abbrev pub fault_place : SurveyFault → ℕ
 fault_place (NoFrame at) = at
 fault_place (LostSync at) = at
@@ -147,7 +147,7 @@ fault_place (Overrun at bits room) = at
 fault_place (TooManyFrames at) = at
 fault_place _ = 0
 
--- none of these faults stands before an offset
+-- none of these faults is before an offset
 abbrev pub NoneBefore : ℕ → List SurveyFault → Type 0
 NoneBefore at [] = Unit {0}
 NoneBefore at (fault ∷ later) = (at ≤ fault_place fault) × NoneBefore at later

@@ -1,4 +1,4 @@
--- What stands at an offset of a file: frames (ISO/IEC 11172-3 and 13818-3, 2.4.1), blocks of tags, single zero bytes.
+-- What is at an offset of a file: frames (ISO/IEC 11172-3 and 13818-3, 2.4.1), blocks of tags, single zero bytes.
 use Rattle.std.specs.Prelude.{◌≡◌, ◌≢◌, ℕ, ◌-◌, ◌==◌, nat_le, if◌then◌else◌, Bool, List, [], ◌∷◌, length, take, drop, Option, Some, None, Result, Ok, Err}
 use Rattle.frame_header.specs.declared.header.NotHeader.{NotHeader}
 use Rattle.frame_header.specs.declared.header.NotHeader.TheVariants.{Free as FreeHeader, No}
@@ -11,11 +11,11 @@ use Rattle.tag_blocks.specs.Blocks.{block_front}
 use Rattle.sync_survey.specs.declared.items.Item.{Item}
 use Rattle.sync_survey.specs.declared.items.Item.TheVariants.{Frame, Free, Block, Zero, End, Nothing}
 
--- the header at the front of these bytes; where fewer than four are left, none stands there
+-- the header at the front of these bytes; where fewer than four are left, none is there
 unfoldable pub header_front : List ℕ → Result HeaderFields NotHeader
 header_front bytes = if nat_le 4 (length bytes) then header_at (take 4 bytes) else Err No
 
--- this item stands at the front of these bytes
+-- this item is at the front of these bytes
 abbrev pub Stands : List ℕ → Item → Type 0
 Stands bytes (Frame h) = header_front bytes ≡ Ok h
 Stands bytes Free = header_front bytes ≡ Err FreeHeader
@@ -24,13 +24,13 @@ Stands bytes Zero = take 1 bytes ≡ 0 ∷ []
 Stands bytes End = bytes ≡ []
 Stands bytes Nothing = (header_front bytes ≡ Err No) × (block_front bytes ≡ None) × (bytes ≢ []) × (take 1 bytes ≢ 0 ∷ [])
 
--- a header, else what stands there otherwise
+-- a header, else what is there otherwise
 abbrev pub by_header : Result HeaderFields NotHeader → Item → Item
 by_header (Ok h) other = Frame h
 by_header (Err FreeHeader) other = Free
 by_header (Err No) other = other
 
--- a block, else what stands there otherwise
+-- a block, else what is there otherwise
 abbrev pub by_block : Option TagBlock → Item → Item
 by_block (Some b) other = Block b
 by_block None other = other
@@ -40,7 +40,7 @@ abbrev pub by_byte : List ℕ → Item
 by_byte [] = End
 by_byte (b ∷ bs) = if b == 0 then Zero else Nothing
 
--- the item at the front of these bytes; at most one kind stands there, so the order of these questions decides nothing
+-- the item at the front of these bytes; at most one kind is there, so the order of these questions decides nothing
 unfoldable pub item_front : List ℕ → Item
 item_front bytes = by_header (header_front bytes) (by_block (block_front bytes) (by_byte bytes))
 

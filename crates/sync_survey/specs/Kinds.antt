@@ -37,7 +37,7 @@ HasRightNumbers _ = Unit {0}
 abbrev pub IsFromOutside : SurveyFault → Type 0
 IsFromOutside fault = kind_of fault ≡ IsRefused → ⊥
 
--- what stands for each kind
+-- what is there for each kind
 pub record ByKind {ℓ} (A : Type ℓ) : Type ℓ where
   pub absent : A
   pub unread : A

@@ -17,7 +17,7 @@ use Rattle.sync_survey.specs.Survey.{AreWellPlaced}
 abbrev pub OneItemStands : Type 0
 OneItemStands = (bytes : List ℕ) (item : Item) → Stands bytes item ↔ (item ≡ item_front bytes)
 
--- The items of a run are whole and stand end to end, and none stands behind them; with the bytes behind them they are the file's bytes;
+-- The items of a run are whole and follow end to end, and none is after them; with the bytes after them they are the file's bytes;
 -- and no other items of the part stand so.
 pub record IsOnlyRun (part : Part) (file : List ℕ) (from : ℕ) : Type 0 where
   pub items : AreEndToEnd part file from (run part file from).items (run part file from).stop
@@ -28,7 +28,7 @@ pub record IsOnlyRun (part : Part) (file : List ℕ) (from : ℕ) : Type 0 where
 abbrev pub RunsAreOnly : Type 0
 RunsAreOnly = (part : Part) (file : List ℕ) (from : ℕ) → IsOnlyRun part file from
 
--- The first frame of a stream is whole. It stands where the blocks and zero bytes at the front end, or behind junk at the least offset
+-- The first frame of a stream is whole. It is where the blocks and zero bytes at the front end, or after junk at the least offset
 -- where an anchored frame stands.
 pub record IsFirstOfStream (file : List ℕ) (start : Start) : Type 0 where
   pub item : item_at file start.first.offset ≡ Frame start.first.header

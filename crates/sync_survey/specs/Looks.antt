@@ -18,7 +18,7 @@ use Rattle.sync_survey.specs.declared.runs.Part.{Part}
 use Rattle.sync_survey.specs.declared.runs.Step.{Step}
 use Rattle.sync_survey.specs.Runs.{item_of, run, frame_as, block_as, frames_of, blocks_of}
 
--- a look shows so many bytes, where the file has them: more than a frame and the 32 bytes behind it that tell what stands there
+-- a look shows so many bytes, where the file has them: more than a frame and the 32 bytes after it that tell what is there
 abbrev pub look_size : ℕ
 look_size = 4096
 
@@ -27,13 +27,13 @@ pub record Shows (file : List ℕ) (at : ℕ) (front : List ℕ) (left : ℕ) : 
   pub front_is : front ≡ take look_size (drop at file)
   pub left_is : left ≡ length file - at
 
--- the items of the part that stand end to end from the offset on are this one and those so many bytes later, but for zero bytes between them
+-- the items of the part that follow end to end from the offset on are this one and those so many bytes later, except zero bytes between them
 pub record Passes (part : Part) (file : List ℕ) (at : ℕ) (item : Item) (size : ℕ) : Type 0 where
   pub frames : frames_of (run part file at).items ≡ option_to_list (frame_as at item) ++ frames_of (run part file (at + size)).items
   pub blocks : blocks_of (run part file at).items ≡ option_to_list (block_as at item) ++ blocks_of (run part file (at + size)).items
   pub stop : (run part file at).stop ≡ (run part file (at + size)).stop
 
--- this is passed at the offset, or nothing of the part stands there whole
+-- this is passed at the offset, or nothing of the part is there whole
 abbrev pub IsStep : Part → List ℕ → ℕ → Option Step → Type 0
 IsStep part file at None = item_of part file at ≡ None
 IsStep part file at (Some step) = Passes part file at step.item step.size
@@ -44,7 +44,7 @@ IsStep part file at (Some step) = Passes part file at step.item step.size
 abbrev pub ReachArea : HeaderFields → List ℕ → Type 0
 ReachArea h bytes = overhead_of (class_of h) h.protected ≤ length bytes
 
--- the row with the side information that stands in these bytes
+-- the row with the side information that is in these bytes
 abbrev pub row_read : Row → List ℕ → Row
 row_read r bytes = row_in r.offset r.header bytes
 
@@ -56,7 +56,7 @@ marked_by b r = record r { lost = lacks_data b.place b.ended r }
 abbrev pub data_fault : Before → Row → Option SurveyFault
 data_fault b r = first_of (data_faults b.place b.ended r)
 
--- the first fault of a frame of the class, by its bytes and how many frames stand before it
+-- the first fault of a frame of the class, by its bytes and how many frames are before it
 abbrev pub frame_fault : List ℕ → ℕ → Before → ℕ → Row → Option SurveyFault
 frame_fault bytes allowed b count r = first_of (later_faults (word_said bytes) allowed b.place b.ended count r)
 
@@ -69,7 +69,7 @@ pub record IsBehind (place_now ended_now : ℕ) (r : Row) (b : Behind) : Type 0 
   pub place : b.before.place ≡ place_now + own_area r.header
   pub ended : b.before.ended ≡ end_behind place_now ended_now (Some r)
 
--- a frame has no fault, and is kept behind the others, marked where it is lost
+-- a frame has no fault, and is kept after the others, marked where it is lost
 pub record KeepsFrame (said : ℕ) (class : ClassFields) (allowed : ℕ) (r : Row) (old new : Found) : Type 0 where
   pub sound : first_of (faults_at said class allowed old.before.place old.before.ended (length old.rows.items) r) ≡ None
   pub fits : SideFits (class_of r.header) r.side
@@ -78,7 +78,7 @@ pub record KeepsFrame (said : ℕ) (class : ClassFields) (allowed : ℕ) (r : Ro
   pub place : new.before.place ≡ old.before.place + own_area r.header
   pub ended : new.before.ended ≡ end_behind old.before.place old.before.ended (Some r)
 
--- these blocks are kept behind the others
+-- these blocks are kept after the others
 pub record KeepsBlocks (blocks : List Piece) (old new : Found) : Type 0 where
   pub rows : new.rows.items ≡ old.rows.items
   pub pieces : new.pieces.items ≡ old.pieces.items ++ blocks

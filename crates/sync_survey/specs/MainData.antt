@@ -1,5 +1,5 @@
--- Where the main data of the frames stand in the file (main_data_begin, ISO/IEC 11172-3 and 13818-3, 2.4.2.7). The areas of the head and
--- of all frames, one behind the other, are the main data of the file; a frame's own begin so many bytes before its own area as its
+-- Where the main data of the frames are in the file (main_data_begin, ISO/IEC 11172-3 and 13818-3, 2.4.2.7). The areas of the head and
+-- of all frames, one after the other, are the main data of the file; a frame's own begin so many bytes before its own area as its
 -- main_data_begin says, counted in areas alone.
 use Rattle.std.specs.Prelude.{ℕ, zero, suc, ◌+◌, ◌-◌, ◌*◌, ◌==◌, ◌&&◌, ◌||◌, nat_lt, if◌then◌else◌, Bool, false, List, [], ◌∷◌, ◌++◌, take, drop, map, sum_by, flat_map, slice_get, Option, Some, None}
 use Rattle.std.specs.List.{enumerate_from}
@@ -16,12 +16,12 @@ use Rattle.sync_survey.specs.declared.rows.Row.{Row}
 
 -- ---- frames with their side information
 
--- a frame with the side information that stands in these bytes, the first of which are the frame's; whether it is lost goes by the
+-- a frame with the side information that is in these bytes, the first of which are the frame's; whether it is lost goes by the
 -- frames before it (`marked` below)
 abbrev pub row_in : ℕ → HeaderFields → List ℕ → Row
 row_in offset h bytes = record { offset = offset; header = h; side = side_in h bytes; lost = false }
 
--- a frame of the file with the side information that stands in it
+-- a frame of the file with the side information that is in it
 abbrev pub row_of : List ℕ → PlacedFrame → Row
 row_of file p = row_in p.offset p.header (drop p.offset file)
 
@@ -39,7 +39,7 @@ abbrev pub head_area : Option Head → ℕ
 head_area None = 0
 head_area (Some head) = own_area head.header
 
--- the place among the main data where the own area of frame i begins: behind the head's and those of the frames before
+-- the place among the main data where the own area of frame i begins: after the head's and those of the frames before
 unfoldable pub place : Option Head → List Row → ℕ → ℕ
 place head rows i = head_area head + sum_by (λ (r : Row). own_area r.header) (take i rows)
 
@@ -58,17 +58,17 @@ is_silent r = payload_bits r.side == 0
 abbrev pub points_too_far : ℕ → Row → Bool
 points_too_far place r = nat_lt place r.side.main_data_begin
 
--- so they do, and no main data stand before it, which would end behind 0: what it points to stood before the stream, and was cut off
+-- so they do, and no main data are before it, which would end after 0: what it points to stood before the stream, and was cut off
 abbrev pub lacks_data : ℕ → ℕ → Row → Bool
 lacks_data place ended r = ended == 0 && points_too_far place r
 
--- where the main data end behind a frame, by the place of its own area and where those before it end: a frame that is silent or lost
+-- where the main data end after a frame, by the place of its own area and where those before it end: a frame that is silent or lost
 -- moves no end
 abbrev pub end_behind : ℕ → ℕ → Option Row → ℕ
 end_behind place ended None = ended
 end_behind place ended (Some r) = if is_silent r || lacks_data place ended r then ended else end_of_data place r
 
--- the place where the main data end that stand before frame i: those of the last frame before it that is neither silent nor lost, or
+-- the place where the main data end that are before frame i: those of the last frame before it that is neither silent nor lost, or
 -- 0 where there is none
 unfoldable pub end_before : Option Head → List Row → ℕ → ℕ
 end_before head rows zero = 0
@@ -99,7 +99,7 @@ abbrev pub head_bytes : List ℕ → Option Head → List ℕ
 head_bytes file None = []
 head_bytes file (Some head) = area_bytes file head.offset head.header
 
--- all areas, one behind the other
+-- all areas, one after the other
 unfoldable pub main_bytes : List ℕ → Option Head → List Row → List ℕ
 main_bytes file head rows = head_bytes file head ++ flat_map (λ (r : Row). area_bytes file r.offset r.header) rows
 
@@ -107,7 +107,7 @@ main_bytes file head rows = head_bytes file head ++ flat_map (λ (r : Row). area
 abbrev pub payload_at : List ℕ → ℕ → Side → List ℕ
 payload_at main start s = take (payload_bits s) (drop (8 * start) (bits main))
 
--- bits in parts of these lengths, one behind the other
+-- bits in parts of these lengths, one after the other
 unfoldable pub parts_of : List ℕ → List ℕ → List (List ℕ)
 parts_of [] bs = []
 parts_of (n ∷ ns) bs = take n bs ∷ parts_of ns (drop n bs)

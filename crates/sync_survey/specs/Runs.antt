@@ -1,4 +1,4 @@
--- Items that stand end to end.
+-- Items that follow end to end.
 use Rattle.std.specs.Prelude.{◌≡◌, ℕ, zero, suc, ◌+◌, ◌&&◌, if◌then◌else◌, Bool, true, false, List, [], ◌∷◌, length, take, drop, flat_map, filter_map, Option, Some, None}
 use Rattle.sync_survey.specs.declared.items.Item.{Item}
 use Rattle.sync_survey.specs.declared.items.Item.TheVariants.{Frame, Free, Block, Zero, End, Nothing}
@@ -27,11 +27,11 @@ belongs part Nothing = false
 abbrev pub whole : Part → List ℕ → ℕ → Item → Option Item
 whole part file at item = if belongs part item && fits file at item then Some item else None
 
--- the whole item of the part that stands at the offset
+-- the whole item of the part that is at the offset
 unfoldable pub item_of : Part → List ℕ → ℕ → Option Item
 item_of part file at = whole part file at (item_at file at)
 
--- the items of the part that stand end to end from an offset on, and the offset where no further one stands
+-- the items of the part that follow end to end from an offset on, and the offset where no further one stands
 pub record Run : Type 0 where
   pub items : List Placed
   pub stop : ℕ
@@ -58,7 +58,7 @@ run part file from = run_up_to (length file) part file from
 
 -- ---- what a run says, without its recursion
 
--- these whole items of the part stand end to end in the file, from one offset to another
+-- these whole items of the part follow end to end in the file, from one offset to another
 abbrev pub AreEndToEnd : Part → List ℕ → ℕ → List Placed → ℕ → Type 0
 AreEndToEnd part file from [] to = from ≡ to
 AreEndToEnd part file from (p ∷ ps) to = (p.offset ≡ from) × (item_of part file p.offset ≡ Some p.item) × AreEndToEnd part file (p.offset + size_of p.item) ps to
@@ -67,7 +67,7 @@ AreEndToEnd part file from (p ∷ ps) to = (p.offset ≡ from) × (item_of part 
 abbrev pub bytes_in : List ℕ → Placed → List ℕ
 bytes_in file p = take (size_of p.item) (drop p.offset file)
 
--- the bytes of these items, one behind the other
+-- the bytes of these items, one after the other
 abbrev pub bytes_of_items : List ℕ → List Placed → List ℕ
 bytes_of_items file ps = flat_map (bytes_in file) ps
 

@@ -15,7 +15,7 @@ use Rattle.sync_survey.specs.Runs.{run}
 
 -- ---- anchored frames
 
--- what stands at the end of an anchored frame of the class: a header of the class or the beginning of a block, whether or not the
+-- what is at the end of an anchored frame of the class: a header of the class or the beginning of a block, whether or not the
 -- file holds them whole, or the end of the file; a zero byte is no anchor
 abbrev pub is_anchor : ClassFields → Item → Bool
 is_anchor c (Frame h) = same_class (class_of h) c
@@ -25,7 +25,7 @@ is_anchor c Zero = false
 is_anchor c End = true
 is_anchor c Nothing = false
 
--- the frame with this header is whole, and an anchor stands at its end
+-- the frame with this header is whole, and an anchor is at its end
 abbrev pub has_anchor : List ℕ → ℕ → HeaderFields → Bool
 has_anchor file at h = fits file at (Frame h) && is_anchor (class_of h) (item_at file (at + length_of (class_of h) h.slot))
 
@@ -46,7 +46,7 @@ is_anchored file at = is_some (anchored_frame file at)
 
 -- ---- the first frame
 
--- so many bytes of junk may stand before the first frame
+-- so many bytes of junk may be before the first frame
 abbrev pub longest_junk : ℕ
 longest_junk = 65536
 
@@ -59,7 +59,7 @@ abbrev pub start_behind : ℕ → Option PlacedFrame → Result Start SurveyFaul
 start_behind front_end (Some frame) = Ok (record { front_end = front_end; first = frame })
 start_behind front_end None = Err (NoFrame front_end)
 
--- the start by what stands where the blocks and zero bytes at the front end; a header there needs no anchor
+-- the start by what is where the blocks and zero bytes at the front end; a header there needs no anchor
 abbrev pub start_at : List ℕ → ℕ → Item → Result Start SurveyFault
 start_at file at (Frame h) = if fits file at (Frame h) then Ok (record { front_end = at; first = record { offset = at; header = h } }) else Err (Truncated at)
 start_at file at Free = Err (FreeFormat at)
@@ -82,6 +82,6 @@ start_of file = start_at file (front_end_of file) (item_at file (front_end_of fi
 abbrev pub IsLeast : (ℕ → Bool) → ℕ → ℕ → ℕ → Type 0
 IsLeast test from to at = (from ≤ at) × (at < to) × (test at ≡ true) × ((earlier : ℕ) → from ≤ earlier → earlier < at → test earlier ≡ false)
 
--- no junk stands before the first frame, or it stands at the least offset behind the junk where an anchored frame does
+-- no junk is before the first frame, or it is at the least offset after the junk where an anchored frame is
 abbrev pub IsLeastStart : List ℕ → Start → Type 0
 IsLeastStart file s = (s.first.offset ≡ s.front_end) ⊎ IsLeast (is_anchored file) (s.front_end + 1) ((s.front_end + 1) + longest_junk) s.first.offset

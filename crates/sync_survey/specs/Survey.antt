@@ -31,7 +31,7 @@ IsSurveyOf name files allowed s = (bytes : List ℕ) → Holds files name bytes 
 abbrev pub HoldsOctets : List ℕ → Files → Type 0
 HoldsOctets name files = (bytes : List ℕ) → Holds files name bytes → AreBytes bytes
 
--- where it is told, no other fault of its bytes stands before this one
+-- where it is told, no other fault of its bytes is before this one
 abbrev pub IsFirstFault : List ℕ → Files → ℕ → SurveyFault → Type 0
 IsFirstFault name files allowed fault =
     (bytes : List ℕ) → Holds files name bytes → (start : Start) → start_of bytes ≡ Ok start → NoneBefore (fault_place fault) (faults_from bytes allowed start)
@@ -99,7 +99,7 @@ pub record HasLength (files : Files) (name : List ℕ) (size : ℕ) : Type 0 whe
 
 -- ---- what every survey tells, whether the files are told or not
 
--- these frames stand one behind the other from one offset to another, and their side fields are within their bits
+-- these frames follow one after the other from one offset to another, and their side fields are within their bits
 abbrev pub AreLaid : ℕ → List Row → ℕ → Type 0
 AreLaid from [] to = from ≤ to
 AreLaid from (r ∷ rows) to = (from ≤ r.offset) × SideFits (class_of r.header) r.side × AreLaid (r.offset + length_of (class_of r.header) r.header.slot) rows to

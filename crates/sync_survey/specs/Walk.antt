@@ -28,7 +28,7 @@ own_bytes p bytes = take (length_of (class_of p.header) p.header.slot) bytes
 abbrev pub frame_bytes : List ℕ → PlacedFrame → List ℕ
 frame_bytes file p = own_bytes p (drop p.offset file)
 
--- a frame with these bytes is a head where `Xing` or `Info` stands in it
+-- a frame with these bytes is a head where `Xing` or `Info` is in it
 abbrev pub head_by : PlacedFrame → List ℕ → Option Head
 head_by p own = option_map (λ at. record { offset = p.offset; header = p.header; text_at = at }) (head_text_of p.header own)
 
@@ -45,7 +45,7 @@ abbrev pub numbered : Option Head → List PlacedFrame → List PlacedFrame
 numbered None frames = frames
 numbered (Some head) frames = drop 1 frames
 
--- where the numbered frames begin: at the first frame, or behind the head
+-- where the numbered frames begin: at the first frame, or after the head
 abbrev pub numbered_at : PlacedFrame → Option Head → ℕ
 numbered_at first None = first.offset
 numbered_at first (Some head) = first.offset + length_of (class_of first.header) first.header.slot
@@ -73,7 +73,7 @@ end_fault file [] None = Some (NoFrame (length file))
 
 -- ---- the walk
 
--- what stands in a file with this start: the head, the frames of the stream, all blocks by their offsets, and why the walk stops
+-- what is in a file with this start: the head, the frames of the stream, all blocks by their offsets, and why the walk stops
 -- before the end of the file or has no frame
 pub record WalkFields : Type 0 where
   pub start : Start

@@ -24,7 +24,7 @@ use crate::surveys::Survey;
 use outside::{Feed, Folder};
 use std::alloc::Global;
 
-/// Why the walk stops at an offset where nothing of the stream stands whole. The bytes are those from there
+/// Why the walk stops at an offset where nothing of the stream is whole. The bytes are those from there
 /// on.
 fn stop_fault(bytes: &[u8], at: u64) -> SurveyFault
     requires { 0 < length bytes.now }
@@ -161,7 +161,7 @@ pub fn survey<D: Folder>(
     ensures refused { IfErr result (IsSurveyFault name.now (D.files folder.old) allowed
         (D.counts folder.old) (D.counts folder.new)) }
     ensures numbers { IfErr result HasRightNumbers }
-    // No other fault of the bytes stands before the one that is told.
+    // No other fault of the bytes is before the one that is told.
     ensures first { IfErr result (IsFirstFault name.now (D.files folder.old) allowed) }
     ensures files { D.files folder.new ≡ D.files folder.old }
     ensures counts { OnlyReads (D.counts folder.old) (D.counts folder.new) }

@@ -70,7 +70,7 @@ pub fn head_area(head: &Option<Head>) -> u64
     }
 }
 
-/// Where the numbered frames begin: at the first frame, or behind it where that is the head.
+/// Where the numbered frames begin: at the first frame, or after it where that is the head.
 pub fn numbered_from(first: &PlacedFrame, head: &Option<Head>) -> u64
     requires { first.now.offset + size_of (Frame first.now.header) ≤ 2 ^ 62 }
     ensures at { result ≡ numbered_at first.now head.now }

@@ -1,4 +1,4 @@
-//! What stands at the front of bytes.
+//! What is at the front of bytes.
 ghost use Rattle.std.specs.Prelude.{◌≡◌, ◌≤◌};
 ghost use Rattle.frame_header.specs.Fields.{HeaderFields};
 ghost use Rattle.sync_survey.specs.Items.{header_front as header_front_lem, item_front as item_front_lem, size_of, same_class};
@@ -8,7 +8,7 @@ use crate::survey_fault::SurveyFault;
 use frame_header::{Class, Header, NotHeader};
 use tag_blocks::{Block, block_at};
 
-/// What stands at an offset of a file. At most one of these does.
+/// What is at an offset of a file. At most one of these does.
 #[derive(Clone, Copy, Debug, PartialEq, Eq)]
 pub enum Item {
     /// The header of a frame, which may pass the end of the file.
@@ -71,7 +71,7 @@ impl Item {
         }
     }
 
-    /// Why a walk stops at this offset, where the item stands there and isn't whole.
+    /// Why a walk stops at this offset, where the item is there and isn't whole.
     pub(crate) fn fault(&self, at: u64) -> Option<SurveyFault>
         ensures { result ≡ fault_at_lem at self.now }
     {

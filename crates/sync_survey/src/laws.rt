@@ -8,13 +8,13 @@ pub fn one_item_stands()
     ensures { OneItemStands }
 {}
 
-/// The items of a run are whole, stand end to end, and are all that stand so; with the bytes behind them they
+/// The items of a run are whole, follow end to end, and are all that stand so; with the bytes after them they
 /// are the file's bytes.
 pub fn runs_are_only()
     ensures { RunsAreOnly }
 {}
 
-/// The first frame of a stream is whole, and behind junk it stands at the least offset where an anchored frame
+/// The first frame of a stream is whole, and after junk it is at the least offset where an anchored frame
 /// does.
 pub fn starts_are_least()
     ensures { StartsAreLeast }

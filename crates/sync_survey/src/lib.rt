@@ -1,4 +1,4 @@
-//! What stands where in a file: blocks of tags, junk, a head, and the frames of the stream.
+//! What is where in a file: blocks of tags, junk, a head, and the frames of the stream.
 #![tactic(auto)]
 
 mod folders;

@@ -1,4 +1,4 @@
-//! Where things stand in a file. Offsets and lengths are in bytes.
+//! Where things are in a file. Offsets and lengths are in bytes.
 
 use frame_header::Header;
 use tag_blocks::Block;

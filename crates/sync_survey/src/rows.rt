@@ -11,7 +11,7 @@ use crate::survey_fault::SurveyFault;
 use frame_header::Header;
 use side_info::{Side, check_word, read_side, word_said};
 
-/// A frame of the stream: the offset of its header in bytes, its header, and its side information. The fields stand in
+/// A frame of the stream: the offset of its header in bytes, its header, and its side information. The fields are in
 /// the order in which it takes 88 bytes.
 #[derive(Clone, Copy, Debug, PartialEq, Eq)]
 pub struct Row {
@@ -21,7 +21,7 @@ pub struct Row {
     /// Whether the main data of the frame begin before the stream, and every frame before it is silent or lost
     /// too: they were cut off with the frames that stood before. Such a frame has no main data.
     pub lost: bool,
-    /// What stands in the file, also where the frame is lost.
+    /// What is in the file, also where the frame is lost.
     pub side: Side,
 }
 
@@ -58,7 +58,7 @@ fn word_fault(row: &Row, bytes: &[u8]) -> Option<SurveyFault>
     Some(SurveyFault::CheckWord(u64::from(row.offset), said, right))
 }
 
-/// The fault of a frame that as many frames stand before as are allowed.
+/// The fault of a frame that as many frames are before as are allowed.
 fn count_fault(row: &Row, count: u64, allowed: u64) -> Option<SurveyFault>
     ensures { result ≡ first_of (count_faults count allowed row.now) }
 {
@@ -118,7 +118,7 @@ impl Before {
     }
 
     /// What a frame of the class leaves, whose own area has so many bytes, or its first fault, where so many
-    /// frames stand before it. The first of the bytes are its own.
+    /// frames are before it. The first of the bytes are its own.
     fn step(
         &self,
         row: &Row,
@@ -149,7 +149,7 @@ impl Before {
 
     /// Reads the side information of a frame of the class into its row, which has this header, and marks the
     /// row where the frame is lost; answers the main data before the next frame. Or the first fault of the
-    /// frame, where so many frames stand before it. The first of the bytes are its own.
+    /// frame, where so many frames are before it. The first of the bytes are its own.
     #[inline(always)]
     pub(crate) fn read_row(
         &self,

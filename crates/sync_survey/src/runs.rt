@@ -1,4 +1,4 @@
-//! Items that stand end to end.
+//! Items that follow end to end.
 ghost use Rattle.std.specs.Prelude.{◌≡◌, ℕ, List, ◌≤◌, ◌<◌, ◌==◌, length, IfSome};
 ghost use Rattle.std.specs.List.{prefix_len};
 ghost use Rattle.frame_header.specs.Fields.{HeaderFields};
@@ -11,9 +11,9 @@ use crate::items::{Item, item_front};
 /// A part of a file, by the items that it is made of.
 #[derive(Clone, Copy, Debug, PartialEq, Eq)]
 pub enum Part {
-    /// What stands before the first frame: blocks and zero bytes.
+    /// What is before the first frame: blocks and zero bytes.
     Front,
-    /// What stands from the first frame on: frames, blocks and zero bytes.
+    /// What is from the first frame on: frames, blocks and zero bytes.
     Stream,
 }
 
@@ -28,7 +28,7 @@ fn belongs(part: Part, item: &Item) -> bool
     }
 }
 
-/// A whole item, and how many bytes are passed with it: its own, and behind a zero byte all zero bytes that
+/// A whole item, and how many bytes are passed with it: its own, and after a zero byte all zero bytes that
 /// were seen.
 #[derive(Clone, Copy)]
 pub struct Step {
@@ -36,7 +36,7 @@ pub struct Step {
     pub size: u64,
 }
 
-/// How many zero bytes stand at the front.
+/// How many zero bytes are at the front.
 fn zeros(bytes: &[u8]) -> usize
     ensures count { result ≡ prefix_len (λ b. b == 0) bytes.now }
     ensures within { result ≤ length bytes.now }

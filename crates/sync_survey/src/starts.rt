@@ -16,10 +16,10 @@ use crate::survey_fault::SurveyFault;
 use frame_header::Class;
 use outside::{Feed, Folder};
 
-/// So many bytes of junk may stand before the first frame.
+/// So many bytes of junk may be before the first frame.
 const LONGEST_JUNK: u64 = 65_536;
 
-/// Whether the item may stand at the end of an anchored frame of the class.
+/// Whether the item may be at the end of an anchored frame of the class.
 fn is_anchor(class: Class, item: &Item) -> bool
     ensures { result ≡ is_anchor_lem class item.now }
 {
@@ -83,7 +83,7 @@ fn start_here(item: &Item, offset: u64, left: u64) -> Option<Result<Start, Surve
     }
 }
 
-/// The anchored frame at the first offset behind the first byte of junk, where one stands among 65,536.
+/// The anchored frame at the first offset after the first byte of junk, where one is among 65,536.
 fn first_anchored<D: Folder>(
     feed: &mut Feed,
     folder: &mut D,
@@ -119,8 +119,8 @@ fn first_anchored<D: Folder>(
 /// there is the first one. Else the bytes from there are junk, at most 65,536 of them, and the first frame is
 /// at the least offset from the next byte on where an anchored frame stands.
 ///
-/// Refuses with `Truncated` where a block or a frame stands there that passes the end of the file; with
-/// `FreeFormat` where a header of free format stands there; and with `NoFrame` where no anchored frame
+/// Refuses with `Truncated` where a block or a frame is there that passes the end of the file; with
+/// `FreeFormat` where a header of free format is there; and with `NoFrame` where no anchored frame
 /// follows.
 #[tactic(auto, unfolding(crate::specs::Start::start_of))]
 pub(crate) fn find_start<D: Folder>(

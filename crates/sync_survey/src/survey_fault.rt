@@ -12,22 +12,22 @@ pub enum SurveyFault {
     Absent,
     /// The file is longer than 1,073,741,824 bytes: its length.
     TooLong(u64),
-    /// No frame begins where the blocks and zero bytes at the front of the file end, nor behind junk; or,
+    /// No frame begins where the blocks and zero bytes at the front of the file end, nor after junk; or,
     /// with the file's length, the only frame is a head.
     NoFrame(u64),
-    /// Neither a frame nor a block nor a zero byte stands here.
+    /// Neither a frame nor a block nor a zero byte is here.
     LostSync(u64),
     /// The frame or block that begins here passes the end of the file.
     Truncated(u64),
-    /// A header of free format stands here.
+    /// A header of free format is here.
     FreeFormat(u64),
     /// The frame here is of another class than the first frame: version, sampling frequency or number of
     /// channels differ.
     Mixed(u64),
-    /// The check word of the frame here is wrong: the word that stands there, and the one that is right.
+    /// The check word of the frame here is wrong: the word that is there, and the one that is right.
     CheckWord(u64, u16, u16),
     /// The main data of the frame here begin before all main data of the file, and an earlier frame has some,
-    /// so that the frame isn't lost: its main_data_begin, and how many bytes of main data stand before it.
+    /// so that the frame isn't lost: its main_data_begin, and how many bytes of main data are before it.
     BackPointer(u64, u32, u64),
     /// The main data of the frame here begin before those of an earlier frame end.
     Overlap(u64),

@@ -1,4 +1,4 @@
--- Items and their bytes give each other back: one item at the front of bytes, and items that stand end to end.
+-- Items and their bytes give each other back: one item at the front of bytes, and items that follow end to end.
 use Rattle.std.proofs.Common.{◌≡◌, ℕ, zero, suc, ◌+◌, ◌-◌, ◌^◌, ◌<◌, ◌≤◌, Bool, true, false, cond, ◌&&◌, ◌||◌, List, [], ◌∷◌, ◌++◌, length, take, drop, get_or, Option, Some, None, refl, sym, ap, ◌∙◌, subst, arith, append_assoc, append-nil, length-append, length-take, length-drop, take-append-drop}
 use Rattle.std.specs.Prelude.{filter}
 use Rattle.std.specs.List.{list_all, list_any, prefix_len}
@@ -48,7 +48,7 @@ little_number-little_bytes n below = ap (little_number 4) (sym (append-nil (litt
 
 -- ---- an item at the front
 
--- what stands there, part by part
+-- what is there, part by part
 pub record Stands (bytes : List ℕ) : Type 0 where
   pub least : 2 ≤ key_length bytes
   pub most : key_length bytes ≤ 255
@@ -79,7 +79,7 @@ joined a b key value rest =
 split : (n : ℕ) (bytes : List ℕ) → bytes ≡ take n bytes ++ drop n bytes
 split n bytes = sym (take-append-drop n bytes)
 
--- the parts of an item and what stands behind it, from the front
+-- the parts of an item and what is after it, from the front
 parts_of : (bytes : List ℕ) → stands bytes ≡ true
     → bytes ≡ take 4 bytes ++ (take 4 (drop 4 bytes) ++ (take (key_length bytes) (drop 8 bytes) ++ (0 ∷ (take (ape_number 0 bytes) (drop (value_place bytes) bytes) ++ drop (value_place bytes + ape_number 0 bytes) bytes))))
 parts_of bytes is =
@@ -94,7 +94,7 @@ parts_of bytes is =
     let flags : drop 4 bytes ≡ take 4 (drop 4 bytes) ++ drop 8 bytes = split 4 (drop 4 bytes) ∙ ap (λ l. take 4 (drop 4 bytes) ++ l) (drop-drop 4 4 bytes) in
     split 4 bytes ∙ ap (λ l. take 4 bytes ++ l) (flags ∙ ap (λ l. take 4 (drop 4 bytes) ++ l) (key ∙ ap (λ l. take k (drop 8 bytes) ++ l) (zeroed ∙ ap (λ l. 0 ∷ l) value)))
 
--- the bytes begin with those of the item that stands there
+-- the bytes begin with those of the item that is there
 pub bytes-front : (bytes : List ℕ) → AreOctets bytes → stands bytes ≡ true → bytes ≡ item_bytes (item_front bytes) ++ drop (item_length (item_front bytes)) bytes
 unfolding item_bytes item_front
 bytes-front bytes octets is =
@@ -120,7 +120,7 @@ key_passes bytes = list_all-from_AllPass is_key_char (take (prefix_len is_key_ch
 pub ape_number-below : (at : ℕ) (bytes : List ℕ) → AreOctets bytes → ape_number at bytes < 2 ^ 32
 ape_number-below at bytes octets = little_from-lt 0 4 (take 4 (drop at bytes)) (octets-take 4 (drop at bytes) (octets-drop at bytes octets))
 
--- what stands at the front is an item
+-- what is at the front is an item
 pub is_item-front : (bytes : List ℕ) → AreOctets bytes → stands bytes ≡ true → is_item (item_front bytes) ≡ true
 unfolding is_item item_front
 is_item-front bytes octets is =
@@ -154,7 +154,7 @@ prefix_len-key : (key behind : List ℕ) → list_all is_key_char key ≡ true �
 prefix_len-key [] behind all = refl
 prefix_len-key (c ∷ key) behind all = let parts = and_parts (is_key_char c) (list_all is_key_char key) all in rw parts.0 (omega (arith, prefix_len-key key behind parts.1))
 
--- the bytes of an item, with what stands behind them
+-- the bytes of an item, with what is after them
 shown : TagItem → List ℕ → List ℕ
 shown item rest = little_bytes 4 (length item.value) ++ (little_bytes 4 item.flags ++ (item.key ++ (0 ∷ (item.value ++ rest))))
 
@@ -224,7 +224,7 @@ next_cases met (Some other) item e =
     let cases = admitted_cases met (is_undo other) other item refl e in
     (cases.0, subst (λ i. (met && is_undo i) ≡ false) (some_same other item cases.0) cases.1)
 
--- the item that comes next stands there, and is no second undo item
+-- the item that comes next is there, and is no second undo item
 pub record IsNext (met : Bool) (bytes : List ℕ) (item : TagItem) : Type 0 where
   pub stands_there : stands bytes ≡ true
   pub is : item_front bytes ≡ item
@@ -277,7 +277,7 @@ read_all whole items count at met bytes done is =
     let none : count - at ≡ 0 = omega (arith, done) in
     sym (is ∙ ap (λ n. items ++ items_from n met bytes) none ∙ ap (λ l. items ++ l) (items_from-zero met bytes) ∙ append-nil items)
 
--- ---- what items that stand end to end are
+-- ---- what items that follow end to end are
 
 undo_cases : (items : List TagItem) (item : TagItem) (is : Bool) → is_undo item ≡ is → length (cond is (item ∷ filter is_undo items) (filter is_undo items)) ≡ cond is 1 0 + length (filter is_undo items)
 undo_cases items item true own = omega arith

@@ -53,7 +53,7 @@ length-tag_bytes tag =
 
 -- ---- a header or a footer that was written
 
--- what stands at the front of bytes that begin with a header or a footer
+-- what is at the front of bytes that begin with a header or a footer
 pub record IsEnd (size count flags : ℕ) (bytes rest : List ℕ) : Type 0 where
   pub long : nat_le 32 (length bytes) ≡ true
   pub text : begins_with (codes "APETAGEX") bytes ≡ true
@@ -119,7 +119,7 @@ tag_bytes-parts tag is =
       footer = subst (λ b. IsEnd size count tag.footer_flags b []) (append-nil footer ∙ sym behind) (end_bytes-parts size count tag.footer_flags [] s n (ltb-true _ _ is.footer_number));
     }
 
--- header, items and footer, added one behind the other to nothing
+-- header, items and footer, added one after the other to nothing
 pub tag_bytes-added : (tag : TagFields) (size count : ℕ) (nothing header items whole : List ℕ) → size ≡ size_of tag → count ≡ length tag.items → nothing ≡ [] → header ≡ nothing ++ end_bytes size count tag.header_flags
     → items ≡ header ++ items_bytes tag.items → whole ≡ items ++ end_bytes size count tag.footer_flags → whole ≡ tag_bytes tag
 tag_bytes-added tag size count nothing header items whole size_is count_is first second third fourth =

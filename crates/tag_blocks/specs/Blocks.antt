@@ -1,4 +1,4 @@
--- Where a block of a tag begins, and how long it is. A block is known by its front alone; what stands in it isn't judged.
+-- Where a block of a tag begins, and how long it is. A block is known by its front alone; what is in it isn't judged.
 use Rattle.std.specs.Prelude.{ℕ, ◌+◌, ◌*◌, ◌^◌, ◌==◌, ◌&&◌, not, nat_le, nat_lt, if◌then◌else◌, Bool, List, length, take, drop, slice_index, Option, Some, None, codes, bytes_eq}
 use Rattle.std.specs.Int.{bit_at}
 use Rattle.std.specs.List.{list_all}
@@ -27,7 +27,7 @@ unfoldable pub is_id3v2 : List ℕ → Bool
 is_id3v2 bytes =
     nat_le 10 (length bytes) && begins_with (codes "ID3") bytes && not (slice_index bytes 3 == 255) && not (slice_index bytes 4 == 255) && list_all (λ b. nat_lt b 128) (id3v2_size bytes)
 
--- flag 10 hex says that a footer of 10 bytes stands at the end
+-- flag 10 hex says that a footer of 10 bytes is at the end
 abbrev pub footer_length : ℕ → ℕ
 footer_length flags = if bit_at flags 4 == 1 then 10 else 0
 

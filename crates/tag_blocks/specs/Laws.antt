@@ -19,8 +19,8 @@ abbrev pub TagsAreTheirBytes : Type 0
 TagsAreTheirBytes =
     (block : List ℕ) (tag : TagFields) → AreOctets block → block_front block ≡ Some (record { kind = Ape; length = length block }) → length block ≤ 1048576 → (tag_of block ≡ Ok tag) ↔ (IsTag tag × (tag_bytes tag ≡ block))
 
--- The items at the front of bytes stand end to end, are so many at most, and at most one of them is the undo item; and where they
--- are fewer, none that may stand there stands behind them.
+-- The items at the front of bytes follow end to end, are so many at most, and at most one of them is the undo item; and where they
+-- are fewer, none that may be there is after them.
 pub record AreItemsOf (most : ℕ) (bytes : List ℕ) (items : List TagItem) : Type 0 where
   pub all : list_all is_item items ≡ true
   pub few : length items ≤ most

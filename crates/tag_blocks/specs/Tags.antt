@@ -73,7 +73,7 @@ footer_place block = length block - 32
 abbrev pub item_part : List ℕ → List ℕ
 item_part block = take (footer_place block - 32) (drop 32 block)
 
--- as many of the items that the header counts as stand there
+-- as many of the items that the header counts as are there
 abbrev pub items_of : List ℕ → List TagItem
 items_of block = items_from (ape_count block) false (item_part block)
 
@@ -84,7 +84,7 @@ is_footer size count footer =
     && is_reserved footer
 
 -- the tag that an APEv2 block is, or the place of the first fault: in the header, at the first item that isn't whole, has no legal
--- key or is a second undo item, behind the last item, or at the footer
+-- key or is a second undo item, after the last item, or at the footer
 unfoldable pub tag_of : List ℕ → Result TagFields TagFault
 tag_of block =
     if not (is_reserved block) then Err (BadTag 24) else

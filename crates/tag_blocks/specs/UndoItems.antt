@@ -11,7 +11,7 @@ abbrev pub undo_at : ℕ → Option Undo → UndoItem
 undo_at place None = Bad place
 undo_at place (Some undo) = Found undo
 
--- what the undo item says; the first item stands at this place
+-- what the undo item says; the first item is at this place
 abbrev pub undo_from : ℕ → List TagItem → UndoItem
 undo_from place [] = Missing
 undo_from place (item ∷ items) = if is_undo item then undo_at place (undo_of item.value) else undo_from (place + item_length item) items
@@ -20,7 +20,7 @@ undo_from place (item ∷ items) = if is_undo item then undo_at place (undo_of i
 abbrev pub new_undo_item : Undo → TagItem
 new_undo_item undo = record { key = codes "MP3GAIN_UNDO"; flags = 0; value = undo_text undo }
 
--- the same items with this undo: it is the value of the undo item, or a new item behind all others where there is none
+-- the same items with this undo: it is the value of the undo item, or a new item after all others where there is none
 abbrev pub with_undo : Undo → List TagItem → List TagItem
 with_undo undo [] = new_undo_item undo ∷ []
 with_undo undo (item ∷ items) = if is_undo item then record item { value = undo_text undo } ∷ items else item ∷ with_undo undo items

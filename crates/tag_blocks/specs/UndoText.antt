@@ -29,7 +29,7 @@ pub record FitsText (undo : Undo) : Type 0 where
 abbrev pub is_steps : List ℕ → Bool
 is_steps four = ((slice_index four 0 == 43) || (slice_index four 0 == 45)) && is_ascii_digit (slice_index four 1) && is_ascii_digit (slice_index four 2) && is_ascii_digit (slice_index four 3)
 
--- the number of the three digits behind the sign
+-- the number of the three digits after the sign
 abbrev pub digits_number : List ℕ → ℕ
 digits_number four = (slice_index four 1 - 48) * 100 + (slice_index four 2 - 48) * 10 + (slice_index four 3 - 48)
 

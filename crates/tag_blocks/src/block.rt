@@ -37,7 +37,7 @@ const ID3V1_LENGTH: u64 = 128;
 /// The length of the header of APEv2, and of its footer, in bytes.
 pub(crate) const APE_HEADER: usize = 32;
 
-/// Where the version stands in the header of APEv2, the size of items and footer, and the flags.
+/// Where the version is in the header of APEv2, the size of items and footer, and the flags.
 pub(crate) const APE_VERSION_AT: usize = 8;
 
 pub(crate) const APE_SIZE_AT: usize = 12;

@@ -43,7 +43,7 @@ pub(crate) fn is_footer(footer: &[u8], size: u32, count: u32) -> bool
         && is_reserved(footer)
 }
 
-/// Adds a header or a footer behind the bytes.
+/// Adds a header or a footer after the bytes.
 #[tactic(auto, unfolding(crate::specs::Tags::end_bytes))]
 pub(crate) fn append_end(
     bytes: &mut Vec<u8>,

@@ -11,7 +11,7 @@ use std::marker::Model;
 /// The key of the undo item.
 pub(crate) const UNDO_KEY: &[u8] = b"MP3GAIN_UNDO";
 
-/// The length of what stands before the key in bytes: the length of the value, and the flags.
+/// The length of what is before the key in bytes: the length of the value, and the flags.
 const KEY_AT: usize = 8;
 
 /// An item: flags, a key of 2 to 255 characters from 20 to 7e (hexadecimal), and a value.
@@ -36,7 +36,7 @@ fn is_key_char(byte: u8) -> bool
     (0x20..=0x7e).contains(&byte)
 }
 
-/// How many characters of a key stand at the front of the bytes.
+/// How many characters of a key are at the front of the bytes.
 fn key_length(bytes: &[u8]) -> usize
     ensures length { result ≡ prefix_len is_key_char_lem bytes.now }
     ensures within { result ≤ length bytes.now }
@@ -57,8 +57,8 @@ struct Layout {
     end: usize,
 }
 
-/// The layout of the item at the front of the bytes, and `None` exactly where none stands there: a key of 2 to 255
-/// characters, a zero byte behind it, and a value that is whole.
+/// The layout of the item at the front of the bytes, and `None` exactly where none is there: a key of 2 to 255
+/// characters, a zero byte after it, and a value that is whole.
 #[tactic(auto, unfolding(crate::specs::Items::stands))]
 fn layout_at(bytes: &[u8]) -> Option<Layout>
     ensures stands { is_some result ≡ stands_lem bytes.now }
@@ -91,7 +91,7 @@ pub(crate) fn copied(alloc: Global, bytes: &[u8]) -> Result<Vec<u8>, AllocError>
 }
 
 impl Item {
-    /// The item at the front of the bytes, and `None` where none stands there.
+    /// The item at the front of the bytes, and `None` where none is there.
     ///
     /// # Errors
     /// Where there is no memory.
@@ -124,7 +124,7 @@ impl Item {
         KEY_AT + self.key.len() + 1 + self.value.len()
     }
 
-    /// Adds its bytes behind these.
+    /// Adds its bytes after these.
     #[tactic(auto, unfolding(crate::specs::Items::is_item, crate::specs::Items::item_bytes))]
     pub(crate) fn append(&self, bytes: &mut Vec<u8>) -> Result<(), AllocError>
         requires { is_item self.now ≡ true }

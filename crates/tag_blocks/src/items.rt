@@ -1,4 +1,4 @@
-//! The items of an APEv2 tag, one behind the other.
+//! The items of an APEv2 tag, one after the other.
 ghost use Rattle.std.specs.Prelude.{◌≡◌, ◌^◌, ◌<◌, ◌≤◌, ◌++◌, true, false, length, IfOk, OnOk, OnErr, position};
 ghost use Rattle.std.specs.List.{list_all};
 ghost use Rattle.tag_blocks.specs.UndoText.{FitsText};
@@ -22,7 +22,7 @@ fn next_item(alloc: Global, bytes: &[u8], met: bool) -> Result<Option<Item>, All
     Ok(Some(item))
 }
 
-/// The items that stand end to end at the front of the bytes, so many at most, and up to a second undo item.
+/// The items that follow end to end at the front of the bytes, so many at most, and up to a second undo item.
 pub(crate) fn read_items(alloc: Global, bytes: &[u8], count: u32) -> Result<Vec<Item>, AllocError>
     requires { length bytes.now < 2 ^ 32 }
     ensures { IfOk result (λ items. items.items ≡ items_from count false bytes.now) }
@@ -60,7 +60,7 @@ pub(crate) fn undo_place(items: &[Item]) -> Option<usize>
     items.iter().position(|item| item.is_undo())
 }
 
-/// Puts this into the undo item in place of its value, or adds a new undo item behind all others where there is
+/// Puts this into the undo item in place of its value, or adds a new undo item after all others where there is
 /// none.
 ///
 /// # Errors
@@ -88,7 +88,7 @@ pub(crate) fn put_undo(alloc: Global, items: &mut Vec<Item>, undo: &Undo) -> Res
     Ok(())
 }
 
-/// Adds the bytes of all items behind these.
+/// Adds the bytes of all items after these.
 pub(crate) fn append_items(bytes: &mut Vec<u8>, items: &[Item]) -> Result<(), AllocError>
     requires { list_all is_item items.now ≡ true }
     ensures { IfOk result (λ _. bytes.new.items ≡ bytes.old.items ++ items_bytes items.now) }

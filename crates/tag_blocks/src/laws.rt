@@ -8,8 +8,8 @@ pub fn tags_are_their_bytes()
     ensures { TagsAreTheirBytes }
 {}
 
-/// The items of a block are those that stand end to end, and no others: where they are fewer than the header counts,
-/// none that may stand there stands behind them.
+/// The items of a block are those that follow end to end, and no others: where they are fewer than the header counts,
+/// none that may be there is after them.
 pub fn items_are_all()
     ensures { ItemsAreAll }
 {}

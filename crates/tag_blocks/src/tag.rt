@@ -18,7 +18,7 @@ use std::alloc::{AllocError, Global};
 use std::marker::Model;
 
 /// An APEv2 tag. Contracts see it as the flags of its header and of its footer, and its items in their order
-/// (`TagFields`). Values aren't looked at, but for that of the undo item.
+/// (`TagFields`). Values aren't looked at, except that of the undo item.
 #[derive(Drop)]
 pub struct Tag {
     alloc: Global,
@@ -155,7 +155,7 @@ impl Tag {
         UndoItem::Missing
     }
 
-    /// Puts this into the undo item in place of its value. Where there is none a new one is added behind all
+    /// Puts this into the undo item in place of its value. Where there is none a new one is added after all
     /// others, with flags 0. Both numbers have to be from -999 to 999. All other items stay as they are.
     ///
     /// # Errors

@@ -27,7 +27,7 @@ pub enum Stretch {
     Copies(&'static [u8], usize),
 }
 
-/// What is before a value, and what is behind it.
+/// What is before a value, and what is after it.
 pub struct Ends(pub &'static [u8], pub &'static [u8]);
 
 /// An ID3v2 block of 40 bytes: the flag of a footer, and size 20.
@@ -53,7 +53,7 @@ pub const OF_400: Stretch = Stretch::Filled(
     28,
 );
 
-/// Two such frames, with areas of 381 bytes: the first 81 bytes of the second's main data stand behind those of the first.
+/// Two such frames, with areas of 381 bytes: the first 81 bytes of the second's main data are after those of the first.
 pub const TWO: &[Stretch] = &[
     OF_300,
     Stretch::Fill(0x11, 300),

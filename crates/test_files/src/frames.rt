@@ -5,7 +5,7 @@ ghost use Rattle.std.specs.Prelude.{◌≤◌};
 use crate::frame;
 use std::alloc::{AllocError, Global};
 
-/// A frame: its header, its check word where it has one, what stands behind them, and its length in
+/// A frame: its header, its check word where it has one, what is after them, and its length in
 /// bytes. The rest is zeros.
 #[derive(Clone, Copy)]
 pub struct Frame {
@@ -24,7 +24,7 @@ const PROTECTED: [u8; 4] = [0xff, 0xfa, 0x90, 0x00];
 
 const AREA: [u8; 4] = [0x11, 0x22, 0x33, 0x44];
 
-/// All bytes behind the header are 0: its granules are silent.
+/// All bytes after the header are 0: its granules are silent.
 pub const Z: Frame = frame! { header: PLAIN, word: None, side: &[], area: &[], length: 417 };
 
 /// Each granule's channel has 8 bits; the gains are 100, 101, 255, 90.
@@ -117,7 +117,7 @@ pub const G_AT_32_KHZ: Frame = frame! { header: [0xff, 0xfb, 0x98, 0x00], length
 pub const G_AT_32_KHZ_LOWER: Frame =
     frame! { header: [0xff, 0xfb, 0x98, 0x00], length: 576, ..G_LOWER };
 
-/// G at 160 kbit/s, with a text one byte behind the place of a head's.
+/// G at 160 kbit/s, with a text one byte after the place of a head's.
 pub const LONG: Frame =
     frame! { header: [0xff, 0xfb, 0xa0, 0x00], area: b"-Info", length: 522, ..G };
 
@@ -134,7 +134,7 @@ pub const MONO_HEAD: Frame = frame! { area: b"Info", ..MONO };
 /// The same with the gains 95 and 195.
 pub const MONO_HEAD_LOWER: Frame = frame! { area: b"Info", ..MONO_LOWER };
 
-/// G with a wrong check word, and with the text of a head behind the side information.
+/// G with a wrong check word, and with the text of a head after the side information.
 pub const PROTECTED_HEAD: Frame =
     frame! { header: PROTECTED, word: Some(0x0000), area: b"Info", ..G };
 
@@ -179,7 +179,7 @@ pub const PROTECTED_LOWER: Frame =
 pub const PROTECTED_LOWER_QUIETER: Frame =
     frame! { header: [0xff, 0xf2, 0x82, 0x00], word: Some(0x2bff), ..LOWER_QUIETER };
 
-/// MPEG-2, 22,050 Hz, 64 kbit/s, all bytes behind the header 0.
+/// MPEG-2, 22,050 Hz, 64 kbit/s, all bytes after the header 0.
 pub const MPEG_2: Frame = frame! { header: [0xff, 0xf3, 0x80, 0x00], length: 208, ..Z };
 
 /// The same with the version that the standard reserves.

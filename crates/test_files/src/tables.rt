@@ -1,4 +1,4 @@
-//! Tables and lists on few lines. They are macros, so that a row, or what belongs to a frame, stands on one line.
+//! Tables and lists on few lines. They are macros, so that a row, or what belongs to a frame, is on one line.
 
 /// Rows of a struct: its name and fields, and the values of each row in this order.
 ///
@@ -19,7 +19,7 @@ macro_rules! table {
     };
 }
 
-/// Stretches, of which those of one frame stand on a line.
+/// Stretches, of which those of one frame are on a line.
 #[macro_export]
 macro_rules! end_to_end {
     ($($stretch:expr),+) => {

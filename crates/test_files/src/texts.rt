@@ -159,7 +159,7 @@ fn push_word(
     push_known(bytes, names, word)
 }
 
-/// The bytes of these words, one behind the other.
+/// The bytes of these words, one after the other.
 pub fn bytes_of_words(
     alloc: Global,
     names: &[Named],

@@ -9,7 +9,7 @@ use side_info::Side;
 use std::alloc::{AllocError, Global};
 use std::process::Abort;
 
-/// Side information whose fields are 0, but for main_data_begin and the bits of its first granule and channel.
+/// Side information whose fields are 0, except main_data_begin and the bits of its first granule and channel.
 pub fn side_of(begin: u16, bits: u16) -> Side {
     let mut side = Side::empty().with_begin(begin);
     side.granules[0][0].part2_3_length = bits;

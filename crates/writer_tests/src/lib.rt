@@ -1,4 +1,4 @@
-//! Tests of frames that are written one behind the other, and of a file that is put together of them.
+//! Tests of frames that are written one after the other, and of a file that is put together of them.
 #![tactic(auto)]
 
 #[cfg(test)]

@@ -1,4 +1,4 @@
-//! A file without bytes, and what stands in one afterwards.
+//! A file without bytes, and what is in one afterwards.
 //!
 //! A test owns its folder and ends in one place, and all else borrows it: at each end of the owner the folder is let go, which
 //! costs the check much.
@@ -13,7 +13,7 @@ pub fn put_empty(folder: &mut MemFolder, name: &str, room: u64) -> Result<(), Al
     folder.reserve(name, room)
 }
 
-/// Asserts that these bytes stand at these places.
+/// Asserts that these bytes are at these places.
 pub fn expect_at(rt: &impl Abort, bytes: &[u8], places: &[usize], wanted: &[u8]) {
     assert_eq!(rt; places.len(), wanted.len());
     for (place, byte) in places.iter().zip(wanted) {

@@ -18,10 +18,10 @@ use tag_blocks::{Block, Kind};
 /// has 208 bytes, at 64 kbit/s.
 static PLAIN: [u8; 4] = [0xff, 0xfb, 0x90, 0x00];
 
-/// An ID3v2 tag of 2 bytes behind its header of 10.
+/// An ID3v2 tag of 2 bytes after its header of 10.
 static ID3V2: [u8; 12] = *b"ID3\x03\x00\x00\x00\x00\x00\x02ab";
 
-/// An ID3v1 tag, of 128 bytes with 125 spaces behind it.
+/// An ID3v1 tag, of 128 bytes with 125 spaces after it.
 static ID3V1: [u8; 3] = *b"TAG";
 
 static BLOCKS: [Piece; 2] = [
@@ -125,7 +125,7 @@ fn surveyed(alloc: Global, file: &[u8]) -> Result<Option<Survey>, AllocError> {
 fn a_file_of_three_frames(rt: HostRuntime) -> Result<(), Fail> {
     let file = whole_file(&rt)?;
     // The third frame's main data begin 300 bytes into the first one's area, at 256, and pass the 36 bytes before the two
-    // areas behind it.
+    // areas after it.
     let places = [555, 556, 673, 1126, 1127];
     expect_at(&rt, &file, &places, &[0x11, 0x22, 0x22, 0x22, 0]);
     let Some(survey) = surveyed(rt.alloc(), &file)? else {

@@ -27,7 +27,7 @@ fn header_of(bytes: [u8; 4]) -> Result<Header, Fail> {
     }
 }
 
-/// These bytes as main data pushed behind those of `areas`, so many bytes before an area of 381.
+/// These bytes as main data pushed after those of `areas`, so many bytes before an area of 381.
 fn push(
     rt: &impl Abort,
     alloc: Global,

@@ -67,7 +67,7 @@ fn expect_packed<R: Abort + AllocGlobal>(rt: &R, folder: &mut MemFolder) -> Resu
     Ok(())
 }
 
-/// Both frames in the least slots: one of 112 kbit/s, 365 bytes, whose area of 329 has 29 bytes behind its own main data;
+/// Both frames in the least slots: one of 112 kbit/s, 365 bytes, whose area of 329 has 29 bytes after its own main data;
 /// and one of 128 kbit/s, whose main data begin in these.
 #[test]
 fn both_frames_packed(rt: HostRuntime) -> Result<(), Fail> {

@@ -13,7 +13,7 @@ pub enum Trouble {
     Unread(u64),
     /// The input has this length.
     Shorter(u64),
-    /// Writes fail behind so many bytes.
+    /// Writes fail after so many bytes.
     Unwritten(u64),
 }
 

@@ -94,7 +94,7 @@ struct Entry {
 
 static ENTRIES: [Entry; 10] = table! {
     Entry { offset, bytes, wanted }
-    // A lead-in and a frame behind an Info frame of 208 bytes.
+    // A lead-in and a frame after an Info frame of 208 bytes.
     (208, 729, 73)
     (312, 729, 109)
     // Two frames of 417 bytes.

@@ -159,7 +159,7 @@ fn a_feed_over_short_reads(rt: HostRuntime) -> Result<(), Fail> {
     Ok(())
 }
 
-// Reads as long as they are asked for: one for the first 65,536 bytes, and one for those behind.
+// Reads as long as they are asked for: one for the first 65,536 bytes, and one for those after.
 fn expect_two_long_reads(rt: &impl Abort, feed: &mut Feed, folder: &mut Slow, name: &str)
     requires fed { IsFedFrom feed.old untold name.now }
     ensures fed { IsFedFrom feed.new untold name.now }

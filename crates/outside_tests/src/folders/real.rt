@@ -71,7 +71,7 @@ fn expect_files<R: Files + AllocGlobal + Abort>(
     expect_copied(rt, folder, "outside_files/from", "outside_files/link")?;
     expect_read(rt, folder, "outside_files/from", 7, 3, b"789-");
     expect_read(rt, folder, "outside_files/from", 10, 0, b"----");
-    // A file that is opened anew.
+    // A file that is opened again.
     expect_grown(rt, folder, "outside_files/to", b"cd", "0123456789abcd")
 }
 

@@ -38,7 +38,7 @@ static CLASSES: [Row; 18] = table! {
     ([0xff, 0xe3, 0x18, 0xc0], 32)
 };
 
-/// The greatest payload of a frame in this slot takes a whole window behind its lead-in.
+/// The greatest payload of a frame in this slot takes a whole window after its lead-in.
 fn expect_greatest<R: Abort + AllocGlobal>(
     rt: &R,
     header: Header,

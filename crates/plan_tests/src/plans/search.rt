@@ -19,7 +19,7 @@ struct Found {
     begins: ArrayVec<u16, 3>,
 }
 
-/// A lead-in, and the frames behind it.
+/// A lead-in, and the frames after it.
 #[derive(Drop)]
 struct Best {
     lead_in: Option<Slot>,
@@ -38,8 +38,8 @@ fn place_in(number: u64, choices: u64, behind: usize) -> usize
     (left % choices) as usize
 }
 
-/// The frames in the slots of the list of this number, laid as early as may be behind so many bytes of a
-/// lead-in's area; none where some main data end behind their frame.
+/// The frames in the slots of the list of this number, laid as early as may be after so many bytes of a
+/// lead-in's area; none where some main data end after their frame.
 fn laid<P: Policy>(needs: &[Need], policy: &P, lead_in: u32, number: u64) -> Option<Found> {
     let mut slots = ArrayVec::new();
     let mut begins = ArrayVec::new();
@@ -72,7 +72,7 @@ fn count_of<P: Policy>(needs: &[Need], policy: &P) -> u64 {
     count
 }
 
-/// The first list that can be laid behind so many bytes of a lead-in's area.
+/// The first list that can be laid after so many bytes of a lead-in's area.
 fn first_list<P: Policy>(needs: &[Need], policy: &P, lead_in: u32) -> Option<Found> {
     for number in 0..count_of(needs, policy) {
         if let Some(found) = laid(needs, policy, lead_in, number) {
@@ -82,7 +82,7 @@ fn first_list<P: Policy>(needs: &[Need], policy: &P, lead_in: u32) -> Option<Fou
     None
 }
 
-/// The first list that can be laid, without a lead-in, or else behind the first with which one can.
+/// The first list that can be laid, without a lead-in, or else after the first with which one can.
 fn best_of<P: Policy>(class: Class, needs: &[Need], policy: &P) -> Option<Best> {
     if let Some(found) = first_list(needs, policy, 0) {
         return Some(Best {
@@ -102,7 +102,7 @@ fn best_of<P: Policy>(class: Class, needs: &[Need], policy: &P) -> Option<Best> 
     None
 }
 
-/// The frames behind the lead-in that was found, where one was.
+/// The frames after the lead-in that was found, where one was.
 fn behind_lead_in<'a>(
     rt: &impl Abort,
     placed: &'a [Placed],
@@ -152,7 +152,7 @@ fn expect_searched<R: Abort + AllocGlobal, P: Policy>(
     Ok(())
 }
 
-/// Searches where the frames can be laid in their own slots behind a whole window; answers whether they can.
+/// Searches where the frames can be laid in their own slots after a whole window; answers whether they can.
 fn searched<R: Abort + AllocGlobal>(rt: &R, frames: &[Asked]) -> Result<bool, Fail> {
     let needs = needs_of(rt.alloc(), frames)?;
     assert!(rt; !needs.is_empty());

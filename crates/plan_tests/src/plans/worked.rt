@@ -28,7 +28,7 @@ static ALONE: [Case; 6] = table! {
     ("protected", &[Asked(PROTECTED, 447)], &[0], &[LeadIn(32, 0), Frame(128, 68)], &[Frame(160, 0)])
     // 189 bytes are missing: 80 kbit/s with area 227, in which a free slot has room for all 200.
     ("low", &[Asked(LOW, 200)], &[0], &[LeadIn(80, 0), Frame(8, 227)], &[Frame(80, 0)])
-    // The reserve is kept for the frames behind, so the first two can't be smaller.
+    // The reserve is kept for the frames after, so the first two can't be smaller.
     ("large", &[Asked(LARGE, 498), Asked(LARGE, 1009), Asked(LARGE, 1520)], &[0],
         &[Padded(320, 0), Padded(320, 511), Padded(320, 511)],
         &[Padded(320, 0), Padded(320, 511), Padded(320, 511)])

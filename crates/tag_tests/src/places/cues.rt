@@ -95,7 +95,7 @@ fn a_hundredth_track(rt: HostRuntime) -> Result<(), Fail> {
     Ok(())
 }
 
-// Each of the 99 tracks that a sheet may have starts a minute behind the one before it.
+// Each of the 99 tracks that a sheet may have starts a minute after the one before it.
 #[test]
 fn ninety_nine_tracks(rt: HostRuntime) -> Result<(), Fail> {
     let mut sheet: Vec<u8> = Vec::new(rt.alloc());

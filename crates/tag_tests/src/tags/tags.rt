@@ -16,7 +16,7 @@ static ALONE: &[u8] = b"\
     \x01\x00\x00\x00\x00\x00\x00\x80\x00\x00\x00\x00\x00\x00\x00\x00";
 
 /// A tag whose undo item has its key in another case and flags of its own, with an item before it (15 bytes) and one
-/// behind it (30 bytes), and other flags of header and footer.
+/// after it (30 bytes), and other flags of header and footer.
 static AMID: &[u8] = b"\
     APETAGEX\xd0\x07\x00\x00\x6d\x00\x00\x00\
     \x03\x00\x00\x00\x01\x00\x00\xe0\x00\x00\x00\x00\x00\x00\x00\x00\
@@ -55,7 +55,7 @@ static AMID_NEW: &[u8] = b"\
     APETAGEX\xd0\x07\x00\x00\x6d\x00\x00\x00\
     \x03\x00\x00\x00\x02\x00\x00\xc0\x00\x00\x00\x00\x00\x00\x00\x00";
 
-/// A tag whose undo item stands behind another item, and has a value of 10 bytes.
+/// A tag whose undo item is after another item, and has a value of 10 bytes.
 static BAD_UNDO: &[u8] = b"\
     APETAGEX\xd0\x07\x00\x00\x4e\x00\x00\x00\
     \x02\x00\x00\x00\x00\x00\x00\xa0\x00\x00\x00\x00\x00\x00\x00\x00\

@@ -1,4 +1,4 @@
--- The list that the table gives, behind the lead-in that its sums give.
+-- The list that the table gives, after the lead-in that its sums give.
 use Rattle.std.proofs.Common.{[], ◌∷◌, ◌++◌, map, length, get_or, sym, ap, ◌∙◌, subst, arith}
 use Rattle.slot_plan.specs.Parts.{own_frame}
 use Rattle.slot_plan.specs.Layouts.{IsFeasible}

@@ -1,4 +1,4 @@
--- Eight bytes are written anew.
+-- Eight bytes are written again.
 use Rattle.std.proofs.Common.{◌+◌, ◌++◌, take, ap, ◌∙◌, arith}
 use borrow.Rule.Slice.PartMut.{Post-is}
 use Rattle.bit_fields.specs.Bits.{bits, bits_of}

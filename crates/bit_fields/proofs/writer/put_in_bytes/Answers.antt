@@ -1,4 +1,4 @@
--- The bytes that the group reaches are written anew.
+-- The bytes that the group reaches are written again.
 use Rattle.std.proofs.Common.{◌≡◌, ◌+◌, ◌*◌, ◌^◌, ◌<◌, length, take, drop, ◌-◌, ◌/◌, arith}
 use Rattle.bit_fields.proofs.BitsLaws.{number-bits-below}
 use Rattle.bit_fields.proofs.WindowLaws.{reached, whole_small, write_group}

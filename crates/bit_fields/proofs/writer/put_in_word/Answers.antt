@@ -1,4 +1,4 @@
--- The eight bytes are written anew.
+-- The eight bytes are written again.
 use Rattle.std.proofs.Common.{◌≡◌, ◌+◌, ◌-◌, ◌*◌, ◌≤◌, ◌++◌, length, take, drop, sym, ap, ap₂, ◌∙◌, arith, length-drop}
 use Rattle.std.proofs.lemmas.List.{drop-drop, length-take-le}
 use borrow.Rule.Slice.PartMut.{Post-is}

@@ -1,4 +1,4 @@
--- The word behind the blanks.
+-- The word after the blanks.
 use Rattle.std.proofs.Common.{◌-◌, ◌∷◌, take, drop, length, sym, ap, ap₂, ◌∙◌, arith}
 use Rattle.std.proofs.lemmas.Bool.{eqb-true, eqb-false}
 use Rattle.std.proofs.lemmas.List.{take_rest}

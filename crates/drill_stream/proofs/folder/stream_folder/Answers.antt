@@ -1,4 +1,4 @@
--- The stream that was written, and the room that was reserved behind it.
+-- The stream that was written, and the room that was reserved after it.
 use Rattle.std.proofs.Common.{◌≡◌, ◌+◌, ◌*◌, ◌∙◌, ℕ, List, Option, Some, max, refl, sym, ap, subst, arith}
 use Rattle.std.specs.Prelude.{unwrap_or, bytes_eq}
 use Rattle.std.proofs.lemmas.Map.{update_same}

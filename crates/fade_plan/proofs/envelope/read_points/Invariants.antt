@@ -1,4 +1,4 @@
--- The lines so far are not at fault and have these points, and the others stand behind them.
+-- The lines so far are not at fault and have these points, and the others are after them.
 use Rattle.std.proofs.Common.{◌+◌, ◌-◌, ◌≤◌, length}
 use Rattle.std.specs.List.{All}
 use Rattle.fade_plan.specs.Points.{IsKept}

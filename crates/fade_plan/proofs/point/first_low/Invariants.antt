@@ -1,4 +1,4 @@
--- The points so far rise, so that the first that doesn't is behind them.
+-- The points so far rise, so that the first that doesn't is after them.
 use Rattle.std.proofs.Common.{◌≡◌, ◌-◌, ◌≤◌, length, drop}
 use Rattle.std.specs.List.{AllAdjacentBelow}
 use Rattle.fade_plan.specs.Points.{first_low}

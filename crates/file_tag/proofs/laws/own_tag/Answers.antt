@@ -1,4 +1,4 @@
--- The bytes of the file are those before the tag, its own, and those behind it.
+-- The bytes of the file are those before the tag, its own, and those after it.
 use Rattle.file_tag.proofs.NewTag.{own-tag}
 use Rattle.file_tag.proofs.laws.own_tag.Goals as goal
 

@@ -1,4 +1,4 @@
--- What stands before the area, and the area.
+-- What is before the area, and the area.
 use Rattle.std.proofs.Common.{◌≡◌, ℕ, List, ◌-◌, ◌++◌, take, sym, ap, ap₂, ◌∙◌, arith}
 use Rattle.std.proofs.lemmas.List.{length-take-le}
 use Rattle.frame_header.specs.Tables.{class_of, overhead_of}

@@ -1,4 +1,4 @@
--- The header, and what is put behind it.
+-- The header, and what is put after it.
 use Rattle.std.proofs.Common.{◌∙◌}
 use Rattle.frame_writer.proofs.FrameLaws.{header-bytes, front-put}
 use Rattle.frame_writer.proofs.frames.put_front.Goals as goal

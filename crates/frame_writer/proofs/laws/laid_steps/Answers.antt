@@ -1,4 +1,4 @@
--- The frames that were taken, and behind them those that wait.
+-- The frames that were taken, and after them those that wait.
 use Rattle.frame_writer.proofs.FrameLaws.{laid-steps}
 use Rattle.frame_writer.proofs.laws.laid_steps.Goals as goal
 

@@ -1,4 +1,4 @@
--- The item stands within the tag.
+-- The item is within the tag.
 use Rattle.std.proofs.Common.{sym, ◌∙◌, arith}
 use Rattle.gain_edits.proofs.UndoPlaces.{bad_place}
 use Rattle.gain_edits.proofs.undo_item.found_undo.Goals as goal

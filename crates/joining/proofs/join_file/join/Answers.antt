@@ -72,7 +72,7 @@ pub write_joined-requires-clause-planned : goal.write_joined-requires-clause-pla
 write_joined-requires-clause-planned g c =
     subst (λ l. IsPlanned (map tells l) c.in_ok-planned.planned) (c.deref.ensures.value ∙ sym c.deref-3.ensures.value) c.in_ok-planned.ensures
 
--- what is made of the inputs, by what is known of them behind the survey
+-- what is made of the inputs, by what is known of them after the survey
 making : (g : given.Over) (c : In_ok-surveys g) (mid : Files) (ss : List SurveyFields) → mid ≡ g.D.Folder.files c.args.folder.now → ss ≡ map tells c.in_ok-surveys.surveys.items
     → IsMaking (join_task (map string_bytes c.args.inputs.now)) (λ _. joined_file (told_parts mid (map string_bytes c.args.inputs.now) ss)) (g.D.Folder.files c.args.folder.now)
 making g c mid ss same surveys =

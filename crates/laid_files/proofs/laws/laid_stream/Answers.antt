@@ -1,4 +1,4 @@
--- Bytes that are items stand end to end, and the main data stand where they were laid.
+-- Bytes that are items follow end to end, and the main data are where they were laid.
 use Rattle.laid_files.proofs.LaidLaws.{laid-stream}
 use Rattle.laid_files.proofs.laws.laid_stream.Goals as goal
 

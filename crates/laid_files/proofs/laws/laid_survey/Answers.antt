@@ -1,4 +1,4 @@
--- The frames and blocks stand one behind the other.
+-- The frames and blocks follow one after the other.
 use Rattle.laid_files.proofs.LaidLaws.{laid-survey}
 use Rattle.laid_files.proofs.laws.laid_survey.Goals as goal
 

@@ -1,4 +1,4 @@
--- What stands before the main data fits in every frame.
+-- What is before the main data fits in every frame.
 use Rattle.std.proofs.Common.{arith, ap}
 use Rattle.frame_header.specs.Tables.{class_of, side_size_of}
 use Rattle.side_info.proofs.FrameLaws.{overhead-most}

@@ -1,4 +1,4 @@
--- Moved side information differs from what stands in the frame in gains alone.
+-- Moved side information differs from what is in the frame in gains alone.
 use Rattle.std.proofs.Common.{◌≡◌, false, cond, sym, ◌∙◌, ap, subst}
 use Rattle.side_info.specs.Side.{HasOtherGains}
 use Rattle.side_info.specs.Frame.{side_in, frame_with}

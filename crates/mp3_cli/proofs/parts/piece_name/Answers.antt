@@ -1,4 +1,4 @@
--- The parts are the name and what stands behind it.
+-- The parts are the name and what is after it.
 use Rattle.std.proofs.Common.{refl, append_assoc}
 use Rattle.std.proofs.lemmas.List.{append-nil}
 use Rattle.splitting.specs.Split.{piece_name}

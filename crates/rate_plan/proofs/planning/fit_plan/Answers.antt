@@ -1,4 +1,4 @@
--- The frames behind what they need.
+-- The frames after what they need.
 use Rattle.std.proofs.Common.{◌∙◌, ◌++◌, ◌∷◌, [], sym, ap, subst, arith}
 use Rattle.frame_header.specs.Tables.{window_of}
 use Rattle.slot_plan.specs.Reserve.{free_behind}

@@ -1,4 +1,4 @@
--- The header that is read is the one that stands there.
+-- The header that is read is the one that is there.
 use Rattle.std.proofs.Common.{◌≡◌, sym, ◌∙◌, subst}
 use Rattle.frame_header.specs.Fields.{HeaderFields}
 use Rattle.sync_survey.specs.Items.{header_front}

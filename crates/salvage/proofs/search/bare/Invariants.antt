@@ -1,4 +1,4 @@
--- No usable anchored frame stands at the places that were passed.
+-- No usable anchored frame is at the places that were passed.
 use Rattle.std.proofs.Common.{◌-◌, ◌<◌, ◌≤◌, ℕ, max}
 use Rattle.salvage.specs.Steps.{IsBare}
 use Rattle.salvage.proofs.search.bare.Given as goal

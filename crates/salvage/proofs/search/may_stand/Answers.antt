@@ -1,4 +1,4 @@
--- No header stands there, or the frame has no anchor or isn't usable.
+-- No header is there, or the frame has no anchor or isn't usable.
 use Rattle.std.proofs.Common.{◌≡◌, ◌+◌, ◌≤◌, length, drop, Ok, refl, sym, ◌∙◌, ap, arith, length-drop}
 use Rattle.frame_header.specs.Fields.{HeaderFields}
 use Rattle.frame_header.specs.Tables.{class_of, length_of}

@@ -1,4 +1,4 @@
--- The word behind the bytes so far.
+-- The word after the bytes so far.
 use Rattle.std.proofs.Common.{◌≡◌, take}
 use Rattle.bit_fields.specs.Bits.{bits}
 use Rattle.side_info.specs.CheckWord.{remainder}

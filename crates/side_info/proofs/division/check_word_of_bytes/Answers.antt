@@ -1,4 +1,4 @@
--- The side bytes are divided behind those of the header.
+-- The side bytes are divided after those of the header.
 use Rattle.std.proofs.Common.{◌≡◌, ℕ, ◌-◌, ◌++◌, List, length, take, drop, ap, ◌∙◌, arith, take_all, length-drop}
 use Rattle.bit_fields.specs.Bits.{bits}
 use Rattle.side_info.specs.CheckWord.{remainder, start_word}

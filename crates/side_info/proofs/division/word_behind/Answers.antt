@@ -1,4 +1,4 @@
--- The bytes behind the last four follow one at a time.
+-- The bytes after the last four follow one at a time.
 use Rattle.std.proofs.Common.{◌-◌, ◌*◌, ◌/◌, length, take, drop, ap, ap₂, ◌∙◌, arith, take_all, length-drop, take-append-drop}
 use Rattle.bit_fields.specs.Bits.{bits}
 use Rattle.side_info.specs.CheckWord.{remainder}

@@ -1,4 +1,4 @@
--- The check word, and then the side information behind it.
+-- The check word, and then the side information after it.
 use Rattle.std.proofs.Common.{ap, sym, ◌∙◌, ◌++◌, ◌+◌, take, drop}
 use Rattle.frame_header.specs.Tables.{side_size_of}
 use Rattle.bit_fields.specs.Bits.{bytes, bits_of}

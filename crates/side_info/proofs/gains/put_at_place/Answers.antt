@@ -1,4 +1,4 @@
--- What stands behind the side information stays.
+-- What is after the side information stays.
 use Rattle.std.proofs.Common.{◌+◌, ◌-◌, ◌∙◌, drop, arith, length-drop}
 use Rattle.std.proofs.lemmas.List.{length-take-le}
 use Rattle.std.proofs.lemmas.Slice.{drop-put_mid}

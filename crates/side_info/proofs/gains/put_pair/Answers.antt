@@ -1,4 +1,4 @@
--- One channel, or the second behind the first.
+-- One channel, or the second after the first.
 use Rattle.std.proofs.Common.{◌+◌, arith, ap}
 use Rattle.bit_fields.specs.Bits.{bits}
 use Rattle.side_info.proofs.GainsLaws.{one_put, both_put}

@@ -1,4 +1,4 @@
--- Four words are put one behind the other.
+-- Four words are put one after the other.
 use Rattle.std.proofs.Common.{◌*◌, get_or, ap, ◌∙◌, arith}
 use Rattle.bit_fields.specs.Bits.{bits, bits_of}
 use Rattle.bit_fields.proofs.BitsLaws.{length-bits}

@@ -1,4 +1,4 @@
--- A word and a byte are put one behind the other.
+-- A word and a byte are put one after the other.
 use Rattle.std.proofs.Common.{◌*◌, ap, ◌∙◌}
 use Rattle.bit_fields.specs.Bits.{bits}
 use Rattle.bit_fields.proofs.BitsLaws.{length-bits}

@@ -1,4 +1,4 @@
--- Two words and a byte are put one behind the other.
+-- Two words and a byte are put one after the other.
 use Rattle.std.proofs.Common.{◌*◌, ◌+◌, ◌-◌, ap, ◌∙◌, arith}
 use Rattle.bit_fields.specs.Bits.{bits}
 use Rattle.bit_fields.proofs.BitsLaws.{length-bits}

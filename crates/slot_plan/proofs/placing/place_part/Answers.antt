@@ -1,4 +1,4 @@
--- The part is placed, behind its lead-in where it needs something free.
+-- The part is placed, after its lead-in where it needs something free.
 use Rattle.std.proofs.Common.{◌≡◌, false, [], map, ap, ◌∙◌, subst, arith}
 use Rattle.std.proofs.lemmas.Result.{IfOk-weaker}
 use Rattle.frame_header.specs.Tables.{class_of, area_of}

@@ -22,7 +22,7 @@ loop-piece-init g c =
       refl,
     )
 
--- the piece that was written, and those behind it
+-- the piece that was written, and those after it
 module _ (g : given.Over) (c : After-write_piece g) where
   steps : into_iter_items c.loop-piece.piece-iterator ≡ c.in-Some.piece ∷ into_iter_items c.next.new.self
   steps = c.in-Some.ensures.steps.0

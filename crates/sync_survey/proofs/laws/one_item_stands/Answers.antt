@@ -1,4 +1,4 @@
--- The item that is found stands there, and is the only one.
+-- The item that is found is there, and is the only one.
 use Rattle.std.proofs.Common.{sym, subst}
 use Rattle.sync_survey.specs.Items.{Stands}
 use Rattle.sync_survey.proofs.ItemsLaws.{stands}

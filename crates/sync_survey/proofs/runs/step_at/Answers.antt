@@ -1,4 +1,4 @@
--- A whole item is passed, or none of the part stands there whole.
+-- A whole item is passed, or none of the part is there whole.
 use Rattle.std.proofs.Common.{sym, ◌∙◌, arith}
 use Rattle.std.proofs.lemmas.Bool.{false≢true}
 use Rattle.sync_survey.proofs.LooksLaws.{sized, not_here, step_passes}

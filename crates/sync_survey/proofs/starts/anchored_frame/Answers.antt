@@ -1,4 +1,4 @@
--- The frame, and what stands at its end.
+-- The frame, and what is at its end.
 use Rattle.std.proofs.Common.{drop, sym, ◌∙◌, ap, arith}
 use Rattle.sync_survey.specs.Items.{item_front}
 use Rattle.sync_survey.specs.Start.{is_anchor}

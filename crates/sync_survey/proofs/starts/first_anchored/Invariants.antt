@@ -1,4 +1,4 @@
--- No anchored frame stands at an offset before.
+-- No anchored frame is at an offset before.
 use Rattle.std.proofs.Common.{◌≡◌, ℕ, ◌<◌, ◌≤◌, List, None}
 use Rattle.outside.specs.Files.{Holds}
 use Rattle.outside.specs.Feed.{IsFedFrom}

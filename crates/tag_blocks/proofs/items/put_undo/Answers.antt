@@ -1,4 +1,4 @@
--- The undo item has the new value, or is added behind all others.
+-- The undo item has the new value, or is added after all others.
 use Rattle.std.proofs.Common.{◌≡◌, ◌∷◌, ◌++◌, [], set, sym, ◌∙◌, ap, ap₂}
 use Rattle.std.specs.Prelude.{position}
 use Rattle.tag_blocks.specs.UndoText.{undo_text}

@@ -1,4 +1,4 @@
--- The items so far are the first of all, and the others stand behind them.
+-- The items so far are the first of all, and the others are after them.
 use Rattle.std.proofs.Common.{◌≡◌, ◌-◌, ◌≤◌, ◌++◌, false, length, drop}
 use Rattle.tag_blocks.specs.Items.{items_from}
 use Rattle.tag_blocks.proofs.items.read_items.Given as goal

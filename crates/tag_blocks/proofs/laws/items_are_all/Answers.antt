@@ -1,4 +1,4 @@
--- The items stand end to end, no other that may stand there stands behind them, and no other items are so.
+-- The items follow end to end, no other that may be there is after them, and no other items are so.
 use Rattle.std.proofs.Common.{ℕ, false, List, drop, subst, arith}
 use Rattle.tag_blocks.specs.Items.{items_length, items_from}
 use Rattle.tag_blocks.specs.Laws.{AreOctets, AreItemsOf}

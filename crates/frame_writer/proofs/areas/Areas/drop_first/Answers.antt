@@ -1,4 +1,4 @@
--- What is left of the queue, and of the zeros behind it.
+-- What is left of the queue, and of the zeros after it.
 use Rattle.std.proofs.Common.{◌≡◌, ◌-◌, ◌++◌, min, take, drop, refl, ap, ◌∙◌, arith, length-append}
 use Rattle.frame_writer.specs.Laid.{Waiting, zeros}
 use Rattle.frame_writer.proofs.LaidLaws.{length-zeros, left-is, taken-laid}

@@ -1,4 +1,4 @@
--- The front of the first frame that waits, and behind it the first bytes of the areas.
+-- The front of the first frame that waits, and after it the first bytes of the areas.
 use Rattle.std.proofs.Common.{◌≡◌, ◌<◌, ℕ, List, ◌∷◌, ◌++◌, length, take, drop, sym, subst, ap, ◌∙◌, arith}
 use Rattle.circular_buffer.specs.Buffer.{Buffer}
 use Rattle.frame_writer.specs.declared.frames.Kept.{Kept}

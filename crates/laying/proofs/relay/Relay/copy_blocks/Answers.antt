@@ -14,7 +14,7 @@ use Rattle.laying.proofs.relay.Relay.copy_blocks.Given as given
 use Rattle.laying.proofs.relay.Relay.copy_blocks.Goals as goal
 use Rattle.laying.proofs.relay.Relay.copy_blocks.Goals.{After-copy_chosen}
 
--- what stands where there is no block
+-- what is where there is no block
 abbrev no_block : Piece
 no_block = record { offset = 0; block = record { kind = Id3v2; length = 0 } }
 
@@ -36,7 +36,7 @@ copy_chosen-requires-clause-within g c =
     subst (λ (l : List Piece). (slice_index_or l k no_block).offset + (slice_index_or l k no_block).block.length ≤ s.length) (sym c.blocks-block-items.ensures)
     (block-within 0 s.length s.blocks k (slice_index_or s.blocks k no_block) (drop (k + 1) s.blocks) here c.requires.ready.laid.blocks)
 
--- the block that was asked for, and those behind it
+-- the block that was asked for, and those after it
 module _ (g : given.Over) (c : After-copy_chosen g) where
   abbrev s : SurveyFields
   s = tells c.args.self.now.survey.now

@@ -1,4 +1,4 @@
--- One frame more stands before those whose areas were counted.
+-- One frame more is before those whose areas were counted.
 use Rattle.std.proofs.Common.{◌+◌, ◌-◌, ◌≡◌, List, length, get_or, sym, ◌∙◌, ap, arith}
 use Rattle.std.specs.Prelude.{slice_get, Some}
 use Rattle.std.proofs.lemmas.Option.{slice_get-get_or}

@@ -21,7 +21,7 @@ use Rattle.laying.proofs.relay.Relay.frame.Given as given
 use Rattle.laying.proofs.relay.Relay.frame.Goals as goal
 use Rattle.laying.proofs.relay.Relay.frame.Goals.{After-with_begin, After-cut_payload-payload}
 
--- how far back main data may begin behind a frame
+-- how far back main data may begin after a frame
 abbrev behind : ClassFields → HeaderFields → ℕ → ℕ → ℕ
 behind c h begin bytes = min (window_of c.version) (begin + area_of (class_of h) h.slot h.protected - bytes)
 

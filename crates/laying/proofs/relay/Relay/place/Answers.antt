@@ -18,7 +18,7 @@ use Rattle.laying.proofs.relay.Relay.place.Goals as goal
 pub lead_in-requires-clause-class : goal.lead_in-requires-clause-class
 lead_in-requires-clause-class g c = (c.requires.ready.laid.placed c.args.i c.args.row.now c.requires.found).class_is ∙ sym c.requires.class
 
--- what stands at a place of the plan, and how far back main data may begin behind it, by whether it is a lead-in
+-- what is at a place of the plan, and how far back main data may begin after it, by whether it is a lead-in
 abbrev frame_by : Relay → ℕ → Row → Placed → Bool → List ℕ → List Frame
 frame_by relay i row p lead file = cond lead (lead_in_before p row.header) (moved_to p (frame_of file (tells relay.survey.now) i row)) ∷ []
 

@@ -1,4 +1,4 @@
--- The area of the frame stands within the file, behind what comes before it in the frame.
+-- The area of the frame is within the file, after what comes before it in the frame.
 use Rattle.std.proofs.Common.{◌+◌, length, take, drop, sym, ◌∙◌, ap, ap₂, subst, arith}
 use Rattle.std.proofs.lemmas.List.{drop-drop}
 use Rattle.frame_header.specs.Tables.{class_of, overhead_of}

@@ -1,4 +1,4 @@
--- What stands in front and the frames, what stands behind, and then what waits of them.
+-- What is in front and the frames, what is after, and then what waits of them.
 use Rattle.std.proofs.Common.{◌≡◌, ◌++◌, List, ℕ, [], sym, ◌∙◌, append_assoc, append-nil}
 use Rattle.std.specs.List.{concat}
 use Rattle.std.proofs.lemmas.Result.{on_ok_weaker, on_err_weaker, err_from_is_err_and}
@@ -48,7 +48,7 @@ returns-in_err-copy_blocks-clause-cause g c =
     let p = err_from_is_err_and c.from_residual-in_err-copy_blocks.result c.from_residual-in_err-copy_blocks.ensures.1 in
     rw (p.1, p.2) (cause_behind c.in_ok-write_frames.ensures.written c.args.self.now.pass.length _ _ _ c.in_ok-write_frames.ensures.done _ c.in_err-copy_blocks.ensures.cause)
 
--- the frames with what stands before them, and then the other blocks
+-- the frames with what is before them, and then the other blocks
 module _ (g : given.Over) (c : In_ok-copy_blocks g) where
   abbrev s : SurveyFields
   s = tells c.args.self.now.survey.now

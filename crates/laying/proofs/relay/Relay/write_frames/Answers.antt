@@ -1,4 +1,4 @@
--- What stands in front, and the frames behind it.
+-- What is in front, and the frames after it.
 use Rattle.std.proofs.Common.{refl}
 use Rattle.std.proofs.lemmas.Result.{on_ok_weaker, on_err_weaker}
 use Rattle.outside.proofs.PassedLaws.{on_err}

@@ -1,4 +1,4 @@
--- Nothing stands behind the end.
+-- Nothing is after the end.
 use Rattle.std.proofs.Common.{arith}
 use Rattle.std.proofs.lemmas.List.{drop_all}
 use Rattle.listing.proofs.line.Line.clear.Goals as goal

@@ -1,4 +1,4 @@
--- The bytes before the tag, the new tag, and the bytes behind it.
+-- The bytes before the tag, the new tag, and the bytes after it.
 use Rattle.std.proofs.Common.{◌++◌, List, ℕ, refl}
 use Rattle.std.proofs.lemmas.Result.{err_from_is_err_and, on_ok_weaker, on_err_weaker}
 use Rattle.outside.specs.Pass.{bytes_between}
@@ -8,7 +8,7 @@ use Rattle.moved_gains.specs.declared.moving.NewTag.{NewTag}
 use Rattle.moved_gains.specs.Moving.{bytes_around}
 use Rattle.moved_gains.proofs.moving.GainPass.copy_around.Goals as goal
 
--- the new tag, and what stands behind what it replaces
+-- the new tag, and what is after what it replaces
 abbrev rest : NewTag → ℕ → List ℕ → List ℕ
 rest tag to file = tag.bytes.now ++ bytes_between file tag.end to
 

@@ -1,4 +1,4 @@
--- One frame more, and what stands before it, goes on.
+-- One frame more, and what is before it, goes on.
 use Rattle.std.proofs.Common.{◌≡◌, ◌+◌, ◌<◌, ◌≤◌, ◌++◌, ◌∷◌, List, ℕ, Option, length, get_or, drop, refl, sym, ◌∙◌, ap, ap₂, subst, arith}
 use Rattle.std.proofs.lemmas.List.{drop_all}
 use Rattle.std.proofs.lemmas.Result.{err_from_is_err_and, on_ok_weaker, on_err_weaker}
@@ -19,7 +19,7 @@ use Rattle.moved_gains.proofs.moving.GainPass.move_frames.Given as given
 use Rattle.moved_gains.proofs.moving.GainPass.move_frames.Goals as goal
 use Rattle.moved_gains.proofs.moving.GainPass.move_frames.Goals.{After-from, After-copy-2}
 
--- the frame at i, and those behind it
+-- the frame at i, and those after it
 here : (rows : List Row) (i : ℕ) (row : Row) → i < length rows → row ≡ get_or rows i row → drop i rows ≡ row ∷ drop (i + 1) rows
 here rows i row lt is = next_row rows i row lt ∙ ap (λ r. r ∷ drop (i + 1) rows) (sym is)
 
@@ -29,7 +29,7 @@ laid at size rows i row is before = subst (λ l. AreLaid at l size) is before
 told : (file : List ℕ) (rows : List Row) (i : ℕ) (row : Row) → drop i rows ≡ row ∷ drop (i + 1) rows → AreRowsOf file (drop i rows) → AreRowsOf file (row ∷ drop (i + 1) rows)
 told file rows i row is all = subst (AreRowsOf file) is all
 
--- what is left behind the bytes before the frame
+-- what is left after the bytes before the frame
 abbrev left : (ℕ → Steps) → Option NewTag → List Row → ℕ → Row → List ℕ → List ℕ
 left steps tag rows i row file = moved_row_bytes (steps row.offset) file row ++ written_from steps tag file (row_end row) (drop (i + 1) rows)
 
@@ -49,7 +49,7 @@ loop-frame-init g c =
       counts = refl;
     }
 
--- the frame that is next, and those behind it
+-- the frame that is next, and those after it
 module _ (g : given.Over) (c : After-from g) where
   abbrev rows : List Row
   rows = c.args.rows.now
@@ -144,7 +144,7 @@ loop-frame-preserved g c =
       counts = c.in_ok-at.ensures.done ∙ c.in_ok-copy.ensures.done ∙ c.loop-frame.invariant.counts;
     }
 
--- behind the last frame
+-- after the last frame
 module _ (g : given.Over) (c : After-copy-2 g) where
   abbrev rest : List ℕ → List ℕ
   rest file = copied c.args.self.now.tag file c.loop-frame.at c.args.self.now.pass.length

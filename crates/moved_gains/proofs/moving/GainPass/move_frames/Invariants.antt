@@ -1,4 +1,4 @@
--- The frames before went on, with their gains moved, and so did what stands before and between them.
+-- The frames before went on, with their gains moved, and so did what is before and between them.
 use Rattle.std.proofs.Common.{◌≡◌, ℕ, List, drop}
 use Rattle.outside.specs.Files.{Holds}
 use Rattle.moved_gains.specs.Course.{steps_over}

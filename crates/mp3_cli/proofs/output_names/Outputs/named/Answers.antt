@@ -1,4 +1,4 @@
--- Which name stands at the place.
+-- Which name is at the place.
 use Rattle.std.proofs.Common.{◌≡◌, ◌+◌, ◌%◌, [], ℕ, refl, ap, sym, arith}
 use Rattle.splitting.specs.Split.{piece_name}
 use Rattle.mp3_cli.specs.Lines.{Name}

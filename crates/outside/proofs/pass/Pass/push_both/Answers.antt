@@ -1,4 +1,4 @@
--- The first piece, and the second behind it.
+-- The first piece, and the second after it.
 use Rattle.std.proofs.Common.{List, ℕ, subst, append_assoc}
 use Rattle.std.proofs.lemmas.Result.{on_ok_weaker, on_err_weaker}
 use Rattle.outside.specs.Passed.{PassedOn, AppendedPrefix}

@@ -1,4 +1,4 @@
--- A long piece is sent behind what waited.
+-- A long piece is sent after what waited.
 use Rattle.outside.proofs.SentLaws.{sent_over, sent_over_prefix}
 use Rattle.outside.proofs.send_buffer.SendBuffer.push_over.Goals as goal
 

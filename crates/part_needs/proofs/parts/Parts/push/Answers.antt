@@ -1,4 +1,4 @@
--- A part more behind those before.
+-- A part more after those before.
 use Rattle.std.proofs.Common.{arith, ap, ◌∙◌, ◌++◌, ◌∷◌, []}
 use Rattle.part_needs.proofs.PartsLaws.{asked-push}
 use Rattle.part_needs.proofs.parts.Parts.push.Goals as goal

@@ -1,4 +1,4 @@
--- What is behind the first bytes.
+-- What is after the first bytes.
 use Rattle.std.proofs.Common.{◌≡◌, ◌-◌, drop, length, sym, ap, ◌∙◌, arith, length-drop}
 use Rattle.std.proofs.lemmas.List.{length-take-le}
 use Rattle.reservoir.proofs.QueueLaws.{dropped}

@@ -1,4 +1,4 @@
--- The bytes stand behind those that were there.
+-- The bytes are after those that were there.
 use Rattle.std.proofs.Common.{refl, ap, ◌∙◌, ◌-◌, ◌+◌, take, drop, length, arith, List, ℕ}
 use Rattle.std.proofs.lemmas.List.{with_items_is}
 use Rattle.reservoir.proofs.QueueLaws.{put-behind}

@@ -1,4 +1,4 @@
--- Whole bytes of the main data, and the bits behind them.
+-- Whole bytes of the main data, and the bits after them.
 use Rattle.std.proofs.Common.{◌≡◌, ◌+◌, ◌-◌, ◌/◌, ◌%◌, ◌++◌, ℕ, List, take, drop, length, sym, subst, ap, ap₂, ◌∙◌, arith}
 use Rattle.bit_fields.specs.Bits.{AreBytes}
 use Rattle.bit_fields.proofs.BitsLaws.{AreBytes-append}

@@ -36,7 +36,7 @@ returns-in-Some-empty_offset-clause-rest c =
     ∙ rw (c.next_empty-in-Some-empty_offset.ensures.same_gaps, c.next_empty-in-Some-empty_offset.ensures.same_place, c.next_empty-in-Some-empty_offset.ensures.rest) (sym step.1)
     ∙ ap (drop 1) (sym gap)
 
--- no emptied frame stands before the gap
+-- no emptied frame is before the gap
 none-before : (c : goal.After-result-1) → (o : Option ℕ) × (option_map line_place (first_of (emptied_left c.args.self.now)) ≡ o) × IfSome o (λ offset. c.in-Some.gap.now.offset ≤ offset)
 none-before c = elim c.in_default-empty_offset.branch [
   | in_default-empty_offset-via-in-Some-empty_offset+else-offset-gap w ↦ (Some w.in-Some-empty_offset.offset, sym c.empty_offset.ensures ∙ w.in-Some-empty_offset.is, omega arith)

@@ -1,4 +1,4 @@
--- What the items from here on say is what all say; so many bytes stand before them.
+-- What the items from here on say is what all say; so many bytes are before them.
 use Rattle.std.proofs.Common.{◌≡◌, ◌+◌, drop}
 use Rattle.tag_blocks.specs.Items.{items_length}
 use Rattle.tag_blocks.specs.UndoItems.{undo_from}

@@ -1,4 +1,4 @@
--- Header, items and footer, one behind the other.
+-- Header, items and footer, one after the other.
 use Rattle.std.proofs.Common.{◌≡◌, ◌+◌, ◌++◌, ◌∙◌, ap, subst, arith, length}
 use Rattle.tag_blocks.specs.Items.{items_bytes, items_length}
 use Rattle.tag_blocks.specs.Tags.{IsTag, tag_of, tag_bytes}
