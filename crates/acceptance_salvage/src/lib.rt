@@ -3,3 +3,5 @@
 
 #[cfg(test)]
 mod damaged;
+#[cfg(test)]
+mod gaps;

@@ -13,6 +13,7 @@ ghost use Rattle.rate_plan.specs.MenuPlan.{menu_plan};
 ghost use Rattle.sync_survey.specs.Faults.{tells};
 ghost use Rattle.sync_survey.specs.Survey.{IsLaidOut};
 ghost use Rattle.frame_edits.specs.Laid.{IsLaidInfo};
+ghost use Rattle.commands.specs.One.{most_frames};
 ghost use Rattle.frame_edits.specs.Chosen.{chosen_in, laid_by};
 ghost use Rattle.laying.specs.Surveys.{HasSurvey};
 ghost use Rattle.laying.specs.Fits.{IsFitting};

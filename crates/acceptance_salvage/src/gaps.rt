@@ -1,0 +1,98 @@
+//! Gaps in damaged files, and frames that they leave empty. What is written is by `checks/damaged.py` and `checks/laid.py`, which share
+//! nothing with the program.
+
+use acceptance_kit::scripts::first_unlike;
+use std::test::Fail;
+
+/// Bytes that the rows name.
+const DEFINED: &str = "
+# MPEG-2.5, 11,025 Hz, 64 kbit/s, two channels, all bytes after the header 0.
+LOWEST = ffe38000 ~417
+";
+
+/// Where bytes are missing, changed or foreign.
+static GAPS: &str = "
+# Two gaps with one frame between, which a block follows.
+< a G 55*50 G ID3V1_BLOCK 66*60 G G_LOWER
+$ salvage a o
+| gap at 417: 50 bytes
+| gap at 1012: 60 bytes
+| 4 frames, 2 gaps, 0 empty
+> o INFO_FRONT 'Info' 0000000f 00000004 00000754 1c*25 55*25 8e*25 c7*25 00*56 fffb9000 0000000800320000000001000650000000002001fe00000000040016800000001122334411223344 00*243 11223344 ~625 fffb9000 bc80000800320000000001000650000000002001fe0000000004001680 00*254 11223344 ~1042 fffb9000 ff80000800320000000001000650000000002001fe0000000004001680 ~1459 fffb9000 ff800008002f8000000001000600000000002001f40000000004001540 ~1876 ID3V1_BLOCK
+
+# A gap at the end.
+< a G G_LOWER 55*200
+$ salvage a o
+| gap at 834: 200 bytes
+| 2 frames, 1 gaps, 0 empty
+> o INFO_FRONT 'Info' 0000000f 00000002 00000412 33*50 99*50 00*56 fffb9000 0000000800320000000001000650000000002001fe00000000040016800000001122334411223344 ~625 fffb9000 bc800008002f8000000001000600000000002001f40000000004001540 ~1042
+
+# A block in a gap isn't read, and is part of it.
+< a G 55*40 ID3V1_BLOCK 55*30 G_LOWER G
+$ salvage a o
+| gap at 417: 198 bytes
+| 3 frames, 1 gaps, 0 empty
+> o INFO_FRONT 'Info' 0000000f 00000003 000005b3 24*34 6d*33 b6*33 00*56 fffb9000 0000000800320000000001000650000000002001fe00000000040016800000001122334411223344 00*243 11223344 ~625 fffb9000 bc800008002f8000000001000600000000002001f40000000004001540 ~1042 fffb9000 ff80000800320000000001000650000000002001fe0000000004001680 ~1459
+
+# A frame with a wrong CRC is a gap.
+< a PROTECTED_G PROTECTED_G@4=12 PROTECTED_G PROTECTED_Z
+$ salvage a o
+| gap at 417: 417 bytes
+| 3 frames, 1 gaps, 0 empty
+> o INFO_FRONT 'Info' 0000000f 00000003 000005b3 24*34 6d*33 b6*33 00*56 fffa9000 11a20000000800320000000001000650000000002001fe00000000040016800000001122334411223344 ~625 fffa9000 5e9dbb80000800320000000001000650000000002001fe0000000004001680 ~1042 fffa9000 c778ff80 ~1459
+
+# Main data that began in a gap: the frame becomes an empty one.
+< a G 55*70 BACK_POINTER G G_LOWER
+$ salvage a o
+| gap at 417: 70 bytes
+| empty frame 1 at 487
+| 4 frames, 1 gaps, 1 empty
+> o INFO_FRONT 'Info' 0000000f 00000004 00000754 1c*25 55*25 8e*25 c7*25 00*56 fffb9000 0000000800320000000001000650000000002001fe000000000400168000000011223344 00*247 11223344 ~625 fffb9000 bc80 00*281 11223344 ~1042 fffb9000 ff80000800320000000001000650000000002001fe0000000004001680 ~1459 fffb9000 ff800008002f8000000001000600000000002001f40000000004001540 ~1876
+
+# A header of another class between frames.
+< a G MPEG_2 G_LOWER G
+$ salvage a o
+| gap at 417: 208 bytes
+| 3 frames, 1 gaps, 0 empty
+> o INFO_FRONT 'Info' 0000000f 00000003 000005b3 24*34 6d*33 b6*33 00*56 fffb9000 0000000800320000000001000650000000002001fe00000000040016800000001122334411223344 00*243 11223344 ~625 fffb9000 bc800008002f8000000001000600000000002001f40000000004001540 ~1042 fffb9000 ff80000800320000000001000650000000002001fe0000000004001680 ~1459
+
+# MPEG-2, two channels, and a frame that is cut off.
+< a LOWER LOWER_QUIETER 55*9 LOWER LOWER@0=fe
+$ salvage a o
+| gap at 418: 427 bytes
+| 2 frames, 1 gaps, 0 empty
+> o fff37000 00*17 'Info' 0000000f 00000002 00000258 4d*50 a6*50 00*45 fff38200 00c023fec9ffffffff8087ff23ffffffff112233112233 ~391 fff38200 b9c023febfffffffff8087ff0fffffffff ~600
+
+# One channel.
+< a MONO 55*33 MONO_LOWER MONO
+$ salvage a o
+| gap at 417: 33 bytes
+| 3 frames, 1 gaps, 0 empty
+> o fffb40c0 00*17 'Info' 0000000f 00000003 00000599 20*34 6b*33 b5*33 00*45 fffb90c0 007e8023fec9fffffff8087ff23fffffff112233112233 00*275 112233 ~599 fffb90c0 c4fe8023febffffffff8087ff0ffffffff ~1016 fffb90c0 fffe8023fec9fffffff8087ff23fffffff ~1433
+
+# MPEG-2.5.
+< a LOWEST 55*5 LOWEST LOWEST
+$ salvage a o
+| gap at 417: 5 bytes
+| 3 frames, 1 gaps, 0 empty
+> o ffe34000 00*17 'Info' 0000000f 00000003 000005b3 24*34 6d*33 b6*33 00*71 LOWEST ffe38000 ff ~1042 ffe38000 ff ~1459
+
+# A gap before a frame whose main data begin in the frame before it: after the gap main data are counted from 0.
+< a G 55*50 G G_LOWER@4=02 G
+$ salvage a o
+| gap at 417: 50 bytes
+| 4 frames, 1 gaps, 0 empty
+> o INFO_FRONT 'Info' 0000000f 00000004 00000754 1c*25 55*25 8e*25 c7*25 00*56 fffb9000 0000000800320000000001000650000000002001fe00000000040016800000001122334411223344 ~625 fffb9000 bc80000800320000000001000650000000002001fe0000000004001680 00*254 11223344 ~1042 fffb9000 ff800008002f8000000001000600000000002001f40000000004001540 ~1459 fffb9000 ff80000800320000000001000650000000002001fe0000000004001680 ~1876
+
+# The output can't be created.
+< a G 55*50 G G
+fail Create 1
+$ salvage a o
+! 3 o: write fault
+";
+
+#[test]
+fn rows(rt: HostRuntime) -> Result<(), Fail> {
+    assert_eq!(rt; first_unlike(rt.alloc(), &[DEFINED, GAPS])?, None);
+    Ok(())
+}
