@@ -8,6 +8,8 @@ use std::test::Fail;
 const DEFINED: &str = "
 # MPEG-2.5, 11,025 Hz, 64 kbit/s, two channels, all bytes after the header 0.
 LOWEST = ffe38000 ~417
+# MPEG-2, 22,050 Hz, 64 kbit/s, one channel, all bytes after the header 0.
+LOWER_MONO = fff380c0 ~208
 ";
 
 /// Where bytes are missing, changed or foreign.
@@ -83,6 +85,13 @@ $ salvage a o
 | gap at 417: 50 bytes
 | 4 frames, 1 gaps, 0 empty
 > o INFO_FRONT 'Info' 0000000f 00000004 00000754 1c*25 55*25 8e*25 c7*25 00*56 fffb9000 0000000800320000000001000650000000002001fe00000000040016800000001122334411223344 ~625 fffb9000 bc80000800320000000001000650000000002001fe0000000004001680 00*254 11223344 ~1042 fffb9000 ff800008002f8000000001000600000000002001f40000000004001540 ~1459 fffb9000 ff80000800320000000001000650000000002001fe0000000004001680 ~1876
+
+# MPEG-2, one channel.
+< a LOWER_MONO 55*5 LOWER_MONO LOWER_MONO
+$ salvage a o
+| gap at 208: 5 bytes
+| 3 frames, 1 gaps, 0 empty
+> o fff370c0 00*9 'Info' 0000000f 00000003 00000326 39*34 7b*33 bd*33 00*53 LOWER_MONO fff380c0 c3 ~598 fff380c0 ff ~806
 
 # The output can't be created.
 < a G 55*50 G G
