@@ -2,7 +2,7 @@
 use Rattle.std.proofs.Common.{◌≡◌, ℕ, ◌≤◌, true, false, List, [], ◌∷◌, length, Option, Some, None, refl, sym, ◌∙◌, ap, subst, Result, Ok, Err, arith}
 use Rattle.std.specs.Prelude.{Bool, IfSome, IfErr, unwrap_or}
 use Rattle.bit_fields.specs.Bits.{AreBytes}
-use Rattle.outside.specs.Files.{Contents, Files, Holds, IsThere}
+use Rattle.outside.specs.Files.{Contents, Files, Holds, IsThere, Told, Untold, IfTold}
 use Rattle.outside.proofs.FilesLaws.{there_holds}
 use Rattle.sync_survey.specs.declared.survey_fault.SurveyFault.{SurveyFault}
 use Rattle.sync_survey.specs.declared.survey_fault.SurveyFault.TheVariants.{Absent, TooLong}
@@ -70,13 +70,13 @@ memory_is_input make name old new s there is stays = record { there = there; few
 -- ---- as a command that makes one file
 
 module _ (make : Making) (stream : List ℕ → List StreamFrame) (refuses : Refusal → Bool) (input : List ℕ) where
-  refuses_where : (files : Files) (fault : EditFault) (r : Option (List ℕ)) → IfSome files (λ f. f input ≡ r) → made_where make r ≡ Err fault → Refuses (file_task make stream refuses input) files fault
-  refuses_where None fault r held is = tt
-  refuses_where (Some f) fault r held is = ap (made_where make) held ∙ is
+  refuses_where : (files : Files) (fault : EditFault) (r : Option (List ℕ)) → IfTold files (λ f. f input ≡ r) → made_where make r ≡ Err fault → Refuses (file_task make stream refuses input) files fault
+  refuses_where (Untold touched) fault r held is = tt
+  refuses_where (Told f) fault r held is = ap (made_where make) held ∙ is
 
   refuses_held : (files : Files) (fault : EditFault) → IsThere files input → ((bytes : List ℕ) → Holds files input bytes → made_file make bytes ≡ Err fault) → Refuses (file_task make stream refuses input) files fault
-  refuses_held None fault there is = tt
-  refuses_held (Some f) fault there is = let held = there_holds f input there in ap (made_where make) held.1 ∙ is held.0 held.1
+  refuses_held (Untold touched) fault there is = tt
+  refuses_held (Told f) fault there is = let held = there_holds f input there in ap (made_where make) held.1 ∙ is held.0 held.1
 
   module _ (old new : Seen) (fault : EditFault) where
     input_is_early_by : (why : Why) → IsInputFaultBy make input old new fault why → IsEarlyFaultBy (file_task make stream refuses input) old new fault why
@@ -101,9 +101,9 @@ module _ (make : Making) (stream : List ℕ → List StreamFrame) (refuses : Ref
   file_makes files made s there is octets makes = record { there = there; makes = at files is octets makes }
     where
       at : (files : Files) → ((bytes : List ℕ) → Holds files input bytes → survey_of bytes most_frames ≡ Ok s) → ((bytes : List ℕ) → Holds files input bytes → AreBytes bytes) → ((bytes : List ℕ) → Holds files input bytes → make bytes s ≡ Ok (made bytes))
-          → IfSome files (λ f. (bytes : List ℕ) → f input ≡ Some bytes → AreBytes bytes × (made_where make (f input) ≡ Ok (made bytes)))
-      at None is octets makes = tt
-      at (Some f) is octets makes = λ bytes holds. (octets bytes holds, ap (made_where make) holds ∙ made-survey make bytes s (is bytes holds) ∙ makes bytes holds)
+          → IfTold files (λ f. (bytes : List ℕ) → f input ≡ Some bytes → AreBytes bytes × (made_where make (f input) ≡ Ok (made bytes)))
+      at (Untold touched) is octets makes = tt
+      at (Told f) is octets makes = λ bytes holds. (octets bytes holds, ap (made_where make) holds ∙ made-survey make bytes s (is bytes holds) ∙ makes bytes holds)
 
 -- ---- what has to hold of such a command
 

@@ -5,3 +5,4 @@ pub mod InputLaws
 pub mod MakeLaws
 pub mod TellingLaws
 pub mod SheetLaws
+pub mod TouchLaws

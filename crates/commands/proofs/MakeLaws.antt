@@ -1,10 +1,10 @@
 -- A command that makes one file: what it leaves by its steps.
 use Rattle.std.proofs.Common.{◌≡◌, ◌≢◌, ℕ, ◌≤◌, List, [], ◌∷◌, length, Option, Some, None, refl, sym, ◌∙◌, ap, subst, Result, Ok, Err, Bool, true, false, cond, inl, inr, arith}
-use Rattle.std.specs.Prelude.{IfSome, IfErr, OnOk, is_some, bytes_eq, ◌||◌}
+use Rattle.std.specs.Prelude.{IfErr, OnOk, bytes_eq, ◌||◌}
 use Rattle.std.specs.List.{list_any}
 use Rattle.bit_fields.specs.Bits.{AreBytes}
-use Rattle.outside.specs.Files.{Contents, Files, Holds, IsThere}
-use Rattle.outside.proofs.FilesLaws.{bytes_eq_same, there_holds}
+use Rattle.outside.specs.Files.{Contents, Files, Holds, IsThere, Told, Untold, IfTold, OnlyTouches}
+use Rattle.outside.proofs.FilesLaws.{bytes_eq_same, there_holds, touches_none}
 use Rattle.sync_survey.specs.Faults.{longest_file, HoldsStream}
 use Rattle.commands.specs.declared.fault.EditFault.{EditFault}
 use Rattle.commands.specs.declared.fault.EditFault.TheVariants.{EqualNames}
@@ -48,8 +48,8 @@ unfolding made_result
 made_result-free task output f free = rw free refl
 
 gives_clash : (task : Task) (output : List ℕ) (place : ℕ) (files : Files) → clash_in task output ≡ Some place → Gives (one_command task output) files (Err (EqualNames place))
-gives_clash task output place None clash = tt
-gives_clash task output place (Some f) clash = ap (made_of output) (made_result-clash task output place f clash)
+gives_clash task output place (Untold touched) clash = tt
+gives_clash task output place (Told f) clash = ap (made_of output) (made_result-clash task output place f clash)
 
 pub clash_left : (task : Task) (output : List ℕ) (place : ℕ) (now : Seen) → clash_in task output ≡ Some place → Leaves (one_command task output) now now (EqualNames place)
 clash_left task output place now clash = record { defined = gives_clash task output place now.files clash; stays = refl }
@@ -61,26 +61,29 @@ module _ (task : Task) (output : List ℕ) (free : clash_in task output ≡ None
   makes_free f = ap (made_of output) (made_result-free task output f free)
 
   gives_refused : (files : Files) (fault : EditFault) → Refuses task files fault → Gives (one_command task output) files (Err fault)
-  gives_refused None fault is = tt
-  gives_refused (Some f) fault is = makes_free f ∙ ap (made_of output) is
+  gives_refused (Untold touched) fault is = tt
+  gives_refused (Told f) fault is = makes_free f ∙ ap (made_of output) is
 
   takes : (r : Result (List ℕ) EditFault) → IfErr r IsLate → TakesMemory (made_of output r)
   takes (Ok new) late = tt
   takes (Err fault) late = late
 
   module _ (late : (f : Contents) (bytes : List ℕ) → f task.source ≡ Some bytes → length bytes ≤ longest_file → IfErr (task.makes f) IsLate) where
-    takes_memory : (files : Files) → IsThere files task.source → ((bytes : List ℕ) → Holds files task.source bytes → length bytes ≤ longest_file) → IfSome files (λ f. TakesMemory ((one_command task output).makes f))
-    takes_memory None there few = tt
-    takes_memory (Some f) there few =
+    takes_memory : (files : Files) → IsThere files task.source → ((bytes : List ℕ) → Holds files task.source bytes → length bytes ≤ longest_file) → IfTold files (λ f. TakesMemory ((one_command task output).makes f))
+    takes_memory (Untold touched) there few = tt
+    takes_memory (Told f) there few =
         let held = there_holds f task.source there in
         subst TakesMemory (sym (makes_free f)) (takes (task.makes f) (late f held.0 held.1 (few held.0 held.1)))
 
     module _ (old new : Seen) (fault : EditFault) where
+      stays_touched : new.files ≡ old.files → OnlyTouches (output ∷ []) old.files new.files
+      stays_touched stays = subst (λ files. OnlyTouches (output ∷ []) old.files files) (sym stays) (touches_none (output ∷ []) old.files)
+
       early_left_by : (why : Why) → IsEarlyFaultBy task old new fault why → LeavesBy (one_command task output) old new fault why
       early_left_by Rejected h = record { defined = gives_refused old.files fault h.defined; stays = h.stays }
       early_left_by Missing h = record { defined = gives_refused old.files fault h.defined; rose = h.rose; files = h.files }
       early_left_by Unread h = record { rose = h.rose; files = inl h.files }
-      early_left_by Shorter h = record { rose = h.rose; counts = h.counts; before = h.untold_before; after = h.untold_after }
+      early_left_by Shorter h = record { rose = h.rose; counts = h.counts; untold = h.untold; touches = stays_touched h.files }
       early_left_by NoMemory h = record { names = free; takes = takes_memory old.files h.there h.few; stays = h.stays }
       early_left_by _ h = absurd h
 
@@ -94,53 +97,53 @@ module _ (task : Task) (output : List ℕ) (free : clash_in task output ≡ None
     whole_made bytes = record { outputs = record { name = output; bytes = file bytes } ∷ []; text = [] }
 
     -- what is made of a told source
-    gives_made : (f : Contents) → IsMaking task file (Some f) → (bytes : List ℕ) × (f task.source ≡ Some bytes) × ((one_command task output).makes f ≡ Ok (whole_made bytes))
+    gives_made : (f : Contents) → IsMaking task file (Told f) → (bytes : List ℕ) × (f task.source ≡ Some bytes) × ((one_command task output).makes f ≡ Ok (whole_made bytes))
     gives_made f making =
         let held = there_holds f task.source making.there in
         (held.0, held.1, makes_free f ∙ ap (made_of output) (making.makes held.0 held.1).1)
 
-    made_takes : (files : Files) → IsMaking task file files → IfSome files (λ f. TakesMemory ((one_command task output).makes f))
-    made_takes None making = tt
-    made_takes (Some f) making = subst TakesMemory (sym (gives_made f making).2) tt
+    made_takes : (files : Files) → IsMaking task file files → IfTold files (λ f. TakesMemory ((one_command task output).makes f))
+    made_takes (Untold touched) making = tt
+    made_takes (Told f) making = subst TakesMemory (sym (gives_made f making).2) tt
 
     -- the output was written whole
     made_whole : (files new : Files) → IsMaking task file files → ((bytes : List ℕ) → Holds files task.source bytes → new ≡ holding files output (file bytes))
-        → IfSome files (λ f. (made : Made) × ((one_command task output).makes f ≡ Ok made) × (new ≡ Some (written made.outputs f)))
+        → IfTold files (λ f. (made : Made) × ((one_command task output).makes f ≡ Ok made) × (new ≡ Told (written made.outputs f)))
     unfolding holding
-    made_whole None new making wrote = tt
-    made_whole (Some f) new making wrote =
+    made_whole (Untold touched) new making wrote = tt
+    made_whole (Told f) new making wrote =
         let gives = gives_made f making in
         (whole_made gives.0, gives.2, wrote gives.0 gives.1)
 
     -- or in part
-    begun_to : (f : Contents) (new : Files) (moved : List ℕ) → HoldsPrefix output moved (Some f) new → (count : Option ℕ) × (new ≡ Some (written_to 0 count (record { name = output; bytes = moved } ∷ []) f))
+    begun_to : (f : Contents) (new : Files) (moved : List ℕ) → HoldsPrefix output moved (Told f) new → (count : Option ℕ) × (new ≡ Told (written_to 0 count (record { name = output; bytes = moved } ∷ []) f))
     unfolding holding
     begun_to f new moved (inl stays) = (None, stays)
     begun_to f new moved (inr part) = (Some part.0, part.1)
 
-    written_part : (old new : Files) → IsMaking task file old → ((bytes : List ℕ) → Holds old task.source bytes → HoldsPrefix output (file bytes) old new) → is_some new ≡ is_some old → IsWrittenTo (one_command task output) 0 old new
-    written_part None new making part told = record { made = tt; told = told }
-    written_part (Some f) new making part told =
+    written_part : (old new : Files) → IsMaking task file old → ((bytes : List ℕ) → Holds old task.source bytes → HoldsPrefix output (file bytes) old new) → OnlyTouches (output ∷ []) old new → IsWrittenTo (one_command task output) 0 old new
+    written_part (Untold touched) new making part touches = record { made = tt; touches = touches }
+    written_part (Told f) new making part touches =
         let gives = gives_made f making in
         let begun = begun_to f new (file gives.0) (part gives.0 gives.1) in
-        record { made = (whole_made gives.0, gives.2, omega arith, begun.0, begun.1); told = told }
+        record { made = (whole_made gives.0, gives.2, omega arith, begun.0, begun.1); touches = touches }
 
-    module _ (old new : Seen) (fault : EditFault) (making : IsMaking task file old.files) (told : is_some new.files ≡ is_some old.files) where
+    module _ (old new : Seen) (fault : EditFault) (making : IsMaking task file old.files) (touches : OnlyTouches (output ∷ []) old.files new.files) where
       pass_left_by : (why : Why) → IsPassFaultBy file task.source output old new why → LeavesBy (one_command task output) old new fault why
-      pass_left_by Unread h = record { rose = h.rose; files = inr (0, written_part old.files new.files making h.files told) }
-      pass_left_by Shorter h = record { rose = h.rose; counts = h.counts; before = h.untold_before; after = h.untold_after }
+      pass_left_by Unread h = record { rose = h.rose; files = inr (0, written_part old.files new.files making h.files touches) }
+      pass_left_by Shorter h = record { rose = h.rose; counts = h.counts; untold = h.untold; touches = touches }
       pass_left_by (Unwritten k) h =
-          record { rose = h.1.rose; files = subst (λ n. IsWrittenTo (one_command task output) n old.files new.files) (sym h.0) (written_part old.files new.files making h.1.files told) }
+          record { rose = h.1.rose; files = subst (λ n. IsWrittenTo (one_command task output) n old.files new.files) (sym h.0) (written_part old.files new.files making h.1.files touches) }
       pass_left_by NoMemory h = record { names = free; takes = made_takes old.files making; stays = h }
       pass_left_by _ h = absurd h
 
     -- from where the files and counts were left as they had been
-    module _ {T : Type 0} (old mid new : Seen) (stays : mid ≡ old) (making : IsMaking task file old.files) (told : is_some new.files ≡ is_some mid.files) where
+    module _ {T : Type 0} (old mid new : Seen) (stays : mid ≡ old) (making : IsMaking task file old.files) (touches : OnlyTouches (output ∷ []) mid.files new.files) where
       pub one_done : (r : Result T EditFault) → OnOk r ((bytes : List ℕ) → Holds mid.files task.source bytes → new.files ≡ holding mid.files output (file bytes)) → OnOk r (new.counts ≡ mid.counts) → OnOk r (IsDone (one_command task output) old new)
       one_done (Ok x) wrote counts =
           record {
             made = made_whole old.files new.files making (subst (λ (m : Seen). (bytes : List ℕ) → Holds m.files task.source bytes → new.files ≡ holding m.files output (file bytes)) stays wrote);
-            told = told ∙ ap (λ (m : Seen). is_some m.files) stays;
+            touches = subst (λ (m : Seen). OnlyTouches (output ∷ []) m.files new.files) stays touches;
             counts = counts ∙ ap (λ (m : Seen). m.counts) stays;
           }
       one_done (Err fault) wrote counts = tt
@@ -148,24 +151,24 @@ module _ (task : Task) (output : List ℕ) (free : clash_in task output ≡ None
       pub one_left : (r : Result T EditFault) → IfErr r (IsPassFault file task.source output mid new) → IfErr r (Leaves (one_command task output) old new)
       one_left (Ok x) h = tt
       one_left (Err fault) h =
-          pass_left_by old new fault making (told ∙ ap (λ (m : Seen). is_some m.files) stays) (why_of fault) (subst (λ m. IsPassFault file task.source output m new fault) stays h)
+          pass_left_by old new fault making (subst (λ (m : Seen). OnlyTouches (output ∷ []) m.files new.files) stays touches) (why_of fault) (subst (λ m. IsPassFault file task.source output m new fault) stays h)
 
     -- ---- what the output holds
 
     abbrev Hold : Contents → Type 0
     Hold f = (bytes : List ℕ) → f task.source ≡ Some bytes → AreSound f task.sources × HoldsStream (file bytes) (task.stream f)
 
-    pub proper_holds : ((f : Contents) (bytes new : List ℕ) → f task.source ≡ Some bytes → AreBytes bytes → task.makes f ≡ Ok new → AreSound f task.sources × HoldsStream new (task.stream f)) → (files : Files) → IsMaking task file files → IfSome files Hold
-    proper_holds sound None making = tt
-    proper_holds sound (Some f) making = λ bytes held. let made = making.makes bytes held in sound f bytes (file bytes) held made.0 made.1
+    pub proper_holds : ((f : Contents) (bytes new : List ℕ) → f task.source ≡ Some bytes → AreBytes bytes → task.makes f ≡ Ok new → AreSound f task.sources × HoldsStream new (task.stream f)) → (files : Files) → IsMaking task file files → IfTold files Hold
+    proper_holds sound (Untold touched) making = tt
+    proper_holds sound (Told f) making = λ bytes held. let made = making.makes bytes held in sound f bytes (file bytes) held made.0 made.1
 
-    streams_at : (f : Contents) → IsMaking task file (Some f) → Hold f → (made : Made) → (one_command task output).makes f ≡ Ok made → MakesStreams (one_command task output) f made
+    streams_at : (f : Contents) → IsMaking task file (Told f) → Hold f → (made : Made) → (one_command task output).makes f ≡ Ok made → MakesStreams (one_command task output) f made
     streams_at f making hold made is =
         let gives = gives_made f making in
         let both = hold gives.0 gives.1 in
         subst (MakesStreams (one_command task output) f) (made-same (whole_made gives.0) made (sym gives.2 ∙ is)) (record { sources = both.0; streams = (both.1, tt) })
 
-    pub one_streams : {T E : Type 0} (files : Files) → IsMaking task file files → IfSome files Hold → (r : Result T E) → OnOk r (HoldsStreams (one_command task output) files)
-    one_streams None making hold (Ok x) = tt
-    one_streams (Some f) making hold (Ok x) = streams_at f making hold
+    pub one_streams : {T E : Type 0} (files : Files) → IsMaking task file files → IfTold files Hold → (r : Result T E) → OnOk r (HoldsStreams (one_command task output) files)
+    one_streams (Untold touched) making hold (Ok x) = tt
+    one_streams (Told f) making hold (Ok x) = streams_at f making hold
     one_streams files making hold (Err fault) = tt

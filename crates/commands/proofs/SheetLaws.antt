@@ -1,7 +1,7 @@
 -- What is read of a sheet.
-use Rattle.std.proofs.Common.{◌≡◌, ℕ, cond, true, false, List, length, Option, Some, None, Ok, Err, refl, sym, ◌∙◌, subst}
+use Rattle.std.proofs.Common.{◌≡◌, ℕ, cond, true, false, List, length, Option, Some, None, Ok, Err, refl, sym, ◌∙◌, ap, subst}
 use Rattle.std.specs.Prelude.{IfErr, nat_lt}
-use Rattle.outside.specs.Files.{Files}
+use Rattle.outside.specs.Files.{Files, is_told}
 use Rattle.outside.specs.Counts.{Counts, Rose, NothingFailed}
 use Rattle.outside.specs.Exact.{HasReadCause}
 use Rattle.outside.specs.declared.exact.ReadFault.{ReadFault}
@@ -24,8 +24,8 @@ module _ (sheet : List ℕ) (files mid last : Files) (before between after : Cou
   read-fault (ShrunkRead first second) cause = record {
     rose = subst (λ k. Rose k.ends after.ends) same cause.3;
     counts = subst (λ k. NothingFailed k after) same cause.4;
-    untold_before = sym found ∙ cause.0;
-    untold_after = stays ∙ cause.0;
+    untold = sym (ap is_told found) ∙ cause.0;
+    files = stays ∙ found;
   }
 
   pub read-number : (fault : ReadFault) → HasReadCause size mid between after fault → IsOfSheet (Input 1 (of_read fault))

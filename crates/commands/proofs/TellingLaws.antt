@@ -1,7 +1,7 @@
 -- A command with a text leaves of the files what it leaves without.
 use Rattle.std.proofs.Common.{◌≡◌, ◌≢◌, ℕ, List, Option, Some, None, Result, Ok, Err, refl, sym, ◌∙◌, ap, subst, inl, inr}
 use Rattle.std.specs.Prelude.{◌⊎◌, IfSome}
-use Rattle.outside.specs.Files.{Contents, Files}
+use Rattle.outside.specs.Files.{Contents, Files, Told, Untold, IfTold}
 use Rattle.commands.specs.declared.fault.EditFault.{EditFault}
 use Rattle.commands.specs.declared.fault.EditFault.TheVariants.{EqualNames, Input, Refused, Write, Sent as NotSent, Memory}
 use Rattle.commands.specs.Command.{Made, Command, Gives, written, MakesStreams, HoldsStreams}
@@ -18,24 +18,24 @@ module _ (text : Contents → List ℕ) (command : Command) where
   told = telling text command
 
   pub telling-gives : (files : Files) (fault : EditFault) → Gives command files (Err fault) → Gives told files (Err fault)
-  telling-gives None fault is = tt
-  telling-gives (Some f) fault is = ap (with_text (text f)) is
+  telling-gives (Untold touched) fault is = tt
+  telling-gives (Told f) fault is = ap (with_text (text f)) is
 
-  takes_memory : (files : Files) → IfSome files (λ f. TakesMemory (command.makes f)) → IfSome files (λ f. TakesMemory (told.makes f))
-  takes_memory None takes = tt
-  takes_memory (Some f) takes = takes_text (text f) (command.makes f) takes
+  takes_memory : (files : Files) → IfTold files (λ f. TakesMemory (command.makes f)) → IfTold files (λ f. TakesMemory (told.makes f))
+  takes_memory (Untold touched) takes = tt
+  takes_memory (Told f) takes = takes_text (text f) (command.makes f) takes
 
   pub telling-done : (old new : Seen) → IsDone command old new → IsDone told old new
-  telling-done old new done = record { made = at old.files done.made; told = done.told; counts = done.counts }
+  telling-done old new done = record { made = at old.files done.made; touches = done.touches; counts = done.counts }
     where
-      at : (files : Files) → IfSome files (λ f. (made : Made) × (command.makes f ≡ Ok made) × (new.files ≡ Some (written made.outputs f)))
-          → IfSome files (λ f. (made : Made) × (told.makes f ≡ Ok made) × (new.files ≡ Some (written made.outputs f)))
-      at None made = tt
-      at (Some f) made = (record made.0 { text = text f }, ap (with_text (text f)) made.1, made.2)
+      at : (files : Files) → IfTold files (λ f. (made : Made) × (command.makes f ≡ Ok made) × (new.files ≡ Told (written made.outputs f)))
+          → IfTold files (λ f. (made : Made) × (told.makes f ≡ Ok made) × (new.files ≡ Told (written made.outputs f)))
+      at (Untold touched) made = tt
+      at (Told f) made = (record made.0 { text = text f }, ap (with_text (text f)) made.1, made.2)
 
   written-to : (k : ℕ) (old new : Files) → IsWrittenTo command k old new → IsWrittenTo told k old new
-  written-to k None new h = record { made = tt; told = h.told }
-  written-to k (Some f) new h = record { made = (record h.made.0 { text = text f }, ap (with_text (text f)) h.made.1, h.made.2, h.made.3, h.made.4); told = h.told }
+  written-to k (Untold touched) new h = record { made = tt; touches = h.touches }
+  written-to k (Told f) new h = record { made = (record h.made.0 { text = text f }, ap (with_text (text f)) h.made.1, h.made.2, h.made.3, h.made.4); touches = h.touches }
 
   module _ (old new : Seen) (fault : EditFault) where
     unread-to : (new.files ≡ old.files) ⊎ ((k : ℕ) × IsWrittenTo command k old.files new.files) → (new.files ≡ old.files) ⊎ ((k : ℕ) × IsWrittenTo told k old.files new.files)
@@ -46,7 +46,7 @@ module _ (text : Contents → List ℕ) (command : Command) where
     left-by Rejected h = record { defined = telling-gives old.files fault h.defined; stays = h.stays }
     left-by Missing h = record { defined = telling-gives old.files fault h.defined; rose = h.rose; files = h.files }
     left-by Unread h = record { rose = h.rose; files = unread-to h.files }
-    left-by Shorter h = h
+    left-by Shorter h = record { rose = h.rose; counts = h.counts; untold = h.untold; touches = h.touches }
     left-by (Unwritten k) h = record { rose = h.rose; files = written-to k old.files new.files h.files }
     left-by Unsent h = telling-done old new h
     left-by NoMemory h = record { names = h.names; takes = takes_memory old.files h.takes; stays = h.stays }
@@ -63,8 +63,8 @@ module _ (text : Contents → List ℕ) (command : Command) where
   telling-numbers Memory h = tt
 
   pub telling-streams : (files : Files) → HoldsStreams command files → HoldsStreams told files
-  telling-streams None holds = tt
-  telling-streams (Some f) holds = λ made is. at (command.makes f) refl made is
+  telling-streams (Untold touched) holds = tt
+  telling-streams (Told f) holds = λ made is. at (command.makes f) refl made is
     where
       by_text : (m made : Made) → command.makes f ≡ Ok m → (record m { text = text f }) ≡ made → MakesStreams told f made
       by_text m made is same = subst (MakesStreams told f) same (let held = holds m is in record { sources = held.sources; streams = held.streams })
@@ -74,7 +74,7 @@ module _ (text : Contents → List ℕ) (command : Command) where
       at (Err fault) is made e = absurd cc
 
   -- the text of told files, of which it makes something
-  pub telling-text : (files : Files) (all : List ℕ) → IsText told files all → (f : Contents) × (files ≡ Some f) × (all ≡ text f)
+  pub telling-text : (files : Files) (all : List ℕ) → IsText told files all → (f : Contents) × (files ≡ Told f) × (all ≡ text f)
   telling-text files all (inl always) = absurd cc
   telling-text files all (inr t) = (t.0, t.2, sym t.4 ∙ at (command.makes t.0) t.3)
     where

@@ -1,7 +1,7 @@
 -- What a command is for the outside: of the files that are there it makes files and a text, or it is refused.
 use Rattle.std.specs.Prelude.{◌≡◌, ℕ, ◌+◌, Bool, List, [], ◌∷◌, ◌++◌, take, drop, if◌then◌else◌, bytes_eq, Option, Some, None, Result, Ok, IfSome}
 use Rattle.std.specs.List.{list_any}
-use Rattle.outside.specs.Files.{Contents, Files, with_file}
+use Rattle.outside.specs.Files.{Contents, Files, with_file, IfTold}
 use Rattle.sync_survey.specs.MainData.{StreamFrame}
 use Rattle.commands.specs.declared.fault.EditFault.{EditFault}
 use Rattle.commands.specs.declared.fault.Refusal.{Refusal}
@@ -61,7 +61,7 @@ written_to k count outputs files = written (take k outputs ++ begun count (drop 
 
 -- the files that are told make the command give this
 abbrev pub Gives : Command → Files → Result Made EditFault → Type 0
-Gives command files answer = IfSome files (λ f. command.makes f ≡ answer)
+Gives command files answer = IfTold files (λ f. command.makes f ≡ answer)
 
 -- ---- streams
 
@@ -83,4 +83,4 @@ pub record MakesStreams (command : Command) (files : Contents) (made : Made) : T
 
 -- what the command makes of the files that are told, by well-formed sources, holds the streams that it has to hold
 abbrev pub HoldsStreams : Command → Files → Type 0
-HoldsStreams command files = IfSome files (λ f. (made : Made) → command.makes f ≡ Ok made → MakesStreams command f made)
+HoldsStreams command files = IfTold files (λ f. (made : Made) → command.makes f ≡ Ok made → MakesStreams command f made)

@@ -1,6 +1,6 @@
 -- What a command leaves of the files, by its answer, and the cause of each refusal.
-use Rattle.std.specs.Prelude.{◌≡◌, ◌≢◌, ◌⊎◌, ℕ, ◌<◌, ◌==◌, length, Bool, true, false, Option, Some, None, [], Result, Ok, Err, IfSome, is_some}
-use Rattle.outside.specs.Files.{Files, untold}
+use Rattle.std.specs.Prelude.{◌≡◌, ◌≢◌, ◌⊎◌, ℕ, ◌+◌, ◌<◌, ◌==◌, length, take, Bool, true, false, Option, Some, None, [], Result, Ok, Err}
+use Rattle.outside.specs.Files.{Files, Told, IfTold, is_told, OnlyTouches}
 use Rattle.outside.specs.Counts.{Counts, Rose, NothingFailed}
 use Rattle.sync_survey.specs.declared.survey_fault.SurveyFault.TheVariants.{Absent, TooLong, Memory as NoRoom}
 use Rattle.commands.specs.Kinds.{kind_of, by_kind, HasRightNumbers}
@@ -47,14 +47,14 @@ why_of (Refused refusal) = Rejected
 
 -- the command was done: all that it makes was written, and no count changed
 pub record IsDone (command : Command) (old new : Seen) : Type 0 where
-  pub made : IfSome old.files (λ f. (made : Made) × (command.makes f ≡ Ok made) × (new.files ≡ Some (written made.outputs f)))
-  pub told : is_some new.files ≡ is_some old.files
+  pub made : IfTold old.files (λ f. (made : Made) × (command.makes f ≡ Ok made) × (new.files ≡ Told (written made.outputs f)))
+  pub touches : OnlyTouches command.outputs old.files new.files
   pub counts : new.counts ≡ old.counts
 
 -- nothing is refused, and of what the command makes the first k outputs are whole; the next one holds a prefix, or wasn't created
 pub record IsWrittenTo (command : Command) (k : ℕ) (old new : Files) : Type 0 where
-  pub made : IfSome old (λ f. (made : Made) × (command.makes f ≡ Ok made) × (k < length made.outputs) × (count : Option ℕ) × (new ≡ Some (written_to k count made.outputs f)))
-  pub told : is_some new ≡ is_some old
+  pub made : IfTold old (λ f. (made : Made) × (command.makes f ≡ Ok made) × (k < length made.outputs) × (count : Option ℕ) × (new ≡ Told (written_to k count made.outputs f)))
+  pub touches : OnlyTouches (take (k + 1) command.outputs) old new
 
 -- the command is refused so; all is as it was
 pub record IsRefused (command : Command) (old new : Seen) (fault : EditFault) : Type 0 where
@@ -71,11 +71,11 @@ pub record IsUnread (command : Command) (old new : Seen) : Type 0 where
   pub files : (new.files ≡ old.files) ⊎ ((k : ℕ) × IsWrittenTo command k old.files new.files)
 
 -- only a folder that tells nothing can have such a file
-pub record IsShorter (old new : Seen) : Type 0 where
+pub record IsShorter (command : Command) (old new : Seen) : Type 0 where
   pub rose : Rose old.counts.ends new.counts.ends
   pub counts : NothingFailed old.counts new.counts
-  pub before : old.files ≡ untold
-  pub after : new.files ≡ untold
+  pub untold : is_told old.files ≡ false
+  pub touches : OnlyTouches command.outputs old.files new.files
 
 pub record IsUnwritten (command : Command) (k : ℕ) (old new : Seen) : Type 0 where
   pub rose : Rose old.counts.write_faults new.counts.write_faults
@@ -99,14 +99,14 @@ TakesMemory (Err fault) = is_before_memory fault ≡ false
 -- all is as it was, and it is a command for which memory is taken
 pub record IsOutOfMemory (command : Command) (old new : Seen) : Type 0 where
   pub names : clash_of command ≡ None
-  pub takes : IfSome old.files (λ f. TakesMemory (command.makes f))
+  pub takes : IfTold old.files (λ f. TakesMemory (command.makes f))
   pub stays : new ≡ old
 
 abbrev pub LeavesBy : Command → Seen → Seen → EditFault → Why → Type 0
 LeavesBy command old new fault Rejected = IsRefused command old new fault
 LeavesBy command old new fault Missing = IsMissing command old new fault
 LeavesBy command old new fault Unread = IsUnread command old new
-LeavesBy command old new fault Shorter = IsShorter old new
+LeavesBy command old new fault Shorter = IsShorter command old new
 LeavesBy command old new fault (Unwritten k) = IsUnwritten command k old new
 LeavesBy command old new fault Unsent = IsDone command old new
 LeavesBy command old new fault NoMemory = IsOutOfMemory command old new

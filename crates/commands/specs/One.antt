@@ -2,7 +2,7 @@
 pub use Rattle.sync_survey.specs.Limits.{most_frames}
 use Rattle.std.specs.Prelude.{◌≡◌, ◌≢◌, ◌⊎◌, ℕ, ◌<◌, ◌≤◌, Bool, true, take, List, [], ◌∷◌, length, slice_get, unwrap_or, Option, Some, None, Result, Ok, Err, IfSome, IfErr, option_map}
 use Rattle.bit_fields.specs.Bits.{AreBytes}
-use Rattle.outside.specs.Files.{Contents, Files, untold, with_file, Holds, IsThere, IsMissing}
+use Rattle.outside.specs.Files.{Contents, Files, Told, Untold, is_told, with_file, with_touch, Holds, IsThere, IsMissing, IfTold}
 use Rattle.outside.specs.Counts.{Rose, NothingFailed}
 use Rattle.sync_survey.specs.declared.survey_fault.SurveyFault.{SurveyFault}
 use Rattle.sync_survey.specs.declared.survey_fault.SurveyFault.TheVariants.{Absent, Memory as NoRoom}
@@ -98,9 +98,10 @@ one_command task output = record {
 
 -- ---- its steps
 
--- the same files, where they are told, but that the name holds these bytes
+-- the same files, but that the name holds these bytes
 unfoldable pub holding : Files → List ℕ → List ℕ → Files
-holding files name bytes = option_map (λ f. with_file f name bytes) files
+holding (Told f) name bytes = Told (with_file f name bytes)
+holding (Untold touched) name bytes = Untold (with_touch touched name true)
 
 -- the file is there, and the survey of it is refused, where so many frames are allowed
 pub record RefusesFile (allowed : ℕ) (name : List ℕ) (old new : Seen) (fault : SurveyFault) : Type 0 where
@@ -128,11 +129,12 @@ pub record ReadsNothing (old new : Seen) : Type 0 where
   pub rose : Rose old.counts.read_faults new.counts.read_faults
   pub files : new.files ≡ old.files
 
+-- only a folder that tells nothing can have such a file
 pub record LosesInput (old new : Seen) : Type 0 where
   pub rose : Rose old.counts.ends new.counts.ends
   pub counts : NothingFailed old.counts new.counts
-  pub untold_before : old.files ≡ untold
-  pub untold_after : new.files ≡ untold
+  pub untold : is_told old.files ≡ false
+  pub files : new.files ≡ old.files
 
 -- the input is there with a length that it may have, so that memory is taken for it
 pub record NeedsMemory (name : List ℕ) (old new : Seen) : Type 0 where
@@ -170,7 +172,7 @@ IsInputFault make name old new fault = IsInputFaultBy make name old new fault (w
 
 -- the files are refused so
 abbrev pub Refuses : Task → Files → EditFault → Type 0
-Refuses task files fault = IfSome files (λ f. task.makes f ≡ Err fault)
+Refuses task files fault = IfTold files (λ f. task.makes f ≡ Err fault)
 
 pub record RefusesFiles (task : Task) (old new : Seen) (fault : EditFault) : Type 0 where
   pub defined : Refuses task old.files fault
@@ -206,7 +208,7 @@ IsOfInputs task _ = ⊥
 -- The source is there, and where it is told, the command makes this of it.
 pub record IsMaking (task : Task) (made : List ℕ → List ℕ) (files : Files) : Type 0 where
   pub there : IsThere files task.source
-  pub makes : IfSome files (λ f. (bytes : List ℕ) → f task.source ≡ Some bytes → AreBytes bytes × (task.makes f ≡ Ok (made bytes)))
+  pub makes : IfTold files (λ f. (bytes : List ℕ) → f task.source ≡ Some bytes → AreBytes bytes × (task.makes f ≡ Ok (made bytes)))
 
 -- the output wasn't created, or holds a prefix of these bytes
 abbrev pub HoldsPrefix : List ℕ → List ℕ → Files → Files → Type 0
@@ -220,13 +222,18 @@ pub record StopsReading (made : List ℕ → List ℕ) (input output : List ℕ)
   pub rose : Rose old.counts.read_faults new.counts.read_faults
   pub files : IsBegun made input output old.files new.files
 
+pub record StopsShort (old new : Seen) : Type 0 where
+  pub rose : Rose old.counts.ends new.counts.ends
+  pub counts : NothingFailed old.counts new.counts
+  pub untold : is_told old.files ≡ false
+
 pub record StopsWriting (made : List ℕ → List ℕ) (input output : List ℕ) (old new : Seen) : Type 0 where
   pub rose : Rose old.counts.write_faults new.counts.write_faults
   pub files : IsBegun made input output old.files new.files
 
 abbrev pub IsPassFaultBy : (List ℕ → List ℕ) → List ℕ → List ℕ → Seen → Seen → Why → Type 0
 IsPassFaultBy made input output old new Unread = StopsReading made input output old new
-IsPassFaultBy made input output old new Shorter = LosesInput old new
+IsPassFaultBy made input output old new Shorter = StopsShort old new
 IsPassFaultBy made input output old new (Unwritten k) = (k ≡ 0) × StopsWriting made input output old new
 IsPassFaultBy made input output old new NoMemory = new ≡ old
 IsPassFaultBy made input output old new _ = ⊥

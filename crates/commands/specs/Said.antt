@@ -1,6 +1,6 @@
 -- What a command sends to standard output.
 use Rattle.std.specs.Prelude.{◌≡◌, ◌⊎◌, ℕ, ◌≤◌, List, length, take, Option, Some, None, Result, Ok, Err}
-use Rattle.outside.specs.Files.{Contents, Files, Sent, sent_more}
+use Rattle.outside.specs.Files.{Contents, Files, Sent, sent_more, Told}
 use Rattle.outside.specs.Counts.{Rose}
 use Rattle.commands.specs.declared.fault.EditFault.{EditFault}
 use Rattle.commands.specs.declared.fault.EditFault.TheVariants.{Sent as NotSent}
@@ -16,7 +16,7 @@ heard sent faults = record { sent = sent; faults = faults }
 
 -- the text that the command makes of these files; over files that aren't told one that it makes of all
 abbrev pub IsText : Command → Files → List ℕ → Type 0
-IsText command files text = (command.always ≡ Some text) ⊎ ((f : Contents) × (made : Made) × (files ≡ Some f) × (command.makes f ≡ Ok made) × (made.text ≡ text))
+IsText command files text = (command.always ≡ Some text) ⊎ ((f : Contents) × (made : Made) × (files ≡ Told f) × (command.makes f ≡ Ok made) × (made.text ≡ text))
 
 -- all of it was sent, and no write failed
 pub record SaysAll (command : Command) (files : Files) (old new : Heard) : Type 0 where

@@ -1,6 +1,6 @@
 //! The one body of all commands that make one file.
-ghost use Rattle.std.specs.Prelude.{◌≡◌, ◌≢◌, ◌↔◌, List, ℕ, Some, is_some, IfOk, IfErr, OnOk, OnErr, IsErrOf};
-ghost use Rattle.outside.specs.Files.{Files, emptied, Holds};
+ghost use Rattle.std.specs.Prelude.{◌≡◌, ◌≢◌, ◌↔◌, List, [], ◌∷◌, ℕ, Some, IfOk, IfErr, OnOk, OnErr, IsErrOf};
+ghost use Rattle.outside.specs.Files.{Files, emptied, Holds, OnlyTouches};
 ghost use Rattle.outside.specs.Counts.{NoneFell, OnlyReads};
 ghost use Rattle.outside.specs.Pass.{Appends, AppendsPrefix, HasPassCause};
 ghost use Rattle.commands.specs.Command.{clash_of, HoldsStreams};
@@ -85,7 +85,7 @@ fn write_output<E: Edit, D: Folder>(
     ensures written { OnOk result ((bytes : List ℕ)
         → Holds (D.files folder.old) (E.task edit.now).source bytes
         → D.files folder.new ≡ holding (D.files folder.old) output.now (E.file_of work bytes)) }
-    ensures told { is_some (D.files folder.new) ≡ is_some (D.files folder.old) }
+    ensures touches { OnlyTouches (output.now ∷ []) (D.files folder.old) (D.files folder.new) }
     ensures done { OnOk result (D.counts folder.new ≡ D.counts folder.old) }
     ensures left { IfErr result (IsPassFault (E.file_of work) (E.task edit.now).source output.now
         (seen (D.files folder.old) (D.counts folder.old))

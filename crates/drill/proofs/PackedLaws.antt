@@ -7,7 +7,7 @@ use Rattle.std.proofs.lemmas.List.{length-map}
 use Rattle.std.proofs.lemmas.List.FromFn.{length-enumerate_from, length-map-range_with_len}
 use Rattle.frame_header.specs.Tables.{window_of}
 use Rattle.frame_header.proofs.SlotLaws.{Contains-all_slots}
-use Rattle.outside.specs.Files.{Contents, Files, Sent, sent_more, Holds}
+use Rattle.outside.specs.Files.{Contents, Files, Sent, sent_more, Holds, Told}
 use Rattle.outside.specs.Passed.{SentPrefix}
 use Rattle.outside.specs.Counts.{Rose}
 use Rattle.outside.proofs.FilesLaws.{with_file_here}
@@ -191,12 +191,12 @@ module _ (seed count : ℕ) (some : 0 < count) (few : count ≤ 20000) where
       sym (stream-length packed t) ∙ ap length (sym found.stream_is ∙ is-packed.holds.stream_is) ∙ drawn-many
 
   -- where the packing of the file of a folder was done, the folder holds it
-  pub packed-there : (stream packed : List ℕ) (f : Contents) (new : Files) → f stream ≡ Some file → ((made : Made) × ((pack_command stream packed).makes f ≡ Ok made) × (new ≡ Some (written made.outputs f)))
+  pub packed-there : (stream packed : List ℕ) (f : Contents) (new : Files) → f stream ≡ Some file → ((made : Made) × ((pack_command stream packed).makes f ≡ Ok made) × (new ≡ Told (written made.outputs f)))
       → Holds new packed (packed_file seed count)
   unfolding made_result
   packed-there stream packed f new there done =
       let bytes = packed_file seed count in
-      subst (λ (files : Files). Holds files packed bytes) (sym (done.2 ∙ ap (λ (outputs : List Output). Some (written outputs f)) (outputs (clash_in (chosen_task (all_choice Least) pack_refuses stream) packed) done.0 done.1)))
+      subst (λ (files : Files). Holds files packed bytes) (sym (done.2 ∙ ap (λ (outputs : List Output). Told (written outputs f)) (outputs (clash_in (chosen_task (all_choice Least) pack_refuses stream) packed) done.0 done.1)))
       (with_file_here f packed bytes)
     where
       outputs : (clash : Option ℕ) (made : Made) → made_of packed (unless_clash clash (made_where (choosing (all_choice Least)) (f stream))) ≡ Ok made → made.outputs ≡ record { name = packed; bytes = packed_file seed count } ∷ []

@@ -2,7 +2,7 @@
 use Rattle.std.proofs.Common.{◌≡◌, ℕ, Bool, true, List, Option, Some, None, Result, Ok, Err, refl, sym, ◌∙◌, ap, subst, inl, inr, arith}
 use Rattle.std.specs.Prelude.{◌⊎◌, MatchResult, IfSome}
 use Rattle.bit_fields.specs.Bits.{AreBytes}
-use Rattle.outside.specs.Files.{Contents, Files, Holds, IsThere}
+use Rattle.outside.specs.Files.{Contents, Files, Holds, IsThere, Told, Untold, IfTold}
 use Rattle.outside.proofs.FilesLaws.{there_holds}
 use Rattle.sync_survey.specs.declared.survey_fault.SurveyFault.TheVariants.{Absent}
 use Rattle.sync_survey.specs.Faults.{SurveyFields}
@@ -69,12 +69,12 @@ change_numbers sheet back input _ h = absurd h
 module _ (sheet : List ℕ) (back : Bool) (input : List ℕ) where
   -- what the command makes of its input, where its files are told
   abbrev pub making_in : Files → Making
-  making_in None = changing (fade_change None back)
-  making_in (Some f) = changing (fade_change (f sheet) back)
+  making_in (Untold touched) = changing (fade_change None back)
+  making_in (Told f) = changing (fade_change (f sheet) back)
 
   refuses_same : (files : Files) (fault : EditFault) → Refuses (file_task (making_in files) (faded_stream None back) fade_refuses input) files fault → Refuses (fade_task sheet back input) files fault
-  refuses_same None fault h = tt
-  refuses_same (Some f) fault h = h
+  refuses_same (Untold touched) fault h = tt
+  refuses_same (Told f) fault h = h
 
   module _ (old new : Seen) (fault : EditFault) where
     early_by : (why : Why) → IsEarlyFaultBy (file_task (making_in old.files) (faded_stream None back) fade_refuses input) old new fault why → IsEarlyFaultBy (fade_task sheet back input) old new fault why
@@ -92,20 +92,20 @@ module _ (sheet : List ℕ) (back : Bool) (input : List ℕ) where
     makes_by : (f : Contents) (bytes : List ℕ) → f input ≡ Some bytes → survey_of bytes most_frames ≡ Ok s → (fade_task sheet back input).makes f ≡ changed_with bytes s (fade_of (f sheet) back s)
     makes_by f bytes held is = ap (made_where (changing (fade_change (f sheet) back))) held ∙ made-survey (changing (fade_change (f sheet) back)) bytes s is
 
-    refuses_by : (files : Files) (fault : EditFault) → IsThere files input → ((bytes : List ℕ) → Holds files input bytes → survey_of bytes most_frames ≡ Ok s) → IfSome files (λ f. fade_of (f sheet) back s ≡ Err fault)
+    refuses_by : (files : Files) (fault : EditFault) → IsThere files input → ((bytes : List ℕ) → Holds files input bytes → survey_of bytes most_frames ≡ Ok s) → IfTold files (λ f. fade_of (f sheet) back s ≡ Err fault)
         → Refuses (fade_task sheet back input) files fault
-    refuses_by None fault there is refused = tt
-    refuses_by (Some f) fault there is refused =
+    refuses_by (Untold touched) fault there is refused = tt
+    refuses_by (Told f) fault there is refused =
         let held = there_holds f input there in
         makes_by f held.0 held.1 (is held.0 held.1) ∙ ap (changed_with held.0 s) refused
 
-    with_sheet : (files : Files) (r : Result Change EditFault) → IsThere files sheet → ((bytes : List ℕ) → Holds files sheet bytes → fade_of (Some bytes) back s ≡ r) → IfSome files (λ f. fade_of (f sheet) back s ≡ r)
-    with_sheet None r there are = tt
-    with_sheet (Some f) r there are = let held = there_holds f sheet there in ap (λ o. fade_of o back s) held.1 ∙ are held.0 held.1
+    with_sheet : (files : Files) (r : Result Change EditFault) → IsThere files sheet → ((bytes : List ℕ) → Holds files sheet bytes → fade_of (Some bytes) back s ≡ r) → IfTold files (λ f. fade_of (f sheet) back s ≡ r)
+    with_sheet (Untold touched) r there are = tt
+    with_sheet (Told f) r there are = let held = there_holds f sheet there in ap (λ o. fade_of o back s) held.1 ∙ are held.0 held.1
 
-    without_sheet : (files : Files) (fault : EditFault) → IfSome files (λ f. f sheet ≡ None) → fault ≡ Input 1 Absent → IfSome files (λ f. fade_of (f sheet) back s ≡ Err fault)
-    without_sheet None fault missing is = tt
-    without_sheet (Some f) fault missing is = ap (λ o. fade_of o back s) missing ∙ ap (λ e. Err e) (sym is)
+    without_sheet : (files : Files) (fault : EditFault) → IfTold files (λ f. f sheet ≡ None) → fault ≡ Input 1 Absent → IfTold files (λ f. fade_of (f sheet) back s ≡ Err fault)
+    without_sheet (Untold touched) fault missing is = tt
+    without_sheet (Told f) fault missing is = ap (λ o. fade_of o back s) missing ∙ ap (λ e. Err e) (sym is)
 
     module _ (old new : Seen) (there : IsThere old.files input) (surveyed : (bytes : List ℕ) → Holds old.files input bytes → survey_of bytes most_frames ≡ Ok s) where
       change_by : (fault : EditFault) (why : Why) → IsChangeFaultBy sheet back s old new fault why → IsEarlyFaultBy (fade_task sheet back input) old new fault why
@@ -129,7 +129,7 @@ module _ (sheet : List ℕ) (back : Bool) (input : List ℕ) where
         → IsThere files sheet → ((bytes : List ℕ) → Holds files sheet bytes → fade_of (Some bytes) back s ≡ Ok change) → IsMaking (fade_task sheet back input) (λ file. changed change file s) files
     fade_makes files change there is octets sheet_there are = record { there = there; makes = at files is octets (with_sheet files (Ok change) sheet_there are) }
       where
-        at : (files : Files) → ((bytes : List ℕ) → Holds files input bytes → survey_of bytes most_frames ≡ Ok s) → ((bytes : List ℕ) → Holds files input bytes → AreBytes bytes) → IfSome files (λ f. fade_of (f sheet) back s ≡ Ok change)
-            → IfSome files (λ f. (bytes : List ℕ) → f input ≡ Some bytes → AreBytes bytes × ((fade_task sheet back input).makes f ≡ Ok (changed change bytes s)))
-        at None is octets made = tt
-        at (Some f) is octets made = λ bytes holds. (octets bytes holds, makes_by f bytes holds (is bytes holds) ∙ ap (changed_with bytes s) made)
+        at : (files : Files) → ((bytes : List ℕ) → Holds files input bytes → survey_of bytes most_frames ≡ Ok s) → ((bytes : List ℕ) → Holds files input bytes → AreBytes bytes) → IfTold files (λ f. fade_of (f sheet) back s ≡ Ok change)
+            → IfTold files (λ f. (bytes : List ℕ) → f input ≡ Some bytes → AreBytes bytes × ((fade_task sheet back input).makes f ≡ Ok (changed change bytes s)))
+        at (Untold touched) is octets made = tt
+        at (Told f) is octets made = λ bytes holds. (octets bytes holds, makes_by f bytes holds (is bytes holds) ∙ ap (changed_with bytes s) made)

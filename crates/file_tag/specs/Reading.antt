@@ -7,7 +7,7 @@ use Rattle.tag_blocks.specs.declared.tag_fault.TagFault.TheVariants.{BadTag, Mem
 use Rattle.tag_blocks.specs.Tags.{TagFields, tag_of}
 use Rattle.outside.specs.declared.exact.ReadFault.{ReadFault}
 use Rattle.outside.specs.declared.exact.ReadFault.TheVariants.{Failed, Shrunk as ShrunkRead}
-use Rattle.outside.specs.Files.{Files, untold, Holds}
+use Rattle.outside.specs.Files.{Files, is_told, Holds}
 use Rattle.outside.specs.Counts.{Counts, Rose, NothingFailed}
 use Rattle.sync_survey.specs.declared.places.Piece.{Piece}
 use Rattle.sync_survey.specs.Faults.{SurveyFields}
@@ -61,7 +61,7 @@ abbrev pub IsTagCause : List ℕ → Files → SurveyFields → Counts → Count
 IsTagCause name files s before after (TooLarge size) = RefusesTag name files s (TooLarge size) × (size ≡ tag_length s) × (longest_tag < size) × (after ≡ before)
 IsTagCause name files s before after (Bad at) = RefusesTag name files s (Bad at) × (tag_at s ≤ at) × (0 < tag_length s → at < tag_at s + tag_length s) × (after ≡ before)
 IsTagCause name files s before after Read = Rose before.read_faults after.read_faults
-IsTagCause name files s before after (Shrunk first second) = (files ≡ untold) × (first ≡ s.length) × (second < first) × Rose before.ends after.ends × NothingFailed before after
+IsTagCause name files s before after (Shrunk first second) = (is_told files ≡ false) × (first ≡ s.length) × (second < first) × Rose before.ends after.ends × NothingFailed before after
 IsTagCause name files s before after Memory = after ≡ before
 
 -- Why there is no tag of a block at this offset: its tag is refused so, or no block of its length begins with its bytes; or there is no

@@ -5,21 +5,21 @@ use Rattle.std.specs.List.{list_any}
 use Rattle.in_memory.specs.declared.memory_folder.Call.TheVariants.{Create, Write}
 use Rattle.in_memory.specs.declared.memory_folder.MemFolder.{MemFolder}
 use Rattle.outside.specs.Counts.{one_more}
-use Rattle.outside.specs.Files.{Contents, with_file, emptied, appended}
+use Rattle.outside.specs.Files.{Contents, Told, with_file, emptied, appended}
 use Rattle.in_memory.specs.Memory.{contents_of, bytes_of, room_of, is_to_fail, Called}
 use Rattle.in_memory.specs.Short.{IsCreated}
 use Rattle.outside.proofs.FilesLaws.{with_file_here, with_file_twice}
 
-some_same : {X : Type 0} (x y : X) → Some x ≡ Some y → x ≡ y
-some_same x y is = cc
+told_same : (f g : Contents) → Told f ≡ Told g → f ≡ g
+told_same f g is = cc
 
-pub emptied_contents : (f new : Contents) (name : List ℕ) → Some new ≡ emptied (Some f) name → new ≡ with_file f name []
+pub emptied_contents : (f new : Contents) (name : List ℕ) → Told new ≡ emptied (Told f) name → new ≡ with_file f name []
 unfolding emptied
-emptied_contents f new name is = some_same _ _ is
+emptied_contents f new name is = told_same _ _ is
 
-pub appended_contents : (f new : Contents) (name more : List ℕ) → Some new ≡ appended (Some f) name more → new ≡ with_file f name (unwrap_or (f name) [] ++ more)
+pub appended_contents : (f new : Contents) (name more : List ℕ) → Told new ≡ appended (Told f) name more → new ≡ with_file f name (unwrap_or (f name) [] ++ more)
 unfolding appended
-appended_contents f new name more is = some_same _ _ is
+appended_contents f new name more is = told_same _ _ is
 
 -- where it is there
 pub created-same : (folder : MemFolder) (name : List ℕ) → IsCreated folder folder name
@@ -29,7 +29,7 @@ none-bytes : (o : Option (List ℕ)) → o ≡ None → unwrap_or o [] ≡ []
 none-bytes o is = ap (λ q. unwrap_or q []) is
 
 -- where it wasn't
-pub created-new : (old new : MemFolder) (name : List ℕ) → contents_of old name ≡ None → Some (contents_of new) ≡ emptied (Some (contents_of old)) name → Called old new Create → IsCreated old new name
+pub created-new : (old new : MemFolder) (name : List ℕ) → contents_of old name ≡ None → Told (contents_of new) ≡ emptied (Told (contents_of old)) name → Called old new Create → IsCreated old new name
 created-new old new name none made called =
     let is = emptied_contents (contents_of old) (contents_of new) name made in
     let holds : bytes_of new name ≡ [] = ap (λ (f : Contents). unwrap_or (f name) []) is ∙ ap (λ (o : Option (List ℕ)). unwrap_or o []) (with_file_here (contents_of old) name []) in

@@ -1,6 +1,6 @@
 //! A folder in memory, for tests.
 ghost use Rattle.std.specs.Prelude.{◌≡◌, ◌≢◌, ℕ, ◌+◌, ◌-◌, ◌<◌, ◌≤◌, [], ◌∷◌, ◌++◌, List, None, Some, Ok, Err, length, take, drop, min, IfOk, OnOk, OnErr, IsErrOf, is_err, option_copied, if◌then◌else◌, ◌==◌, ◌&&◌, ◌⊎◌, nat_lt};
-ghost use Rattle.outside.specs.Files.{with_file, emptied, appended, Holds, IsThere, IsMissing, AreOctets};
+ghost use Rattle.outside.specs.Files.{Told, with_file, emptied, appended, FailsToCreate, Holds, IsThere, IsMissing, AreOctets};
 ghost use Rattle.outside.specs.Counts.{none_counted, with_miss, with_end, with_read_fault, with_write_fault, OnlyReads, OnlyWrites, NothingFailed, Rose};
 
 use crate::schedule::Schedule;
@@ -137,23 +137,23 @@ fn size_of(bytes: &[u8]) -> u64
 impl Folder for MemFolder {
     ghost use Rattle.in_memory.specs.Memory.{contents_of, bytes_of, counts_of, is_to_fail, find_answer, create_fails, write_fails, Called};
 
-    ghost files = { λ folder. Some (contents_of folder) };
+    ghost files = { λ folder. Told (contents_of folder) };
 
     ghost counts = { λ folder. counts_of folder };
 
     fn find(&mut self, name: &str) -> Result<u64, FindFault>
         ensures found { IfOk result (λ n. (bytes : List ℕ)
-            → Holds (Some (contents_of self.old)) name.now bytes → n ≡ length bytes) }
-        ensures there { OnOk result (IsThere (Some (contents_of self.old)) name.now) }
+            → Holds (Told (contents_of self.old)) name.now bytes → n ≡ length bytes) }
+        ensures there { OnOk result (IsThere (Told (contents_of self.old)) name.now) }
         ensures octets { OnOk result ((bytes : List ℕ)
-            → Holds (Some (contents_of self.old)) name.now bytes → AreOctets bytes) }
+            → Holds (Told (contents_of self.old)) name.now bytes → AreOctets bytes) }
         ensures missing { IsErrOf result FindFault.Absent
-            → IsMissing (Some (contents_of self.old)) name.now }
+            → IsMissing (Told (contents_of self.old)) name.now }
         ensures absent { IsErrOf result FindFault.Absent
             → Rose (counts_of self.old).misses (counts_of self.new).misses }
         ensures failed { IsErrOf result FindFault.Failed
             → Rose (counts_of self.old).read_faults (counts_of self.new).read_faults }
-        ensures files { Some (contents_of self.new) ≡ Some (contents_of self.old) }
+        ensures files { Told (contents_of self.new) ≡ Told (contents_of self.old) }
         ensures ends { (counts_of self.new).ends ≡ (counts_of self.old).ends }
         ensures done { OnOk result (counts_of self.new ≡ counts_of self.old) }
         ensures counts { OnlyReads (counts_of self.old) (counts_of self.new) }
@@ -178,22 +178,22 @@ impl Folder for MemFolder {
     }
 
     fn read(&mut self, name: &str, at: u64, into: &mut [u8]) -> Result<usize, Failed>
-        requires { IsThere (Some (contents_of self.old)) name.now }
+        requires { IsThere (Told (contents_of self.old)) name.now }
         ensures bound { IfOk result (λ k. k ≤ length into.old) }
         ensures bytes { IfOk result (λ k. (bytes : List ℕ)
-            → Holds (Some (contents_of self.old)) name.now bytes
+            → Holds (Told (contents_of self.old)) name.now bytes
             → take k into.new ≡ take k (drop at bytes)) }
         ensures rest { IfOk result (λ k. drop k into.new ≡ drop k into.old) }
         ensures end { IfOk result (λ k. (bytes : List ℕ)
-            → Holds (Some (contents_of self.old)) name.now bytes → k ≡ 0 → (length into.old ≡ 0)
+            → Holds (Told (contents_of self.old)) name.now bytes → k ≡ 0 → (length into.old ≡ 0)
             ⊎ (length bytes ≤ at)) }
         ensures within { IfOk result (λ k. (bytes : List ℕ)
-            → Holds (Some (contents_of self.old)) name.now bytes → k ≤ length bytes - at) }
+            → Holds (Told (contents_of self.old)) name.now bytes → k ≤ length bytes - at) }
         ensures ended { IfOk result (λ k. k ≡ 0 → 0 < length into.old
             → Rose (counts_of self.old).ends (counts_of self.new).ends) }
         ensures failed { OnErr result (Rose (counts_of self.old).read_faults
             (counts_of self.new).read_faults) }
-        ensures files { Some (contents_of self.new) ≡ Some (contents_of self.old) }
+        ensures files { Told (contents_of self.new) ≡ Told (contents_of self.old) }
         ensures got { IfOk result (λ k. (0 < k) ⊎ (length into.old ≡ 0)
             → counts_of self.new ≡ counts_of self.old) }
         ensures done { OnOk result (NothingFailed (counts_of self.old) (counts_of self.new)) }
@@ -222,9 +222,11 @@ impl Folder for MemFolder {
     }
 
     fn create(&mut self, name: &str) -> Result<(), Failed>
-        ensures created { OnOk result (Some (contents_of self.new) ≡ emptied
-            (Some (contents_of self.old)) name.now) }
-        ensures kept { OnErr result (Some (contents_of self.new) ≡ Some (contents_of self.old)) }
+        ensures created { OnOk result (Told (contents_of self.new) ≡ emptied
+            (Told (contents_of self.old)) name.now) }
+        ensures kept { OnErr result (FailsToCreate name.now (Told (contents_of self.old))
+            (Told (contents_of self.new))) }
+        ensures stays { OnErr result (contents_of self.new ≡ contents_of self.old) }
         ensures failed { OnErr result (Rose (counts_of self.old).write_faults
             (counts_of self.new).write_faults) }
         ensures done { OnOk result (counts_of self.new ≡ counts_of self.old) }
@@ -242,12 +244,12 @@ impl Folder for MemFolder {
     }
 
     fn write(&mut self, name: &str, bytes: &[u8]) -> Result<usize, Failed>
-        requires { IsThere (Some (contents_of self.old)) name.now }
+        requires { IsThere (Told (contents_of self.old)) name.now }
         ensures bound { IfOk result (λ k. k ≤ length bytes.now) }
         ensures some { IfOk result (λ k. 0 < length bytes.now → 0 < k) }
-        ensures written { IfOk result (λ k. Some (contents_of self.new) ≡ appended
-            (Some (contents_of self.old)) name.now (take k bytes.now)) }
-        ensures kept { OnErr result (Some (contents_of self.new) ≡ Some (contents_of self.old)) }
+        ensures written { IfOk result (λ k. Told (contents_of self.new) ≡ appended
+            (Told (contents_of self.old)) name.now (take k bytes.now)) }
+        ensures kept { OnErr result (Told (contents_of self.new) ≡ Told (contents_of self.old)) }
         ensures failed { OnErr result (Rose (counts_of self.old).write_faults
             (counts_of self.new).write_faults) }
         ensures done { OnOk result (counts_of self.new ≡ counts_of self.old) }

@@ -1,6 +1,6 @@
 //! A folder that says greater lengths than it gives, for tests.
 ghost use Rattle.std.specs.Prelude.{◌≡◌, ℕ, ◌+◌, ◌-◌, ◌<◌, ◌≤◌, [], ◌++◌, List, None, Some, Ok, length, take, drop, min, true, false, IfOk, OnOk, OnErr, IsErrOf, IsTrue, is_err, option_copied, ◌⊎◌, unwrap_or};
-ghost use Rattle.outside.specs.Files.{untold, with_file, emptied, appended, Holds, IsThere, IsMissing, AreOctets};
+ghost use Rattle.outside.specs.Files.{Told, untold, FailsToCreate, with_file, emptied, appended, Holds, IsThere, IsMissing, AreOctets};
 ghost use Rattle.in_memory.specs.Memory.{contents_of, counts_of};
 ghost use Rattle.in_memory.specs.Short.{create_missing_fails, IsCreated};
 ghost use Rattle.outside.specs.Counts.{OnlyReads, OnlyWrites, NothingFailed, Rose};
@@ -47,7 +47,7 @@ impl ShortFolder {
 /// Creates a file of no bytes where the name isn't there, so that bytes can be appended to it.
 fn create_missing(folder: &mut MemFolder, name: &str) -> Result<(), Failed>
     ensures fails { is_err result ≡ create_missing_fails folder.old name.now }
-    ensures there { OnOk result (IsThere (Some (contents_of folder.new)) name.now) }
+    ensures there { OnOk result (IsThere (Told (contents_of folder.new)) name.now) }
     ensures made { OnOk result (IsCreated folder.old folder.new name.now) }
     ensures failed { OnErr result (Rose (counts_of folder.old).write_faults
         (counts_of folder.new).write_faults) }
@@ -140,14 +140,14 @@ impl Folder for ShortFolder {
     #[tactic(auto, unfolding(outside::specs::Files::emptied))]
     fn create(&mut self, name: &str) -> Result<(), Failed>
         ensures created { OnOk result (untold ≡ emptied untold name.now) }
-        ensures kept { OnErr result (untold ≡ untold) }
+        ensures kept { OnErr result (FailsToCreate name.now untold untold) }
         ensures failed { OnErr result (Rose (short_counts self.old).write_faults
             (short_counts self.new).write_faults) }
         ensures done { OnOk result (short_counts self.new ≡ short_counts self.old) }
         ensures counts { OnlyWrites (short_counts self.old) (short_counts self.new) }
         ensures fails { is_err result ≡ create_fails self.old.inner name.now }
-        ensures inside { OnOk result (Some (contents_of self.new.inner) ≡
-            emptied (Some (contents_of self.old.inner)) name.now) }
+        ensures inside { OnOk result (Told (contents_of self.new.inner) ≡
+            emptied (Told (contents_of self.old.inner)) name.now) }
         ensures inside_kept { OnErr result (contents_of self.new.inner ≡
             contents_of self.old.inner) }
         ensures called { Called self.old.inner self.new.inner Call.Create }

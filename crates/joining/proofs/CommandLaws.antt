@@ -2,7 +2,7 @@
 use Rattle.std.proofs.Common.{◌≡◌, ℕ, ◌-◌, ◌≤◌, List, [], ◌∷◌, length, Option, Some, None, Result, Ok, sym, ap, subst, arith}
 use Rattle.std.specs.Prelude.{IfSome, unwrap_or}
 use Rattle.bit_fields.specs.Bits.{AreBytes}
-use Rattle.outside.specs.Files.{Contents, Files}
+use Rattle.outside.specs.Files.{Contents, Files, Told, Untold, IfTold}
 use Rattle.outside.proofs.FilesLaws.{there_holds}
 use Rattle.frame_header.specs.Fields.{ClassFields}
 use Rattle.sync_survey.specs.Faults.{SurveyFields, HoldsStream}
@@ -23,9 +23,9 @@ inputs-making files [] ss some are = absurd (omega (arith, some))
 inputs-making files (name ∷ names) [] some are = absurd are
 inputs-making files (name ∷ names) (s ∷ ss) some are = record { there = are.0.there; makes = at files are }
   where
-    at : (fs : Files) → AreInputs None most_frames fs (name ∷ names) (s ∷ ss) → IfSome fs (λ f. (bytes : List ℕ) → f name ≡ Some bytes → AreBytes bytes × ((join_task (name ∷ names)).makes f ≡ Ok (joined_file (told_parts fs (name ∷ names) (s ∷ ss)))))
-    at None are = tt
-    at (Some f) are = λ bytes held. (are.0.octets bytes held, ap (λ (r : Result (List Part) EditFault). then_made r (λ parts. Ok (joined_file parts))) (parts-all f (name ∷ names) (s ∷ ss) are))
+    at : (fs : Files) → AreInputs None most_frames fs (name ∷ names) (s ∷ ss) → IfTold fs (λ f. (bytes : List ℕ) → f name ≡ Some bytes → AreBytes bytes × ((join_task (name ∷ names)).makes f ≡ Ok (joined_file (told_parts fs (name ∷ names) (s ∷ ss)))))
+    at (Untold touched) are = tt
+    at (Told f) are = λ bytes held. (are.0.octets bytes held, ap (λ (r : Result (List Part) EditFault). then_made r (λ parts. Ok (joined_file parts))) (parts-all f (name ∷ names) (s ∷ ss) are))
 
 -- ---- streams
 
@@ -44,9 +44,9 @@ holds-at output f (name ∷ names) [] apart can are = absurd are
 holds-at output f (name ∷ names) (s ∷ ss) apart can are = joined-holds output f name names s ss can (sources-inputs s.class output 0 None most_frames (Some f) (name ∷ names) (s ∷ ss) apart can.0 are)
 
 pub inputs-hold : (output : List ℕ) (files : Files) (names : List (List ℕ)) (ss : List SurveyFields) → clash_from (output ∷ []) 0 names ≡ None → CanBeJoined ss → AreInputs None most_frames files names ss
-    → IfSome files (λ f. (bytes : List ℕ) → f (first_input names) ≡ Some bytes → AreSound f names × HoldsStream (joined_file (told_parts files names ss)) ((join_task names).stream f))
-inputs-hold output None names ss apart can are = tt
-inputs-hold output (Some f) names ss apart can are = λ bytes held. (
+    → IfTold files (λ f. (bytes : List ℕ) → f (first_input names) ≡ Some bytes → AreSound f names × HoldsStream (joined_file (told_parts files names ss)) ((join_task names).stream f))
+inputs-hold output (Untold touched) names ss apart can are = tt
+inputs-hold output (Told f) names ss apart can are = λ bytes held. (
   sound None most_frames f names ss are,
   subst (λ (r : Result (List Part) EditFault). HoldsStream (joined_file (parts_in f names ss)) (join_stream r)) (sym (parts-all f names ss are)) (holds-at output f names ss apart can are),
 )

@@ -1,7 +1,7 @@
 -- The surveys of the inputs, one after the other, and what is made of the inputs by them.
 use Rattle.std.proofs.Common.{◌≡◌, ℕ, zero, suc, take, drop, ◌+◌, ◌-◌, ◌<◌, ◌≤◌, ◌==◌, Bool, true, false, cond, List, [], ◌∷◌, ◌++◌, length, Option, Some, None, Result, Ok, Err, refl, sym, ◌∙◌, ap, ap₂, subst, arith, append-nil}
 use Rattle.std.specs.Prelude.{IfSome, IfErr, unwrap_or}
-use Rattle.outside.specs.Files.{Contents, Files}
+use Rattle.outside.specs.Files.{Contents, Files, Told, Untold, IfTold}
 use Rattle.outside.proofs.FilesLaws.{there_holds}
 use Rattle.frame_header.specs.Fields.{ClassFields, same_class}
 use Rattle.laid_files.proofs.LaidFrames.{same-class}
@@ -208,9 +208,9 @@ found-next (n ∷ before) name after ss old new are needs = found-input most_fra
 -- ---- a fault of an input, after those before it
 
 module _ (before : List (List ℕ)) (name : List ℕ) (after : List (List ℕ)) (ss : List SurveyFields) where
-  refuses-by : (files : Files) (fault : EditFault) → AreInputs None most_frames files before ss → IfSome files (λ f. part_of (length before) (class_after None ss) (most_frames - frames_of ss) (f name) ≡ Err fault) → Refuses (join_task (before ++ name ∷ after)) files fault
-  refuses-by None fault are is = tt
-  refuses-by (Some f) fault are is = ap (λ (r : Result (List Part) EditFault). then_made r (λ parts. Ok (joined_file parts))) (parts-fault f before name after ss fault are is)
+  refuses-by : (files : Files) (fault : EditFault) → AreInputs None most_frames files before ss → IfTold files (λ f. part_of (length before) (class_after None ss) (most_frames - frames_of ss) (f name) ≡ Err fault) → Refuses (join_task (before ++ name ∷ after)) files fault
+  refuses-by (Untold touched) fault are is = tt
+  refuses-by (Told f) fault are is = ap (λ (r : Result (List Part) EditFault). then_made r (λ parts. Ok (joined_file parts))) (parts-fault f before name after ss fault are is)
 
   module _ (old new : Seen) (fault : EditFault) (are : AreInputs None most_frames old.files before ss) where
     early-by : (why : Why) → IsPartFaultBy (length before) (class_after None ss) (most_frames - frames_of ss) name old new fault why → IsEarlyFaultBy (join_task (before ++ name ∷ after)) old new fault why

@@ -2,7 +2,7 @@
 use Rattle.std.proofs.Common.{◌≡◌, ℕ, ◌+◌, ◌<◌, List, [], ◌∷◌, ◌++◌, length, get_or, map, drop, Option, Some, None, refl, sym, ◌∙◌, ap}
 use Rattle.std.specs.Prelude.{slice_range, flat_map, unwrap_or}
 use Rattle.std.proofs.lemmas.List.{drop-map}
-use Rattle.outside.specs.Files.{Files, Holds, IsThere}
+use Rattle.outside.specs.Files.{Files, Holds, IsThere, Told, Untold}
 use Rattle.outside.proofs.FilesLaws.{there_holds}
 use Rattle.frame_header.specs.Fields.{ClassFields}
 use Rattle.slot_plan.specs.declared.needs.Need.{Need}
@@ -41,12 +41,12 @@ told_frames files names ss = flat_map frames_in (told_parts files names ss)
 
 -- the bytes of an input, where it is told
 abbrev pub told_file : Files → List ℕ → List ℕ
-told_file None name = []
-told_file (Some f) name = unwrap_or (f name) []
+told_file (Untold touched) name = []
+told_file (Told f) name = unwrap_or (f name) []
 
 pub told-holds : (files : Files) (key told name : List ℕ) → Holds files key told → IsThere files name → Holds files name (told_file files name)
-told-holds None key told name holds there = absurd holds
-told-holds (Some f) key told name holds there =
+told-holds (Untold touched) key told name holds there = absurd holds
+told-holds (Told f) key told name holds there =
     let held = there_holds f name there in
     held.1 ∙ ap (λ (o : Option (List ℕ)). Some (unwrap_or o [])) (sym held.1)
 
@@ -54,11 +54,11 @@ told-holds (Some f) key told name holds there =
 pub sources-needs : (class : ClassFields) (output : List ℕ) (files : Files) (key file : List ℕ) (names : List (List ℕ)) (ss : List SurveyFields) → Holds files key file → AreSources class output files names ss
     → AreNeedsOf (needs_of (rows_of ss)) (told_frames files names ss)
 unfolding needs_of parts_in
-sources-needs class output None key file names ss holds are = absurd holds
-sources-needs class output (Some f) key file [] [] holds are = tt
-sources-needs class output (Some f) key file [] (s ∷ ss) holds are = absurd are
-sources-needs class output (Some f) key file (name ∷ names) [] holds are = absurd are
-sources-needs class output (Some f) key file (name ∷ names) (s ∷ ss) holds are =
+sources-needs class output (Untold touched) key file names ss holds are = absurd holds
+sources-needs class output (Told f) key file [] [] holds are = tt
+sources-needs class output (Told f) key file [] (s ∷ ss) holds are = absurd are
+sources-needs class output (Told f) key file (name ∷ names) [] holds are = absurd are
+sources-needs class output (Told f) key file (name ∷ names) (s ∷ ss) holds are =
     needs-append (map need_of s.frames) (needs_of (rows_of ss)) (frames_in (whole_part (unwrap_or (f name) []) s)) (told_frames (Some f) names ss)
     (whole-needs (unwrap_or (f name) []) s (are.0.exact (unwrap_or (f name) []) (told-holds (Some f) key file name holds are.0.there)))
     (sources-needs class output (Some f) key file names ss holds are.2)
@@ -67,13 +67,13 @@ sources-needs class output (Some f) key file (name ∷ names) (s ∷ ss) holds a
 pub own-split : (files : Files) (key told name : List ℕ) (s : SurveyFields) (names : List (List ℕ)) (ss : List SurveyFields) (placed : List Placed) → Holds files key told
     → relaid (told_frames files (name ∷ names) (s ∷ ss)) placed ≡ whole_frames s placed (told_file files name) ++ relaid (told_frames files names ss) (drop (places_for (length s.frames) placed) placed)
 unfolding parts_in
-own-split None key told name s names ss placed holds = absurd holds
-own-split (Some f) key told name s names ss placed holds =
+own-split (Untold touched) key told name s names ss placed holds = absurd holds
+own-split (Told f) key told name s names ss placed holds =
     let file = unwrap_or (f name) [] in
     relaid-append (slice_range (all_frames file s) 0 (length s.frames)) (told_frames (Some f) names ss) placed
     ∙ ap (λ n. whole_frames s placed file ++ relaid (told_frames (Some f) names ss) (drop (places_for n placed) placed)) (whole-length file s)
 
 pub told-none : (files : Files) (ss : List SurveyFields) (placed : List Placed) → relaid (told_frames files [] ss) placed ≡ []
 unfolding parts_in
-told-none None ss placed = relaid-none placed
-told-none (Some f) ss placed = relaid-none placed
+told-none (Untold touched) ss placed = relaid-none placed
+told-none (Told f) ss placed = relaid-none placed

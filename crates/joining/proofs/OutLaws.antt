@@ -2,7 +2,7 @@
 use Rattle.std.proofs.Common.{◌≡◌, ◌≢◌, ℕ, List, [], ◌∷◌, ◌++◌, map, Option, Some, None, Result, Ok, Err, refl, sym, ◌∙◌, ap, ap₂, subst, append_assoc, append-nil}
 use Rattle.std.specs.Prelude.{IfErr, OnOk, OnErr, unwrap_or, flat_map}
 use Rattle.std.specs.List.{concat}
-use Rattle.outside.specs.Files.{Contents, Files, emptied, appended, with_file, Holds, IsThere}
+use Rattle.outside.specs.Files.{Contents, Files, emptied, appended, with_file, Holds, IsThere, Told, Untold}
 use Rattle.outside.specs.Counts.{Counts}
 use Rattle.outside.proofs.FilesLaws.{with_file_other, emptied_keeps, emptied_held_other}
 use Rattle.frame_header.specs.Fields.{ClassFields}
@@ -63,16 +63,16 @@ parts-same class output f g (name ∷ names) (s ∷ ss) same are =
 
 told-same_appended : (class : ClassFields) (output more : List ℕ) (files : Files) (names : List (List ℕ)) (ss : List SurveyFields) → AreSources class output files names ss → told_parts (appended files output more) names ss ≡ told_parts files names ss
 unfolding appended
-told-same_appended class output more None names ss are = refl
-told-same_appended class output more (Some f) names ss are = parts-same class output f (with_file f output (unwrap_or (f output) [] ++ more)) names ss (λ name apart. with_file_other f output (unwrap_or (f output) [] ++ more) name apart) are
+told-same_appended class output more (Untold touched) names ss are = refl
+told-same_appended class output more (Told f) names ss are = parts-same class output f (with_file f output (unwrap_or (f output) [] ++ more)) names ss (λ name apart. with_file_other f output (unwrap_or (f output) [] ++ more) name apart) are
 
 pub told-appended : (class : ClassFields) (output more : List ℕ) (old new : Files) (names : List (List ℕ)) (ss : List SurveyFields) → new ≡ appended old output more → AreSources class output old names ss → told_parts new names ss ≡ told_parts old names ss
 told-appended class output more old new names ss grown are = ap (λ f. told_parts f names ss) grown ∙ told-same_appended class output more old names ss are
 
 told-same_emptied : (class : ClassFields) (output : List ℕ) (files : Files) (names : List (List ℕ)) (ss : List SurveyFields) → AreSources class output files names ss → told_parts (emptied files output) names ss ≡ told_parts files names ss
 unfolding emptied
-told-same_emptied class output None names ss are = refl
-told-same_emptied class output (Some f) names ss are = parts-same class output f (with_file f output []) names ss (λ name apart. with_file_other f output [] name apart) are
+told-same_emptied class output (Untold touched) names ss are = refl
+told-same_emptied class output (Told f) names ss are = parts-same class output f (with_file f output []) names ss (λ name apart. with_file_other f output [] name apart) are
 
 pub told-emptied : (class : ClassFields) (output : List ℕ) (old new : Files) (names : List (List ℕ)) (ss : List SurveyFields) → new ≡ emptied old output → AreSources class output old names ss → told_parts new names ss ≡ told_parts old names ss
 told-emptied class output old new names ss created are = ap (λ f. told_parts f names ss) created ∙ told-same_emptied class output old names ss are
@@ -84,8 +84,8 @@ joined-told : (output : List ℕ) (files : Files) (name file : List ℕ) (names 
     → placed ≡ the_plan_of (s ∷ ss) → IsJoinedInfo (s ∷ ss) placed info → Holds files name file
     → (concat (front_blocks file s) ++ info) ++ frame_bytes (relaid (told_frames files (name ∷ names) (s ∷ ss)) placed) ≡ joined_file (told_parts files (name ∷ names) (s ∷ ss))
 unfolding laid_file
-joined-told output None name file names s ss placed info can are plan is holds = absurd holds
-joined-told output (Some f) name file names s ss placed info can are plan is holds =
+joined-told output (Untold touched) name file names s ss placed info can are plan is holds = absurd holds
+joined-told output (Told f) name file names s ss placed info can are plan is holds =
     let parts = parts_in f (name ∷ names) (s ∷ ss) in
     let front = concat (front_blocks (unwrap_or (f name) []) s) in
     let same : placed ≡ plan_of s.class parts = plan ∙ sym (told-plan output f name names s ss can are) in

@@ -1,6 +1,6 @@
 -- The surveys of the inputs, as they are made one after the other.
 use Rattle.std.specs.Prelude.{◌≡◌, ◌≢◌, true, ℕ, ◌+◌, ◌-◌, ◌<◌, ◌≤◌, List, [], ◌∷◌, length, map, unwrap_or, IfSome, Option, Some, None, Ok, Err}
-use Rattle.outside.specs.Files.{Contents, Files, Holds, IsThere}
+use Rattle.outside.specs.Files.{Contents, Files, Holds, IsThere, IfTold, Told, Untold}
 use Rattle.outside.specs.Counts.{Rose}
 use Rattle.frame_header.specs.Fields.{ClassFields}
 use Rattle.sync_survey.specs.declared.rows.Row.{Row}
@@ -28,7 +28,7 @@ pub record IsInput (allowed : ℕ) (files : Files) (name : List ℕ) (s : Survey
 
 -- where the files are told, an input gives this refusal
 abbrev pub GivesFault : ℕ → Option ClassFields → ℕ → List ℕ → Files → EditFault → Type 0
-GivesFault place first allowed name files fault = IfSome files (λ f. part_of place first allowed (f name) ≡ Err fault)
+GivesFault place first allowed name files fault = IfTold files (λ f. part_of place first allowed (f name) ≡ Err fault)
 
 abbrev pub IsPartFaultBy : ℕ → Option ClassFields → ℕ → List ℕ → Seen → Seen → EditFault → Why → Type 0
 IsPartFaultBy place first allowed name old new fault Rejected = GivesFault place first allowed name old.files fault × (new ≡ old)
@@ -100,5 +100,5 @@ parts_in files (name ∷ names) (s ∷ ss) = whole_part (unwrap_or (files name) 
 
 -- where they are told
 abbrev pub told_parts : Files → List (List ℕ) → List SurveyFields → List Part
-told_parts None names ss = []
-told_parts (Some files) names ss = parts_in files names ss
+told_parts (Untold touched) names ss = []
+told_parts (Told files) names ss = parts_in files names ss

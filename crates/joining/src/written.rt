@@ -1,6 +1,6 @@
 //! The second pass of a join.
 ghost use Rattle.std.specs.Prelude.{◌≡◌, ◌≤◌, ◌++◌, List, ℕ, [], ◌∷◌, length, map, drop, string_bytes, None, is_some, IfOk, IfErr, IfSome, OnOk, OnErr};
-ghost use Rattle.outside.specs.Files.{IsThere, Holds};
+ghost use Rattle.outside.specs.Files.{IsThere, Holds, is_told, OnlyTouches};
 ghost use Rattle.outside.specs.Counts.{NoneFell};
 ghost use Rattle.std.specs.List.{concat};
 ghost use Rattle.outside.specs.Pass.{Appends, AppendsPrefix, HasPassCause};
@@ -132,7 +132,7 @@ pub(crate) fn write_joined<D: Folder>(
         → D.files folder.new ≡ holding (D.files folder.old) output.now
         (joined_file (told_parts (D.files folder.old) (map string_bytes inputs.now)
         (map tells surveys.now)))) }
-    ensures told { is_some (D.files folder.new) ≡ is_some (D.files folder.old) }
+    ensures touches { OnlyTouches (output.now ∷ []) (D.files folder.old) (D.files folder.new) }
     ensures done { OnOk result (D.counts folder.new ≡ D.counts folder.old) }
     ensures left { IfErr result (IsPassFault (λ _. joined_file (told_parts (D.files folder.old)
         (map string_bytes inputs.now) (map tells surveys.now)))

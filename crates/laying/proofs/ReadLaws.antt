@@ -6,7 +6,7 @@ use Rattle.std.proofs.lemmas.Bool.Decides.{eqb_tells}
 use Rattle.std.proofs.lemmas.List.{length-replicate, length-take-le, take-append-drop, take-append-le, drop-append-le}
 use Rattle.std.proofs.Math.Seq.{drop-append-add}
 use Rattle.std.proofs.lemmas.List.Sums.{sum_by-cons}
-use Rattle.outside.specs.Files.{Files, Holds, IsThere}
+use Rattle.outside.specs.Files.{Files, Holds, IsThere, Told, Untold}
 use Rattle.outside.proofs.FilesLaws.{there_holds}
 use Rattle.bit_fields.specs.Bits.{bits, bytes, AreBits, AreBytes}
 use Rattle.bit_fields.proofs.BitsLaws.{length-bits, bits-append, bits-injective, AreBits-take, AreBits-drop, AreBits-bits}
@@ -254,7 +254,7 @@ last-whole window input files s first i there (inl none) over =
     none_of : (l : List ℕ) → length l ≡ 0 → l ≡ []
     none_of [] e = refl
     none_of (x ∷ xs) e = absurd (omega (arith, e))
-last-whole window input None s first i there (inr far) over =
+last-whole window input (Untold touched) s first i there (inr far) over =
     let skipped : List ℕ = replicate (skipped_before s first) 0 in
     record {
       main = skipped ++ over.main;
@@ -262,7 +262,7 @@ last-whole window input None s first i there (inr far) over =
       long = length-append skipped over.main ∙ ap (λ n. n + length over.main) (length-replicate (skipped_before s first) 0) ∙ over.long;
       is = λ file holds. absurd holds;
     }
-last-whole window input (Some f) s first i there (inr far) over =
+last-whole window input (Told f) s first i there (inr far) over =
     let held = there_holds f input there in
     let own = over.is held.0 held.1 in
     record {

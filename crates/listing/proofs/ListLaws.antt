@@ -1,9 +1,9 @@
 -- What the list command leaves, by the survey of its input.
 use Rattle.std.proofs.Common.{◌≡◌, ℕ, ◌+◌, ◌≤◌, List, [], length, Some, None, Result, Ok, Err, refl, sym, ◌∙◌, ap, ap₂, subst, inl, arith}
 use Rattle.std.specs.Prelude.{IfSome, is_some}
-use Rattle.outside.specs.Files.{Contents, Files, Holds, IsThere, IsMissing}
+use Rattle.outside.specs.Files.{Contents, Files, Holds, IsThere, IsMissing, Told, Untold, IfTold, OnlyTouches}
 use Rattle.outside.specs.Counts.{Counts}
-use Rattle.outside.proofs.FilesLaws.{there_holds}
+use Rattle.outside.proofs.FilesLaws.{there_holds, touches_none}
 use Rattle.sync_survey.specs.declared.survey_fault.SurveyFault.{SurveyFault}
 use Rattle.sync_survey.specs.declared.survey_fault.SurveyFault.TheVariants.{Absent}
 use Rattle.sync_survey.specs.Faults.{SurveyFields, surveyed, longest_file, IsWellFormed}
@@ -25,15 +25,15 @@ use Rattle.sync_survey.proofs.SurveyedFiles.{survey_of-parts}
 
 module _ (input : List ℕ) where
   gives_absent : (files : Files) → IsMissing files input → Gives (list_command input) files (Err (Input 0 Absent))
-  gives_absent None missing = tt
-  gives_absent (Some f) missing = ap listed_where missing
+  gives_absent (Untold touched) missing = tt
+  gives_absent (Told f) missing = ap listed_where missing
 
   gives_survey : (f : Contents) (bytes : List ℕ) (r : Result SurveyFields SurveyFault) → f input ≡ Some bytes → survey_of bytes most_frames ≡ r → (list_command input).makes f ≡ listed_by r
   gives_survey f bytes r holds is = ap listed_where holds ∙ ap listed_by is
 
   gives_bytes : (files : Files) (r : Result SurveyFields SurveyFault) → IsThere files input → ((bytes : List ℕ) → Holds files input bytes → survey_of bytes most_frames ≡ r) → Gives (list_command input) files (listed_by r)
-  gives_bytes None r there is = tt
-  gives_bytes (Some f) r there is = let held = there_holds f input there in gives_survey f held.0 r held.1 (is held.0 held.1)
+  gives_bytes (Untold touched) r there is = tt
+  gives_bytes (Told f) r there is = let held = there_holds f input there in gives_survey f held.0 r held.1 (is held.0 held.1)
 
   -- ---- a fault of the survey
 
@@ -41,9 +41,9 @@ module _ (input : List ℕ) where
   survey_takes (Ok s) of = tt
   survey_takes (Err fault) of = of_bytes_behind fault (of fault refl)
 
-  takes_memory : (files : Files) → IsThere files input → ((bytes : List ℕ) → Holds files input bytes → length bytes ≤ longest_file) → IfSome files (λ f. TakesMemory ((list_command input).makes f))
-  takes_memory None there few = tt
-  takes_memory (Some f) there few =
+  takes_memory : (files : Files) → IsThere files input → ((bytes : List ℕ) → Holds files input bytes → length bytes ≤ longest_file) → IfTold files (λ f. TakesMemory ((list_command input).makes f))
+  takes_memory (Untold touched) there few = tt
+  takes_memory (Told f) there few =
       let held = there_holds f input there in
       subst TakesMemory (sym (gives_survey f held.0 (surveyed held.0 most_frames) held.1 (survey_of-short held.0 most_frames (few held.0 held.1)))) (survey_takes (surveyed held.0 most_frames) (surveyed_of_bytes held.0 most_frames))
 
@@ -52,7 +52,7 @@ module _ (input : List ℕ) where
     survey_left_by Rejected h = record { defined = subst (λ e. Gives (list_command input) old.files (Err e)) (sym h.1) (gives_bytes old.files (Err h.0) h.2.there h.2.bytes); stays = h.2.stays }
     survey_left_by Missing h = record { defined = subst (λ e. Gives (list_command input) old.files (Err e)) (sym h.0) (gives_absent old.files h.1); rose = h.2; files = h.3 }
     survey_left_by Unread h = record { rose = h.rose; files = inl h.files }
-    survey_left_by Shorter h = record { rose = h.rose; counts = h.counts; before = h.untold_before; after = h.untold_after }
+    survey_left_by Shorter h = record { rose = h.rose; counts = h.counts; untold = h.untold; touches = subst (λ files. OnlyTouches [] old.files files) (sym h.files) (touches_none [] old.files) }
     survey_left_by NoMemory h = record { names = refl; takes = takes_memory old.files h.there h.few; stays = h.stays }
     survey_left_by _ h = absurd h
 
@@ -70,11 +70,11 @@ module _ (input : List ℕ) where
     gives = gives_bytes files (Ok s) there is
 
     pub is_done : IsDone (list_command input) (seen files counts) (seen new after)
-    is_done = record { made = at files same gives; told = ap is_some same; counts = done }
+    is_done = record { made = at files same gives; touches = subst (λ fs. OnlyTouches [] files fs) (sym same) (touches_none [] files); counts = done }
       where
-        at : (fs : Files) → new ≡ fs → Gives (list_command input) fs (Ok made_of) → IfSome fs (λ f. (made : Made) × ((list_command input).makes f ≡ Ok made) × (new ≡ Some (written made.outputs f)))
-        at None e g = tt
-        at (Some f) e g = (made_of, g, e)
+        at : (fs : Files) → new ≡ fs → Gives (list_command input) fs (Ok made_of) → IfTold fs (λ f. (made : Made) × ((list_command input).makes f ≡ Ok made) × (new ≡ Told (written made.outputs f)))
+        at (Untold touched) e g = tt
+        at (Told f) e g = (made_of, g, e)
 
     -- and nothing is refused where a write to standard output failed
     pub unsent : Leaves (list_command input) (seen files counts) (seen new after) NotSent
@@ -87,8 +87,8 @@ module _ (input : List ℕ) where
         none_written f bytes holds sound made e = subst (MakesStreams (list_command input) f) (made-same made_of made e) (record { sources = ((bytes, holds, sound), tt); streams = tt })
 
         at : (fs : Files) → IsThere fs input → ((bytes : List ℕ) → Holds fs input bytes → survey_of bytes most_frames ≡ Ok s) → HoldsStreams (list_command input) fs
-        at None there is = tt
-        at (Some f) there is =
+        at (Untold touched) there is = tt
+        at (Told f) there is =
             let held = there_holds f input there in
             let parts = survey_of-parts held.0 most_frames s (is held.0 held.1) in
             λ made e. none_written f held.0 held.1 (s, surveyed-allowed held.0 most_frames (length held.0 + 1) s (omega arith) parts.1) made (sym (gives_survey f held.0 (Ok s) held.1 (is held.0 held.1)) ∙ e)

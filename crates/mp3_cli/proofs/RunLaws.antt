@@ -1,10 +1,10 @@
 -- What `run` promises, from the answer of a command.
-use Rattle.std.proofs.Common.{◌≡◌, ◌≢◌, ◌↔◌, ◌⊎◌, ℕ, ◌≤◌, List, [], ◌∷◌, length, Option, Some, None, Result, Ok, Err, refl, sym, ◌∙◌, ap, subst, inl, inr, arith}
+use Rattle.std.proofs.Common.{◌≡◌, ◌≢◌, ◌↔◌, ◌⊎◌, ℕ, ◌≤◌, List, [], ◌∷◌, length, Option, Some, None, Result, Ok, Err, true, false, refl, sym, ◌∙◌, ap, subst, inl, inr, arith}
 use Rattle.std.proofs.Math.Seq.{take-nil}
 use Rattle.std.specs.Prelude.{IfSome, IfErr, IsErrOf, OnOk}
-use Rattle.outside.specs.Files.{Contents, Files, untold, Sent, sent_more}
+use Rattle.outside.specs.Files.{Contents, Files, Sent, sent_more, Told, Untold, IfTold, is_told, OnlyTouches}
 use Rattle.outside.specs.Counts.{Rose}
-use Rattle.outside.proofs.FilesLaws.{sent_nothing}
+use Rattle.outside.proofs.FilesLaws.{sent_nothing, touches_none}
 use Rattle.commands.specs.declared.fault.EditFault.{EditFault}
 use Rattle.commands.specs.declared.fault.EditFault.TheVariants.{EqualNames, Input, Sent as NotSent, Memory}
 use Rattle.commands.specs.Kinds.{InputKind, IsAbsent, kind_of, by_kind}
@@ -20,6 +20,7 @@ use Rattle.splitting.specs.Split.{piece_names, chosen_at, made_of as split_made,
 use Rattle.drill.specs.Drilled.{IsDrillFault}
 use Rattle.commands.specs.Said.{Heard, IsText, SaysAll, Says, fault_of}
 use Rattle.commands.specs.Left.{Why, Rejected, Missing, Unread, Shorter, Unwritten, Unsent, NoMemory, why_of, Seen, IsDone, IsRefused, TakesMemory, LeavesBy, Leaves, HasNumbers}
+use Rattle.commands.proofs.TouchLaws.{left_touched}
 use Rattle.job_words.specs.Asked.{Asked}
 use Rattle.job_words.specs.Words.{job_of}
 use Rattle.mp3_cli.specs.Texts.{status_by, bad_word_line, GotWhole, GotFront, GotLine}
@@ -82,6 +83,14 @@ module _ (command : Command) (old new : Seen) (out_old out_new err_old err_new :
   stays_by fault NoMemory is other left = left.stays
   stays_by fault _ is other left = absurd (other is)
 
+  -- no name but those of its outputs was touched
+  pub touched : OnlyTouches command.outputs old.files new.files
+  touched = at case_of
+    where
+      at : Case → OnlyTouches command.outputs old.files new.files
+      at (Done is e) = (all.done e).touches
+      at (Failed fault why e is w left) = left_touched command old new fault (subst (LeavesBy command old new fault) (sym w) left)
+
   pub quiet : status ≡ 0 → err_new.sent ≡ err_old.sent
   quiet zero_is = at case_of
     where
@@ -97,12 +106,12 @@ module _ (command : Command) (old new : Seen) (out_old out_new err_old err_new :
   nothing_by fault why e is other w = sent_none command old.files out_old out_new fault (λ unsent. other (is ∙ ap status_by (sym w ∙ unsent))) (says_here (Some fault) e)
 
   -- ---- over files that are told
-  module _ (f : Contents) (told : old.files ≡ Some f) where
+  module _ (f : Contents) (told : old.files ≡ Told f) where
     gives : (r : Result Made EditFault) → Gives command old.files r → command.makes f ≡ r
     gives r h = subst (λ files. Gives command files r) told h
 
-    made_here : all.fault ≡ None → (made : Made) × (command.makes f ≡ Ok made) × (new.files ≡ Some (written made.outputs f))
-    made_here e = subst (λ files. IfSome files (λ g. (made : Made) × (command.makes g ≡ Ok made) × (new.files ≡ Some (written made.outputs g)))) told (all.done e).made
+    made_here : all.fault ≡ None → (made : Made) × (command.makes f ≡ Ok made) × (new.files ≡ Told (written made.outputs f))
+    made_here e = subst (λ files. IfTold files (λ g. (made : Made) × (command.makes g ≡ Ok made) × (new.files ≡ Told (written made.outputs g)))) told (all.done e).made
 
     line_here : (o : Option EditFault) → all.fault ≡ o → GetsLine err_old err_new (line_of command o)
     line_here o e = subst (λ o. GetsLine err_old err_new (line_of command o)) e all.line
@@ -139,23 +148,25 @@ module _ (command : Command) (old new : Seen) (out_old out_new err_old err_new :
     not_made : (made : Made) (fault : EditFault) → command.makes f ≡ Ok made → command.makes f ≡ Err fault → ⊥
     not_made made fault ok err = cc
 
-    told_twice : old.files ≡ untold → ⊥
-    told_twice e = cc
+    told_twice : is_told old.files ≡ false → ⊥
+    told_twice e =
+        let both : true ≡ false = sym (ap is_told told) ∙ e in
+        absurd cc
 
     not_failed : (made : Made) (fault : EditFault) (why : Why) → command.makes f ≡ Ok made → (Rose old.counts.read_faults new.counts.read_faults → ⊥) → (Rose old.counts.write_faults new.counts.write_faults → ⊥) → (Rose out_old.faults out_new.faults → ⊥) → status ≢ 4
         → all.fault ≡ Some fault → why_of fault ≡ why → status ≡ status_by why → LeavesBy command old new fault why → ⊥
     not_failed made fault Unread ok reads writes sends found e w is left = reads left.rose
-    not_failed made fault Shorter ok reads writes sends found e w is left = told_twice left.before
+    not_failed made fault Shorter ok reads writes sends found e w is left = told_twice left.untold
     not_failed made fault (Unwritten k) ok reads writes sends found e w is left = writes left.rose
     not_failed made fault NoMemory ok reads writes sends found e w is left = found is
     not_failed made fault Unsent ok reads writes sends found e w is left = sends (sent_rose command old.files out_old out_new fault w (says_here (Some fault) e))
     not_failed made fault _ ok reads writes sends found e w is left = not_made made fault ok (gives (Err fault) left.defined)
 
     -- where it is done the files are those before with all that it makes
-    pub files_where_done : status ≡ 0 → (made : Made) × (command.makes f ≡ Ok made) × (new.files ≡ Some (written made.outputs f))
+    pub files_where_done : status ≡ 0 → (made : Made) × (command.makes f ≡ Ok made) × (new.files ≡ Told (written made.outputs f))
     files_where_done zero_is = at case_of
       where
-        at : Case → (made : Made) × (command.makes f ≡ Ok made) × (new.files ≡ Some (written made.outputs f))
+        at : Case → (made : Made) × (command.makes f ≡ Ok made) × (new.files ≡ Told (written made.outputs f))
         at (Done is e) = made_here e
         at (Failed fault why e is w left) = absurd (omega (arith, is, zero_is, (by_status why).0))
 
@@ -180,27 +191,27 @@ unfolding outcome
 outcome-words words f r is = ap (job_outcome f) is
 
 pub bad_word_defined : (words : List (List ℕ)) (old : Seen) (place : ℕ) (out err_old err_new : Heard) → job_of words ≡ Err place → GetsLine err_old err_new (bad_word_line place)
-    → IfSome old.files (λ f. IsOutcome (outcome words f) (world old out err_old) (world old out err_new) 2)
+    → IfTold old.files (λ f. IsOutcome (outcome words f) (world old out err_old) (world old out err_new) 2)
 bad_word_defined words old place out err_old err_new is line = at old.files refl
   where
-    at : (files : Files) → old.files ≡ files → IfSome files (λ f. IsOutcome (outcome words f) (world old out err_old) (world old out err_new) 2)
-    at None told = tt
-    at (Some f) told =
+    at : (files : Files) → old.files ≡ files → IfTold files (λ f. IsOutcome (outcome words f) (world old out err_old) (world old out err_new) 2)
+    at (Untold touched) told = tt
+    at (Told f) told =
         subst (λ o. IsOutcome o (world old out err_old) (world old out err_new) 2) (sym (outcome-words words f (Err place) is))
         (record { status_is = refl; files_are = told; text_is = sym (sent_nothing out.sent); line_is = line })
 
 module _ (words : List (List ℕ)) (asked : Asked) (is : job_of words ≡ Ok asked) (old new : Seen) (out_old out_new err_old err_new : Heard) (status : ℕ)
     (all : Answers (command_of asked) (world old out_old err_old) (world new out_new err_new) status) where
-  pub is_defined : status ≤ 2 → IfSome old.files (λ f. IsOutcome (outcome words f) (world old out_old err_old) (world new out_new err_new) status)
+  pub is_defined : status ≤ 2 → IfTold old.files (λ f. IsOutcome (outcome words f) (world old out_old err_old) (world new out_new err_new) status)
   is_defined low = at old.files refl
     where
-      at : (files : Files) → old.files ≡ files → IfSome files (λ f. IsOutcome (outcome words f) (world old out_old err_old) (world new out_new err_new) status)
-      at None told = tt
-      at (Some f) told =
+      at : (files : Files) → old.files ≡ files → IfTold files (λ f. IsOutcome (outcome words f) (world old out_old err_old) (world new out_new err_new) status)
+      at (Untold touched) told = tt
+      at (Told f) told =
           subst (λ o. IsOutcome o (world old out_old err_old) (world new out_new err_new) status) (sym (outcome-words words f (Ok asked) is))
           (as_defined (command_of asked) old new out_old out_new err_old err_new status all f told low)
 
-  pub is_accepted : (f : Contents) → old.files ≡ Some f → (Rose old.counts.read_faults new.counts.read_faults → ⊥) → (Rose old.counts.write_faults new.counts.write_faults → ⊥) → (Rose out_old.faults out_new.faults → ⊥)
+  pub is_accepted : (f : Contents) → old.files ≡ Told f → (Rose old.counts.read_faults new.counts.read_faults → ⊥) → (Rose old.counts.write_faults new.counts.write_faults → ⊥) → (Rose out_old.faults out_new.faults → ⊥)
       → status ≢ 4 → (status ≡ 0) ↔ IsLegal words f
   is_accepted f told reads writes sends found =
       let law = legal-by (Ok asked) f in (
@@ -293,27 +304,27 @@ module _ (prefix : List ℕ) where
 -- ---- a text that is said
 
 module _ (text : List ℕ) (some : Some text ≢ Some []) (now : Seen) where
-  text_made : IfSome now.files (λ f. (made : Made) × ((said_command text).makes f ≡ Ok made) × (now.files ≡ Some (written made.outputs f)))
+  text_made : IfTold now.files (λ f. (made : Made) × ((said_command text).makes f ≡ Ok made) × (now.files ≡ Told (written made.outputs f)))
   text_made = at now.files
     where
-      at : (files : Files) → IfSome files (λ f. (made : Made) × ((said_command text).makes f ≡ Ok made) × (files ≡ Some (written made.outputs f)))
-      at None = tt
-      at (Some f) = (record { outputs = []; text = text }, refl, refl)
+      at : (files : Files) → IfTold files (λ f. (made : Made) × ((said_command text).makes f ≡ Ok made) × (files ≡ Told (written made.outputs f)))
+      at (Untold touched) = tt
+      at (Told f) = (record { outputs = []; text = text }, refl, refl)
 
-  none_early : IfSome now.files (λ f. TakesMemory ((said_command text).makes f))
+  none_early : IfTold now.files (λ f. TakesMemory ((said_command text).makes f))
   none_early = at now.files
     where
-      at : (files : Files) → IfSome files (λ f. TakesMemory ((said_command text).makes f))
-      at None = tt
-      at (Some f) = tt
+      at : (files : Files) → IfTold files (λ f. TakesMemory ((said_command text).makes f))
+      at (Untold touched) = tt
+      at (Told f) = tt
 
   said_left : (fault : EditFault) → IsDrillFault fault → Leaves (said_command text) now now fault × HasNumbers (said_command text) fault
-  said_left NotSent is = (record { made = text_made; told = refl; counts = refl }, some)
+  said_left NotSent is = (record { made = text_made; touches = touches_none [] now.files; counts = refl }, some)
   said_left Memory is = (record { names = refl; takes = none_early; stays = refl }, tt)
   said_left _ is = absurd is
 
   pub said_ends : {T : Type 0} (r : Result T EditFault) (out_old out_new : Heard) → Says (said_command text) now.files out_old out_new (fault_of r) → IfErr r IsDrillFault → Ends (said_command text) now now out_old out_new (fault_of r)
-  said_ends (Ok x) out_old out_new says is = record { says = says; done = λ e. record { made = text_made; told = refl; counts = refl }; left = tt; numbers = tt; names = λ place e. absurd cc }
+  said_ends (Ok x) out_old out_new says is = record { says = says; done = λ e. record { made = text_made; touches = touches_none [] now.files; counts = refl }; left = tt; numbers = tt; names = λ place e. absurd cc }
   said_ends (Err fault) out_old out_new says is = record { says = says; done = λ e. absurd cc; left = (said_left fault is).0; numbers = (said_left fault is).1; names = λ place e. absurd cc }
 
 -- a failed write is one of these faults

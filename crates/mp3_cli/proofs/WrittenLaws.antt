@@ -4,7 +4,7 @@ use Rattle.std.specs.Prelude.{IfSome, IfOk}
 use Rattle.std.specs.List.{range_with_len}
 use Rattle.std.proofs.Math.Seq.{drop-append_seam}
 use Rattle.std.proofs.lemmas.List.{length-map}
-use Rattle.outside.specs.Files.{Contents, Files, with_file}
+use Rattle.outside.specs.Files.{Contents, Files, with_file, Told, Untold, IfTold}
 use Rattle.outside.proofs.FilesLaws.{with_file_here, with_file_other}
 use Rattle.frame_header.specs.Fields.{ClassFields}
 use Rattle.cue_sheet.specs.declared.place.Place.{Place}
@@ -176,10 +176,10 @@ there (Salvage input output) f made sound e holds = record {
 pub written-streams : (words : List (List ℕ)) (asked : Asked) (is : job_of words ≡ Ok asked) (sound : IsSound asked) (old new : Seen) (out_old out_new err_old err_new : Heard) (status : ℕ)
     (all : Answers (command_of asked) (world old out_old err_old) (world new out_new err_new) status) → (status ≡ 0 → HoldsStreams (command_of asked) old.files) → status ≡ 0 → HoldsAllStreams words old.files new.files
 written-streams words asked is sound old new out_old out_new err_old err_new status all holds zero_is =
-    subst (λ (r : Result Asked ℕ). IfOk r (λ a. IfSome old.files (λ f. IfSome new.files (λ g. HoldsWritten (command_of a) f g)))) (sym is) (at old.files refl (holds zero_is))
+    subst (λ (r : Result Asked ℕ). IfOk r (λ a. IfTold old.files (λ f. IfTold new.files (λ g. HoldsWritten (command_of a) f g)))) (sym is) (at old.files refl (holds zero_is))
   where
-    at : (files : Files) → old.files ≡ files → HoldsStreams (command_of asked) files → IfSome files (λ f. IfSome new.files (λ g. HoldsWritten (command_of asked) f g))
-    at None told held = tt
-    at (Some f) told held =
+    at : (files : Files) → old.files ≡ files → HoldsStreams (command_of asked) files → IfTold files (λ f. IfTold new.files (λ g. HoldsWritten (command_of asked) f g))
+    at (Untold touched) told held = tt
+    at (Told f) told held =
         let done = files_where_done (command_of asked) old new out_old out_new err_old err_new status all f told zero_is in
-        subst (λ (files : Files). IfSome files (λ g. HoldsWritten (command_of asked) f g)) (sym done.2) (there asked f done.0 sound done.1 (held done.0 done.1))
+        subst (λ (files : Files). IfTold files (λ g. HoldsWritten (command_of asked) f g)) (sym done.2) (there asked f done.0 sound done.1 (held done.0 done.1))

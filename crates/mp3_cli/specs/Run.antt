@@ -1,6 +1,6 @@
 -- What the program does, from its words and the files that are there.
 use Rattle.std.specs.Prelude.{◌≡◌, ◌↔◌, ℕ, List, [], ◌∷◌, Option, Some, None, Result, Ok, Err, IfOk, IfSome, false}
-use Rattle.outside.specs.Files.{Contents, Files, sent_more}
+use Rattle.outside.specs.Files.{Contents, Files, sent_more, Told, IfTold}
 use Rattle.commands.specs.declared.fault.EditFault.{EditFault}
 use Rattle.commands.specs.declared.fault.EditFault.TheVariants.{EqualNames}
 use Rattle.commands.specs.Command.{Made, Command, clash_of, written, AreSound}
@@ -111,6 +111,11 @@ abbrev pub AnswersWords : World → World → ℕ → Result Asked ℕ → Type 
 AnswersWords old new status (Ok asked) = Answers (command_of asked) old new status
 AnswersWords old new status (Err place) = AnswersBadWord place old new status
 
+-- the names of the files that the words ask to write; those of a split are the 99 that it may write
+abbrev pub outputs_asked : Result Asked ℕ → List (List ℕ)
+outputs_asked (Ok asked) = (command_of asked).outputs
+outputs_asked (Err place) = []
+
 -- the text that the words ask for whatever the files are, where there is one
 abbrev pub always_of : Result Asked ℕ → Option (List ℕ)
 always_of (Ok asked) = (command_of asked).always
@@ -144,7 +149,7 @@ outcome words files = job_outcome files (job_of words)
 -- write failed there
 pub record IsOutcome (o : Outcome) (old new : World) (status : ℕ) : Type 0 where
   pub status_is : status ≡ o.status
-  pub files_are : new.folder.files ≡ Some o.files
+  pub files_are : new.folder.files ≡ Told o.files
   pub text_is : new.out.sent ≡ sent_more old.out.sent o.text
   pub line_is : GetsLine old.err new.err o.line
 
@@ -186,4 +191,4 @@ pub record HoldsWritten (command : Command) (old new : Contents) : Type 0 where
 
 -- so it is of what the words ask for, where the files before and after are told
 abbrev pub HoldsAllStreams : List (List ℕ) → Files → Files → Type 0
-HoldsAllStreams words old new = IfOk (job_of words) (λ asked. IfSome old (λ before. IfSome new (λ after. HoldsWritten (command_of asked) before after)))
+HoldsAllStreams words old new = IfOk (job_of words) (λ asked. IfTold old (λ before. IfTold new (λ after. HoldsWritten (command_of asked) before after)))

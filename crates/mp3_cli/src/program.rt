@@ -1,6 +1,6 @@
 //! All that the program does.
 ghost use Rattle.std.specs.Prelude.{◌≡◌, ◌≢◌, ◌↔◌, ◌≤◌, ℕ, [], ◌∷◌, Some, Ok, map, string_bytes, IfSome, OnOk, IsErr};
-ghost use Rattle.outside.specs.Files.{Contents, sent_more};
+ghost use Rattle.outside.specs.Files.{Contents, sent_more, IfTold, Told, OnlyTouches};
 ghost use Rattle.outside.specs.Counts.{Rose, NoneFell};
 ghost use Rattle.commands.specs.Command.{HoldsStreams};
 ghost use Rattle.commands.specs.Left.{seen};
@@ -9,7 +9,7 @@ ghost use Rattle.job_words.specs.Words.{job_of, IsSound};
 ghost use Rattle.job_words.specs.Code.{asked};
 ghost use Rattle.mp3_cli.specs.Names.{names_in};
 ghost use Rattle.mp3_cli.specs.Texts.{GotLine};
-ghost use Rattle.mp3_cli.specs.Run.{command_of, always_of, fault_status, result_line, world, Ends, Answers, AnswersWords, outcome, IsOutcome, IsLegal, HoldsAllStreams};
+ghost use Rattle.mp3_cli.specs.Run.{command_of, always_of, fault_status, result_line, world, Ends, Answers, AnswersWords, outcome, IsOutcome, IsLegal, HoldsAllStreams, outputs_asked};
 
 use crate::job_names::{inputs_of, outputs_of};
 use crate::output_names::Outputs;
@@ -158,7 +158,7 @@ pub fn run<D: Folder, T: Sink, E: Sink>(
         result (job_of (map string_bytes words.now)) }
 
     // With status 0, 1 or 2 all is as defined, whether or not a call failed.
-    ensures defined { result ≤ 2 → IfSome (D.files folder.old) (λ files.
+    ensures defined { result ≤ 2 → IfTold (D.files folder.old) (λ files.
         IsOutcome (outcome (map string_bytes words.now) files)
         (world (seen (D.files folder.old) (D.counts folder.old))
         (heard (T.sent out.old) (T.faults out.old)) (heard (E.sent err.old) (E.faults err.old)))
@@ -168,7 +168,7 @@ pub fn run<D: Folder, T: Sink, E: Sink>(
 
     // Where no call of the folder failed, nor a write to `out`, and memory was found, exactly what is legal is done: the words ask for a
     // command, no input is an output, each input is there, no longer than allowed and well-formed, and the choices are legal.
-    ensures accepted { (files : Contents) → D.files folder.old ≡ Some files
+    ensures accepted { (files : Contents) → D.files folder.old ≡ Told files
         → (Rose (D.counts folder.old).read_faults (D.counts folder.new).read_faults → ⊥)
         → (Rose (D.counts folder.old).write_faults (D.counts folder.new).write_faults → ⊥)
         → (Rose (T.faults out.old) (T.faults out.new) → ⊥) → result ≢ 4
@@ -178,7 +178,11 @@ pub fn run<D: Folder, T: Sink, E: Sink>(
     ensures streams { result ≡ 0 → HoldsAllStreams (map string_bytes words.now)
         (D.files folder.old) (D.files folder.new) }
 
-    // A refusal and want of memory leave the files.
+    // Over every folder, told or not, no name but those of the outputs was touched: created, or written to.
+    ensures touches { OnlyTouches (outputs_asked (job_of (map string_bytes words.now)))
+        (D.files folder.old) (D.files folder.new) }
+
+    // A refusal and want of memory leave the files, and touch no name.
     ensures kept { result ≢ 0 → result ≢ 3 → D.files folder.new ≡ D.files folder.old }
 
     // No other status hides an absent input, a failed call of the folder or a file that became shorter.

@@ -1,2 +1,3 @@
 pub mod Real
 pub mod Opening
+pub mod Names

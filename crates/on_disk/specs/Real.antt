@@ -7,9 +7,15 @@ use Rattle.on_disk.specs.declared.disk.DiskFolder.{DiskFolder}
 use Rattle.on_disk.specs.declared.disk.Opened.{Opened}
 use Rattle.on_disk.specs.declared.stream.StdSink.{StdSink}
 use Rattle.outside.specs.Counts.{Counts}
+use Rattle.outside.specs.Files.{Files, Untold}
+use Rattle.on_disk.specs.Names.{touched_in}
 
 abbrev pub disk_counts : {R File Dir : Type 0} → DiskFolder R File Dir → Counts
 disk_counts folder = folder.tally
+
+-- nothing is told of real files but which names may have been touched
+abbrev pub disk_files : {R File Dir : Type 0} → DiskFolder R File Dir → Files
+disk_files folder = Untold (touched_in folder.touched)
 
 -- the name that an open file was opened by
 abbrev pub open_name : {File : Type 0} → Option (Opened File) → Option (List ℕ)

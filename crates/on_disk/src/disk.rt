@@ -4,11 +4,12 @@ ghost use Rattle.std.specs.List.{list_any};
 ghost use Rattle.std.specs.Fs.{new_options};
 ghost use Rattle.std.specs.Io.KnownBytes.{Appends, Keeps, WriteAppends};
 ghost use Rattle.on_disk.specs.Real.{open_name, TellsBytes, ReadsOn};
-ghost use Rattle.outside.specs.Files.{untold, emptied, appended, Holds, IsThere, IsMissing, AreOctets};
+ghost use Rattle.outside.specs.Files.{emptied, appended, FailsToCreate, Holds, IsThere, IsMissing, AreOctets};
 ghost use Rattle.outside.specs.Counts.{none_counted, with_miss, with_end, with_read_fault, with_write_fault, OnlyReads, OnlyWrites, NothingFailed, Rose};
 
 use crate::noted::{FileId, Noted, Opening, opening_of};
 use crate::reading::{length_of, read_part};
+use crate::touched::Touched;
 use crate::writing::write_some;
 use outside::{Failed, FindFault, Folder, Tally};
 use std::alloc::Global;
@@ -69,20 +70,22 @@ fn is_open<F>(opened: &Option<Opened<F>>, name: &str) -> bool
 /// is still to be read. (A runtime that gives all files one device and inode has every `create` fail that
 /// follows a `find`.)
 ///
-/// It keeps two files open, the one last found or read and the one last created, and opens others again. A
-/// growth of memory that is refused counts as a fault of the call.
+/// It keeps two files open, the one last found or read and the one last created, and opens others again. It also keeps the
+/// names that it was asked to create, which contracts see, and writes to no others. A growth of memory that is refused
+/// counts as a fault of the call.
 #[derive(Drop)]
 pub struct DiskFolder<'a, R: Files> {
     rt: &'a R,
     alloc: Global,
     tally: Tally,
+    touched: Touched,
     noted: Noted,
     found: Option<Opened<R::File>>,
     created: Option<Opened<R::File>>,
 }
 
 impl<'a, R: Files> DiskFolder<'a, R> {
-    ghost use Rattle.on_disk.specs.Real.{disk_counts, found_name, found_file, created_name, created_bytes, EndsAt, HasOpen};
+    ghost use Rattle.on_disk.specs.Real.{disk_counts, disk_files, found_name, found_file, created_name, created_bytes, EndsAt, HasOpen};
 
     /// A folder with all counts 0. It takes no memory.
     pub fn new(rt: &'a R, alloc: Global) -> Self
@@ -92,6 +95,7 @@ impl<'a, R: Files> DiskFolder<'a, R> {
             rt,
             alloc,
             tally: Tally::new(),
+            touched: Touched::new(alloc),
             noted: Noted::new(),
             found: None,
             created: None,
@@ -101,6 +105,7 @@ impl<'a, R: Files> DiskFolder<'a, R> {
     // Opens a regular file, notes it, keeps it open and gives its length.
     fn locate(&mut self, name: &str) -> Result<u64, FindFault>
         ensures tally { disk_counts self.new ≡ disk_counts self.old }
+        ensures touched { self.new.touched ≡ self.old.touched }
         ensures opened { OnOk result (found_name self.new ≡ Some name.now) }
         ensures length { IfOk result (λ n. IfSome (found_file self.new)
             (λ file. EndsAt R.File.stream_position R.File.stream_bytes file n)) }
@@ -116,6 +121,7 @@ impl<'a, R: Files> DiskFolder<'a, R> {
     // Notes a file that was found, and keeps it open for reading.
     fn keep(&mut self, name: String, file: R::File, id: FileId) -> Result<(), FindFault>
         ensures tally { disk_counts self.new ≡ disk_counts self.old }
+        ensures touched { self.new.touched ≡ self.old.touched }
         ensures opened { OnOk result (self.new.found ≡ Some (record { name = name; file = file })) }
         ensures noted { OnOk result (IsTrue
             (list_any (λ found. ⟦<FileId as PartialEq>⟧.eq found id) self.new.noted.files.items)) }
@@ -131,6 +137,7 @@ impl<'a, R: Files> DiskFolder<'a, R> {
     // Makes the file of this name the one that is kept open for reading.
     fn open_to_read(&mut self, name: &str) -> Result<(), FindFault>
         ensures tally { disk_counts self.new ≡ disk_counts self.old }
+        ensures touched { self.new.touched ≡ self.old.touched }
         ensures opened { OnOk result (found_name self.new ≡ Some name.now) }
         ensures same { found_name self.old ≡ Some name.now → self.new.found ≡ self.old.found }
         ensures created { self.new.created ≡ self.old.created }
@@ -149,6 +156,7 @@ impl<'a, R: Files> DiskFolder<'a, R> {
         ensures bound { IfOk result (λ k. k ≤ length into.old) }
         ensures rest { IfOk result (λ k. drop k into.new ≡ drop k into.old) }
         ensures tally { disk_counts self.new ≡ disk_counts self.old }
+        ensures touched { self.new.touched ≡ self.old.touched }
         ensures opened { OnOk result (found_name self.new ≡ Some name.now) }
         ensures whole { (xs : List ℕ) → HasOpen R.File.stream_position R.File.stream_bytes self.old
             name.now xs → IfOk result (λ k. k ≡ min (length into.old) (length xs - at)) }
@@ -168,6 +176,7 @@ impl<'a, R: Files> DiskFolder<'a, R> {
     // left as it is: some file systems write a file that was cut off to the disk when it is closed.
     fn make_empty(&mut self, name: &str) -> Result<(), Failed>
         ensures tally { disk_counts self.new ≡ disk_counts self.old }
+        ensures touched { self.new.touched ≡ self.old.touched }
         ensures opened { OnOk result (created_name self.new ≡ Some name.now) }
         ensures found { self.new.found ≡ self.old.found }
         ensures noted { self.new.noted ≡ self.old.noted }
@@ -189,6 +198,7 @@ impl<'a, R: Files> DiskFolder<'a, R> {
         ensures bound { IfOk result (λ k. k ≤ length bytes.now) }
         ensures some { IfOk result (λ k. 0 < length bytes.now → 0 < k) }
         ensures tally { disk_counts self.new ≡ disk_counts self.old }
+        ensures touched { self.new.touched ≡ self.old.touched }
         ensures appended { created_name self.old ≡ Some name.now
             → IfOk result (λ k. Appends (created_bytes R.File.contents self.old)
             (created_bytes R.File.contents self.new) (take k bytes.now)) }
@@ -241,9 +251,9 @@ fn open_regular<R: Files>(rt: &R, name: &str) -> Result<(R::File, FileId), FindF
 }
 
 impl<'a, R: Files> Folder for DiskFolder<'a, R> {
-    ghost use Rattle.on_disk.specs.Real.{disk_counts, found_name, found_file, created_name, created_bytes, EndsAt, HasOpen};
+    ghost use Rattle.on_disk.specs.Real.{disk_counts, disk_files, found_name, found_file, created_name, created_bytes, EndsAt, HasOpen};
 
-    ghost files = { λ _. untold };
+    ghost files = { λ folder. disk_files folder };
 
     ghost counts = { λ folder. disk_counts folder };
 
@@ -254,17 +264,17 @@ impl<'a, R: Files> Folder for DiskFolder<'a, R> {
     /// isn't a regular file, as a directory or a pipe, is a fault, and nothing blocks on it. So is a
     /// file that this folder finds after 65 others.
     fn find(&mut self, name: &str) -> Result<u64, FindFault>
-        ensures found { IfOk result (λ n. (bytes : List ℕ) → Holds untold name.now bytes
+        ensures found { IfOk result (λ n. (bytes : List ℕ) → Holds (disk_files self.old) name.now bytes
             → n ≡ length bytes) }
-        ensures there { OnOk result (IsThere untold name.now) }
-        ensures octets { OnOk result ((bytes : List ℕ) → Holds untold name.now bytes
+        ensures there { OnOk result (IsThere (disk_files self.old) name.now) }
+        ensures octets { OnOk result ((bytes : List ℕ) → Holds (disk_files self.old) name.now bytes
             → AreOctets bytes) }
-        ensures missing { IsErrOf result FindFault.Absent → IsMissing untold name.now }
+        ensures missing { IsErrOf result FindFault.Absent → IsMissing (disk_files self.old) name.now }
         ensures absent { IsErrOf result FindFault.Absent
             → Rose (disk_counts self.old).misses (disk_counts self.new).misses }
         ensures failed { IsErrOf result FindFault.Failed
             → Rose (disk_counts self.old).read_faults (disk_counts self.new).read_faults }
-        ensures files { untold ≡ untold }
+        ensures files { disk_files self.new ≡ disk_files self.old }
         ensures ends { (disk_counts self.new).ends ≡ (disk_counts self.old).ends }
         ensures done { OnOk result (disk_counts self.new ≡ disk_counts self.old) }
         ensures counts { OnlyReads (disk_counts self.old) (disk_counts self.new) }
@@ -297,18 +307,18 @@ impl<'a, R: Files> Folder for DiskFolder<'a, R> {
     /// Where the system gives an error, and where the file is cut short while it is read.
     fn read(&mut self, name: &str, at: u64, into: &mut [u8]) -> Result<usize, Failed>
         ensures bound { IfOk result (λ k. k ≤ length into.old) }
-        ensures bytes { IfOk result (λ k. (bytes : List ℕ) → Holds untold name.now bytes
+        ensures bytes { IfOk result (λ k. (bytes : List ℕ) → Holds (disk_files self.old) name.now bytes
             → take k into.new ≡ take k (drop at bytes)) }
         ensures rest { IfOk result (λ k. drop k into.new ≡ drop k into.old) }
-        ensures end { IfOk result (λ k. (bytes : List ℕ) → Holds untold name.now bytes → k ≡ 0
+        ensures end { IfOk result (λ k. (bytes : List ℕ) → Holds (disk_files self.old) name.now bytes → k ≡ 0
             → (length into.old ≡ 0) ⊎ (length bytes ≤ at)) }
-        ensures within { IfOk result (λ k. (bytes : List ℕ) → Holds untold name.now bytes
+        ensures within { IfOk result (λ k. (bytes : List ℕ) → Holds (disk_files self.old) name.now bytes
             → k ≤ length bytes - at) }
         ensures ended { IfOk result (λ k. k ≡ 0 → 0 < length into.old
             → Rose (disk_counts self.old).ends (disk_counts self.new).ends) }
         ensures failed { OnErr result (Rose (disk_counts self.old).read_faults
             (disk_counts self.new).read_faults) }
-        ensures files { untold ≡ untold }
+        ensures files { disk_files self.new ≡ disk_files self.old }
         ensures got { IfOk result (λ k. (0 < k) ⊎ (length into.old ≡ 0)
             → disk_counts self.new ≡ disk_counts self.old) }
         ensures done { OnOk result (NothingFailed (disk_counts self.old) (disk_counts self.new)) }
@@ -341,8 +351,9 @@ impl<'a, R: Files> Folder for DiskFolder<'a, R> {
     /// this folder found is left as it is too, by whatever name, and the call fails.
     #[tactic(auto, unfolding(outside::specs::Files::emptied))]
     fn create(&mut self, name: &str) -> Result<(), Failed>
-        ensures created { OnOk result (untold ≡ emptied untold name.now) }
-        ensures kept { OnErr result (untold ≡ untold) }
+        ensures created { OnOk result (disk_files self.new ≡ emptied (disk_files self.old) name.now) }
+        ensures kept { OnErr result (FailsToCreate name.now (disk_files self.old)
+            (disk_files self.new)) }
         ensures failed { OnErr result (Rose (disk_counts self.old).write_faults
             (disk_counts self.new).write_faults) }
         ensures done { OnOk result (disk_counts self.new ≡ disk_counts self.old) }
@@ -353,23 +364,25 @@ impl<'a, R: Files> Folder for DiskFolder<'a, R> {
         ensures failed_counts { OnErr result
             (disk_counts self.new ≡ with_write_fault (disk_counts self.old)) }
     {
-        if self.make_empty(name).is_err() {
+        if self.touched.add(self.alloc, name).is_err() || self.make_empty(name).is_err() {
             self.tally.count_write_fault();
             return Err(Failed);
         }
         Ok(())
     }
 
-    /// Appends a front of the bytes to the file, which has to be there.
+    /// Appends a prefix of the bytes to the file, which has to be there.
     ///
     /// # Errors
-    /// Where the system gives an error, and where it takes no byte of a piece that has some.
+    /// Where no call was made to create the name, where the system gives an error, and where it takes no byte of a piece
+    /// that has some.
     #[tactic(auto, unfolding(outside::specs::Files::appended))]
     fn write(&mut self, name: &str, bytes: &[u8]) -> Result<usize, Failed>
         ensures bound { IfOk result (λ k. k ≤ length bytes.now) }
         ensures some { IfOk result (λ k. 0 < length bytes.now → 0 < k) }
-        ensures written { IfOk result (λ k. untold ≡ appended untold name.now (take k bytes.now)) }
-        ensures kept { OnErr result (untold ≡ untold) }
+        ensures written { IfOk result (λ k. disk_files self.new
+            ≡ appended (disk_files self.old) name.now (take k bytes.now)) }
+        ensures kept { OnErr result (disk_files self.new ≡ disk_files self.old) }
         ensures failed { OnErr result (Rose (disk_counts self.old).write_faults
             (disk_counts self.new).write_faults) }
         ensures done { OnOk result (disk_counts self.new ≡ disk_counts self.old) }
@@ -388,6 +401,10 @@ impl<'a, R: Files> Folder for DiskFolder<'a, R> {
         ensures failed_counts { OnErr result
             (disk_counts self.new ≡ with_write_fault (disk_counts self.old)) }
     {
+        if !self.touched.has(name) {
+            self.tally.count_write_fault();
+            return Err(Failed);
+        }
         let Ok(count) = self.append(name, bytes) else {
             self.tally.count_write_fault();
             return Err(Failed);

@@ -5,6 +5,7 @@ mod disk;
 mod noted;
 mod reading;
 mod stream;
+mod touched;
 mod writing;
 
 pub use disk::DiskFolder;

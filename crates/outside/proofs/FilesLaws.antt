@@ -1,12 +1,14 @@
 -- Laws of what a folder tells of its files, and of what a sink tells of its bytes.
-use Rattle.std.proofs.Common.{◌≡◌, ◌≢◌, ℕ, List, [], ◌++◌, length, take, refl, sym, ◌∙◌, ap, append_assoc, arith}
+use Rattle.std.proofs.Common.{inl, inr, ◌∷◌, ◌≡◌, ◌≢◌, ℕ, List, [], ◌++◌, length, take, refl, sym, ◌∙◌, ap, subst, append_assoc, arith}
 use Rattle.std.proofs.lemmas.Bool.{false_from_ne_true}
 use Rattle.std.proofs.lemmas.List.{append-nil, take_all}
+use Rattle.std.proofs.lemmas.List.Elements.{All-nil, All-cons, All-head, All-tail}
 use Rattle.std.proofs.lemmas.Map.{update_same, update_other, update-update}
 use Rattle.std.proofs.lemmas.Slice.Eq.{bytes_eq-Decides}
-use Rattle.std.specs.Prelude.{Bool, true, false, cond, Option, Some, None, unwrap_or, IsSome, is_some, bytes_eq}
+use Rattle.std.specs.Prelude.{Bool, true, false, cond, ◌||◌, ◌&&◌, ◌⊎◌, Option, Some, None, unwrap_or, IsSome, is_some, bytes_eq}
+use Rattle.std.specs.List.{All}
 use Rattle.std.specs.Map.{update}
-use Rattle.outside.specs.Files.{Contents, Files, Sent, untold, with_file, emptied, appended, sent_more, Holds, IsThere}
+use Rattle.outside.specs.Files.{Contents, Touched, Files, Told, Untold, Sent, is_told, with_file, with_touch, is_some_byte, emptied, appended, tried, FailsToCreate, OnlyTouches, sent_more, Holds, IsThere}
 
 -- the name of a file is equal to itself, and to no other
 pub bytes_eq_same : (name : List ℕ) → bytes_eq name name ≡ true
@@ -51,119 +53,228 @@ is_some_with_file f name bytes other there = at (bytes_eq name other)
     at true = refl
     at false = there
 
+-- ---- which names may have been touched
+
+-- that say the same of each name are one
+pub same_touched : (a b : Touched) → ((name : List ℕ) → a name ≡ b name) → a ≡ b
+same_touched a b same = λ i name. same name i
+
+-- touched twice is touched where it was either time
+pub touch_twice : (touched : Touched) (name : List ℕ) (first second both : Bool) → (first || second) ≡ both → with_touch (with_touch touched name first) name second ≡ with_touch touched name both
+touch_twice touched name first second both is = same_touched _ _ (λ other. at (touched other) first second both (bytes_eq name other) is)
+  where
+    at : (was first second both same : Bool) → (first || second) ≡ both → ((was || first && same) || second && same) ≡ (was || both && same)
+    at true first second both same is = refl
+    at false true second both true is = ap (λ b. b && true) is
+    at false true true both false is = ap (λ b. b && false) is
+    at false true false both false is = ap (λ b. b && false) is
+    at false false second both same is = ap (λ b. b && same) is
+
+untouched : (touched : Touched) (name : List ℕ) → with_touch touched name false ≡ touched
+untouched touched name = same_touched _ _ (λ other. at (touched other))
+  where
+    at : (was : Bool) → (was || false) ≡ was
+    at true = refl
+    at false = refl
+
+some_byte_joined : (xs ys : List ℕ) → (is_some_byte xs || is_some_byte ys) ≡ is_some_byte (xs ++ ys)
+some_byte_joined [] ys = refl
+some_byte_joined (x ∷ xs) ys = refl
+
+-- what touches a name leaves every other
+touch_other : (touched : Touched) (name : List ℕ) (is_so : Bool) (other : List ℕ) → other ≢ name → with_touch touched name is_so other ≡ touched other
+touch_other touched name is_so other apart = ap (λ same. touched other || is_so && same) (bytes_eq_other name other apart) ∙ at (touched other) is_so
+  where
+    at : (was is_so : Bool) → (was || is_so && false) ≡ was
+    at true is_so = refl
+    at false true = refl
+    at false false = refl
+
+-- ---- what is emptied and appended to
+
 -- appending twice is appending the two joined
 pub appended_twice : (files : Files) (name xs ys : List ℕ) → appended (appended files name xs) name ys ≡ appended files name (xs ++ ys)
 unfolding appended
-appended_twice None name xs ys = refl
-appended_twice (Some f) name xs ys =
-    ap Some
+appended_twice (Untold touched) name xs ys = ap Untold (touch_twice touched name _ _ _ (some_byte_joined xs ys))
+appended_twice (Told f) name xs ys =
+    ap Told
     (with_file_twice f name _ _
     ∙ ap (with_file f name) (ap (λ o. unwrap_or o [] ++ ys) (with_file_here f name _) ∙ append_assoc (unwrap_or (f name) []) xs ys))
 
 -- appending nothing to a file that is there changes nothing
 pub appended_nothing : (files : Files) (name : List ℕ) → IsThere files name → appended files name [] ≡ files
 unfolding appended
-appended_nothing None name there = refl
-appended_nothing (Some f) name there = ap Some (ap (with_file f name) (append-nil _) ∙ with_file_same f name _ (held (f name) there))
+appended_nothing (Untold touched) name there = ap Untold (untouched touched name)
+appended_nothing (Told f) name there = ap Told (ap (with_file f name) (append-nil _) ∙ with_file_same f name _ (held (f name) there))
   where
     held : (o : Option (List ℕ)) → IsSome o → o ≡ Some (unwrap_or o [])
     held None there = cc
     held (Some bytes) there = refl
 
 -- contents that are told, emptied and appended to
-pub emptied_is : (f new : Contents) (name : List ℕ) → new ≡ with_file f name [] → Some new ≡ emptied (Some f) name
+pub emptied_is : (f new : Contents) (name : List ℕ) → new ≡ with_file f name [] → Told new ≡ emptied (Told f) name
 unfolding emptied
-emptied_is f new name is = ap Some is
+emptied_is f new name is = ap Told is
 
-pub appended_is : (f new : Contents) (name bytes : List ℕ) → new ≡ with_file f name (unwrap_or (f name) [] ++ bytes) → Some new ≡ appended (Some f) name (take (length bytes) bytes)
+pub appended_is : (f new : Contents) (name bytes : List ℕ) → new ≡ with_file f name (unwrap_or (f name) [] ++ bytes) → Told new ≡ appended (Told f) name (take (length bytes) bytes)
 unfolding appended
-appended_is f new name bytes is = ap Some is ∙ ap (λ more. Some (with_file f name (unwrap_or (f name) [] ++ more))) (sym (take_all (length bytes) bytes (omega arith)))
+appended_is f new name bytes is = ap Told is ∙ ap (λ more. Told (with_file f name (unwrap_or (f name) [] ++ more))) (sym (take_all (length bytes) bytes (omega arith)))
 
 -- emptied and then appended to, the name holds exactly these bytes
-pub written_holds : (files : Files) (name bytes : List ℕ) → IsSome files → Holds (appended (emptied files name) name bytes) name bytes
+pub written_holds : (files : Files) (name bytes : List ℕ) → is_told files ≡ true → Holds (appended (emptied files name) name bytes) name bytes
 unfolding emptied appended
-written_holds None name bytes told = cc
-written_holds (Some f) name bytes told =
+written_holds (Untold touched) name bytes told = cc
+written_holds (Told f) name bytes told =
     with_file_here (with_file f name []) name _ ∙ ap (λ (o : Option (List ℕ)). Some (unwrap_or o [] ++ bytes)) (with_file_here f name [])
 
-pub emptied_holds : (files : Files) (name : List ℕ) → IsSome files → Holds (emptied files name) name []
+pub emptied_holds : (files : Files) (name : List ℕ) → is_told files ≡ true → Holds (emptied files name) name []
 unfolding emptied
-emptied_holds None name told = cc
-emptied_holds (Some f) name told = with_file_here f name []
+emptied_holds (Untold touched) name told = cc
+emptied_holds (Told f) name told = with_file_here f name []
 
 pub appended_holds : (files : Files) (name bytes more : List ℕ) → Holds files name bytes → Holds (appended files name more) name (bytes ++ more)
 unfolding appended
-appended_holds None name bytes more holds = holds
-appended_holds (Some f) name bytes more holds = with_file_here f name _ ∙ ap (λ (o : Option (List ℕ)). Some (unwrap_or o [] ++ more)) holds
+appended_holds (Untold touched) name bytes more holds = holds
+appended_holds (Told f) name bytes more holds = with_file_here f name _ ∙ ap (λ (o : Option (List ℕ)). Some (unwrap_or o [] ++ more)) holds
 
 -- every other name stays
 pub emptied_holds_other : (files : Files) (name other bytes : List ℕ) → other ≢ name → Holds files other bytes → Holds (emptied files name) other bytes
 unfolding emptied
-emptied_holds_other None name other bytes apart holds = holds
-emptied_holds_other (Some f) name other bytes apart holds = with_file_other f name [] other apart ∙ holds
+emptied_holds_other (Untold touched) name other bytes apart holds = holds
+emptied_holds_other (Told f) name other bytes apart holds = with_file_other f name [] other apart ∙ holds
 
 pub appended_holds_other : (files : Files) (name more other bytes : List ℕ) → other ≢ name → Holds files other bytes → Holds (appended files name more) other bytes
 unfolding appended
-appended_holds_other None name more other bytes apart holds = holds
-appended_holds_other (Some f) name more other bytes apart holds = with_file_other f name _ other apart ∙ holds
+appended_holds_other (Untold touched) name more other bytes apart holds = holds
+appended_holds_other (Told f) name more other bytes apart holds = with_file_other f name _ other apart ∙ holds
 
 -- and held already what it holds
 pub emptied_held_other : (files : Files) (name other bytes : List ℕ) → other ≢ name → Holds (emptied files name) other bytes → Holds files other bytes
 unfolding emptied
-emptied_held_other None name other bytes apart holds = holds
-emptied_held_other (Some f) name other bytes apart holds = sym (with_file_other f name [] other apart) ∙ holds
+emptied_held_other (Untold touched) name other bytes apart holds = holds
+emptied_held_other (Told f) name other bytes apart holds = sym (with_file_other f name [] other apart) ∙ holds
 
 pub appended_held_other : (files : Files) (name more other bytes : List ℕ) → other ≢ name → Holds (appended files name more) other bytes → Holds files other bytes
 unfolding appended
-appended_held_other None name more other bytes apart holds = holds
-appended_held_other (Some f) name more other bytes apart holds = sym (with_file_other f name _ other apart) ∙ holds
+appended_held_other (Untold touched) name more other bytes apart holds = holds
+appended_held_other (Told f) name more other bytes apart holds = sym (with_file_other f name _ other apart) ∙ holds
 
-pub emptied_other : (f : Contents) (name other : List ℕ) → other ≢ name → (g : Contents) × (emptied (Some f) name ≡ Some g) × (g other ≡ f other)
+pub emptied_other : (f : Contents) (name other : List ℕ) → other ≢ name → (g : Contents) × (emptied (Told f) name ≡ Told g) × (g other ≡ f other)
 unfolding emptied
 emptied_other f name other apart = (with_file f name [], refl, with_file_other f name [] other apart)
 
-pub appended_other : (f : Contents) (name more other : List ℕ) → other ≢ name → (g : Contents) × (appended (Some f) name more ≡ Some g) × (g other ≡ f other)
+pub appended_other : (f : Contents) (name more other : List ℕ) → other ≢ name → (g : Contents) × (appended (Told f) name more ≡ Told g) × (g other ≡ f other)
 unfolding appended
 appended_other f name more other apart = (with_file f name _, refl, with_file_other f name _ other apart)
 
 -- a name that was emptied or appended to is there, and no name goes
 pub emptied_there : (files : Files) (name : List ℕ) → IsThere (emptied files name) name
 unfolding emptied
-emptied_there None name = tt
-emptied_there (Some f) name = ap is_some (with_file_here f name [])
+emptied_there (Untold touched) name = tt
+emptied_there (Told f) name = ap is_some (with_file_here f name [])
 
 pub appended_there : (files : Files) (name more : List ℕ) → IsThere (appended files name more) name
 unfolding appended
-appended_there None name more = tt
-appended_there (Some f) name more = ap is_some (with_file_here f name _)
+appended_there (Untold touched) name more = tt
+appended_there (Told f) name more = ap is_some (with_file_here f name _)
 
 pub emptied_keeps : (files : Files) (name other : List ℕ) → IsThere files other → IsThere (emptied files name) other
 unfolding emptied
-emptied_keeps None name other there = tt
-emptied_keeps (Some f) name other there = is_some_with_file f name [] other there
+emptied_keeps (Untold touched) name other there = tt
+emptied_keeps (Told f) name other there = is_some_with_file f name [] other there
 
 pub appended_keeps : (files : Files) (name more other : List ℕ) → IsThere files other → IsThere (appended files name more) other
 unfolding appended
-appended_keeps None name more other there = tt
-appended_keeps (Some f) name more other there = is_some_with_file f name _ other there
+appended_keeps (Untold touched) name more other there = tt
+appended_keeps (Told f) name more other there = is_some_with_file f name _ other there
 
 -- whether files are told never changes
-pub emptied_told : (files : Files) (name : List ℕ) → is_some (emptied files name) ≡ is_some files
+pub emptied_told : (files : Files) (name : List ℕ) → is_told (emptied files name) ≡ is_told files
 unfolding emptied
-emptied_told None name = refl
-emptied_told (Some f) name = refl
+emptied_told (Untold touched) name = refl
+emptied_told (Told f) name = refl
 
-pub appended_told : (files : Files) (name more : List ℕ) → is_some (appended files name more) ≡ is_some files
+pub appended_told : (files : Files) (name more : List ℕ) → is_told (appended files name more) ≡ is_told files
 unfolding appended
-appended_told None name more = refl
-appended_told (Some f) name more = refl
+appended_told (Untold touched) name more = refl
+appended_told (Told f) name more = refl
+
+-- ---- which names stay
+
+All-split : {X : Type 0} (P : X → Type 0) (xs ys : List X) → All P (xs ++ ys) → All P xs × All P ys
+All-split P [] ys all = (All-nil P, all)
+All-split P (x ∷ xs) ys all = let rest = All-split P xs ys (All-tail P x (xs ++ ys) all) in (All-cons P x xs (All-head P x (xs ++ ys) all) rest.0, rest.1)
+
+pub touches_none : (names : List (List ℕ)) (files : Files) → OnlyTouches names files files
+touches_none names (Told f) = λ other apart. refl
+touches_none names (Untold touched) = λ other apart. refl
+
+pub touches_then : (names : List (List ℕ)) (a b c : Files) → OnlyTouches names a b → OnlyTouches names b c → OnlyTouches names a c
+touches_then names (Told f) (Told g) (Told h) first second = λ other apart. second other apart ∙ first other apart
+touches_then names (Untold f) (Untold g) (Untold h) first second = λ other apart. second other apart ∙ first other apart
+touches_then names (Told f) (Untold g) c first second = absurd first
+touches_then names (Untold f) (Told g) c first second = absurd first
+touches_then names (Told f) (Told g) (Untold h) first second = absurd second
+touches_then names (Untold f) (Untold g) (Told h) first second = absurd second
+
+-- also where more names may be touched
+pub touches_more : (few many : List (List ℕ)) (old new : Files) → ((other : List ℕ) → All (λ name. other ≢ name) many → All (λ name. other ≢ name) few) → OnlyTouches few old new → OnlyTouches many old new
+touches_more few many (Told f) (Told g) among only = λ other apart. only other (among other apart)
+touches_more few many (Untold f) (Untold g) among only = λ other apart. only other (among other apart)
+touches_more few many (Told f) (Untold g) among only = only
+touches_more few many (Untold f) (Told g) among only = only
+
+-- one after the other
+pub touches_both : (first second : List (List ℕ)) (a b c : Files) → OnlyTouches first a b → OnlyTouches second b c → OnlyTouches (first ++ second) a c
+touches_both first second a b c before after =
+    touches_then (first ++ second) a b c
+    (touches_more first (first ++ second) a b (λ other apart. (All-split (λ name. other ≢ name) first second apart).0) before)
+    (touches_more second (first ++ second) b c (λ other apart. (All-split (λ name. other ≢ name) first second apart).1) after)
+
+first_apart : (name other : List ℕ) → All (λ n. other ≢ n) (name ∷ []) → other ≢ name
+first_apart name other apart = All-head (λ n. other ≢ n) name [] apart
+
+pub emptied_touches : (files : Files) (name : List ℕ) → OnlyTouches (name ∷ []) files (emptied files name)
+unfolding emptied
+emptied_touches (Told f) name = λ other apart. with_file_other f name [] other (first_apart name other apart)
+emptied_touches (Untold touched) name = λ other apart. touch_other touched name true other (first_apart name other apart)
+
+pub appended_touches : (files : Files) (name more : List ℕ) → OnlyTouches (name ∷ []) files (appended files name more)
+unfolding appended
+appended_touches (Told f) name more = λ other apart. with_file_other f name _ other (first_apart name other apart)
+appended_touches (Untold touched) name more = λ other apart. touch_other touched name _ other (first_apart name other apart)
+
+tried_touches : (files : Files) (name : List ℕ) → OnlyTouches (name ∷ []) files (tried files name)
+unfolding tried
+tried_touches (Told f) name = λ other apart. refl
+tried_touches (Untold touched) name = λ other apart. touch_other touched name true other (first_apart name other apart)
+
+pub fails_touches : (old new : Files) (name : List ℕ) → FailsToCreate name old new → OnlyTouches (name ∷ []) old new
+fails_touches old new name (inl same) = subst (λ files. OnlyTouches (name ∷ []) old files) (sym same) (touches_none (name ∷ []) old)
+fails_touches old new name (inr touched) = subst (λ files. OnlyTouches (name ∷ []) old files) (sym touched) (tried_touches old name)
+
+-- a call to create a file that failed left told files
+pub fails_told : (f : Contents) (new : Files) (name : List ℕ) → FailsToCreate name (Told f) new → new ≡ Told f
+unfolding tried
+fails_told f new name (inl same) = same
+fails_told f new name (inr touched) = touched
+
+-- told files stay told
+pub touches_told : (names : List (List ℕ)) (old new : Files) → OnlyTouches names old new → is_told new ≡ is_told old
+touches_told names (Told f) (Told g) only = refl
+touches_told names (Untold f) (Untold g) only = refl
+touches_told names (Told f) (Untold g) only = absurd only
+touches_told names (Untold f) (Told g) only = absurd only
+
+-- ---- what is told
 
 -- a folder that tells nothing holds nothing
-pub untold_holds_none : (name bytes : List ℕ) → Holds None name bytes → ⊥
-untold_holds_none name bytes holds = holds
+pub untold_holds_none : (files : Files) (name bytes : List ℕ) → is_told files ≡ false → Holds files name bytes → ⊥
+untold_holds_none (Told f) name bytes told holds = absurd cc
+untold_holds_none (Untold touched) name bytes told holds = holds
 
 -- where files are told, what is there has bytes, and no two lists of them
-pub there_holds : (f : Contents) (name : List ℕ) → IsThere (Some f) name → (bytes : List ℕ) × Holds (Some f) name bytes
+pub there_holds : (f : Contents) (name : List ℕ) → IsThere (Told f) name → (bytes : List ℕ) × Holds (Told f) name bytes
 there_holds f name there = held (f name) there
   where
     held : (o : Option (List ℕ)) → IsSome o → (bytes : List ℕ) × (o ≡ Some bytes)
@@ -171,17 +282,17 @@ there_holds f name there = held (f name) there
     held (Some bytes) there = (bytes, refl)
 
 -- where no bytes can be those of a file that is there, nothing is told
-pub nothing_told : (files : Files) (name : List ℕ) → IsThere files name → ((bytes : List ℕ) → Holds files name bytes → ⊥) → files ≡ untold
-nothing_told None name there none = refl
-nothing_told (Some f) name there none = let held = there_holds f name there in absurd (none held.0 held.1)
+pub nothing_told : (files : Files) (name : List ℕ) → IsThere files name → ((bytes : List ℕ) → Holds files name bytes → ⊥) → is_told files ≡ false
+nothing_told (Untold touched) name there none = refl
+nothing_told (Told f) name there none = let held = there_holds f name there in absurd (none held.0 held.1)
 
 pub holds_there : (files : Files) (name bytes : List ℕ) → Holds files name bytes → IsThere files name
-holds_there None name bytes holds = tt
-holds_there (Some f) name bytes holds = ap is_some holds
+holds_there (Untold touched) name bytes holds = tt
+holds_there (Told f) name bytes holds = ap is_some holds
 
 pub holds_one : (files : Files) (name xs ys : List ℕ) → Holds files name xs → Holds files name ys → xs ≡ ys
-holds_one None name xs ys here there = absurd here
-holds_one (Some f) name xs ys here there = cc
+holds_one (Untold touched) name xs ys here there = absurd here
+holds_one (Told f) name xs ys here there = cc
 
 -- sending twice is sending the two joined
 pub sent_twice : (sent : Sent) (xs ys : List ℕ) → sent_more (sent_more sent xs) ys ≡ sent_more sent (xs ++ ys)

@@ -1,9 +1,9 @@
 -- Steps of a pass, one after the other.
 use Rattle.std.proofs.Common.{◌≡◌, ◌≢◌, ℕ, ◌+◌, ◌-◌, ◌≤◌, List, [], ◌++◌, length, take, drop, refl, sym, ◌∙◌, ap, subst, arith, append_assoc, append-nil, length-append}
-use Rattle.std.specs.Prelude.{Result, Ok, Err, Some, None, IfErr}
+use Rattle.std.specs.Prelude.{Result, Ok, Err, IfErr}
 use Rattle.std.proofs.lemmas.List.{take-append-le, length-take, drop-drop}
 use Rattle.std.proofs.Math.Seq.{take-append-add, take-add}
-use Rattle.outside.specs.Files.{Files, appended, Holds, IsThere}
+use Rattle.outside.specs.Files.{Files, is_told, appended, Holds, IsThere}
 use Rattle.outside.specs.Counts.{Counts}
 use Rattle.outside.specs.Feed.{Fed}
 use Rattle.outside.specs.Passed.{PassedOn, AppendedPrefix}
@@ -14,7 +14,7 @@ use Rattle.outside.specs.declared.pass.Pass.{Pass}
 use Rattle.outside.specs.declared.pass.PassFault.{PassFault}
 use Rattle.outside.specs.declared.pass.PassFault.TheVariants.{Read, Shrunk, Write}
 use Rattle.outside.specs.Pass.{IsReady, AreMade, bytes_between, Writes, AppendsPart, WritesPrefix, Appends, AppendsPrefix, of_read, HasPassCause}
-use Rattle.outside.proofs.FilesLaws.{appended_twice, appended_nothing, appended_holds_other, appended_held_other, appended_keeps}
+use Rattle.outside.proofs.FilesLaws.{appended_twice, appended_nothing, appended_holds_other, appended_held_other, appended_keeps, appended_told}
 use Rattle.outside.proofs.PassedLaws.{passed_more}
 
 -- The first of the bytes went on, and the rest of them are to follow.
@@ -260,17 +260,12 @@ pub read_cause : (size : ℕ) (files : Files) (before after : Counts) (fault : R
 read_cause size files before after Failed cause = cause
 read_cause size files before after (ShrunkRead first second) cause = cause
 
-appended_untold : (files : Files) (output more : List ℕ) → appended files output more ≡ None → files ≡ None
-unfolding appended
-appended_untold None output more is = refl
-appended_untold (Some f) output more is = absurd cc
-
 -- a cause after a step that succeeded
 pub cause_later : (size : ℕ) (old now : Files) (output more : List ℕ) (before mid after : Counts) (fault : PassFault) → now ≡ appended old output more → mid ≡ before
     → HasPassCause size now mid after fault → HasPassCause size old before after fault
 cause_later size old now output more before mid after Read grown same cause = subst (λ counts. HasPassCause size old counts after Read) same cause
 cause_later size old now output more before mid after (Shrunk first second) grown same cause =
-    subst (λ counts. HasPassCause size old counts after (Shrunk first second)) same (appended_untold old output more (sym grown ∙ cause.0), cause.1, cause.2, cause.3, cause.4, cause.5)
+    subst (λ counts. HasPassCause size old counts after (Shrunk first second)) same (sym (ap is_told grown ∙ appended_told old output more) ∙ cause.0, cause.1, cause.2, cause.3, cause.4, cause.5)
 cause_later size old now output more before mid after Write grown same cause = subst (λ counts. HasPassCause size old counts after Write) same cause
 
 pub causes_later : {T : Type 0} (r : Result T PassFault) (size : ℕ) (old now : Files) (output more : List ℕ) (before mid after : Counts) → now ≡ appended old output more → mid ≡ before

@@ -1,6 +1,6 @@
 -- Why bytes that a file was found with aren't read.
-use Rattle.std.specs.Prelude.{◌≡◌, ◌<◌, ℕ}
-use Rattle.outside.specs.Files.{Files, untold}
+use Rattle.std.specs.Prelude.{◌≡◌, ◌<◌, ℕ, false}
+use Rattle.outside.specs.Files.{Files, is_told}
 use Rattle.outside.specs.Counts.{Counts, Rose, OnlyReads, NothingFailed}
 use Rattle.outside.specs.declared.exact.ReadFault.{ReadFault}
 use Rattle.outside.specs.declared.exact.ReadFault.TheVariants.{Failed, Shrunk}
@@ -10,7 +10,7 @@ use Rattle.outside.specs.declared.exact.ReadFault.TheVariants.{Failed, Shrunk}
 abbrev pub HasReadCause : ℕ → Files → Counts → Counts → ReadFault → Type 0
 HasReadCause size files before after Failed = Rose before.read_faults after.read_faults × OnlyReads before after
 HasReadCause size files before after (Shrunk first second) =
-    (files ≡ untold)
+    (is_told files ≡ false)
     × (first ≡ size)
     × (second < first)
     × Rose before.ends after.ends

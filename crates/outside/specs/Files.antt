@@ -1,18 +1,33 @@
 -- What a folder tells of its files, and what a sink tells of its bytes.
-use Rattle.std.specs.Prelude.{◌≡◌, ◌<◌, ℕ, slice_index_or, List, [], ◌++◌, Option, Some, None, unwrap_or, option_map, IfSome, IsSome, bytes_eq}
+use Rattle.std.specs.Prelude.{◌≡◌, ◌≢◌, ◌⊎◌, ◌<◌, ℕ, slice_index_or, List, [], ◌∷◌, ◌++◌, Bool, true, false, ◌||◌, ◌&&◌, Option, Some, None, unwrap_or, option_map, IsSome, bytes_eq}
+use Rattle.std.specs.List.{All}
 use Rattle.std.specs.Map.{update}
 
 -- a content for each name that is there
 abbrev pub Contents : Type 0
 Contents = List ℕ → Option (List ℕ)
 
--- the contents, where they are told
-abbrev pub Files : Type 0
-Files = Option Contents
+-- of each name, whether it may have been touched: a call was made to create it, or bytes were written to it
+abbrev pub Touched : Type 0
+Touched = List ℕ → Bool
 
--- nothing is told
+-- what a folder tells: of each name what it holds; or nothing of that, but which names may have been touched
+pub data Files : Type 0 where
+  Told : Contents → Files
+  Untold : Touched → Files
+
+-- nothing is told, and any name may have been touched
 abbrev pub untold : Files
-untold = None
+untold = Untold (λ _. true)
+
+abbrev pub is_told : Files → Bool
+is_told (Told f) = true
+is_told (Untold touched) = false
+
+-- where the files are told, this holds of them
+abbrev pub IfTold : Files → (Contents → Type 0) → Type 0
+IfTold (Told f) P = P f
+IfTold (Untold touched) P = Unit {0}
 
 -- the bytes of a sink, where they are told
 abbrev pub Sent : Type 0
@@ -25,13 +40,38 @@ untold_bytes = None
 unfoldable pub with_file : Contents → List ℕ → List ℕ → Contents
 with_file files name bytes = update bytes_eq files name (Some bytes)
 
+-- the same names may have been touched, and this one if so
+abbrev pub with_touch : Touched → List ℕ → Bool → Touched
+with_touch touched name is_so = λ other. touched other || is_so && bytes_eq name other
+
+abbrev pub is_some_byte : List ℕ → Bool
+is_some_byte [] = false
+is_some_byte (byte ∷ bytes) = true
+
 -- the name holds no bytes, and every other name stays
 unfoldable pub emptied : Files → List ℕ → Files
-emptied files name = option_map (λ f. with_file f name []) files
+emptied (Told f) name = Told (with_file f name [])
+emptied (Untold touched) name = Untold (with_touch touched name true)
 
--- the name holds more bytes at its end, and every other name stays
+-- the name holds more bytes at its end, and every other name stays; without any bytes nothing is touched
 unfoldable pub appended : Files → List ℕ → List ℕ → Files
-appended files name more = option_map (λ f. with_file f name (unwrap_or (f name) [] ++ more)) files
+appended (Told f) name more = Told (with_file f name (unwrap_or (f name) [] ++ more))
+appended (Untold touched) name more = Untold (with_touch touched name (is_some_byte more))
+
+-- told files stay, and the name may have been touched
+unfoldable pub tried : Files → List ℕ → Files
+tried (Told f) name = Told f
+tried (Untold touched) name = Untold (with_touch touched name true)
+
+-- a call to create the name failed: told files stay, and where nothing is told of them, no other name was touched
+abbrev pub FailsToCreate : List ℕ → Files → Files → Type 0
+FailsToCreate name old new = (new ≡ old) ⊎ (new ≡ tried old name)
+
+-- Every name but these stays: where the files are told, it holds what it held; where they aren't, it wasn't touched.
+abbrev pub OnlyTouches : List (List ℕ) → Files → Files → Type 0
+OnlyTouches names (Told f) (Told g) = (other : List ℕ) → All (λ name. other ≢ name) names → g other ≡ f other
+OnlyTouches names (Untold old) (Untold new) = (other : List ℕ) → All (λ name. other ≢ name) names → new other ≡ old other
+OnlyTouches names _ _ = ⊥
 
 -- a sink that got more bytes
 unfoldable pub sent_more : Sent → List ℕ → Sent
@@ -39,19 +79,16 @@ sent_more sent more = option_map (λ s. s ++ more) sent
 
 -- the files are told, and the name holds these bytes
 abbrev pub Holds : Files → List ℕ → List ℕ → Type 0
-Holds files name bytes = IfToldHolds files (λ f. f name ≡ Some bytes)
-  where
-    IfToldHolds : Files → (Contents → Type 0) → Type 0
-    IfToldHolds (Some f) P = P f
-    IfToldHolds None P = ⊥
+Holds (Told f) name bytes = f name ≡ Some bytes
+Holds (Untold touched) name bytes = ⊥
 
 -- where the files are told, the name is there
 abbrev pub IsThere : Files → List ℕ → Type 0
-IsThere files name = IfSome files (λ f. IsSome (f name))
+IsThere files name = IfTold files (λ f. IsSome (f name))
 
 -- where the files are told, the name isn't there
 abbrev pub IsMissing : Files → List ℕ → Type 0
-IsMissing files name = IfSome files (λ f. f name ≡ None)
+IsMissing files name = IfTold files (λ f. f name ≡ None)
 
 -- numbers that bytes can be
 abbrev pub AreOctets : List ℕ → Type 0

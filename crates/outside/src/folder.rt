@@ -1,6 +1,6 @@
 //! A folder of files.
 ghost use Rattle.std.specs.Prelude.{◌≡◌, ◌⊎◌, ◌-◌, ◌<◌, ◌≤◌, List, ℕ, length, take, drop, string_bytes, IfOk, OnOk, OnErr, IsErrOf};
-ghost use Rattle.outside.specs.Files.{Files, emptied, appended, Holds, IsThere, IsMissing, AreOctets};
+ghost use Rattle.outside.specs.Files.{Files, emptied, appended, FailsToCreate, Holds, IsThere, IsMissing, AreOctets};
 ghost use Rattle.outside.specs.Counts.{Counts, OnlyReads, OnlyWrites, NothingFailed, Rose};
 
 use std::alloc::AllocError;
@@ -61,10 +61,11 @@ impl From<AllocError> for FindFault {
     }
 }
 
-/// A folder of files, each of a name. What it tells of them, contracts see as a map from names to bytes.
+/// A folder of files, each of a name. Contracts see what it tells of them: a map from names to bytes, or, where it tells
+/// nothing of their content, which names it may have touched, so created or written to.
 /// A call that succeeds leaves all counts, except a read of no byte into room, which counts an end.
 pub trait Folder {
-    /// The files, where they are told. Whether they are told never changes.
+    /// What is told of the files. Whether their content is told never changes.
     ghost files: { Self → Files };
 
     /// How often a file was missing, a read met an end, and a call failed.
@@ -118,20 +119,21 @@ pub trait Folder {
     /// Makes the name hold no bytes. Every other name stays.
     ///
     /// # Errors
-    /// Where the call failed. Then told files stay.
+    /// Where the call failed. Then told files stay, and where nothing is told of them, the name may have been
+    /// touched, but no other.
     fn create(&mut self, name: &str) -> Result<(), Failed>
         ensures created { OnOk result (files self.new ≡ emptied (files self.old) name.now) }
-        ensures kept { OnErr result (files self.new ≡ files self.old) }
+        ensures kept { OnErr result (FailsToCreate name.now (files self.old) (files self.new)) }
         ensures failed { OnErr result (Rose (counts self.old).write_faults
             (counts self.new).write_faults) }
         ensures done { OnOk result (counts self.new ≡ counts self.old) }
         ensures counts { OnlyWrites (counts self.old) (counts self.new) };
 
-    /// Appends a front of the bytes to the file, and answers how many: at least one where there are any.
+    /// Appends a prefix of the bytes to the file, and answers how many: at least one where there are any.
     /// Every other name stays.
     ///
     /// # Errors
-    /// Where the call failed. Then told files stay.
+    /// Where the call failed. Then the files stay.
     fn write(&mut self, name: &str, bytes: &[u8]) -> Result<usize, Failed>
         requires { IsThere (files self.old) name.now }
         ensures bound { IfOk result (λ k. k ≤ length bytes.now) }

@@ -5,7 +5,7 @@ use Rattle.std.proofs.lemmas.Option.{slice_get_within, slice_get_cases}
 use Rattle.std.proofs.lemmas.Bool.{ne_eqb}
 use Rattle.bit_fields.specs.Bits.{AreBytes}
 use Rattle.frame_header.specs.Fields.{ClassFields}
-use Rattle.outside.specs.Files.{Files, Holds, IsThere, IsMissing}
+use Rattle.outside.specs.Files.{Files, Holds, IsThere, IsMissing, Told, Untold, IfTold}
 use Rattle.outside.proofs.FilesLaws.{there_holds}
 use Rattle.sync_survey.specs.declared.places.Head.{Head}
 use Rattle.sync_survey.specs.declared.rows.Row.{Row}
@@ -87,8 +87,8 @@ module _ (allowed : ℕ) (task : Task) where
   IsFaultless files = (file : List ℕ) → Holds files task.source file → (s : SurveyFields) × (survey_of file allowed ≡ Ok s)
 
   limited-refuses : (files : Files) (fault : EditFault) → IsFaultless files → Refuses task files fault → Refuses (limited (Some allowed) task) files fault
-  limited-refuses None fault sound is = tt
-  limited-refuses (Some f) fault sound is = limited-sound allowed (f task.source) (task.makes f) sound ∙ is
+  limited-refuses (Untold touched) fault sound is = tt
+  limited-refuses (Told f) fault sound is = limited-sound allowed (f task.source) (task.makes f) sound ∙ is
 
   module _ (old new : Seen) (fault : EditFault) (sound : IsFaultless old.files) where
     early-by : (why : Why) → IsEarlyFaultBy task old new fault why → IsEarlyFaultBy (limited (Some allowed) task) old new fault why
@@ -114,10 +114,10 @@ module _ (allowed : ℕ) (task : Task) where
   pub limited-making : (made : List ℕ → List ℕ) (files : Files) → IsFaultless files → IsMaking task made files → IsMaking (limited (Some allowed) task) made files
   limited-making made files sound is = record { there = is.there; makes = at files sound is.makes }
     where
-      at : (files : Files) → IsFaultless files → IfSome files (λ f. (bytes : List ℕ) → f task.source ≡ Some bytes → AreBytes bytes × (task.makes f ≡ Ok (made bytes)))
-          → IfSome files (λ f. (bytes : List ℕ) → f task.source ≡ Some bytes → AreBytes bytes × (limited_by (Some allowed) (f task.source) (task.makes f) ≡ Ok (made bytes)))
-      at None sound makes = tt
-      at (Some f) sound makes = λ bytes held. let m = makes bytes held in (m.0, limited-sound allowed (f task.source) (task.makes f) sound ∙ m.1)
+      at : (files : Files) → IsFaultless files → IfTold files (λ f. (bytes : List ℕ) → f task.source ≡ Some bytes → AreBytes bytes × (task.makes f ≡ Ok (made bytes)))
+          → IfTold files (λ f. (bytes : List ℕ) → f task.source ≡ Some bytes → AreBytes bytes × (limited_by (Some allowed) (f task.source) (task.makes f) ≡ Ok (made bytes)))
+      at (Untold touched) sound makes = tt
+      at (Told f) sound makes = λ bytes held. let m = makes bytes held in (m.0, limited-sound allowed (f task.source) (task.makes f) sound ∙ m.1)
 
   pub limited-proper : IsProper task → IsProper (limited (Some allowed) task)
   limited-proper proper = record {
@@ -134,14 +134,14 @@ module _ (allowed : ℕ) (make : Making) (stream : List ℕ → List StreamFrame
   of_file = file_task make stream refuses input
 
   file-refused : (files : Files) (fault : SurveyFault) → IsThere files input → ((bytes : List ℕ) → Holds files input bytes → survey_of bytes allowed ≡ Err fault) → Refuses (limited (Some allowed) of_file) files (Input 0 fault)
-  file-refused None fault there is = tt
-  file-refused (Some f) fault there is =
+  file-refused (Untold touched) fault there is = tt
+  file-refused (Told f) fault there is =
       let held = there_holds f input there in
       ap (λ o. limited_by (Some allowed) o (made_where make (f input))) held.1 ∙ ap (λ r. unless_fault r (made_where make (f input))) (is held.0 held.1)
 
   file-missing : (files : Files) → IsMissing files input → Refuses (limited (Some allowed) of_file) files (Input 0 Absent)
-  file-missing None missing = tt
-  file-missing (Some f) missing = ap (λ o. limited_by (Some allowed) o (made_where make o)) missing
+  file-missing (Untold touched) missing = tt
+  file-missing (Told f) missing = ap (λ o. limited_by (Some allowed) o (made_where make o)) missing
 
   module _ (old new : Seen) (fault : EditFault) where
     survey-by : (why : Why) → IsFileFaultBy 0 allowed input old new fault why → IsEarlyFaultBy (limited (Some allowed) of_file) old new fault why

@@ -4,7 +4,7 @@ use Rattle.std.specs.Prelude.{IfSome, IfErr, is_some, slice_get}
 use Rattle.std.proofs.lemmas.Bool.{le-ltb, ltb-false}
 use Rattle.std.proofs.lemmas.List.{length-map}
 use Rattle.bit_fields.specs.Bits.{AreBytes}
-use Rattle.outside.specs.Files.{Contents, Files, Holds, IsThere, IsMissing}
+use Rattle.outside.specs.Files.{Contents, Files, Holds, IsThere, IsMissing, Told, Untold, IfTold, is_told, OnlyTouches}
 use Rattle.outside.specs.Counts.{Counts}
 use Rattle.outside.proofs.FilesLaws.{there_holds}
 use Rattle.sync_survey.specs.declared.places.PlacedFrame.{PlacedFrame}
@@ -77,12 +77,12 @@ salvage-late input f bytes held few =
 
 module _ (input : List ℕ) where
   refuses-bytes : (files : Files) (fault : SurveyFault) → IsThere files input → ((bytes : List ℕ) → Holds files input bytes → damaged_of bytes ≡ Err fault) → Refuses (salvage_task input) files (Input 0 fault)
-  refuses-bytes None fault there is = tt
-  refuses-bytes (Some f) fault there is = let held = there_holds f input there in ap made_where held.1 ∙ ap (made_by held.0) (is held.0 held.1)
+  refuses-bytes (Untold touched) fault there is = tt
+  refuses-bytes (Told f) fault there is = let held = there_holds f input there in ap made_where held.1 ∙ ap (made_by held.0) (is held.0 held.1)
 
   refuses-absent : (files : Files) → IsMissing files input → Refuses (salvage_task input) files (Input 0 Absent)
-  refuses-absent None missing = tt
-  refuses-absent (Some f) missing = ap made_where missing
+  refuses-absent (Untold touched) missing = tt
+  refuses-absent (Told f) missing = ap made_where missing
 
   module _ (files after : Files) (before counts : Counts) (same : after ≡ files) where
     rejected : (fault : SurveyFault) → RefusesDamaged input files before counts fault → Refuses (salvage_task input) files (Input 0 fault) × (seen after counts ≡ seen files before)
@@ -92,7 +92,7 @@ module _ (input : List ℕ) where
     early-fault Absent h = record { defined = refuses-absent files h.0; rose = h.1; files = same }
     early-fault (TooLong n) h = let r = rejected (TooLong n) h in record { defined = r.0; stays = r.1 }
     early-fault Read h = record { rose = h; files = same }
-    early-fault (Shrunk first second) h = record { rose = h.ended; counts = h.counts; untold_before = h.nothing_told; untold_after = same ∙ h.nothing_told }
+    early-fault (Shrunk first second) h = record { rose = h.ended; counts = h.counts; untold = h.nothing_told; files = same }
     early-fault NoRoom h = record { there = h.there; few = h.few; stays = ap₂ seen same h.counts }
     early-fault (NoFrame at) h = let r = rejected (NoFrame at) h in record { defined = r.0; stays = r.1 }
     early-fault (LostSync at) h = let r = rejected (LostSync at) h in record { defined = r.0; stays = r.1 }
@@ -142,16 +142,16 @@ module _ (input : List ℕ) where
     pub ready-makes : IsMaking (salvage_task input) file_of files
     ready-makes = record { there = ready.there; makes = at files ready.read ready.octets }
       where
-        at : (fs : Files) → IsReadOf input fs ready.of → HoldsOctets input fs → IfSome fs (λ f. (bytes : List ℕ) → f input ≡ Some bytes → AreBytes bytes × (made_where (f input) ≡ Ok (file_of bytes)))
-        at None read octets = tt
-        at (Some f) read octets = λ bytes held. (octets bytes held, ap made_where held ∙ ap (made_by bytes) (read bytes held) ∙ ap Ok (sym (file-is bytes)))
+        at : (fs : Files) → IsReadOf input fs ready.of → HoldsOctets input fs → IfTold fs (λ f. (bytes : List ℕ) → f input ≡ Some bytes → AreBytes bytes × (made_where (f input) ≡ Ok (file_of bytes)))
+        at (Untold touched) read octets = tt
+        at (Told f) read octets = λ bytes held. (octets bytes held, ap made_where held ∙ ap (made_by bytes) (read bytes held) ∙ ap Ok (sym (file-is bytes)))
 
-    pub ready-holds : IfSome files (λ f. (bytes : List ℕ) → f input ≡ Some bytes → AreSound f [] × HoldsStream (file_of bytes) (stream_where (f input)))
+    pub ready-holds : IfTold files (λ f. (bytes : List ℕ) → f input ≡ Some bytes → AreSound f [] × HoldsStream (file_of bytes) (stream_where (f input)))
     ready-holds = at files ready.read
       where
-        at : (fs : Files) → IsReadOf input fs ready.of → IfSome fs (λ f. (bytes : List ℕ) → f input ≡ Some bytes → AreSound f [] × HoldsStream (file_of bytes) (stream_where (f input)))
-        at None read = tt
-        at (Some f) read = λ bytes held.
+        at : (fs : Files) → IsReadOf input fs ready.of → IfTold fs (λ f. (bytes : List ℕ) → f input ≡ Some bytes → AreSound f [] × HoldsStream (file_of bytes) (stream_where (f input)))
+        at (Untold touched) read = tt
+        at (Told f) read = λ bytes held.
             let whole = (damaged_of-is bytes ready.of (read bytes held)).1 in
             let stream : stream_where (f input) ≡ left_stream bytes ready.of = ap stream_where held ∙ ap (stream_by bytes) (read bytes held) in
             (tt, subst (λ n. HoldsStream n (stream_where (f input))) (sym (file-is bytes)) (subst (HoldsStream (salvaged_file bytes ready.of)) (sym stream) (salvaged-holds bytes ready.of whole ready.laid)))
@@ -169,8 +169,8 @@ module _ (input : List ℕ) where
         some-same f g e = cc
 
         at : (fs : Files) {f : Contents} → fs ≡ Some f → IsThere fs input → IsReadOf input fs ready.of → text_where (f input) ≡ salvage_text ready.of
-        at None e there read = absurd cc
-        at (Some g) {f} e there read =
+        at (Untold touched) e there read = absurd cc
+        at (Told g) {f} e there read =
             let held = there_holds g input there in
             ap (λ (h : Contents). text_where (h input)) (sym (some-same g f e)) ∙ ap text_where held.1 ∙ ap text_by (read held.0 held.1)
 
@@ -193,7 +193,7 @@ module _ (input output : List ℕ) (free : clash_in (salvage_task input) output 
   pub left-early : (old new : Seen) (fault : EditFault) → IsEarlyFault (salvage_task input) old new fault → Leaves (salvage_command input output) old new fault
   left-early old new fault h = telling-left text silent old new fault (early_left (salvage_task input) output free (salvage-late input) old new fault h)
 
-  module _ (old mid new : Seen) (work : Work) (stays : mid ≡ old) (ready : IsReady input old.files work) (told : is_some new.files ≡ is_some mid.files) where
+  module _ (old mid new : Seen) (work : Work) (stays : mid ≡ old) (ready : IsReady input old.files work) (touches : OnlyTouches (output ∷ []) mid.files new.files) where
     abbrev made : List ℕ → List ℕ
     made = selected_file (tells work.survey) work.selection
 
@@ -201,13 +201,13 @@ module _ (input output : List ℕ) (free : clash_in (salvage_task input) output 
     making = ready-makes input old.files work ready
 
     pub left-done : ((bytes : List ℕ) → Holds mid.files input bytes → new.files ≡ holding mid.files output (made bytes)) → new.counts ≡ mid.counts → IsDone (salvage_command input output) old new
-    left-done wrote counts = telling-done text silent old new (one_done (salvage_task input) output free made old mid new stays making told done wrote counts)
+    left-done wrote counts = telling-done text silent old new (one_done (salvage_task input) output free made old mid new stays making touches done wrote counts)
       where
         done : Result (Unit {0}) EditFault
         done = Ok tt
 
     pub left-part : (fault : EditFault) → IsPassFault made input output mid new fault → Leaves (salvage_command input output) old new fault
-    left-part fault h = telling-left text silent old new fault (one_left (salvage_task input) output free made old mid new stays making told failed h)
+    left-part fault h = telling-left text silent old new fault (one_left (salvage_task input) output free made old mid new stays making touches failed h)
       where
         failed : Result (Unit {0}) EditFault
         failed = Err fault

@@ -1,6 +1,6 @@
 //! The second pass: the output is created and written.
 ghost use Rattle.std.specs.Prelude.{◌≡◌, ◌≢◌, ℕ, List, [], is_some, IfErr, OnOk};
-ghost use Rattle.outside.specs.Files.{Files, Holds, IsThere};
+ghost use Rattle.outside.specs.Files.{Files, Holds, IsThere, is_told, OnlyTouches};
 ghost use Rattle.outside.specs.Counts.{NoneFell};
 ghost use Rattle.outside.specs.Feed.{IsFedFrom};
 ghost use Rattle.sync_survey.specs.Faults.{tells};
@@ -40,7 +40,7 @@ pub(crate) fn write_output<D: Folder>(
         → Holds (D.files folder.old) input.now bytes
         → D.files folder.new ≡ holding (D.files folder.old) output.now
         (selected_file (tells survey.now) selection.now bytes)) }
-    ensures told { is_some (D.files folder.new) ≡ is_some (D.files folder.old) }
+    ensures touches { OnlyTouches (output.now ∷ []) (D.files folder.old) (D.files folder.new) }
     ensures done { OnOk result (D.counts folder.new ≡ D.counts folder.old) }
     ensures left { IfErr result (IsPassFault (selected_file (tells survey.now) selection.now)
         input.now output.now

@@ -1,9 +1,9 @@
 -- What the command leaves, by its steps.
-use Rattle.std.proofs.Common.{◌≡◌, ℕ, ◌+◌, ◌<◌, ◌≤◌, List, [], ◌∷◌, length, map, Option, Some, None, Result, Ok, Err, refl, sym, ◌∙◌, ap, subst, inl, inr, is_some}
+use Rattle.std.proofs.Common.{◌≡◌, ℕ, ◌+◌, ◌<◌, ◌≤◌, ◌≢◌, List, [], ◌∷◌, length, map, take, Option, Some, None, Result, Ok, Err, refl, sym, ◌∙◌, ap, subst, inl, inr, is_some}
 use Rattle.std.specs.Prelude.{◌⊎◌, IfSome, IfErr}
 use Rattle.bit_fields.specs.Bits.{AreBytes}
-use Rattle.outside.specs.Files.{Contents, Files, Holds, IsThere}
-use Rattle.outside.proofs.FilesLaws.{there_holds}
+use Rattle.outside.specs.Files.{Contents, Files, Holds, IsThere, Told, Untold, IfTold, OnlyTouches}
+use Rattle.outside.proofs.FilesLaws.{there_holds, touches_none, touches_more}
 use Rattle.cue_sheet.specs.declared.cue_fault.CueFault.{CueFault}
 use Rattle.cue_sheet.specs.declared.place.Place.{Place}
 use Rattle.cue_sheet.specs.declared.place.Place.TheVariants.{Frame}
@@ -142,8 +142,8 @@ module _ (points : Points) (input prefix : List ℕ) where
   equal-made f place e = ap (λ o. unless_equal o (made_where prefix (placing.places f) (f input))) e
 
   gives-equal : (files : Files) (place : ℕ) → clash_of command ≡ Some place → Gives command files (Err (EqualNames place))
-  gives-equal None place e = tt
-  gives-equal (Some f) place e = equal-made f place e
+  gives-equal (Untold touched) place e = tt
+  gives-equal (Told f) place e = equal-made f place e
 
   -- a name of an input is one of the 99
   pub equal-left : (place : ℕ) (now : Seen) → clash_of command ≡ Some place → Leaves command now now (EqualNames place)
@@ -157,29 +157,32 @@ module _ (points : Points) (input prefix : List ℕ) where
     -- ---- the survey of the input
 
     input-refused : (files : Files) (fault : SurveyFault) → IsThere files input → ((bytes : List ℕ) → Holds files input bytes → survey_of bytes most_frames ≡ Err fault) → Gives command files (Err (Input 0 fault))
-    input-refused None fault there refused = tt
-    input-refused (Some f) fault there refused =
+    input-refused (Untold touched) fault there refused = tt
+    input-refused (Told f) fault there refused =
         let held = there_holds f input there in
         makes-where f (Some held.0) held.1 ∙ ap (made_by prefix (placing.places f) held.0) (refused held.0 held.1)
 
-    input-missing : (files : Files) → IfSome files (λ f. f input ≡ None) → Gives command files (Err (Input 0 Absent))
-    input-missing None missing = tt
-    input-missing (Some f) missing = makes-where f None missing
+    input-missing : (files : Files) → IfTold files (λ f. f input ≡ None) → Gives command files (Err (Input 0 Absent))
+    input-missing (Untold touched) missing = tt
+    input-missing (Told f) missing = makes-where f None missing
 
-    input-takes : (files : Files) → IsThere files input → ((bytes : List ℕ) → Holds files input bytes → length bytes ≤ longest_file) → IfSome files (λ f. TakesMemory (command.makes f))
-    input-takes None there few = tt
-    input-takes (Some f) there few =
+    input-takes : (files : Files) → IsThere files input → ((bytes : List ℕ) → Holds files input bytes → length bytes ≤ longest_file) → IfTold files (λ f. TakesMemory (command.makes f))
+    input-takes (Untold touched) there few = tt
+    input-takes (Told f) there few =
         let held = there_holds f input there in
         subst TakesMemory (sym (makes-where f (Some held.0) held.1)) (takes (made_where prefix (placing.places f) (Some held.0)) (short-late prefix held.0 (placing.places f) (points-late points f) (few held.0 held.1)))
 
     module _ (old new : Seen) (fault : EditFault) where
+      stays-touched : new.files ≡ old.files → OnlyTouches (piece_names prefix) old.files new.files
+      stays-touched stays = subst (λ files. OnlyTouches (piece_names prefix) old.files files) (sym stays) (touches_none (piece_names prefix) old.files)
+
       input-left-by : (why : Why) → IsFileFaultBy 0 most_frames input old new fault why → LeavesBy command old new fault why
       input-left-by Rejected h =
           record { defined = subst (λ e. Gives command old.files (Err e)) (sym h.1) (input-refused old.files h.0 h.2.there h.2.bytes); stays = h.2.stays }
       input-left-by Missing h =
           record { defined = subst (λ e. Gives command old.files (Err e)) (sym h.0) (input-missing old.files h.1); rose = h.2; files = h.3 }
       input-left-by Unread h = record { rose = h.rose; files = inl h.files }
-      input-left-by Shorter h = record { rose = h.rose; counts = h.counts; before = h.untold_before; after = h.untold_after }
+      input-left-by Shorter h = record { rose = h.rose; counts = h.counts; untold = h.untold; touches = stays-touched h.files }
       input-left-by NoMemory h = record { names = apart; takes = input-takes old.files h.there h.few; stays = h.stays }
       input-left-by _ h = absurd h
 
@@ -189,36 +192,36 @@ module _ (points : Points) (input prefix : List ℕ) where
     -- ---- a surveyed input
 
     module _ (s : SurveyFields) (files : Files) (there : IsThere files input) (surveyed : (bytes : List ℕ) → Holds files input bytes → survey_of bytes most_frames ≡ Ok s) where
-      makes-then : (f : Contents) (bytes : List ℕ) → files ≡ Some f → f input ≡ Some bytes → command.makes f ≡ then_made (placing.places f) (made_at prefix bytes s)
+      makes-then : (f : Contents) (bytes : List ℕ) → files ≡ Told f → f input ≡ Some bytes → command.makes f ≡ then_made (placing.places f) (made_at prefix bytes s)
       makes-then f bytes told holds =
           makes-where f (Some bytes) holds ∙ ap (made_by prefix (placing.places f) bytes) (surveyed bytes (subst (λ fs. Holds fs input bytes) (sym told) holds))
 
-      held-of : (f : Contents) → files ≡ Some f → (bytes : List ℕ) × (f input ≡ Some bytes)
+      held-of : (f : Contents) → files ≡ Told f → (bytes : List ℕ) × (f input ≡ Some bytes)
       held-of f told = there_holds f input (subst (λ fs. IsThere fs input) told there)
 
-      pub behind-takes : IfSome files (λ f. TakesMemory (command.makes f))
+      pub behind-takes : IfTold files (λ f. TakesMemory (command.makes f))
       behind-takes = at files refl
         where
-          at : (fs : Files) → files ≡ fs → IfSome fs (λ f. TakesMemory (command.makes f))
-          at None told = tt
-          at (Some f) told =
+          at : (fs : Files) → files ≡ fs → IfTold fs (λ f. TakesMemory (command.makes f))
+          at (Untold touched) told = tt
+          at (Told f) told =
               let held = held-of f told in
               subst TakesMemory (sym (makes-then f held.0 told held.1)) (takes (then_made (placing.places f) (made_at prefix held.0 s)) (made-late prefix held.0 s (placing.places f) (points-late points f)))
 
       -- no places
-      pub places-refused : (fault : EditFault) → IfSome files (λ f. placing.places f ≡ Err fault) → Gives command files (Err fault)
+      pub places-refused : (fault : EditFault) → IfTold files (λ f. placing.places f ≡ Err fault) → Gives command files (Err fault)
       places-refused fault none = at files refl none
         where
-          at : (fs : Files) → files ≡ fs → IfSome fs (λ f. placing.places f ≡ Err fault) → Gives command fs (Err fault)
-          at None told none = tt
-          at (Some f) told none =
+          at : (fs : Files) → files ≡ fs → IfTold fs (λ f. placing.places f ≡ Err fault) → Gives command fs (Err fault)
+          at (Untold touched) told none = tt
+          at (Told f) told none =
               let held = held-of f told in
               makes-then f held.0 told held.1 ∙ ap (λ p. then_made p (made_at prefix held.0 s)) none
 
       -- ---- these places
 
       module _ (places : List Place) (are : Says placing files (Ok places)) where
-        makes-at : (f : Contents) (bytes : List ℕ) → files ≡ Some f → f input ≡ Some bytes → command.makes f ≡ made_at prefix bytes s places
+        makes-at : (f : Contents) (bytes : List ℕ) → files ≡ Told f → f input ≡ Some bytes → command.makes f ≡ made_at prefix bytes s places
         makes-at f bytes told holds =
             let here : placing.places f ≡ Ok places = subst (λ fs. Says placing fs (Ok places)) told are in
             makes-then f bytes told holds ∙ ap (λ p. then_made p (made_at prefix bytes s)) here
@@ -227,8 +230,8 @@ module _ (points : Points) (input prefix : List ℕ) where
         range-refused fault none = at files refl
           where
             at : (fs : Files) → files ≡ fs → Gives command fs (Err fault)
-            at None told = tt
-            at (Some f) told =
+            at (Untold touched) told = tt
+            at (Told f) told =
                 let held = held-of f told in
                 makes-at f held.0 told held.1 ∙ ap (λ r. then_made r (made_of prefix held.0 s)) none
 
@@ -237,28 +240,28 @@ module _ (points : Points) (input prefix : List ℕ) where
           abbrev made : List ℕ → Made
           made bytes = record { outputs = outputs_of s pieces bytes; text = [] }
 
-          makes-pieces : (f : Contents) (bytes : List ℕ) → files ≡ Some f → f input ≡ Some bytes → command.makes f ≡ Ok (made bytes)
+          makes-pieces : (f : Contents) (bytes : List ℕ) → files ≡ Told f → f input ≡ Some bytes → command.makes f ≡ Ok (made bytes)
           makes-pieces f bytes told holds =
               makes-at f bytes told holds
               ∙ ap (λ r. then_made r (made_of prefix bytes s)) chosen
               ∙ ap (λ (outputs : List Output). Ok (record { outputs = outputs; text = [] })) (sym (outputs-are prefix s 1 pieces bytes named))
 
-          whole : (new : Files) → ((bytes : List ℕ) → Holds files input bytes → new ≡ with_outputs (outputs_of s pieces bytes) files) → IfSome files (λ f. (made : Made) × (command.makes f ≡ Ok made) × (new ≡ Some (written made.outputs f)))
+          whole : (new : Files) → ((bytes : List ℕ) → Holds files input bytes → new ≡ with_outputs (outputs_of s pieces bytes) files) → IfTold files (λ f. (made : Made) × (command.makes f ≡ Ok made) × (new ≡ Told (written made.outputs f)))
           unfolding with_outputs
           whole new all = at files refl all
             where
-              at : (fs : Files) → files ≡ fs → ((bytes : List ℕ) → Holds fs input bytes → new ≡ with_outputs (outputs_of s pieces bytes) fs) → IfSome fs (λ f. (made : Made) × (command.makes f ≡ Ok made) × (new ≡ Some (written made.outputs f)))
-              at None told all = tt
-              at (Some f) told all = let held = held-of f told in (made held.0, makes-pieces f held.0 told held.1, all held.0 held.1)
+              at : (fs : Files) → files ≡ fs → ((bytes : List ℕ) → Holds fs input bytes → new ≡ with_outputs (outputs_of s pieces bytes) fs) → IfTold fs (λ f. (made : Made) × (command.makes f ≡ Ok made) × (new ≡ Told (written made.outputs f)))
+              at (Untold touched) told all = tt
+              at (Told f) told all = let held = held-of f told in (made held.0, makes-pieces f held.0 told held.1, all held.0 held.1)
 
-          part : (k : ℕ) (new : Files) → IsWrittenPart (outputs_of s pieces) input k files new → IsWrittenTo command k files new
+          part : (k : ℕ) (new : Files) → length pieces ≤ 99 → IsWrittenPart (outputs_of s pieces) (names_of pieces) input k files new → IsWrittenTo command k files new
           unfolding with_part
-          part k new h = record { made = at files refl h.files; told = h.told }
+          part k new few h = record { made = at files refl h.files; touches = touches_more (take (k + 1) (names_of pieces)) (take (k + 1) (piece_names prefix)) files new (λ other. names-first prefix s pieces (λ name. other ≢ name) k few named) h.touches }
             where
               at : (fs : Files) → files ≡ fs → ((bytes : List ℕ) → Holds fs input bytes → (k < length (outputs_of s pieces bytes)) × (count : Option ℕ) × (new ≡ with_part k count (outputs_of s pieces bytes) fs))
-                  → IfSome fs (λ f. (made : Made) × (command.makes f ≡ Ok made) × (k < length made.outputs) × (count : Option ℕ) × (new ≡ Some (written_to k count made.outputs f)))
-              at None told some = tt
-              at (Some f) told some =
+                  → IfTold fs (λ f. (made : Made) × (command.makes f ≡ Ok made) × (k < length made.outputs) × (count : Option ℕ) × (new ≡ Told (written_to k count made.outputs f)))
+              at (Untold touched) told some = tt
+              at (Told f) told some =
                   let held = held-of f told in
                   let part = some held.0 held.1 in
                   (made held.0, makes-pieces f held.0 told held.1, part.0, part.1, part.2)
@@ -270,7 +273,7 @@ module _ (points : Points) (input prefix : List ℕ) where
       places-left-by fault Rejected h = record { defined = places-refused s old.files there surveyed fault h.0; stays = h.1 }
       places-left-by fault Missing h = record { defined = places-refused s old.files there surveyed fault h.0; rose = h.1; files = h.2 }
       places-left-by fault Unread h = record { rose = h.rose; files = inl h.files }
-      places-left-by fault Shorter h = record { rose = h.rose; counts = h.counts; before = h.untold_before; after = h.untold_after }
+      places-left-by fault Shorter h = record { rose = h.rose; counts = h.counts; untold = h.untold; touches = stays-touched old new fault h.files }
       places-left-by fault NoMemory h = record { names = apart; takes = behind-takes s old.files there surveyed; stays = h }
       places-left-by fault _ h = absurd h
 
@@ -289,25 +292,29 @@ module _ (points : Points) (input prefix : List ℕ) where
         range-left _ same (inr h) = absurd h.0
 
         module _ (pieces : List Piece) (named : ArePieces prefix s 1 pieces) (chosen : chosen_at s.class (length s.frames) places ≡ Ok (map chosen_of pieces)) where
-          pub split-done : ((bytes : List ℕ) → Holds mid.files input bytes → new.files ≡ with_outputs (outputs_of s pieces bytes) mid.files) → is_some new.files ≡ is_some mid.files → new.counts ≡ mid.counts → IsDone command old new
-          split-done wrote told counts = record {
+          pub split-done : ((bytes : List ℕ) → Holds mid.files input bytes → new.files ≡ with_outputs (outputs_of s pieces bytes) mid.files) → length pieces ≤ 99 → OnlyTouches (names_of pieces) mid.files new.files → new.counts ≡ mid.counts → IsDone command old new
+          split-done wrote few touches counts = record {
             made = whole s old.files there surveyed places are pieces named chosen new.files (subst (λ (m : Seen). (bytes : List ℕ) → Holds m.files input bytes → new.files ≡ with_outputs (outputs_of s pieces bytes) m.files) stays wrote);
-            told = told ∙ ap (λ (m : Seen). is_some m.files) stays;
+            touches = subst (λ (m : Seen). OnlyTouches (piece_names prefix) m.files new.files) stays (names-touched few mid.files new.files touches);
             counts = counts ∙ ap (λ (m : Seen). m.counts) stays;
           }
 
-          part-left : (k : ℕ) → IsWrittenPart (outputs_of s pieces) input k old.files new.files → IsWrittenTo command k old.files new.files
-          part-left k h = part s old.files there surveyed places are pieces named chosen k new.files h
+          part-left : (k : ℕ) → length pieces ≤ 99 → IsWrittenPart (outputs_of s pieces) (names_of pieces) input k old.files new.files → IsWrittenTo command k old.files new.files
+          part-left k few h = part s old.files there surveyed places are pieces named chosen k new.files few h
 
-          split-left-by : (fault : EditFault) (why : Why) → IsPiecesFaultBy (outputs_of s pieces) input old new why → LeavesBy command old new fault why
-          split-left-by fault Unread h = record { rose = h.rose; files = inr (h.place, part-left h.place h.files) }
-          split-left-by fault Shorter h = record { rose = h.rose; counts = h.counts; before = h.untold_before; after = h.untold_after }
-          split-left-by fault (Unwritten k) h = record { rose = h.rose; files = part-left k h.files }
-          split-left-by fault _ h = absurd h
+          names-touched : length pieces ≤ 99 → (before after : Files) → OnlyTouches (names_of pieces) before after → OnlyTouches (piece_names prefix) before after
+          names-touched few before after only = touches_more (names_of pieces) (piece_names prefix) before after (λ other. names-all prefix s pieces (λ name. other ≢ name) few named) only
+
+          split-left-by : (fault : EditFault) (why : Why) → length pieces ≤ 99 → OnlyTouches (names_of pieces) old.files new.files → IsPiecesFaultBy (outputs_of s pieces) (names_of pieces) input old new why → LeavesBy command old new fault why
+          split-left-by fault Unread few only h = record { rose = h.rose; files = inr (h.place, part-left h.place few h.files) }
+          split-left-by fault Shorter few only h = record { rose = h.rose; counts = h.counts; untold = h.untold; touches = names-touched few old.files new.files only }
+          split-left-by fault (Unwritten k) few only h = record { rose = h.rose; files = part-left k few h.files }
+          split-left-by fault _ few only h = absurd h
 
           -- a fault of the second pass
-          pub split-left : (fault : EditFault) → IsPiecesFault (outputs_of s pieces) input mid new fault → Leaves command old new fault
-          split-left fault h = split-left-by fault (why_of fault) (subst (λ (m : Seen). IsPiecesFault (outputs_of s pieces) input m new fault) stays h)
+          pub split-left : (fault : EditFault) → length pieces ≤ 99 → OnlyTouches (names_of pieces) mid.files new.files → IsPiecesFault (outputs_of s pieces) (names_of pieces) input mid new fault → Leaves command old new fault
+          split-left fault few only h =
+              split-left-by fault (why_of fault) few (subst (λ (m : Seen). OnlyTouches (names_of pieces) m.files new.files) stays only) (subst (λ (m : Seen). IsPiecesFault (outputs_of s pieces) (names_of pieces) input m new fault) stays h)
 
     -- ---- the streams
 
@@ -319,12 +326,12 @@ module _ (points : Points) (input prefix : List ℕ) where
 
     pub split-streams : (s : SurveyFields) (places : List Place) (files : Files) → IsThere files input → ((bytes : List ℕ) → Holds files input bytes → survey_of bytes most_frames ≡ Ok s)
         → ((bytes : List ℕ) → Holds files input bytes → AreBytes bytes) → Says placing files (Ok places) → HoldsStreams command files
-    split-streams s places None there surveyed octets are = tt
-    split-streams s places (Some f) there surveyed octets are = λ whole is.
+    split-streams s places (Untold touched) there surveyed octets are = tt
+    split-streams s places (Told f) there surveyed octets are = λ whole is.
         let held = there_holds f input there in
         let bytes = held.0 in
         let sound = surveyed bytes held.1 in
-        let parts = then_ok (chosen_at s.class (length s.frames) places) (made_of prefix bytes s) whole (sym (makes-at s (Some f) there surveyed places are f bytes refl held.1) ∙ is) in
+        let parts = then_ok (chosen_at s.class (length s.frames) places) (made_of prefix bytes s) whole (sym (makes-at s (Told f) there surveyed places are f bytes refl held.1) ∙ is) in
         let same : record { outputs = pieces_from prefix 1 bytes s parts.0; text = [] } ≡ whole = cc in
         record {
           sources = ((bytes, held.1, survey_of-sound bytes most_frames s sound), tt);

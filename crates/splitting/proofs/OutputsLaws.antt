@@ -1,12 +1,12 @@
 -- Outputs that are written one after the other.
-use Rattle.std.proofs.Common.{◌≡◌, ◌≢◌, ℕ, List, [], ◌∷◌, ◌++◌, length, take, Option, Some, None, Result, Ok, Err, refl, sym, ◌∙◌, ap, ap₂, subst, string_bytes, is_some, inl, inr, arith, append-nil, length-append}
+use Rattle.std.proofs.Common.{◌≡◌, ◌≢◌, ℕ, List, [], ◌∷◌, ◌++◌, length, take, Option, Some, None, Result, Ok, Err, refl, sym, ◌∙◌, ap, ap₂, subst, string_bytes, is_some, inl, inr, arith, append-nil, append_assoc, length-append}
 use Rattle.std.specs.Prelude.{IfErr, OnOk, OnErr}
 use Rattle.std.proofs.Math.Seq.{take-append_seam, drop-append_seam}
 use Rattle.std.proofs.lemmas.List.{map-append, length-map}
-use Rattle.outside.specs.Files.{Contents, Files, untold, with_file, emptied, Holds, IsThere}
+use Rattle.outside.specs.Files.{Contents, Files, Told, Untold, with_file, emptied, Holds, IsThere, OnlyTouches}
 use Rattle.outside.specs.Counts.{Counts, Rose, NothingFailed}
 use Rattle.outside.specs.Feed.{Fed, IsFedFrom}
-use Rattle.outside.proofs.FilesLaws.{there_holds, with_file_other, emptied_held_other}
+use Rattle.outside.proofs.FilesLaws.{there_holds, with_file_other, emptied_held_other, touches_none, touches_both, touches_told}
 use Rattle.sync_survey.specs.Faults.{SurveyFields}
 use Rattle.outside.specs.declared.pass.PassFault.{PassFault}
 use Rattle.outside.specs.declared.pass.PassFault.TheVariants.{Read, Shrunk, Write}
@@ -16,9 +16,9 @@ use Rattle.commands.specs.One.{holding, HoldsPrefix, IsPassFault}
 use Rattle.commands.specs.Left.{seen}
 use Rattle.outside.specs.Pass.{Appends, AppendsPrefix, HasPassCause}
 use Rattle.commands.specs.PassFaults.{of_pass}
-use Rattle.commands.proofs.OutputLaws.{output_whole, told_whole, told_prefix, pass_fault}
+use Rattle.commands.proofs.OutputLaws.{output_whole, touches_whole, touches_prefix, pass_fault}
 use Rattle.splitting.specs.declared.piece.Piece.{Piece}
-use Rattle.splitting.specs.Steps.{output_of, outputs_of, with_outputs, with_part, IsWrittenPart, IsPiecesFault, of_piece}
+use Rattle.splitting.specs.Steps.{output_of, outputs_of, names_of, with_outputs, with_part, IsWrittenPart, IsPiecesFault, of_piece}
 
 -- ---- one output more
 
@@ -28,28 +28,31 @@ written-append (x ∷ xs) ys f = written-append xs ys (with_file f x.name x.byte
 
 none-written : (files : Files) → files ≡ with_outputs [] files
 unfolding with_outputs
-none-written None = refl
-none-written (Some f) = refl
+none-written (Untold touched) = refl
+none-written (Told f) = refl
 
-more-written : (xs : List Output) (name bytes : List ℕ) (files : Files) → holding (with_outputs xs files) name bytes ≡ with_outputs (xs ++ record { name = name; bytes = bytes } ∷ []) files
+more-written : (xs : List Output) (name bytes : List ℕ) (files : Files) (input file : List ℕ) → Holds files input file → holding (with_outputs xs files) name bytes ≡ with_outputs (xs ++ record { name = name; bytes = bytes } ∷ []) files
 unfolding with_outputs holding
-more-written xs name bytes None = refl
-more-written xs name bytes (Some f) = ap Some (sym (written-append xs (record { name = name; bytes = bytes } ∷ []) f))
+more-written xs name bytes (Untold touched) input file holds = absurd holds
+more-written xs name bytes (Told f) input file holds = ap Told (sym (written-append xs (record { name = name; bytes = bytes } ∷ []) f))
 
 -- after whole ones an output wasn't created, or holds a prefix
 part-is : (xs ys : List Output) (o : Output) (count : Option ℕ) (files : Files) → with_outputs (xs ++ begun count (o ∷ ys)) files ≡ with_part (length xs) count (xs ++ o ∷ ys) files
 unfolding with_outputs with_part
-part-is xs ys o count None = refl
-part-is xs ys o count (Some f) =
-    ap (λ os. Some (written os f))
+part-is xs ys o count (Untold touched) = refl
+part-is xs ys o count (Told f) =
+    ap (λ os. Told (written os f))
     (ap₂ (λ (l m : List Output). l ++ begun count m) (sym (take-append_seam xs (o ∷ ys))) (sym (drop-append_seam xs (o ∷ ys))))
 
-pub part-of : (xs ys : List Output) (o : Output) (old mid new : Files) → mid ≡ with_outputs xs old → HoldsPrefix o.name o.bytes mid new → (count : Option ℕ) × (new ≡ with_part (length xs) count (xs ++ o ∷ ys) old)
-part-of xs ys o old mid new is (inl stays) = (None, stays ∙ is ∙ ap (λ os. with_outputs os old) (sym (append-nil xs)) ∙ part-is xs ys o None old)
-part-of xs ys o old mid new is (inr part) =
-    (Some part.0, part.1 ∙ ap (λ f. holding f o.name (take part.0 o.bytes)) is ∙ more-written xs o.name (take part.0 o.bytes) old ∙ part-is xs ys o (Some part.0) old)
+pub part-of : (xs ys : List Output) (o : Output) (old mid new : Files) (input file : List ℕ) → Holds old input file → mid ≡ with_outputs xs old → HoldsPrefix o.name o.bytes mid new → (count : Option ℕ) × (new ≡ with_part (length xs) count (xs ++ o ∷ ys) old)
+part-of xs ys o old mid new input file holds is (inl stays) = (None, stays ∙ is ∙ ap (λ os. with_outputs os old) (sym (append-nil xs)) ∙ part-is xs ys o None old)
+part-of xs ys o old mid new input file holds is (inr part) =
+    (Some part.0, part.1 ∙ ap (λ f. holding f o.name (take part.0 o.bytes)) is ∙ more-written xs o.name (take part.0 o.bytes) old input file holds ∙ part-is xs ys o (Some part.0) old)
 
 -- ---- the input, beside an output that was written
+
+told-same : (f g : Contents) → Told f ≡ Told g → f ≡ g
+told-same f g is = cc
 
 -- the input is there as it was
 pub record Stands (input : List ℕ) (old new : Files) : Type 0 where
@@ -57,16 +60,15 @@ pub record Stands (input : List ℕ) (old new : Files) : Type 0 where
   pub before : (bytes : List ℕ) → Holds new input bytes → Holds old input bytes
   pub after : (bytes : List ℕ) → Holds old input bytes → Holds new input bytes
 
-pub stands-beside : (input name : List ℕ) (made : List ℕ → List ℕ) (old new : Files) → input ≢ name → IsThere old input → ((bytes : List ℕ) → Holds old input bytes → new ≡ holding old name (made bytes)) → is_some new ≡ is_some old
+pub stands-beside : (input name : List ℕ) (made : List ℕ → List ℕ) (old new : Files) → input ≢ name → IsThere old input → ((bytes : List ℕ) → Holds old input bytes → new ≡ holding old name (made bytes)) → OnlyTouches (name ∷ []) old new
     → Stands input old new
 unfolding holding
-stands-beside input name made None None apart there is told = record { there = tt; before = λ bytes holds. holds; after = λ bytes holds. holds }
-stands-beside input name made None (Some g) apart there is told = absurd cc
-stands-beside input name made (Some f) None apart there is told = absurd cc
-stands-beside input name made (Some f) (Some g) apart there is told =
+stands-beside input name made (Untold before) (Untold after) apart there is touches = record { there = tt; before = λ bytes holds. holds; after = λ bytes holds. holds }
+stands-beside input name made (Untold before) (Told g) apart there is touches = absurd touches
+stands-beside input name made (Told f) (Untold after) apart there is touches = absurd touches
+stands-beside input name made (Told f) (Told g) apart there is touches =
     let held = there_holds f input there in
-    let some : Some g ≡ Some (with_file f name (made held.0)) = is held.0 held.1 in
-    let same : g ≡ with_file f name (made held.0) = cc in
+    let same : g ≡ with_file f name (made held.0) = told-same g _ (is held.0 held.1) in
     let at : g input ≡ f input = ap (λ (h : Contents). h input) same ∙ with_file_other f name (made held.0) input apart in
     record {
       there = ap is_some at ∙ there;
@@ -91,12 +93,12 @@ module _ {T : Type 0} (made : List ℕ → List ℕ) (size : ℕ) (input output 
       at (Ok x) h = λ file holds. output_whole made input output apart-from old mid new created h file holds ∙ ap (λ n. holding old n (made file)) is
       at (Err fault) h = tt
 
-  pub piece-told : OnOk r (Appends input output made mid new) → OnErr r (AppendsPrefix input output made mid new) → is_some new ≡ is_some old
-  piece-told h k = at r h k
+  pub piece-touches : OnOk r (Appends input output made mid new) → OnErr r (AppendsPrefix input output made mid new) → OnlyTouches (name ∷ []) old new
+  piece-touches h k = subst (λ n. OnlyTouches (n ∷ []) old new) is (at r h k)
     where
-      at : (r : Result T PassFault) → OnOk r (Appends input output made mid new) → OnErr r (AppendsPrefix input output made mid new) → is_some new ≡ is_some old
-      at (Ok x) h k = told_whole made input output apart-from old mid new created h
-      at (Err fault) h k = told_prefix made input output apart-from old mid new created k
+      at : (r : Result T PassFault) → OnOk r (Appends input output made mid new) → OnErr r (AppendsPrefix input output made mid new) → OnlyTouches (output ∷ []) old new
+      at (Ok x) h k = touches_whole made input output apart-from old mid new created h
+      at (Err fault) h k = touches_prefix made input output apart-from old mid new created k
 
   pub piece-left : (before between after : Counts) → between ≡ before → OnErr r (AppendsPrefix input output made mid new) → IfErr r (HasPassCause size mid between after)
       → IfErr r (λ fault. IsPassFault made input name (seen old before) (seen new after) (of_pass fault))
@@ -113,11 +115,11 @@ module _ {T : Type 0} (made : List ℕ → List ℕ) (size : ℕ) (input output 
 -- These pieces are whole, and the input is as it was.
 pub record Wrote (s : SurveyFields) (input : List ℕ) (done : List Piece) (old now : Files) : Type 0 where
   pub files : (bytes : List ℕ) → Holds old input bytes → now ≡ with_outputs (outputs_of s done bytes) old
-  pub told : is_some now ≡ is_some old
+  pub touches : OnlyTouches (names_of done) old now
   pub stands : Stands input old now
 
 pub none-wrote : (s : SurveyFields) (input : List ℕ) (files : Files) → IsThere files input → Wrote s input [] files files
-none-wrote s input files there = record { files = λ bytes holds. none-written files; told = refl; stands = record { there = there; before = λ bytes holds. holds; after = λ bytes holds. holds } }
+none-wrote s input files there = record { files = λ bytes holds. none-written files; touches = touches_none [] files; stands = record { there = there; before = λ bytes holds. holds; after = λ bytes holds. holds } }
 
 outputs-more : (s : SurveyFields) (done : List Piece) (piece : Piece) (more : List Piece) (bytes : List ℕ) → outputs_of s done bytes ++ output_of bytes s piece ∷ outputs_of s more bytes ≡ outputs_of s (done ++ piece ∷ more) bytes
 outputs-more s done piece more bytes = sym (map-append (output_of bytes s) done (piece ∷ more))
@@ -126,16 +128,16 @@ abbrev piece_made : SurveyFields → Piece → List ℕ → List ℕ
 piece_made s piece file = chosen_file (chosen_in piece.selection.chosen) file s
 
 pub more-wrote : (s : SurveyFields) (input : List ℕ) (done : List Piece) (piece : Piece) (old now new : Files) → input ≢ string_bytes piece.name → Wrote s input done old now
-    → ((bytes : List ℕ) → Holds now input bytes → new ≡ holding now (string_bytes piece.name) (chosen_file (chosen_in piece.selection.chosen) bytes s)) → is_some new ≡ is_some now → Wrote s input (done ++ piece ∷ []) old new
-more-wrote s input done piece old now new apart wrote written told =
-    let beside = stands-beside input (string_bytes piece.name) (piece_made s piece) now new apart wrote.stands.there written told in
+    → ((bytes : List ℕ) → Holds now input bytes → new ≡ holding now (string_bytes piece.name) (chosen_file (chosen_in piece.selection.chosen) bytes s)) → OnlyTouches (string_bytes piece.name ∷ []) now new → Wrote s input (done ++ piece ∷ []) old new
+more-wrote s input done piece old now new apart wrote written touches =
+    let beside = stands-beside input (string_bytes piece.name) (piece_made s piece) now new apart wrote.stands.there written touches in
     record {
       files = λ bytes holds.
           written bytes (wrote.stands.after bytes holds)
           ∙ ap (λ f. holding f (string_bytes piece.name) (chosen_file (chosen_in piece.selection.chosen) bytes s)) (wrote.files bytes holds)
-          ∙ more-written (outputs_of s done bytes) (string_bytes piece.name) (chosen_file (chosen_in piece.selection.chosen) bytes s) old
+          ∙ more-written (outputs_of s done bytes) (string_bytes piece.name) (chosen_file (chosen_in piece.selection.chosen) bytes s) old input bytes holds
           ∙ ap (λ os. with_outputs os old) (outputs-more s done piece [] bytes);
-      told = told ∙ wrote.told;
+      touches = subst (λ names. OnlyTouches names old new) (sym (map-append (λ (p : Piece). string_bytes p.name) done (piece ∷ []))) (touches_both (names_of done) (string_bytes piece.name ∷ []) old now new wrote.touches touches);
       stands = record {
         there = beside.there;
         before = λ bytes holds. wrote.stands.before bytes (beside.before bytes holds);
@@ -143,35 +145,38 @@ more-wrote s input done piece old now new apart wrote written told =
       };
     }
 
-untold_before : (old now : Files) → is_some now ≡ is_some old → now ≡ untold → old ≡ untold
-untold_before None now told is = refl
-untold_before (Some f) now told is = absurd cc
-
 -- one more was begun
-module _ (s : SurveyFields) (input : List ℕ) (done : List Piece) (piece : Piece) (rest all : List Piece) (old now new : Files) (split : done ++ piece ∷ rest ≡ all) (wrote : Wrote s input done old now) (told : is_some new ≡ is_some now) where
-  part-written : ((bytes : List ℕ) → Holds now input bytes → HoldsPrefix (string_bytes piece.name) (piece_made s piece bytes) now new) → (place : ℕ) → place ≡ length done → IsWrittenPart (outputs_of s all) input place old new
+module _ (s : SurveyFields) (input : List ℕ) (done : List Piece) (piece : Piece) (rest all : List Piece) (old now new : Files) (split : done ++ piece ∷ rest ≡ all) (wrote : Wrote s input done old now) (touches : OnlyTouches (string_bytes piece.name ∷ []) now new) where
+  touched-first : (place : ℕ) → place ≡ length done → names_of done ++ string_bytes piece.name ∷ [] ≡ take (place + 1) (names_of all)
+  touched-first place is =
+      let first = names_of done ++ string_bytes piece.name ∷ [] in
+      let size : length first ≡ place + 1 = omega (arith, length-append (names_of done) (string_bytes piece.name ∷ []), length-map done (λ (p : Piece). string_bytes p.name), is) in
+      let whole : first ++ names_of rest ≡ names_of all =
+      append_assoc (names_of done) (string_bytes piece.name ∷ []) (names_of rest) ∙ sym (map-append (λ (p : Piece). string_bytes p.name) done (piece ∷ rest)) ∙ ap names_of split in
+      sym (take-append_seam first (names_of rest)) ∙ ap₂ (λ n names. take n names) size whole
+
+  part-written : ((bytes : List ℕ) → Holds now input bytes → HoldsPrefix (string_bytes piece.name) (piece_made s piece bytes) now new) → (place : ℕ) → place ≡ length done → IsWrittenPart (outputs_of s all) (names_of all) input place old new
   part-written begun place is = record {
     files = λ bytes holds.
         let os = outputs_of s done bytes in
         let all_is : os ++ output_of bytes s piece ∷ outputs_of s rest bytes ≡ outputs_of s all bytes = outputs-more s done piece rest bytes ∙ ap (λ ps. outputs_of s ps bytes) split in
         let size : length os ≡ place = length-map done (output_of bytes s) ∙ sym is in
-        let part = part-of os (outputs_of s rest bytes) (output_of bytes s piece) old now new (wrote.files bytes holds) (begun bytes (wrote.stands.after bytes holds)) in (
+        let part = part-of os (outputs_of s rest bytes) (output_of bytes s piece) old now new input bytes holds (wrote.files bytes holds) (begun bytes (wrote.stands.after bytes holds)) in (
           omega (arith, size, ap length all_is, length-append os (output_of bytes s piece ∷ outputs_of s rest bytes)),
           part.0,
           part.1 ∙ ap₂ (λ n l. with_part n part.0 l old) size all_is,
         );
-    told = told ∙ wrote.told;
+    touches = subst (λ names. OnlyTouches names old new) (touched-first place is) (touches_both (names_of done) (string_bytes piece.name ∷ []) old now new wrote.touches touches);
   }
 
   pub pieces-fault : (fault : PassFault) (place : ℕ) (before between after : Counts) → place ≡ length done → between ≡ before
-      → IsPassFault (piece_made s piece) input (string_bytes piece.name) (seen now between) (seen new after) (of_pass fault) → IsPiecesFault (outputs_of s all) input (seen old before) (seen new after) (of_piece place fault)
+      → IsPassFault (piece_made s piece) input (string_bytes piece.name) (seen now between) (seen new after) (of_pass fault) → IsPiecesFault (outputs_of s all) (names_of all) input (seen old before) (seen new after) (of_piece place fault)
   pieces-fault Read place before between after is same h =
       record { rose = subst (λ c. Rose c.read_faults after.read_faults) same h.rose; place = place; files = part-written h.files place is }
   pieces-fault (Shrunk first second) place before between after is same h = record {
     rose = subst (λ c. Rose c.ends after.ends) same h.rose;
     counts = subst (λ c. NothingFailed c after) same h.counts;
-    untold_before = untold_before old now wrote.told h.untold_before;
-    untold_after = h.untold_after;
+    untold = sym (touches_told (names_of done) old now wrote.touches) ∙ h.untold;
   }
   pieces-fault Write place before between after is same h =
       record { rose = subst (λ c. Rose c.write_faults after.write_faults) same h.1.rose; files = part-written h.1.files place is }

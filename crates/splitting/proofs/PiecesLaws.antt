@@ -1,9 +1,10 @@
 -- Pieces one more at a time, from the places and for the outputs.
-use Rattle.std.proofs.Common.{◌≡◌, ◌≢◌, ℕ, ◌+◌, ◌-◌, ◌<◌, ◌≤◌, true, false, List, [], ◌∷◌, ◌++◌, length, map, drop, get_or, Result, Ok, Err, refl, sym, ◌∙◌, ap, ap₂, bytes_eq, string_bytes, arith, append_assoc}
-use Rattle.std.specs.List.{list_any, range_with_len}
+use Rattle.std.proofs.Common.{◌≡◌, ◌≢◌, ℕ, ◌+◌, ◌-◌, ◌<◌, ◌≤◌, true, false, List, [], ◌∷◌, ◌++◌, length, map, take, drop, get_or, Result, Ok, Err, refl, sym, ◌∙◌, ap, ap₂, subst, zero, suc, bytes_eq, string_bytes, arith, append_assoc}
+use Rattle.std.specs.List.{All, list_any, range_with_len}
 use Rattle.std.proofs.lemmas.List.{drop_more}
+use Rattle.std.proofs.lemmas.List.Elements.{All-nil, All-cons, All-head, All-tail, All-take}
 use Rattle.std.proofs.lemmas.List.Folds.{list_any_at}
-use Rattle.std.proofs.lemmas.List.FromFn.{length-map-range_with_len, get_or-map-range_with_len}
+use Rattle.std.proofs.lemmas.List.FromFn.{length-map-range_with_len, get_or-map-range_with_len, take-map-range_with_len}
 use Rattle.outside.proofs.FilesLaws.{bytes_eq_same}
 use Rattle.frame_header.specs.Fields.{ClassFields}
 use Rattle.cue_sheet.specs.declared.place.Place.{Place}
@@ -14,7 +15,7 @@ use Rattle.commands.specs.Refusing.{then_made}
 use Rattle.frame_edits.specs.Chosen.{Chosen, chosen_in, chosen_file}
 use Rattle.splitting.specs.declared.piece.Piece.{Piece}
 use Rattle.splitting.specs.Split.{piece_name, piece_names, frames_between, with_first, chosen_from, pieces_from}
-use Rattle.splitting.specs.Steps.{IsReady, ArePieces, CanBeWritten, chosen_of, outputs_of}
+use Rattle.splitting.specs.Steps.{IsReady, ArePieces, CanBeWritten, chosen_of, outputs_of, names_of}
 
 -- ---- the choice
 
@@ -68,3 +69,26 @@ pub can-be-written : (prefix input : List ℕ) (s : SurveyFields) (k : ℕ) (pie
 can-be-written prefix input s k [] none from to are = tt
 can-be-written prefix input s k (piece ∷ pieces) none from to are =
     ((λ same. other-name prefix input k none from (omega (arith, to)) (same ∙ are.0)), are.1, can-be-written prefix input s (k + 1) pieces none (omega arith) (omega (arith, to)) are.2)
+
+-- ---- their names are the first of the 99
+
+names-are : (prefix : List ℕ) (s : SurveyFields) (k : ℕ) (pieces : List Piece) → ArePieces prefix s k pieces → names_of pieces ≡ map (piece_name prefix) (range_with_len k (length pieces))
+names-are prefix s k [] are = refl
+names-are prefix s k (piece ∷ pieces) are = ap₂ (λ name names. name ∷ names) are.0 (names-are prefix s (k + 1) pieces are.2)
+
+names-prefix : (prefix : List ℕ) (s : SurveyFields) (pieces : List Piece) → length pieces ≤ 99 → ArePieces prefix s 1 pieces → names_of pieces ≡ take (length pieces) (piece_names prefix)
+unfolding piece_names
+names-prefix prefix s pieces few are = names-are prefix s 1 pieces are ∙ sym (take-map-range_with_len (piece_name prefix) 1 99 (length pieces) few)
+
+All-first : {X : Type 0} (P : X → Type 0) (m n : ℕ) (xs : List X) → All P (take m xs) → All P (take m (take n xs))
+All-first P zero n xs all = All-nil P
+All-first P (suc m) zero xs all = All-nil P
+All-first P (suc m) (suc n) [] all = All-nil P
+All-first P (suc m) (suc n) (x ∷ xs) all = All-cons P x (take m (take n xs)) (All-head P x (take m xs) all) (All-first P m n xs (All-tail P x (take m xs) all))
+
+module _ (prefix : List ℕ) (s : SurveyFields) (pieces : List Piece) (P : List ℕ → Type 0) where
+  pub names-first : (k : ℕ) → length pieces ≤ 99 → ArePieces prefix s 1 pieces → All P (take (k + 1) (piece_names prefix)) → All P (take (k + 1) (names_of pieces))
+  names-first k few are all = subst (λ names. All P (take (k + 1) names)) (sym (names-prefix prefix s pieces few are)) (All-first P (k + 1) (length pieces) (piece_names prefix) all)
+
+  pub names-all : length pieces ≤ 99 → ArePieces prefix s 1 pieces → All P (piece_names prefix) → All P (names_of pieces)
+  names-all few are all = subst (All P) (sym (names-prefix prefix s pieces few are)) (All-take P (length pieces) (piece_names prefix) all)

@@ -1,6 +1,6 @@
 -- The steps of a command that cuts a file.
 use Rattle.std.specs.Prelude.{◌≡◌, ◌≢◌, ℕ, ◌+◌, ◌<◌, true, List, [], ◌∷◌, length, map, string_bytes, Option, Some, Result, Err, IfSome, is_some, option_map}
-use Rattle.outside.specs.Files.{Files, Holds, IsThere}
+use Rattle.outside.specs.Files.{Files, Holds, IsThere, IfTold, Told, Untold, OnlyTouches}
 use Rattle.outside.specs.Counts.{Rose}
 use Rattle.sync_survey.specs.declared.survey_fault.SurveyFault.TheVariants.{Read, Shrunk, Memory as NoRoom}
 use Rattle.sync_survey.specs.Faults.{SurveyFields}
@@ -12,7 +12,7 @@ use Rattle.outside.specs.declared.pass.PassFault.TheVariants.{Read as CopyRead, 
 use Rattle.commands.specs.Kinds.{HasRightNumbers}
 use Rattle.commands.specs.Command.{Output, written, written_to}
 use Rattle.commands.specs.Left.{Why, Rejected, Missing, Unread, Shorter, Unwritten, Unsent, NoMemory, why_of, Seen}
-use Rattle.commands.specs.One.{ReadsNothing, LosesInput}
+use Rattle.commands.specs.One.{ReadsNothing, LosesInput, StopsShort}
 use Rattle.commands.specs.Sheet.{IsSheetFaultBy as IsUnreadBy, IsOfSheet as IsOfRead}
 use Rattle.frame_edits.specs.Chosen.{Chosen, chosen_in, chosen_file}
 use Rattle.frame_edits.specs.Selected.{IsSelected}
@@ -46,7 +46,7 @@ IsOfSheet fault = IsOfRead fault
 
 -- the files that are told say these places, or none
 abbrev pub Says : Placing → Files → Result (List Place) EditFault → Type 0
-Says placing files answer = IfSome files (λ f. placing.places f ≡ answer)
+Says placing files answer = IfTold files (λ f. placing.places f ≡ answer)
 
 abbrev pub IsPlacesFaultBy : Placing → Seen → Seen → EditFault → Why → Type 0
 IsPlacesFaultBy placing old new fault Rejected = Says placing old.files (Err fault) × (new ≡ old)
@@ -96,35 +96,40 @@ outputs_of s pieces file = map (output_of file s) pieces
 
 -- the files, where they are told, with these outputs
 unfoldable pub with_outputs : List Output → Files → Files
-with_outputs outputs files = option_map (λ f. written outputs f) files
+with_outputs outputs (Told f) = Told (written outputs f)
+with_outputs outputs (Untold touched) = Untold touched
 
 -- the first k outputs are whole, and the next one holds a prefix, or wasn't created
 unfoldable pub with_part : ℕ → Option ℕ → List Output → Files → Files
-with_part k count outputs files = option_map (λ f. written_to k count outputs f) files
+with_part k count outputs (Told f) = Told (written_to k count outputs f)
+with_part k count outputs (Untold touched) = Untold touched
 
--- what was written of the outputs that are made of the input
-pub record IsWrittenPart (made : List ℕ → List Output) (input : List ℕ) (k : ℕ) (old new : Files) : Type 0 where
+abbrev pub names_of : List Piece → List (List ℕ)
+names_of pieces = map (λ piece. string_bytes piece.name) pieces
+
+-- what was written of the outputs that are made of the input and have these names
+pub record IsWrittenPart (made : List ℕ → List Output) (names : List (List ℕ)) (input : List ℕ) (k : ℕ) (old new : Files) : Type 0 where
   pub files : (bytes : List ℕ) → Holds old input bytes → (k < length (made bytes)) × (count : Option ℕ) × (new ≡ with_part k count (made bytes) old)
-  pub told : is_some new ≡ is_some old
+  pub touches : OnlyTouches (take (k + 1) names) old new
 
-pub record StopsReading (made : List ℕ → List Output) (input : List ℕ) (old new : Seen) : Type 0 where
+pub record StopsReading (made : List ℕ → List Output) (names : List (List ℕ)) (input : List ℕ) (old new : Seen) : Type 0 where
   pub rose : Rose old.counts.read_faults new.counts.read_faults
   pub place : ℕ
-  pub files : IsWrittenPart made input place old.files new.files
+  pub files : IsWrittenPart made names input place old.files new.files
 
-pub record StopsWriting (made : List ℕ → List Output) (input : List ℕ) (place : ℕ) (old new : Seen) : Type 0 where
+pub record StopsWriting (made : List ℕ → List Output) (names : List (List ℕ)) (input : List ℕ) (place : ℕ) (old new : Seen) : Type 0 where
   pub rose : Rose old.counts.write_faults new.counts.write_faults
-  pub files : IsWrittenPart made input place old.files new.files
+  pub files : IsWrittenPart made names input place old.files new.files
 
-abbrev pub IsPiecesFaultBy : (List ℕ → List Output) → List ℕ → Seen → Seen → Why → Type 0
-IsPiecesFaultBy made input old new Unread = StopsReading made input old new
-IsPiecesFaultBy made input old new Shorter = LosesInput old new
-IsPiecesFaultBy made input old new (Unwritten k) = StopsWriting made input k old new
-IsPiecesFaultBy made input old new _ = ⊥
+abbrev pub IsPiecesFaultBy : (List ℕ → List Output) → List (List ℕ) → List ℕ → Seen → Seen → Why → Type 0
+IsPiecesFaultBy made names input old new Unread = StopsReading made names input old new
+IsPiecesFaultBy made names input old new Shorter = StopsShort old new
+IsPiecesFaultBy made names input old new (Unwritten k) = StopsWriting made names input k old new
+IsPiecesFaultBy made names input old new _ = ⊥
 
 -- what a fault leaves that was met while the pieces were written
-abbrev pub IsPiecesFault : (List ℕ → List Output) → List ℕ → Seen → Seen → EditFault → Type 0
-IsPiecesFault made input old new fault = IsPiecesFaultBy made input old new (why_of fault)
+abbrev pub IsPiecesFault : (List ℕ → List Output) → List (List ℕ) → List ℕ → Seen → Seen → EditFault → Type 0
+IsPiecesFault made names input old new fault = IsPiecesFaultBy made names input old new (why_of fault)
 
 -- the fault of the pass that writes this piece, counted from 0
 abbrev pub of_piece : ℕ → PassFault → EditFault

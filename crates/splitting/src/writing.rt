@@ -1,6 +1,6 @@
 //! The second pass: pieces are written one after the other.
 ghost use Rattle.std.specs.Prelude.{◌≡◌, ◌≢◌, ◌≤◌, List, ℕ, [], length, Ok, is_some, string_bytes, IfErr, OnOk};
-ghost use Rattle.outside.specs.Files.{Holds, IsThere};
+ghost use Rattle.outside.specs.Files.{Holds, IsThere, is_told, OnlyTouches};
 ghost use Rattle.outside.specs.Counts.{NoneFell};
 ghost use Rattle.outside.specs.Feed.{IsFedFrom};
 ghost use Rattle.sync_survey.specs.Faults.{tells};
@@ -50,7 +50,8 @@ fn write_piece<'a, D: Folder>(
     ensures written { OnOk result ((bytes : List ℕ) → Holds (D.files folder.old) input.now bytes
         → D.files folder.new ≡ holding (D.files folder.old) (string_bytes piece.now.name)
         (chosen_file (chosen_in piece.now.selection.chosen) bytes (tells survey.now))) }
-    ensures told { is_some (D.files folder.new) ≡ is_some (D.files folder.old) }
+    ensures touches { OnlyTouches (string_bytes piece.now.name ∷ []) (D.files folder.old)
+        (D.files folder.new) }
     ensures done { OnOk result (D.counts folder.new ≡ D.counts folder.old) }
     ensures left { IfErr result (λ fault. IsPassFault
         (λ file. chosen_file (chosen_in piece.now.selection.chosen) file (tells survey.now))
@@ -98,10 +99,11 @@ pub(crate) fn write_pieces<D: Folder>(
     ensures written { OnOk result ((bytes : List ℕ) → Holds (D.files folder.old) input.now bytes
         → D.files folder.new ≡ with_outputs (outputs_of (tells survey.now) pieces.items bytes)
         (D.files folder.old)) }
-    ensures told { is_some (D.files folder.new) ≡ is_some (D.files folder.old) }
+    ensures touches { OnlyTouches (names_of pieces.items) (D.files folder.old)
+        (D.files folder.new) }
     ensures done { OnOk result (D.counts folder.new ≡ D.counts folder.old) }
     ensures left { IfErr result (IsPiecesFault
-        (outputs_of (tells survey.now) pieces.items) input.now
+        (outputs_of (tells survey.now) pieces.items) (names_of pieces.items) input.now
         (seen (D.files folder.old) (D.counts folder.old))
         (seen (D.files folder.new) (D.counts folder.new))) }
     ensures numbers { IfErr result (IsOfPieces (length pieces.items)) }

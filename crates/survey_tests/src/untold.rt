@@ -1,6 +1,6 @@
 //! A folder that tells nothing.
 ghost use Rattle.std.specs.Prelude.{◌≡◌, ◌-◌, length, drop, min};
-ghost use Rattle.outside.specs.Files.{untold};
+ghost use Rattle.outside.specs.Files.{untold, Untold};
 
 use outside::{Failed, FindFault, Folder};
 

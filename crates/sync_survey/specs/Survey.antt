@@ -4,7 +4,7 @@ use Rattle.bit_fields.specs.Bits.{AreBytes}
 use Rattle.frame_header.specs.Fields.{ClassFields, IsHeader}
 use Rattle.frame_header.specs.Tables.{class_of, length_of}
 use Rattle.side_info.specs.Side.{SideFits}
-use Rattle.outside.specs.Files.{Files, untold, Holds, IsThere, IsMissing}
+use Rattle.outside.specs.Files.{Files, is_told, Holds, IsThere, IsMissing}
 use Rattle.outside.specs.Counts.{Counts, Rose, NothingFailed}
 use Rattle.sync_survey.specs.declared.places.Head.{Head}
 use Rattle.sync_survey.specs.declared.places.Piece.{Piece}
@@ -46,7 +46,7 @@ pub record RefusesBytes (name : List ℕ) (files : Files) (allowed : ℕ) (befor
 
 -- of the file nothing is told, a read gave no byte, and no call failed
 pub record HasShrunk (files : Files) (before after : Counts) : Type 0 where
-  pub nothing_told : files ≡ untold
+  pub nothing_told : is_told files ≡ false
   pub ended : Rose before.ends after.ends
   pub counts : NothingFailed before after
 

@@ -2,20 +2,20 @@
 use Rattle.std.proofs.Common.{sym, subst}
 use Rattle.commands.specs.Left.{seen}
 use Rattle.commands.specs.One.{IsPassFault}
-use Rattle.commands.proofs.OutputLaws.{output_whole, told_whole, told_prefix, pass_fault}
+use Rattle.commands.proofs.OutputLaws.{output_whole, touches_whole, touches_prefix, pass_fault}
 use Rattle.commands.proofs.edit.write_output.Goals as goal
 
 pub returns-in-Ok-write-clause-written : goal.returns-in-Ok-write-clause-written
 returns-in-Ok-write-clause-written g c =
     output_whole (g.E.Edit.file_of c.args.work) (g.E.Edit.task c.args.edit.now).source c.args.output.now c.requires.apart (g.D.Folder.files c.args.folder.now) _ _ c.in-Ok.ensures.created c.in-Ok-write.ensures.written
 
-pub returns-in-Ok-write-clause-told : goal.returns-in-Ok-write-clause-told
-returns-in-Ok-write-clause-told g c =
-    told_whole (g.E.Edit.file_of c.args.work) (g.E.Edit.task c.args.edit.now).source c.args.output.now c.requires.apart (g.D.Folder.files c.args.folder.now) _ _ c.in-Ok.ensures.created c.in-Ok-write.ensures.written
+pub returns-in-Ok-write-clause-touches : goal.returns-in-Ok-write-clause-touches
+returns-in-Ok-write-clause-touches g c =
+    touches_whole (g.E.Edit.file_of c.args.work) (g.E.Edit.task c.args.edit.now).source c.args.output.now c.requires.apart (g.D.Folder.files c.args.folder.now) _ _ c.in-Ok.ensures.created c.in-Ok-write.ensures.written
 
-pub returns-clause-told : goal.returns-clause-told
-returns-clause-told g c =
-    told_prefix (g.E.Edit.file_of c.args.work) (g.E.Edit.task c.args.edit.now).source c.args.output.now c.requires.apart (g.D.Folder.files c.args.folder.now) _ _ c.in-Ok.ensures.created c.in-Err.ensures.prefix
+pub returns-clause-touches : goal.returns-clause-touches
+returns-clause-touches g c =
+    touches_prefix (g.E.Edit.file_of c.args.work) (g.E.Edit.task c.args.edit.now).source c.args.output.now c.requires.apart (g.D.Folder.files c.args.folder.now) _ _ c.in-Ok.ensures.created c.in-Err.ensures.prefix
 
 pub returns-clause-left : goal.returns-clause-left
 returns-clause-left g c =

@@ -2,7 +2,7 @@
 use Rattle.std.proofs.Common.{◌≡◌, ◌+◌, ◌*◌, ◌∙◌, ℕ, List, Option, Some, max, refl, sym, ap, subst, arith}
 use Rattle.std.specs.Prelude.{unwrap_or, bytes_eq}
 use Rattle.std.proofs.lemmas.Map.{update_same}
-use Rattle.outside.specs.Files.{Files, Contents, Holds}
+use Rattle.outside.specs.Files.{Files, Contents, Holds, Told}
 use Rattle.in_memory.specs.Memory.{contents_of, rooms_of, room_of}
 use Rattle.outside.proofs.FilesLaws.{bytes_eq_same, written_holds}
 use Rattle.drill_stream.specs.Drill.{drill_stream}
@@ -13,7 +13,7 @@ returns-clause-stream c =
     let name = c.args.stream.now in
     let bytes = drill_stream c.args.seed c.args.count in
     let holds : contents_of c.write_stream.new.folder name ≡ Some bytes =
-    subst (λ (f : Files). Holds f name bytes) (sym c.in-Ok.ensures.written) (written_holds (Some (contents_of c.reserve.new.self)) name bytes refl) in
+    subst (λ (f : Files). Holds f name bytes) (sym c.in-Ok.ensures.written) (written_holds (Told (contents_of c.reserve.new.self)) name bytes refl) in
     ap (λ (f : Contents). f name) c.reserve-2.ensures.contents ∙ holds
 
 pub returns-clause-room : goal.returns-clause-room

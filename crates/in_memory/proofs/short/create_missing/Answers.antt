@@ -1,7 +1,7 @@
 -- A name that wasn't there was created.
 use Rattle.std.proofs.Common.{◌≡◌, ◌∙◌, None, Some, sym, subst}
 use Rattle.std.proofs.lemmas.Result.{on_ok_weaker}
-use Rattle.outside.specs.Files.{IsThere}
+use Rattle.outside.specs.Files.{Told, IsThere}
 use Rattle.in_memory.specs.Memory.{contents_of}
 use Rattle.outside.proofs.FilesLaws.{emptied_there}
 use Rattle.in_memory.proofs.ShortLaws.{created-new, none-copied}
@@ -10,7 +10,7 @@ use Rattle.in_memory.proofs.short.create_missing.Goals as goal
 pub returns-clause-there : goal.returns-clause-there
 returns-clause-there c =
     let name = c.args.name.now in
-    on_ok_weaker c.create.result (λ made. subst (λ f. IsThere f name) (sym made) (emptied_there (Some (contents_of c.args.folder.now)) name)) c.create.ensures.created
+    on_ok_weaker c.create.result (λ made. subst (λ f. IsThere f name) (sym made) (emptied_there (Told (contents_of c.args.folder.now)) name)) c.create.ensures.created
 
 pub returns-clause-made : goal.returns-clause-made
 returns-clause-made c =

@@ -83,7 +83,7 @@ pub returns-clause-done : goal.returns-clause-done
 returns-clause-done g c =
     one_done (join_task (map string_bytes c.args.inputs.now)) c.args.output.now (sym c.clash.ensures ∙ c.in_default.is) _ _ (seen (g.D.Folder.files c.survey_all.new.folder) (g.D.Folder.counts c.survey_all.new.folder)) _
     (ap₂ seen c.survey_all.ensures.files c.in_ok-surveys.ensures.done) (making g (goal.at.returns-clause-done g c).In_ok-surveys _ _ c.survey_all.ensures.files (ap (map tells) c.deref-3.ensures.value))
-    c.write_joined.ensures.told c.write_joined.result c.write_joined.ensures.written c.write_joined.ensures.done
+    c.write_joined.ensures.touches c.write_joined.result c.write_joined.ensures.written c.write_joined.ensures.done
 
 pub returns-clause-left : goal.returns-clause-left
 returns-clause-left g c =
@@ -91,7 +91,7 @@ returns-clause-left g c =
     let counts = g.D.Folder.counts in
     one_left (join_task (map string_bytes c.args.inputs.now)) c.args.output.now (sym c.clash.ensures ∙ c.in_default.is) _ (seen (files c.args.folder.now) (counts c.args.folder.now)) (seen (files c.survey_all.new.folder) (counts c.survey_all.new.folder)) _
     (ap₂ seen c.survey_all.ensures.files c.in_ok-surveys.ensures.done) (making g (goal.at.returns-clause-left g c).In_ok-surveys _ _ c.survey_all.ensures.files (ap (map tells) c.deref-3.ensures.value))
-    c.write_joined.ensures.told c.write_joined.result c.write_joined.ensures.left
+    c.write_joined.ensures.touches c.write_joined.result c.write_joined.ensures.left
 
 pub returns-clause-streams : goal.returns-clause-streams
 returns-clause-streams g c =

@@ -9,7 +9,7 @@ use Rattle.sync_survey.specs.Faults.{SurveyFields, tells}
 use Rattle.laying.specs.Passing.{IsFresh}
 use Rattle.commands.specs.One.{most_frames, holding, IsPassFault, first_input}
 use Rattle.commands.specs.Left.{seen}
-use Rattle.commands.proofs.OutputLaws.{output_whole, told_whole, told_prefix}
+use Rattle.commands.proofs.OutputLaws.{output_whole, touches_whole, touches_prefix}
 use Rattle.joining.specs.Join.{joined_file}
 use Rattle.joining.specs.Inputs.{CanBeJoined, AreAlike, class_in, told_parts}
 use Rattle.joining.specs.Laying.{AreSources}
@@ -57,13 +57,13 @@ returns-clause-written g c =
     ∙ ap (holding old c.args.output.now) (same g at))
     c.append_joined.ensures.written
 
-pub returns-clause-told : goal.returns-clause-told
-returns-clause-told g c =
-    let source = first-source _ c.name_at.ensures c.known_at-survey.ensures (sources g (goal.at.returns-clause-told g c).In-Ok) in
+pub returns-clause-touches : goal.returns-clause-touches
+returns-clause-touches g c =
+    let source = first-source _ c.name_at.ensures c.known_at-survey.ensures (sources g (goal.at.returns-clause-touches g c).In-Ok) in
     let old = g.D.Folder.files c.args.folder.now in
     either c.append_joined.result c.append_joined.ensures.written c.append_joined.ensures.prefix
-    (told_whole _ c.name_at.result.now c.args.output.now source.apart old _ _ c.in-Ok.ensures.created)
-    (told_prefix _ c.name_at.result.now c.args.output.now source.apart old _ _ c.in-Ok.ensures.created)
+    (touches_whole _ c.name_at.result.now c.args.output.now source.apart old _ _ c.in-Ok.ensures.created)
+    (touches_prefix _ c.name_at.result.now c.args.output.now source.apart old _ _ c.in-Ok.ensures.created)
 
 pub returns-clause-left : goal.returns-clause-left
 returns-clause-left g c =

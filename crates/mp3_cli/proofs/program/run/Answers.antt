@@ -1,11 +1,14 @@
 -- A bad word is refused as it is defined, and each clause follows from the answer of the command.
-use Rattle.std.proofs.Common.{sym, ap, subst, ◌∙◌, map, string_bytes}
+use Rattle.std.proofs.Common.{[], sym, ap, subst, ◌∙◌, map, string_bytes}
 use Rattle.std.specs.Prelude.{IfOk}
+use Rattle.outside.specs.Files.{OnlyTouches}
+use Rattle.outside.proofs.FilesLaws.{touches_none}
 use Rattle.job_words.specs.Code.{asked, answer}
 use Rattle.job_words.specs.Words.{IsSound}
 use Rattle.commands.specs.Left.{seen}
 use Rattle.commands.specs.Said.{heard}
-use Rattle.mp3_cli.proofs.RunLaws.{bad_word_defined, is_defined, is_accepted, quiet}
+use Rattle.mp3_cli.proofs.RunLaws.{bad_word_defined, is_defined, is_accepted, touched, quiet}
+use Rattle.mp3_cli.specs.Run.{outputs_asked}
 use Rattle.mp3_cli.proofs.WrittenLaws.{written-streams}
 use Rattle.mp3_cli.proofs.program.run.Goals as goal
 
@@ -34,3 +37,13 @@ returns-in-Ok-clause-streams g c =
     (subst (λ r. IfOk r (λ job. IsSound (asked job))) c.in-Ok.is c.job.ensures.sound)
     (seen (g.D.Folder.files c.args.folder.now) (g.D.Folder.counts c.args.folder.now)) (seen (g.D.Folder.files c.run_job.new.folder) (g.D.Folder.counts c.run_job.new.folder))
     _ _ _ _ _ c.run_job.ensures.answers c.run_job.ensures.streams
+
+pub returns-in-Err-clause-touches : goal.returns-in-Err-clause-touches
+returns-in-Err-clause-touches g c =
+    subst (λ r. OnlyTouches (outputs_asked r) (g.D.Folder.files c.args.folder.now) (g.D.Folder.files c.args.folder.now)) (ap answer (sym c.in-Err.is) ∙ c.job.ensures.exact)
+    (touches_none [] (g.D.Folder.files c.args.folder.now))
+
+pub returns-in-Ok-clause-touches : goal.returns-in-Ok-clause-touches
+returns-in-Ok-clause-touches g c =
+    subst (λ r. OnlyTouches (outputs_asked r) (g.D.Folder.files c.args.folder.now) (g.D.Folder.files c.run_job.new.folder)) (ap answer (sym c.in-Ok.is) ∙ c.job.ensures.exact)
+    (touched _ (seen (g.D.Folder.files c.args.folder.now) (g.D.Folder.counts c.args.folder.now)) (seen (g.D.Folder.files c.run_job.new.folder) (g.D.Folder.counts c.run_job.new.folder)) _ _ _ _ _ c.run_job.ensures.answers)

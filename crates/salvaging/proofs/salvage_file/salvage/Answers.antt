@@ -42,7 +42,7 @@ returns-in_err-write_output-clause-left g c =
     let p = err_from_is_err_and c.from_residual-in_err-write_output.result c.from_residual-in_err-write_output.ensures.1 in
     rw (p.1, p.2)
     (left-part c.args.input.now c.args.output.now (sym c.clash.ensures ∙ c.in_default.is) (seen (files c.args.folder.now) (counts c.args.folder.now)) (seen (files c.prepare.new.folder) (counts c.prepare.new.folder)) (seen (files c.write_output.new.folder) (counts c.write_output.new.folder))
-    c.in_ok-work.work (ap₂ seen c.prepare.ensures.files c.in_ok-work.ensures.done) c.in_ok-work.ensures.ready c.write_output.ensures.told _ c.in_err-write_output.ensures.left)
+    c.in_ok-work.work (ap₂ seen c.prepare.ensures.files c.in_ok-work.ensures.done) c.in_ok-work.ensures.ready c.write_output.ensures.touches _ c.in_err-write_output.ensures.left)
 
 pub returns-in_err-write_output-clause-numbers : goal.returns-in_err-write_output-clause-numbers
 returns-in_err-write_output-clause-numbers g c =
@@ -54,7 +54,7 @@ returns-in-Ok-clause-done g c =
     let files = g.D.Folder.files in
     let counts = g.D.Folder.counts in
     left-done c.args.input.now c.args.output.now (sym c.clash.ensures ∙ c.in_default.is) (seen (files c.args.folder.now) (counts c.args.folder.now)) (seen (files c.prepare.new.folder) (counts c.prepare.new.folder)) (seen (files c.write_output.new.folder) (counts c.write_output.new.folder))
-    c.in_ok-work.work (ap₂ seen c.prepare.ensures.files c.in_ok-work.ensures.done) c.in_ok-work.ensures.ready c.write_output.ensures.told c.in_ok-write_output.ensures.written c.in_ok-write_output.ensures.done
+    c.in_ok-work.work (ap₂ seen c.prepare.ensures.files c.in_ok-work.ensures.done) c.in_ok-work.ensures.ready c.write_output.ensures.touches c.in_ok-write_output.ensures.written c.in_ok-write_output.ensures.done
 
 pub returns-in-Ok-clause-streams : goal.returns-in-Ok-clause-streams
 returns-in-Ok-clause-streams g c = left-streams c.args.input.now c.args.output.now (sym c.clash.ensures ∙ c.in_default.is) (g.D.Folder.files c.args.folder.now) c.in_ok-work.work c.in_ok-work.ensures.ready
@@ -74,7 +74,7 @@ returns-clause-left g c =
     let files = g.D.Folder.files in
     let counts = g.D.Folder.counts in
     left-done c.args.input.now c.args.output.now (sym c.clash.ensures ∙ c.in_default.is) (seen (files c.args.folder.now) (counts c.args.folder.now)) (seen (files c.prepare.new.folder) (counts c.prepare.new.folder)) (seen (files c.write_output.new.folder) (counts c.write_output.new.folder))
-    c.in_ok-work.work (ap₂ seen c.prepare.ensures.files c.in_ok-work.ensures.done) c.in_ok-work.ensures.ready c.write_output.ensures.told c.in_ok-write_output.ensures.written c.in_ok-write_output.ensures.done
+    c.in_ok-work.work (ap₂ seen c.prepare.ensures.files c.in_ok-work.ensures.done) c.in_ok-work.ensures.ready c.write_output.ensures.touches c.in_ok-write_output.ensures.written c.in_ok-write_output.ensures.done
 
 pub returns-clause-says : goal.returns-clause-says
 returns-clause-says g c = record {

@@ -3,7 +3,7 @@ use Rattle.std.proofs.Common.{sym, subst}
 use Rattle.sync_survey.specs.Faults.{tells}
 use Rattle.commands.specs.Left.{seen}
 use Rattle.commands.specs.One.{IsPassFault}
-use Rattle.commands.proofs.OutputLaws.{output_whole, told_whole, told_prefix, pass_fault}
+use Rattle.commands.proofs.OutputLaws.{output_whole, touches_whole, touches_prefix, pass_fault}
 use Rattle.frame_edits.specs.Selected.{selected_file}
 use Rattle.frame_edits.proofs.LaidPass.{relay-ready}
 use Rattle.salvaging.proofs.written.write_output.Goals as goal
@@ -17,13 +17,13 @@ pub returns-in-Ok-write_selection-clause-written : goal.returns-in-Ok-write_sele
 returns-in-Ok-write_selection-clause-written g c =
     output_whole (selected_file (tells c.args.survey.now) c.args.selection.now) c.args.input.now c.args.output.now c.requires.apart (g.D.Folder.files c.args.folder.now) _ _ c.in-Ok.ensures.created c.in-Ok-write_selection.ensures.written
 
-pub returns-in-Ok-write_selection-clause-told : goal.returns-in-Ok-write_selection-clause-told
-returns-in-Ok-write_selection-clause-told g c =
-    told_whole (selected_file (tells c.args.survey.now) c.args.selection.now) c.args.input.now c.args.output.now c.requires.apart (g.D.Folder.files c.args.folder.now) _ _ c.in-Ok.ensures.created c.in-Ok-write_selection.ensures.written
+pub returns-in-Ok-write_selection-clause-touches : goal.returns-in-Ok-write_selection-clause-touches
+returns-in-Ok-write_selection-clause-touches g c =
+    touches_whole (selected_file (tells c.args.survey.now) c.args.selection.now) c.args.input.now c.args.output.now c.requires.apart (g.D.Folder.files c.args.folder.now) _ _ c.in-Ok.ensures.created c.in-Ok-write_selection.ensures.written
 
-pub returns-in-Err-clause-told : goal.returns-in-Err-clause-told
-returns-in-Err-clause-told g c =
-    told_prefix (selected_file (tells c.args.survey.now) c.args.selection.now) c.args.input.now c.args.output.now c.requires.apart (g.D.Folder.files c.args.folder.now) _ _ c.in-Ok.ensures.created c.in-Err.ensures.prefix
+pub returns-in-Err-clause-touches : goal.returns-in-Err-clause-touches
+returns-in-Err-clause-touches g c =
+    touches_prefix (selected_file (tells c.args.survey.now) c.args.selection.now) c.args.input.now c.args.output.now c.requires.apart (g.D.Folder.files c.args.folder.now) _ _ c.in-Ok.ensures.created c.in-Err.ensures.prefix
 
 pub returns-in-Err-clause-left : goal.returns-in-Err-clause-left
 returns-in-Err-clause-left g c =

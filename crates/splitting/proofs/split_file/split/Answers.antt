@@ -65,7 +65,7 @@ returns-clause-done g c =
     (λ written done.
     split-done c.args.points.now c.args.input.now c.args.prefix.now (sym c.clash.ensures ∙ c.in_default.is) (tells c.in_ok-survey.survey) _ (seen (g.D.Folder.files c.places_of.new.folder) (g.D.Folder.counts c.places_of.new.folder))
     (seen (g.D.Folder.files c.write_pieces.new.folder) (g.D.Folder.counts c.write_pieces.new.folder)) (stays g at) c.in_ok-survey.ensures.there c.in_ok-survey.ensures.surveyed c.as_slice.result.now (said g at) c.in_ok-pieces.pieces.items c.in_ok-pieces.ensures.pieces c.in_ok-pieces.ensures.chosen
-    written c.write_pieces.ensures.told done)
+    written (omega (arith, c.in_ok-pieces.ensures.count, c.in_ok-places.ensures.most, ap length c.as_slice.ensures.value)) c.write_pieces.ensures.touches done)
     c.write_pieces.ensures.written c.write_pieces.ensures.done
 
 pub returns-clause-left : goal.returns-clause-left
@@ -75,7 +75,7 @@ returns-clause-left g c =
     (λ fault is.
     split-left c.args.points.now c.args.input.now c.args.prefix.now (sym c.clash.ensures ∙ c.in_default.is) (tells c.in_ok-survey.survey) _ (seen (g.D.Folder.files c.places_of.new.folder) (g.D.Folder.counts c.places_of.new.folder))
     (seen (g.D.Folder.files c.write_pieces.new.folder) (g.D.Folder.counts c.write_pieces.new.folder)) (stays g at) c.in_ok-survey.ensures.there c.in_ok-survey.ensures.surveyed c.as_slice.result.now (said g at) c.in_ok-pieces.pieces.items c.in_ok-pieces.ensures.pieces c.in_ok-pieces.ensures.chosen
-    fault is)
+    fault (omega (arith, c.in_ok-pieces.ensures.count, c.in_ok-places.ensures.most, ap length c.as_slice.ensures.value)) c.write_pieces.ensures.touches is)
     c.write_pieces.ensures.left
 
 pub returns-clause-numbers : goal.returns-clause-numbers

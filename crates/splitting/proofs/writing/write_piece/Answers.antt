@@ -5,7 +5,7 @@ use Rattle.frame_edits.specs.Selected.{selected_file}
 use Rattle.laying.proofs.ChosenFrames.{survey-had}
 use Rattle.commands.specs.One.{most_frames}
 use Rattle.frame_edits.proofs.LaidPass.{relay-ready}
-use Rattle.splitting.proofs.OutputsLaws.{fed-beside, piece-whole, piece-told, piece-left}
+use Rattle.splitting.proofs.OutputsLaws.{fed-beside, piece-whole, piece-touches, piece-left}
 use Rattle.splitting.proofs.writing.write_piece.Goals as goal
 
 pub write_selection-requires-clause-ready : goal.write_selection-requires-clause-ready
@@ -20,9 +20,9 @@ returns-clause-written g c =
     piece-whole (selected_file (tells c.args.survey.now) c.args.piece.now.selection) c.length.result c.args.input.now c.as_str-output.result.now _ c.as_str-output.ensures.value c.requires.apart (g.D.Folder.files c.args.folder.now) _ _ c.in-Ok.ensures.created c.write_selection.result
     c.write_selection.ensures.written
 
-pub returns-clause-told : goal.returns-clause-told
-returns-clause-told g c =
-    piece-told (selected_file (tells c.args.survey.now) c.args.piece.now.selection) c.length.result c.args.input.now c.as_str-output.result.now _ c.as_str-output.ensures.value c.requires.apart (g.D.Folder.files c.args.folder.now) _ _ c.in-Ok.ensures.created c.write_selection.result
+pub returns-clause-touches : goal.returns-clause-touches
+returns-clause-touches g c =
+    piece-touches (selected_file (tells c.args.survey.now) c.args.piece.now.selection) c.length.result c.args.input.now c.as_str-output.result.now _ c.as_str-output.ensures.value c.requires.apart (g.D.Folder.files c.args.folder.now) _ _ c.in-Ok.ensures.created c.write_selection.result
     c.write_selection.ensures.written c.write_selection.ensures.prefix
 
 pub returns-clause-left : goal.returns-clause-left

@@ -3,7 +3,7 @@ use Rattle.std.proofs.Common.{◌≡◌, ◌∷◌, [], ◌++◌, length, refl, 
 use Rattle.std.specs.Vec.Iter.{into_iter_items}
 use Rattle.sync_survey.specs.Faults.{tells}
 use Rattle.commands.specs.Left.{seen}
-use Rattle.splitting.specs.Steps.{CanBeWritten, outputs_of, IsPiecesFault}
+use Rattle.splitting.specs.Steps.{CanBeWritten, outputs_of, names_of, IsPiecesFault}
 use Rattle.splitting.proofs.OutputsLaws.{none-wrote, more-wrote, pieces-fault}
 use Rattle.splitting.proofs.writing.write_pieces.Given as given
 use Rattle.splitting.proofs.writing.write_pieces.Goals as goal
@@ -36,9 +36,9 @@ returns-in-Err-clause-left g c =
     let files = g.D.Folder.files in
     let counts = g.D.Folder.counts in
     let at = c.loop-piece in
-    subst (IsPiecesFault (outputs_of s c.args.pieces.items) c.args.input.now (seen (files c.args.folder.now) (counts c.args.folder.now)) (seen (files c.write_piece.new.folder) (counts c.write_piece.new.folder))) (sym c.of_piece.ensures)
+    subst (IsPiecesFault (outputs_of s c.args.pieces.items) (names_of c.args.pieces.items) c.args.input.now (seen (files c.args.folder.now) (counts c.args.folder.now)) (seen (files c.write_piece.new.folder) (counts c.write_piece.new.folder))) (sym c.of_piece.ensures)
     (pieces-fault s c.args.input.now at.yielded c.in-Some.piece (into_iter_items c.next.new.self) c.args.pieces.items (files c.args.folder.now) (files at.folder) (files c.write_piece.new.folder) (split g (goal.at.returns-in-Err-clause-left g c).After-write_piece)
-    at.invariant.4 c.write_piece.ensures.told c.in-Err.fault at.place (counts c.args.folder.now) (counts at.folder) (counts c.write_piece.new.folder) at.invariant.3 at.invariant.7 c.in-Err.ensures.left)
+    at.invariant.4 c.write_piece.ensures.touches c.in-Err.fault at.place (counts c.args.folder.now) (counts at.folder) (counts c.write_piece.new.folder) at.invariant.3 at.invariant.7 c.in-Err.ensures.left)
 
 pub loop-piece-preserved : goal.loop-piece-preserved
 loop-piece-preserved g c =
@@ -52,7 +52,7 @@ loop-piece-preserved g c =
       omega (arith, at.invariant.1, c.in-Some.ensures.steps.1, ap length (steps g written)),
       ready.2,
       omega (arith, at.invariant.3, length-append at.yielded (piece ∷ [])),
-      more-wrote s c.args.input.now at.yielded piece (files c.args.folder.now) (files at.folder) (files c.write_piece.new.folder) ready.0 at.invariant.4 c.in_default.ensures.written c.write_piece.ensures.told,
+      more-wrote s c.args.input.now at.yielded piece (files c.args.folder.now) (files at.folder) (files c.write_piece.new.folder) ready.0 at.invariant.4 c.in_default.ensures.written c.write_piece.ensures.touches,
       c.in_default.ensures.fed,
       c.in_default.ensures.unsent,
       c.in_default.ensures.done ∙ at.invariant.7,

@@ -1,0 +1,34 @@
+-- Which names a command touches, however it ends: none but those of its outputs.
+use Rattle.std.proofs.Common.{◌≢◌, ℕ, ◌+◌, List, take, sym, ap, subst, inl, inr}
+use Rattle.std.proofs.lemmas.List.Elements.{All-take}
+use Rattle.std.specs.Prelude.{◌≡◌, ◌⊎◌}
+use Rattle.outside.specs.Files.{Files, OnlyTouches}
+use Rattle.outside.proofs.FilesLaws.{touches_none, touches_more}
+use Rattle.commands.specs.Command.{Command}
+use Rattle.commands.specs.declared.fault.EditFault.{EditFault}
+use Rattle.commands.specs.Left.{Why, Rejected, Missing, Unread, Shorter, Unwritten, Unsent, NoMemory, why_of, Seen, IsWrittenTo, LeavesBy, Leaves}
+
+module _ (command : Command) where
+  stays_touched : (old new : Files) → new ≡ old → OnlyTouches command.outputs old new
+  stays_touched old new same = subst (λ files. OnlyTouches command.outputs old files) (sym same) (touches_none command.outputs old)
+
+  written_touched : (k : ℕ) (old new : Files) → IsWrittenTo command k old new → OnlyTouches command.outputs old new
+  written_touched k old new wrote =
+      touches_more (take (k + 1) command.outputs) command.outputs old new (λ other apart. All-take (λ name. other ≢ name) (k + 1) command.outputs apart) wrote.touches
+
+  module _ (old new : Seen) (fault : EditFault) where
+    unread_touched : (new.files ≡ old.files) ⊎ ((k : ℕ) × IsWrittenTo command k old.files new.files) → OnlyTouches command.outputs old.files new.files
+    unread_touched (inl same) = stays_touched old.files new.files same
+    unread_touched (inr wrote) = written_touched wrote.0 old.files new.files wrote.1
+
+    left_touched_by : (why : Why) → LeavesBy command old new fault why → OnlyTouches command.outputs old.files new.files
+    left_touched_by Rejected h = stays_touched old.files new.files (ap (λ (s : Seen). s.files) h.stays)
+    left_touched_by Missing h = stays_touched old.files new.files h.files
+    left_touched_by Unread h = unread_touched h.files
+    left_touched_by Shorter h = h.touches
+    left_touched_by (Unwritten k) h = written_touched k old.files new.files h.files
+    left_touched_by Unsent h = h.touches
+    left_touched_by NoMemory h = stays_touched old.files new.files (ap (λ (s : Seen). s.files) h.stays)
+
+    pub left_touched : Leaves command old new fault → OnlyTouches command.outputs old.files new.files
+    left_touched h = left_touched_by (why_of fault) h

@@ -1,0 +1,33 @@
+-- A name that was added to those that may have been touched.
+use Rattle.std.proofs.Common.{◌≡◌, ℕ, List, refl, ◌∙◌, sym, ap, string_bytes}
+use Rattle.std.proofs.lemmas.Map.Text.{btree_set_updates_text}
+use Rattle.std.specs.BTreeSet.{UpdatesBy, contains_text}
+use Rattle.std.specs.Cmp.Lexicographic.{slice_cmp}
+use Rattle.std.specs.Ordering.{nat_cmp}
+use Rattle.std.specs.Prelude.{Bool, true, false, cond, ◌||◌, ◌&&◌, bytes_eq}
+use Rattle.std.specs.String.{string_cmp}
+use Rattle.on_disk.specs.Names.{touched_in}
+use Rattle.on_disk.specs.declared.touched.Touched.{Touched as TouchedNames}
+use Rattle.outside.specs.Files.{Touched, with_touch}
+use Rattle.outside.proofs.FilesLaws.{same_touched}
+use Rattle.std.proofs.lemmas.Slice.Eq.{bytes_eq-Decides}
+
+module _ (old : TouchedNames) (name : List ℕ) where
+  pub touch_added : (new : TouchedNames) → UpdatesBy string_cmp (λ key. slice_cmp nat_cmp name (string_bytes key)) old.names new.names true → touched_in new ≡ with_touch (touched_in old) name true
+  touch_added new sets = same_touched _ _ (λ other. btree_set_updates_text name old.names new.names true sets other ∙ at (bytes_eq name other) (touched_in old other))
+    where
+      at : (same was : Bool) → cond same true was ≡ (was || true && same)
+      at true true = refl
+      at true false = refl
+      at false true = refl
+      at false false = refl
+
+-- what may have been touched already stays so
+pub touch_again : (touched : Touched) (name : List ℕ) (is_so : Bool) → touched name ≡ true → touched ≡ with_touch touched name is_so
+touch_again touched name is_so was = same_touched _ _ (λ other. at other is_so (bytes_eq name other) (touched other) refl refl)
+  where
+    at : (other : List ℕ) (is_so same before : Bool) → bytes_eq name other ≡ same → touched other ≡ before → before ≡ (before || is_so && same)
+    at other is_so same true e t = refl
+    at other true false false e t = refl
+    at other false same false e t = refl
+    at other true true false e t = sym t ∙ sym (ap touched ((bytes_eq-Decides name other).0 e)) ∙ was
