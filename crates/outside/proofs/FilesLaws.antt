@@ -5,10 +5,10 @@ use Rattle.std.proofs.lemmas.List.{append-nil, take_all}
 use Rattle.std.proofs.lemmas.List.Elements.{All-nil, All-cons, All-head, All-tail}
 use Rattle.std.proofs.lemmas.Map.{update_same, update_other, update-update}
 use Rattle.std.proofs.lemmas.Slice.Eq.{bytes_eq-Decides}
-use Rattle.std.specs.Prelude.{Bool, true, false, cond, ◌||◌, ◌&&◌, ◌⊎◌, Option, Some, None, unwrap_or, IsSome, is_some, bytes_eq}
+use Rattle.std.specs.Prelude.{Bool, true, false, cond, ◌||◌, ◌&&◌, ◌⊎◌, Option, Some, None, unwrap_or, IsSome, is_some, bytes_eq, Result, Ok, Err, IfOk}
 use Rattle.std.specs.List.{All}
 use Rattle.std.specs.Map.{update}
-use Rattle.outside.specs.Files.{Contents, Touched, Files, Told, Untold, Sent, is_told, with_file, with_touch, is_some_byte, emptied, appended, tried, FailsToCreate, OnlyTouches, sent_more, Holds, IsThere}
+use Rattle.outside.specs.Files.{Contents, Touched, Files, Told, Untold, untold, Sent, is_told, with_file, with_touch, is_some_byte, emptied, appended, tried, FailsToCreate, OnlyTouches, sent_more, Holds, IsThere}
 
 -- the name of a file is equal to itself, and to no other
 pub bytes_eq_same : (name : List ℕ) → bytes_eq name name ≡ true
@@ -198,6 +198,12 @@ pub appended_told : (files : Files) (name more : List ℕ) → is_told (appended
 unfolding appended
 appended_told (Untold touched) name more = refl
 appended_told (Told f) name more = refl
+
+-- a folder that tells nothing at all tells nothing more when it is written to
+pub untold_written : {E : Type 0} (r : Result ℕ E) (name bytes : List ℕ) → IfOk r (λ k. untold ≡ appended untold name (take k bytes))
+unfolding appended
+untold_written (Ok k) name bytes = refl
+untold_written (Err fault) name bytes = tt
 
 -- ---- which names stay
 
