@@ -73,7 +73,7 @@ number-bits_of (suc width) n =
 pub number-bits_of-below : (width n : ℕ) → n < 2 ^ width → number (bits_of width n) ≡ n
 number-bits_of-below width n h = number-bits_of width n ∙ mod-eq_of_lt h
 
--- bits from the width up don't count
+-- bits above the lowest `width` don't count
 pub bits_of-cat_low : (width place high n : ℕ) → width ≤ place → bits_of width (high * 2 ^ place + n) ≡ bits_of width n
 unfolding bits_of
 bits_of-cat_low zero place high n h = refl
@@ -93,7 +93,7 @@ bits_of-number (b ∷ bs) h =
     (ap (λ n. n % 2) (shr_high b (length bs) (number bs) below) ∙ mod-eq_of_lt h.0)
     (bits_of-cat_low (length bs) (length bs) b (number bs) (omega arith) ∙ bits_of-number bs h.1)
 
--- bits with one number and one length are one
+-- two lists of bits of the same length that spell the same number are equal
 pub number-injective : (cs bs : List ℕ) → AreBits cs → AreBits bs → length cs ≡ length bs → number cs ≡ number bs → cs ≡ bs
 number-injective cs bs ha hb l e =
     sym (bits_of-number cs ha) ∙ ap₂ bits_of l e ∙ bits_of-number bs hb
@@ -121,17 +121,17 @@ pub drop-bits_of : (high low n : ℕ) → drop high (bits_of (high + low) n) ≡
 drop-bits_of high low n =
     ap (drop high) (bits_of-add high low n) ∙ drop_at (bits_of high (n / 2 ^ low)) (bits_of low n) high (length-bits_of high (n / 2 ^ low))
 
--- so many bits in the middle
+-- so many bits in the middle of the bits of a number
 pub middle-bits_of : (before width after n : ℕ) → take width (drop before (bits_of (before + (width + after)) n)) ≡ bits_of width (n / 2 ^ after)
 middle-bits_of before width after n =
     ap (take width) (drop-bits_of before (width + after) n) ∙ take-bits_of width after n
 
--- their number
+-- the number of these bits
 pub number-middle : (before width after n : ℕ) → number (take width (drop before (bits_of (before + (width + after)) n))) ≡ n / 2 ^ after % 2 ^ width
 number-middle before width after n =
     ap number (middle-bits_of before width after n) ∙ number-bits_of width (n / 2 ^ after)
 
--- the same where all the bits are so many
+-- the same by the width of the whole
 pub number-middle_of : (whole before width n : ℕ) → before + width ≤ whole → number (take width (drop before (bits_of whole n))) ≡ n / 2 ^ (whole - before - width) % 2 ^ width
 number-middle_of whole before width n h =
     let e : before + (width + (whole - before - width)) ≡ whole = omega arith in
@@ -286,7 +286,7 @@ AreBytes-drop zero xs h = h
 AreBytes-drop (suc n) [] h = tt
 AreBytes-drop (suc n) (x ∷ xs) h = AreBytes-drop n xs h.1
 
--- a slice of `u8` gives its bound place by place
+-- if the bytes of a slice of `u8` are below 256 place by place, all are
 pub AreBytes-from_places : (xs : List ℕ) → ((i : ℕ) → get_or xs i 0 < 256) → AreBytes xs
 AreBytes-from_places [] h = tt
 AreBytes-from_places (x ∷ xs) h = (h 0, AreBytes-from_places xs (λ i. h (suc i)))

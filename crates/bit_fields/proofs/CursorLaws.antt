@@ -1,4 +1,4 @@
--- A place moved on twice is moved on once.
+-- Going on twice is going on once by the sum.
 use Rattle.std.proofs.Common.{◌≡◌, ℕ, ◌+◌, add_assoc}
 use Rattle.std.proofs.lemmas.List.{drop-drop}
 use Rattle.bit_fields.specs.Cursor.{Cursor, advanced}

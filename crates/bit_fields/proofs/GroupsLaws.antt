@@ -95,7 +95,7 @@ pub numbers_at-spelled : (widths ns : List ℕ) → Fits widths ns → numbers_a
 numbers_at-spelled widths ns h =
     ap (numbers_at widths) (sym (append-nil (spelled widths ns))) ∙ numbers_at-spelled_more widths ns [] h
 
--- the first bits are those of the numbers
+-- the first bits are those that the numbers of the groups spell
 pub spelled-numbers_at_front : (widths bs : List ℕ) → AreBits bs → sum widths ≤ length bs → spelled widths (numbers_at widths bs) ≡ take (sum widths) bs
 unfolding numbers_at spelled
 spelled-numbers_at_front [] bs all h = refl
@@ -113,7 +113,7 @@ pub spelled-numbers_at : (widths bs : List ℕ) → AreBits bs → length bs ≡
 spelled-numbers_at widths bs all h =
     spelled-numbers_at_front widths bs all (omega arith) ∙ take_all (sum widths) bs (omega arith)
 
--- bits with the same numbers in groups that take them all are one
+-- bits are equal if their numbers in groups that cover them are
 pub numbers_at-injective : (widths cs bs : List ℕ) → AreBits cs → AreBits bs → length cs ≡ sum widths → length bs ≡ sum widths → numbers_at widths cs ≡ numbers_at widths bs → cs ≡ bs
 numbers_at-injective widths cs bs hc hb lc lb e =
     sym (spelled-numbers_at widths cs hc lc) ∙ ap (spelled widths) e ∙ spelled-numbers_at widths bs hb lb
@@ -158,7 +158,7 @@ numbers_at-take widths bs n h l =
     let m : sum widths ≤ length (take n bs) = simp length-take (omega arith) in
     sym (numbers_at-front widths (take n bs) (drop n bs) m) ∙ ap (numbers_at widths) (take-append-drop n bs)
 
--- a group of the front
+-- a group within a prefix
 pub group-front : (from width : ℕ) (bs more : List ℕ) → from + width ≤ length bs → group from width (bs ++ more) ≡ group from width bs
 unfolding group
 group-front from width bs more h =
@@ -174,7 +174,7 @@ group-take from width n bs h =
     ∙ ap (λ ds. number (take width ds)) (drop-take from (n - from) bs)
     ∙ ap number (take-take width (n - from) (drop from bs) (omega arith))
 
--- a group after a front
+-- a group after a prefix
 pub group-behind : (from width : ℕ) (cs bs : List ℕ) → group (length cs + from) width (cs ++ bs) ≡ group from width bs
 unfolding group
 group-behind from width cs bs = ap (λ ds. number (take width ds)) (drop-append-add cs bs from)
@@ -183,7 +183,7 @@ pub group-drop : (more from width : ℕ) (bs : List ℕ) → group from width (d
 unfolding group
 group-drop more from width bs = ap (λ ds. number (take width ds)) (drop-drop from more bs)
 
--- a group of the bits of bytes is one of the bits of those bytes that it reaches
+-- a group of the bits of bytes is a group of the bits of the few bytes that it is in
 pub group-bits_part : (from width first count : ℕ) (xs : List ℕ) → 8 * first ≤ from → from + width ≤ 8 * (first + count) → group from width (bits xs) ≡ group (from - 8 * first) width (bits (take count (drop first xs)))
 group-bits_part from width first count xs h l =
     let e : 8 * first + (from - 8 * first) ≡ from = omega arith in
@@ -193,7 +193,7 @@ group-bits_part from width first count xs h l =
     ∙ sym (group-take (from - 8 * first) width (8 * count) (bits (drop first xs)) (omega arith))
     ∙ ap (group (from - 8 * first) width) (take-bits count (drop first xs))
 
--- a group as a part of the number of all bits
+-- a group, by division and remainder of the number of all bits
 pub group-number : (from width : ℕ) (bs : List ℕ) → AreBits bs → from + width ≤ length bs → group from width bs ≡ number bs / 2 ^ (length bs - from - width) % 2 ^ width
 unfolding group
 group-number from width bs h l = number-within from width bs h l

@@ -46,7 +46,7 @@ module _ (xs : List ℕ) (i window rest : ℕ) (within : i < length xs) where
       let e : 8 * (length xs - (i + 1)) + 8 ≡ 8 * (length xs - i) = omega arith in
       ap (λ n. n / 256) left ∙ shr-shr window (8 * (length xs - (i + 1))) 8 ∙ ap (λ w. window / 2 ^ w) e
 
--- ---- a group within the bytes that it reaches
+-- ---- a group within the few bytes that it is in
 pub read_group : (xs : List ℕ) (from width first last window : ℕ) → 8 * first ≤ from → from + width ≤ 8 * last → first ≤ last → last ≤ length xs → window ≡ number (bits (take (last - first) (drop first xs))) → window / 2 ^ (8 * last - (from + width)) % 2 ^ width ≡ group from width (bits xs)
 read_group xs from width first last window h l ordered within e =
     let part : List ℕ = take (last - first) (drop first xs) in
@@ -105,7 +105,7 @@ put_in_part bs start size offset n vs h l =
     ∙ sym (append_assoc (take start bs) (take offset (take size (drop start bs)) ++ vs) (drop (start + offset + n) bs))
     ∙ ap (λ cs. cs ++ drop (start + offset + n) bs) (sym (append_assoc (take start bs) (take offset (take size (drop start bs))) vs) ∙ ap (λ cs. cs ++ vs) front)
 
--- the bytes that a group reaches, written again
+-- the bytes that a group is in, written again
 module _ (xs ys : List ℕ) (from n first last window value : ℕ) (low : 8 * first ≤ from) (high : from + n ≤ 8 * last) (ordered : first ≤ last) (within : last ≤ length xs) (fits : value < 2 ^ n) where
   pub reached : length (take (last - first) (drop first xs)) ≡ last - first
   reached = length-take-le (last - first) (drop first xs) (simp length-drop (omega arith))

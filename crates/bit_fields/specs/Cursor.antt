@@ -6,6 +6,6 @@ pub record Cursor : Type 0 where
   pub place : ℕ
   pub left : List ℕ
 
--- n bits further on
+-- the same, n bits further on
 abbrev pub advanced : Cursor → ℕ → Cursor
 advanced c n = record { place = c.place + n; left = drop n c.left }

@@ -17,7 +17,7 @@ spelled [] ns = []
 spelled (width ∷ widths) [] = []
 spelled (width ∷ widths) (n ∷ ns) = bits_of width n ++ spelled widths ns
 
--- bits with a value in place of the group of so many bits that begins at a bit
+-- the bits with a value in place of the group of so many bits that begins at bit `at`
 abbrev pub with_value : ℕ → ℕ → ℕ → List ℕ → List ℕ
 with_value at width value bs = take at bs ++ bits_of width value ++ drop (at + width) bs
 

@@ -1,4 +1,4 @@
-//! The bits of a byte slice: taken in turn as numbers, and put in place.
+//! The bits of a byte slice, read in turn as numbers and written in place.
 #![tactic(auto)]
 
 mod reader;

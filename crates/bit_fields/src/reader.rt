@@ -1,4 +1,4 @@
-//! Numbers of successive groups of bits.
+//! Reads successive groups of bits as numbers.
 ghost use Rattle.std.specs.Prelude.{◌≡◌, ◌+◌, ◌*◌, ◌^◌, ◌<◌, ◌≤◌, ◌↔◌, length, take, IsNone, IsSome, IfNone, IfSome};
 ghost use Rattle.bit_fields.specs.Bits.{bits, number};
 ghost use Rattle.bit_fields.specs.Cursor.{advanced};
@@ -26,7 +26,7 @@ impl<'a> Model for Bits<'a> {
 }
 
 impl<'a> Bits<'a> {
-    /// The first bit of the bytes, of which there are at most 2^28.
+    /// Begins at the first bit of the bytes, of which there are at most 2^28.
     pub fn new(bytes: &'a [u8]) -> Self
         requires { length bytes.now ≤ 2 ^ 28 }
         ensures place { result.place ≡ 0 }

@@ -54,7 +54,7 @@ pub(crate) fn word_at(bytes: &[u8], first: usize) -> u64
     ])
 }
 
-/// The number of a group of bits, by one load of eight bytes that hold it.
+/// The number of a group of bits, by one load of eight bytes that hold it, so there have to be eight.
 #[inline]
 fn number_in_word(bytes: &[u8], at: usize, n: u32) -> u32
     requires some { 1 ≤ n }
@@ -71,7 +71,7 @@ fn number_in_word(bytes: &[u8], at: usize, n: u32) -> u32
     ((word_at(bytes, first) >> spare as u32) % (1 << n)) as u32
 }
 
-/// The number of a group of bits, by the bytes that it reaches.
+/// The number of a group of bits, from the one to five bytes that it is in.
 fn number_in_bytes(bytes: &[u8], at: usize, n: u32) -> u32
     requires few { n ≤ 32 }
     requires room { at + n ≤ 8 * length bytes.now }

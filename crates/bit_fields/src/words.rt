@@ -1,4 +1,4 @@
-//! 64 bits at a time, put in place as eight bytes.
+//! 64 bits at a time, written in place as eight bytes.
 ghost use Rattle.std.specs.Prelude.{◌≡◌, ◌+◌, ◌-◌, ◌*◌, ◌/◌, ◌^◌, ◌<◌, ◌≤◌, ◌++◌, length};
 ghost use Rattle.bit_fields.specs.Bits.{bits, bits_of};
 ghost use Rattle.bit_fields.specs.Groups.{with_value};
@@ -21,7 +21,8 @@ pub fn set_low_byte(bytes: &mut [u8], place: usize, word: u64)
     bytes[place] = (word % 256) as u8;
 }
 
-/// A word of the lowest `kept` bits of one number, and after them of the bits of another above its lowest `left`.
+/// A word whose highest `kept` bits are the lowest `kept` bits of `above`, and whose other bits are those
+/// of `below` without its lowest `left` bits.
 #[inline]
 pub fn spanned(above: u64, kept: u32, below: u64, left: u32) -> u64
     requires some { 1 ≤ kept }

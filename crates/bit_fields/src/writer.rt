@@ -1,4 +1,4 @@
-//! A group of bits put in place.
+//! Writes a group of bits in place.
 ghost use Rattle.std.specs.Prelude.{◌≡◌, ◌+◌, ◌*◌, ◌/◌, ◌^◌, ◌<◌, ◌≤◌, ◌++◌, length, take, drop};
 ghost use Rattle.bit_fields.specs.Bits.{bits, bits_of};
 
@@ -22,8 +22,8 @@ pub fn put(bytes: &mut [u8], at: usize, n: u32, value: u32)
     }
 }
 
-/// The eight bits from bit `at` on become the value, where two bytes are there from the first of them on;
-/// all other bits stay.
+/// The eight bits from bit `at` on become the value; all other bits stay. At least 16 bits have to be there
+/// from `at` on, since it always writes two bytes.
 #[inline]
 pub fn put_byte(bytes: &mut [u8], at: usize, value: u8)
     requires room { at + 16 ≤ 8 * length bytes.old }
@@ -34,7 +34,8 @@ pub fn put_byte(bytes: &mut [u8], at: usize, value: u8)
     put_in_bytes(bytes, at, 8, u32::from(value), at / 8 + 2);
 }
 
-/// A group of bits put in place by the bytes from its first on, up to this end.
+/// Writes a group of bits in place, by writing the bytes from its first on, up to but not including byte
+/// `last`.
 #[inline]
 fn put_in_bytes(bytes: &mut [u8], at: usize, n: u32, value: u32, last: usize)
     requires few { n ≤ 32 }
@@ -54,7 +55,7 @@ fn put_in_bytes(bytes: &mut [u8], at: usize, n: u32, value: u32, last: usize)
     set_number(part, window);
 }
 
-/// A group of bits put in place by eight bytes that hold it.
+/// Writes a group of bits in place, by writing eight bytes that hold it.
 #[inline]
 fn put_in_word(bytes: &mut [u8], at: usize, n: u32, value: u32)
     requires some { 1 ≤ n }

@@ -1,4 +1,4 @@
--- A test that all numbers below a bound pass, and what it says.
+-- What a test that all numbers below a bound pass says of each of them.
 use Rattle.std.proofs.Common.{◌≡◌, ℕ, zero, suc, ◌<◌, ◌≤◌, Bool, true, ◌&&◌, subst, inl, inr, arith}
 use Rattle.std.proofs.lemmas.Bool.{and_parts, cases_lt}
 

@@ -144,12 +144,12 @@ channels_in_range : (mono : Bool) → (1 ≤ cond mono 1 2) × (cond mono 1 2 �
 channels_in_range true = (lit≤ tt, lit≤ tt)
 channels_in_range false = (lit≤ tt, lit≤ tt)
 
--- the class of a header is one
+-- the class of a header has a frequency index and a number of channels in range
 pub IsClass-class_of : (h : HeaderFields) → IsHeader h → IsClass (class_of h)
 IsClass-class_of h is = let channels = channels_in_range (eqb h.mode 3) in (is.frequency_index, channels.0, channels.1)
 
 -- ---- the bits that a header is written as
--- the numbers of groups one after the other, from a bit on
+-- the numbers of groups that follow each other, from a bit on
 abbrev groups_from : ℕ → List ℕ → List ℕ → List ℕ
 groups_from at [] bs = []
 groups_from at (width ∷ widths) bs = group at width bs ∷ groups_from (at + width) widths bs
@@ -327,7 +327,7 @@ pub header_bits-header_at : (four : List ℕ) (h : HeaderFields) → length four
 unfolding header_at
 header_bits-header_at four h l is = header_bits-header_in (bits four) h (AreBits-bits four) (omega (arith, length-bits four)) is
 
--- and the bytes with these bits are those
+-- and bytes with the same bits are these bytes
 pub header_bytes-same : (xs four : List ℕ) (h : HeaderFields) → bits xs ≡ header_bits h → AreBytes xs → AreBytes four → length four ≡ 4 → header_at four ≡ good h → xs ≡ four
 header_bytes-same xs four h e hx hy l is = bits-injective xs four hx hy (e ∙ header_bits-header_at four h l is)
 

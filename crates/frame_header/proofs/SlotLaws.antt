@@ -137,7 +137,7 @@ length-before c s t class is it before =
     let second : length_of c (nth_slot (place_of t)) ≡ length_of c t = ap (length_of c) (get_or-place_of t (slot_of 1 false) it) in
     omega arith
 
--- the area is what is left of the length
+-- the length is what is before the area, and the area
 pub area-is : (c : ClassFields) (s : SlotFields) (protected : Bool) → IsClass c → IsSlot s → (overhead_of c protected + area_of c s protected ≡ length_of c s) × (1 ≤ area_of c s protected)
 unfolding area_of overhead_of
 area-is c s true class slot = let some = area_some c s class slot in (omega arith, omega arith)
@@ -196,7 +196,7 @@ unfolding area_of overhead_of side_size_of
 area-most c s true class slot = omega (arith, length-most c s class slot, side-least c.version c.channels)
 area-most c s false class slot = omega (arith, length-most c s class slot, side-least c.version c.channels)
 
--- the longest frame of a version's shortest class is longer than the window by more than what is before the area
+-- a frame of the largest slot has room for the window, a header and side information, by version and frequency
 spans : (version : Version) (frequency channels : ℕ) → frequency < 3 → window_of version + 4 + side_bytes_of version channels ≤ length_of (record { version = version; frequency_index = frequency; channels = channels }) largest_slot
 unfolding length_of rate_of frequency_of
 spans One zero channels h = elim (eqb channels 1) as (λ b. 515 + cond b 17 32 ≤ 1045) [ true ↦ lit≤ tt | false ↦ lit≤ tt ]
@@ -212,7 +212,7 @@ spans TwoFive (suc zero) channels h = elim (eqb channels 1) as (λ b. 259 + cond
 spans TwoFive (suc (suc zero)) channels h = elim (eqb channels 1) as (λ b. 259 + cond b 9 17 ≤ 1441) [ true ↦ lit≤ tt | false ↦ lit≤ tt ]
 spans TwoFive (suc (suc (suc frequency))) channels h = absurd (omega arith)
 
--- an unprotected frame of the largest slot holds as many bytes as main data may reach back
+-- an unprotected frame of the largest slot has room for as many bytes as main_data_begin can count
 pub window-spanned : (c : ClassFields) → IsClass c → window_of c.version ≤ area_of c largest_slot false
 unfolding area_of overhead_of side_size_of
 window-spanned c class = omega (arith, spans c.version c.frequency_index c.channels (omega (arith, class.0)))

@@ -3,7 +3,7 @@ use Rattle.std.specs.Prelude.{ℕ, Bool, ◌≤◌, ◌==◌, ◌&&◌}
 use Rattle.frame_header.specs.declared.version.Version.{Version}
 use Rattle.frame_header.specs.declared.version.Version.TheVariants.{One, Two, TwoFive}
 
--- what a bit rate index and a padding bit choose
+-- what decides a frame's length within a class: a bit rate index and the padding bit
 pub record SlotFields : Type 0 where
   pub rate_index : ℕ
   pub padding : Bool
@@ -24,7 +24,7 @@ version_number TwoFive = 0
 unfoldable pub same_class : ClassFields → ClassFields → Bool
 same_class c d = (version_number c.version == version_number d.version) && (c.frequency_index == d.frequency_index) && (c.channels == d.channels)
 
--- the fields of a header, but the sync word, the layer and what its readability fixes
+-- the fields of a header, except the first 11 bits and the layer, which are the same in all
 pub record HeaderFields : Type 0 where
   pub version : Version
   pub protected : Bool
@@ -44,7 +44,8 @@ IsSlot s = (1 ≤ s.rate_index) × (s.rate_index ≤ 14)
 abbrev pub IsClass : ClassFields → Type 0
 IsClass c = (c.frequency_index ≤ 2) × (1 ≤ c.channels) × (c.channels ≤ 2)
 
--- each field is within its bits, and no reserved value stands
+-- Each field is within its bits, and neither bit rate nor frequency has a forbidden or reserved value. Emphasis may have any, also its
+-- reserved 2.
 pub record IsHeader (h : HeaderFields) : Type 0 where
   pub slot : IsSlot h.slot
   pub frequency_index : h.frequency_index ≤ 2

@@ -8,7 +8,7 @@ use Rattle.frame_header.specs.Fields.{HeaderFields, version_number}
 abbrev pub header_widths : List ℕ
 header_widths = 11 ∷ 2 ∷ 2 ∷ 1 ∷ 4 ∷ 2 ∷ 1 ∷ 1 ∷ 2 ∷ 2 ∷ 1 ∷ 1 ∷ 2 ∷ []
 
--- a truth as a bit
+-- a flag as a bit
 abbrev pub flag_of : Bool → ℕ
 flag_of flag = if flag then 1 else 0
 
@@ -16,7 +16,7 @@ flag_of flag = if flag then 1 else 0
 abbrev pub protection_of : Bool → ℕ
 protection_of protected = if protected then 0 else 1
 
--- the numbers of the groups; the first 11 bits are ones, and layer III is 01
+-- the numbers of these groups; the first 11 bits are ones, and layer III is 01
 unfoldable pub header_numbers : HeaderFields → List ℕ
 header_numbers h =
     2047 ∷ version_number h.version ∷ 1 ∷ protection_of h.protected ∷ h.slot.rate_index ∷ h.frequency_index ∷ flag_of h.slot.padding ∷ flag_of h.private_bit ∷

@@ -8,7 +8,7 @@ use Rattle.frame_header.specs.declared.header.NotHeader.{NotHeader}
 use Rattle.frame_header.specs.declared.header.NotHeader.TheVariants.{Free, No}
 use Rattle.frame_header.specs.Fields.{HeaderFields}
 
--- the groups of the 32 bits
+-- the groups of these 32 bits; first the 11 bits of the sync word that all versions share
 abbrev pub sync_word : List ℕ → ℕ
 sync_word h = group 0 11 h
 
@@ -28,8 +28,8 @@ rate_bits h = group 16 4 h
 abbrev pub frequency_bits : List ℕ → ℕ
 frequency_bits h = group 20 2 h
 
--- the first 11 bits are ones; the twelfth is 1, or it and ID are both 0; the layer is III; and neither the forbidden bit rate nor the
--- reserved frequency stands
+-- the first 11 bits are ones; the twelfth is 1, or it and ID are both 0; the layer is III; and the bit rate isn't the forbidden one nor the
+-- frequency the reserved one
 unfoldable pub is_readable : List ℕ → Bool
 is_readable h = (sync_word h == 2047) && not (version_bits h == 1) && (layer_bits h == 1) && not (rate_bits h == 15) && not (frequency_bits h == 3)
 
@@ -50,7 +50,7 @@ header_fields h = record {
   emphasis = group 30 2 h;
 }
 
--- the header that 32 bits are: readable, and of no free format
+-- the header that 32 bits are, if they are readable and not free format
 unfoldable pub header_in : List ℕ → Result HeaderFields NotHeader
 header_in h = if is_readable h then (if rate_bits h == 0 then Err Free else Ok (header_fields h)) else Err No
 

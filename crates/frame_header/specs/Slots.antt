@@ -6,7 +6,7 @@ use Rattle.frame_header.specs.Tables.{area_of}
 abbrev pub slot_of : ℕ → Bool → SlotFields
 slot_of rate_index padding = record { rate_index = rate_index; padding = padding }
 
--- the slots of the bit rate indexes from 1 on, so many of them; at one index without padding before with padding
+-- the slots of the bit rate indexes from 1 up to this one, at each index first without padding and then with it
 unfoldable pub slots_to : ℕ → List SlotFields
 slots_to zero = []
 slots_to (suc n) = slots_to n ++ slot_of (suc n) false ∷ slot_of (suc n) true ∷ []

@@ -27,7 +27,7 @@ granules_of TwoFive = 1
 abbrev pub samples_of : Version → ℕ
 samples_of version = 576 * granules_of version
 
--- how far back main data may begin, in bytes: the greatest number in main_data_begin
+-- how many bytes before a frame's own area its main data may begin: the greatest main_data_begin
 abbrev pub window_of : Version → ℕ
 window_of One = 511
 window_of Two = 255
@@ -54,7 +54,7 @@ version_place One = 0
 version_place Two = 1
 version_place TwoFive = 2
 
--- an eighth of the samples of a frame: its bytes at one bit per sample
+-- an eighth of the samples of a frame, which are its bytes at one bit a sample
 abbrev pub length_factor : Version → ℕ
 length_factor One = 144
 length_factor Two = 72
@@ -68,7 +68,7 @@ length_of c s = (length_factor c.version * (1000 * rate_of c s)) / frequency_of 
 unfoldable pub overhead_of : ClassFields → Bool → ℕ
 overhead_of c protected = 4 + (if protected then 2 else 0) + side_size_of c
 
--- the bytes of a frame that hold main data
+-- the bytes of a frame in which main data are
 unfoldable pub area_of : ClassFields → SlotFields → Bool → ℕ
 area_of c s protected = length_of c s - overhead_of c protected
 

@@ -60,8 +60,8 @@ impl Class {
         }
     }
 
-    /// The length of the side information in bytes: 32 or 17, and 17 or 9 in MPEG-2 and MPEG-2.5
-    /// (ISO/IEC 11172-3 and 13818-3, 2.4.1.7).
+    /// The length of the side information in bytes: with two channels 32 in MPEG-1, 17 in MPEG-2 and
+    /// MPEG-2.5; with one channel 17 and 9 (ISO/IEC 11172-3 and 13818-3, 2.4.1.7).
     pub fn side_size(&self) -> u32
         ensures size { result ≡ side_size_of self.now }
         ensures least { 9 ≤ result }
@@ -75,8 +75,8 @@ impl Class {
         }
     }
 
-    /// How many bytes back main data may begin, the greatest main_data_begin: 511, and 255 in MPEG-2 and
-    /// MPEG-2.5 (ISO/IEC 11172-3 and 13818-3, 2.4.2.7).
+    /// How many bytes before a frame's own area its main data may begin, which is the greatest
+    /// main_data_begin: 511 in MPEG-1, 255 in MPEG-2 and MPEG-2.5 (ISO/IEC 11172-3 and 13818-3, 2.4.2.7).
     pub fn window(&self) -> u32
         ensures window { result ≡ window_of self.now.version }
         // The largest frame without a check word has room for so many bytes of main data.
@@ -114,13 +114,13 @@ impl Class {
         u32::from(length) + u32::from(slot.padding)
     }
 
-    /// The bytes of a frame that hold main data: its length without header, check word and side
-    /// information. At least 1.
+    /// The length of a frame's area in bytes, in which main data are: its length without header, check word
+    /// and side information. From 1 to 1,441.
     pub fn area_of(&self, slot: Slot, protected: bool) -> u32
         ensures area { result ≡ area_of self.now slot protected }
         ensures some { 1 ≤ result }
         ensures most { result ≤ 1441 }
-        // With what is before it, it is the frame.
+        // Area and what is before it add up to the frame.
         ensures whole { overhead_of self.now protected + result ≡ length_of self.now slot }
     {
         let check_word = if protected { 2 } else { 0 };
@@ -128,14 +128,14 @@ impl Class {
         self.length_of(slot) - overhead
     }
 
-    /// All slots, the areas ascending, whether or not the frames have check words.
+    /// All 28 slots, by ascending areas, whether or not the frames have check words.
     pub fn slots(&self) -> ArrayVec<Slot, 28>
         ensures slots { result.items ≡ all_slots }
         ensures all { (slot : SlotFields) → IsSlot slot → Contains all_slots slot }
         ensures ascending { (protected : Bool)
             → AllPairs (λ m n. m < n) (areas_of self.now protected) }
     {
-        // The areas are those of a class.
+        // The slots are those of every class; the contract alone is about this one.
         let _ = &self.version;
         let mut slots = ArrayVec::new();
         for rate_index in 1..15 {
@@ -181,7 +181,8 @@ const MPEG_1_RATES: [u16; 14] = [
 /// The same for the lower sampling frequencies (ISO/IEC 13818-3, 2.4.2.3).
 const MPEG_2_RATES: [u16; 14] = [8, 16, 24, 32, 40, 48, 56, 64, 80, 96, 112, 128, 144, 160];
 
-/// Lengths in bytes without padding for the bit rate indexes 1 to 14, a row for each version and frequency.
+/// Lengths in bytes without padding for the bit rate indexes 1 to 14 (ISO/IEC 11172-3 and 13818-3,
+/// 2.4.3.1): three rows for each version, one for each frequency.
 static LENGTHS: [[u16; 14]; 9] = [
     [
         104, 130, 156, 182, 208, 261, 313, 365, 417, 522, 626, 731, 835, 1044,

@@ -1,4 +1,4 @@
-//! The 32 bits at the front of a frame.
+//! The 32 bits with which a frame begins.
 ghost use Rattle.std.specs.Prelude.{◌≡◌, ℕ, ◌+◌, ◌^◌, ◌<◌, ◌≤◌, ◌==◌, false, List, length};
 ghost use Rattle.bit_fields.specs.Bits.{bits, bits_of, AreBytes};
 ghost use Rattle.bit_fields.specs.Groups.{group};
@@ -39,8 +39,8 @@ fn is_set(word: u32, at: u32) -> bool
     group_of(word, at, 1) == 1
 }
 
-/// The first 11 bits are ones and the two after them aren't 01, the layer is III, and no forbidden bit rate
-/// and no reserved frequency stands.
+/// Whether these are the bits of a header: the first 11 are ones, the next two aren't 01, the layer is III,
+/// and the bit rate isn't the forbidden one nor the frequency the reserved one.
 #[tactic(auto, unfolding(crate::specs::Reading::is_readable))]
 fn is_readable(word: u32) -> bool
     ensures { result ≡ is_readable_lem (bits_of 32 word) }
@@ -52,12 +52,13 @@ fn is_readable(word: u32) -> bool
         && group_of(word, 20, 2) != 3
 }
 
-/// Why four bytes are no header that is edited here.
+/// Why four bytes aren't a header of the frames that are edited here.
 #[derive(Clone, Copy, Debug, PartialEq, Eq)]
 pub enum NotHeader {
-    /// A readable header with bit rate index 0: free format.
+    /// A readable header with bit rate index 0, which is free format.
     Free,
-    /// No readable header.
+    /// Not a readable header: no sync word, another layer, the reserved version, the forbidden bit rate or
+    /// the reserved frequency.
     No,
 }
 
@@ -129,7 +130,8 @@ fn read_word(word: u32) -> Result<Header, NotHeader>
     })
 }
 
-/// The twelfth bit of a header and ID, which is 1 for MPEG-1.
+/// The twelfth bit of a header, which is 0 in MPEG-2.5 alone, and the bit ID after it, which is 1 in MPEG-1
+/// alone.
 fn version_bits(version: Version) -> u32
     ensures { result ≡ version_number version }
 {
@@ -162,8 +164,11 @@ fn word_of(header: &Header) -> u32
 }
 
 impl Header {
-    /// Reads four bytes. `Free` exactly where they are readable with bit rate index 0, `No` exactly
-    /// where they aren't readable.
+    /// Reads four bytes.
+    ///
+    /// # Errors
+    /// `Free` exactly where they are readable with bit rate index 0, `No` exactly where they aren't
+    /// readable.
     pub fn read(bytes: [u8; 4]) -> Result<Header, NotHeader>
         ensures { result ≡ header_at bytes }
     {
@@ -190,7 +195,7 @@ impl Header {
         header
     }
 
-    /// The same frame in another slot and without a check word: protection_bit is 1.
+    /// The same frame in another slot and without a check word, so its protection_bit is 1.
     pub fn unprotected(&self, slot: Slot) -> Header
         ensures { result ≡ record self.now { protected = false; slot = slot } }
     {
@@ -219,7 +224,7 @@ impl Header {
         self.class().length_of(self.slot)
     }
 
-    /// The bytes of the frame that hold main data. At least 1.
+    /// The length of the frame's area in bytes, in which main data are. From 1 to 1,441.
     pub fn area(&self) -> u32
         ensures area { result ≡ area_of (class_of self.now) self.now.slot self.now.protected }
         ensures some { 1 ≤ result }

@@ -1,8 +1,9 @@
-//! What chooses a frame's length within a class.
+//! What decides a frame's length within a class.
 
 use std::marker::Model;
 
-/// A bit rate index from 1 to 14, and whether the frame is one byte longer.
+/// A bit rate index from 1 to 14, and whether the padding bit is set, which makes the frame one byte
+/// longer.
 #[derive(Clone, Copy, Debug, PartialEq, Eq)]
 pub struct Slot {
     pub rate_index: u8,

@@ -12,14 +12,14 @@ use Rattle.side_info.specs.Side.{side_at, side_bits}
 use Rattle.side_info.specs.CheckWord.{remainder, start_word, check_word_of}
 use Rattle.side_info.proofs.SideLaws.{side_bits-side_at}
 
--- of bytes that a header and side fields are written as, the word is theirs
+-- the word of bytes that a header and side fields are written as is that of the header and the fields
 pub check_word-written : (four side : List ℕ) (h : HeaderFields) (s : Side) → bits four ≡ header_bits h → bits side ≡ side_bits (class_of h) s → remainder start_word (bits (drop 2 four ++ side)) ≡ check_word_of h s
 unfolding check_word_of
 check_word-written four side h s front rest =
     ap (remainder start_word)
     (bits-append (drop 2 four) side ∙ ap₂ (λ xs ys. xs ++ ys) (sym (drop-bits 2 four) ∙ ap (drop 16) front) rest)
 
--- of bytes that were read, the word is that of the header and the side fields that were read
+-- the word of bytes that were read is that of the header and the fields that were read
 pub check_word-read : (four side : List ℕ) (h : HeaderFields) → length four ≡ 4 → header_at four ≡ good h → length side ≡ side_size_of (class_of h) → remainder start_word (bits (drop 2 four ++ side)) ≡ check_word_of h (side_at (class_of h) (bits side))
 check_word-read four side h four_bytes is size =
     check_word-written four side h (side_at (class_of h) (bits side))

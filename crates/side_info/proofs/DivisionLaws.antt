@@ -114,7 +114,7 @@ moves : all_below 256 (λ low. eqb (remainder low eight_zeros) (low * 256)) ≡ 
 unfolding remainder bit_step
 moves = refl
 
--- the table has what a byte at the top leaves
+-- the table has what a byte at the top leaves after eight zero bits
 tabled : all_below 256 (λ b. eqb (remainder (b * 256) eight_zeros) (get_or REMAINDERS b 0)) ≡ true
 unfolding remainder bit_step
 tabled = refl

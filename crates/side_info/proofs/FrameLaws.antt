@@ -256,7 +256,7 @@ frame_with-again h s t frame class shaped room =
     let part = bytes (side_bits (class_of h) s) in
     ap₂ (λ (xs ys : List ℕ). xs ++ (word_part h s ++ (part ++ ys))) (header-frame_with h t frame room) (area-frame_with h t frame class shaped room)
 
--- the check word that stands is right, where there is one
+-- the check word of a protected frame is right
 abbrev pub IsRight : HeaderFields → List ℕ → Type 0
 IsRight h frame = h.protected ≡ true → word_said frame ≡ check_word_of h (side_in h frame)
 
@@ -285,7 +285,7 @@ side_there h frame class all room =
     ap bytes (side_bits-side_at c class (bits part) (AreBits-bits part) (length-bits part ∙ ap (λ n. 8 * n) long))
     ∙ bytes-bits part (AreBytes-take (side_size_of c) behind (AreBytes-drop (side_place h.protected) frame all))
 
--- with its own side information, and where its check word is right, it is the frame
+-- a frame stays as it is when its own side information is put in, if its check word is right
 pub frame_with-own : (h : HeaderFields) (frame : List ℕ) → IsClass (class_of h) → AreBytes frame → HasRoom h frame → IsRight h frame → frame_with h (side_in h frame) frame ≡ frame
 unfolding frame_with side_part
 frame_with-own h frame class all room right =
@@ -308,7 +308,7 @@ pub fits-side_in : (h : HeaderFields) (frame : List ℕ) → IsClass (class_of h
 unfolding side_in
 fits-side_in h frame class = SideFits-side_at (class_of h) class (bits (side_part h frame)) (AreBits-bits (side_part h frame))
 
--- ---- a frame at the front of more bytes
+-- ---- a frame that more bytes follow
 
 take-drop-take : (size from len : ℕ) (xs : List ℕ) → from + size ≤ len → take size (drop from (take len xs)) ≡ take size (drop from xs)
 take-drop-take size zero len xs le = take-take size len xs (omega (arith, le))

@@ -1,4 +1,4 @@
--- Gains put where they stand: what that does to the bits of granules, of side information, of a frame.
+-- Gains put in place: what that does to the bits of granules, of side information, of a frame.
 use Rattle.std.proofs.Common.{◌≡◌, ℕ, ◌+◌, ◌*◌, ◌≤◌, Bool, true, false, cond, eqb, List, [], ◌∷◌, ◌++◌, length, get_or, take, drop, refl, sym, ap, ap₂, ◌∙◌, arith, append-nil, append_assoc, length-append, take-append-drop}
 use Rattle.std.proofs.lemmas.List.{take_at, drop_at, drop-drop, take-take, length-take-le}
 use Rattle.bit_fields.specs.Bits.{bits, bits_of, bytes, AreBytes}

@@ -126,7 +126,7 @@ pub AreBits-flat : (version : Version) (gs : List Granule) → AreBits (flat_map
 AreBits-flat version [] = tt
 AreBits-flat version (g ∷ gs) = AreBits-append (granule_bits version g) (flat_map (granule_bits version) gs) (AreBits-granule_bits version g) (AreBits-flat version gs)
 
--- the granules of bits that granules spell are these
+-- granules are read back from the bits that they spell
 pub nth_granule-flat : (version : Version) (gs : List Granule) (n : ℕ) (more : List ℕ) → n < length gs → GranuleFits version (get_or gs n no_granule) → nth_granule version n (flat_map (granule_bits version) gs ++ more) ≡ get_or gs n no_granule
 nth_granule-flat version [] n more h fits = absurd (omega arith)
 nth_granule-flat version (g ∷ gs) zero more h fits =
@@ -140,7 +140,7 @@ nth_granule-flat version (g ∷ gs) (suc n) more h fits =
     ∙ ap (granule_at version) (drop-append-add (granule_bits version g) (flat_map (granule_bits version) gs ++ more) (n * granule_size version))
     ∙ nth_granule-flat version gs n more (omega arith) fits
 
--- the bits of granules that bits hold are these
+-- bits are those that the granules read from them spell
 pub flat-granules_from : (version : Version) (n count : ℕ) (bs : List ℕ) → AreBits bs → (n + count) * granule_size version ≤ length bs → flat_map (granule_bits version) (granules_from version n count bs) ≡ take (count * granule_size version) (drop (n * granule_size version) bs)
 unfolding granules_from
 flat-granules_from version n zero bs all h = ap (λ k. take k (drop (n * granule_size version) bs)) (sym (zero-mul (granule_size version)))

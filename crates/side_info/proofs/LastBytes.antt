@@ -139,8 +139,8 @@ behind_part h n frame within =
     ∙ sym (drop-take-append n size (drop place frame) within)
     ∙ ap (λ (l : List ℕ). drop n (take size (drop place frame)) ++ l) area
 
--- From two bytes before its area on, a frame stays as it is where it is given side information whose last granule and
--- channel differs in no field but global_gain.
+-- From two bytes before its area on, a frame stays as it is if it gets side information whose last granule and channel differs in no field
+-- but global_gain.
 pub last_bytes-frame_with : (h : HeaderFields) (s : Side) (frame : List ℕ) → IsClass (class_of h) → AreBytes frame → IsShaped s → HasRoom h frame → AreAlike (last_granule (class_of h) (side_in h frame)) (last_granule (class_of h) s)
     → drop (overhead_of (class_of h) h.protected - 2) (frame_with h s frame) ≡ drop (overhead_of (class_of h) h.protected - 2) frame
 last_bytes-frame_with h s frame class all shaped room alike =

@@ -134,7 +134,7 @@ sizes One channels = elim (eqb channels 1) as (λ b. cond b 17 32 ≤ 32) [ true
 sizes Two channels = elim (eqb channels 1) as (λ b. cond b 9 17 ≤ 32) [ true ↦ lit≤ tt | false ↦ lit≤ tt ]
 sizes TwoFive channels = elim (eqb channels 1) as (λ b. cond b 9 17 ≤ 32) [ true ↦ lit≤ tt | false ↦ lit≤ tt ]
 
--- a side information is short
+-- side information has at most 32 bytes
 pub side_size-small : (c : ClassFields) → side_size_of c ≤ 32
 unfolding side_size_of
 side_size-small c = sizes c.version c.channels
@@ -165,7 +165,7 @@ side_is c bs front first second e0 e1 e2 =
     e2 ∙ ap (cond (eqb (granules_of c.version) 1) no_pair) (ap (pair_at c.version c.channels) (sym (drop-drop (c.channels * size) (front_size c.version c.channels) bs)) ∙ sym (channels-pair c c.channels rest)) in
     λ i. record { main_data_begin = (e0 i).main_data_begin; private_bits = (e0 i).private_bits; scfsi = (e0 i).scfsi; granules = g0 i ∷ g1 i ∷ [] }
 
--- the side information goes by version and channels alone
+-- side information depends on version and channels alone
 pub side_at-class : (c : ClassFields) (bs : List ℕ) → side_at (class_with c.version 0 c.channels) bs ≡ side_at c bs
 unfolding side_at
 side_at-class c bs = refl

@@ -73,7 +73,7 @@ side_bits-side_at c class bs all h =
     ∙ take-append-drop front bs
 
 -- ---- fields to bits and back
--- the lists of a side information are as long as its arrays
+-- the lists of a side information have the lengths of the arrays
 pub record IsShaped (s : Side) : Type 0 where
   pub scfsi : length s.scfsi ≡ 2
   pub granules : length s.granules ≡ 2
@@ -327,7 +327,7 @@ fits_as_two f channels bs two = fits_two_five f channels (side_at (class_with Tw
 pub SideFits-side_at : (c : ClassFields) → IsClass c → (bs : List ℕ) → AreBits bs → SideFits c (side_at c bs)
 SideFits-side_at = each_class (λ c. (bs : List ℕ) → AreBits bs → SideFits c (side_at c bs)) fits_one_mono fits_one_stereo fits_two_mono fits_two_stereo (λ f channels two bs all. fits_as_two f channels bs (two bs all))
 
--- nothing in it is out of its bits
+-- the fields of the empty side information are within their bits
 pub SideFits-no_side : (c : ClassFields) → SideFits c no_side
 SideFits-no_side c = record {
   main_data_begin = pow_pos (front_width c 0);

@@ -15,7 +15,7 @@ polynomial = 0x8005
 unfoldable pub bit_step : ℕ → ℕ → ℕ
 bit_step word bit = let shifted = word * 2 % 65536 in if bit_at word 15 == bit then shifted else bit_xor shifted polynomial
 
--- the word after these bits, the first of them first
+-- the word after these bits, which come in one after the other
 unfoldable pub remainder : ℕ → List ℕ → ℕ
 remainder word [] = word
 remainder word (bit ∷ rest) = remainder (bit_step word bit) rest

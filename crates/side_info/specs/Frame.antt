@@ -1,5 +1,5 @@
--- Where the check word and the side information of a frame stand (ISO/IEC 11172-3, 2.4.1): the header, the check word of a
--- protected frame, the side information, and then the area.
+-- Where the check word and the side information of a frame are (ISO/IEC 11172-3, 2.4.1): first the header, then the check word of a
+-- protected frame, the side information, and the area.
 use Rattle.std.specs.Prelude.{ℕ, ◌+◌, if◌then◌else◌, Bool, List, [], ◌++◌, take, drop}
 use Rattle.bit_fields.specs.Bits.{bits, bits_of, bytes, number}
 use Rattle.frame_header.specs.Fields.{HeaderFields}
@@ -8,7 +8,7 @@ use Rattle.side_info.specs.declared.side.Side.{Side}
 use Rattle.side_info.specs.Side.{side_at, side_bits}
 use Rattle.side_info.specs.CheckWord.{check_word_of}
 
--- the side information is after the header, or after the check word
+-- the byte at which the side information begins: after the header, or after the check word
 abbrev pub side_place : Bool → ℕ
 side_place protected = 4 + (if protected then 2 else 0)
 

@@ -26,7 +26,7 @@ granule_widths version = 12 ∷ 9 ∷ 8 ∷ compress_width version ∷ 1 ∷ 22 
 abbrev pub granule_size : Version → ℕ
 granule_size version = sum (granule_widths version)
 
--- a bit as a truth, and back
+-- a bit as a flag, and back
 abbrev pub is_set : ℕ → Bool
 is_set bit = bit == 1
 
@@ -47,7 +47,7 @@ no_granule = record {
   count1table_select = false;
 }
 
--- the fields that the numbers of the groups are
+-- a granule's fields, from the numbers of the groups
 unfoldable pub granule_of : List ℕ → Granule
 granule_of ns = record {
   part2_3_length = slice_index ns 0;
@@ -61,20 +61,20 @@ granule_of ns = record {
   count1table_select = is_set (slice_index ns 8);
 }
 
--- the numbers of the groups that the fields are
+-- the numbers of the groups, from a granule's fields
 unfoldable pub granule_numbers : Granule → List ℕ
 granule_numbers g =
     g.part2_3_length ∷ g.big_values ∷ g.global_gain ∷ g.scalefac_compress ∷ bit_of g.window_switching ∷ g.detail ∷
     bit_of g.preflag ∷ bit_of g.scalefac_scale ∷ bit_of g.count1table_select ∷ []
 
--- the granule at the front of these bits, and its bits
+-- the granule with which these bits begin, and the bits of a granule
 unfoldable pub granule_at : Version → List ℕ → Granule
 granule_at version bs = granule_of (numbers_at (granule_widths version) bs)
 
 unfoldable pub granule_bits : Version → Granule → List ℕ
 granule_bits version g = spelled (granule_widths version) (granule_numbers g)
 
--- each field is within its bits, of which scalefac_compress and preflag have so many
+-- each field is within its bits, which are so many for scalefac_compress and for preflag
 pub record FieldsFit (compress_bits preflag_bits : ℕ) (g : Granule) : Type 0 where
   pub part2_3_length : g.part2_3_length < 2 ^ 12
   pub big_values : g.big_values < 2 ^ 9

@@ -10,7 +10,7 @@ use Rattle.side_info.specs.declared.side.Side.{Side}
 use Rattle.side_info.specs.Granule.{no_granule, granule_at, granule_bits, granule_size}
 use Rattle.side_info.specs.Side.{front_widths_of}
 
--- the fields that these numbers are
+-- the fields before the granules, from their numbers
 unfoldable pub front_of : List ℕ → Front
 front_of front = record {
   main_data_begin = slice_index front 0;
@@ -18,7 +18,7 @@ front_of front = record {
   scfsi = slice_index front 2 ∷ slice_index front 3 ∷ [];
 }
 
--- the fields at the front of these bits; what the class lacks is 0
+-- the fields before the granules, with which these bits begin; one that the class lacks is 0
 abbrev pub front_at : Version → ℕ → List ℕ → Front
 front_at version channels bs = front_of (numbers_at (front_widths_of version channels) bs)
 
@@ -31,11 +31,11 @@ abbrev pub front_bits : Version → ℕ → Side → List ℕ
 front_bits version channels s =
     spelled (front_widths_of version channels) (s.main_data_begin ∷ s.private_bits ∷ s.scfsi)
 
--- no channel of a granule
+-- a granule that the class lacks: all fields of both channels are 0
 abbrev pub no_pair : List Granule
 no_pair = no_granule ∷ no_granule ∷ []
 
--- the channels of the granule at the front of these bits; one that the class lacks is all 0
+-- the channels of the granule with which these bits begin; one that the class lacks is all 0
 abbrev pub pair_at : Version → ℕ → List ℕ → List Granule
 pair_at version channels bs = granule_at version bs ∷ (if channels == 1 then no_granule else granule_at version (drop (granule_size version) bs)) ∷ []
 
@@ -43,7 +43,7 @@ pair_at version channels bs = granule_at version bs ∷ (if channels == 1 then n
 abbrev pub second_at : Version → ℕ → List ℕ → List Granule
 second_at version channels bs = if granules_of version == 1 then no_pair else pair_at version channels bs
 
--- a class of this version with so many channels; the side information goes by nothing else
+-- a class of this version with so many channels, on which alone the side information depends
 abbrev pub class_with : Version → ℕ → ℕ → ClassFields
 class_with version frequency_index channels = record { version = version; frequency_index = frequency_index; channels = channels }
 

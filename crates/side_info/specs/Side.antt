@@ -34,7 +34,7 @@ channels_at c n bs = nth_granule c.version n bs ∷ (if c.channels == 1 then no_
 abbrev pub granules_at : ClassFields → List ℕ → List (List Granule)
 granules_at c bs = channels_at c 0 bs ∷ (if granules_of c.version == 1 then no_granule ∷ no_granule ∷ [] else channels_at c c.channels bs) ∷ []
 
--- the side fields of these bits; what the class lacks is 0
+-- the fields of the side information in these bits; one that the class lacks is 0
 unfoldable pub side_at : ClassFields → List ℕ → Side
 side_at c bs = let front = numbers_at (front_widths c) bs in record {
   main_data_begin = slice_index front 0;
@@ -47,7 +47,7 @@ side_at c bs = let front = numbers_at (front_widths c) bs in record {
 unfoldable pub granules_in : ClassFields → Side → List Granule
 granules_in c s = flat_map (take c.channels) (take (granules_of c.version) s.granules)
 
--- the bits of the side fields
+-- the bits of the fields of the side information
 unfoldable pub side_bits : ClassFields → Side → List ℕ
 side_bits c s =
     spelled (front_widths c) (s.main_data_begin ∷ s.private_bits ∷ s.scfsi) ++ flat_map (granule_bits c.version) (granules_in c s)
@@ -60,7 +60,7 @@ granule_in s granule channel = slice_index_or (slice_index_or s.granules granule
 abbrev pub has_granule : ClassFields → ℕ → ℕ → Bool
 has_granule c granule channel = nat_lt granule (granules_of c.version) && nat_lt channel c.channels
 
--- the bits of a front field, 0 for one that the class lacks
+-- the width in bits of a field before the granules, 0 for one that the class lacks
 abbrev pub front_width : ClassFields → ℕ → ℕ
 front_width c field = slice_index (front_widths c) field
 
@@ -78,10 +78,10 @@ pub record HasOtherGains (s t : Side) : Type 0 where
   pub scfsi : t.scfsi ≡ s.scfsi
   pub granules : (granule channel : ℕ) → AreAlike (granule_in s granule channel) (granule_in t granule channel)
 
--- the main data of a frame in bits: the sum of its part2_3_length
+-- the length of a frame's main data in bits: the sum of all part2_3_length
 unfoldable pub payload_bits : Side → ℕ
 payload_bits s = sum_by (λ (channels : List Granule). sum_by (λ (g : Granule). g.part2_3_length) channels) s.granules
 
--- the same in bytes, the last one maybe in part
+-- the same in bytes, rounded up
 unfoldable pub payload_bytes : Side → ℕ
 payload_bytes s = (payload_bits s + 7) / 8

@@ -10,7 +10,7 @@ ghost use Rattle.side_info.specs.Side.{side_at, SideFits};
 use crate::side::Side;
 use frame_header::Header;
 
-/// What each byte leaves of the division where it is above eight zero bits.
+/// The word after eight zero bits, from a word whose upper byte is this one and whose lower byte is 0.
 static REMAINDERS: [u16; 256] = [
     0x0000, 0x8005, 0x800f, 0x000a, 0x801b, 0x001e, 0x0014, 0x8011, 0x8033, 0x0036, 0x003c, 0x8039,
     0x0028, 0x802d, 0x8027, 0x0022, 0x8063, 0x0066, 0x006c, 0x8069, 0x0078, 0x807d, 0x8077, 0x0072,
@@ -36,7 +36,7 @@ static REMAINDERS: [u16; 256] = [
     0x0208, 0x820d, 0x8207, 0x0202,
 ];
 
-/// What each byte leaves where it is above 16 zero bits.
+/// The same after 16 zero bits.
 static REMAINDERS_2: [u16; 256] = [
     0x0000, 0x8603, 0x8c03, 0x0a00, 0x9803, 0x1e00, 0x1400, 0x9203, 0xb003, 0x3600, 0x3c00, 0xba03,
     0x2800, 0xae03, 0xa403, 0x2200, 0xe003, 0x6600, 0x6c00, 0xea03, 0x7800, 0xfe03, 0xf403, 0x7200,
@@ -62,7 +62,7 @@ static REMAINDERS_2: [u16; 256] = [
     0x880f, 0x0e0c, 0x040c, 0x820f,
 ];
 
-/// What each byte leaves where it is above 24 zero bits.
+/// The same after 24 zero bits.
 static REMAINDERS_3: [u16; 256] = [
     0x0000, 0x8017, 0x802b, 0x003c, 0x8053, 0x0044, 0x0078, 0x806f, 0x80a3, 0x00b4, 0x0088, 0x809f,
     0x00f0, 0x80e7, 0x80db, 0x00cc, 0x8143, 0x0154, 0x0168, 0x817f, 0x0110, 0x8107, 0x813b, 0x012c,
@@ -88,7 +88,7 @@ static REMAINDERS_3: [u16; 256] = [
     0x0c30, 0x8c27, 0x8c1b, 0x0c0c,
 ];
 
-/// What each byte leaves where it is above 32 zero bits.
+/// The same after 32 zero bits.
 static REMAINDERS_4: [u16; 256] = [
     0x0000, 0x9403, 0xa803, 0x3c00, 0xd003, 0x4400, 0x7800, 0xec03, 0x2003, 0xb400, 0x8800, 0x1c03,
     0xf000, 0x6403, 0x5803, 0xcc00, 0x4006, 0xd405, 0xe805, 0x7c06, 0x9005, 0x0406, 0x3806, 0xac05,
@@ -114,7 +114,7 @@ static REMAINDERS_4: [u16; 256] = [
     0x3028, 0xa42b, 0x982b, 0x0c28,
 ];
 
-/// The word that all ones are before the first bit.
+/// The word before the first bit: all ones.
 const START: u16 = 0xffff;
 
 /// The word after eight more bits.
@@ -183,12 +183,13 @@ pub fn word_of_bytes(bytes: &[u8]) -> u16
     word_behind(START, bytes)
 }
 
-/// The check word of a frame by the four bytes of its header and its side bytes, as they stand: over
-/// the last two bytes of the header and then the side bytes (ISO/IEC 11172-3 and 13818-3, 2.4.3.1).
+/// The check word of a frame, by the four bytes of its header and the bytes of its side information as they
+/// are in the frame: over the last two bytes of the header and then the side bytes (ISO/IEC 11172-3 and
+/// 13818-3, 2.4.3.1).
 pub fn check_word_of_bytes(header: &[u8], side: &[u8]) -> u16
     requires { length header.now ≡ 4 }
     ensures bytes { result ≡ remainder start_word (bits (drop 2 header.now ++ side.now)) }
-    // It is that of the header and of the side fields that are there.
+    // It is that of the header and of the side fields that these bytes are.
     ensures read { (h : HeaderFields) → header_at header.now ≡ Ok h
         → length side.now ≡ side_size_of (class_of h)
         → result ≡ check_word_of h (side_at (class_of h) (bits side.now)) }

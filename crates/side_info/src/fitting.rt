@@ -1,4 +1,4 @@
-//! Whether side fields are within the bits that a class has for them.
+//! Whether the fields of side information are within the bits that a class has for them.
 ghost use Rattle.std.specs.Prelude.{◌≡◌, ℕ, ◌+◌, ◌^◌, ◌<◌, ◌↔◌, IsTrue, MatchBool, length, slice_index, slice_index_or};
 ghost use Rattle.side_info.specs.Granule.{no_granule, GranuleFits};
 ghost use Rattle.side_info.specs.Side.{front_width, has_granule as has_granule_lem};
@@ -7,7 +7,7 @@ use crate::granule::{Granule, NO_GRANULE};
 use crate::side::Side;
 use frame_header::{Class, Version};
 
-/// What the fields before the granules are below, 1 for one that the class lacks.
+/// The bounds below which the fields before the granules have to be, 1 for a field that the class lacks.
 fn front_limits(class: Class) -> [u16; 4]
     ensures { (field : ℕ) → field < 4 → slice_index result field ≡ 2 ^ front_width class field }
 {

@@ -15,7 +15,7 @@ pub(crate) const HEADER_SIZE: usize = 4;
 /// The bytes of a header and a check word.
 pub(crate) const PROTECTED_SIZE: usize = 6;
 
-/// Reads the side information at this place in a frame, over what was there.
+/// Reads the side information that begins at byte `place` of a frame, over what was in `side`.
 fn read_at_place(class: Class, place: usize, frame: &[u8], side: &mut Side)
     requires { place + side_size_of class ≤ length frame.now }
     ensures side { side.new ≡ side_at class
@@ -26,8 +26,8 @@ fn read_at_place(class: Class, place: usize, frame: &[u8], side: &mut Side)
     side.read_over(class, &frame[place..end]);
 }
 
-/// Reads the side information of the frame with this header, over what was there. Bytes after the frame may
-/// follow (ISO/IEC 11172-3 and 13818-3, 2.4.1).
+/// Reads the side information of the frame with this header, over what was in `side`. Bytes after the frame
+/// may follow (ISO/IEC 11172-3 and 13818-3, 2.4.1).
 #[tactic(auto, unfolding(crate::specs::Frame::side_in, crate::specs::Frame::side_part, frame_header::specs::Tables::overhead_of))]
 pub fn read_side(header: &Header, frame: &[u8], side: &mut Side)
     requires { overhead_of (class_of header.now) header.now.protected ≤ length frame.now }
@@ -62,7 +62,7 @@ pub fn word_said(frame: &[u8]) -> u16
     u16::from_be_bytes([frame[4], frame[5]])
 }
 
-/// Puts a check word after the header.
+/// Writes a check word right after the header.
 pub(crate) fn put_word(word: u16, frame: &mut [u8])
     requires { 6 ≤ length frame.old }
     ensures { frame.new ≡ take 4 frame.old ++ (bytes (bits_of 16 word) ++ drop 6 frame.old) }
@@ -70,7 +70,7 @@ pub(crate) fn put_word(word: u16, frame: &mut [u8])
     frame[HEADER_SIZE..PROTECTED_SIZE].copy_from_slice(&word.to_be_bytes());
 }
 
-/// Puts side information at this place in a frame.
+/// Writes side information into a frame, from byte `place` on.
 fn put_side_at(class: Class, side: &Side, place: usize, frame: &mut [u8])
     requires fits { SideFits class side.now }
     requires room { place + side_size_of class ≤ length frame.old }
@@ -81,8 +81,8 @@ fn put_side_at(class: Class, side: &Side, place: usize, frame: &mut [u8])
     side.write(class, &mut frame[place..end]);
 }
 
-/// Puts side information into the frame with this header in place of its own. A protected frame gets
-/// the check word that is right for it; all other bytes stay, also those after the frame.
+/// Writes side information into the frame with this header, over its own. A protected frame gets the check
+/// word that is right for it; all other bytes stay, also those after the frame.
 #[tactic(auto, unfolding(crate::specs::Frame::frame_with, frame_header::specs::Tables::overhead_of))]
 pub fn put_side(header: &Header, side: &Side, frame: &mut [u8])
     requires fits { SideFits (class_of header.now) side.now }

@@ -1,4 +1,4 @@
-//! Gains changed where they are in a frame.
+//! Gains changed in place in a frame.
 ghost use Rattle.std.specs.Prelude.{◌≡◌, ℕ, ◌+◌, ◌*◌, ◌^◌, ◌≤◌, ◌++◌, List, [], length, take, drop, slice_index_or};
 ghost use Rattle.bit_fields.specs.Bits.{bits, bits_of, bytes};
 ghost use Rattle.frame_header.specs.declared.version.Version.{Version};
@@ -19,8 +19,8 @@ use crate::widths::{front_size, granule_width};
 use bit_fields::put_byte;
 use frame_header::{Class, Header, Version};
 
-/// Puts the gain of a granule and channel whose side information begins at this bit: after the 12 bits of
-/// part2_3_length and the 9 of big_values.
+/// Writes the gain of a granule and channel whose side information begins at bit `at`: its eight bits are
+/// after the 12 of part2_3_length and the 9 of big_values.
 #[inline]
 fn put_gain(gain: u8, bytes: &mut [u8], at: usize)
     requires room { at + 37 ≤ 8 * length bytes.old }
@@ -33,7 +33,7 @@ fn put_gain(gain: u8, bytes: &mut [u8], at: usize)
     put_byte(bytes, at + 21, gain);
 }
 
-/// Puts the gains of the channels of a granule whose side information begins at this bit.
+/// Writes the gains of the channels of a granule whose side information begins at bit `at`.
 #[inline]
 fn put_pair(pair: &[Granule; 2], version: Version, channels: u8, bytes: &mut [u8], at: usize)
     requires some { 1 ≤ channels }
@@ -75,7 +75,7 @@ fn put_second(pair: &[Granule; 2], version: Version, channels: u8, bytes: &mut [
     }
 }
 
-/// Puts gains into side information, all its bytes.
+/// Writes gains into side information, which is all the bytes.
 #[inline(always)]
 fn put_all(class: Class, side: &Side, bytes: &mut [u8])
     requires size { length bytes.old ≡ side_size_of class }
@@ -100,7 +100,8 @@ fn put_all(class: Class, side: &Side, bytes: &mut [u8])
     );
 }
 
-/// Puts gains into side information, all its bytes. In MPEG-1 with two channels their places are known.
+/// Writes gains into side information, which is all the bytes. In MPEG-1 with two channels, the most
+/// frequent class, the compiler knows their places.
 #[inline(always)]
 fn put_by_class(class: Class, side: &Side, bytes: &mut [u8])
     requires size { length bytes.old ≡ side_size_of class }
@@ -120,7 +121,7 @@ fn put_by_class(class: Class, side: &Side, bytes: &mut [u8])
     }
 }
 
-/// Puts gains into the side information at this place in a frame.
+/// Writes gains into the side information that begins at byte `place` of a frame.
 #[inline(always)]
 fn put_at_place(class: Class, side: &Side, place: usize, frame: &mut [u8])
     requires room { place + side_size_of class ≤ length frame.old }
@@ -135,7 +136,7 @@ fn put_at_place(class: Class, side: &Side, place: usize, frame: &mut [u8])
     put_by_class(class, side, &mut frame[place..end]);
 }
 
-/// Puts the check word that is right for the side bytes as they stand.
+/// Writes the check word that is right for the side bytes that are in the frame.
 fn put_right_word(header: &Header, frame: &mut [u8])
     requires { 6 + side_size_of (class_of header.now) ≤ length frame.old }
     ensures before { take 4 frame.new ≡ take 4 frame.old }
@@ -150,10 +151,10 @@ fn put_right_word(header: &Header, frame: &mut [u8])
     put_word(word, frame);
 }
 
-/// Puts the gains of side information into the frame with this header, each into its 8 bits, and in a
-/// protected frame the check word that is then right (ISO/IEC 11172-3 and 13818-3, 2.4.1.7 and 2.4.3.1).
-/// Where the frame's own side information differs in gains alone, the frame then has this one. Header and
-/// area stay, and bytes after the frame.
+/// Writes the gains of `side` into the frame with this header, each into its 8 bits, and into a protected
+/// frame the check word that is then right (ISO/IEC 11172-3 and 13818-3, 2.4.1.7 and 2.4.3.1). If the
+/// frame's own side information differs from `side` in gains alone, the frame then has `side`. The header,
+/// the area and bytes after the frame stay.
 #[inline(always)]
 pub fn put_gains(header: &Header, side: &Side, frame: &mut [u8])
     requires { overhead_of (class_of header.now) header.now.protected ≤ length frame.old }

@@ -2,20 +2,21 @@
 
 use frame_header::Version;
 
-/// The fields of one granule and channel (ISO/IEC 11172-3 and 13818-3, 2.4.1.7). All 0 where the
-/// class lacks the granule or the channel.
+/// The fields of one granule and channel (ISO/IEC 11172-3 and 13818-3, 2.4.1.7). All are 0 if the class
+/// lacks the granule or the channel.
 // The widest first, so that no room is lost between them.
 #[derive(Clone, Copy, Debug, PartialEq, Eq)]
 pub struct Granule {
-    /// The 22 bits after `window_switching`, unread: block type and table numbers, as the flag says.
+    /// The 22 bits after `window_switching` as one number, which nothing here looks into: block type, table
+    /// numbers and subblock gains, or table numbers and region counts, as the flag says.
     pub detail: u32,
-    /// The bits of main data: scale factors and Huffman codes, 12 bits.
+    /// The length of its main data in bits, scale factors and Huffman codes together: 12 bits.
     pub part2_3_length: u16,
-    /// Pairs of spectral values in the big values, 9 bits.
+    /// The number of pairs of spectral values in the region of big values: 9 bits.
     pub big_values: u16,
-    /// 4 bits, in MPEG-2 and MPEG-2.5 9.
+    /// The code for the sizes of the scale factors: 4 bits, in MPEG-2 and MPEG-2.5 9.
     pub scalefac_compress: u16,
-    /// The quantiser step in steps of 1.5 dB, 8 bits.
+    /// The gain, in steps of 1.5 dB: 8 bits.
     pub global_gain: u8,
     pub window_switching: bool,
     /// False in MPEG-2 and MPEG-2.5, which lack it.

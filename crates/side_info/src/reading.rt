@@ -1,4 +1,4 @@
-//! Side fields read where they stand.
+//! Reads the fields of side information.
 ghost use Rattle.std.specs.Prelude.{◌≡◌, ◌+◌, ◌*◌, ◌^◌, ◌<◌, ◌≤◌, [], ◌∷◌, length, drop};
 ghost use Rattle.bit_fields.specs.Bits.{bits};
 ghost use Rattle.bit_fields.specs.Groups.{numbers_at};
@@ -27,8 +27,8 @@ pub(crate) fn read_front(version: Version, channels: u8, bytes: &[u8]) -> Front
     }
 }
 
-/// The fields before the granules, of so many bits for main_data_begin, for the private bits and for the
-/// scfsi of each channel.
+/// The fields before the granules, by their widths in bits: of main_data_begin, of the private bits and of
+/// the scfsi of each channel.
 #[inline]
 fn front_with(bytes: &[u8], begin: u32, private_bits: u32, first: u32, second: u32) -> Front
     requires begin { begin ≤ 9 }
@@ -53,7 +53,7 @@ fn front_with(bytes: &[u8], begin: u32, private_bits: u32, first: u32, second: u
     }
 }
 
-/// The granule and channel whose side information begins at this bit.
+/// Reads the granule and channel whose side information begins at bit `at`.
 #[inline]
 fn read_granule(version: Version, bytes: &[u8], at: usize) -> Granule
     requires enough { at + granule_size version ≤ 8 * length bytes.now }
@@ -81,7 +81,7 @@ fn read_granule(version: Version, bytes: &[u8], at: usize) -> Granule
     }
 }
 
-/// Reads the channels of the granule whose side information begins at this bit into the pair.
+/// Reads the channels of the granule whose side information begins at bit `at` into the pair.
 // Each field is stored as it is read, so that few of them wait in registers.
 #[inline]
 pub(crate) fn read_pair(

@@ -12,7 +12,7 @@ use crate::widths::{front_size, granule_width, side_size};
 use crate::writing::{front_word, write_granules};
 use frame_header::{Class, Version};
 
-/// The side fields of a frame. What the class of the frame lacks is 0.
+/// The fields of the side information of a frame. One that the class lacks is 0.
 #[derive(Clone, Copy, Debug, PartialEq, Eq)]
 pub struct Side {
     /// How many bytes before the frame's own area its main data begin, counted over areas alone.
@@ -35,8 +35,8 @@ fn pair_bits(pair: &[Granule; 2]) -> u32
     u32::from(first) + u32::from(second)
 }
 
-/// Reads the side information of a frame of this version with so many channels, from its parts, over what
-/// was there.
+/// Reads the side information of a frame of this version with so many channels, one part after the other,
+/// over what was in `side`.
 #[inline]
 fn read_parts(version: Version, channels: u8, bytes: &[u8], side: &mut Side)
     requires some { 1 ≤ channels }
@@ -44,7 +44,7 @@ fn read_parts(version: Version, channels: u8, bytes: &[u8], side: &mut Side)
     requires size { length bytes.now ≡ side_size_of (class_with version 0 channels) }
     ensures { side.new ≡ side_at (class_with version 0 channels) (bits bytes.now) }
 {
-    // All of them; where the arguments are constants, so is the length.
+    // These are all the bytes; where version and channels are constants, so is the length.
     let part = &bytes[..side_size(version, channels)];
     let begin = front_size(version, channels);
     let next = begin + granule_width(version) * usize::from(channels);
@@ -57,8 +57,8 @@ fn read_parts(version: Version, channels: u8, bytes: &[u8], side: &mut Side)
     read_second(version, channels, part, next, &mut side.granules[1]);
 }
 
-/// Reads the side information of a frame of this version with so many channels, over what was there. In most
-/// arms the places of the fields are known.
+/// Reads the side information of a frame of this version with so many channels, over what was in `side`. In
+/// most arms version and channels are constants, so that the compiler knows the places of the fields.
 #[inline(always)]
 fn read_shape(version: Version, channels: u8, bytes: &[u8], side: &mut Side)
     requires some { 1 ≤ channels }
@@ -109,7 +109,8 @@ impl Side {
         side
     }
 
-    /// Reads the side information of a frame, all its bytes (ISO/IEC 11172-3 and 13818-3, 2.4.1.7).
+    /// Reads the side information of a frame, which is all the bytes (ISO/IEC 11172-3 and 13818-3,
+    /// 2.4.1.7).
     pub fn read(class: Class, bytes: &[u8]) -> Side
         requires size { length bytes.now ≡ side_size_of class }
         ensures side { result ≡ side_at class (bits bytes.now) }
@@ -120,7 +121,7 @@ impl Side {
         side
     }
 
-    /// The same, over what was there.
+    /// The same, over what was in `self`.
     pub fn read_over(&mut self, class: Class, bytes: &[u8])
         requires size { length bytes.now ≡ side_size_of class }
         ensures side { self.new ≡ side_at class (bits bytes.now) }
@@ -129,7 +130,7 @@ impl Side {
         read_shape(class.version, class.channels, bytes, self);
     }
 
-    /// Writes the side information of a frame over all the bytes.
+    /// Writes the side information of a frame over all the bytes (ISO/IEC 11172-3 and 13818-3, 2.4.1.7).
     pub fn write(&self, class: Class, bytes: &mut [u8])
         requires fits { SideFits class self.now }
         requires size { length bytes.old ≡ side_size_of class }
@@ -148,7 +149,7 @@ impl Side {
         );
     }
 
-    // The sum of the part2_3_length.
+    // The sum of all part2_3_length.
     fn all_bits(&self) -> u32
         ensures bits { result ≡ payload_bits self.now }
         ensures most { result < 2 ^ 18 }
@@ -156,14 +157,14 @@ impl Side {
         pair_bits(&self.granules[0]) + pair_bits(&self.granules[1])
     }
 
-    /// The main data of the frame in bits: the sum of the part2_3_length.
+    /// The length of the frame's main data in bits: the sum of all part2_3_length.
     pub fn bits(&self) -> u32
         ensures { result ≡ payload_bits self.now }
     {
         self.all_bits()
     }
 
-    /// The main data of the frame in bytes, rounded up.
+    /// The length of the frame's main data in bytes, rounded up.
     pub fn payload_bytes(&self) -> u16
         ensures { result ≡ payload_bytes self.now }
     {

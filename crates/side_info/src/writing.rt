@@ -1,4 +1,4 @@
-//! Side fields joined to words, and these put in place.
+//! Joins the fields of side information to words, and writes these.
 ghost use Rattle.std.specs.Prelude.{◌≡◌, ℕ, ◌+◌, ◌*◌, ◌^◌, ◌<◌, ◌≤◌, ◌++◌, All, length, flat_map, slice_index, slice_index_or};
 ghost use Rattle.bit_fields.specs.Bits.{bits, bits_of};
 ghost use Rattle.frame_header.specs.Tables.{granules_of, side_size_of};
@@ -56,7 +56,7 @@ fn granule_word(granule: &Granule, version: Version) -> u64
     upper * (1 << (preflag_width(version) + 2)) + last
 }
 
-/// Puts a front of 9 bits and one granule of 63.
+/// Writes the fields before the granules, of 9 bits, and one granule of 63.
 #[inline]
 fn put_one(front: u64, granule: u64, bytes: &mut [u8])
     requires fits { granule < 2 ^ 63 }
@@ -67,7 +67,7 @@ fn put_one(front: u64, granule: u64, bytes: &mut [u8])
     set_low_byte(bytes, 8, granule);
 }
 
-/// Puts a front of so many bits and two granules of `size` bits.
+/// Writes the fields before the granules, of `width` bits, and two granules of `size` bits.
 #[inline]
 fn put_two(front: u64, width: u32, first: u64, second: u64, size: u32, bytes: &mut [u8])
     requires some { 1 ≤ width }
@@ -85,7 +85,7 @@ fn put_two(front: u64, width: u32, first: u64, second: u64, size: u32, bytes: &m
     set_low_byte(bytes, 16, second);
 }
 
-/// Puts a front of 20 bits and four granules of 59.
+/// Writes the fields before the granules, of 20 bits, and four granules of 59.
 #[inline]
 fn put_four(front: u64, granules: [u64; 4], bytes: &mut [u8])
     requires fits { All (λ granule. granule < 2 ^ 59) granules }
@@ -102,7 +102,8 @@ fn put_four(front: u64, granules: [u64; 4], bytes: &mut [u8])
     set_word(bytes, 24, spanned(third, 5, fourth, 0));
 }
 
-/// Writes a front and the channels of each granule that the version has, over all the bytes.
+/// Writes the fields before the granules and the channels of each granule that the version has, over all
+/// the bytes.
 pub(crate) fn write_granules(
     front: u64,
     first: &[Granule; 2],

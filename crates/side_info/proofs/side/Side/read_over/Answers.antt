@@ -1,4 +1,4 @@
--- The side information goes by version and channels alone.
+-- The side information depends on version and channels alone.
 use Rattle.std.proofs.Common.{◌≡◌, subst, ap, sym, ◌∙◌}
 use Rattle.bit_fields.specs.Bits.{bits}
 use Rattle.bit_fields.proofs.BitsLaws.{AreBits-bits}
