@@ -135,7 +135,7 @@ impl Class {
         ensures ascending { (protected : Bool)
             → AllPairs (λ m n. m < n) (areas_of self.now protected) }
     {
-        // The slots are those of every class; the contract alone is about this one.
+        // A look inside gives the proof the invariant of the class, by which its areas ascend.
         let _ = &self.version;
         let mut slots = ArrayVec::new();
         for rate_index in 1..15 {

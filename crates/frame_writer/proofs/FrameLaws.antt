@@ -181,7 +181,7 @@ overhead-most c false = omega (arith, side_bytes-most c.version c.channels)
 pub length-front : (n : ℕ) (frame front into : List ℕ) → frame ≡ front ++ drop n into → length frame ≡ length into → n ≤ length into → length front ≡ n
 length-front n frame front into is same within = omega (arith, ap length is, length-append front (drop n into), length-drop n into, same, within)
 
--- the front alone
+-- the front of a frame alone
 pub front-alone : (n : ℕ) (frame front into : List ℕ) → frame ≡ front ++ drop n into → length frame ≡ length into → n ≤ length into → take n frame ≡ front
 front-alone n frame front into is same within =
     let long : length front ≡ n = length-front n frame front into is same within in
@@ -189,13 +189,13 @@ front-alone n frame front into is same within =
 
 -- ---- how many can wait
 
--- a bound below all areas of a version
+-- a bound below the areas of all frames of a version, in bytes
 abbrev pub least_of : Version → ℕ
 least_of One = 3
 least_of Two = 1
 least_of TwoFive = 1
 
--- the shortest frames hold it, with a check word too
+-- the shortest frames have such areas, also with a check word
 least_length : (version : Version) (frequency channels : ℕ) → frequency < 3 →
     least_of version + 6 + side_bytes_of version channels ≤ length_of (record { version = version; frequency_index = frequency; channels = channels }) (slot_of 1 false)
 unfolding length_of rate_of frequency_of
@@ -226,7 +226,7 @@ many c m [] class are is = omega arith
 many c m (k ∷ ks) class are is =
     omega (arith, mul-suc m (length ks), many c m ks class are.3 is, kept-least c k class are.0 are.1, is)
 
--- so many bytes after the first frame, so many frames
+-- if so few bytes of areas are after the first frame, so few frames are
 few_behind : (version : Version) (n bytes : ℕ) → least_of version * n ≤ bytes → bytes < window_of version → n + 1 < 256
 few_behind One n bytes all behind = omega (arith, all, behind)
 few_behind Two n bytes all behind = omega (arith, all, behind)
@@ -261,7 +261,7 @@ have_room c (k ∷ ks) waiting are same unsettled =
 pub few-wait : FewWait
 few-wait held are same unsettled = have_room held.class held.kept held.waiting are same unsettled
 
--- what is free stays in reach where what is left is as much
+-- how many bytes later main data may reach back doesn't change, if enough is left
 pub reach-kept : (w f n : ℕ) → min w f ≤ n → min w (min f n) ≡ min w f
 reach-kept w f n enough = reach_cases w f n enough (cases_lt n f)
   where

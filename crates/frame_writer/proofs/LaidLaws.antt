@@ -61,7 +61,7 @@ fit-more end area_start (q ∷ ps) p fits from to = (fits.0, fits.1, fit-more (e
 
 -- ---- a queue of the bytes up to the end of the last main data, with zeros after it
 
--- where the bytes handed on and those in the queue end
+-- where the bytes that were handed on and those in the queue end
 stored : (given items : List ℕ) (free : ℕ) (ps : List Piece) → given ++ (items ++ zeros free) ≡ laid ps → free + data_end 0 0 ps ≤ areas_end 0 ps →
     given ++ items ≡ up_to 0 0 ps ++ zeros (areas_end 0 ps - data_end 0 0 ps - free)
 stored given items free ps same within =
@@ -79,7 +79,7 @@ gap_joined front payload n m k is =
     append_assoc front (zeros n) (zeros m ++ payload)
     ∙ ap (λ (xs : List ℕ). front ++ xs) (sym (append_assoc (zeros n) (zeros m) payload) ∙ ap (λ (xs : List ℕ). xs ++ payload) (replicate-append-replicate n m 0 ∙ ap zeros is))
 
--- main data more
+-- the main data of one frame more
 more_same : (given items payload : List ℕ) (begin free gap rest area : ℕ) (ps : List Piece) →
     given ++ (items ++ zeros free) ≡ laid ps → free + data_end 0 0 ps ≤ areas_end 0 ps → begin ≤ free → gap ≡ free - begin →
     length payload ≤ begin + area → rest ≡ begin + area - length payload →
@@ -114,7 +114,7 @@ more-laid given items payload begin free gap rest area ps reach gaps fits rests 
       room = omega (arith, length-append (items ++ (zeros gap ++ payload)) (zeros rest), length-zeros rest);
     }
 
--- where the payload is put into the bytes that wait and a new area of zeros
+-- where the main data are put into the bytes that wait and a new area of zeros
 pub more-put : (items payload : List ℕ) (begin free gap rest area : ℕ) →
     begin ≤ free → gap ≡ free - begin → length payload ≤ begin + area → rest ≡ begin + area - length payload →
     (items ++ (zeros gap ++ payload)) ++ zeros rest ≡ put_at (length (items ++ zeros free) - begin) payload ((items ++ zeros free) ++ zeros area)
@@ -187,12 +187,12 @@ laid_from-append end area_start (p ∷ ps) qs =
     ∙ ap (λ (xs : List ℕ). gap ++ xs) (sym (append_assoc p.payload more rest))
     ∙ sym (append_assoc gap (p.payload ++ more) rest)
 
--- before the main data of the first of them stand zeros
+-- zeros are before the main data of the first of them
 zeros_first : (end area_start free : ℕ) (qs : List Piece) → BeginsWithin free qs → (begin : ℕ) × (begin ≤ free) × (rest : List ℕ) × (laid_from end area_start qs ≡ zeros (area_start - begin - end) ++ rest)
 zeros_first end area_start free [] within = (0, omega arith, [], ap zeros (omega arith) ∙ sym (append-nil (zeros (area_start - 0 - end))))
 zeros_first end area_start free (q ∷ qs) within = (q.begin, within, q.payload ++ laid_from (end_of area_start q) (area_start + q.area) qs, refl)
 
--- a front of a list with zeros after it is one of the list and fewer zeros
+-- a prefix of a list with zeros after it is one of the list with fewer zeros
 front_of_zeros : (given bytes front rest : List ℕ) (n m : ℕ) → given ++ bytes ≡ front ++ zeros n → m ≤ n → n - m ≤ length bytes → (more : List ℕ) × (front ++ (zeros m ++ rest) ≡ given ++ more)
 front_of_zeros given bytes front rest n m same few many =
     let all : given ++ bytes ≡ (front ++ zeros m) ++ zeros (n - m) =
@@ -218,7 +218,7 @@ laid-later given waiting ps qs are within =
 
 -- ---- the queue
 
--- nothing goes where all fits
+-- nothing is dropped if all fits
 pub kept : (n : ℕ) (xs : List ℕ) → length xs ≤ n → keep_last n xs ≡ xs
 kept n xs fits = let none : length xs - n ≡ 0 = omega (arith, fits) in ap (λ k. drop k xs) none
 

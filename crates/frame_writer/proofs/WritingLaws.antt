@@ -32,7 +32,7 @@ ok-both (Err e) f p q = tt
 
 -- ---- one frame handed on
 
--- a prefix of what waits and a piece is one of what waits and more
+-- a prefix of what waits and some bytes is one of what waits and more of them
 pub prefix-piece : (name unsent piece before after : List ℕ) (f g : Files) → piece ++ after ≡ before →
     AppendedPrefix name (unsent ++ piece) f g → AppendedPrefix name (unsent ++ before) f g
 prefix-piece name unsent piece before after f g is p =
@@ -91,7 +91,7 @@ first-part name unsent old c k ks left waiting less f g view is rest drops step 
   prefix = prefix;
 }
 
--- what stood there before, and after it what is taken
+-- what was there before, and after it what is taken
 pub behind-more : {base bytes : List ℕ} {old new : Held} {fs : List Frame} → (h : HandedOn old new) → AreBehind base bytes old fs → AreBehind base (bytes ++ h.moved) new fs
 behind-more {base} {bytes} {old} {new} {fs} h are = record {
   taken = are.taken ++ h.moved;
@@ -109,7 +109,7 @@ passed-same name unsent mid new f g p h =
     ∙ p.split
     ∙ sym (append_assoc p.passed new.unsent (held_bytes new.held)))
 
--- the frame after those before waits, in front of the file the same bytes
+-- once the frame waits after the others, the bytes before the file are the same
 module _ (name : List ℕ) (f : Frame) (old : Writing) (mid : Held) where
   abbrev Waits : Type 0
   Waits = (taken : List ℕ) (fs : List Frame) → AreWritten taken old.held fs → AreWritten taken mid (fs ++ f ∷ [])
@@ -152,12 +152,12 @@ part-then name old mid held f g h passed on part =
       prefix = subst (λ (xs : List ℕ). AppendedPrefix name xs f h) (append_assoc old.unsent on.moved moved) (passed_then_prefix (passed_with moved all) part.prefix);
     }
 
--- where no frame waits, what waits is in the buffer
+-- if no frame waits, all that waits is in the buffer
 pub none-left : (held : Held) (unsent : List ℕ) → length held.kept ≡ 0 → waiting_bytes (writing held unsent) ≡ unsent
 none-left held unsent none =
     ap (λ (ks : List Kept). unsent ++ framed ks held.waiting.bytes) (nil_from_length held.kept none) ∙ append-nil unsent
 
--- two pieces, one after the other
+-- first some bytes were passed on, and then others
 pub passed-two : {name mid after : List ℕ} {f g h : Files} (before a b c : List ℕ) → a ++ b ≡ c → PassedOn name (before ++ a) mid f g → PassedOn name (mid ++ b) after g h → PassedOn name (before ++ c) after f h
 passed-two {name} {mid} {after} {f} {g} {h} before a b c is p q =
     subst (λ (xs : List ℕ). PassedOn name xs after f h) (append_assoc before a b ∙ ap (λ (xs : List ℕ). before ++ xs) is) (passed_more b p q)

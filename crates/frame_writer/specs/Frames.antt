@@ -10,8 +10,8 @@ use Rattle.side_info.specs.Frame.{word_part}
 use Rattle.frame_writer.specs.declared.frames.Kept.{Kept}
 use Rattle.frame_writer.specs.Laid.{Piece, Waiting, laid, laid_behind, AreLaid}
 
--- what is before the area: the header, the check word of a protected frame, which is right for this header and this side
--- information, and the side information
+-- the front of a frame: the header, the check word of a protected frame, which is right for this header and this side information, and the
+-- side information
 unfoldable pub front_of : HeaderFields → Side → List ℕ
 front_of h s = bytes (header_bits h) ++ (word_part h s ++ bytes (side_bits (class_of h) s))
 
@@ -27,7 +27,7 @@ abbrev pub first_area : List Kept → ℕ
 first_area [] = 0
 first_area (k ∷ ks) = area_in k
 
--- frames whose areas are cut off these bytes, one after another
+-- frames with these bytes as their areas, cut off one after another
 abbrev pub framed : List Kept → List ℕ → List ℕ
 framed [] area_bytes = []
 framed (k ∷ ks) area_bytes = front_of k.header k.side ++ (take (area_in k) area_bytes ++ framed ks (drop (area_in k) area_bytes))
@@ -46,7 +46,7 @@ all_kept fs = map (λ f. f.kept) fs
 abbrev pub pieces : List Frame → List Piece
 pieces fs = map piece_of fs
 
--- the main data of a frame end before its own area does, where they begin as it says
+-- the main data of a frame, which begin where its main_data_begin says, end within its own area
 abbrev pub EndsInArea : Frame → Type 0
 EndsInArea f = length f.payload ≤ f.kept.side.main_data_begin + area_in f.kept
 
@@ -79,7 +79,7 @@ abbrev pub AreOf : ClassFields → List Kept → Type 0
 AreOf c [] = Unit {0}
 AreOf c (k ∷ ks) = IsHeader k.header × (class_of k.header ≡ c) × SideFits c k.side × AreOf c ks
 
--- how many bytes before the next frame's own area its main data may begin
+-- how many bytes before its own area the main data of the next frame may begin
 abbrev pub reach_of : Held → ℕ
 reach_of held = min (window_of held.class.version) held.waiting.free
 
@@ -88,11 +88,11 @@ pub record IsNextSettled (held : Held) : Type 0 where
   pub some : 0 < length held.kept
   pub behind : first_area held.kept + min (window_of held.class.version) held.waiting.free ≤ length held.waiting.bytes
 
--- how many bytes before the next frame's own area its main data may begin, where this frame was given last
+-- how many bytes before its own area the main data of the next frame may begin, if this frame was given last
 abbrev pub reach_with : ClassFields → Frame → ℕ
 reach_with c f = min (window_of c.version) (f.kept.side.main_data_begin + area_in f.kept - length f.payload)
 
--- of these frames so many were taken, with these bytes as their areas, and the others wait
+-- the first of these frames were taken, with these bytes as their areas, and the others wait
 pub record AreWritten (taken : List ℕ) (held : Held) (fs : List Frame) : Type 0 where
   pub done : List Kept
   pub given : List ℕ

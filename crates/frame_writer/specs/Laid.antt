@@ -1,5 +1,5 @@
--- Main data laid into the areas of frames (main_data_begin, ISO/IEC 11172-3 and 13818-3, 2.4.2.7). Places are counted among the bytes of
--- all areas, one area after the other.
+-- Main data laid into the areas of frames (main_data_begin, ISO/IEC 11172-3 and 13818-3, 2.4.2.7). Places are counted in bytes, over all
+-- areas, one after the other.
 use Rattle.std.specs.Prelude.{◌≡◌, ℕ, ◌+◌, ◌-◌, ◌≤◌, List, [], ◌∷◌, ◌++◌, length, take, drop, replicate}
 
 -- a frame's main data, its main_data_begin, and how many bytes its own area has
@@ -35,8 +35,8 @@ CanBeLaidFrom end area_start [] = Unit {0}
 CanBeLaidFrom end area_start (p ∷ ps) =
     (end + p.begin ≤ area_start) × (end_of area_start p ≤ area_start + p.area) × CanBeLaidFrom (end_of area_start p) (area_start + p.area) ps
 
--- the bytes from the end of the main data before these frames to the end of their areas: up to the start of each frame's main data 0,
--- then these, and after the last 0
+-- the bytes from the end of the main data before these frames to the end of their areas: zeros up to each frame's main data, then these,
+-- and zeros after the last
 abbrev pub laid_from : ℕ → ℕ → List Piece → List ℕ
 laid_from end area_start [] = zeros (area_start - end)
 laid_from end area_start (p ∷ ps) =
@@ -56,22 +56,22 @@ pub record Waiting : Type 0 where
   pub bytes : List ℕ
   pub free : ℕ
 
--- these bytes at a place in place of as many that are there
+-- the bytes with these at a place, over as many that were there
 abbrev pub put_at : ℕ → List ℕ → List ℕ → List ℕ
 put_at place more bytes = take place bytes ++ (more ++ drop (place + length more) bytes)
 
--- what waits after main data that are laid from so many bytes before an area of this length on
+-- what waits after an area of this length was added and main data were laid, from so many bytes before it on
 abbrev pub laid_behind : Waiting → List ℕ → ℕ → ℕ → List ℕ
 laid_behind w payload begin area = put_at (length w.bytes - begin) payload (w.bytes ++ zeros area)
 
--- what was handed on and what waits are the bytes of the areas of these frames, and what is free is free in all of them
+-- what was handed on and what waits are the bytes of the areas of these frames, and the bytes that are free are after all their main data
 pub record AreLaid (given : List ℕ) (waiting : Waiting) (ps : List Piece) : Type 0 where
   pub fit : CanBeLaid ps
   pub same : given ++ waiting.bytes ≡ laid ps
   pub free : waiting.free + data_end 0 0 ps ≤ areas_end 0 ps
   pub room : waiting.free ≤ length waiting.bytes
 
--- the first of these begins no more than so many bytes before its own area
+-- the main data of the first of these begin at most so many bytes before its own area
 abbrev pub BeginsWithin : ℕ → List Piece → Type 0
 BeginsWithin free [] = Unit {0}
 BeginsWithin free (p ∷ ps) = p.begin ≤ free

@@ -11,7 +11,7 @@ pub record HaveRoom (held : Held) : Type 0 where
   pub few : length held.kept < 256
   pub room : length held.waiting.bytes + 1441 ≤ 8192
 
--- where later main data can reach the area of the first frame that waits, there is room for one more
+-- if later main data can reach the area of the first frame that waits, there is room for one more
 abbrev pub FewWait : Type 0
 FewWait =
     (held : Held) → AreOf held.class held.kept → areas_in held.kept ≡ length held.waiting.bytes → (IsNextSettled held → ⊥) → HaveRoom held

@@ -11,14 +11,15 @@ use reservoir::{ByteQueue, Payload};
 use std::alloc::{AllocError, Global};
 use std::marker::Model;
 
-/// As many bytes of areas as may wait.
+/// How many bytes of areas may wait.
 const CAPACITY: usize = 8192;
 
-/// What is before the start of main data and after the end of those before.
+/// The zeros between the end of one frame's main data and the start of the next one's.
 static ZEROS: [u8; CAPACITY] = [0; CAPACITY];
 
-/// The areas of frames whose main data were laid, as far as they weren't taken. Contracts see the bytes that wait, 0
-/// where no main data stand, and how many of them, at their end, are after the main data that were laid last.
+/// The areas of frames whose main data were laid, without the bytes that were taken. Contracts see the
+/// bytes that wait, 0 where no main data are, and how many of them, at their end, are after the main data
+/// that were laid last.
 #[derive(Drop)]
 pub struct Areas {
     // The bytes up to the end of the main data laid last. After them only zeros wait.
@@ -68,9 +69,9 @@ impl Areas {
         self.free
     }
 
-    /// How many of the bytes that wait no later main data can reach, where these begin at most `window` bytes before
-    /// their frame's own area: 511 in MPEG-1, 255 in MPEG-2 and MPEG-2.5 (main_data_begin, ISO/IEC 11172-3 and
-    /// 13818-3, 2.4.2.7).
+    /// How many of the bytes that wait no later main data can reach. These begin at most `window` bytes
+    /// before their frame's own area: 511 in MPEG-1, 255 in MPEG-2 and MPEG-2.5 (main_data_begin, ISO/IEC
+    /// 11172-3 and 13818-3, 2.4.2.7), and not before the end of the last main data.
     #[inline]
     pub fn settled(&self, window: u32) -> usize
         ensures { result ≡ length self.now.bytes - min window self.now.free }
@@ -78,8 +79,8 @@ impl Areas {
         self.waiting() - self.free.min(window) as usize
     }
 
-    /// Adds the area of a frame, `area` bytes, and lays the frame's main data: they begin `begin` bytes before that
-    /// area, the frame's main_data_begin. All else in the area is 0.
+    /// Adds the area of a frame, which has `area` bytes, and lays the frame's main data: they begin `begin`
+    /// bytes before that area, the frame's main_data_begin. All else in the area is 0.
     #[inline]
     pub fn push(&mut self, begin: u32, area: u32, payload: &Payload<'_>)
         requires start { begin ≤ self.old.free }
@@ -99,7 +100,7 @@ impl Areas {
         self.free = begin + area - payload.len() as u32;
     }
 
-    /// Adds the first bytes of what waits, so many, to what waits for the file.
+    /// Adds the first `count` bytes of what waits to what waits for the file.
     ///
     /// # Errors
     /// Where a write failed. Then a prefix of both was appended.
@@ -127,8 +128,8 @@ impl Areas {
         add_zeros(count - stored, folder, name, unsent)
     }
 
-    /// Drops the first bytes of what waits. Where these are no more than are settled, whatever main data could be laid
-    /// before can be laid still.
+    /// Drops the first `count` bytes of what waits. If these are no more than are settled, all main data
+    /// that could be laid before can be laid afterwards.
     #[inline]
     pub(crate) fn drop_first(&mut self, count: usize)
         requires { count ≤ length self.old.bytes }
@@ -152,7 +153,7 @@ impl Areas {
     }
 }
 
-/// So many zeros.
+/// `count` zeros.
 fn zeros_of(count: usize) -> &'static [u8]
     requires { count ≤ 8192 }
     ensures { result.now ≡ zeros count }
@@ -160,7 +161,7 @@ fn zeros_of(count: usize) -> &'static [u8]
     &ZEROS[..count]
 }
 
-/// Adds so many zeros to a queue.
+/// Adds `count` zeros to a queue.
 #[inline]
 fn push_zeros(queue: &mut ByteQueue, count: usize)
     requires { length queue.old + count ≤ 8192 }
@@ -171,7 +172,7 @@ fn push_zeros(queue: &mut ByteQueue, count: usize)
     }
 }
 
-/// Adds so many zeros to what waits for the file.
+/// Adds `count` zeros to what waits for the file.
 ///
 /// # Errors
 /// Where a write failed. Then a prefix of both was appended.

@@ -16,10 +16,11 @@ use reservoir::Payload;
 use side_info::{Side, put_side};
 use std::marker::Model;
 
-/// The bytes of a header.
+/// The length of a header in bytes.
 const HEADER_SIZE: usize = 4;
 
-/// The most bytes that are before the area of a frame: header, check word and side information.
+/// The greatest length of what is before the area of a frame, in bytes: header, check word and side
+/// information.
 const FRONT: usize = 38;
 
 /// A frame without its area.
@@ -44,8 +45,8 @@ impl<'a> Model for Frame<'a> {
     ghost view = { λ f. record { kept = f.kept; payload = f.payload } };
 }
 
-/// Writes what is before a frame's area: the header, the check word of a protected frame, and the side
-/// information. What is after stays.
+/// Writes the front of a frame: the header, the check word of a protected frame, and the side information.
+/// What is after it stays.
 #[inline(always)]
 #[tactic(auto, unfolding(crate::specs::Frames::front_of, frame_header::specs::Tables::overhead_of, side_info::specs::Frame::frame_with))]
 pub fn put_front(header: &Header, side: &Side, frame: &mut [u8])
@@ -58,7 +59,7 @@ pub fn put_front(header: &Header, side: &Side, frame: &mut [u8])
     put_side(header, side, frame);
 }
 
-/// Adds the bytes of a frame, whose area is the first that waits, to what waits for the file.
+/// Adds the bytes of a frame, whose area is the first of those that wait, to what waits for the file.
 ///
 /// # Errors
 /// Where a write failed. Then a prefix of both was appended.

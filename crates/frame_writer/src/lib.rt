@@ -1,5 +1,6 @@
-//! Main data laid into the areas of frames again, and the frames written to a file: each frame's main data go where its
-//! main_data_begin says, into its own area and those before it. Memory is taken by the `new` functions alone.
+//! Lays main data into the areas of frames, and writes the frames to a file: each frame's main data go
+//! where its main_data_begin says, into its own area and those before it. Memory is taken by the `new`
+//! functions alone.
 //!
 //! ```text
 //! let mut writer = Writer::new(alloc, header.class())?;

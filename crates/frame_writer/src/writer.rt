@@ -16,12 +16,12 @@ use outside::{Failed, Folder, WriteBuffer};
 use std::alloc::{AllocError, Global};
 use std::marker::Model;
 
-/// As many frames as may wait.
+/// How many frames may wait.
 const MOST: usize = 256;
 
-/// Frames of one class on their way to a file: those whose main data were laid, and whose areas later main data may
-/// reach. Contracts see the class, the frames that wait and what waits of their areas. They go through a buffer in front
-/// of the file, which is the caller's: what waits in it is before them.
+/// Frames of one class on their way to a file: those whose main data were laid, and whose areas later main
+/// data may reach. Contracts see the class, the frames that wait and what waits of their areas. The frames
+/// go through a buffer before the file, which is the caller's: what waits in it comes before them.
 #[derive(Drop)]
 pub struct Writer {
     class: Class,
@@ -72,14 +72,14 @@ impl Writer {
         self.class
     }
 
-    /// Whether it takes a frame: where a write failed, it may not.
+    /// Whether it takes a frame. It does, except after a write that failed, where it may not.
     pub fn is_ready(&self) -> bool
         ensures { IsTrue result ↔ (IsNextSettled self.now → ⊥) }
     {
         !self.is_next_settled()
     }
 
-    /// How many bytes before the next frame's own area its main data may begin.
+    /// How many bytes before its own area the main data of the next frame may begin.
     pub fn reach(&self) -> u32
         ensures { result ≡ reach_of self.now }
     {
@@ -97,8 +97,8 @@ impl Writer {
     /// Adds a frame, lays its main data, and hands on what no later main data can reach.
     ///
     /// # Errors
-    /// Where a write failed. Then a prefix of what waited, with the frame after it, was appended, of bytes that no later
-    /// main data can reach.
+    /// Where a write failed. Then of the bytes that waited, and of the frame after them, a prefix was
+    /// appended that no later main data can reach.
     #[inline]
     pub fn frame<D: Folder>(
         &mut self,
@@ -132,7 +132,7 @@ impl Writer {
         self.hand_on(folder, name, unsent)
     }
 
-    /// Hands on all that waits, to the buffer in front of the file.
+    /// Hands on all that waits, to the buffer before the file.
     ///
     /// # Errors
     /// Where a write failed. Then a prefix of what waited was appended.
@@ -253,8 +253,9 @@ impl Writer {
         added
     }
 
-    /// Whether a frame waits whose area no later main data can reach: these begin at most 511 bytes before their frame's
-    /// own area in MPEG-1, 255 in MPEG-2 and MPEG-2.5, and not before the end of the last main data.
+    /// Whether a frame waits whose area no later main data can reach. These begin at most 511 bytes before
+    /// their frame's own area in MPEG-1, 255 in MPEG-2 and MPEG-2.5, and not before the end of the last
+    /// main data.
     #[inline]
     fn is_next_settled(&self) -> bool
         ensures { IsTrue result ↔ IsNextSettled self.now }

@@ -7,7 +7,7 @@ use Rattle.outside.specs.Counts.{Counts}
 use Rattle.outside.specs.Files.{with_file}
 use Rattle.in_memory.specs.Memory.{contents_of, bytes_of, counts_of, create_fails, write_fails}
 
--- those of the folder inside, with an end for each read of a name that isn't in it
+-- the counts of the folder inside, with an end for each read, into some room, of a name that isn't in it
 abbrev pub short_counts : ShortFolder → Counts
 short_counts folder = record (counts_of folder.inner) { ends = (counts_of folder.inner).ends + folder.unread }
 
@@ -15,7 +15,7 @@ short_counts folder = record (counts_of folder.inner) { ends = (counts_of folder
 abbrev pub is_inside : ShortFolder → List ℕ → Bool
 is_inside folder name = is_some (contents_of folder.inner name)
 
--- a length and so many bytes more, or the greatest value of a u64 where that passes it
+-- a length and so many bytes more, or the greatest value of a u64 if that is less
 abbrev pub longer : ℕ → Result ℕ FindFault → Result ℕ FindFault
 longer extra (Ok length) = Ok (min (length + extra) (2 ^ 64 - 1))
 longer extra (Err fault) = Err fault

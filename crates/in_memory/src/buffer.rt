@@ -1,4 +1,4 @@
-//! Bytes in memory, in room that was taken before.
+//! Bytes in memory that was taken before.
 ghost use Rattle.std.specs.Prelude.{◌≡◌, ◌+◌, ◌≤◌, [], ◌++◌, length, IfOk, nat_le, if◌then◌else◌};
 
 use std::alloc::{AllocError, Global};
@@ -33,7 +33,10 @@ impl Buffer {
         }
     }
 
-    /// These bytes, with room for so many.
+    /// A copy of the bytes, with room for so many.
+    ///
+    /// # Errors
+    /// Where there is no memory.
     pub fn with_room(alloc: Global, room: u64, bytes: &[u8]) -> Result<Self, AllocError>
         requires { length bytes.now ≤ room }
         ensures { IfOk result (λ b. b ≡ record { bytes = bytes.now; room = room }) }
@@ -63,7 +66,7 @@ impl Buffer {
         self.content.clear();
     }
 
-    /// Adds the bytes where there is room for all of them, and says whether there is.
+    /// Adds the bytes if there is room for all of them, and answers whether there is.
     pub fn append(&mut self, bytes: &[u8]) -> bool
         ensures fits { result ≡ nat_le (length self.old.bytes + length bytes.now) self.old.room }
         ensures added { self.new ≡ (if result then record self.old

@@ -21,10 +21,10 @@ pub enum Call {
     Write,
 }
 
-/// A folder in memory. It tells its files, and a call of its trait takes no memory: each name has a
-/// room in bytes, which `put` and `reserve` take. A call of the trait fails exactly where it is on the
-/// list of calls that are to fail, where `create` is given a name without a room, and where `write` would
-/// make a file longer than its room.
+/// A folder in memory. It tells its files, and a call of its trait takes no memory: each name has a room in
+/// bytes, for which `put` and `reserve` take the memory. A call of the trait fails exactly if it is on the
+/// list of calls that are to fail, if `create` is given a name without a room, or if `write` would make a
+/// file longer than its room.
 #[derive(Drop)]
 pub struct MemFolder {
     alloc: Global,
@@ -77,7 +77,7 @@ impl MemFolder {
         self.slots.set(self.alloc, name, slot)
     }
 
-    /// Makes the name's room the greater of its old room and this number of bytes. The files stay.
+    /// Makes the name's room the greater of its old room and this number of bytes. All files stay.
     ///
     /// # Errors
     /// Where there is no memory. Then the rooms stay.
@@ -93,7 +93,7 @@ impl MemFolder {
         self.slots.set(self.alloc, name, slot)
     }
 
-    /// The file's bytes, or `None` where the name isn't there.
+    /// The bytes of the file, or `None` where the name isn't there.
     pub fn get(&self, name: &str) -> Option<&[u8]>
         ensures { option_copied result ≡ contents_of self.now name.now }
     {
@@ -125,10 +125,10 @@ impl MemFolder {
     }
 }
 
-/// How many bytes these are.
+/// The number of the bytes.
 fn size_of(bytes: &[u8]) -> u64
     ensures size { result ≡ length bytes.now }
-    // What the type says.
+    // The type says that they are bytes.
     ensures octets { AreOctets bytes.now }
 {
     bytes.len() as u64
@@ -268,7 +268,7 @@ impl Folder for MemFolder {
     }
 }
 
-// Copies the bytes from a place on, as many as there are and fit, and says how many.
+// Copies the bytes from the offset `at` on, as many as there are and fit, and answers how many.
 fn copy_from(content: &[u8], at: u64, into: &mut [u8]) -> usize
     ensures count { result ≡ min (length into.old) (length content.now - at) }
     ensures front { take result into.new ≡ take result (drop at content.now) }

@@ -8,9 +8,9 @@ use crate::schedule::Schedule;
 use outside::{Failed, Sink};
 use std::alloc::{AllocError, Global};
 
-/// A sink in memory. It tells its bytes, and a `write` takes no memory: the sink has a room in bytes,
-/// which `reserve` takes. A `write` fails exactly where it is on the list of those that are to fail, and
-/// where it would make the sink's bytes more than the room.
+/// A sink in memory. It tells its bytes, and a `write` takes no memory: the sink has a room in bytes, for
+/// which `reserve` takes the memory. A `write` fails exactly if it is on the list of those that are to
+/// fail, or if the sink would then have more bytes than room.
 #[derive(Drop)]
 pub struct MemSink {
     alloc: Global,

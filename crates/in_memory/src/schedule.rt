@@ -39,8 +39,8 @@ impl Schedule {
         Ok(())
     }
 
-    /// Counts a call, and says whether it is to fail. The number of calls is at `u64::MAX` once it is
-    /// there.
+    /// Counts a call, and answers whether it is to fail. A number of calls that has reached `u64::MAX`
+    /// stays there.
     pub fn next_fails(&mut self) -> bool
         ensures answer { result ≡ is_next_to_fail self.old }
         ensures counted { self.new ≡ after_call self.old }

@@ -8,10 +8,10 @@ ghost use Rattle.outside.specs.Counts.{OnlyReads, OnlyWrites, NothingFailed, Ros
 use crate::memory_folder::MemFolder;
 use outside::{Failed, FindFault, Folder};
 
-/// A folder over one in memory that tells nothing, and whose files are shorter than `find` says, as where another program
-/// cuts them off while they are read. Its calls are those of the folder inside, except three things: `find` answers so many
-/// bytes more than there are, or `u64::MAX` where that passes it; `read` gives no byte of a name that isn't inside; and
-/// `write` first creates such a name inside, and fails where that fails.
+/// A folder over one in memory that tells nothing, and whose files are shorter than `find` says, as if
+/// another program cut them off while they are read. Its calls are those of the folder inside, except three
+/// things: `find` answers so many bytes more than there are, or `u64::MAX` if that is less; `read` gives no
+/// byte of a name that isn't inside; and `write` first creates such a name inside, and fails if that fails.
 #[derive(Drop)]
 pub struct ShortFolder {
     inner: MemFolder,
@@ -44,7 +44,7 @@ impl ShortFolder {
     }
 }
 
-/// Creates a file of no bytes where the name isn't there, so that bytes can be appended to it.
+/// Creates a file of no bytes if the name isn't there, so that bytes can be appended to it.
 fn create_missing(folder: &mut MemFolder, name: &str) -> Result<(), Failed>
     ensures fails { is_err result ≡ create_missing_fails folder.old name.now }
     ensures there { OnOk result (IsThere (Told (contents_of folder.new)) name.now) }

@@ -1,4 +1,4 @@
-//! Files in memory by their names, each in room that was taken before.
+//! Files in memory by their names, each in memory that was taken before.
 ghost use Rattle.std.specs.Prelude.{◌≡◌, ◌+◌, ◌≤◌, [], ◌++◌, length, None, Some, OnOk, OnErr, IfOk, IfSome, IsSome, is_some, unwrap_or, option_copied, nat_le, if◌then◌else◌, bytes_eq};
 ghost use Rattle.std.specs.Map.{update};
 ghost use Rattle.outside.specs.Files.{with_file};
@@ -7,7 +7,7 @@ use crate::buffer::Buffer;
 use std::alloc::{AllocError, Global};
 use std::collections::BTreeMap;
 
-/// The room for a name, and its file where there is one.
+/// The room for a name, and its file if there is one. (No slot of frames.)
 #[derive(Drop)]
 pub struct Slot {
     buffer: Buffer,
@@ -17,7 +17,10 @@ pub struct Slot {
 impl Slot {
     ghost use Rattle.in_memory.specs.Slots.{content_of};
 
-    /// Room for so many bytes, and a file that holds these where they are given.
+    /// Room for so many bytes, and a file of these bytes if they are given.
+    ///
+    /// # Errors
+    /// Where there is no memory.
     pub fn new(alloc: Global, room: u64, bytes: Option<&[u8]>) -> Result<Self, AllocError>
         requires { length (unwrap_or (option_copied bytes) []) ≤ room }
         ensures content { IfOk result (λ s. content_of s ≡ option_copied bytes.entry) }
@@ -37,7 +40,7 @@ impl Slot {
         self.buffer.room()
     }
 
-    /// The bytes of the file, where there is one.
+    /// The bytes of the file, if there is one.
     pub fn content(&self) -> Option<&[u8]>
         ensures { option_copied result ≡ content_of self.now }
     {
@@ -48,7 +51,7 @@ impl Slot {
         }
     }
 
-    /// Makes the slot a file of no bytes.
+    /// Makes it a file of no bytes.
     pub fn create(&mut self)
         ensures content { content_of self.new ≡ Some [] }
         ensures room { self.new.buffer.room ≡ self.old.buffer.room }
@@ -57,7 +60,7 @@ impl Slot {
         self.there = true;
     }
 
-    /// Adds the bytes to the file where there is room for all of them, and says whether there is.
+    /// Adds the bytes to the file if there is room for all of them, and answers whether there is.
     pub fn append(&mut self, bytes: &[u8]) -> bool
         requires { IsSome (content_of self.old) }
         ensures fits { result ≡ nat_le (length
@@ -71,7 +74,7 @@ impl Slot {
     }
 }
 
-/// A slot for each name that was put or reserved.
+/// Room and file of each name that was put or reserved.
 #[derive(Drop)]
 pub struct Slots {
     by_name: BTreeMap<String, Slot>,
@@ -89,7 +92,7 @@ impl Slots {
         }
     }
 
-    /// The bytes of a name, where it is there.
+    /// The bytes of a name, if it is there.
     pub fn content(&self, name: &str) -> Option<&[u8]>
         ensures { option_copied result ≡ contents_in self.now name.now }
     {
@@ -107,7 +110,10 @@ impl Slots {
         }
     }
 
-    /// Puts a slot in the place of what the name has.
+    /// Gives the name this room and file in place of what it has.
+    ///
+    /// # Errors
+    /// Where there is no memory. Then rooms and files stay.
     pub fn set(&mut self, alloc: Global, name: &str, slot: Slot) -> Result<(), AllocError>
         ensures contents { OnOk result (contents_in self.new ≡ update bytes_eq
             (contents_in self.old) name.now (content_of slot)) }
@@ -121,7 +127,7 @@ impl Slots {
         Ok(())
     }
 
-    /// Makes the name a file of no bytes where it has room, and says whether it has.
+    /// Makes the name a file of no bytes if it has room, and answers whether it has.
     pub fn create(&mut self, name: &str) -> bool
         ensures answer { result ≡ is_some (rooms_in self.old name.now) }
         ensures contents { contents_in self.new
@@ -138,7 +144,7 @@ impl Slots {
         }
     }
 
-    /// Adds the bytes to the file where there is room for all of them, and says whether there is.
+    /// Adds the bytes to the file if there is room for all of them, and answers whether there is.
     pub fn append(&mut self, name: &str, bytes: &[u8]) -> bool
         requires { IsSome (contents_in self.old name.now) }
         ensures answer { result ≡ nat_le (length

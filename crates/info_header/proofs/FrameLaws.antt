@@ -1,4 +1,4 @@
--- Laws of the Info frame: its slot has room for the fields, and is the least that has.
+-- Laws of the Info frame: its slot has room for the fields, and no slot with room has a smaller area.
 use Rattle.std.proofs.Common.{◌≡◌, ℕ, zero, suc, ◌+◌, ◌-◌, ◌≤◌, ◌<◌, Bool, true, false, cond, List, [], ◌∷◌, ◌++◌, length, drop, replicate, get_or, refl, sym, ap, ◌∙◌, subst, arith, inl, inr, lit≤}
 use Rattle.std.proofs.lemmas.Bool.{cases_lt, le-leb, leb-true, lt-leb}
 use Rattle.std.proofs.lemmas.List.{drop_more, drop_all, get_or-map}
@@ -60,7 +60,7 @@ pub info_slot-room : (c : ClassFields) → IsClass c → 156 ≤ area_of c (info
 unfolding info_slot_of
 info_slot-room c class = room_in c class all_slots
 
--- ---- it is the least
+-- ---- it has the smallest area
 
 -- the first slot with room is at some place, and no later than another
 record IsBy (c : ClassFields) (slots : List SlotFields) (k : ℕ) (d : SlotFields) : Type 0 where
@@ -113,7 +113,7 @@ pub frame-is : (first : HeaderFields) (info : Info) (new cleared header : List �
 unfolding info_frame
 frame-is first info new cleared header side rest none is sides left pieces = pieces ∙ rw (none, is, sides, left) refl
 
--- what is left of the length after the fields is what the area has besides them
+-- the zeros after the fields fill the rest of the area
 pub zeros-left : (c : ClassFields) (slot : SlotFields) (length side : ℕ) → length ≡ length_of c slot → side ≡ side_size_of c → length - (4 + side + 156) ≡ area_of c slot false - 156
 unfolding area_of overhead_of
 zeros-left c slot length side is sides = omega (arith, is, sides)

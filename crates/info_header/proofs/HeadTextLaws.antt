@@ -1,4 +1,4 @@
--- Where a head's text stands: within the frame, and at one of two places.
+-- Where a head's text is: within the frame, and at one of two places.
 use Rattle.std.proofs.Common.{◌≡◌, ◌⊎◌, ℕ, ◌+◌, ◌-◌, ◌<◌, ◌≤◌, Bool, true, false, cond, ◌&&◌, ◌||◌, List, length, take, drop, Some, None, refl, sym, ap, ◌∙◌, get_or, codes, arith, lit<, inl, inr}
 use Rattle.std.specs.Str.{bytes_eq}
 use Rattle.std.proofs.lemmas.Bool.{false≢true}
@@ -58,12 +58,12 @@ apart n (inl a) (inr b) = omega arith
 apart n (inr a) (inl b) = omega arith
 apart n (inr a) (inr b) = omega arith
 
--- two texts can't stand two bytes apart, so it doesn't matter which place is looked at first
+-- texts can't be at both places, so it doesn't matter which is looked at first
 pub one_place : (at : ℕ) (frame : List ℕ) → has_text at frame ≡ true → has_text (at + 2) frame ≡ true → ⊥
 one_place at frame here there =
     apart (get_or frame (at + 2) 0) (has_text-byte at 2 (at + 2) frame (omega arith) (lit< tt) here) (has_text-byte (at + 2) 0 (at + 2) frame (omega arith) (lit< tt) there)
 
--- ---- only the bytes up to the end of the text matter
+-- ---- only the bytes up to the end of the text decide
 
 part_take : (at many n : ℕ) (bytes : List ℕ) → at + many ≤ n → take many (drop at (take n bytes)) ≡ take many (drop at bytes)
 part_take at many n bytes within =
@@ -74,7 +74,7 @@ pub has_text-take : (at n : ℕ) (frame : List ℕ) → at + 4 ≤ n → has_tex
 unfolding has_text
 has_text-take at n frame within = ap (λ text. bytes_eq text (codes "Xing") || bytes_eq text (codes "Info")) (part_take at 4 n frame within)
 
--- the text shows in the first bytes of the frame, through those of the higher place
+-- the first bytes of the frame decide, up to the end of the text at the higher place
 pub head_text_of-take : (h : HeaderFields) (n : ℕ) (frame : List ℕ) → 10 + side_size_of (class_of h) ≤ n → head_text_of h (take n frame) ≡ head_text_of h frame
 unfolding head_text_of low_place high_place
 head_text_of-take h n frame within =

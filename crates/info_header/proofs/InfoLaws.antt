@@ -1,4 +1,4 @@
--- Laws of the fields of a head: where they stand, and what is after them.
+-- Laws of the fields of a head: where they are, and what is after them.
 use Rattle.std.proofs.Common.{◌≡◌, ◌⊎◌, ℕ, suc, min, ◌+◌, ◌-◌, ◌≤◌, ◌<◌, true, false, cond, List, [], ◌++◌, length, take, drop, replicate, sym, ap, ◌∙◌, append_assoc, append-nil, arith, inl, inr}
 use Rattle.std.proofs.Math.Nat.{min-eq_left, min-eq_right}
 use Rattle.std.proofs.Math.Seq.{take-append-add, take-length}
@@ -41,7 +41,7 @@ padded_cases n bytes (inr many) =
 pub padded-parts : (n : ℕ) (bytes : List ℕ) → take (min (length bytes) n) bytes ++ drop (min (length bytes) n) (replicate n 0) ≡ padded n bytes
 padded-parts n bytes = padded_cases n bytes (cases_lt (length bytes) n)
 
--- ---- pieces one after another
+-- ---- bytes one after another
 
 pub piece-before : (old mid new piece rest : List ℕ) → mid ≡ old ++ piece → new ≡ mid ++ rest → new ≡ old ++ (piece ++ rest)
 piece-before old mid new piece rest first then = then ∙ ap (λ (xs : List ℕ). xs ++ rest) first ∙ append_assoc old piece rest

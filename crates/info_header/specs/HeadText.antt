@@ -1,5 +1,5 @@
--- Where the text of an Info head is in a frame. The layout of these heads is no standard's: encoders write the text right after
--- the side information, some with two bytes left for the check word of a protected frame and some without.
+-- Where the text of a head is in a frame. The layout of heads is in no standard: encoders write the text right after the side information,
+-- some with two bytes left for the check word of a protected frame and some without.
 use Rattle.std.specs.Prelude.{ℕ, ◌+◌, ◌&&◌, ◌||◌, if◌then◌else◌, Bool, List, take, drop, Option, Some, None, codes, bytes_eq}
 use Rattle.frame_header.specs.Fields.{HeaderFields}
 use Rattle.frame_header.specs.Tables.{class_of, side_size_of}

@@ -1,6 +1,6 @@
--- The fields of a head after its text. The layout is no standard's: encoders write the text, a word of flags, and then a number of
--- frames, a number of bytes, a table of 100 entries and a quality, each where its flag is set; and after these an extension, whose
--- first 36 bytes are kept. Numbers are of 32 bits and big-endian.
+-- The fields of a head after its text. The layout is in no standard: encoders write the text, a word of flags, and then a number of frames,
+-- a number of bytes, a seek table of 100 entries and a quality, each if its flag is set; and after these an extension, whose first 36 bytes
+-- are kept. Numbers have 32 bits and are big-endian.
 use Rattle.std.specs.Prelude.{ℕ, zero, suc, ◌+◌, ◌*◌, ◌/◌, ◌==◌, ◌&&◌, min, nat_le, if◌then◌else◌, Bool, List, [], ◌∷◌, ◌++◌, length, take, drop, replicate, slice_index, Option, Some, None, codes, bytes_eq}
 use Rattle.std.specs.Int.{bit_at}
 use Rattle.byteorder.specs.Endian.{big_number, big_bytes}
@@ -26,7 +26,7 @@ unfoldable pub field_place : ℕ → ℕ → ℕ
 field_place flags zero = 8
 field_place flags (suc field) = field_place flags field + (if is_flagged flags field then field_size field else 0)
 
--- The bytes of a field; none where its flag isn't set, or where it passes the end. Where a field passes the end, so do all that are
+-- The bytes of a field; none where its flag isn't set, or where it goes past the end. Where a field goes past the end, so do all that are
 -- flagged after it.
 unfoldable pub field_in : ℕ → ℕ → List ℕ → Option (List ℕ)
 field_in flags field bytes =
@@ -74,6 +74,6 @@ info_bytes info =
     text_of info.vbr ++ (big_bytes 4 15 ++ (big_bytes 4 (number_or_zero info.frames) ++ (big_bytes 4 (number_or_zero info.bytes)
     ++ (table_or_zeros info.table ++ (big_bytes 4 (number_or_zero info.quality) ++ info.extension)))))
 
--- the entry of the table for a frame at an offset, of so many bytes in all: the 256th parts passed, at most 255
+-- the entry of the table for a frame at an offset, of so many bytes in all: how many 256th parts are before it, rounded down, at most 255
 abbrev pub entry_of : ℕ → ℕ → ℕ
 entry_of offset bytes = min (256 * offset / bytes) 255

@@ -1,4 +1,4 @@
--- The frame that holds a head.
+-- The frame that is a head.
 use Rattle.std.specs.Prelude.{ℕ, ◌-◌, nat_le, if◌then◌else◌, false, List, [], ◌∷◌, ◌++◌, replicate}
 use Rattle.bit_fields.specs.Bits.{bytes}
 use Rattle.frame_header.specs.Fields.{SlotFields, ClassFields, HeaderFields}
@@ -14,7 +14,7 @@ unfoldable pub first_with_room : ClassFields → List SlotFields → SlotFields
 first_with_room c [] = largest_slot
 first_with_room c (slot ∷ slots) = if nat_le 156 (area_of c slot false) then slot else first_with_room c slots
 
--- the slots are in the order of their areas, so this is the least
+-- the slots are in the order of their areas, so this is the one with the smallest area that has room
 unfoldable pub info_slot_of : ClassFields → SlotFields
 info_slot_of c = first_with_room c all_slots
 

@@ -1,4 +1,4 @@
--- The fields of the Info frame of a file, from the frames after it, of which the slots count alone.
+-- The fields of the Info frame of a file, from the slots of the frames after it.
 use Rattle.std.specs.Prelude.{◌≡◌, ℕ, ◌+◌, ◌*◌, ◌/◌, ◌<◌, ◌==◌, not, Bool, true, List, [], ◌∷◌, length, take, sum_by, slice_index, replicate, Some, None}
 use Rattle.std.specs.List.{list_all}
 use Rattle.frame_header.specs.Fields.{SlotFields, ClassFields}
@@ -25,8 +25,8 @@ module _ {X : Type 0} (c : ClassFields) (slot_of : X → SlotFields) where
   has_one_rate [] = true
   has_one_rate (first ∷ frames) = list_all (λ frame. rate_in frame == rate_in first) (first ∷ frames)
 
-  -- The table of frames with so many bytes before them, of so many bytes in all: entry i, from 0 to 99, is that of the frame at the
-  -- place i * n / 100 of n frames, rounded down.
+  -- The seek table of n frames with so many bytes before them, of so many bytes in all: entry i, from 0 to 99, is that of frame i * n /
+  -- 100, rounded down.
   abbrev pub IsTableOver : List X → ℕ → ℕ → List ℕ → Type 0
   IsTableOver frames before all table = (i : ℕ) → i < 100 → slice_index table i ≡ entry_of (before + bytes_of (take (i * length frames / 100) frames)) all
 
@@ -34,7 +34,7 @@ module _ {X : Type 0} (c : ClassFields) (slot_of : X → SlotFields) where
   abbrev pub all_bytes : List X → ℕ
   all_bytes frames = info_length c + bytes_of frames
 
-  -- the fields of the Info frame in front of these frames, without a quality and an extension
+  -- the fields of the Info frame before these frames, without a quality and an extension
   pub record IsInfoOver (frames : List X) (info : Info) : Type 0 where
     pub vbr : info.vbr ≡ not (has_one_rate frames)
     pub count : info.frames ≡ Some (length frames)

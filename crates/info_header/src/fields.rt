@@ -5,26 +5,26 @@ ghost use Rattle.info_header.specs.Info.{flags_in, field_size, field_place, fiel
 
 use byteorder::{BigEndian, ByteOrder};
 
-/// The fields of a head after its text.
+/// The fields of a head after its text. One that the head doesn't have is `None`.
 #[derive(Clone, Copy, Debug, PartialEq, Eq)]
 pub struct Info {
     /// Whether the bit rate changes: the text is `Xing`, and not `Info`.
     pub vbr: bool,
     /// The number of frames after the head.
     pub frames: Option<u32>,
-    /// The bytes from the head's first to the last frame's last.
+    /// The number of bytes from the head's first to the last frame's last.
     pub bytes: Option<u32>,
-    /// For each hundredth of the frames, where it begins in 256th parts of the bytes.
+    /// The seek table: for each hundredth of the frames, where it begins, in 256th parts of the bytes.
     pub table: Option<[u8; 100]>,
     pub quality: Option<u32>,
-    /// What is after these fields: encoders keep the delay and their name there.
+    /// The 36 bytes after these fields, where encoders keep their name and the encoder delay.
     pub extension: [u8; 36],
 }
 
-/// Where the word of flags stands, in bytes from the text's first.
+/// Where the word of flags begins, in bytes from the text's first.
 const FLAGS_AT: usize = 4;
 
-/// Where the first field stands.
+/// Where the first field begins, in bytes from the text's first.
 const FIELDS_AT: usize = 8;
 
 /// The bits of the flags that say which fields there are.
@@ -60,7 +60,7 @@ fn flags_of(bytes: &[u8]) -> u32
     }
 }
 
-/// The place after a field, by the place where it stands if its flag is set.
+/// Where the next field begins, by where this one begins if its flag is set.
 #[tactic(auto, unfolding(crate::specs::Info::field_place))]
 fn place_behind(flags: u32, field: u32, at: usize) -> usize
     requires known { field < 4 }
@@ -76,7 +76,7 @@ fn place_behind(flags: u32, field: u32, at: usize) -> usize
     }
 }
 
-/// A field that is a number. `None` where its flag isn't set, or where it passes the end.
+/// A field that is a number. `None` where its flag isn't set, or where it goes past the end.
 #[tactic(auto, unfolding(crate::specs::Info::field_in))]
 fn number_in(bytes: &[u8], flags: u32, field: u32, at: usize) -> Option<u32>
     requires known { field < 4 }
@@ -92,7 +92,7 @@ fn number_in(bytes: &[u8], flags: u32, field: u32, at: usize) -> Option<u32>
     Some(BigEndian::read_u32(four))
 }
 
-/// The table. `None` where its flag isn't set, or where it passes the end.
+/// The table. `None` where its flag isn't set, or where it goes past the end.
 #[tactic(auto, unfolding(crate::specs::Info::field_in))]
 fn table_in(bytes: &[u8], flags: u32, at: usize) -> Option<[u8; 100]>
     requires place { at ≡ field_place flags 2 }
@@ -108,14 +108,14 @@ fn table_in(bytes: &[u8], flags: u32, at: usize) -> Option<[u8; 100]>
     Some(table)
 }
 
-/// The bytes from a place on, none where it is past the end.
+/// The bytes from byte `at` on, none where that is past the end.
 fn bytes_from(bytes: &[u8], at: usize) -> &[u8]
     ensures { result.now ≡ drop at bytes.now }
 {
     &bytes[at.min(bytes.len())..]
 }
 
-/// The 36 bytes from a place on, with zeros for those that aren't there.
+/// The 36 bytes from byte `at` on, with zeros for those that aren't there.
 fn extension_at(bytes: &[u8], at: usize) -> [u8; 36]
     ensures { result ≡ padded 36 (drop at bytes.now) }
 {
@@ -127,10 +127,10 @@ fn extension_at(bytes: &[u8], at: usize) -> [u8; 36]
 }
 
 impl Info {
-    /// Reads the fields of a head. `bytes` are those of the frame from the text on. A field whose flag isn't set is
-    /// `None`, and so are one that passes the end of the bytes and all after it; there the extension is all 0. Flags
-    /// that aren't whole count as 0. The extension is 36 bytes after the last field, with zeros for those that
-    /// aren't there.
+    /// Reads the fields of a head. `bytes` are those of the frame from the text on. A field whose flag
+    /// isn't set is `None`, and so are one that goes past the end of the bytes and all after it; then the
+    /// extension is all 0. Flags that aren't whole count as 0. The extension is 36 bytes after the last
+    /// field, with zeros for those that aren't there.
     #[tactic(auto, unfolding(crate::specs::Info::info_in, crate::specs::Info::field_place))]
     pub fn read(bytes: &[u8]) -> Info
         ensures { result ≡ info_in bytes.now }
@@ -151,8 +151,9 @@ impl Info {
     }
 }
 
-/// The entry of the table for a frame that begins at `offset`, of `bytes` bytes in all, both counted from the Info
-/// frame's first byte: how many 256th parts of the bytes are before it, rounded down, and 255 at most.
+/// The entry of the seek table for a frame that begins at `offset`, of `bytes` bytes in all, both counted
+/// from the Info frame's first byte: how many 256th parts of the bytes are before it, rounded down, and 255
+/// at most.
 pub fn entry(offset: u32, bytes: u32) -> u8
     requires { 0 < bytes }
     ensures { result ≡ entry_of offset bytes }

@@ -1,4 +1,4 @@
-//! Where the text of a head stands.
+//! Where the text of a head is.
 ghost use Rattle.std.specs.Prelude.{◌≡◌, ◌+◌, ◌≤◌, length, IsTrue, IfSome};
 ghost use Rattle.info_header.specs.HeadText.{has_text as has_text_lem, head_text_of};
 
@@ -10,7 +10,7 @@ const HEADER_SIZE: u32 = 4;
 /// The length of a check word in bytes.
 const CHECK_WORD_SIZE: u32 = 2;
 
-/// Whether `Xing` or `Info` is at this place.
+/// Whether `Xing` or `Info` is at byte `at` of a frame.
 #[tactic(auto, unfolding(crate::specs::HeadText::has_text))]
 fn has_text(at: u32, frame: &[u8]) -> bool
     ensures text { result ≡ has_text_lem at frame.now }
@@ -23,10 +23,10 @@ fn has_text(at: u32, frame: &[u8]) -> bool
     }
 }
 
-/// The place of `Xing` or `Info` in a frame, in bytes from its first byte. `frame` is the frame's whole
-/// bytes. The text is looked for after the header and the side information (`4 + side_size`), and in a
-/// protected frame then also two bytes later, after the check word. `None` exactly where it is at
-/// neither place.
+/// The place of `Xing` or `Info` in a frame, in bytes from its first. `frame` is all bytes of the frame.
+/// The text is looked for right after where the side information ends without a check word (`4 +
+/// side_size`), and in a protected frame then also two bytes later, after the check word. `None` exactly
+/// where it is at neither place.
 #[tactic(auto, unfolding(crate::specs::HeadText::head_text_of, crate::specs::HeadText::low_place, crate::specs::HeadText::high_place))]
 pub fn head_text(header: &Header, frame: &[u8]) -> Option<u32>
     ensures place { result ≡ head_text_of header.now frame.now }

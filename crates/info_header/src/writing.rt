@@ -1,4 +1,4 @@
-//! The frame that holds a head.
+//! Writes the frame that is a head.
 ghost use Rattle.std.specs.Prelude.{◌≡◌, ◌+◌, ◌≤◌, ◌++◌, false, length, replicate};
 ghost use Rattle.byteorder.specs.Endian.{big_bytes};
 ghost use Rattle.frame_header.specs.Fields.{SlotFields, IsSlot};
@@ -14,11 +14,11 @@ use frame_header::{Class, Header, Slot};
 /// The length of a text, flags, all four fields and the extension in bytes.
 const FIELDS: u32 = 156;
 
-/// All four fields are there.
+/// The flags of all four fields.
 const ALL_FLAGS: u32 = 15;
 
-/// The slot of the Info frame: the least whose area has room for the 156 bytes of the fields, in a frame without a
-/// check word.
+/// The slot of the Info frame: the one with the smallest area that has room for the 156 bytes of the
+/// fields, in a frame without a check word.
 #[tactic(auto, unfolding(crate::specs::InfoFrame::info_slot_of))]
 pub fn info_slot(class: Class) -> Slot
     ensures slot { result ≡ info_slot_of class }
@@ -26,7 +26,7 @@ pub fn info_slot(class: Class) -> Slot
     ensures least { (slot : SlotFields) → IsSlot slot → 156 ≤ area_of class slot false
         → area_of class result false ≤ area_of class slot false }
 {
-    // The areas are those of a class.
+    // A look inside gives the proof the invariant of the class, by which its areas ascend.
     let _ = &class.version;
     let slots = class.slots();
     first_with_room(class, slots.as_slice())
@@ -64,7 +64,7 @@ fn append_field(into: &mut ArrayVec<u8, 1441>, number: Option<u32>)
     }
 }
 
-/// Appends so many zeros.
+/// Appends `count` zeros.
 fn append_zeros(into: &mut ArrayVec<u8, 1441>, count: usize)
     requires { length into.old.items + count ≤ 1441 }
     ensures bytes { into.new.items ≡ into.old.items ++ replicate count 0 }
@@ -114,9 +114,10 @@ fn append_info(into: &mut ArrayVec<u8, 1441>, info: &Info)
     append(into, &info.extension);
 }
 
-/// Writes the whole Info frame. Its header is that of `first`, the first frame after it, without a check word and in
-/// the slot of `info_slot`. After it stand side information that is all 0, the fields with all four flags set
-/// (absent ones as 0), and zeros up to the frame's length. It takes the place of what `into` held.
+/// Writes the whole Info frame. Its header is that of `first`, the first frame after it, without a check
+/// word and in the slot of `info_slot`. After it come side information that is all 0, the fields with all
+/// four flags set (0 for one that is `None`), and zeros up to the frame's length. It replaces what `into`
+/// held.
 #[tactic(auto, unfolding(crate::specs::InfoFrame::info_frame))]
 pub fn write_info(first: &Header, info: &Info, into: &mut ArrayVec<u8, 1441>)
     ensures { into.new.items ≡ info_frame first.now info.now }
@@ -130,7 +131,7 @@ pub fn write_info(first: &Header, info: &Info, into: &mut ArrayVec<u8, 1441>)
     append_zeros(into, class.length_of(slot) as usize - into.len());
 }
 
-/// The first slot whose area has room for the fields, and the largest of all where none has.
+/// The first slot whose area has room for the fields, and the largest slot of all where none has.
 fn first_with_room(class: Class, slots: &[Slot]) -> Slot
     ensures { result ≡ first_with_room_lem class slots.now }
 {

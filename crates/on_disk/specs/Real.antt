@@ -36,7 +36,7 @@ created_name folder = open_name folder.created
 abbrev pub created_bytes : {R File Dir : Type 0} → (File → Option (List ℕ)) → DiskFolder R File Dir → Option (List ℕ)
 created_bytes contents folder = option_and_then (λ opened. contents opened.file) folder.created
 
--- a file tells where it stands, and that these are its bytes
+-- a file tells the offset at which it is, and that these are its bytes
 pub record TellsBytes {File : Type 0} (position : File → Option ℕ) (bytes : File → Option (List ℕ)) (file : File) (xs : List ℕ) : Type 0 where
   pub stands : IsSome (position file)
   pub holds : bytes file ≡ Some xs
@@ -48,11 +48,11 @@ pub record HasOpen {R File Dir : Type 0} (position : File → Option ℕ) (bytes
   pub named : found_name folder ≡ Some name
   pub tells : TellsBytes position bytes file xs
 
--- reads give the bytes of a file from where it is on, as those of a cursor over bytes in memory do
+-- reads give the bytes of a file from its offset on, as those of a cursor over bytes in memory do
 pub record ReadsOn {File : Type 0} (remaining : File → Option (List ℕ)) (position : File → Option ℕ) (bytes : File → Option (List ℕ)) : Type 0 where
   pub gives : (file : File) (at : ℕ) (xs : List ℕ) → position file ≡ Some at → bytes file ≡ Some xs → remaining file ≡ Some (drop at xs)
 
--- a seek to the end led to this place
+-- a seek to the end led to this offset
 pub record EndsAt {File : Type 0} (position : File → Option ℕ) (bytes : File → Option (List ℕ)) (sought : File) (place : ℕ) : Type 0 where
   pub before : File
   pub moved : SeekMoves {E = ⊥} (position before) (position sought) (bytes before) (End (pos 0)) (Ok place)

@@ -102,7 +102,7 @@ impl<'a, R: Files> DiskFolder<'a, R> {
         }
     }
 
-    // Opens a regular file, notes it, keeps it open and gives its length.
+    // Opens a regular file, notes it, keeps it open and answers its length in bytes.
     fn locate(&mut self, name: &str) -> Result<u64, FindFault>
         ensures tally { disk_counts self.new ≡ disk_counts self.old }
         ensures touched { self.new.touched ≡ self.old.touched }
@@ -118,7 +118,8 @@ impl<'a, R: Files> DiskFolder<'a, R> {
         Ok(length)
     }
 
-    // Notes a file that was found, and keeps it open for reading.
+    // Notes a file that was found, and keeps it open for reading. Fails for a file that comes after 65
+    // others.
     fn keep(&mut self, name: String, file: R::File, id: FileId) -> Result<(), FindFault>
         ensures tally { disk_counts self.new ≡ disk_counts self.old }
         ensures touched { self.new.touched ≡ self.old.touched }
@@ -151,7 +152,7 @@ impl<'a, R: Files> DiskFolder<'a, R> {
         Ok(())
     }
 
-    // Reads what there is from the place on, as much as fits.
+    // Reads what there is from the offset `at` on, as much as fits.
     fn read_there(&mut self, name: &str, at: u64, into: &mut [u8]) -> Result<usize, Failed>
         ensures bound { IfOk result (λ k. k ≤ length into.old) }
         ensures rest { IfOk result (λ k. drop k into.new ≡ drop k into.old) }
@@ -172,8 +173,9 @@ impl<'a, R: Files> DiskFolder<'a, R> {
         }
     }
 
-    // Opens the file of this name, empties it where it is a regular one, and keeps it open. A file that is empty is
-    // left as it is: some file systems write a file that was cut off to the disk when it is closed.
+    // Opens the file of this name, empties it if it is a regular one, and keeps it open; fails if this
+    // folder found it. A file that is empty is left as it is: some file systems write a file that was cut
+    // off to the disk when it is closed.
     fn make_empty(&mut self, name: &str) -> Result<(), Failed>
         ensures tally { disk_counts self.new ≡ disk_counts self.old }
         ensures touched { self.new.touched ≡ self.old.touched }
@@ -193,7 +195,7 @@ impl<'a, R: Files> DiskFolder<'a, R> {
         Ok(())
     }
 
-    // Appends a front of the bytes to the file of this name.
+    // Appends a prefix of the bytes to the file of this name.
     fn append(&mut self, name: &str, bytes: &[u8]) -> Result<usize, Failed>
         ensures bound { IfOk result (λ k. k ≤ length bytes.now) }
         ensures some { IfOk result (λ k. 0 < length bytes.now → 0 < k) }
@@ -219,7 +221,7 @@ impl<'a, R: Files> DiskFolder<'a, R> {
     }
 }
 
-// Opens the file of this name for one write.
+// Opens the file of this name for one write, which appends to it.
 fn append_anew<R: Files>(rt: &R, name: &str, bytes: &[u8]) -> Result<usize, Failed>
     ensures bound { IfOk result (λ k. k ≤ length bytes.now) }
     ensures some { IfOk result (λ k. 0 < length bytes.now → 0 < k) }
@@ -260,9 +262,9 @@ impl<'a, R: Files> Folder for DiskFolder<'a, R> {
     /// The length of a regular file in bytes. The file is kept open for `read`.
     ///
     /// # Errors
-    /// `Absent` where the system says that the name isn't found, and `Failed` for every other error. What
-    /// isn't a regular file, as a directory or a pipe, is a fault, and nothing blocks on it. So is a
-    /// file that this folder finds after 65 others.
+    /// `Absent` where the system says that the name isn't found, and `Failed` for every other error.
+    /// Anything but a regular file, such as a directory or a pipe, is a fault, and nothing blocks on it. So
+    /// is a file that this folder finds after 65 others.
     fn find(&mut self, name: &str) -> Result<u64, FindFault>
         ensures found { IfOk result (λ n. (bytes : List ℕ) → Holds (disk_files self.old) name.now bytes
             → n ≡ length bytes) }
@@ -301,7 +303,7 @@ impl<'a, R: Files> Folder for DiskFolder<'a, R> {
         }
     }
 
-    /// Bytes of the file from the place `at` on, as many as there are and fit.
+    /// Reads bytes of the file from the offset `at` on, as many as there are and fit.
     ///
     /// # Errors
     /// Where the system gives an error, and where the file is cut short while it is read.
@@ -347,8 +349,11 @@ impl<'a, R: Files> Folder for DiskFolder<'a, R> {
         Ok(count)
     }
 
-    /// Makes the name a file of no bytes. What isn't a regular file is opened and left as it is. A file that
-    /// this folder found is left as it is too, by whatever name, and the call fails.
+    /// Makes the name a file of no bytes. Anything but a regular file is opened and left as it is.
+    ///
+    /// # Errors
+    /// Where the system gives an error, and where the name, whatever it is, leads to a file that this
+    /// folder found. That file is left as it is.
     #[tactic(auto, unfolding(outside::specs::Files::emptied))]
     fn create(&mut self, name: &str) -> Result<(), Failed>
         ensures created { OnOk result (disk_files self.new ≡ emptied (disk_files self.old) name.now) }
@@ -374,8 +379,8 @@ impl<'a, R: Files> Folder for DiskFolder<'a, R> {
     /// Appends a prefix of the bytes to the file, which has to be there.
     ///
     /// # Errors
-    /// Where no call was made to create the name, where the system gives an error, and where it takes no byte of a piece
-    /// that has some.
+    /// Where no call was made to create the name, where the system gives an error, and where it takes none of the bytes
+    /// though there are some.
     #[tactic(auto, unfolding(outside::specs::Files::appended))]
     fn write(&mut self, name: &str, bytes: &[u8]) -> Result<usize, Failed>
         ensures bound { IfOk result (λ k. k ≤ length bytes.now) }

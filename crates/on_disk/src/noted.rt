@@ -10,7 +10,7 @@ use std::os::unix::fs::MetadataExt;
 // The 64 inputs of a join, and a cue sheet.
 const MOST_FILES: usize = 65;
 
-/// What tells one file from every other, whatever its names.
+/// What distinguishes one file from every other, whatever its names.
 #[derive(Clone, Copy, Default, PartialEq, Eq)]
 pub struct FileId {
     device: u64,
@@ -26,7 +26,7 @@ impl FileId {
     }
 }
 
-/// Up to 65 files.
+/// The files that were found, at most 65.
 #[derive(Drop)]
 pub struct Noted {
     files: ArrayVec<FileId, MOST_FILES>,
@@ -48,7 +48,7 @@ impl Noted {
         self.files.as_slice().contains(file)
     }
 
-    /// Notes a file unless it is noted already, and says whether it is noted now.
+    /// Notes a file unless it is noted already, and answers whether it is noted now.
     pub fn note(&mut self, file: FileId) -> bool
         ensures answer { result ≡ (list_any
             (λ noted. ⟦<FileId as PartialEq>⟧.eq noted file) self.old.files.items || nat_lt
@@ -69,11 +69,11 @@ pub enum Opening {
     Refused,
     /// A regular file loses its bytes.
     Emptied,
-    /// What isn't a regular file, as a terminal, is left as it is.
+    /// Anything but a regular file, such as a terminal, is left as it is.
     Kept,
 }
 
-/// Whether a file may be emptied.
+/// What `create` does with a file.
 pub fn opening_of(noted: &Noted, file: &FileId, is_regular: bool) -> Opening
     ensures { result ≡ opening_of_lem (list_any
         (λ found. ⟦<FileId as PartialEq>⟧.eq found file.now) noted.now.files.items) is_regular }

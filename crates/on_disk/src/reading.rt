@@ -7,7 +7,10 @@ ghost use Rattle.std.specs.Io.KnownBytes.{Keeps};
 use std::io;
 use std::io::{Read, Seek, SeekFrom};
 
-/// The place of the file's end.
+/// The length of a file in bytes, by a seek to its end.
+///
+/// # Errors
+/// Where the seek fails.
 pub fn length_of<F: Seek>(file: &mut F) -> io::Result<u64>
     ensures length { (xs : List ℕ) → TellsBytes F.stream_position F.stream_bytes file.old xs
         → IfOk result (λ n. n ≡ length xs) }
@@ -18,7 +21,10 @@ pub fn length_of<F: Seek>(file: &mut F) -> io::Result<u64>
     file.seek(SeekFrom::End(0))
 }
 
-/// Reads what there is of the file from the place `at` on, as much as fits. The rest of `into` stays.
+/// Reads what there is of the file from the offset `at` on, as much as fits. The rest of `into` stays.
+///
+/// # Errors
+/// Where the file gives an error, and where it ends before its length.
 pub fn read_part<F: Read + Seek>(file: &mut F, at: u64, into: &mut [u8]) -> io::Result<usize>
     ensures bound { IfOk result (λ k. k ≤ length into.old) }
     ensures rest { IfOk result (λ k. drop k into.new ≡ drop k into.old) }
@@ -31,7 +37,8 @@ pub fn read_part<F: Read + Seek>(file: &mut F, at: u64, into: &mut [u8]) -> io::
     let there = length_of(file)?.saturating_sub(at);
     let count = into.len().min(there as usize);
     file.seek(SeekFrom::Start(at))?;
-    // A read isn't promised to leave the buffer after the bytes that it counts, so it gets no more.
+    // The contract of a read says nothing of the buffer after the bytes that it counts, so the read gets no
+    // more than these.
     file.read_exact(&mut into[..count])?;
     Ok(count)
 }

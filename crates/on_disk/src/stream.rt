@@ -8,8 +8,8 @@ use crate::writing::write_some;
 use outside::{Failed, Sink};
 use std::io::Write;
 
-/// A sink over a writer of the library, as standard output. Each write is followed by a flush. It tells
-/// nothing of its bytes: what becomes of them after the writer isn't proved.
+/// A sink over a writer of the library, such as standard output. Each write is followed by a flush. It
+/// tells nothing of its bytes: what becomes of them after the writer isn't proved.
 #[derive(Drop)]
 pub struct StdSink<W: Write + Drop> {
     writer: W,
@@ -49,7 +49,10 @@ impl<W: Write + Drop> Sink for StdSink<W> {
 
     ghost faults = { λ sink. stream_faults sink };
 
-    /// Fails where the writer fails, and where it takes no byte of a piece that has some.
+    /// Writes a prefix of the bytes, and flushes the writer.
+    ///
+    /// # Errors
+    /// Where the writer fails, and where it takes none of the bytes though there are some.
     #[tactic(auto, unfolding(outside::specs::Files::sent_more))]
     fn write(&mut self, bytes: &[u8]) -> Result<usize, Failed>
         ensures bound { IfOk result (λ k. k ≤ length bytes.now) }
@@ -59,7 +62,7 @@ impl<W: Write + Drop> Sink for StdSink<W> {
         ensures kept { OnErr result (untold_bytes ≡ untold_bytes) }
         ensures cause { HasCause (stream_faults self.old) (stream_faults self.new) result }
         // Where the library knows what the writer holds, exactly these bytes came to it, or in a call that
-        // fails a prefix of the piece.
+        // fails a prefix of them.
         ensures passed { IfOk result (λ k. Appends (W.contents self.old.writer)
             (W.contents self.new.writer) (take k bytes.now)) }
         ensures prefix { OnErr result (GrewByPrefix (W.contents self.old.writer)

@@ -6,7 +6,11 @@ use outside::Failed;
 use std::io;
 use std::io::{ErrorKind, Write};
 
-/// Writes a front of the bytes, at least one where there are any, again where a signal came first.
+/// Writes a prefix of the bytes, at least one byte if there are any, and tries again where a signal came
+/// first.
+///
+/// # Errors
+/// Where the writer fails, and where it takes none of the bytes though there are some.
 #[tactic(auto, using(crate::proofs::KnownLaws::none_appended))]
 pub fn write_some<W: Write>(writer: &mut W, bytes: &[u8]) -> Result<usize, Failed>
     ensures bound { IfOk result (λ k. k ≤ length bytes.now) }

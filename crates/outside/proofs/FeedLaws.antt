@@ -10,7 +10,7 @@ use Rattle.outside.specs.Feed.{Fed, IsFedFrom}
 use Rattle.outside.specs.Passed.{PassedOn}
 use Rattle.outside.proofs.FilesLaws.{emptied_held_other, appended_held_other}
 
--- a part of a front is that part of the whole
+-- a part of a prefix is that part of the whole
 pub part_of_front : {X : Type 0} (before n held : ℕ) (xs : List X) → before + n ≤ held → take n (drop before (take held xs)) ≡ take n (drop before xs)
 part_of_front before n held xs within =
     let e : before + (held - before) ≡ held = omega arith in
@@ -18,7 +18,7 @@ part_of_front before n held xs within =
     ∙ ap (take n) (drop-take before (held - before) xs)
     ∙ take-take n (held - before) (drop before xs) (omega arith)
 
--- fronts of two lists are the same, and then parts of these fronts are
+-- two lists with the same prefix have the same parts of it
 pub parts_same : {X : Type 0} (before n held : ℕ) (xs ys : List X) → before + n ≤ held → take held xs ≡ take held ys → take n (drop before xs) ≡ take n (drop before ys)
 parts_same before n held xs ys within same =
     sym (part_of_front before n held xs within)
@@ -37,7 +37,7 @@ given_is n k room rest same ended = by_order (cases_lt k n)
         let e : min n k ≡ k = omega arith in
         ap (λ m. take m room) e ∙ same ∙ take_all k rest (ended short) ∙ sym (take_all n rest (omega (arith, ended short)))
 
--- a part moved to the front
+-- a part that was moved to the first place
 pub moved_front : (before held : ℕ) (xs : List ℕ) → held ≤ length xs → before ≤ held → take (held - before) (copy_within xs before held 0) ≡ take (held - before) (drop before xs)
 moved_front before held xs within ordered =
     let e : 0 + (held - before) ≡ held - before = omega arith in

@@ -17,7 +17,7 @@ bytes_eq_same name = (bytes_eq-Decides name name).1 refl
 pub bytes_eq_other : (name other : List ℕ) → other ≢ name → bytes_eq name other ≡ false
 bytes_eq_other name other apart = false_from_ne_true _ (λ e. apart (sym ((bytes_eq-Decides name other).0 e)))
 
--- contents that give each name the same are one
+-- contents that give each name the same are equal
 pub same_contents : (f g : Contents) → ((name : List ℕ) → f name ≡ g name) → f ≡ g
 same_contents f g same = λ i name. same name i
 
@@ -33,7 +33,7 @@ pub with_file_twice : (f : Contents) (name bytes more : List ℕ) → with_file 
 unfolding with_file
 with_file_twice f name bytes more = same_contents _ _ (update-update bytes_eq f name (Some bytes) (Some more))
 
--- what a name has already, given again, changes nothing
+-- giving a name what it has changes nothing
 pub update_held : {X : Type 0} (f : List ℕ → Option X) (name : List ℕ) (w : Option X) → f name ≡ w → update bytes_eq f name w ≡ f
 update_held f name w is = λ i q. at q (bytes_eq name q) refl i
   where

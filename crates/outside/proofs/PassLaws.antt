@@ -83,7 +83,7 @@ module _ (pass : Pass) where
   pub prefix_nothing : (made : List ℕ → List ℕ) (before : List ℕ) (old new : Files) → new ≡ old → IsThere old pass.output.now → WritesPrefix pass made before old new
   prefix_nothing made before old new same there = record { bytes = []; prefix = λ file holds. refl; files = same ∙ sym (appended_nothing old pass.output.now there) }
 
-  -- the same, said otherwise
+  -- the same, where the bytes are made in another way that gives the same
   pub writes_as : {made : List ℕ → List ℕ} (other : List ℕ → List ℕ) {before after : List ℕ} {old new : Files} → ((file : List ℕ) → Holds old pass.input.now file → made file ≡ other file) → Writes pass made before after old new
       → Writes pass other before after old new
   writes_as other same step = record { piece = step.piece; is = λ file holds. step.is file holds ∙ same file holds; passed = step.passed }

@@ -16,7 +16,7 @@ on_err (Err e) p = p
 pub passed_nothing : (files : Files) (name bytes : List ℕ) → IsThere files name → PassedOn name bytes bytes files files
 passed_nothing files name bytes there = record { passed = []; split = refl; files = sym (appended_nothing files name there) }
 
--- a front was passed on
+-- a prefix was passed on
 pub passed_front : (name bytes : List ℕ) (n : ℕ) (f g : Files) → g ≡ appended f name (take n bytes) → PassedOn name bytes (drop n bytes) f g
 passed_front name bytes n f g is = record { passed = take n bytes; split = sym (take-append-drop n bytes); files = is }
 
@@ -70,7 +70,7 @@ passed_then_all {name} {before} {mid} {f} {g} {h} p all =
     ∙ appended_twice f name p.passed mid
     ∙ ap (appended f name) (sym p.split)
 
--- a prefix of a front is a prefix of the whole
+-- a prefix of a prefix is a prefix of the whole
 pub prefix_of_front : {name bytes : List ℕ} {f g : Files} (n : ℕ) → AppendedPrefix name (take n bytes) f g → AppendedPrefix name bytes f g
 prefix_of_front {name} {bytes} {f} {g} n p = record {
   count = p.count;
@@ -78,15 +78,15 @@ prefix_of_front {name} {bytes} {f} {g} n p = record {
   files = p.files ∙ ap (appended f name) (take-take p.count n bytes (omega (arith, p.within, length-take n bytes)));
 }
 
--- what waits before a piece and the piece, by the piece's front and what follows
+-- what waits before a piece and the piece, by a prefix of the piece and what follows
 pub piece_in_two : (waits piece : List ℕ) (n : ℕ) → (waits ++ take n piece) ++ drop n piece ≡ waits ++ piece
 piece_in_two waits piece n = append_assoc waits (take n piece) (drop n piece) ∙ ap (λ (back : List ℕ). waits ++ back) (take-append-drop n piece)
 
--- what waited and a front of the piece were appended
+-- what waited and a prefix of the piece were appended
 pub passed_waiting : (name waits piece : List ℕ) (n : ℕ) (f g : Files) → g ≡ appended f name (waits ++ take n piece) → PassedOn name (waits ++ piece) (drop n piece) f g
 passed_waiting name waits piece n f g is = record { passed = waits ++ take n piece; split = sym (piece_in_two waits piece n); files = is }
 
--- a prefix of what waited and a front of the piece
+-- a prefix of what waited and a prefix of the piece
 pub prefix_waiting : (name waits piece : List ℕ) (n : ℕ) (f g : Files) → AppendedPrefix name (waits ++ take n piece) f g → AppendedPrefix name (waits ++ piece) f g
 prefix_waiting name waits piece n f g p = record {
   count = p.count;

@@ -6,7 +6,7 @@ use borrow.Rule.Slice.PartMut.{put_mid}
 use Rattle.outside.specs.Files.{Files, Sent, appended, sent_more}
 use Rattle.outside.proofs.FilesLaws.{appended_twice, sent_twice}
 
--- a front and what follows it
+-- a prefix and what follows it
 pub take_then : {X : Type 0} (m n : ℕ) (xs : List X) → take (m + n) xs ≡ take m xs ++ take n (drop m xs)
 take_then m n xs =
     sym (take-append-drop m (take (m + n) xs))
@@ -17,7 +17,7 @@ take_then m n xs =
 pub part_from : {X : Type 0} (m : ℕ) (xs : List X) → take (length xs - m) (drop m xs) ≡ drop m xs
 part_from m xs = take_all (length xs - m) (drop m xs) (omega (arith, length-drop m xs))
 
--- files that got a front, and then the next part of the bytes
+-- files to which a prefix was appended, and then the next part of the bytes
 pub appended_then : (old before now : Files) (name bytes : List ℕ) (m n : ℕ) → before ≡ appended old name (take m bytes) → now ≡ appended before name (take n (drop m bytes)) → now ≡ appended old name (take (m + n) bytes)
 appended_then old before now name bytes m n first then =
     then
@@ -51,7 +51,7 @@ module _ (m n : ℕ) (xs ys : List ℕ) (in_range : m ≤ length xs) (as_many : 
   pub length_refilled : length (put_mid m (length xs - m) xs ys) ≡ length xs
   length_refilled = ap length refilled ∙ length-append (take m xs) ys ∙ omega (arith, front)
 
-  -- m items that are there and n more
+  -- the first m bytes are there, and n more follow
   pub take_refilled : (all : List ℕ) → take m xs ≡ take m all → take n ys ≡ take n (drop m all) → take (m + n) (put_mid m (length xs - m) xs ys) ≡ take (m + n) all
   take_refilled all here more =
       ap (take (m + n)) refilled

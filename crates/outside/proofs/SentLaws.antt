@@ -66,7 +66,7 @@ sent_then_all {before} {mid} {s} {t} {u} p all =
     ∙ sent_twice s p.passed mid
     ∙ ap (sent_more s) (sym p.split)
 
--- a prefix of the front is a prefix of the whole
+-- a prefix of the first bytes is a prefix of the whole
 pub sent_prefix_of : {bytes : List ℕ} {s t : Sent} (behind : List ℕ) → SentPrefix bytes s t → SentPrefix (bytes ++ behind) s t
 sent_prefix_of {bytes} {s} {t} behind p = record {
   count = p.count;

@@ -1,4 +1,4 @@
--- How often a folder or a sink has failed, and when that may be told.
+-- How often a folder or a sink has failed, and what a call does to these counts.
 use Rattle.std.specs.Prelude.{◌≡◌, ℕ, ◌+◌, ◌-◌, ◌^◌, ◌≤◌, min, Result, OnOk, OnErr}
 
 -- a count has grown, or is at the greatest value of a u64

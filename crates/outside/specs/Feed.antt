@@ -3,7 +3,7 @@ use Rattle.std.specs.Prelude.{◌≡◌, ℕ, ◌^◌, ◌≤◌, List, length, 
 use Rattle.outside.specs.Files.{Files, Holds}
 
 pub record Fed : Type 0 where
-  -- where in the file the bytes begin that are held
+  -- the offset in the file of the first byte that is held
   pub place : ℕ
   pub held : List ℕ
   -- the bytes that the last `fill` gave
@@ -13,7 +13,7 @@ pub record Fed : Type 0 where
 pub record IsFedFrom (fed : Fed) (files : Files) (name : List ℕ) : Type 0 where
   pub same : (bytes : List ℕ) → Holds files name bytes → take (length fed.held) (drop fed.place bytes) ≡ fed.held
 
--- the room of a feed, and what is held and given of it
+-- the buffer of a feed, and the bounds of what is held and given
 pub record IsWithin (room : List ℕ) (place held from to : ℕ) : Type 0 where
   pub size : length room ≡ 65536
   pub few : held ≤ 65536

@@ -11,7 +11,7 @@ use Rattle.outside.specs.declared.pass.Pass.{Pass}
 use Rattle.outside.specs.declared.pass.PassFault.{PassFault}
 use Rattle.outside.specs.declared.pass.PassFault.TheVariants.{Read, Shrunk, Write}
 
--- an input may be so long
+-- the greatest length of an input in bytes
 abbrev pub longest_input : ℕ
 longest_input = 2 ^ 32
 
@@ -24,7 +24,7 @@ pub record IsReady (pass : Pass) (files : Files) (fed : Fed) : Type 0 where
   pub few : pass.length ≤ longest_input
   pub fed_from : IsFedFrom fed files pass.input.now
 
--- where the input is told, the bytes are made of its bytes so
+-- where the input is told, the bytes are what is made of its bytes
 abbrev pub AreMade : Files → List ℕ → (List ℕ → List ℕ) → List ℕ → Type 0
 AreMade files input made bytes = (file : List ℕ) → Holds files input file → bytes ≡ made file
 
@@ -36,13 +36,13 @@ bytes_at at n file = take n (drop at file)
 abbrev pub bytes_between : List ℕ → ℕ → ℕ → List ℕ
 bytes_between file from to = take (to - from) (drop from file)
 
--- Bytes for the output went on to what waited for it: where the input is told, they are made of its bytes so.
+-- Bytes for the output were added to what waited for it: where the input is told, what is made of its bytes.
 pub record Writes (pass : Pass) (made : List ℕ → List ℕ) (before after : List ℕ) (old new : Files) : Type 0 where
   pub piece : List ℕ
   pub is : AreMade old pass.input.now made piece
   pub passed : PassedOn pass.output.now (before ++ piece) after old new
 
--- Only some bytes were appended to the output: where the input is told, a prefix of what waited and of what is made of its bytes so.
+-- Only some bytes were appended to the output: where the input is told, a prefix of what waited and of what is made of its bytes.
 pub record AppendsPart (input output : List ℕ) (made : List ℕ → List ℕ) (before : List ℕ) (old new : Files) : Type 0 where
   pub bytes : List ℕ
   pub prefix : (file : List ℕ) → Holds old input file → bytes ≡ take (length bytes) (before ++ made file)
@@ -51,7 +51,7 @@ pub record AppendsPart (input output : List ℕ) (made : List ℕ → List ℕ) 
 abbrev pub WritesPrefix : Pass → (List ℕ → List ℕ) → List ℕ → Files → Files → Type 0
 WritesPrefix pass made before old new = AppendsPart pass.input.now pass.output.now made before old new
 
--- The output has more bytes at its end: where the input is told, they are made of its bytes so.
+-- The output has more bytes at its end: where the input is told, what is made of its bytes.
 pub record Appends (input output : List ℕ) (made : List ℕ → List ℕ) (old new : Files) : Type 0 where
   pub bytes : List ℕ
   pub is : AreMade old input made bytes

@@ -2,7 +2,7 @@
 use Rattle.std.specs.Prelude.{◌≡◌, ℕ, ◌≤◌, List, ◌++◌, length, take}
 use Rattle.outside.specs.Files.{Files, Sent, appended, sent_more}
 
--- what waited became what waits, and what was between was appended
+-- `before` waited, and now its end `after` waits; what is before that end was appended
 pub record PassedOn (name before after : List ℕ) (old new : Files) : Type 0 where
   pub passed : List ℕ
   pub split : before ≡ passed ++ after
@@ -16,7 +16,7 @@ pub record AppendedPrefix (name bytes : List ℕ) (old new : Files) : Type 0 whe
 
 -- ---- the same of a buffer in front of a sink
 
--- what waited became what waits, and what was between was sent
+-- `before` waited, and now its end `after` waits; what is before that end was sent
 pub record SentOn (before after : List ℕ) (old new : Sent) : Type 0 where
   pub passed : List ℕ
   pub split : before ≡ passed ++ after

@@ -14,7 +14,7 @@ use crate::helpers::read_full;
 pub enum ReadFault {
     /// A read failed.
     Failed,
-    /// The file was of the first length when it was found, and ended at the second when it was read.
+    /// The file had the first length when it was found, and ended at the second when it was read, in bytes.
     Shrunk(u64, u64),
 }
 

@@ -9,11 +9,11 @@ use crate::helpers::read_on;
 use std::alloc::{AllocError, Global};
 use std::marker::Model;
 
-// As much as one read asks for.
+// The size of the buffer in bytes.
 const SIZE: usize = 65_536;
 
 /// A view of one file through a buffer of 65,536 bytes. Contracts see it as the bytes that it holds, their
-/// place in the file, and the bytes that the last `fill` gave.
+/// offset in the file, and the bytes that the last `fill` gave.
 #[derive(Drop)]
 pub struct Feed {
     room: Vec<u8>,
@@ -74,9 +74,9 @@ impl Feed {
         &self.room[self.from..self.to]
     }
 
-    /// Gives `n` bytes of the file from the place `at` on, or as many as there are after it, and answers how
-    /// many. Reads only where it doesn't hold them, then as much as its buffer takes, and no more once there
-    /// are `n`. It takes no memory.
+    /// Gives `n` bytes of the file from the offset `at` on, or as many as there are after it, and answers
+    /// how many. `n` is at most 4,096, and the bytes end at 2^32 or before. It reads only if it doesn't
+    /// hold them, then as much as its buffer takes, and no more once there are `n`. It takes no memory.
     ///
     /// What is held has to be of this file: a feed is cleared before another file, and before this one
     /// changes.
@@ -119,7 +119,7 @@ impl Feed {
         self.refill(folder, name, at, n)
     }
 
-    // Moves what is held from `at` on to the front of the buffer, and reads on after it.
+    // Moves what is held from `at` on to the buffer's first byte, and reads on after it.
     #[inline(never)]
     fn refill<D: Folder>(
         &mut self,
@@ -159,8 +159,8 @@ impl Feed {
     }
 }
 
-// Moves to the front what is held at the place `at` and after it without a gap, and says how many bytes
-// these are.
+// Moves what is held at the offset `at` and after it to the buffer's first byte, and answers how many bytes
+// these are: none where `at` is before or after what is held.
 fn keep_from(room: &mut [u8], place: u64, held: usize, at: u64) -> usize
     requires early { place ≤ 2 ^ 32 }
     requires within { held ≤ length room.old }

@@ -91,8 +91,8 @@ pub trait Folder {
         ensures done { OnOk result (counts self.new ≡ counts self.old) }
         ensures counts { OnlyReads (counts self.old) (counts self.new) };
 
-    /// Puts bytes of the file, from the place `at` on, at the front of `into`, and answers how many: none
-    /// only where `into` is empty or `at` is at the end or past it. The rest of `into` stays.
+    /// Reads bytes of the file, from the offset `at` on, into the first of `into`, and answers how many:
+    /// none only where `into` is empty or `at` is at the end or past it. The rest of `into` stays.
     ///
     /// # Errors
     /// Where the call failed.
@@ -116,7 +116,7 @@ pub trait Folder {
         ensures done { OnOk result (NothingFailed (counts self.old) (counts self.new)) }
         ensures counts { OnlyReads (counts self.old) (counts self.new) };
 
-    /// Makes the name hold no bytes. Every other name stays.
+    /// Makes the name hold no bytes, whether or not it is there. Every other name stays.
     ///
     /// # Errors
     /// Where the call failed. Then told files stay, and where nothing is told of them, the name may have been

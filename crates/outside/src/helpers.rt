@@ -1,4 +1,4 @@
-//! Whole pieces read, written and sent.
+//! Bytes read, appended and sent whole, in as many calls as it takes.
 ghost use Rattle.std.specs.Prelude.{◌≡◌, ◌+◌, ◌-◌, ◌^◌, ◌<◌, ◌≤◌, List, ℕ, length, take, drop, IfOk, OnOk, OnErr};
 ghost use Rattle.outside.specs.Files.{appended, sent_more, Holds, IsThere};
 ghost use Rattle.outside.specs.Counts.{OnlyReads, OnlyWrites, NothingFailed, HasCause, Rose};
@@ -9,7 +9,7 @@ use crate::sink::Sink;
 /// Appends all the bytes to the file.
 ///
 /// # Errors
-/// Where a write failed. Then a front of the bytes, none to all of them, was appended.
+/// Where a write failed. Then a prefix of the bytes, none to all of them, was appended.
 pub fn write_all<D: Folder>(folder: &mut D, name: &str, bytes: &[u8]) -> Result<(), Failed>
     requires { IsThere (D.files folder.old) name.now }
     ensures written { OnOk result (D.files folder.new ≡ appended
@@ -31,7 +31,7 @@ pub fn write_all<D: Folder>(folder: &mut D, name: &str, bytes: &[u8]) -> Result<
 /// Sends all the bytes.
 ///
 /// # Errors
-/// Where a write failed. Then a front of the bytes, none to all of them, was sent.
+/// Where a write failed. Then a prefix of the bytes, none to all of them, was sent.
 pub fn send_all<T: Sink>(sink: &mut T, bytes: &[u8]) -> Result<(), Failed>
     ensures written { OnOk result (T.sent sink.new ≡ sent_more (T.sent sink.old) bytes.now) }
     ensures front { OnErr result ((k : ℕ) × (k ≤ length bytes.now)
@@ -45,8 +45,8 @@ pub fn send_all<T: Sink>(sink: &mut T, bytes: &[u8]) -> Result<(), Failed>
     Ok(())
 }
 
-/// Reads the file from the place `at` on until `into` is full or a read gives no byte, and answers how
-/// many bytes were read. Where the folder gives what it has, one call of it reads all.
+/// Reads the file from the offset `at` on until `into` is full or a read gives no byte, and answers how
+/// many bytes were read. Where the folder gives all that it has, one read fills `into`.
 ///
 /// # Errors
 /// Where a read failed.
@@ -78,9 +78,9 @@ pub fn read_full<D: Folder>(
     read_on(folder, name, at, into, 0, enough)
 }
 
-/// Reads the file on, of which the first `have` bytes from the place `at` on are at the front of `into`, until
-/// there are `enough` or a read gives no byte, and answers how many there are then. A read is of as much as
-/// `into` takes.
+/// Goes on reading a file, of which the first `have` bytes from the offset `at` on are the first of `into`,
+/// until there are `enough` or a read gives no byte, and answers how many there are then. Each read asks
+/// for as much as `into` still takes.
 ///
 /// # Errors
 /// Where a read failed.

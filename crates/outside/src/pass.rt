@@ -9,7 +9,7 @@ use crate::feed::Feed;
 use crate::folder::Folder;
 use crate::write_buffer::WriteBuffer;
 
-/// As many bytes as are copied at once.
+/// How many bytes are copied at once.
 const PIECE: u64 = 4096;
 
 /// Why a pass ended early.
@@ -17,13 +17,14 @@ const PIECE: u64 = 4096;
 pub enum PassFault {
     /// The input could not be read.
     Read,
-    /// The input was of the first length when it was found, and ended at the second when it was read.
+    /// The input had the first length when it was found, and ended at the second when it was read, in
+    /// bytes.
     Shrunk(u64, u64),
     /// The output could not be written.
     Write,
 }
 
-/// The input could not be read.
+/// A read of the input failed, or the input has become shorter.
 impl From<ReadFault> for PassFault {
     ghost use Rattle.outside.specs.Pass.{of_read};
 
@@ -47,11 +48,10 @@ pub struct Pass<'a> {
 }
 
 impl<'a> Pass<'a> {
-    /// Gives these bytes of the input, which are within its length.
+    /// Gives `n` bytes of the input from the offset `at` on, at most 4,096, which are within its length.
     ///
     /// # Errors
-    /// `Read` where a read failed; `Shrunk` where the input ends before the last of them, though its length
-    /// was another.
+    /// `Read` where a read failed; `Shrunk` where the input ends before the last of them.
     #[inline]
     pub fn fill<D: Folder>(
         &self,
@@ -130,7 +130,7 @@ impl<'a> Pass<'a> {
         self.push(folder, rest, waiting)
     }
 
-    /// Copies the bytes of the input from one offset to another, which are within its length.
+    /// Copies the bytes of the input from one offset up to another, which are within its length.
     ///
     /// # Errors
     /// As `fill` and `push`.
@@ -190,7 +190,7 @@ impl<'a> Pass<'a> {
         self.push(folder, feed.bytes(), waiting)
     }
 
-    /// Hands on what waits for the output.
+    /// Appends to the output what waits for it.
     ///
     /// # Errors
     /// `Write` where a write failed.

@@ -10,7 +10,7 @@ use crate::sink::Sink;
 use std::alloc::{AllocError, Global};
 use std::marker::Model;
 
-// As much as is sent at once.
+// How many bytes may wait.
 const SIZE: usize = 65_536;
 
 /// A buffer of 65,536 bytes in front of a sink, each write of which may be dear: that of standard output is
@@ -45,8 +45,8 @@ impl SendBuffer {
         })
     }
 
-    /// Adds a piece to what waits. Where it has no room after that, what waits is sent before, and a piece of
-    /// more than 65,536 bytes too.
+    /// Adds bytes to what waits. Where that would be more than 65,536, what waits is sent first, and then
+    /// these bytes too if they alone are more than 65,536.
     ///
     /// # Errors
     /// Where a write failed. Then a prefix of what waited and the piece was sent, and nothing waits.
@@ -92,7 +92,7 @@ impl SendBuffer {
         self.waiting = end;
     }
 
-    // Sends what waits, and then adds a piece that didn't fit after it, or sends it too.
+    // Sends what waits, and then adds bytes that didn't fit after it, or sends them too.
     #[inline(never)]
     fn push_over<T: Sink>(&mut self, sink: &mut T, piece: &[u8]) -> Result<(), Failed>
         ensures passed { OnOk result (SentOn (self.old ++ piece.now) self.new (T.sent sink.old)

@@ -13,7 +13,7 @@ pub trait Sink {
     /// How often a write failed.
     ghost faults: { Self → ℕ };
 
-    /// Takes a front of the bytes, and answers how many: at least one where there are any.
+    /// Takes a prefix of the bytes, and answers how many: at least one where there are any.
     ///
     /// # Errors
     /// Where the call failed. Then told bytes stay.

@@ -4,8 +4,8 @@ ghost use Rattle.outside.specs.Counts.{none_counted, with_miss, with_end, with_r
 
 use std::marker::Model;
 
-/// How often a file was missing, a read met an end, and a call failed. Each count is at `u64::MAX`
-/// once it is there.
+/// How often a file was missing, a read met an end, and a call failed. A count that has reached `u64::MAX`
+/// stays there.
 #[derive(Drop)]
 pub struct Tally {
     misses: u64,

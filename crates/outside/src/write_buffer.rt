@@ -9,7 +9,7 @@ use crate::helpers::write_all;
 use std::alloc::{AllocError, Global};
 use std::marker::Model;
 
-// As much as is written at once.
+// How many bytes may wait.
 const SIZE: usize = 65_536;
 
 /// A buffer of 65,536 bytes in front of one file. Contracts see it as the bytes that wait.
@@ -43,8 +43,8 @@ impl WriteBuffer {
         })
     }
 
-    /// Adds a piece of any length to what waits. Where that is more than 65,536 bytes, the first of them are
-    /// appended to the file, 65,536 at a time or more.
+    /// Adds any number of bytes to what waits. Where that would be more than 65,536, the first of
+    /// them are appended to the file, in multiples of 65,536.
     ///
     /// # Errors
     /// Where a write failed. Then a prefix of what waited and the piece was appended, and nothing waits.
@@ -106,8 +106,8 @@ impl WriteBuffer {
         self.waiting = end;
     }
 
-    // Adds a piece that doesn't fit: fills the buffer up and hands it on, and then all but the end of what is
-    // left of the piece.
+    // Adds bytes that don't fit: fills the buffer and appends it to the file, then of the others as many
+    // times 65,536 as there are. The rest waits.
     #[inline(never)]
     fn push_over<D: Folder>(
         &mut self,

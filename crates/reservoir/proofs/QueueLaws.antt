@@ -3,7 +3,7 @@ use Rattle.std.proofs.Common.{◌≡◌, ℕ, ◌+◌, ◌-◌, ◌≤◌, List,
 use Rattle.std.proofs.lemmas.List.{drop-take, drop-drop, drop-append-le, length-take-le}
 use Rattle.std.proofs.Math.Seq.{take-append-add, take-append_seam}
 
--- bytes that are put after those which are from a place on
+-- bytes that are put after those that are held
 pub put-behind : (n h l : ℕ) (room rest part bytes held : List ℕ) → n + h ≤ length room → take h (drop n room) ≡ held → part ≡ bytes → length bytes ≡ l → take (n + h + l - n) (drop n (take (n + h) room ++ (part ++ rest))) ≡ held ++ bytes
 put-behind n h l room rest part bytes held within holds is long =
     let size : length held ≡ h = sym (ap length holds) ∙ length-take-le h (drop n room) (omega (arith, within, length-drop n room)) in

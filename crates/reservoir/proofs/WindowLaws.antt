@@ -12,7 +12,7 @@ use Rattle.reservoir.specs.Window.{IsWindowOver, main_bits, ArePacked}
 
 -- ---- what is held
 
--- what is after a front, with more after it
+-- what is after the first bytes, with more after it
 behind : (d k j : ℕ) (xs ys : List ℕ) → d ≤ length xs → j ≡ d + k → drop k (drop d xs ++ ys) ≡ drop j (xs ++ ys)
 behind d k j xs ys within is =
     let front : length (take d xs) ≡ d = length-take-le d xs within in

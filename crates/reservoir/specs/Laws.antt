@@ -20,6 +20,6 @@ held_behind held (area ∷ areas) = held_behind (keep_last 2048 (held ++ area)) 
 abbrev pub AreasAreHeld : Type 0
 AreasAreHeld = (areas : List (List ℕ)) → IsWindowOver (held_behind [] areas) (joined areas)
 
--- a frame's area and its main_data_begin together, in bytes
+-- a frame's area and its main_data_begin together have at most 1,939 bytes
 abbrev pub FramesAreHeld : Type 0
 FramesAreHeld = (h : HeaderFields) (s : Side) → IsHeader h → SideFits (class_of h) s → area_of (class_of h) h.slot h.protected + s.main_data_begin ≤ 1939

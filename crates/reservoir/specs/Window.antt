@@ -1,18 +1,18 @@
--- What a window over main data holds, and the main data of a frame (main_data_begin, ISO/IEC 11172-3 and 13818-3, 2.4.2.7). Main data
--- are the bytes of all areas, one after the other.
+-- What a window holds, and the main data of a frame in it (main_data_begin, ISO/IEC 11172-3 and 13818-3, 2.4.2.7). Here all areas, one
+-- after the other, are called the main data.
 use Rattle.std.specs.Prelude.{◌≡◌, ℕ, ◌+◌, ◌-◌, ◌*◌, ◌/◌, List, [], ◌∷◌, ◌++◌, length, take, drop, replicate, Option, Some, None}
 use Rattle.circular_buffer.specs.Buffer.{keep_last}
 use Rattle.bit_fields.specs.Bits.{bits}
 
--- the bytes held are the last 2,048 of the main data, or all where there are fewer
+-- the bytes held are the last 2,048 of all areas, or all where there are fewer
 abbrev pub IsWindowOver : List ℕ → List ℕ → Type 0
 IsWindowOver held main = held ≡ keep_last 2048 main
 
--- so many bits of the main data, from the byte at a place on
+-- so many bits of all areas, from a byte on
 abbrev pub main_bits : List ℕ → ℕ → ℕ → List ℕ
 main_bits main start count = take count (drop (8 * start) (bits main))
 
--- bytes that hold so many bits: as few as can, and after these bits the unused low bits of the last byte, which are 0
+-- as few bytes as hold so many bits, and after these bits zeros to the end of the last byte
 pub record ArePacked (packed : List ℕ) (count : ℕ) (bs : List ℕ) : Type 0 where
   pub few : length packed ≡ (count + 7) / 8
   pub same : bits packed ≡ bs ++ replicate (8 * length packed - count) 0

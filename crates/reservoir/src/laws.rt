@@ -1,13 +1,13 @@
 //! Laws of the window. Each function does nothing: a proof that needs its law calls it.
 ghost use Rattle.reservoir.specs.Laws.{AreasAreHeld, FramesAreHeld};
 
-/// Areas that are pushed one after another leave a window over all of them, joined.
+/// Once areas are pushed one after another, a window is over all of them, joined.
 pub fn areas_are_held()
     ensures { AreasAreHeld }
 {}
 
-/// No frame's main data begin further back than a window reaches: its own area and the greatest main_data_begin are
-/// at most 1,939 bytes.
+/// A window of 2,048 bytes holds the main data of every frame: its own area and its main_data_begin are at
+/// most 1,939 bytes together.
 pub fn frames_are_held()
     ensures { FramesAreHeld }
 {}

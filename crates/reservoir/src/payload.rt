@@ -1,15 +1,15 @@
-//! The main data of a frame, where they stand.
+//! The main data of a frame, read where they are.
 ghost use Rattle.std.specs.Prelude.{◌≡◌, ◌+◌, ◌≤◌, ◌++◌, [], length};
 ghost use Rattle.bit_fields.specs.Bits.{AreBytes};
 
 use crate::queue::ByteQueue;
 use std::marker::Model;
 
-/// The main data of a frame, in as few bytes as hold their bits. Contracts see these bytes.
+/// The main data of a frame, in as few bytes as hold their bits. Contracts see them as a list of bytes.
 #[derive(Drop)]
 pub struct Payload<'a> {
     whole: &'a [u8],
-    // The bits after the whole bytes, and zeros after them.
+    // The byte of the bits after the whole bytes, with zeros after them.
     last: Option<u8>,
 }
 
@@ -35,7 +35,7 @@ impl<'a> Payload<'a> {
         }
     }
 
-    /// These bytes, and one after them where it is there.
+    /// These bytes, and one after them if it is there.
     #[inline]
     pub(crate) fn new(whole: &'a [u8], last: Option<u8>) -> Payload<'a>
         ensures payload { result ≡ whole.now ++ byte_of last }

@@ -1,11 +1,11 @@
-//! A queue of bytes that are in one piece.
+//! A queue of bytes that are next to each other in memory.
 ghost use Rattle.std.specs.Prelude.{◌≡◌, ◌+◌, ◌-◌, ◌≤◌, [], ◌++◌, length, take, drop, IfOk};
 
 use std::alloc::{AllocError, Global};
 use std::marker::Model;
 
-/// The bytes of the room of a queue. It is twice what may wait, so that bytes are moved to its front once for as many
-/// that are pushed.
+/// The bytes of memory of a queue. They are twice as many as may wait, so that bytes are moved to the first
+/// of them at most once for as many that are pushed.
 const SIZE: usize = 16_384;
 
 /// A queue of at most 8,192 bytes. Contracts see it as the list of these bytes, the oldest first.
@@ -74,7 +74,7 @@ impl ByteQueue {
         self.to = end + bytes.len();
     }
 
-    /// Drops so many of the first bytes.
+    /// Drops the first `count` bytes.
     #[inline]
     pub fn drop_first(&mut self, count: usize)
         requires { count ≤ length self.old }
@@ -92,8 +92,8 @@ impl ByteQueue {
     }
 }
 
-/// Moves the bytes between two places to the front, where there isn't room for so many after them, and answers where they
-/// begin then.
+/// Moves the bytes between two places to the first of `room`, if there isn't room for `more` bytes after
+/// them, and answers where they begin then.
 #[inline]
 fn make_room(room: &mut [u8], from: usize, to: usize, more: usize) -> usize
     requires ordered { from ≤ to }

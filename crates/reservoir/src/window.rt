@@ -1,4 +1,4 @@
-//! The window, over a queue whose oldest bytes are dropped.
+//! The window: a queue whose oldest bytes are dropped.
 ghost use Rattle.std.specs.Prelude.{◌≡◌, ℕ, ◌+◌, ◌-◌, ◌*◌, ◌/◌, ◌<◌, ◌≤◌, List, [], ◌++◌, length, take, drop, IfOk};
 ghost use Rattle.circular_buffer.specs.Buffer.{keep_last};
 ghost use Rattle.bit_fields.specs.Bits.{AreBytes};
@@ -9,12 +9,12 @@ use crate::queue::ByteQueue;
 use std::alloc::{AllocError, Global};
 use std::marker::Model;
 
-/// The bytes that a window holds. A frame's main data begin at most 511 bytes before its area, and an area has at
-/// most 1,428 bytes.
+/// How many bytes a window holds. A frame's main data begin at most 511 bytes before its area, and an area
+/// has at most 1,428 bytes.
 const CAPACITY: usize = 2048;
 
-/// The last 2,048 bytes of main data, or all where there are fewer. Contracts see it as the list of these bytes, the
-/// oldest first.
+/// The last 2,048 bytes of the areas that were pushed, or all where there are fewer. Contracts see it as
+/// the list of these bytes, the oldest first.
 #[derive(Drop)]
 pub struct Window {
     queue: ByteQueue,
@@ -31,7 +31,7 @@ impl Model for Window {
 }
 
 impl Window {
-    /// A window over no main data. It takes all its memory here.
+    /// A window over no areas. It takes all its memory here.
     ///
     /// # Errors
     /// Where there is no memory.
@@ -44,7 +44,7 @@ impl Window {
         })
     }
 
-    /// Drops all bytes: it is over no main data again.
+    /// Drops all bytes, so that it is over no areas again.
     pub fn clear(&mut self)
         ensures none { self.new ≡ [] }
         ensures main { IsWindowOver self.new [] }
@@ -60,8 +60,8 @@ impl Window {
         self.queue.len()
     }
 
-    /// Adds an area: the bytes of a frame after its header, check word and side information. Of what was held and
-    /// the area the last 2,048 bytes stay.
+    /// Adds an area: the bytes of a frame after its header, check word and side information. Of what was
+    /// held and this area, the last 2,048 bytes stay.
     #[inline]
     pub fn push_area(&mut self, area: &[u8])
         ensures held { self.new ≡ keep_last 2048 (self.old ++ area.now) }
@@ -74,10 +74,10 @@ impl Window {
         self.queue.push(area);
     }
 
-    /// The main data of a frame whose own area was pushed last: `bits` bits from the place on that is `begin` bytes
-    /// before the `area` bytes of its area, in as few bytes as hold them, with the unused low bits of the last byte
-    /// 0. `begin` is the frame's main_data_begin (ISO/IEC 11172-3 and 13818-3, 2.4.2.7), and `bits` the sum of its
-    /// part2_3_length.
+    /// The main data of the frame whose area was pushed last: `bits` bits from `begin` bytes before its
+    /// area of `area` bytes on, in as few bytes as hold them, with the unused low bits of the last byte 0.
+    /// `begin` is the frame's main_data_begin (ISO/IEC 11172-3 and 13818-3, 2.4.2.7), and `bits` the sum of
+    /// all its part2_3_length.
     #[inline]
     pub fn payload(&self, area: u32, begin: u32, bits: u32) -> Payload<'_>
         requires held { area + begin ≤ length self.now }
@@ -93,7 +93,7 @@ impl Window {
         Payload::new(&bytes[from..end], last)
     }
 
-    /// The first bits of the byte at a place, fewer than 8, and zeros after them; of no bits none.
+    /// The first `bits` bits of byte `at`, fewer than 8, and zeros after them; `None` for no bits.
     #[inline]
     fn last_byte(&self, at: usize, bits: u32) -> Option<u8>
         requires few { bits < 8 }

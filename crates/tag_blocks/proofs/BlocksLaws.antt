@@ -1,4 +1,4 @@
--- What a block's front says: it shows in 32 bytes, its first byte is its kind's, and so one kind at most begins at a place.
+-- What a block's first bytes say: 32 of them show it, the first is its kind's, and so one kind at most begins at an offset.
 use Rattle.std.proofs.Common.{◌≡◌, ◌≢◌, ℕ, ◌+◌, ◌-◌, ◌<◌, ◌≤◌, Bool, true, false, ◌&&◌, List, length, take, drop, get_or, Option, Some, None, refl, sym, ap, ◌∙◌, subst, codes, arith, leb, lit<}
 use Rattle.std.specs.Option.{option_or}
 use Rattle.std.specs.Str.{bytes_eq}
@@ -58,7 +58,7 @@ kinds Ape Id3v2 e = absurd (omega arith)
 kinds Ape Id3v1 e = absurd (omega arith)
 kinds Ape Ape e = refl
 
--- at most one kind begins at a place
+-- bytes begin with one kind at most
 pub one_kind : (j k : Kind) (bytes : List ℕ) → begins j bytes ≡ true → begins k bytes ≡ true → j ≡ k
 one_kind j k bytes is also = kinds j k (sym (begins-first j bytes is) ∙ begins-first k bytes also)
 
@@ -76,7 +76,7 @@ some_cases bytes b (Some x) y z first second third is = front_as-own Id3v2 bytes
 some_cases bytes b None (Some y) z first second third is = front_as-own Id3v1 bytes b (second ∙ is)
 some_cases bytes b None None z first second third is = front_as-own Ape bytes b (third ∙ is)
 
--- the block at the front is that of its kind
+-- the block with which bytes begin is that of its kind
 pub block_front-own : (bytes : List ℕ) (b : Block) → block_front bytes ≡ Some b → front_as b.kind bytes ≡ Some b
 unfolding block_front
 block_front-own bytes b is = some_cases bytes b (front_as Id3v2 bytes) (front_as Id3v1 bytes) (front_as Ape bytes) refl refl refl is
@@ -95,7 +95,7 @@ none_of : (bytes : List ℕ) → block_front bytes ≡ None → (front_as Id3v2 
 unfolding block_front
 none_of bytes none = none_cases (front_as Id3v2 bytes) (front_as Id3v1 bytes) (front_as Ape bytes) none
 
--- where no block stands, none of any kind does
+-- where no block begins, none of any kind does
 pub block_front-none : (kind : Kind) (bytes : List ℕ) → block_front bytes ≡ None → front_as kind bytes ≡ None
 block_front-none Id3v2 bytes none = (none_of bytes none).0
 block_front-none Id3v1 bytes none = (none_of bytes none).1
@@ -108,11 +108,11 @@ any_cases kind bytes b is (Some other) some =
     let same : other.kind ≡ kind = one_kind other.kind kind bytes (front_as-kind other.kind bytes other own).0 (front_as-kind kind bytes b is).0 in
     sym own ∙ ap (λ k. front_as k bytes) same ∙ is
 
--- the block of any kind that begins there is the block at the front: the order in which kinds are tried doesn't matter
+-- the block of any kind with which bytes begin is the block with which they begin: the order in which kinds are tried doesn't matter
 pub block_front-any : (kind : Kind) (bytes : List ℕ) (b : Block) → front_as kind bytes ≡ Some b → block_front bytes ≡ Some b
 block_front-any kind bytes b is = any_cases kind bytes b is (block_front bytes) refl
 
--- the block at the front begins with its kind's first byte, which is neither 0 nor the first byte of a header
+-- a block begins with its kind's first byte, which is neither 0 nor the first byte of a header
 pub block_front-first : (bytes : List ℕ) (b : Block) → block_front bytes ≡ Some b → get_or bytes 0 0 ≡ first_byte b.kind
 block_front-first bytes b is = begins-first b.kind bytes (block_front-begins bytes b is).0
 

@@ -1,4 +1,4 @@
--- Items and their bytes give each other back: one item at the front of bytes, and items that follow end to end.
+-- Items and their bytes give each other back: one item with which bytes begin, and items one right after the other.
 use Rattle.std.proofs.Common.{◌≡◌, ℕ, zero, suc, ◌+◌, ◌-◌, ◌^◌, ◌<◌, ◌≤◌, Bool, true, false, cond, ◌&&◌, ◌||◌, List, [], ◌∷◌, ◌++◌, length, take, drop, get_or, Option, Some, None, refl, sym, ap, ◌∙◌, subst, arith, append_assoc, append-nil, length-append, length-take, length-drop, take-append-drop}
 use Rattle.std.specs.Prelude.{filter}
 use Rattle.std.specs.List.{list_all, list_any, prefix_len}
@@ -46,7 +46,7 @@ little_bytes-ape_number at bytes octets within =
 pub little_number-little_bytes : (n : ℕ) → n < 2 ^ 32 → little_number 4 (little_bytes 4 n) ≡ n
 little_number-little_bytes n below = ap (little_number 4) (sym (append-nil (little_bytes 4 n))) ∙ little_number-reads_back 4 n [] below
 
--- ---- an item at the front
+-- ---- an item with which bytes begin
 
 -- what is there, part by part
 pub record Stands (bytes : List ℕ) : Type 0 where
@@ -94,7 +94,7 @@ parts_of bytes is =
     let flags : drop 4 bytes ≡ take 4 (drop 4 bytes) ++ drop 8 bytes = split 4 (drop 4 bytes) ∙ ap (λ l. take 4 (drop 4 bytes) ++ l) (drop-drop 4 4 bytes) in
     split 4 bytes ∙ ap (λ l. take 4 bytes ++ l) (flags ∙ ap (λ l. take 4 (drop 4 bytes) ++ l) (key ∙ ap (λ l. take k (drop 8 bytes) ++ l) (zeroed ∙ ap (λ l. 0 ∷ l) value)))
 
--- the bytes begin with those of the item that is there
+-- the bytes begin with those of the item that is read from them
 pub bytes-front : (bytes : List ℕ) → AreOctets bytes → stands bytes ≡ true → bytes ≡ item_bytes (item_front bytes) ++ drop (item_length (item_front bytes)) bytes
 unfolding item_bytes item_front
 bytes-front bytes octets is =
@@ -120,7 +120,7 @@ key_passes bytes = list_all-from_AllPass is_key_char (take (prefix_len is_key_ch
 pub ape_number-below : (at : ℕ) (bytes : List ℕ) → AreOctets bytes → ape_number at bytes < 2 ^ 32
 ape_number-below at bytes octets = little_from-lt 0 4 (take 4 (drop at bytes)) (octets-take 4 (drop at bytes) (octets-drop at bytes octets))
 
--- what is at the front is an item
+-- what is read is an item
 pub is_item-front : (bytes : List ℕ) → AreOctets bytes → stands bytes ≡ true → is_item (item_front bytes) ≡ true
 unfolding is_item item_front
 is_item-front bytes octets is =
@@ -208,8 +208,6 @@ item_at-item_bytes item rest is =
 
 -- ---- the next item
 
--- ---- the next item
-
 admitted_cases : (met is : Bool) (other item : TagItem) → is_undo other ≡ is → cond (met && is) None (Some other) ≡ Some item → (Some other ≡ Some item) × ((met && is) ≡ false)
 admitted_cases true true other item own e = absurd cc
 admitted_cases true false other item own e = (e, refl)
@@ -224,7 +222,7 @@ next_cases met (Some other) item e =
     let cases = admitted_cases met (is_undo other) other item refl e in
     (cases.0, subst (λ i. (met && is_undo i) ≡ false) (some_same other item cases.0) cases.1)
 
--- the item that comes next is there, and is no second undo item
+-- the item that comes next is there, and isn't a second undo item
 pub record IsNext (met : Bool) (bytes : List ℕ) (item : TagItem) : Type 0 where
   pub stands_there : stands bytes ≡ true
   pub is : item_front bytes ≡ item
@@ -352,7 +350,7 @@ items_from-within most met bytes octets =
     let read = items_from-read most met bytes octets in
     omega (arith, ap length read.front, length-append (items_bytes items) (drop (items_length items) bytes), length-items_bytes items)
 
--- ---- and they are all that stand so
+-- ---- and reading ends only where it has to
 
 pub record IsStopped (most : ℕ) (met : Bool) (bytes : List ℕ) (items : List TagItem) : Type 0 where
   pub few : length items ≤ most
@@ -388,7 +386,7 @@ pub items_from-stopped : (most : ℕ) (met : Bool) (bytes : List ℕ) → IsStop
 items_from-stopped zero met bytes = subst (IsStopped 0 met bytes) (sym (items_from-zero met bytes)) (stopped_here 0 met bytes (λ less. absurd (omega (arith, less))))
 items_from-stopped (suc most) met bytes = stop_cases most met bytes (λ m b. items_from-stopped most m b) (next_item met bytes) refl
 
--- ---- and no others are
+-- ---- and no others are read
 
 only_none : (most : ℕ) (met : Bool) (bytes : List ℕ) → (0 < most → next_item met bytes ≡ None) → items_from most met bytes ≡ []
 only_none zero met bytes last = items_from-zero met bytes

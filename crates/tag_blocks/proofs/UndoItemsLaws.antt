@@ -1,4 +1,4 @@
--- The undo item among the items: where it stands, what the items are with another one or without it, and that all others stay.
+-- The undo item among the items: where it is, what the items are with another one or without it, and that all others stay.
 use Rattle.std.proofs.Common.{◌≡◌, ℕ, suc, ◌+◌, ◌^◌, ◌<◌, ◌≤◌, Bool, true, false, cond, not, List, [], ◌∷◌, ◌++◌, length, take, drop, get_or, set, map, Some, None, pos, refl, sym, ap, ◌∙◌, subst, arith}
 use Rattle.std.specs.Prelude.{codes, position, nat_lt}
 use Rattle.std.specs.Char.{to_ascii_lowercase}
@@ -14,7 +14,7 @@ use Rattle.tag_blocks.specs.Tags.{other_items, undo_items, TagFields, IsTag}
 use Rattle.tag_blocks.specs.UndoItems.{undo_from, new_undo_item, with_undo, without_undo}
 use Rattle.tag_blocks.proofs.ItemsLaws.{items_length-cons}
 
--- ---- where it stands
+-- ---- where it is
 
 found_cases : (b : Bool) (k at : ℕ) → cond b (Some k) None ≡ Some at → (b ≡ true) × (k ≡ at)
 found_cases true k at e = (refl, cc)
@@ -56,7 +56,7 @@ add_cases undo item items false own past rest =
     let behind = rest (omega (arith, more)) in
     (rw own (ap (λ l. item ∷ l) behind.0), rw own (ap (λ l. item ∷ l) behind.1))
 
--- where there is none a new one is added, and none has to go
+-- where there is none a new one is added, and none is removed
 pub with_undo-added : (undo : Undo) (items : List TagItem) → length items ≤ position_or_len is_undo items → (with_undo undo items ≡ items ++ (new_undo_item undo ∷ [])) × (without_undo items ≡ items)
 with_undo-added undo [] past = (refl, refl)
 with_undo-added undo (item ∷ items) past = add_cases undo item items (is_undo item) refl past (λ more. with_undo-added undo items more)
@@ -141,7 +141,7 @@ with_undo-all : (undo : Undo) (items : List TagItem) → list_all is_item items 
 with_undo-all undo [] all = and_from (is_item (new_undo_item undo)) true (new-item undo) refl
 with_undo-all undo (item ∷ items) all = all_cases undo item items (is_undo item) refl all (λ rest. with_undo-all undo items rest)
 
--- with an undo item that has one of its own, and at most one
+-- an undo item was put in: there is at most one, of at most 32 bytes
 pub record HasOne (items : List TagItem) : Type 0 where
   pub one : length (undo_items items) ≤ 1
   pub own : items_length (undo_items items) ≤ 32

@@ -1,4 +1,4 @@
--- Where a block of a tag begins, and how long it is. A block is known by its front alone; what is in it isn't judged.
+-- Where a block of a tag begins, and how long it is. A block is known by its first bytes alone; what is in it isn't judged.
 use Rattle.std.specs.Prelude.{ℕ, ◌+◌, ◌*◌, ◌^◌, ◌==◌, ◌&&◌, not, nat_le, nat_lt, if◌then◌else◌, Bool, List, length, take, drop, slice_index, Option, Some, None, codes, bytes_eq}
 use Rattle.std.specs.Int.{bit_at}
 use Rattle.std.specs.List.{list_all}
@@ -18,7 +18,7 @@ begins_with text bytes = bytes_eq text (take (length text) bytes)
 abbrev pub seven_bit_number : List ℕ → ℕ
 seven_bit_number four = slice_index four 0 * 2 ^ 21 + slice_index four 1 * 2 ^ 14 + slice_index four 2 * 2 ^ 7 + slice_index four 3
 
--- the size in the header, without the header and the footer
+-- the four bytes of the size in the header, which counts neither the header nor the footer
 abbrev pub id3v2_size : List ℕ → List ℕ
 id3v2_size bytes = take 4 (drop 6 bytes)
 
@@ -67,7 +67,7 @@ ape_length bytes = 32 + ape_size bytes
 
 -- ---- a block of any kind
 
--- a block of this kind begins at the front of the bytes
+-- the bytes begin with a block of this kind
 abbrev pub begins : Kind → List ℕ → Bool
 begins Id3v2 bytes = is_id3v2 bytes
 begins Id3v1 bytes = is_id3v1 bytes
@@ -79,10 +79,10 @@ length_as Id3v2 bytes = id3v2_length bytes
 length_as Id3v1 bytes = 128
 length_as Ape bytes = ape_length bytes
 
--- the block of this kind at the front of the bytes
+-- the block of this kind with which the bytes begin
 abbrev pub front_as : Kind → List ℕ → Option Block
 front_as kind bytes = if begins kind bytes then Some (record { kind = kind; length = length_as kind bytes }) else None
 
--- the block at the front of the bytes; at most one kind begins there
+-- the block with which the bytes begin, which is of one kind at most
 unfoldable pub block_front : List ℕ → Option Block
 block_front bytes = option_or (option_or (front_as Id3v2 bytes) (front_as Id3v1 bytes)) (front_as Ape bytes)

@@ -1,4 +1,4 @@
--- Items of an APEv2 tag: what they are, their bytes, and the items that follow end to end at the front of bytes.
+-- Items of an APEv2 tag: what they are, their bytes, and the items with which bytes begin, one right after the other.
 use Rattle.std.specs.Prelude.{◌≡◌, ℕ, ◌≤◌, zero, suc, ◌+◌, ◌^◌, ◌==◌, ◌&&◌, ◌||◌, nat_le, nat_lt, if◌then◌else◌, Bool, List, [], ◌∷◌, ◌++◌, length, take, drop, slice_index, flat_map, sum_by, Option, Some, None, codes}
 use Rattle.std.specs.List.{list_all, prefix_len}
 use Rattle.std.specs.Str.{str_eq_ignore_ascii_case}
@@ -44,9 +44,9 @@ items_bytes items = flat_map item_bytes items
 abbrev pub items_length : List TagItem → ℕ
 items_length items = sum_by item_length items
 
--- ---- the item at the front of bytes
+-- ---- the item with which bytes begin
 
--- how many characters of a key are after length and flags
+-- how many characters of a key are after the eight bytes of length and flags
 abbrev pub key_length : List ℕ → ℕ
 key_length bytes = prefix_len is_key_char (drop 8 bytes)
 
@@ -82,7 +82,7 @@ abbrev pub next_of : Bool → Option TagItem → Option TagItem
 next_of met None = None
 next_of met (Some item) = admitted met item
 
--- the item at the front that may be there
+-- the item with which the bytes begin, if it may be there
 abbrev pub next_item : Bool → List ℕ → Option TagItem
 next_item met bytes = next_of met (item_at bytes)
 
@@ -90,7 +90,7 @@ abbrev pub and_behind : (TagItem → List TagItem) → Option TagItem → List T
 and_behind behind None = []
 and_behind behind (Some item) = item ∷ behind item
 
--- the items that follow end to end at the front, so many at most, and up to a second undo item
+-- the items with which the bytes begin, one right after the other: so many at most, and only those before a second undo item
 unfoldable pub items_from : ℕ → Bool → List ℕ → List TagItem
 items_from zero met bytes = []
 items_from (suc most) met bytes = and_behind (λ item. items_from most (met || is_undo item) (drop (item_length item) bytes)) (next_item met bytes)

@@ -19,8 +19,8 @@ abbrev pub TagsAreTheirBytes : Type 0
 TagsAreTheirBytes =
     (block : List ℕ) (tag : TagFields) → AreOctets block → block_front block ≡ Some (record { kind = Ape; length = length block }) → length block ≤ 1048576 → (tag_of block ≡ Ok tag) ↔ (IsTag tag × (tag_bytes tag ≡ block))
 
--- The items at the front of bytes follow end to end, are so many at most, and at most one of them is the undo item; and where they
--- are fewer, none that may be there is after them.
+-- The bytes begin with these items, one right after the other. They are so many at most, and at most one of them is the undo item. Where
+-- they are fewer, no item that may be there comes after them.
 pub record AreItemsOf (most : ℕ) (bytes : List ℕ) (items : List TagItem) : Type 0 where
   pub all : list_all is_item items ≡ true
   pub few : length items ≤ most
@@ -31,7 +31,7 @@ pub record AreItemsOf (most : ℕ) (bytes : List ℕ) (items : List TagItem) : T
 abbrev pub ItemsAreAll : Type 0
 ItemsAreAll = (most : ℕ) (bytes : List ℕ) (items : List TagItem) → AreOctets bytes → AreItemsOf most bytes items ↔ (items_from most false bytes ≡ items)
 
--- Where another undo is put in, the undo item says it; where the undo item is taken out, there is none; and all others stay.
+-- With another undo put in, the undo item says it; with the undo item taken out, there is none; and all others stay.
 pub record ChangesUndoAlone (undo : Undo) (items : List TagItem) : Type 0 where
   pub put : (place : ℕ) → undo_from place (with_undo undo items) ≡ Found undo
   pub put_others : other_items (with_undo undo items) ≡ other_items items
@@ -42,10 +42,10 @@ pub record ChangesUndoAlone (undo : Undo) (items : List TagItem) : Type 0 where
 abbrev pub UndoItemsAloneChange : Type 0
 UndoItemsAloneChange = (undo : Undo) (items : List TagItem) → FitsText undo → length (undo_items items) ≤ 1 → ChangesUndoAlone undo items
 
--- a minus and three zeros, which no text has that is written
+-- a minus and three zeros, which is never written
 abbrev pub is_minus_zero : List ℕ → Bool
 is_minus_zero four = (slice_index four 0 == 45) && (digits_number four == 0)
 
--- a value that is read without such a number is written again as it was
+-- a value that is read and has no such number is written again as it was
 abbrev pub UndosAreTheirTexts : Type 0
 UndosAreTheirTexts = (value : List ℕ) (undo : Undo) → undo_of value ≡ Some undo → is_minus_zero (take 4 value) ≡ false → is_minus_zero (take 4 (drop 5 value)) ≡ false → undo_text undo ≡ value

@@ -30,8 +30,8 @@ other_items items = filter (λ item. not (is_undo item)) items
 abbrev pub undo_items : List TagItem → List TagItem
 undo_items items = filter is_undo items
 
--- keys, flags and lengths are as they may be, and at most one item is the undo item. It has at most 1,048,512 bytes, and so have
--- all others together: no tag is longer than 2,097,088 bytes.
+-- Keys, flags and lengths are legal, and at most one item is the undo item. It has at most 1,048,512 bytes, and so have all others
+-- together: no tag is longer than 2,097,088 bytes.
 pub record IsTag (tag : TagFields) : Type 0 where
   pub items : list_all is_item tag.items ≡ true
   pub one : length (undo_items tag.items) ≤ 1
@@ -73,7 +73,7 @@ footer_place block = length block - 32
 abbrev pub item_part : List ℕ → List ℕ
 item_part block = take (footer_place block - 32) (drop 32 block)
 
--- as many of the items that the header counts as are there
+-- the items that are there, of those that the header counts
 abbrev pub items_of : List ℕ → List TagItem
 items_of block = items_from (ape_count block) false (item_part block)
 

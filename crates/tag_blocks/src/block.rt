@@ -10,11 +10,11 @@ use byteorder::{ByteOrder, LittleEndian};
 /// The kinds of blocks.
 #[derive(Clone, Copy, Debug, PartialEq, Eq)]
 pub enum Kind {
-    /// A block whose header of 10 bytes tells its size (ID3v2.3.0 and ID3v2.4.0, 3.1).
+    /// A block with a header of 10 bytes, which gives its size (ID3v2.3.0 and ID3v2.4.0, 3.1).
     Id3v2,
     /// 128 bytes that begin with `TAG`.
     Id3v1,
-    /// A tag with a header and a footer of 32 bytes each; the header tells its size.
+    /// A tag with a header and a footer of 32 bytes each; the header gives the size (APEv2).
     Ape,
 }
 
@@ -37,7 +37,7 @@ const ID3V1_LENGTH: u64 = 128;
 /// The length of the header of APEv2, and of its footer, in bytes.
 pub(crate) const APE_HEADER: usize = 32;
 
-/// Where the version is in the header of APEv2, the size of items and footer, and the flags.
+/// Where the version is in the header of APEv2, the size of items and footer, and the flags, in bytes.
 pub(crate) const APE_VERSION_AT: usize = 8;
 
 pub(crate) const APE_SIZE_AT: usize = 12;
@@ -76,7 +76,7 @@ fn seven_bit_number(four: &[u8]) -> u64
         + u64::from(four[3])
 }
 
-/// Whether an ID3v2 block begins at the front of the bytes.
+/// Whether the bytes begin with an ID3v2 block.
 #[tactic(auto, unfolding(crate::specs::Blocks::is_id3v2))]
 fn is_id3v2(front: &[u8]) -> bool
     ensures begins { result ≡ is_id3v2_lem front.now }
@@ -89,7 +89,7 @@ fn is_id3v2(front: &[u8]) -> bool
         && have_seven_bits(&front[6..10])
 }
 
-/// The ID3v2 block at the front of the bytes.
+/// The ID3v2 block with which the bytes begin.
 #[tactic(auto, unfolding(crate::specs::Blocks::id3v2_length))]
 fn id3v2_at(front: &[u8]) -> Option<Block>
     ensures block { result ≡ front_as Id3v2 front.now }
@@ -106,7 +106,7 @@ fn id3v2_at(front: &[u8]) -> Option<Block>
     })
 }
 
-/// The ID3v1 block at the front of the bytes.
+/// The ID3v1 block with which the bytes begin.
 #[tactic(auto, unfolding(crate::specs::Blocks::is_id3v1))]
 fn id3v1_at(front: &[u8]) -> Option<Block>
     ensures block { result ≡ front_as Id3v1 front.now }
@@ -121,7 +121,7 @@ fn id3v1_at(front: &[u8]) -> Option<Block>
     })
 }
 
-/// A number in the header of APEv2.
+/// The little-endian number of 32 bits at byte `at` of an APEv2 header.
 pub(crate) fn ape_number(front: &[u8], at: usize) -> u32
     requires { at + 4 ≤ length front.now }
     ensures { result ≡ ape_number_lem at front.now }
@@ -129,7 +129,7 @@ pub(crate) fn ape_number(front: &[u8], at: usize) -> u32
     LittleEndian::read_u32(&front[at..at + 4])
 }
 
-/// Whether an APEv2 block begins at the front of the bytes.
+/// Whether the bytes begin with an APEv2 block.
 #[tactic(auto, unfolding(crate::specs::Blocks::is_ape))]
 fn is_ape(front: &[u8]) -> bool
     ensures begins { result ≡ is_ape_lem front.now }
@@ -143,7 +143,7 @@ fn is_ape(front: &[u8]) -> bool
         && is_set(ape_number(front, APE_FLAGS_AT), APE_IS_HEADER)
 }
 
-/// The APEv2 block at the front of the bytes.
+/// The APEv2 block with which the bytes begin.
 #[tactic(auto, unfolding(crate::specs::Blocks::ape_length))]
 fn ape_at(front: &[u8]) -> Option<Block>
     ensures block { result ≡ front_as Ape front.now }
@@ -158,8 +158,8 @@ fn ape_at(front: &[u8]) -> Option<Block>
     })
 }
 
-/// The block that begins at an offset of a file. `front` is the first 32 bytes there, or all that are
-/// left; of a longer slice only the first 32 bytes matter. `None` exactly where no block begins:
+/// The block that begins at an offset of a file. `front` is the first 32 bytes there, or all that are left;
+/// of a longer slice only the first 32 bytes matter. `None` exactly where none of these begins there:
 ///
 /// - ID3v2: 10 bytes are there, which are `ID3`, two version bytes that aren't ff, a flag byte, and four
 ///   bytes of the size below 80 (hexadecimal);

@@ -9,16 +9,16 @@ use crate::block::{
 use byteorder::{ByteOrder, LittleEndian};
 use std::alloc::AllocError;
 
-/// The text at the front.
+/// The text with which a header and a footer begin.
 const TEXT: &[u8] = b"APETAGEX";
 
 /// The version of a tag with a header.
 const VERSION: u32 = 2000;
 
-/// Where the count of items stands.
+/// Where the count of items is in a header or a footer, in bytes.
 pub(crate) const COUNT_AT: usize = 16;
 
-/// Where the 8 bytes begin that have to be zero.
+/// Where the 8 bytes begin that have to be zero, in bytes.
 pub(crate) const RESERVED_AT: usize = 24;
 
 /// Whether the last 8 bytes of a header or a footer are zero.
@@ -44,6 +44,9 @@ pub(crate) fn is_footer(footer: &[u8], size: u32, count: u32) -> bool
 }
 
 /// Adds a header or a footer after the bytes.
+///
+/// # Errors
+/// Where there is no memory.
 #[tactic(auto, unfolding(crate::specs::Tags::end_bytes))]
 pub(crate) fn append_end(
     bytes: &mut Vec<u8>,

@@ -36,7 +36,7 @@ fn is_key_char(byte: u8) -> bool
     (0x20..=0x7e).contains(&byte)
 }
 
-/// How many characters of a key are at the front of the bytes.
+/// With how many characters of a key the bytes begin.
 fn key_length(bytes: &[u8]) -> usize
     ensures length { result ≡ prefix_len is_key_char_lem bytes.now }
     ensures within { result ≤ length bytes.now }
@@ -57,8 +57,8 @@ struct Layout {
     end: usize,
 }
 
-/// The layout of the item at the front of the bytes, and `None` exactly where none is there: a key of 2 to 255
-/// characters, a zero byte after it, and a value that is whole.
+/// The layout of the item with which the bytes begin. `None` exactly where they begin with none: eight
+/// bytes, a key of 2 to 255 characters, a zero byte after it, and a value that is whole.
 #[tactic(auto, unfolding(crate::specs::Items::stands))]
 fn layout_at(bytes: &[u8]) -> Option<Layout>
     ensures stands { is_some result ≡ stands_lem bytes.now }
@@ -81,7 +81,10 @@ fn layout_at(bytes: &[u8]) -> Option<Layout>
     })
 }
 
-/// These bytes, in memory of their own.
+/// A copy of the bytes.
+///
+/// # Errors
+/// Where there is no memory.
 pub(crate) fn copied(alloc: Global, bytes: &[u8]) -> Result<Vec<u8>, AllocError>
     ensures { IfOk result (λ copy. copy.items ≡ bytes.now) }
 {
@@ -91,7 +94,7 @@ pub(crate) fn copied(alloc: Global, bytes: &[u8]) -> Result<Vec<u8>, AllocError>
 }
 
 impl Item {
-    /// The item at the front of the bytes, and `None` where none is there.
+    /// The item with which the bytes begin, and `None` where they begin with none.
     ///
     /// # Errors
     /// Where there is no memory.
@@ -116,7 +119,7 @@ impl Item {
         self.key.eq_ignore_ascii_case(UNDO_KEY)
     }
 
-    /// The length of its bytes.
+    /// The length of its bytes, which is less than 2^32.
     pub(crate) fn length(&self) -> usize
         requires { item_length self.now < 2 ^ 32 }
         ensures { result ≡ item_length self.now }
@@ -125,6 +128,9 @@ impl Item {
     }
 
     /// Adds its bytes after these.
+    ///
+    /// # Errors
+    /// Where there is no memory.
     #[tactic(auto, unfolding(crate::specs::Items::is_item, crate::specs::Items::item_bytes))]
     pub(crate) fn append(&self, bytes: &mut Vec<u8>) -> Result<(), AllocError>
         requires { is_item self.now ≡ true }

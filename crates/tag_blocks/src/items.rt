@@ -9,7 +9,10 @@ use crate::item::{Item, UNDO_KEY, copied};
 use crate::undo::Undo;
 use std::alloc::{AllocError, Global};
 
-/// The item at the front of the bytes, unless it is an undo item and one was met before.
+/// The item with which the bytes begin, unless it is an undo item and one was met before.
+///
+/// # Errors
+/// Where there is no memory.
 fn next_item(alloc: Global, bytes: &[u8], met: bool) -> Result<Option<Item>, AllocError>
     ensures { IfOk result (λ item. item ≡ next_item_lem met bytes.now) }
 {
@@ -22,7 +25,11 @@ fn next_item(alloc: Global, bytes: &[u8], met: bool) -> Result<Option<Item>, All
     Ok(Some(item))
 }
 
-/// The items that follow end to end at the front of the bytes, so many at most, and up to a second undo item.
+/// The items with which the bytes begin, one right after the other: at most `count` of them, and only those
+/// before a second undo item.
+///
+/// # Errors
+/// Where there is no memory.
 pub(crate) fn read_items(alloc: Global, bytes: &[u8], count: u32) -> Result<Vec<Item>, AllocError>
     requires { length bytes.now < 2 ^ 32 }
     ensures { IfOk result (λ items. items.items ≡ items_from count false bytes.now) }
@@ -41,7 +48,7 @@ pub(crate) fn read_items(alloc: Global, bytes: &[u8], count: u32) -> Result<Vec<
     Ok(items)
 }
 
-/// The length of the bytes of all items.
+/// The length of the bytes of all items, which is less than 2^32.
 pub(crate) fn items_length(items: &[Item]) -> usize
     requires { items_length_lem items.now < 2 ^ 32 }
     ensures { result ≡ items_length_lem items.now }
@@ -60,8 +67,7 @@ pub(crate) fn undo_place(items: &[Item]) -> Option<usize>
     items.iter().position(|item| item.is_undo())
 }
 
-/// Puts this into the undo item in place of its value, or adds a new undo item after all others where there is
-/// none.
+/// Makes this the value of the undo item, or adds a new undo item after all others where there is none.
 ///
 /// # Errors
 /// Where there is no memory. Then the items stay as they were.
@@ -89,6 +95,9 @@ pub(crate) fn put_undo(alloc: Global, items: &mut Vec<Item>, undo: &Undo) -> Res
 }
 
 /// Adds the bytes of all items after these.
+///
+/// # Errors
+/// Where there is no memory.
 pub(crate) fn append_items(bytes: &mut Vec<u8>, items: &[Item]) -> Result<(), AllocError>
     requires { list_all is_item items.now ≡ true }
     ensures { IfOk result (λ _. bytes.new.items ≡ bytes.old.items ++ items_bytes items.now) }

@@ -8,19 +8,19 @@ pub fn tags_are_their_bytes()
     ensures { TagsAreTheirBytes }
 {}
 
-/// The items of a block are those that follow end to end, and no others: where they are fewer than the header counts,
-/// none that may be there is after them.
+/// The items of a block are those that follow end to end, and no others: where they are fewer than the
+/// header counts, no item that may be there comes after them.
 pub fn items_are_all()
     ensures { ItemsAreAll }
 {}
 
-/// Another undo item, or none, changes no other item. What is put in is what the tag then says, and what is taken
-/// out afterwards leaves the items that taking it out before leaves.
+/// Another undo item, or none, changes no other item. What is put in is what the tag then says. Without its
+/// undo item, a tag has the same items before and after another one is put in.
 pub fn undo_items_alone_change()
     ensures { UndoItemsAloneChange }
 {}
 
-/// The value of an undo item that is read is written again as it was, unless a number in it is `-000`.
+/// The value of an undo item is written again as it was read, unless a number in it is `-000`.
 pub fn undos_are_their_texts()
     ensures { UndosAreTheirTexts }
 {}

@@ -70,7 +70,7 @@ fn read_block(alloc: Global, block: &[u8]) -> Result<Tag, TagFault>
     })
 }
 
-/// What the value of an undo item at this place says.
+/// What an undo item at this place says by its value. The place is in bytes from the block's first byte.
 fn said(place: u64, item: &Item) -> UndoItem
     ensures { result ≡ undo_at place (undo_of item.now.value) }
 {
@@ -102,7 +102,8 @@ impl Tag {
     /// most 1,048,576 bytes.
     ///
     /// # Errors
-    /// `BadTag` with the place of the first fault in the block. They are looked for in this order (APEv2):
+    /// `BadTag` with the place of the first fault, in bytes from the block's first byte. Faults are looked
+    /// for in this order (APEv2):
     /// - the last 8 bytes of the header aren't zero: 24;
     /// - one of the items that the header counts isn't whole before the footer, has no key of 2 to 255 characters
     ///   from 20 to 7e (hexadecimal), or is a second one with the key `MP3GAIN_UNDO`, compared without ASCII case:
@@ -141,7 +142,7 @@ impl Tag {
         (2 * APE_HEADER + items_length(&self.items)) as u64
     }
 
-    /// What the undo item says, the one with the key `MP3GAIN_UNDO`, compared without ASCII case.
+    /// What the undo item says: the item with the key `MP3GAIN_UNDO`, compared without ASCII case.
     pub fn undo(&self) -> UndoItem
         ensures { result ≡ undo_from 32 self.now.items }
     {
@@ -155,8 +156,8 @@ impl Tag {
         UndoItem::Missing
     }
 
-    /// Puts this into the undo item in place of its value. Where there is none a new one is added after all
-    /// others, with flags 0. Both numbers have to be from -999 to 999. All other items stay as they are.
+    /// Makes this the value of the undo item. Where there is none, a new one is added after all others,
+    /// with flags 0. Both numbers have to be from -999 to 999. All other items stay as they are.
     ///
     /// # Errors
     /// Where there is no memory. Then the tag stays as it was.
@@ -179,7 +180,7 @@ impl Tag {
         }
     }
 
-    /// The block: header, items and footer. The tag that is read from it is this one.
+    /// The bytes of the block: header, items and footer. The tag that is read from them is this one.
     ///
     /// # Errors
     /// Where there is no memory.

@@ -5,7 +5,7 @@ ghost use Rattle.tag_blocks.specs.declared.tag_fault.TagFault.TheVariants.{Memor
 use std::alloc::{AllocError, AllocFailed};
 use thiserror::Error;
 
-/// Why there is no tag of a block.
+/// Why `Tag::read` gives no tag.
 #[derive(Clone, Copy, Debug, PartialEq, Eq, Error)]
 pub enum TagFault {
     /// The block isn't an APEv2 tag. The place of the first fault, in bytes from the block's first byte.

@@ -12,7 +12,7 @@ pub struct Undo {
     pub left: i16,
     /// Steps for the right channel, from -999 to 999 in a tag.
     pub right: i16,
-    /// Whether gains that leave the range from 0 to 255 come in again at its other end.
+    /// Whether gains wrap around modulo 256 where they would leave the range from 0 to 255.
     pub wrap: bool,
 }
 
@@ -73,7 +73,7 @@ fn wrap_letter(wrap: bool) -> u8
     if wrap { b'W' } else { b'N' }
 }
 
-/// Whether the bytes are of the form of an undo item's value.
+/// Whether the bytes have the form of an undo item's value.
 #[tactic(auto, unfolding(crate::specs::UndoText::is_undo_text))]
 fn is_undo_text(value: &[u8]) -> bool
     ensures { result ≡ is_undo_text_lem value.now }
@@ -86,7 +86,7 @@ fn is_undo_text(value: &[u8]) -> bool
         && (value[10] == b'N' || value[10] == b'W')
 }
 
-/// The value of an undo item that says this.
+/// The value of the undo item that says this.
 fn text_of(undo: &Undo) -> [u8; 11]
     requires { FitsText undo.now }
     ensures { result ≡ undo_text undo.now }
@@ -127,8 +127,8 @@ impl Undo {
         })
     }
 
-    /// The value of an undo item that says this. A number that isn't negative has `+`. Both numbers have to
-    /// be from -999 to 999.
+    /// The value of the undo item that says this. A number that isn't negative has `+`. Both numbers have
+    /// to be from -999 to 999.
     pub fn text(&self) -> [u8; 11]
         requires { FitsText self.now }
         ensures text { result ≡ undo_text self.now }

@@ -1,4 +1,4 @@
--- One piece after the other.
+-- One field after the other.
 use Rattle.info_header.specs.Info.{info_bytes}
 use Rattle.info_header.proofs.InfoLaws.{piece-before}
 use Rattle.info_header.proofs.writing.append_info.Goals as goal
