@@ -17,7 +17,7 @@ use Rattle.cue_sheet.specs.Places.{IsPlace}
 use Rattle.cue_sheet.proofs.RisingLaws.{rises}
 use Rattle.cue_sheet.proofs.LinesLaws.{no_lines}
 
--- ---- what is seen with a line more
+-- ---- what the lines say together with one more
 
 or_swapped : (a b : Bool) → (a || b) ≡ (b || a)
 or_swapped true true = refl

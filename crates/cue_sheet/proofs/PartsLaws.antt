@@ -8,7 +8,7 @@ abbrev pub other_parts : (ℕ → Bool) → List ℕ → List (List ℕ)
 other_parts p [] = []
 other_parts p (end ∷ rest) = slice_split p rest
 
--- a byte more in front
+-- one byte more at the beginning
 pub one_more : (n : ℕ) → 1 + n ≡ suc n
 one_more n = omega arith
 

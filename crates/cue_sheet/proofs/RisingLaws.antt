@@ -14,7 +14,7 @@ last_is : (x d : ℕ) (xs : List ℕ) → last_or (Some x) xs ≡ Some (get_or (
 last_is x d [] = refl
 last_is x d (y ∷ ys) = last_is y d ys
 
--- none is above the last
+-- none is later than the last
 none_above : (x : ℕ) (xs : List ℕ) → IsRising (x ∷ xs) → (k d : ℕ) → k < length (x ∷ xs) → get_or (x ∷ xs) k d ≤ get_or (x ∷ xs) (length xs) d
 none_above x xs rising k d within =
     elim (cases_lt k (length xs)) [

@@ -26,7 +26,7 @@ others_are (x ∷ xs) =
       | false ↦ λ is. subst (λ n. others_at n (x ∷ xs)) (sym (past_other is_blank x xs is)) (others_are xs)
     ] refl
 
--- blanks at the front make no word
+-- blanks at the beginning make no word
 behind_blanks : (t : List ℕ) → words_of (drop (prefix_len is_blank t) t) ≡ words_of t
 unfolding words_of
 behind_blanks [] = refl

@@ -64,7 +64,7 @@ abbrev pub is_start_there : Option Entry → Bool
 is_start_there None = false
 is_start_there (Some entry) = is_start entry
 
--- the track has a start: of the TRACK lines and the starts so far, the last is a start
+-- the track has a start: among the TRACK lines and the starts so far, the last line is a start
 abbrev pub is_started : List Entry → Bool
 is_started before = is_start_there (find (λ entry. is_track entry || is_start entry) (reverse before))
 
@@ -72,7 +72,7 @@ is_started before = is_start_there (find (λ entry. is_track entry || is_start e
 abbrev pub times_of : List Entry → List ℕ
 times_of entries = filter_map start_time entries
 
--- a start is greater than the one before it
+-- a start is later than the one before it
 abbrev pub is_behind : Option ℕ → ℕ → Bool
 is_behind None time = true
 is_behind (Some last) time = nat_lt last time
@@ -90,8 +90,8 @@ pub record IsSeen (before : List Entry) (seen : Seen) : Type 0 where
 abbrev pub line_fault : Bool → ℕ → Option CueFault
 line_fault is line = if is then Some (Line line) else None
 
--- The fault of a line with this number after others. FILE is there once, TRACK 99 times, INDEX after a TRACK line, and in one
--- track its number 1 once; a start is after the one before it.
+-- The fault of a line with this number after others. FILE is there at most once, TRACK at most 99 times; INDEX is after a TRACK line, and
+-- its number 1 at most once in a track; a start is later than the one before it.
 abbrev pub fault_in : ℕ → List Entry → Entry → Option CueFault
 fault_in line before Passed = None
 fault_in line before File = line_fault (list_any is_file before) line
@@ -114,7 +114,7 @@ first_fault before (entry ∷ more) = option_or (fault_of before entry) (first_f
 
 -- ---- the cue
 
--- a start as a place: parts of 1/75 second
+-- a start as a position: in parts of 1/75 second
 abbrev pub place_at : ℕ → Place
 place_at time = Time time 75
 
@@ -136,19 +136,19 @@ cue_in entries = unless (first_fault [] entries) (some_starts (places_of entries
 unfoldable pub cue_of : List ℕ → Result (List Place) CueFault
 cue_of bytes = cue_in (entries_of bytes)
 
--- each is greater than those before it
+-- each is later than those before it
 abbrev pub IsRising : List ℕ → Type 0
 IsRising times = AllPairs (λ s t. s < t) times
 
--- places at times that rise
+-- positions at times that rise
 pub record AreStarts (places : List Place) : Type 0 where
   pub times : List ℕ
   pub all : places ≡ map place_at times
   pub rising : IsRising times
   pub sound : All IsPlace places
 
--- ---- what is left of a text
+-- ---- the lines from a place on
 
--- the lines from a place on, where a line begins there; none after the end
+-- the lines from a place on at which a line begins; none after the end
 abbrev pub entries_from : List ℕ → ℕ → List Entry
 entries_from text at = map entry_in (lines_from text at)

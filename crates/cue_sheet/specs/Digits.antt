@@ -3,7 +3,7 @@ use Rattle.std.specs.Prelude.{ℕ, ◌&&◌, nat_le, if◌then◌else◌, List, 
 use Rattle.std.specs.Str.{all_ascii_digits}
 use Rattle.std.specs.Str.Parse.{digits_value}
 
--- from `least` to `most` digits, of a number up to `greatest`
+-- the number that `least` to `most` digits spell, up to `greatest`
 unfoldable pub number_in : ℕ → ℕ → ℕ → List ℕ → Option ℕ
 number_in least most greatest digits =
     if nat_le least (length digits) && nat_le (length digits) most && all_ascii_digits digits

@@ -1,4 +1,4 @@
--- What a line of a cue sheet says by its words, whatever is before it.
+-- What a line of a cue sheet says by its words, whatever lines are before it.
 use Rattle.std.specs.Prelude.{ℕ, ◌+◌, ◌*◌, ◌==◌, ◌&&◌, nat_le, if◌then◌else◌, Bool, false, List, [], ◌∷◌, Option, Some, None, option_map, option_and_then, codes}
 use Rattle.std.specs.List.{before_first, after_first}
 use Rattle.std.specs.Str.{str_eq_ignore_ascii_case}
@@ -35,19 +35,19 @@ track_of number kind = if is_track_number number && is_word kind (codes "AUDIO")
 abbrev pub is_colon : ℕ → Bool
 is_colon byte = byte == 58
 
--- so many minutes, seconds and frames of a disc, in frames, of which a second has 75
+-- minutes, seconds and frames of a disc, all in frames, of which a second has 75
 abbrev pub disc_frames : ℕ → ℕ → ℕ → ℕ
 disc_frames minutes seconds frames = (60 * minutes + seconds) * 75 + frames
 
--- two to four digits
+-- minutes are two to four digits before the first colon
 abbrev pub minutes_in : List ℕ → Option ℕ
 minutes_in word = number_in 2 4 9999 (before_first is_colon word)
 
--- after the first colon two digits of at most 59
+-- seconds are two digits of at most 59 after it
 abbrev pub seconds_in : List ℕ → Option ℕ
 seconds_in word = number_in 2 2 59 (before_first is_colon (after_first is_colon word))
 
--- and after the second colon two digits of at most 74
+-- and frames are two digits of at most 74 after the second colon
 abbrev pub frames_in : List ℕ → Option ℕ
 frames_in word = number_in 2 2 74 (after_first is_colon (after_first is_colon word))
 

@@ -3,7 +3,7 @@ use Rattle.std.specs.Prelude.{◌≡◌, ℕ, ◌==◌, nat_le, map, ◌||◌, n
 use Rattle.std.specs.List.{slice_split}
 use Rattle.std.specs.Str.Lines.{strip_carriage_return}
 
--- a byte order mark at the front is passed over
+-- a byte order mark at the beginning is skipped
 abbrev pub without_mark : List ℕ → List ℕ
 without_mark bytes = if bytes_eq (take 3 bytes) (239 ∷ 187 ∷ 191 ∷ []) then drop 3 bytes else bytes
 
@@ -11,7 +11,7 @@ without_mark bytes = if bytes_eq (take 3 bytes) (239 ∷ 187 ∷ 191 ∷ []) the
 abbrev pub is_blank : ℕ → Bool
 is_blank byte = (byte == 32) || (byte == 9)
 
--- the words are between blanks, and at both ends
+-- the words are what is between blanks, before the first and after the last
 unfoldable pub words_of : List ℕ → List (List ℕ)
 words_of line = filter (λ word. not (length word == 0)) (slice_split is_blank line)
 
@@ -19,7 +19,7 @@ words_of line = filter (λ word. not (length word == 0)) (slice_split is_blank l
 abbrev pub HasNotTwo : List (List ℕ) → Type 0
 HasNotTwo words = length words ≡ 2 → ⊥
 
--- Lines end with 0a or at the end of the text, each except one carriage return at its end. After the last 0a stands a line without words.
+-- Lines end with 0a or at the end of the text, each without one carriage return at its end. After the last 0a there is one more line.
 abbrev pub lines_in : List ℕ → List (List ℕ)
 lines_in text = map strip_carriage_return (slice_split (λ b. b == 10) text)
 
@@ -27,6 +27,6 @@ lines_in text = map strip_carriage_return (slice_split (λ b. b == 10) text)
 abbrev pub lines_of : List ℕ → List (List ℕ)
 lines_of bytes = lines_in (without_mark bytes)
 
--- the lines from a place on, where a line begins there; none after the end
+-- the lines from a place on at which a line begins; none after the end
 abbrev pub lines_from : List ℕ → ℕ → List (List ℕ)
 lines_from text at = if nat_le at (length text) then lines_in (drop at text) else []

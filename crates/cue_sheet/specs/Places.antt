@@ -1,4 +1,4 @@
--- Places in a stream: the words that say them, as those of mp3splt, and the frames that they are before.
+-- Positions in a stream: the words that say them, as those of mp3splt, and the frames that they are before.
 use Rattle.std.specs.Prelude.{ℕ, ◌+◌, ◌*◌, ◌/◌, ◌≤◌, ◌==◌, if◌then◌else◌, Bool, List, [], ◌∷◌, length, drop, Option, Some, option_map, option_and_then, codes, bytes_eq, ⊤}
 use Rattle.std.specs.List.{before_first, after_first, position_or_len}
 use Rattle.frame_header.specs.Fields.{ClassFields}
@@ -16,7 +16,7 @@ is_dot byte = byte == 46
 abbrev pub frame_number : List ℕ → Option Place
 frame_number word = option_map Frame (number_in 1 7 9999999 word)
 
--- after the seconds stands nothing, or a dot and one or two digits
+-- after the seconds there is nothing, or a dot and one or two digits
 abbrev pub hundredths_of : List ℕ → Option ℕ
 hundredths_of [] = Some 0
 hundredths_of (dot ∷ digits) = number_in 1 2 99 digits
@@ -25,7 +25,7 @@ hundredths_of (dot ∷ digits) = number_in 1 2 99 digits
 abbrev pub time_in : ℕ → ℕ → ℕ → Place
 time_in minutes seconds hundredths = Time ((60 * minutes + seconds) * 100 + hundredths) 100
 
--- after the first dot stand the seconds, up to the next dot or the end, and then the hundredths
+-- after the first dot there are the seconds, up to the next dot or the end, and then the hundredths
 abbrev pub seconds_in : List ℕ → Option ℕ
 seconds_in rest = number_in 1 2 59 (before_first is_dot rest)
 
@@ -37,7 +37,7 @@ unfoldable pub time_of : List ℕ → List ℕ → Option Place
 time_of minutes rest =
     option_and_then (λ m. option_and_then (λ s. option_map (time_in m s) (hundredths_in rest)) (seconds_in rest)) (number_in 1 4 9999 minutes)
 
--- the place that a word says: `EOF`, a number without a dot, or a time with one
+-- the position that a word says: `EOF`, a number without a dot, or a time with one
 unfoldable pub place_of : List ℕ → Option Place
 place_of word =
     if bytes_eq word (codes "EOF") then Some End
@@ -52,7 +52,7 @@ IsPlace (Frame number) = ⊤
 IsPlace (Time time parts) = (1 ≤ parts) × (parts ≤ 100)
 IsPlace End = ⊤
 
--- the frame before which a place is: so many whole frames take no longer than the time
+-- the frame that a position is before: for a time, how many whole frames take no longer
 unfoldable pub frame_at : ClassFields → ℕ → Place → ℕ
 frame_at class frames (Frame number) = number
 frame_at class frames (Time time parts) = (time * frequency_of class) / (parts * samples_of class.version)

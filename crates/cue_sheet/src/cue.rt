@@ -18,7 +18,7 @@ struct EntryAt {
     next: usize,
 }
 
-/// The line that begins there.
+/// The line that begins at byte `at`.
 fn entry_at(text: &[u8], at: usize) -> EntryAt
     requires { at ≤ length text.now }
     ensures line { entries_from text.now at ≡ result.entry ∷ entries_from text.now result.next }
@@ -33,6 +33,9 @@ fn entry_at(text: &[u8], at: usize) -> EntryAt
 }
 
 /// Keeps the time of a line that is a start.
+///
+/// # Errors
+/// `Memory` where there is no memory.
 fn keep_start(starts: &mut Vec<Place>, entry: Entry) -> Result<(), CueFault>
     ensures kept { MatchResult result
         (λ _. starts.new.items ≡ starts.old.items ++ places_of (entry ∷ []))
@@ -72,7 +75,7 @@ fn read_lines(alloc: Global, text: &[u8]) -> Result<Vec<Place>, CueFault>
     Ok(starts)
 }
 
-/// The starts of the tracks of a cue sheet. Contracts see it as the list of these places.
+/// The starts of the tracks of a cue sheet. Contracts see it as the list of these positions.
 #[derive(Drop)]
 pub struct Cue {
     starts: Vec<Place>,
@@ -88,24 +91,26 @@ impl Model for Cue {
 }
 
 impl Cue {
-    /// Reads a cue sheet of at most 65,536 bytes, and keeps where its tracks start. A byte order mark at its front is
-    /// passed over. Lines end with a line feed or at the end of the sheet; a carriage return at a line's end is dropped.
-    /// Words are separated by spaces and tabs, and keywords are compared without ASCII case. The first word decides:
+    /// Reads a cue sheet of at most 65,536 bytes, and keeps where its tracks start. A byte order mark at
+    /// its beginning is skipped. Lines end with a line feed or at the end of the sheet; a carriage return
+    /// at a line's end is dropped. Words are separated by spaces and tabs, and keywords are compared
+    /// without ASCII case. The first word decides:
     ///
-    /// - `FILE`: the rest isn't read. It is there once;
-    /// - `TRACK`: one or two digits, from 1 to 99, and `AUDIO` follow. It stands 99 times at most. The numbers may repeat
-    ///   and fall;
-    /// - `INDEX`: one or two digits follow, and a time `mm:ss:ff` of two to four digits, two of at most 59, and two of at
-    ///   most 74, frames of 1/75 second. A `TRACK` line is before it, and number 1 is there once in a track: there
-    ///   the track starts. Each start is greater than the one before it;
+    /// - `FILE`: the rest of the line isn't read. At most one line is of this kind;
+    /// - `TRACK`: one or two digits, from 1 to 99, and `AUDIO` follow. At most 99 lines are of this kind.
+    ///   The numbers may repeat and fall;
+    /// - `INDEX`: one or two digits follow, and a time `mm:ss:ff` of two to four digits, two of at most 59,
+    ///   and two of at most 74, which count frames of 1/75 second. A `TRACK` line is before it, and at most
+    ///   one `INDEX` line of a track has number 1: there the track starts. Each start is later than the one
+    ///   before it;
     /// - any other line isn't read.
     ///
-    /// A track without an index of number 1 has no start. So there are 1 to 99 starts.
+    /// A track without an index of number 1 has no start. There are 1 to 99 starts.
     ///
     /// # Errors
-    /// The first line at fault, counted from 1: `Line` where it breaks its rule, `NotRising` where it is a start that isn't
-    /// greater than the one before it. `NoTracks` where no line is at fault and there is no start. `Memory` where there is
-    /// no memory.
+    /// The first line at fault, counted from 1: `Line` where it breaks its rule, `NotRising` where it is a
+    /// start that isn't later than the one before it. `NoTracks` where no line is at fault and there is no
+    /// start. `Memory` where there is no memory.
     #[tactic(auto, unfolding(crate::specs::Cues::cue_of))]
     pub fn read(alloc: Global, bytes: &[u8]) -> Result<Cue, CueFault>
         requires { length bytes.now ≤ 65536 }
@@ -120,7 +125,7 @@ impl Cue {
         Ok(Cue { starts })
     }
 
-    /// Where the tracks start, in their order: times in parts of 1/75 second.
+    /// Where the tracks start, in their order: positions in parts of 1/75 second.
     pub fn starts(&self) -> &[Place]
         ensures { result.now ≡ self.now }
     {

@@ -1,17 +1,17 @@
-//! Why there is no cue of a sheet.
+//! Why a cue sheet isn't read.
 ghost use Rattle.std.specs.Prelude.{◌≡◌};
 ghost use Rattle.cue_sheet.specs.declared.cue_fault.CueFault.TheVariants.{Memory};
 
 use std::alloc::{AllocError, AllocFailed};
 use thiserror::Error;
 
-/// Why there is no cue of a sheet. Lines are counted from 1.
+/// Why a cue sheet isn't read. Lines are counted from 1.
 #[derive(Clone, Copy, Debug, PartialEq, Eq, Error)]
 pub enum CueFault {
     /// This line breaks its rule.
     #[error("line {0} is not well-formed")]
     Line(u32),
-    /// The start in this line isn't after the one before it.
+    /// The start in this line isn't later than the one before it.
     #[error("the start in line {0} is not behind the one before it")]
     NotRising(u32),
     /// No line is at fault, and no track has a start.

@@ -1,10 +1,10 @@
-//! Numbers as decimal digits, and texts up to a byte.
+//! Numbers as decimal digits, and the place of a byte in a text.
 ghost use Rattle.std.specs.Prelude.{◌≡◌, ◌≤◌, ◌==◌, IfSome, length};
 ghost use Rattle.std.specs.List.{position_or_len};
 ghost use Rattle.cue_sheet.specs.Digits.{number_in};
 
-/// The number that these digits spell. `None` exactly where they are fewer than `least` or more than `most`, not all
-/// of them are digits, or the number is above `greatest`.
+/// The number that these digits spell. `None` exactly where they are fewer than `least` or more than
+/// `most`, not all of them are digits, or the number is greater than `greatest`.
 pub fn read_number(digits: &[u8], least: usize, most: usize, greatest: u32) -> Option<u32>
     requires { most ≤ 7 }
     ensures number { result ≡ number_in least most greatest digits.now }
@@ -27,7 +27,7 @@ pub fn read_number(digits: &[u8], least: usize, most: usize, greatest: u32) -> O
     }
 }
 
-/// The place of the first such byte, or the length where there is none.
+/// The place of the first byte that is this one, or the length of the text where there is none.
 pub(crate) fn place_of(text: &[u8], byte: u8) -> usize
     ensures place { result ≡ position_or_len (λ b. b == byte) text.now }
     ensures within { result ≤ length text.now }

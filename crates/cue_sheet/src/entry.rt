@@ -6,18 +6,18 @@ ghost use Rattle.cue_sheet.specs.Entries.{is_word as is_word_lem, is_track_numbe
 use crate::digits::read_number;
 use crate::words::{behind, front_of, next_word, read_pair};
 
-/// What a line says by itself.
+/// What a line says by itself, whatever lines are before it.
 #[derive(Clone, Copy)]
 pub(crate) enum Entry {
-    /// Nothing that counts.
+    /// A line that isn't read.
     Passed,
     File,
     Track,
     /// An index whose number isn't 1.
     Index,
-    /// An index with number 1, at so many parts of 1/75 second.
+    /// An index with number 1, at a time in parts of 1/75 second.
     Start(u32),
-    /// A line that breaks its rule, whatever is before it.
+    /// A line that breaks the rule of its kind.
     Broken,
 }
 
@@ -28,7 +28,7 @@ fn is_word(word: &[u8], keyword: &[u8]) -> bool
     word.eq_ignore_ascii_case(keyword)
 }
 
-/// One or two digits, of a number from 1 to 99.
+/// Whether these are one or two digits of a number from 1 to 99.
 fn is_track_number(digits: &[u8]) -> bool
     ensures { result ≡ is_track_number_lem digits.now }
 {

@@ -1,4 +1,4 @@
-//! Places in a stream.
+//! Positions in a stream.
 ghost use Rattle.std.specs.Prelude.{◌≡◌, ◌<◌, ◌≤◌, ◌^◌, IfSome};
 ghost use Rattle.cue_sheet.specs.declared.place.Place.TheVariants.{End};
 ghost use Rattle.cue_sheet.specs.Places.{place_of as place_of_lem, time_of, hundredths_of, frame_at, IsPlace};
@@ -6,13 +6,13 @@ ghost use Rattle.cue_sheet.specs.Places.{place_of as place_of_lem, time_of, hund
 use crate::digits::{place_of, read_number};
 use frame_header::Class;
 
-/// A place between the frames of a stream. Frames are counted from 0, without a head.
+/// A position: a place between the frames of a stream. Frames are counted from 0, without a head.
 #[derive(Clone, Copy, Debug, PartialEq, Eq)]
 pub enum Place {
     /// Before the frame with this number.
     Frame(u32),
-    /// So many parts of a second from the start, and how many parts a second has, from 1 to 100. It is before the
-    /// frame that is heard then.
+    /// A time after the first frame begins: so many parts of a second, and how many parts a second has,
+    /// from 1 to 100. The position is before the frame that sounds then.
     Time(u32, u32),
     /// After the last frame.
     End,
@@ -53,9 +53,10 @@ fn read_time(minutes: &[u8], rest: &[u8]) -> Option<Place>
 
 #[tactic(auto, unfolding(crate::specs::Places::frame_at, crate::specs::Places::place_of))]
 impl Place {
-    /// The place that a word says, as mp3splt writes them: `EOF`, the end; one to seven digits, a frame's number; or
-    /// one to four digits, a dot, one or two digits of at most 59, and optionally a dot and one or two digits, minutes,
-    /// seconds and hundredths of a second. A single digit counts hundredths too. `None` exactly for every other word.
+    /// The position that a word says, as mp3splt writes them: `EOF`, the end; one to seven digits, the
+    /// number of a frame; or one to four digits, a dot, one or two digits of at most 59, and optionally a
+    /// dot and one or two digits: minutes, seconds and hundredths of a second. A single digit counts
+    /// hundredths too. `None` exactly for every other word.
     pub fn read(word: &str) -> Option<Place>
         ensures place { result ≡ place_of_lem word.now }
         ensures sound { IfSome result IsPlace }
@@ -63,7 +64,7 @@ impl Place {
         Place::of_word(word.as_bytes())
     }
 
-    /// The same of a word of a sheet, whose bytes need be no text.
+    /// The same of a word of a sheet, whose bytes needn't be UTF-8.
     pub fn of_word(word: &[u8]) -> Option<Place>
         ensures place { result ≡ place_of_lem word.now }
         ensures sound { IfSome result IsPlace }
@@ -78,9 +79,9 @@ impl Place {
         read_time(&word[..end], &word[end + 1..])
     }
 
-    /// The number of the frame before which the place is, in a stream of so many frames of this class: the number
-    /// itself, the number of frames for the end, and for a time the whole frames up to it, rounded down. It may be
-    /// above the number of frames.
+    /// The number of the frame that the position is before, in a stream of so many frames of this class:
+    /// the number itself, the number of frames for the end, and for a time the number of whole frames that
+    /// take no longer. It may be greater than the number of frames.
     pub fn frame_of(&self, class: Class, frames: u32) -> u64
         requires { IsPlace self.now }
         ensures frame { result ≡ frame_at class frames self.now }

@@ -9,7 +9,7 @@ use crate::entry::Entry;
 /// What the lines so far say together.
 #[derive(Clone, Copy)]
 pub(crate) struct Seen {
-    /// How many they are.
+    /// How many lines there were.
     lines: u32,
     /// Whether a FILE line is among them.
     file: bool,
@@ -21,14 +21,14 @@ pub(crate) struct Seen {
     last: Option<u32>,
 }
 
-/// A fault of this line, where it is one.
+/// A fault of this line, or none.
 fn line_fault(is: bool, line: u32) -> Option<CueFault>
     ensures { result ≡ line_fault_lem is line }
 {
     if is { Some(CueFault::Line(line)) } else { None }
 }
 
-/// Whether a start is greater than the one before it.
+/// Whether a start is later than the one before it.
 fn is_rising(last: Option<u32>, time: u32) -> bool
     ensures { result ≡ is_behind last time }
 {
@@ -39,7 +39,7 @@ fn is_rising(last: Option<u32>, time: u32) -> bool
 }
 
 impl Seen {
-    /// Of no lines.
+    /// Before the first line.
     pub(crate) fn new() -> Seen
         ensures seen { IsSeen [] result }
         ensures none { result.lines ≡ 0 }
@@ -54,7 +54,7 @@ impl Seen {
         }
     }
 
-    /// The fault of the next line.
+    /// The fault of the next line, or `None`.
     #[tactic(auto, unfolding(crate::specs::Cues::fault_of))]
     pub(crate) fn fault(self, entry: Entry) -> Option<CueFault>
         requires { self.lines < 65537 }
@@ -73,7 +73,7 @@ impl Seen {
         }
     }
 
-    /// Of these lines and the next.
+    /// What the lines say together with the next one.
     pub(crate) fn behind(self, entry: Entry) -> Seen
         requires lines { self.lines < 65537 }
         requires tracks { self.tracks ≤ self.lines }

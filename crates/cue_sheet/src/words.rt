@@ -13,7 +13,7 @@ pub struct LineAt<'a> {
     pub next: usize,
 }
 
-/// The line that begins there. Lines end with a line feed or at the end of the text.
+/// The line that begins at byte `at`. Lines end with a line feed or at the end of the text.
 pub fn line_at(text: &[u8], at: usize) -> LineAt<'_>
     requires { at ≤ length text.now }
     ensures line { lines_from text.now at ≡ result.line.now ∷ lines_from text.now result.next }
@@ -27,7 +27,7 @@ pub fn line_at(text: &[u8], at: usize) -> LineAt<'_>
     }
 }
 
-/// The bytes without a byte order mark at their front.
+/// The bytes without a byte order mark at their beginning.
 pub fn without_mark(bytes: &[u8]) -> &[u8]
     ensures { result.now ≡ without_mark_lem bytes.now }
 {
@@ -37,14 +37,14 @@ pub fn without_mark(bytes: &[u8]) -> &[u8]
     }
 }
 
-/// What is before the first such byte, or all of it where there is none.
+/// What is before the first byte that is this one, or all of the text where there is none.
 pub(crate) fn front_of(text: &[u8], byte: u8) -> &[u8]
     ensures { result.now ≡ before_first (λ b. b == byte) text.now }
 {
     &text[..place_of(text, byte)]
 }
 
-/// What is after the first such byte, or nothing where there is none.
+/// What is after the first byte that is this one, or nothing where there is none.
 pub(crate) fn behind(text: &[u8], byte: u8) -> &[u8]
     ensures { result.now ≡ after_first (λ b. b == byte) text.now }
 {
@@ -71,7 +71,7 @@ fn is_blank(byte: u8) -> bool
     byte == b' ' || byte == b'\t'
 }
 
-/// How many blanks are at the front.
+/// With how many blanks the text begins.
 fn blanks(text: &[u8]) -> usize
     ensures blanks { result ≡ prefix_len is_blank_lem text.now }
     ensures within { result ≤ length text.now }

@@ -195,14 +195,14 @@ first_kept frame points xs ys q parted all there =
 
 -- ---- so many points of rising ones are up to a frame
 
--- where the last of them is
+-- if the last of them is, all are
 pub all_up_to : (frame : ℕ) (points : List Point) (count : ℕ) (e : Point) → IsNonDecreasingBy (λ p. p.frame) points → count ≤ length points → 0 < count → up_to frame (get_or points (count - 1) e) ≡ true
     → AllWithin (λ p. nat_le p.frame frame ≡ true) points 0 count
 all_up_to frame points count e rising within some last k d from below =
     let same : (get_or points (count - 1) e).frame ≡ (get_or points (count - 1) d).frame = ap (λ (p : Point). p.frame) (get_or_default points (count - 1) e d (omega (arith, within, some))) in
     le-leb (get_or points k d).frame frame (omega (arith, rising k (count - 1) d (omega (arith, below)) (omega (arith, within, some)), leb-true _ _ last, same))
 
--- and the others aren't, where the first of them isn't
+-- and the others aren't, if the first of them isn't
 pub all_behind : (frame : ℕ) (points : List Point) (count : ℕ) (e : Point) → IsNonDecreasingBy (λ p. p.frame) points → count < length points → behind frame (get_or points count e) ≡ true
     → AllWithin (λ p. nat_le p.frame frame ≡ false) points count (length points)
 all_behind frame points count e rising within first k d from below =

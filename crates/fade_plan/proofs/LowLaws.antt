@@ -58,7 +58,7 @@ placed_of class frames (p ∷ []) = refl
 placed_of class frames (p ∷ q ∷ more) =
     ap (λ o. cond (nat_lt (placed class frames p).frame (placed class frames q).frame) o (Some q.line)) (placed_of class frames (q ∷ more))
 
--- what doesn't rise at its frames doesn't rise
+-- the first line that doesn't rise is the same by the points' frames and by their positions
 pub low_placed : (class : ClassFields) (frames : ℕ) (xs : List Point) → first_low (map (placed class frames) xs) ≡ not_rising class frames (map in_envelope xs)
 low_placed class frames xs = placed_of class frames xs
 

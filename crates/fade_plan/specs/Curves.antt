@@ -48,7 +48,7 @@ abbrev pub steps_between : CurvePoint → CurvePoint → ℕ → ℤ
 steps_between p q frame =
     int_div ((p.steps *ℤ pos (q.frame - frame)) +ℤ (q.steps *ℤ pos (frame - p.frame))) (pos (q.frame - p.frame))
 
--- before the first point there are its steps, and from the last point's frame on those of the last
+-- before the first point the steps are those of the first, and from the last point's frame on those of the last
 abbrev pub steps_by : Option CurvePoint → Option CurvePoint → ℕ → ℤ
 steps_by None None frame = pos 0
 steps_by None (Some q) frame = q.steps

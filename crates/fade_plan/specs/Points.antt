@@ -1,4 +1,4 @@
--- The points of an envelope and of its curve, as they are kept together.
+-- The points of an envelope and of its curve, which the code keeps in one list.
 use Rattle.std.specs.Prelude.{ℕ, ◌<◌, ◌^◌, nat_lt, if◌then◌else◌, List, [], ◌∷◌, Option, Some, None}
 use Rattle.frame_header.specs.Fields.{ClassFields}
 use Rattle.cue_sheet.specs.Places.{frame_at}
@@ -13,7 +13,7 @@ in_envelope point = record { line = point.line; place = point.place; steps = poi
 abbrev pub in_curve : Point → CurvePoint
 in_curve point = record { frame = point.frame; steps = point.steps }
 
--- every point that is kept, whether its frame is known or still 0
+-- the bounds of every point that is kept, whether its frame is known or still 0
 pub record IsKept (point : Point) : Type 0 where
   pub sound : IsPoint point.place point.steps
   pub frame : point.frame < 2 ^ 48

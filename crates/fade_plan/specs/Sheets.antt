@@ -9,7 +9,7 @@ use Rattle.fade_plan.specs.declared.entry.Entry.TheVariants.{Passed, At, Broken}
 use Rattle.fade_plan.specs.declared.envelope_fault.EnvelopeFault.{EnvelopeFault}
 use Rattle.fade_plan.specs.declared.envelope_fault.EnvelopeFault.TheVariants.{Line, NoPoints}
 
--- a point of gain: the line in which it stands, counted from 1, its place, and its steps
+-- a point of gain: the line that it is in, counted from 1, its position, and its steps
 pub record EnvelopePoint : Type 0 where
   pub line : ℕ
   pub place : Place
@@ -21,7 +21,7 @@ pub record EnvelopePoint : Type 0 where
 abbrev pub size_in : List ℕ → Option ℤ
 size_in digits = option_map pos (number_in 1 3 255 digits)
 
--- such digits after `+` or `-` or alone
+-- such digits, after `+` or `-` or alone
 abbrev pub steps_in : List ℕ → Option ℤ
 steps_in [] = None
 steps_in (first ∷ rest) =
@@ -39,14 +39,14 @@ point_with None steps = Broken
 point_with (Some place) None = Broken
 point_with (Some place) (Some steps) = At place steps
 
--- exactly two words, a place and steps
+-- exactly two words, a position and steps
 abbrev pub point_of : List (List ℕ) → Entry
 point_of [] = Broken
 point_of (place ∷ []) = Broken
 point_of (place ∷ steps ∷ []) = point_with (place_of place) (steps_in steps)
 point_of (place ∷ steps ∷ third ∷ more) = Broken
 
--- what a line says by its words: a comment and a line without words are passed, every other is a point
+-- what a line says by its words: a comment and a line without words are skipped, every other is a point
 unfoldable pub entry_of : List (List ℕ) → Entry
 entry_of [] = Passed
 entry_of (first ∷ rest) = if is_comment first then Passed else point_of (first ∷ rest)
@@ -68,7 +68,7 @@ is_point Passed = false
 is_point (At place steps) = true
 is_point Broken = false
 
--- after so many points a line is at fault where it is none, or one too many: a sheet has at most 1,000
+-- after so many points a line is at fault if it breaks its rule or is one point too many: a sheet has at most 1,000
 abbrev pub is_at_fault : ℕ → Entry → Bool
 is_at_fault points Passed = false
 is_at_fault points (At place steps) = nat_le 1000 points
@@ -109,11 +109,11 @@ envelope_in entries = unless (first_fault [] entries) (some_points (points_from 
 unfoldable pub envelope_of : List ℕ → Result (List EnvelopePoint) EnvelopeFault
 envelope_of bytes = envelope_in (entries_of bytes)
 
--- a place of a word, and steps from -255 to 255
+-- a position that a word can say, and steps from -255 to 255
 abbrev pub IsPoint : Place → ℤ → Type 0
 IsPoint place steps = IsPlace place × (unsigned_abs steps ≤ 255)
 
--- what a line says is a point that can be, where it is one
+-- if a line is a point, its position and its steps are legal
 abbrev pub IsEntry : Entry → Type 0
 IsEntry Passed = Unit {0}
 IsEntry (At place steps) = IsPoint place steps

@@ -19,7 +19,7 @@ fn count_up_to(points: &[Point], frame: u64) -> usize
     points.partition_point(|point| point.frame <= frame)
 }
 
-/// Whether so many points in front are all at or before the frame.
+/// Whether the first `count` points are all at or before the frame.
 fn are_up_to(points: &[Point], frame: u64, count: usize) -> bool
     requires rising { IsNonDecreasingBy (λ point. point.frame) points.now }
     requires within { count ≤ length points.now }
@@ -32,7 +32,7 @@ fn are_up_to(points: &[Point], frame: u64, count: usize) -> bool
     points[count - 1].frame <= frame
 }
 
-/// Whether all others are after it.
+/// Whether all points after the first `count` are after the frame.
 fn are_behind(points: &[Point], frame: u64, count: usize) -> bool
     requires rising { IsNonDecreasingBy (λ point. point.frame) points.now }
     requires within { count ≤ length points.now }
@@ -45,7 +45,8 @@ fn are_behind(points: &[Point], frame: u64, count: usize) -> bool
     frame < points[count].frame
 }
 
-/// How many points are at or before the frame. As many as `near` are tried first, which saves the search where they are.
+/// How many points are at or before the frame. `near` is tried first, which saves the search where it is
+/// right.
 #[inline]
 fn count_near(points: &[Point], frame: u64, near: usize) -> usize
     requires { IsNonDecreasingBy (λ point. point.frame) points.now }
@@ -61,7 +62,7 @@ fn count_near(points: &[Point], frame: u64, near: usize) -> usize
     }
 }
 
-/// Steps times so many frames.
+/// Steps times frames.
 fn weighted(steps: i16, frames: u64) -> i64
     requires small { unsigned_abs steps ≤ 255 }
     requires few { frames < 2 ^ 48 }
@@ -70,7 +71,7 @@ fn weighted(steps: i16, frames: u64) -> i64
     i64::from(steps) * frames as i64
 }
 
-/// Such a sum divided by so many frames, rounded toward zero.
+/// A sum of steps times frames, divided by the number of all the frames, and rounded toward zero.
 fn even(sum: i64, frames: u64) -> i16
     requires some { 0 < frames }
     requires few { frames < 2 ^ 48 }
@@ -81,7 +82,7 @@ fn even(sum: i64, frames: u64) -> i16
     (sum / frames as i64) as i16
 }
 
-/// The steps of a frame that is not before the one point, but before the other.
+/// The steps of a frame that is at or after one point and before another.
 fn steps_of_both(before: &Point, behind: &Point, frame: u64) -> i16
     requires kept { IsKept before.now }
     requires behind_kept { IsKept behind.now }
@@ -95,7 +96,7 @@ fn steps_of_both(before: &Point, behind: &Point, frame: u64) -> i16
     even(left + passed, behind.frame - before.frame)
 }
 
-/// The steps of a frame, with so many points at or before it.
+/// The steps of a frame, where `count` points are at or before it.
 #[inline]
 fn steps_at(points: &[Point], frame: u64, count: usize) -> i16
     requires kept { All IsKept points.now }
@@ -115,7 +116,8 @@ fn steps_at(points: &[Point], frame: u64, count: usize) -> i16
     }
 }
 
-/// The steps of every frame of a stream. Contracts see it as the list of its points: frame and steps.
+/// By how many steps of 1.5 dB the gains of each frame of a stream move. Contracts see it as the list of
+/// its points: frame and steps.
 #[derive(Drop)]
 pub struct Curve {
     points: Vec<Point>,
@@ -138,7 +140,7 @@ impl Model for Curve {
 }
 
 impl Curve {
-    /// Of points whose frames are known and rise.
+    /// The curve of points whose frames are known and rise.
     pub(crate) fn of(points: Vec<Point>) -> Curve
         requires kept { All IsKept points.items }
         requires rising { IsNonDecreasingBy (λ point. point.frame) points.items }
@@ -147,9 +149,10 @@ impl Curve {
         Curve { points }
     }
 
-    /// By how many steps of 1.5 dB the gains of this frame move: before the first point by its steps, from the last
-    /// point's frame on by those of the last, and between two points evenly from the one to the other, rounded toward
-    /// zero. Back, the steps have the opposite sign. Takes no memory.
+    /// By how many steps of 1.5 dB the gains of this frame move, from -255 to 255: before the first point
+    /// by its steps, from the last point's frame on by those of the last, and between two points evenly
+    /// from the one to the other, rounded toward zero. With `back` the steps have the opposite sign. It
+    /// takes no memory.
     pub fn steps(&self, frame: u32, back: bool) -> i16
         ensures steps { result ≡ steps_back back (steps_at_lem self.now frame) }
         ensures most { unsigned_abs result ≤ 255 }
@@ -157,8 +160,9 @@ impl Curve {
         self.steps_near(frame, back, &mut 0)
     }
 
-    /// The same, sooner for frames one after another: `near` is how many points were at or before the last one that was
-    /// asked for, and becomes that of this frame. With any other number the steps are the same.
+    /// The same, faster for frames one after another: `near` is how many points were at or before the frame
+    /// that was asked for last, and becomes that number for this one. With any other number the steps are
+    /// the same.
     #[inline]
     pub fn steps_near(&self, frame: u32, back: bool, near: &mut usize) -> i16
         ensures steps { result ≡ steps_back back (steps_at_lem self.now frame) }

@@ -11,9 +11,9 @@ use cue_sheet::words::{next_word, read_pair};
 /// What a line says by itself.
 #[derive(Clone, Copy)]
 pub(crate) enum Entry {
-    /// Nothing that counts.
+    /// A line without words, or a comment.
     Passed,
-    /// A point: its place, and its steps.
+    /// A point: its position, and its steps.
     At(Place, i16),
     /// A line that breaks its rule.
     Broken,
@@ -28,7 +28,7 @@ fn read_size(digits: &[u8]) -> Option<i16>
     Some(size as i16)
 }
 
-/// Such digits after `+` or `-` or alone.
+/// Such digits, after `+` or `-` or alone.
 #[tactic(auto, unfolding(cue_sheet::specs::Digits::number_in))]
 fn read_steps(word: &[u8]) -> Option<i16>
     ensures steps { result ≡ steps_in word.now }
@@ -47,7 +47,7 @@ fn is_comment(word: &[u8]) -> bool
     matches!(word, [b'#', ..])
 }
 
-/// A line that is a point: a place and steps.
+/// A line that is a point: a position and steps.
 fn read_point(line: &[u8]) -> Entry
     ensures point { result ≡ point_of (words_of line.now) }
     ensures sound { IsEntry result }

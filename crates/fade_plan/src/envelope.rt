@@ -25,7 +25,7 @@ struct EntryAt {
     next: usize,
 }
 
-/// The line that begins there.
+/// The line that begins at byte `at`.
 fn entry_at(text: &[u8], at: usize) -> EntryAt
     requires { at ≤ length text.now }
     ensures line { entries_from text.now at ≡ result.entry ∷ entries_from text.now result.next }
@@ -51,7 +51,10 @@ fn is_at_fault(points: usize, entry: Entry) -> bool
     }
 }
 
-/// Keeps the point of a line that has one.
+/// Keeps the point of a line that is one.
+///
+/// # Errors
+/// `Memory` where there is no memory.
 fn keep(points: &mut Vec<Point>, line: u32, entry: Entry) -> Result<(), EnvelopeFault>
     requires sound { IsEntry entry }
     requires kept { All IsKept points.old.items }
@@ -98,7 +101,8 @@ fn read_points(alloc: Global, text: &[u8]) -> Result<Vec<Point>, EnvelopeFault>
     Ok(points)
 }
 
-/// The points of gain that a sheet lists. Contracts see it as the list of these points: line, place and steps.
+/// The points of gain that a sheet lists. Contracts see it as the list of these points: line, position and
+/// steps.
 #[derive(Drop)]
 pub struct Envelope {
     points: Vec<Point>,
@@ -118,15 +122,17 @@ impl Model for Envelope {
 }
 
 impl Envelope {
-    /// Reads a sheet of at most 65,536 bytes. A byte order mark at its front is passed over. Lines end with a line feed or
-    /// at the end of the sheet; a carriage return at a line's end is dropped. Words are separated by spaces and tabs. A
-    /// line without words, or whose first word begins with `#`, is passed over. Every other line has exactly two words
-    /// and is a point: a place, as `Place::read` takes it, and steps of 1.5 dB, an optional `+` or `-` and one to three
-    /// digits, from -255 to 255. There are 1 to 1,000 points.
+    /// Reads a sheet of at most 65,536 bytes. A byte order mark at its beginning is skipped. Lines end with
+    /// a line feed or at the end of the sheet; a carriage return at a line's end is dropped. Words are
+    /// separated by spaces and tabs. A line without words, or whose first word begins with `#`, is skipped.
+    /// Every other line has exactly two words and is a point: a position, as `Place::read` takes it, and
+    /// steps of 1.5 dB, which are an optional `+` or `-` and one to three digits, from -255 to 255. There
+    /// are 1 to 1,000 points.
     ///
     /// # Errors
-    /// `Line` with the first line that is neither passed over nor a point, or is the 1,001st point, counted from 1.
-    /// `NoPoints` where no line is at fault and there is no point. `Memory` where there is no memory.
+    /// `Line` with the first line, counted from 1, that is neither skipped nor a point, or is the 1,001st
+    /// point. `NoPoints` where no line is at fault and there is no point. `Memory` where there is no
+    /// memory.
     #[tactic(auto, unfolding(crate::specs::Sheets::envelope_of))]
     pub fn read(alloc: Global, bytes: &[u8]) -> Result<Envelope, EnvelopeFault>
         requires { length bytes.now ≤ 65536 }
@@ -138,7 +144,7 @@ impl Envelope {
         Ok(Envelope { points })
     }
 
-    /// The curve over a stream of so many frames of this class. Takes no memory.
+    /// The curve over a stream of so many frames of this class. It takes no memory.
     ///
     /// # Errors
     /// The line of the first point whose frame isn't greater than that of the point before.

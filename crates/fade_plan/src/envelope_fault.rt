@@ -1,14 +1,14 @@
-//! Why there is no envelope of a sheet.
+//! Why a sheet isn't read.
 ghost use Rattle.std.specs.Prelude.{◌≡◌};
 ghost use Rattle.fade_plan.specs.declared.envelope_fault.EnvelopeFault.TheVariants.{Memory};
 
 use std::alloc::{AllocError, AllocFailed};
 use thiserror::Error;
 
-/// Why there is no envelope of a sheet. Lines are counted from 1.
+/// Why a sheet isn't read. Lines are counted from 1.
 #[derive(Clone, Copy, Debug, PartialEq, Eq, Error)]
 pub enum EnvelopeFault {
-    /// This line is neither passed nor a point, or it is a point too many.
+    /// This line is neither skipped nor a point, or it is a point too many.
     #[error("line {0} is not well-formed")]
     Line(u32),
     /// No line is at fault, and there is no point.

@@ -7,19 +7,19 @@ ghost use Rattle.fade_plan.specs.Points.{IsKept, placed, first_low as first_low_
 use cue_sheet::Place;
 use frame_header::Class;
 
-/// A point, with room for its frame.
+/// A point, and the frame that its position is before.
 #[derive(Clone, Copy)]
 pub(crate) struct Point {
-    /// The frame before which the place is, once that is known.
+    /// The frame that the position is before, 0 until it is known.
     pub(crate) frame: u64,
     pub(crate) place: Place,
-    /// The line in which it stands, counted from 1.
+    /// The line that it is in, counted from 1.
     pub(crate) line: u32,
     /// Steps of 1.5 dB, from -255 to 255.
     pub(crate) steps: i16,
 }
 
-/// As many steps the other way.
+/// The steps with the opposite sign.
 pub(crate) fn opposite(steps: i16) -> i16
     requires { unsigned_abs steps ≤ 255 }
     ensures steps { result ≡ neg_ℤ steps }

@@ -1,4 +1,4 @@
--- What a buffer in front of a file, or of a sink, passed on to it.
+-- What a buffer before a file, or before a sink, passed on to it.
 use Rattle.std.specs.Prelude.{◌≡◌, ℕ, ◌≤◌, List, ◌++◌, length, take}
 use Rattle.outside.specs.Files.{Files, Sent, appended, sent_more}
 
@@ -14,7 +14,7 @@ pub record AppendedPrefix (name bytes : List ℕ) (old new : Files) : Type 0 whe
   pub within : count ≤ length bytes
   pub files : new ≡ appended old name (take count bytes)
 
--- ---- the same of a buffer in front of a sink
+-- ---- the same of a buffer before a sink
 
 -- `before` waited, and now its end `after` waits; what is before that end was sent
 pub record SentOn (before after : List ℕ) (old new : Sent) : Type 0 where

@@ -13,7 +13,7 @@ use std::marker::Model;
 // How many bytes may wait.
 const SIZE: usize = 65_536;
 
-/// A buffer of 65,536 bytes in front of a sink, each write of which may be dear: that of standard output is
+/// A buffer of 65,536 bytes before a sink, each write of which may cost much: that to standard output is
 /// followed by a flush. Contracts see it as the bytes that wait.
 #[derive(Drop)]
 pub struct SendBuffer {

@@ -12,7 +12,7 @@ use std::marker::Model;
 // How many bytes may wait.
 const SIZE: usize = 65_536;
 
-/// A buffer of 65,536 bytes in front of one file. Contracts see it as the bytes that wait.
+/// A buffer of 65,536 bytes before one file. Contracts see it as the bytes that wait.
 #[derive(Drop)]
 pub struct WriteBuffer {
     room: Vec<u8>,

@@ -1,4 +1,4 @@
--- The line stands up to the first line feed.
+-- The line ends at the first line feed.
 use Rattle.std.proofs.Common.{◌+◌, ◌∷◌, length, sym, ap, ◌∙◌}
 use Rattle.std.specs.List.{before_first}
 use Rattle.std.specs.Bool.{◌==◌}

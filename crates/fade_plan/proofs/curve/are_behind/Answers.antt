@@ -1,4 +1,4 @@
--- The first of them is.
+-- If the first of them is after the frame, all are.
 use Rattle.std.proofs.Common.{arith}
 use Rattle.fade_plan.proofs.CurveLaws.{all_behind}
 use Rattle.fade_plan.proofs.curve.are_behind.Goals as goal

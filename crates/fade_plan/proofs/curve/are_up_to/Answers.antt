@@ -1,4 +1,4 @@
--- The last of them is.
+-- If the last of them is up to the frame, all are.
 use Rattle.std.proofs.Common.{arith}
 use Rattle.fade_plan.proofs.CurveLaws.{all_up_to}
 use Rattle.fade_plan.proofs.curve.are_up_to.Goals as goal
