@@ -158,7 +158,7 @@ not_behind-before (m ∷ ms) [] is = absurd is
 not_behind-before (m ∷ ms) (n ∷ ns) (inl less) = later n m (comes_before ns ms) less
 not_behind-before (m ∷ ms) (n ∷ ns) (inr at) = same n m (comes_before ns ms) at.0 (not_behind-before ms ns at.1)
 
--- no list is after itself, and what isn't after one that isn't after a third isn't after that
+-- no list is after itself, and what is not after a second list is not after a third that the second is not after
 not_behind-self : (ns : List ℕ) → IsNotBehind ns ns
 unfolding IsNotBehind
 not_behind-self [] = tt

@@ -54,7 +54,7 @@ can-sum window choices needs sums places table some =
     let found = (table-sums window choices needs sums places table 0 (omega arith)).some some in
     (found.0, found.1, laid-fits window 0 (frames_of (opens_in choices needs) found.0) (omega arith) found.2)
 
--- and where it has none, they can't
+-- and if it has none, they can't
 pub cannot-sum : (window : ℕ) (choices : HeaderFields → List SlotFields) (needs : List Need) (sums places : List ℕ) → length needs ≤ 200000 → IsTable window choices needs sums places → nothing ≤ get_or sums 0 0 → CanBeLaid window (opens_in choices needs) → ⊥
 unfolding CanBeLaid
 cannot-sum window choices needs sums places few table none can =

@@ -1,4 +1,5 @@
--- Over lists of numbers: the sums of a table are the least of all lists that fit, and the first of the areas that have them is the first in order.
+-- Over lists of numbers: the sums of a table are the least of all lists that fit, and the first areas that have them are the
+-- lexicographically least list.
 use Rattle.std.proofs.Common.{◌≡◌, ℕ, ◌+◌, ◌*◌, ◌<◌, ◌≤◌, ◌⊎◌, inl, inr, List, [], ◌∷◌, map, length, get_or, Contains, fold, sum, refl, sym, ap, ◌∙◌, subst, arith}
 use Rattle.std.proofs.lemmas.Bool.{cases_lt}
 use Rattle.std.proofs.lemmas.List.{get_or_default}
@@ -64,7 +65,7 @@ least-more window free o opens later cost place is behind (area ∷ others) chos
     subst (λ n. o.bytes ≤ free + n → cost ≤ sum_with window free o.bytes later n) (placed-at o.areas area chosen.0) (is.least chosen.0.0 chosen.0.1) fit.0 in
     omega (arith, here, rest, sum-cons area others)
 
--- one frame more in front
+-- one frame more before the others
 pub more-sums : (window free : ℕ) (o : Open) (opens : List Open) (later : List ℕ) (cost place : ℕ) → IsChoice window free o.bytes o.areas later cost place
     → ((left : ℕ) → left ≤ window → IsLeastSum window left opens (get_or later left 0)) → IsLeastSum window free (o ∷ opens) cost
 unfolding AreChosen AllFit frames_of
@@ -147,7 +148,7 @@ place-before ns j k ascend within here less =
           ]
     ]
 
--- no other list of that sum has a lesser area in front
+-- no other list of that sum begins with a smaller area
 not-before : (window free : ℕ) (o : Open) (opens : List Open) (later : List ℕ) (cost place area other : ℕ) (others : List ℕ) → Ascend o.areas → IsChoice window free o.bytes o.areas later cost place → cost < nothing
     → ((left : ℕ) → left ≤ window → IsLeastSum window left opens (get_or later left 0)) → get_or o.areas place 0 ≡ area → Contains o.areas other → o.bytes ≤ free + other
     → AreChosen opens others → AllFit window (free_behind window free o.bytes other) (frames_of opens others) → other + sum others ≡ cost → other < area → ⊥

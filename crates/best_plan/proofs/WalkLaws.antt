@@ -48,7 +48,7 @@ pub walked-none : (window free : ℕ) → IsWalked window free [] []
 unfolding AreFor areas_in frames_of frees_of
 walked-none window free = record { slots = tt; list = first-none window free; begins = refl }
 
--- one frame more in front
+-- one frame more before the others
 pub walked-more : (window free : ℕ) (item : Item) (items : List Item) (p : Placed) (placed : List Placed) (later : List ℕ) (cost place : ℕ) → Ascend (areas_with item.class item.protected item.choices)
     → IsChoice window free item.bytes (areas_with item.class item.protected item.choices) later cost place → cost < nothing → ((left : ℕ) → left ≤ window → IsLeastSum window left (map open_of items) (get_or later left 0))
     → area_in item p.slot ≡ get_or (areas_with item.class item.protected item.choices) place 0 → Contains item.choices p.slot → p.lead_in ≡ item.lead_in → p.begin ≡ free

@@ -1,4 +1,4 @@
--- The shortest packing: of the lists that have a layout the one with the least sum of areas, and of several the first in order.
+-- The shortest packing: of the lists that have a layout, the one with the least sum of areas, and of several the lexicographically least.
 use Rattle.std.specs.Prelude.{◌≡◌, ℕ, ◌≤◌, ◌↔◌, Bool, true, false, List, [], ◌∷◌, map, sum}
 use Rattle.frame_header.specs.Fields.{SlotFields, HeaderFields}
 use Rattle.frame_header.specs.Tables.{class_of}
@@ -17,19 +17,19 @@ pub record IsShortest (window free : ℕ) (opens : List Open) (areas : List ℕ)
   pub shortest : (others : List ℕ) → AreChosen opens others → IsFeasible window free (frames_of opens others) → sum areas ≤ sum others
   pub first : (others : List ℕ) → AreChosen opens others → IsFeasible window free (frames_of opens others) → sum others ≡ sum areas → IsNotBehind areas others
 
--- what is where these frames were to be placed, laid as early as may be
+-- these items in the slots of the best list, their main data as early as they may be
 pub record IsBestFor (window free : ℕ) (items : List Item) (placed : List Placed) : Type 0 where
   pub slots : AreFor items placed
   pub best : IsShortest window free (map open_of items) (areas_in items placed)
   pub begins : map (λ p. p.begin) placed ≡ begins_of window 0 free (frames_of (map open_of items) (areas_in items placed))
 
--- the frames of a part, where it has one after a lead-in of any slot
+-- the frames of a part, after a lead-in of any slot if there is one
 unfoldable pub items_behind : Bool → (HeaderFields → List SlotFields) → List Need → List Item
 items_behind false choices needs = map (item_of choices) needs
 items_behind true choices [] = []
 items_behind true choices (first ∷ needs) = lead_in_of (class_of first.header) all_slots ∷ map (item_of choices) (first ∷ needs)
 
--- The best plan of a part: with a lead-in where its frames have no layout without one, the shortest list with so many lead-ins.
+-- The best plan of a part: it has a lead-in exactly if its frames have no layout without one, and is the shortest list with or without it.
 pub record IsBestPlan (window : ℕ) (choices : HeaderFields → List SlotFields) (needs : List Need) (placed : List Placed) : Type 0 where
   pub lead_in : Bool
   pub without : (lead_in ≡ false) ↔ CanBeLaid window (map open_of (map (item_of choices) needs))

@@ -1,5 +1,5 @@
--- The best plan as a function: of all lists of slots from the choices whose main data have room, laid as early as may be, the one with the least sum of areas, and of several the
--- lexicographically least.
+-- The best plan as a function: of all lists of slots from the choices whose main data have room, laid as early as they may be, the one with
+-- the least sum of areas, and of several the lexicographically least.
 use Rattle.std.specs.Prelude.{ℕ, ◌+◌, ◌==◌, ◌&&◌, ◌||◌, ltb, leb, if◌then◌else◌, Bool, true, false, List, [], ◌∷◌, map, flat_map, sum, Option, Some, None}
 use Rattle.frame_header.specs.Fields.{SlotFields, HeaderFields}
 use Rattle.slot_plan.specs.declared.needs.Need.{Need}
@@ -39,7 +39,7 @@ unfoldable pub cheapest : List Item → List (List Placed) → Option (List Plac
 cheapest items [] = None
 cheapest items (placed ∷ plans) = Some (better_of items placed (cheapest items plans))
 
--- the best plan of these items, where there is one
+-- the best plan of these items, if there is one
 abbrev pub best_of : ℕ → ℕ → List Item → Option (List Placed)
 best_of window free items = cheapest items (plans_of window free items)
 
@@ -47,6 +47,6 @@ abbrev pub or_behind : Option (List Placed) → Option (List Placed) → Option 
 or_behind (Some placed) behind = Some placed
 or_behind None behind = behind
 
--- the best plan of a part: without a lead-in where there is one without, else after one
+-- the best plan of a part: the one without a lead-in if there is one, else the one after a lead-in
 abbrev pub best_plan_of : ℕ → (HeaderFields → List SlotFields) → List Need → Option (List Placed)
 best_plan_of window choices needs = or_behind (best_of window 0 (items_behind false choices needs)) (best_of window 0 (items_behind true choices needs))

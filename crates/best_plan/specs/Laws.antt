@@ -9,14 +9,14 @@ use Rattle.slot_plan.specs.Laws.{ChooseInOrder}
 use Rattle.best_plan.specs.Best.{items_behind, IsBestPlan}
 use Rattle.best_plan.specs.BestOf.{best_plan_of}
 
--- The best plan of a part has a lead-in exactly where its plan has one, and no more bytes of areas.
+-- The best plan of a part has a lead-in exactly if its plan has one, and no more bytes of areas.
 abbrev pub BestIsShortest : Type 0
 BestIsShortest =
     (window : ℕ) (choices : HeaderFields → List SlotFields) (needs : List Need) (placed best : List Placed) (plan : IsPlan window choices (needs ∷ []) placed) (is : IsBestPlan window choices needs best)
     → ((is.lead_in ≡ false) ↔ (plan.lead_ins ≡ None ∷ []))
     × (sum (areas_in (items_behind is.lead_in choices needs) best) ≤ sum (areas_in (whole_of choices (needs ∷ []) plan.lead_ins) placed))
 
--- Where a part has a plan it has a best plan.
+-- If a part has a plan, it has a best plan.
 abbrev pub BestExists : Type 0
 BestExists =
     (window : ℕ) (choices : HeaderFields → List SlotFields) (needs : List Need) (placed : List Placed) → IsPlan window choices (needs ∷ []) placed

@@ -1,8 +1,9 @@
--- How `best` goes about it: for each frame and each number of free bytes before it, the least sum of the areas from it on, and the first area that has it.
+-- How `best` works: for each frame and each number of free bytes before it, the least sum of the areas from it on, and the first area that
+-- has it.
 use Rattle.std.specs.Prelude.{◌≡◌, ℕ, ◌+◌, ◌-◌, ◌<◌, ◌≤◌, List, ◌++◌, length, slice_index}
 use Rattle.slot_plan.specs.Reserve.{free_behind}
 
--- the sum where nothing fits, above all others
+-- the sum if nothing fits, greater than all others
 abbrev pub nothing : ℕ
 nothing = 4294967295
 
@@ -10,7 +11,7 @@ nothing = 4294967295
 abbrev pub sum_with : ℕ → ℕ → ℕ → List ℕ → ℕ → ℕ
 sum_with window free bytes later area = area + slice_index later (free_behind window free bytes area)
 
--- that sum, or nothing where the main data don't fit
+-- that sum, or `nothing` if the main data don't fit
 pub record IsSum (window free bytes area : ℕ) (later : List ℕ) (cost : ℕ) : Type 0 where
   pub least : bytes ≤ free + area → cost ≤ sum_with window free bytes later area
   pub fits : cost < nothing → bytes ≤ free + area
@@ -36,12 +37,12 @@ pub record AppendsRow (window bytes : ℕ) (areas later row old new : List ℕ) 
   pub appended : new ≡ old ++ cells
   pub is : IsRow window bytes areas later row cells
 
--- what no sum of a row is below: by itself, and together with the bytes that are free
+-- numbers that no sum of a row is less than: by itself, and together with the bytes that are free
 pub record AreBounds (later : List ℕ) (least whole : ℕ) : Type 0 where
   pub alone : (free : ℕ) → free < length later → least ≤ slice_index later free
   pub together : (free : ℕ) → free < length later → whole ≤ slice_index later free + free
 
--- each free byte spares one: all sums together with the bytes that are free are the same
+-- each free byte spares one: the sums together with the bytes that are free are all the same
 abbrev pub IsEven : List ℕ → Type 0
 IsEven sums = (free : ℕ) → free < length sums → slice_index sums free + free ≡ slice_index sums 0
 
@@ -58,7 +59,7 @@ pub record IsFirst (bytes : ℕ) (areas : List ℕ) (free place : ℕ) : Type 0 
   pub fits : bytes ≤ free + slice_index areas place
   pub small : (k : ℕ) → k < place → free + slice_index areas k < bytes
 
--- after fewer free bytes than these the areas before this place are too small, and after as many or more the last of them isn't
+-- up to this number of free bytes, not included, the areas before this place are too small; from it on the last of them isn't
 pub record IsEndAt (window bytes : ℕ) (areas : List ℕ) (place end : ℕ) : Type 0 where
   pub within : end ≤ window + 1
   pub small : (free k : ℕ) → free < end → k < place → free + slice_index areas k < bytes

@@ -13,7 +13,7 @@ use Rattle.best_plan.specs.Rows.{nothing, IsChoice, IsRow}
 abbrev pub areas_for : (HeaderFields → List SlotFields) → Need → List ℕ
 areas_for choices need = (open_of (item_of choices need)).areas
 
--- the row of a frame in front of the rows of the frames after it
+-- the row of a frame, which comes before the rows of the frames after it
 pub record IsRowBefore (window : ℕ) (choices : HeaderFields → List SlotFields) (need : Need) (IsBehind : List ℕ → List ℕ → Type 0) (sums places : List ℕ) : Type 0 where
   pub later : List ℕ
   pub before : List ℕ
@@ -47,7 +47,7 @@ pub record Walks (window : ℕ) (choices : HeaderFields → List SlotFields) (fr
   pub appended : new ≡ old ++ more
   pub best : IsBestFor window free (map (item_of choices) needs) more
 
--- the lead-in by the least sums from the first frame on
+-- the lead-in that the least sums from the first frame on give
 pub record IsLeadInBy (window : ℕ) (class : ClassFields) (sums : List ℕ) (p : Placed) : Type 0 where
   pub cost : ℕ
   pub place : ℕ

@@ -7,18 +7,19 @@ ghost use Rattle.best_plan.specs.Rows.{AreBounds, IsSum, IsChoice};
 use arrayvec::ArrayVec;
 use frame_header::{Class, Slot};
 
-/// The sum where no list of areas fits. No list has as many bytes.
+/// The sum if no list of areas fits, in bytes. No list has as many.
 pub(crate) const NOTHING: u32 = u32::MAX;
 
-/// The least sum of areas from a frame on, and the place of the frame's area in its list.
+/// The least sum of areas from a frame on, in bytes, and the place of the frame's area in its list.
 #[derive(Clone, Copy)]
 pub(crate) struct Choice {
     pub(crate) sum: u32,
     pub(crate) place: u8,
 }
 
-/// What is known before areas are gone over: those before a place are too small, and no sum after them is below these, by
-/// itself and together with the bytes that are free.
+/// What is known before the areas of a frame are tried: those before the place `from` are too small, no
+/// later sum is less than `alone`, and none is less than `together` once the bytes that are free before it
+/// are added.
 #[derive(Clone, Copy)]
 pub(crate) struct Known {
     pub(crate) from: usize,
@@ -39,7 +40,8 @@ pub(crate) fn areas_among(class: Class, protected: bool, slots: &[Slot]) -> Arra
     areas
 }
 
-/// The free bytes after a frame: what it leaves of those before it and its own area, but no more than the window.
+/// The free bytes after a frame: what it leaves of those before it and of its own area, but no more than
+/// the window.
 pub(crate) fn free_behind(window: u32, free: u32, bytes: u32, area: u32) -> u32
     requires window { window ≤ 511 }
     requires free { free ≤ window }
@@ -51,7 +53,7 @@ pub(crate) fn free_behind(window: u32, free: u32, bytes: u32, area: u32) -> u32
     (free + area - bytes).min(window)
 }
 
-/// The sum of an area and of the least sum after it; nothing where the main data don't fit.
+/// The sum of an area and of the least sum after it, `NOTHING` if the main data don't fit.
 fn sum_behind(window: u32, free: u32, bytes: u32, area: u32, later: &[u32]) -> u32
     requires window { window ≤ 511 }
     requires free { free ≤ window }
@@ -66,7 +68,7 @@ fn sum_behind(window: u32, free: u32, bytes: u32, area: u32, later: &[u32]) -> u
     area.saturating_add(later[behind as usize])
 }
 
-/// The greatest bounds of a row, and no area that is too small.
+/// The greatest bounds of a row of sums; no area is known to be too small.
 pub(crate) fn bounds_of(later: &[u32]) -> Known
     requires { length later.now ≤ 512 }
     ensures bounds { AreBounds later.now result.alone result.together }
@@ -87,7 +89,8 @@ pub(crate) fn bounds_of(later: &[u32]) -> Known
     known
 }
 
-/// A place before which all areas are too small, by one before which they were after fewer free bytes.
+/// A place before which all areas are too small. It is `from` at most, before which they were too small with
+/// fewer bytes free.
 pub(crate) fn too_small(free: u32, bytes: u32, areas: &[u32], from: usize) -> usize
     requires free { free ≤ 511 }
     requires areas { All (λ n. n ≤ 1441) areas.now }
@@ -105,8 +108,9 @@ pub(crate) fn too_small(free: u32, bytes: u32, areas: &[u32], from: usize) -> us
     0
 }
 
-/// The first area of the least sum after so many free bytes, where `later` holds the least sums of the frames
-/// after, by the bytes that are free before them. It stops at the first area that can't be bettered by what follows.
+/// The first area of those with the least sum after so many free bytes. `later` has the least sums of the
+/// frames after this one, by the bytes that are free before them. It stops at the first area from which on
+/// none can be better.
 pub(crate) fn best_choice(
     window: u32,
     free: u32,
@@ -132,11 +136,11 @@ pub(crate) fn best_choice(
     };
     for place in known.from..areas.len() {
         let area = areas[place];
-        // Areas from here on are no smaller.
+        // Areas from here on have at least this sum.
         if choice.sum <= area.saturating_add(known.alone) {
             return choice;
         }
-        // All areas and free bytes together hold the main data.
+        // With the free bytes, no sum from here on is less than the main data and `together`.
         if u64::from(choice.sum) + u64::from(free) <= u64::from(bytes) + u64::from(known.together) {
             return choice;
         }

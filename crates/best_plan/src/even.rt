@@ -1,11 +1,11 @@
-//! Rows in which each free byte spares one. In front of such a row the first area that has room is the best, and the row of
-//! these areas is again such a row.
+//! Rows of sums in which each free byte spares one. Before such a row the first area that has room is the
+//! best, and the row of the frame with this area is such a row too.
 ghost use Rattle.std.specs.Prelude.{◌≡◌, ◌+◌, ◌-◌, ◌<◌, ◌≤◌, ◌↔◌, All, AllPairs, IsTrue, length, map, slice_index, IfOk};
 ghost use Rattle.best_plan.specs.Rows.{nothing, IsEven, HasRoom, IsEndAt, AppendsFirst};
 
 use std::alloc::AllocError;
 
-/// Whether each free byte spares one.
+/// Whether each free byte spares one byte of areas.
 pub(crate) fn is_even(sums: &[u32]) -> bool
     requires some { 0 < length sums.now }
     requires few { length sums.now ≤ 512 }
@@ -20,8 +20,8 @@ pub(crate) fn is_even(sums: &[u32]) -> bool
     true
 }
 
-/// Whether the first area with which main data of so many bytes fit leaves no more than the window, whatever is free
-/// before it.
+/// Whether the first area with which so many bytes of main data fit never leaves more than the window,
+/// whatever is free before it.
 pub(crate) fn has_room(window: u32, bytes: u32, areas: &[u32]) -> bool
     requires window { window ≤ 511 }
     requires areas { All (λ n. n ≤ 1441) areas.now }
@@ -38,7 +38,8 @@ pub(crate) fn has_room(window: u32, bytes: u32, areas: &[u32]) -> bool
     true
 }
 
-/// After fewer free bytes than these the areas before this place are too small.
+/// Up to which number of free bytes, not included, the areas before this place are too small; at most the
+/// window and 1.
 fn end_at(window: u32, bytes: u32, areas: &[u32], place: usize) -> u32
     requires window { window ≤ 511 }
     requires place { place < length areas.now }
@@ -51,7 +52,11 @@ fn end_at(window: u32, bytes: u32, areas: &[u32], place: usize) -> u32
     bytes.saturating_sub(areas[place - 1]).min(window + 1)
 }
 
-/// Appends the place of the first area with which main data of so many bytes fit, for each number of free bytes.
+/// Appends the place of the first area with which so many bytes of main data fit, for each number of free
+/// bytes.
+///
+/// # Errors
+/// Where there is no memory.
 pub(crate) fn append_first(
     window: u32,
     bytes: u32,

@@ -6,7 +6,7 @@ pub fn best_is_shortest()
     ensures { BestIsShortest }
 {}
 
-/// Where a part has a plan it has a best plan.
+/// If a part has a plan, it has a best plan.
 pub fn best_exists()
     ensures { BestExists }
 {}

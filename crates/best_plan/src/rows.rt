@@ -1,4 +1,4 @@
-//! The choices of one frame after any number of free bytes.
+//! The choices of one frame, for each number of free bytes before it.
 ghost use Rattle.std.specs.Prelude.{◌≡◌, ◌+◌, ◌<◌, ◌≤◌, All, AllPairs, IsTrue, length, slice_index, IfOk};
 ghost use Rattle.best_plan.specs.Rows.{nothing, IsEven, HasRoom, AppendsRow};
 
@@ -7,18 +7,21 @@ use crate::even::{add_to_all, append_first, has_room, is_even};
 use std::alloc::AllocError;
 use std::mem::swap;
 
-/// The least sums from a frame on.
+/// The least sums of areas from a frame on, in bytes.
 #[derive(Drop)]
 pub(crate) struct Sums {
     /// By the bytes that are free before the frame.
     pub(crate) by_free: Vec<u32>,
-    /// Room for those of the frame before it.
+    /// Memory for the sums of the frame before it.
     pub(crate) spare: Vec<u32>,
     /// Whether it is known that each free byte spares one.
     pub(crate) even: bool,
 }
 
-/// A row by going over the areas for each number of free bytes.
+/// Appends a row, by trying the areas for each number of free bytes.
+///
+/// # Errors
+/// Where there is no memory.
 fn append_row(
     window: u32,
     bytes: u32,
@@ -52,7 +55,10 @@ fn append_row(
     Ok(())
 }
 
-/// The row of a frame in front of one in which each free byte spares one, where its main data have room.
+/// Appends the row of a frame whose main data have room, before one in which each free byte spares one.
+///
+/// # Errors
+/// Where there is no memory.
 fn append_even(
     window: u32,
     bytes: u32,
@@ -76,7 +82,10 @@ fn append_even(
     Ok(())
 }
 
-/// Appends the row of a frame, and goes on to its sums.
+/// Appends the places of a frame's row, and puts its sums in the place of those of the frame after it.
+///
+/// # Errors
+/// Where there is no memory.
 pub(crate) fn append_frame(
     window: u32,
     bytes: u32,

@@ -14,7 +14,7 @@ use frame_header::Class;
 use slot_plan::{Need, Placed, Plan, Policy};
 use std::alloc::{AllocError, Global};
 
-/// The lead-in with which all frames have the fewest bytes, where `sums` holds those of the frames after it.
+/// The lead-in with which all frames have the fewest bytes, where `sums` has those of the frames after it.
 fn lead_in(class: Class, window: u32, sums: &[u32]) -> Placed
     requires window { window ≡ window_of class.version }
     requires sums { length sums.now ≡ window + 1 }
@@ -34,9 +34,13 @@ fn lead_in(class: Class, window: u32, sums: &[u32]) -> Placed
     }
 }
 
-/// The list of areas with the least sum that has a layout, and the lexicographically least of those, after a
-/// lead-in of any slot where the frames have no layout without one. Main data start as early as they may (ISO/IEC
-/// 11172-3, 2.4.2.7). Want of memory is the one refusal.
+/// The shortest plan of one part: of the lists of areas that have a layout, the one with the least sum, and
+/// of several the lexicographically least; after a lead-in of any slot if the frames have no layout without
+/// one. Main data begin as early as they may (ISO/IEC 11172-3, 2.4.2.7). There are 1 to 200,000 frames, all
+/// of one class, which have a layout in their own slots after a whole window of free bytes.
+///
+/// # Errors
+/// Where there is no memory.
 pub fn best<P: Policy>(alloc: Global, needs: &[Need], policy: &P) -> Result<Plan, AllocError>
     requires class { AreOfOneClass needs.now }
     requires some { 1 ≤ length needs.now }

@@ -1,4 +1,4 @@
-//! From the last frame back to the first: the least sums, and the places of the areas that have them.
+//! The least sums, and the places of the areas that have them, from the last frame back to the first.
 ghost use Rattle.std.specs.Prelude.{◌≡◌, ◌<◌, ◌≤◌, [], All, AllPairs, Contains, length, IfOk};
 ghost use Rattle.slot_plan.specs.Parts.{own_area};
 ghost use Rattle.best_plan.specs.Table.{areas_for, IsEnd, IsTable};
@@ -9,7 +9,7 @@ use arrayvec::ArrayVec;
 use slot_plan::{Need, Policy};
 use std::alloc::{AllocError, Global};
 
-/// The choices of all frames after any number of free bytes.
+/// The choices of all frames, for each number of free bytes before them.
 #[derive(Drop)]
 pub(crate) struct Table {
     /// The least sums from the first frame on, by the bytes that are free before it.
@@ -18,7 +18,10 @@ pub(crate) struct Table {
     pub(crate) places: Vec<u8>,
 }
 
-/// The sums after the last frame: there are no areas.
+/// The sums after the last frame, which are 0.
+///
+/// # Errors
+/// Where there is no memory.
 fn no_areas(alloc: Global, window: u32) -> Result<Vec<u32>, AllocError>
     requires window { window ≤ 511 }
     ensures { IfOk result (λ sums. IsEnd window sums.items []) }
@@ -46,6 +49,9 @@ fn areas_of<P: Policy>(need: &Need, policy: &P) -> ArrayVec<u32, 28>
 }
 
 /// The table of these frames. All its memory is taken first.
+///
+/// # Errors
+/// Where there is no memory.
 pub(crate) fn table_of<P: Policy>(
     alloc: Global,
     window: u32,

@@ -1,4 +1,5 @@
-//! From the first frame to the last: each in the area that the table has for the bytes that are free before it.
+//! Places the frames, from the first to the last: each in the area that the table has for the bytes that
+//! are free before it.
 ghost use Rattle.std.specs.Prelude.{◌≡◌, ◌<◌, ◌≤◌, false, AllPairs, Contains, length, slice_index, IfOk};
 ghost use Rattle.slot_plan.specs.Parts.{area_in, item_of};
 ghost use Rattle.best_plan.specs.Table.{areas_for, CanWalk, Walks};
@@ -26,7 +27,10 @@ fn frame_at<P: Policy>(need: &Need, place: u8, free: u32, policy: &P) -> Placed
     }
 }
 
-/// Places the frames after so many free bytes.
+/// Places the frames, where so many bytes are free before the first.
+///
+/// # Errors
+/// Where there is no memory.
 pub(crate) fn walk<P: Policy>(
     window: u32,
     free: u32,

@@ -14,7 +14,7 @@ use Rattle.slot_plan.proofs.AreaLaws.{Contains-area}
 use Rattle.rate_plan.specs.MenuPlan.{most_area, start_of}
 use Rattle.rate_plan.specs.Menus.{from_menu, items_from, CanBeLaidFrom, IsUnfit}
 
--- ---- each in its greatest area
+-- ---- each in its largest area
 
 unfoldable pub tops_of : List Open → List ℕ
 tops_of [] = []

@@ -1,4 +1,4 @@
--- The least slot of a menu by halves, and menus of slots that are side by side among all slots.
+-- The smallest slot of a menu by halving, and menus of slots that are side by side among all slots.
 use Rattle.std.proofs.Common.{◌≡◌, ℕ, ◌+◌, ◌-◌, ◌<◌, ◌≤◌, Bool, inl, inr, List, length, get_or, take, drop, Contains, AllPairs, refl, sym, ap, ◌∙◌, subst, lit≤, arith}
 use Rattle.std.specs.Prelude.{slice_range}
 use Rattle.std.proofs.lemmas.List.{take-map, drop-map, get_or-take, get_or-drop, length-take-le, length-drop, get_or-map, length-map}
@@ -12,7 +12,7 @@ use Rattle.slot_plan.specs.Reserve.{greatest, IsLeastSlot}
 use Rattle.slot_plan.proofs.AreaLaws.{Ascend, area-last, least-first}
 use Rattle.rate_plan.specs.Laws.{SlicesAreMenus}
 
--- ---- by halves
+-- ---- by halving
 
 area-here : (class : ClassFields) (protected : Bool) (menu : List SlotFields) (k : ℕ) (d : SlotFields) → k < length menu → get_or (areas_with class protected menu) k 0 ≡ area_of class (get_or menu k d) protected
 area-here class protected menu k d within = get_or-map (λ s. area_of class s protected) menu k d 0 within

@@ -1,4 +1,4 @@
--- The plan that is made frame by frame is the plan, and so the only one; and the first unfit frame is one.
+-- The plan that is made frame by frame is the plan, and so the only one; and there is one first unfit frame.
 use Rattle.std.proofs.Common.{◌≡◌, ℕ, ◌+◌, ◌<◌, ◌≤◌, ◌==◌, leb, not, cond, Bool, true, false, inl, inr, List, [], ◌∷◌, map, length, get_or, drop, AllPairs, Option, Some, None, Result, Ok, Err, refl, sym, ap, ◌∙◌, subst, arith}
 use Rattle.std.specs.Prelude.{◌↔◌, MatchOption}
 use Rattle.std.proofs.lemmas.Bool.{leb-true, leb-false, eqb-true, eqb-false, cases_lt}

@@ -10,7 +10,7 @@ use Rattle.slot_plan.specs.Parts.{own_frame, AreOfClass}
 use Rattle.rate_plan.specs.Menus.{AreAscending, IsMenuPlan, IsUnfit}
 use Rattle.rate_plan.specs.MenuPlan.{menu_plan}
 
--- Frames of one class that have a layout in their own slots after a whole window are never unfit, where the largest slot is in the menu.
+-- Frames of one class that have a layout in their own slots after a whole window all fit, if the largest slot is in the menu.
 abbrev pub LargestSlotFits : Type 0
 LargestSlotFits =
     (class : ClassFields) (menu : List SlotFields) (needs : List Need) (i : ℕ)
@@ -18,7 +18,7 @@ LargestSlotFits =
     → IsFeasible (window_of class.version) (window_of class.version) (map own_frame needs)
     → IsUnfit (window_of class.version) menu needs i → ⊥
 
--- All slots from one on and before another, as those of the bit rates between two, are a menu, and up to the last they have the largest.
+-- All slots from one on and before another, such as those from one bit rate to another, are a menu; those up to the last have the largest.
 abbrev pub SlicesAreMenus : Type 0
 SlicesAreMenus =
     (class : ClassFields) (from to : ℕ) → IsClass class → from < to → to ≤ 28

@@ -1,5 +1,5 @@
--- The plan from a menu as a function: the first frame that doesn't fit where each has its greatest area, else frame by frame the least area that leaves
--- what is needed after it.
+-- The plan from a menu as a function: the first frame that doesn't fit even if each has its largest area; else frame by frame the smallest
+-- area that leaves what is needed after it.
 use Rattle.std.specs.Prelude.{ℕ, ◌+◌, ◌==◌, leb, not, if◌then◌else◌, false, List, [], ◌∷◌, Option, Some, None, Result, Ok, Err}
 use Rattle.frame_header.specs.Fields.{SlotFields, ClassFields}
 use Rattle.frame_header.specs.Tables.{class_of}
@@ -10,21 +10,21 @@ use Rattle.slot_plan.specs.Reserve.{greatest, needed, free_behind, opens_in}
 use Rattle.slot_plan.specs.ThePlan.{placed_from}
 use Rattle.rate_plan.specs.Menus.{from_menu, items_from}
 
--- the greatest area that a frame can have
+-- the largest area that a frame can have
 abbrev pub most_area : List SlotFields → Need → ℕ
 most_area menu need = greatest (areas_with (class_of need.header) need.header.protected menu)
 
--- the free bytes after a lead-in of the greatest area
+-- the free bytes after a lead-in with the largest area
 abbrev pub start_of : ℕ → ClassFields → List SlotFields → ℕ
 start_of window class menu = free_behind window 0 0 (greatest (areas_with class false menu))
 
--- the first frame that doesn't fit after so many free bytes, the next frame being i
+-- the first frame that doesn't fit after so many free bytes; the next frame is number i
 unfoldable pub unfit_from : ℕ → List SlotFields → ℕ → ℕ → List Need → Option ℕ
 unfit_from window menu i free [] = None
 unfit_from window menu i free (need ∷ needs) =
     if leb need.bytes (free + most_area menu need) then unfit_from window menu (i + 1) (free_behind window free need.bytes (most_area menu need)) needs else Some i
 
--- the frames after a lead-in where they need some free bytes
+-- the frames, after a lead-in if they need some free bytes
 abbrev pub placed_in : ℕ → List SlotFields → List Need → List Placed
 placed_in window menu needs = placed_from window 0 (items_from (not (needed (opens_in (from_menu menu) needs) == 0)) menu needs)
 

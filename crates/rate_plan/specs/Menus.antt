@@ -23,7 +23,7 @@ abbrev pub IsMenu : List SlotFields → List Need → Type 0
 IsMenu menu [] = Unit {0}
 IsMenu menu (first ∷ needs) = AreAscending (class_of first.header) menu
 
--- the frames of a part, where it has one after a lead-in
+-- the frames of a part, after a lead-in from the menu if there is one
 unfoldable pub items_from : Bool → List SlotFields → List Need → List Item
 items_from false menu needs = map (item_of (from_menu menu)) needs
 items_from true menu [] = []
@@ -33,13 +33,14 @@ items_from true menu (first ∷ needs) = lead_in_of (class_of first.header) menu
 abbrev pub CanBeLaidFrom : ℕ → Bool → List SlotFields → List Need → Type 0
 CanBeLaidFrom window lead_in menu needs = CanBeLaid window (map open_of (items_from lead_in menu needs))
 
--- The plan: with a lead-in where no list has a layout without one, the lexicographically least list with so many lead-ins, laid as early as may be.
+-- The plan: with a lead-in exactly if no list has a layout without one, the lexicographically least list with or without it, laid as early
+-- as it may be.
 pub record IsMenuPlan (window : ℕ) (menu : List SlotFields) (needs : List Need) (placed : List Placed) : Type 0 where
   pub lead_in : Bool
   pub without : (lead_in ≡ false) ↔ CanBeLaidFrom window false menu needs
   pub whole : IsPlanFor window (items_from lead_in menu needs) placed
 
--- No list has a layout, after a lead-in or without one, and this is the first frame up to which none has after one.
+-- No list has a layout, after a lead-in or without one, and this is the first frame up to which none has, even after one.
 pub record IsUnfit (window : ℕ) (menu : List SlotFields) (needs : List Need) (i : ℕ) : Type 0 where
   pub never : (lead_in : Bool) → CanBeLaidFrom window lead_in menu needs → ⊥
   pub within : i < length needs

@@ -1,4 +1,4 @@
--- How `rate_plan` goes about it: the bytes that have to be free before each frame, and what is placed by them.
+-- How `rate_plan` works: the bytes that have to be free before each frame, and what is placed by them.
 use Rattle.std.specs.Prelude.{◌≡◌, ℕ, ◌≤◌, List, ◌++◌}
 use Rattle.frame_header.specs.Fields.{SlotFields}
 use Rattle.slot_plan.specs.declared.needs.Need.{Need}

@@ -1,4 +1,5 @@
-//! Plans from a menu: each frame and the lead-in have one of a few slots, as where the bit rate is fixed or bounded.
+//! Plans from a menu: each frame and the lead-in have one of a few slots, such as those of one bit rate or
+//! of all from one on.
 #![tactic(auto)]
 
 mod fault;

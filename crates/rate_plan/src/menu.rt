@@ -1,4 +1,4 @@
-//! The largest area of a menu, the least slot that is large enough, and what an area leaves free.
+//! The largest area of a menu, the smallest slot that is large enough, and what an area leaves free.
 ghost use Rattle.std.specs.Prelude.{◌≡◌, ◌+◌, ◌<◌, ◌≤◌, AllPairs, length};
 ghost use Rattle.slot_plan.specs.Parts.{areas_with};
 ghost use Rattle.slot_plan.specs.Reserve.{greatest, IsLeastSlot, free_behind as free_behind_lem};
@@ -15,7 +15,7 @@ pub(crate) fn largest_area(class: Class, protected: bool, menu: &[Slot]) -> u32
     class.area_of(menu[menu.len() - 1], protected)
 }
 
-/// The least slot of which the area has at least so many bytes. The areas ascend, so it is found by halves.
+/// The slot with the smallest area of at least `wanted` bytes. The areas ascend, so it is found by halving.
 pub(crate) fn least_slot(class: Class, protected: bool, menu: &[Slot], wanted: u64) -> Slot
     requires some { 1 ≤ length menu.now }
     requires ascending { AllPairs (λ m n. m < n) (areas_with class protected menu.now) }
@@ -35,7 +35,8 @@ pub(crate) fn least_slot(class: Class, protected: bool, menu: &[Slot], wanted: u
     menu[low]
 }
 
-/// The free bytes after a frame: what it leaves of those before it and its own area, but no more than the window.
+/// The free bytes after a frame: what it leaves of those before it and of its own area, but no more than
+/// the window.
 pub(crate) fn free_behind(window: u32, free: u32, bytes: u32, area: u32) -> u32
     requires window { window ≤ 511 }
     requires free { free ≤ window }

@@ -1,4 +1,5 @@
-//! From the first frame to the last: the least slot that leaves what is needed after it.
+//! Gives each frame, from the first to the last, the slot with the smallest area that leaves what is needed
+//! after it.
 ghost use Rattle.std.specs.Prelude.{◌≡◌, ◌+◌, ◌-◌, ◌≤◌, true, false, length, map, IfOk};
 ghost use Rattle.frame_header.specs.Tables.{window_of};
 ghost use Rattle.slot_plan.specs.Parts.{areas_with, item_of, AreOfClass};
@@ -11,7 +12,7 @@ use frame_header::{Class, Slot};
 use slot_plan::{Need, Placed};
 use std::alloc::AllocError;
 
-/// The lead-in of the least area that leaves so many bytes free after it, at the front of a file.
+/// The lead-in with the smallest area that leaves `behind` bytes free after it, where nothing is before it.
 pub(crate) fn lead_in(class: Class, behind: u16, menu: &[Slot]) -> Placed
     requires slots { 1 ≤ length menu.now }
     requires ascending { AreAscending class menu.now }
@@ -28,7 +29,8 @@ pub(crate) fn lead_in(class: Class, behind: u16, menu: &[Slot]) -> Placed
     }
 }
 
-/// The frame in the least slot that leaves so many bytes free after it.
+/// The frame in the slot with the smallest area that leaves `behind` bytes free after it, where `free` are
+/// free before it.
 fn place_frame(class: Class, need: &Need, behind: u16, free: u32, menu: &[Slot]) -> Placed
     requires slots { 1 ≤ length menu.now }
     requires ascending { AreAscending class menu.now }
@@ -49,7 +51,11 @@ fn place_frame(class: Class, need: &Need, behind: u16, free: u32, menu: &[Slot])
     }
 }
 
-/// Places the frames after so many free bytes. `after` has what is needed after each, the last frame's first.
+/// Places the frames, where `free` bytes are free before the first. `behind` has what is needed after each,
+/// the last frame's first.
+///
+/// # Errors
+/// Where there is no memory.
 pub(crate) fn place_frames(
     class: Class,
     free: u32,

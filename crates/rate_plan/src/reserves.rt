@@ -1,4 +1,4 @@
-//! From the last frame back to the first: how many bytes have to be free before each.
+//! How many bytes have to be free before and after each frame, from the last frame back to the first.
 ghost use Rattle.std.specs.Prelude.{◌≡◌, ◌+◌, ◌-◌, ◌≤◌, length, IfOk};
 ghost use Rattle.frame_header.specs.Tables.{window_of};
 ghost use Rattle.slot_plan.specs.Parts.{areas_with, AreOfClass};
@@ -11,7 +11,7 @@ use frame_header::{Class, Slot};
 use slot_plan::Need;
 use std::alloc::{AllocError, Global};
 
-/// The bytes that have to be free.
+/// How many bytes have to be free.
 #[derive(Drop)]
 pub(crate) struct Reserves {
     /// After each frame, the last frame's first.
@@ -20,7 +20,7 @@ pub(crate) struct Reserves {
     pub(crate) before: u16,
 }
 
-/// What has to be free before a frame, where so many bytes have to be free after it.
+/// How many bytes have to be free before a frame, if `behind` bytes have to be free after it.
 fn needed_before(class: Class, need: &Need, behind: u16, menu: &[Slot]) -> u64
     requires slots { 1 ≤ length menu.now }
     requires ascending { AreAscending class menu.now }
@@ -31,7 +31,10 @@ fn needed_before(class: Class, need: &Need, behind: u16, menu: &[Slot]) -> u64
     (u64::from(need.bytes) + u64::from(behind)).saturating_sub(u64::from(largest))
 }
 
-/// What each frame needs after it. Want of memory is the one refusal.
+/// What each frame needs after it, and the first before it.
+///
+/// # Errors
+/// Where there is no memory.
 pub(crate) fn reserves_of(
     alloc: Global,
     class: Class,

@@ -1,4 +1,5 @@
-//! From the first frame to the last: whether all fit, each in the largest slot after a lead-in of that slot.
+//! Whether all frames fit, from the first to the last, each in the largest slot after a lead-in of that
+//! slot.
 ghost use Rattle.std.specs.Prelude.{◌≤◌, true, length, MatchOption};
 ghost use Rattle.frame_header.specs.Tables.{window_of};
 ghost use Rattle.slot_plan.specs.Parts.{AreOfClass};
@@ -8,7 +9,7 @@ use crate::menu::{free_behind, largest_area};
 use frame_header::{Class, Slot};
 use slot_plan::Need;
 
-/// The first frame up to which the frames have no layout after one lead-in; none where all have one.
+/// The first frame up to which the frames have no layout, even after a lead-in; `None` if all have one.
 pub(crate) fn first_unfit(class: Class, needs: &[Need], menu: &[Slot]) -> Option<u32>
     requires class { AreOfClass class needs.now }
     requires some { 1 ≤ length needs.now }

@@ -1,4 +1,4 @@
--- The areas of slots: the last is the greatest, and the first that is large enough the least.
+-- The areas of slots: the last is the largest, and the first that is large enough the smallest.
 use Rattle.std.proofs.Common.{◌≡◌, ℕ, zero, suc, ◌+◌, ◌-◌, ◌<◌, ◌≤◌, Bool, true, false, refl, lit≤, inl, inr, List, [], ◌∷◌, length, get_or, ltb, Contains, AllPairs, sym, ap, ◌∙◌, subst, arith}
 use Rattle.std.proofs.lemmas.List.{get_or-map, length-map, get_or_default}
 use Rattle.std.proofs.lemmas.Bool.{cases_lt, lt-ltb, le-ltb}
@@ -57,7 +57,7 @@ pub Contains-area : (c : ClassFields) (p : Bool) (slots : List SlotFields) (slot
 Contains-area c p slots slot has =
     (has.0, omega (arith, has.1, areas-many c p slots), area_at c p slots has.0 (area_of c slot p) slot has.1 ∙ ap (λ s. area_of c s p) has.2)
 
--- where the areas ascend, slots of one area are one slot
+-- if the areas ascend, slots with equal areas are equal
 pub one-slot : (c : ClassFields) (p : Bool) (slots : List SlotFields) (s t : SlotFields) → Ascend (areas_with c p slots) → Contains slots s → Contains slots t → area_of c s p ≡ area_of c t p → s ≡ t
 one-slot c p slots s t ascend first second same =
     let many = areas-many c p slots in
@@ -74,7 +74,7 @@ one-slot c p slots s t ascend first second same =
           ]
     ]
 
--- the first that is large enough has the least area
+-- the first that is large enough has the smallest area
 pub least-first : (wanted : ℕ) (c : ClassFields) (p : Bool) (slots : List SlotFields) (i : ℕ) (slot : SlotFields) → i < length slots → slot ≡ get_or slots i slot → Ascend (areas_with c p slots)
     → ((k : ℕ) → k < i → area_of c (get_or slots k slot) p < wanted) → wanted ≤ area_of c slot p → IsLeastSlot wanted c p slots slot
 least-first wanted c p slots i slot within is ascend small enough = record {
@@ -130,7 +130,7 @@ pub class-ascend : (class c : ClassFields) (p : Bool) (slots : List SlotFields) 
 unfolding areas_of
 class-ascend class c p slots all is ascend = subst (λ l. Ascend (areas_with c p l)) (sym all) (subst (λ k. Ascend (areas_with k p all_slots)) is ascend)
 
--- ---- the least of all slots, by halves
+-- ---- the smallest of all slots, by halving
 byte_most : (padding : Bool) → bool_byte padding ≤ 1
 byte_most true = lit≤ tt
 byte_most false = lit≤ tt
@@ -178,7 +178,7 @@ least-padded wanted c p index class some few small less enough =
     least_of_all wanted c p (slot_of index true) class (some, few) enough
     (λ t it before. omega (arith, less, area-le c p t (slot_of index false) class it (some, few) (omega (arith, before, byte_most t.padding, it.0))))
 
--- the slot that the halves end at
+-- the slot at which the halving ends
 pub least-slot : (wanted : ℕ) (c : ClassFields) (p : Bool) (index area : ℕ) → IsClass c → 1 ≤ index → index ≤ 14 → AreSmall wanted c p index → area ≡ area_of c (slot_of index false) p → wanted ≤ area_of c (slot_of index true) p → IsLeastSlot wanted c p all_slots (slot_of index (ltb area wanted))
 least-slot wanted c p index area class some few small is enough =
     elim (cases_lt area wanted) as (λ _. IsLeastSlot wanted c p all_slots (slot_of index (ltb area wanted))) [

@@ -1,4 +1,4 @@
--- There is one plan at most: the lead-ins are known by their areas, the least list is one, and so are the slots of its areas.
+-- There is at most one plan: areas decide the lead-ins, one list is least, and each of its areas has one slot.
 use Rattle.std.proofs.Common.{◌≡◌, ℕ, suc, false, List, [], ◌∷◌, ◌++◌, map, get_or, drop, All, Option, Some, None, inl, inr, refl, sym, ap, ap₂, ◌∙◌, subst, arith}
 use Rattle.std.proofs.lemmas.Bool.{cases_lt}
 use Rattle.frame_header.specs.Fields.{SlotFields, HeaderFields, ClassFields, IsClass}
@@ -14,7 +14,7 @@ use Rattle.slot_plan.specs.Plans.{AreFor, areas_in, IsPlanFor, IsPlan}
 use Rattle.slot_plan.specs.Laws.{ChoosesInOrder, ChooseInOrder}
 use Rattle.slot_plan.proofs.AreaLaws.{Ascend, one-slot, lead-ascend}
 
--- ---- the least list is one
+-- ---- there is one least list
 
 pub equal_lists : (xs ys : List ℕ) → IsNotBehind xs ys → IsNotBehind ys xs → xs ≡ ys
 unfolding IsNotBehind

@@ -150,7 +150,7 @@ places-then window free now after items left old mid new first second = record {
       (first.goes rest (second.more ++ placed) none (second.goes rest placed none all));
 }
 
--- ---- part by part: with what is placed right from here on, all are
+-- ---- part by part: whatever places the parts from here on rightly places all rightly
 unfoldable pub PartsPlaced : ℕ → (HeaderFields → List SlotFields) → List (List Need) → List (List Need) → ℕ → List Placed → Type 0
 PartsPlaced window choices all left free before =
     (lead_ins : List (Option SlotFields)) (placed : List Placed) → AreLeadIns window choices left lead_ins → ArePlaced window free (whole_of choices left lead_ins) placed

@@ -1,5 +1,5 @@
--- Over lists of numbers: which lists can be laid, by the bytes that are free before each frame, and that the least choice by what is needed after is
--- the least list.
+-- Over lists of numbers: which lists can be laid, by the bytes that are free before each frame, and that the smallest choice by what is
+-- needed after each is the least list.
 use Rattle.std.proofs.Common.{◌≡◌, ℕ, zero, suc, ◌+◌, ◌-◌, ◌<◌, ◌≤◌, max, ◌⊎◌, inl, inr, List, [], ◌∷◌, ◌++◌, drop, Contains, refl, sym, ap, ◌∙◌, subst, arith}
 use Rattle.std.proofs.Math.Nat.{le-max_left, le-max_right}
 use Rattle.std.proofs.lemmas.Bool.{cases_lt}
@@ -112,7 +112,7 @@ fit-needed window free (o ∷ opens) (area ∷ some) chosen enough within =
     let rest = fit-needed window (free_behind window free o.bytes most) opens some chosen.1 (omega arith) within.1 in
     (most ∷ rest.0, (Contains-greatest o.areas area chosen.0, rest.1), (omega arith, rest.2))
 
--- each area is the least that leaves what is needed after it
+-- each area is the smallest that leaves what is needed after it
 unfoldable pub AreLeastAreas : ℕ → ℕ → List Open → List ℕ → Type 0
 AreLeastAreas window free [] [] = Unit {0}
 AreLeastAreas window free [] (area ∷ areas) = ⊥
@@ -171,7 +171,7 @@ can-needed window opens some chosen none within =
     let fit = fit-needed window 0 opens some chosen (omega arith) within in
     (fit.0, fit.1, (starts_of window 0 0 (frames_of opens fit.0), layout-fit window 0 0 0 (frames_of opens fit.0) (omega arith) (omega arith) fit.2))
 
--- the least areas are the least list
+-- the smallest areas are the least list
 pub least-is : (window : ℕ) (opens : List Open) (areas : List ℕ) → AreLeastAreas window 0 opens areas → IsLeast window opens areas
 unfolding IsFeasible
 least-is window opens areas least =
@@ -193,7 +193,7 @@ unfolding AllWithin
 append-within window [] ys none first second = second
 append-within window (x ∷ xs) ys none first second = (omega (arith, first.0, append-needed xs ys none), append-within window xs ys none first.1 second)
 
--- ---- less of the frames, and more free bytes
+-- ---- fewer of the frames, and more free bytes
 fit-more : (window free more : ℕ) (frames : List Frame) → free ≤ more → AllFit window free frames → AllFit window more frames
 unfolding AllFit
 fit-more window free more [] less fit = tt
@@ -208,7 +208,7 @@ fit-drop window (suc k) [] fit = fit
 fit-drop window (suc k) (frame ∷ frames) fit =
     fit-drop window k frames (fit-more window (free_behind window window frame.bytes frame.area) window frames (omega arith) fit.1)
 
--- frames that can be laid after a whole window fit from each on
+-- frames that can be laid after a whole window fit from each of them on
 pub fit-from : (window k : ℕ) (frames : List Frame) → IsFeasible window window frames → AllFit window window (drop k frames)
 unfolding IsFeasible
 fit-from window k frames feasible = fit-drop window k frames (fit-layout window 0 window window frames feasible.0 (omega arith) feasible.1)

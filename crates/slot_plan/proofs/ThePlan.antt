@@ -22,7 +22,7 @@ use Rattle.slot_plan.proofs.PartLaws.{needed-own, nothing_needed, nothing_within
 use Rattle.slot_plan.proofs.PlacedLaws.{no-lead_in, one-lead_in, lead_in-needed, whole-needed, plan-placed}
 use Rattle.slot_plan.proofs.OnePlan.{AreOrdered, AreInOrder, AllInOrder, all_in_order, slots_ascend, ordered_whole, one-plan}
 
--- ---- the first slot that is large enough has the least area
+-- ---- the first slot that is large enough has the smallest area
 
 greatest-cons : (n : ℕ) (ns : List ℕ) (wanted : ℕ) → n < wanted → wanted ≤ greatest (n ∷ ns) → wanted ≤ greatest ns
 unfolding greatest

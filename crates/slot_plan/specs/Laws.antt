@@ -14,7 +14,8 @@ use Rattle.slot_plan.specs.ThePlan.{the_plan}
 abbrev pub behind_any : (HeaderFields → List SlotFields) → Need → List Need → List Open
 behind_any choices first part = map open_of (lead_in_of (class_of first.header) all_slots ∷ map (item_of choices) (first ∷ part))
 
--- The lead-in of a part that can't be laid without one is what is first in the lexicographically least list of its frames after one lead-in.
+-- The lead-in of a part that can't be laid without one is the first entry of the lexicographically least list of its frames after one
+-- lead-in.
 abbrev pub LeadInsComeFirst : Type 0
 LeadInsComeFirst =
     (window : ℕ) (choices : HeaderFields → List SlotFields) (first : Need) (part : List Need) (slot : SlotFields)

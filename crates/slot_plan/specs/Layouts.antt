@@ -1,4 +1,4 @@
--- Where the main data of each frame may be among the main data areas of all frames.
+-- Where the main data of each frame may be in the areas of all frames, one area after the other.
 use Rattle.std.specs.Prelude.{ℕ, ◌+◌, ◌-◌, ◌≤◌, max, List, [], ◌∷◌}
 
 -- a frame: the bytes of its main data, and how many bytes its own area has
@@ -6,8 +6,9 @@ pub record Frame : Type 0 where
   pub bytes : ℕ
   pub area : ℕ
 
--- Starts of main data, where the main data before ended at `end` and so many bytes of areas are before the frames. Each start isn't before the end of
--- the last, lies at most the window before the own area and not after its front, and the main data end within the own area.
+-- Where main data may start, if the main data before these frames end at `end` and so many bytes of areas are before them. Each start isn't
+-- before the end of the main data before it, is at most the window before the frame's own area and not after that area's first byte, and
+-- the main data end within that area.
 unfoldable pub IsLayout : ℕ → ℕ → ℕ → List Frame → List ℕ → Type 0
 IsLayout window end before [] [] = Unit {0}
 IsLayout window end before [] (start ∷ starts) = ⊥
@@ -20,7 +21,7 @@ IsLayout window end before (frame ∷ frames) (start ∷ starts) =
 unfoldable pub IsFeasible : ℕ → ℕ → List Frame → Type 0
 IsFeasible window before frames = (starts : List ℕ) × IsLayout window 0 before frames starts
 
--- main_data_begin of each frame where all main data start as early as they may
+-- main_data_begin of each frame, if all main data start as early as they may
 unfoldable pub begins_of : ℕ → ℕ → ℕ → List Frame → List ℕ
 begins_of window end before [] = []
 begins_of window end before (frame ∷ frames) =

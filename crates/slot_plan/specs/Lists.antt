@@ -2,12 +2,12 @@
 use Rattle.std.specs.Prelude.{◌≡◌, ℕ, ◌<◌, ◌⊎◌, List, [], ◌∷◌, Contains}
 use Rattle.slot_plan.specs.Layouts.{Frame, IsFeasible}
 
--- a frame whose area is still open: the bytes of its main data, and the areas among which there is a choice
+-- a frame whose slot isn't decided: the bytes of its main data, and the areas among which there is a choice
 pub record Open : Type 0 where
   pub bytes : ℕ
   pub areas : List ℕ
 
--- an area for each frame, out of its own
+-- an area for each frame, one of those among which it chooses
 unfoldable pub AreChosen : List Open → List ℕ → Type 0
 AreChosen [] [] = Unit {0}
 AreChosen [] (area ∷ areas) = ⊥

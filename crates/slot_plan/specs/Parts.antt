@@ -7,7 +7,7 @@ use Rattle.slot_plan.specs.declared.needs.Need.{Need}
 use Rattle.slot_plan.specs.Layouts.{Frame, IsFeasible}
 use Rattle.slot_plan.specs.Lists.{Open, CanBeLaid}
 
--- a frame of the output whose slot is open
+-- a frame or a lead-in of the output, whose slot isn't decided
 pub record Item : Type 0 where
   pub lead_in : Bool
   pub class : ClassFields
@@ -76,19 +76,20 @@ abbrev pub window_in : List Need → ℕ
 window_in [] = 0
 window_in (first ∷ needs) = window_of first.header.version
 
--- the needs from each place to the next, and from the last place to the end
+-- the needs from the place of each part to that of the next, and from the last place to the end
 unfoldable pub parts_of : List Need → List ℕ → List (List Need)
 parts_of needs [] = []
 parts_of needs (from ∷ []) = slice_range needs from (length needs) ∷ []
 parts_of needs (from ∷ to ∷ places) = slice_range needs from to ∷ parts_of needs (to ∷ places)
 
--- a part's frames, after its lead-in where it has one
+-- a part's frames, after its lead-in if it has one
 unfoldable pub items_of : (HeaderFields → List SlotFields) → List Need → Option SlotFields → List Item
 items_of choices part None = map (item_of choices) part
 items_of choices [] (Some slot) = []
 items_of choices (first ∷ part) (Some slot) = lead_in_of (class_of first.header) (slot ∷ []) ∷ map (item_of choices) (first ∷ part)
 
--- The lead-in of a part alone: none where its frames can be laid without one. Else it has the least area with which they can be laid after it.
+-- The lead-in of a part alone: none if its frames can be laid without one, else the one with the smallest area with which they can be laid
+-- after it.
 unfoldable pub IsLeadIn : ℕ → (HeaderFields → List SlotFields) → List Need → Option SlotFields → Type 0
 IsLeadIn window choices part None = CanBeLaid window (map open_of (items_of choices part None))
 IsLeadIn window choices [] (Some slot) = ⊥

@@ -1,4 +1,4 @@
--- The plan: the least list with the lead-ins that each part has alone, laid as early as may be.
+-- The plan: the least list with the lead-ins that each part has alone, laid as early as it may be.
 use Rattle.std.specs.Prelude.{◌≡◌, ℕ, List, [], ◌∷◌, map, Contains, Option}
 use Rattle.frame_header.specs.Fields.{SlotFields, HeaderFields}
 use Rattle.slot_plan.specs.declared.needs.Need.{Need}
@@ -8,7 +8,7 @@ use Rattle.slot_plan.specs.Layouts.{begins_of}
 use Rattle.slot_plan.specs.Lists.{IsLeast, frames_of}
 use Rattle.slot_plan.specs.Parts.{Item, area_in, open_of, AreLeadIns, whole_of}
 
--- a slot for each frame, out of its own, and lead-ins where they belong
+-- a slot for each item, one of those among which it chooses, and lead-ins where they belong
 unfoldable pub AreFor : List Item → List Placed → Type 0
 AreFor [] [] = Unit {0}
 AreFor [] (p ∷ placed) = ⊥
@@ -21,7 +21,7 @@ areas_in [] placed = []
 areas_in (item ∷ items) [] = []
 areas_in (item ∷ items) (p ∷ placed) = area_in item p.slot ∷ areas_in items placed
 
--- what is where these frames were to be placed
+-- these items in the slots of the least list, their main data as early as they may be
 pub record IsPlanFor (window : ℕ) (items : List Item) (placed : List Placed) : Type 0 where
   pub slots : AreFor items placed
   pub least : IsLeast window (map open_of items) (areas_in items placed)

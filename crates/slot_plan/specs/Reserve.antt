@@ -1,5 +1,5 @@
--- How `plan` goes about it: the bytes that have to be free before a frame, and the choice by them. Of these the plan as a function
--- (`ThePlan`) cites the bytes alone.
+-- How `plan` works: the bytes that have to be free before a frame, and the choice by them. Of these the plan as a function (`ThePlan`)
+-- cites the bytes alone.
 use Rattle.std.specs.Prelude.{◌≡◌, ℕ, ◌+◌, ◌-◌, ◌≤◌, max, Bool, List, [], ◌∷◌, ◌++◌, map, Contains, Option}
 use Rattle.frame_header.specs.Fields.{SlotFields, ClassFields, HeaderFields}
 use Rattle.frame_header.specs.Tables.{class_of, area_of}
@@ -14,12 +14,12 @@ unfoldable pub greatest : List ℕ → ℕ
 greatest [] = 0
 greatest (n ∷ ns) = max n (greatest ns)
 
--- the least number of free bytes before the frames with which they can all be laid
+-- the smallest number of free bytes before the frames with which they can all be laid
 unfoldable pub needed : List Open → ℕ
 needed [] = 0
 needed (o ∷ opens) = (o.bytes + needed opens) - greatest o.areas
 
--- what is needed after each frame, the last frame first
+-- what is needed after each frame, the last frame's first
 unfoldable pub needed_behind : List Open → List ℕ
 needed_behind [] = []
 needed_behind (o ∷ opens) = needed_behind opens ++ needed opens ∷ []
@@ -28,7 +28,7 @@ needed_behind (o ∷ opens) = needed_behind opens ++ needed opens ∷ []
 abbrev pub free_behind : ℕ → ℕ → ℕ → ℕ → ℕ
 free_behind window free bytes area = let left = (free + area) - bytes in left - (left - window)
 
--- of some slots, the one of the least area that has at least so many bytes
+-- of some slots, the one with the smallest area of at least so many bytes
 pub record IsLeastSlot (wanted : ℕ) (class : ClassFields) (protected : Bool) (slots : List SlotFields) (slot : SlotFields) : Type 0 where
   pub chosen : Contains slots slot
   pub enough : wanted ≤ area_of class slot protected
@@ -38,7 +38,7 @@ pub record IsLeastSlot (wanted : ℕ) (class : ClassFields) (protected : Bool) (
 abbrev pub IsLeastFor : ℕ → (HeaderFields → List SlotFields) → HeaderFields → SlotFields → Type 0
 IsLeastFor wanted choices h slot = IsLeastSlot wanted (class_of h) h.protected (choices h) slot
 
--- each frame has the least area that leaves what is needed after it
+-- each frame has the smallest area that leaves what is needed after it
 unfoldable pub ArePlaced : ℕ → ℕ → List Item → List Placed → Type 0
 ArePlaced window free [] [] = Unit {0}
 ArePlaced window free [] (p ∷ placed) = ⊥
@@ -64,8 +64,8 @@ pub record AreReserves (window : ℕ) (choices : HeaderFields → List SlotField
   pub within : AllWithin window (opens_in choices part)
   pub own : AreChosen (opens_in choices part) (map own_area part)
 
--- From so many free bytes before some items to those before the items that are left, more frames were placed: whatever is placed right from there on is
--- placed right from the first on.
+-- More frames were placed, from `free` free bytes before the first of `items` to `after` before the first of those that are left. Whatever
+-- places the others rightly from there on places, together with these frames, all of them rightly.
 pub record PlacesOn (window free after : ℕ) (items left : List Item) (old new : List Placed) : Type 0 where
   pub more : List Placed
   pub appended : new ≡ old ++ more

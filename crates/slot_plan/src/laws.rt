@@ -2,20 +2,21 @@
 //! calls it.
 ghost use Rattle.slot_plan.specs.Laws.{LeadInsComeFirst, PlansAreUnique, ThePlanIsThePlan};
 
-/// The lead-in of a part, defined as the one of the least area with which the part can be laid, is what is there
-/// first in the lexicographically least list of the part's frames after one lead-in, if they can't be laid
-/// without one.
+/// If the frames of a part can't be laid without a lead-in, its lead-in is the one with the smallest area
+/// with which they can. This is the first entry of the lexicographically least list of these frames after
+/// one lead-in of any slot.
 pub fn lead_ins_come_first()
     ensures { LeadInsComeFirst }
 {}
 
-/// No parts have two plans, where the areas among which each frame chooses ascend.
+/// Parts have no two plans, if the areas among which each frame chooses ascend.
 pub fn plans_are_unique()
     ensures { PlansAreUnique }
 {}
 
-/// Parts of one class, each with a layout in its own slots after a whole window of free bytes, have one plan: what is
-/// placed frame by frame, each in the least area of its choices that leaves what is needed after it.
+/// Parts of one class, each with a layout in its own slots after a whole window of free bytes, have one
+/// plan, which is made frame by frame: each has the smallest area of its choices that leaves as many free
+/// bytes as are needed after it.
 pub fn the_plan_is_the_plan()
     ensures { ThePlanIsThePlan }
 {}

@@ -1,4 +1,5 @@
-//! Layouts of main data, and the least list of slots for frames whose main data are given.
+//! Decides in which slots frames are written and where their main data begin: layouts of main data, and the
+//! lexicographically least list of slots that has one.
 #![tactic(auto)]
 
 mod laws;

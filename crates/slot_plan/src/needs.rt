@@ -3,7 +3,8 @@
 use frame_header::{Header, Slot};
 use info_header::InSlot;
 
-/// A frame that is to be placed: its header, and the bytes of its main data. It takes 14 bytes of memory.
+/// A frame that is to be placed: its header, and the length of its main data in bytes. It takes 14 bytes of
+/// memory.
 #[derive(Clone, Copy, Debug, PartialEq, Eq)]
 pub struct Need {
     pub header: Header,

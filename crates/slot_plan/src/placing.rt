@@ -1,4 +1,5 @@
-//! From the first frame of a part to its last: the least slot that leaves what is needed after it.
+//! Gives each frame of a part, from the first to the last, the slot with the smallest area that leaves what
+//! is needed after it.
 ghost use Rattle.std.specs.Prelude.{◌≡◌, ◌+◌, ◌-◌, ◌<◌, ◌≤◌, true, false, [], ◌∷◌, map, length, IfOk};
 ghost use Rattle.frame_header.specs.Tables.{class_of, window_of};
 ghost use Rattle.frame_header.specs.Slots.{all_slots};
@@ -12,7 +13,8 @@ use crate::reserves::reserves_of;
 use crate::slots::{free_behind, least_slot_of};
 use std::alloc::{AllocError, Global};
 
-/// The frame in the least slot that leaves so many bytes free after it.
+/// The frame in the slot with the smallest area that leaves `behind` bytes free after it, where `free` are
+/// free before it.
 fn place_frame<P: Policy>(need: &Need, behind: u16, free: u32, policy: &P) -> Placed
     requires enough { (need.now.bytes + behind) - greatest
         (open_of (item_of (P.choices_of policy.now) need.now)).areas ≤ free }
@@ -31,7 +33,8 @@ fn place_frame<P: Policy>(need: &Need, behind: u16, free: u32, policy: &P) -> Pl
     }
 }
 
-/// The lead-in of the least area that alone leaves so many bytes free after it.
+/// The lead-in with the smallest area that leaves `behind` bytes free after it by itself, where `free` are
+/// free before it.
 fn lead_in(need: &Need, behind: u16, free: u32) -> Placed
     requires enough { behind ≤ window_of need.now.header.version }
     requires free { free ≤ 511 }
@@ -50,8 +53,11 @@ fn lead_in(need: &Need, behind: u16, free: u32) -> Placed
     }
 }
 
-/// Places the frames of a part, each with what is needed after it, the last frame's first. Gives the bytes
-/// that are free after them.
+/// Places the frames of a part, and answers how many bytes are free after them. `behind` has what is needed
+/// after each, the last frame's first.
+///
+/// # Errors
+/// Where there is no memory.
 fn place_frames<P: Policy>(
     window: u32,
     free: u32,
@@ -82,7 +88,11 @@ fn place_frames<P: Policy>(
     Ok(free)
 }
 
-/// Places a part after its lead-in, where it has one; gives the bytes that are free after it.
+/// Places the frames of a part, after its lead-in if it has one, and answers how many bytes are free after
+/// them.
+///
+/// # Errors
+/// Where there is no memory.
 pub(crate) fn place_part<P: Policy>(
     alloc: Global,
     window: u32,

@@ -8,7 +8,7 @@ use crate::placing::place_part;
 use crate::policy::Policy;
 use std::alloc::{AllocError, Global};
 
-/// Where the part at this place ends: where the next begins, or after the last need.
+/// Where the part at place `at` ends: where the next begins, or after the last of `needs`.
 pub(crate) fn end_of(needs: &[Need], parts: &[u32], at: usize) -> usize
     requires { at < length parts.now }
     ensures next { at + 1 < length parts.now → result ≡ slice_index parts.now (at + 1) }
@@ -21,10 +21,17 @@ pub(crate) fn end_of(needs: &[Need], parts: &[u32], at: usize) -> usize
     }
 }
 
-/// The lexicographically least list of areas that has a layout, the lead-in of each part being the one that
-/// it has alone: none where its frames have a layout without one, else that of the least area with which
-/// they have one. Main data start as early as they may (ISO/IEC 11172-3, 2.4.2.7). `parts` holds the place
-/// of each part's first need, the first 0. Want of memory is the one refusal.
+/// The plan of 1 to 64 parts: the lexicographically least list of areas that has a layout, with the
+/// lead-ins that the parts have alone. A part has none if its frames have a layout without one, else the
+/// one with the smallest area with which they have one. Main data begin as early as they may (ISO/IEC
+/// 11172-3, 2.4.2.7).
+///
+/// `needs` has at most 2,900,000 frames, all of one class. `parts` has the place in it of each part's first
+/// frame, the first 0, each greater than the one before. Each part has a layout in its own slots after a
+/// whole window of free bytes.
+///
+/// # Errors
+/// Where there is no memory.
 pub fn plan<P: Policy>(
     alloc: Global,
     needs: &[Need],

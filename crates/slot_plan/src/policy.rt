@@ -1,4 +1,4 @@
-//! Among which slots a frame chooses.
+//! Among which slots a frame may choose.
 ghost use Rattle.std.specs.Prelude.{◌≡◌, ◌<◌, ◌≤◌, List, [], ◌∷◌, map, Contains, AllPairs};
 ghost use Rattle.frame_header.specs.Fields.{SlotFields, HeaderFields};
 ghost use Rattle.frame_header.specs.Tables.{class_of, area_of};
@@ -14,7 +14,7 @@ use frame_header::{Header, Slot};
 pub trait Policy {
     ghost choices_of: { Self → HeaderFields → List SlotFields };
 
-    /// The slots that a frame with this header may have, the areas ascending. Its own is among them.
+    /// The slots that a frame with this header may have, by ascending areas. Its own is among them.
     fn choices(&self, header: &Header) -> ArrayVec<Slot, 28>
         ensures choices { result.items ≡ choices_of self.now header.now }
         ensures ascending { AllPairs (λ m n. m < n)
@@ -26,7 +26,8 @@ pub trait Policy {
         ensures largest { result ≡ greatest (areas_for (choices_of self.now) header.now) }
         ensures own { Contains (choices_of self.now header.now) header.now.slot };
 
-    /// The least slot that a frame with this header may have of which the area has at least so many bytes.
+    /// Of the slots that a frame with this header may have, the one with the smallest area of at least
+    /// `wanted` bytes.
     fn least_slot(&self, header: &Header, wanted: u64) -> Slot
         requires { wanted ≤ greatest (areas_for (choices_of self.now) header.now) }
         ensures { IsLeastFor wanted (choices_of self.now) header.now result };
@@ -54,7 +55,7 @@ impl Policy for Keep {
     }
 }
 
-/// The slot of the largest area.
+/// The slot with the largest area.
 const LARGEST_SLOT: Slot = Slot {
     rate_index: 14,
     padding: true,
@@ -68,7 +69,7 @@ impl Policy for Least {
     ghost choices_of = { λ p h. all_slots };
 
     fn choices(&self, header: &Header) -> ArrayVec<Slot, 28> {
-        // Its own slot is one of them.
+        // A look inside gives the proof that its own slot is one of them.
         let _ = &header.slot;
         header.class().slots()
     }

@@ -1,4 +1,5 @@
-//! From the last frame of a part back to its first: how many bytes have to be free before each.
+//! How many bytes have to be free before and after each frame of a part, from the last frame back to the
+//! first.
 ghost use Rattle.std.specs.Prelude.{◌≡◌, ◌+◌, ◌-◌, ◌≤◌, map, IfOk, Contains};
 ghost use Rattle.slot_plan.specs.Parts.{item_of, open_of, own_frame, own_area};
 ghost use Rattle.slot_plan.specs.Layouts.{IsFeasible};
@@ -8,7 +9,7 @@ use crate::needs::Need;
 use crate::policy::Policy;
 use std::alloc::{AllocError, Global};
 
-/// The bytes that have to be free.
+/// How many bytes have to be free.
 #[derive(Drop)]
 pub(crate) struct Reserves {
     /// After each frame, the last frame's first.
@@ -17,7 +18,7 @@ pub(crate) struct Reserves {
     pub(crate) before: u16,
 }
 
-/// What has to be free before a frame, where so many bytes have to be free after it.
+/// How many bytes have to be free before a frame, if `behind` bytes have to be free after it.
 fn needed_before<P: Policy>(need: &Need, behind: u16, policy: &P) -> u64
     ensures needed { result ≡ (need.now.bytes + behind) - greatest
         (open_of (item_of (P.choices_of policy.now) need.now)).areas }
@@ -28,7 +29,10 @@ fn needed_before<P: Policy>(need: &Need, behind: u16, policy: &P) -> u64
     (u64::from(need.bytes) + u64::from(behind)).saturating_sub(u64::from(largest))
 }
 
-/// What each frame of the part needs after it. Want of memory is the one refusal.
+/// What each frame of the part needs after it, and the first before it.
+///
+/// # Errors
+/// Where there is no memory.
 pub(crate) fn reserves_of<P: Policy>(
     alloc: Global,
     window: u32,

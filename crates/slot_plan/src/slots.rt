@@ -1,4 +1,4 @@
-//! The least slot of a class that is large enough, and what a frame leaves free.
+//! The smallest slot of a class that is large enough, and what a frame leaves free.
 ghost use Rattle.std.specs.Prelude.{◌≡◌, ◌+◌, ◌≤◌, false};
 ghost use Rattle.frame_header.specs.Slots.{all_slots, largest_slot};
 ghost use Rattle.frame_header.specs.Tables.{area_of};
@@ -9,14 +9,14 @@ use frame_header::{Class, Slot};
 /// The last of the bit rate indexes.
 const LAST_INDEX: u32 = 14;
 
-/// The least slot of a class of which the area has at least so many bytes. The areas rise with the bit rate index, so
-/// the first index with enough is found by halves.
+/// Of all slots of a class, the one with the smallest area of at least `wanted` bytes. The areas rise with
+/// the bit rate index, so the first index with enough is found by halving.
 #[inline]
 pub(crate) fn least_slot_of(class: Class, protected: bool, wanted: u64) -> Slot
     requires { wanted ≤ area_of class largest_slot protected }
     ensures { IsLeastSlot wanted class protected all_slots result }
 {
-    // The areas rise, since they are those of a class.
+    // A look inside gives the proof the invariant of the class, by which its areas ascend.
     let _ = &class.version;
     let mut low = 1;
     let mut high = LAST_INDEX;
@@ -44,7 +44,8 @@ pub(crate) fn least_slot_of(class: Class, protected: bool, wanted: u64) -> Slot
     }
 }
 
-/// The free bytes after a frame: what it leaves of those before it and its own area, but no more than the window.
+/// The free bytes after a frame: what it leaves of those before it and of its own area, but no more than
+/// the window.
 pub(crate) fn free_behind(window: u32, free: u32, bytes: u32, area: u32) -> u32
     requires window { window ≤ 511 }
     requires free { free ≤ window }

@@ -1,4 +1,4 @@
--- The last slot has the greatest area.
+-- The last slot has the largest area.
 use Rattle.std.proofs.Common.{◌∙◌}
 use Rattle.slot_plan.proofs.AreaLaws.{area-last}
 use Rattle.rate_plan.proofs.menu.largest_area.Goals as goal

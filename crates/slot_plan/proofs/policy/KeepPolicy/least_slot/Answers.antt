@@ -1,4 +1,4 @@
--- The only slot is the least.
+-- The only slot is the smallest.
 use Rattle.std.proofs.Common.{◌∷◌, [], sym, ap, subst}
 use Rattle.frame_header.specs.Tables.{class_of}
 use Rattle.slot_plan.specs.Reserve.{IsLeastSlot}
