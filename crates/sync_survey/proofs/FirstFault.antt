@@ -1,4 +1,4 @@
--- The faults of a file are listed by their offsets, so that the first of them has the least.
+-- The faults of a file are listed by their offsets, so that the first of them has the smallest.
 use Rattle.std.proofs.Common.{◌≡◌, ℕ, ◌+◌, ◌≤◌, ◌⊎◌, Bool, true, false, cond, ltb, not, List, [], ◌∷◌, ◌++◌, length, drop, Option, Some, None, Result, Ok, Err, refl, sym, ◌∙◌, ap, subst, inl, inr, ⊎_elim, arith, append_assoc}
 use Rattle.std.specs.Prelude.{◌==◌, flat_map, IfErr, option_to_list}
 use Rattle.std.specs.List.{enumerate_from}
@@ -188,7 +188,7 @@ one_only (Some f) fault e =
     let same : f ≡ fault = cc in
     (omega (arith, ap fault_place same), tt)
 
--- the first fault of a file with this start has the least offset
+-- the first fault of a file with this start has the smallest offset
 pub first_is_least : (file : List ℕ) (allowed : ℕ) (start : Start) (fault : SurveyFault) → start.first.offset ≤ length file → first_of (faults_from file allowed start) ≡ Some fault → NoneBefore (fault_place fault) (faults_from file allowed start)
 unfolding faults_from walk_from
 first_is_least file allowed start fault within is =
@@ -223,7 +223,7 @@ none_at_all : (xs : List SurveyFault) → NoneBefore 0 xs
 none_at_all [] = tt
 none_at_all (x ∷ xs) = (omega arith, none_at_all xs)
 
--- a fault that is nowhere, or one of the file
+-- a fault that has no offset, or one of the file
 nowhere : (fault : SurveyFault) → (fault_place fault ≡ 0) ⊎ (kind_of fault ≡ IsRefused)
 nowhere Absent = inl refl
 nowhere (TooLong size) = inl refl

@@ -27,7 +27,7 @@ text_by : (h : HeaderFields) (xs ys : List ℕ) → has_text (low_place h) xs �
 unfolding head_text_of
 text_by h xs ys low high = rw (low, high) refl
 
--- both places where a text may stand are after the first bytes of the side information
+-- both places at which a text may be are after the first bytes of the side information
 places : (h : HeaderFields) → (overhead_of (class_of h) h.protected - 2 ≤ low_place h) × (overhead_of (class_of h) h.protected - 2 ≤ high_place h)
 unfolding low_place high_place
 places h = (omega (arith, overhead-most (class_of h) h.protected), omega (arith, overhead-most (class_of h) h.protected))
@@ -39,7 +39,7 @@ text-same h xs ys same =
     (text_same (low_place h) xs ys (drop_later (low_place h) from xs ys (places h).0 same))
     (text_same (high_place h) xs ys (drop_later (high_place h) from xs ys (places h).1 same))
 
--- a head, so many bytes nearer to the front of the file
+-- a head, so many bytes nearer to the beginning of the file
 abbrev pub nearer_head : ℕ → Head → Head
 nearer_head gap head = record head { offset = head.offset - gap }
 
@@ -47,7 +47,7 @@ placed : (gap : ℕ) (p : PlacedFrame) (o : Option ℕ) → option_map (λ at. r
 placed gap p (Some at) = refl
 placed gap p None = refl
 
--- a frame that stands so many bytes nearer to the front of another file, and is the same there from two bytes before its area on
+-- a frame that is so many bytes nearer to the beginning of another file, and is the same there from two bytes before its area on
 pub head_of-nearer : (old file : List ℕ) (gap : ℕ) (p : PlacedFrame)
     → drop (overhead_of (class_of p.header) p.header.protected - 2) (frame_bytes file (nearer_frame gap p)) ≡ drop (overhead_of (class_of p.header) p.header.protected - 2) (frame_bytes old p)
     → head_of file (nearer_frame gap p) ≡ option_map (nearer_head gap) (head_of old p)
@@ -61,7 +61,7 @@ area_placed : (old file : List ℕ) (gap : ℕ) (p : PlacedFrame) (o : Option �
 area_placed old file gap p (Some at) same = same
 area_placed old file gap p None same = refl
 
--- a head's area, where the frame's area is the same so many bytes nearer to the front of another file
+-- a head's area, if the frame's area is the same so many bytes nearer to the beginning of another file
 pub head_bytes-nearer : (old file : List ℕ) (gap : ℕ) (p : PlacedFrame) → area_bytes file (p.offset - gap) p.header ≡ area_bytes old p.offset p.header
     → head_bytes file (option_map (nearer_head gap) (head_of old p)) ≡ head_bytes old (head_of old p)
 unfolding head_of

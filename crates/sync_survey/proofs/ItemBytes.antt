@@ -1,4 +1,4 @@
--- An item is known by its own bytes: whatever bytes are after them, it is what is at their front.
+-- An item is known by its own bytes, whatever bytes are after them.
 use Rattle.std.proofs.Common.{◌≡◌, ℕ, ◌+◌, ◌≤◌, true, cond, leb, List, ◌++◌, length, take, drop, Some, Ok, Err, refl, sym, ◌∙◌, ap, codes, arith}
 use Rattle.std.proofs.lemmas.Bool.{false≢true}
 use Rattle.std.proofs.lemmas.List.{length-take, length-drop, length-take-le, take-append-le, take-take, get_or-take, take_at}
@@ -23,7 +23,7 @@ use Rattle.sync_survey.proofs.OneItem.{stands-only}
 
 -- ---- a block
 
--- by so many of its first bytes a block of this kind is known
+-- by how many of its first bytes a block of this kind is known
 abbrev pub known_by : Kind → ℕ
 known_by Id3v2 = 10
 known_by Id3v1 = 3
@@ -73,7 +73,7 @@ header_front-four xs ys same =
 
 -- ---- an item
 
--- These bytes are an item: they are as many as it has, and whatever bytes are after them, it is what is at their front.
+-- These bytes are an item: they are as many as it has, and whatever bytes are after them, they begin with it.
 pub record IsItem (item : Item) (own : List ℕ) : Type 0 where
   pub size : length own ≡ size_of item
   pub known : (rest : List ℕ) → item_front (own ++ rest) ≡ item
@@ -92,7 +92,7 @@ frame_item h own header long least = record {
 pub frame-least : (h : HeaderFields) → IsHeader h → 4 ≤ length_of (class_of h) h.slot
 frame-least h fields = omega (arith, area_some (class_of h) h.slot (IsClass-class_of h fields) fields.slot)
 
--- what is at the front of bytes and is whole is known by its own bytes
+-- a whole item with which bytes begin is known by its own bytes
 stands_kept : (item : Item) (bytes rest : List ℕ) → Stands bytes item → belongs Stream item ≡ true → size_of item ≤ length bytes → Stands (take (size_of item) bytes ++ rest) item
 stands_kept (Frame h) bytes rest here is within =
     let size = length_of (class_of h) h.slot in

@@ -13,7 +13,7 @@ use Rattle.sync_survey.specs.Runs.{Placed, belongs, item_of, run, AreEndToEnd, b
 use Rattle.sync_survey.proofs.RunsLaws.{item_of-is, item_of-whole, run-only}
 use Rattle.sync_survey.proofs.ItemBytes.{IsItem, kept_item}
 
--- ---- items of the front
+-- ---- items before the first frame
 
 -- what may be before the first frame may be after it
 pub stream_belongs : (part : Part) (item : Item) → belongs part item ≡ true → belongs Stream item ≡ true
@@ -58,9 +58,9 @@ kept_items file from (p ∷ ps) to ends =
     let here = item_of-is Stream file p.offset p.item ends.1 in
     (bytes_in file p, bytes_of_items file ps, refl, kept_item file p.offset p.item here.is here.belongs here.within, kept_items file (p.offset + size_of p.item) ps to ends.2)
 
--- ---- where they stand
+-- ---- where they are
 
--- the item, so many bytes nearer to the front of the file
+-- the item, so many bytes nearer to the beginning of the file
 abbrev pub nearer : ℕ → Placed → Placed
 nearer gap p = record p { offset = p.offset - gap }
 
@@ -68,7 +68,7 @@ pub item_at-known : (file : List ℕ) (place at : ℕ) (bytes : List ℕ) (item 
 unfolding item_at
 item_at-known file place at bytes item same is known = ap (λ n. item_front (drop n file)) same ∙ ap item_front is ∙ known
 
--- Where bytes that are items are in another file, so many bytes nearer to its front, they are there end to end.
+-- If bytes that are items are in another file, so many bytes nearer to its beginning, they are there end to end.
 pub items-end : (part : Part) (old file : List ℕ) (gap from at : ℕ) (ps : List Placed) (to : ℕ) (bytes behind : List ℕ) → AreEndToEnd part old from ps to → from ≡ at + gap → AreItems ps bytes → at ≤ length file
     → drop at file ≡ bytes ++ behind → AreEndToEnd part file at (map (nearer gap) ps) (to - gap)
 items-end part old file gap from at [] to bytes behind ends there are within is = omega (arith, ends, there)
@@ -95,7 +95,7 @@ nearer-none (p ∷ ps) =
     let same : p.offset - 0 ≡ p.offset = omega arith in
     λ i. record p { offset = same i } ∷ nearer-none ps i
 
--- they are the run there, where no further item of the part stands
+-- they are the run there, if no further item of the part begins after them
 pub items-run : (part : Part) (old file : List ℕ) (gap from at : ℕ) (ps : List Placed) (to : ℕ) (bytes behind : List ℕ) → AreEndToEnd part old from ps to → from ≡ at + gap → AreItems ps bytes → at ≤ length file → drop at file ≡ bytes ++ behind → item_of part file (to - gap) ≡ None → run part file at ≡ record { items = map (nearer gap) ps; stop = to - gap }
 items-run part old file gap from at ps to bytes behind ends there are within is none =
     run-only part file at (map (nearer gap) ps) (to - gap) (items-end part old file gap from at ps to bytes behind ends there are within is) none
@@ -128,7 +128,7 @@ one_mapped : (f g : Piece → Piece) (at : ℕ) (item : Item) (ys : List Piece) 
 one_mapped f g at (Block b) ys same rest = ap₂ (λ (p : Piece) (l : List Piece). p ∷ l) (same (record { offset = at; block = b }) refl) rest
 one_mapped f g at _ ys same rest = rest
 
--- what is done to blocks in front of an offset, and what is done to blocks from an offset on
+-- two changes that are the same for blocks between two offsets are the same for the blocks that are there
 pub blocks-between : (part : Part) (f g : Piece → Piece) (file : List ℕ) (low high from : ℕ) (ps : List Placed) (to : ℕ) → ((p : Piece) → low ≤ p.offset → p.offset < high → f p ≡ g p) → AreEndToEnd part file from ps to → low ≤ from → to ≤ high
     → map f (blocks_of ps) ≡ map g (blocks_of ps)
 blocks-between part f g file low high from [] to same ends begin end = refl

@@ -1,4 +1,4 @@
--- What is at the front of bytes: one item, and no other.
+-- What bytes begin with: one item, and no other.
 use Rattle.std.proofs.Common.{◌≡◌, ℕ, ◌<◌, ◌==◌, Bool, true, false, cond, List, [], ◌∷◌, take, drop, Option, Some, None, Result, Ok, Err, refl, sym, ◌∙◌, ap, subst, arith}
 use Rattle.std.proofs.lemmas.Bool.{false≢true, eqb-true}
 use Rattle.frame_header.specs.declared.header.NotHeader.{NotHeader}

@@ -1,4 +1,4 @@
--- At most one item is at the front of bytes.
+-- Bytes begin with one item at most.
 use Rattle.std.proofs.Common.{◌≡◌, ◌≢◌, ℕ, ◌+◌, ◌*◌, ◌^◌, ◌<◌, ◌≤◌, ◌==◌, Bool, true, false, cond, List, [], ◌∷◌, ◌++◌, length, take, drop, get_or, Option, Some, None, Result, Ok, Err, refl, sym, ◌∙◌, ap, subst, arith}
 use Rattle.std.proofs.lemmas.Bool.{eqb-true, leb-true}
 use Rattle.std.proofs.lemmas.List.{length-take}
@@ -97,7 +97,7 @@ by_byte-zero : (bytes : List ℕ) → take 1 bytes ≡ 0 ∷ [] → (get_or byte
 by_byte-zero [] first = absurd cc
 by_byte-zero (b ∷ bs) first = let same : b ≡ 0 = cc in (same, ap (λ x. by_byte (x ∷ bs)) same)
 
--- where an item stands, it is the one that the definition finds
+-- an item with which bytes begin is the one that the definition finds
 pub stands-only : (bytes : List ℕ) (item : Item) → Stands bytes item → item ≡ item_front bytes
 unfolding item_front
 stands-only bytes (Frame h) here = ap (λ r. by_header r (by_block (block_front bytes) (by_byte bytes))) (sym here)

@@ -38,7 +38,7 @@ pub record IsSurveyedTo (file : List ℕ) (start : Start) (head : Option Head) (
   pub place_is : place_now ≡ place head rows (length rows)
   pub ended_is : ended ≡ end_before head rows (length rows)
 
--- so far, and these rows are the frames that were met, each marked where it is lost
+-- these rows are the frames that were met so far, each marked if it is lost
 pub record IsMarkedTo (file : List ℕ) (start : Start) (head : Option Head) (allowed : ℕ) (rows : List Row) (blocks : List Piece) (place_now ended at : ℕ) : Type 0 where
   pub frames : List Row
   pub marks : rows ≡ marked head frames

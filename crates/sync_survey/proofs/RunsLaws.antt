@@ -54,7 +54,7 @@ none_behind : (part : Part) (file : List ℕ) (at : ℕ) (o : Option Item) → i
 none_behind part file at None is past = refl
 none_behind part file at (Some item) is past = let here = item_of-is part file at item is in absurd (omega (arith, here.within, here.some))
 
--- at the end of the file and past it no item stands
+-- at the end of the file and past it no item begins
 pub item_of-past : (part : Part) (file : List ℕ) (at : ℕ) → length file ≤ at → item_of part file at ≡ None
 item_of-past part file at past = none_behind part file at (item_of part file at) refl past
 
@@ -134,7 +134,7 @@ pub run-last : (part : Part) (file : List ℕ) (from : ℕ) → item_of part fil
 unfolding run
 run-last part file from = last_up_to (length file) part file from (omega arith)
 
--- items that follow end to end, where no further one stands, are the run
+-- items that follow end to end, with no further one after them, are the run
 pub run-only : (part : Part) (file : List ℕ) (from : ℕ) (ps : List Placed) (to : ℕ) → AreEndToEnd part file from ps to → item_of part file to ≡ None → run part file from ≡ record { items = ps; stop = to }
 run-only part file from [] to ends none = run-stopped part file from (ap (item_of part file) ends ∙ none) ∙ ap stopped ends
 run-only part file from (p ∷ ps) to ends none =

@@ -21,7 +21,7 @@ use Rattle.sync_survey.proofs.LooksLaws.{item_at-shown, item_at-behind, fits-lef
 
 -- ---- the first of so many offsets
 
--- what is at the first of so many offsets, from one on, where something does
+-- what is at the first of so many offsets, from one on, at which there is something
 abbrev pub first_of : (ℕ → Option PlacedFrame) → ℕ → ℕ → Option PlacedFrame
 first_of stands count from = slice_get (filter_map stands (range_with_len from count)) 0
 
@@ -57,7 +57,7 @@ pub first_of-some : (stands : ℕ → Option PlacedFrame) (count from at : ℕ) 
 first_of-some stands zero from at p first = absurd (omega (arith, first.low, first.high))
 first_of-some stands (suc n) from at p first = first_cases stands n from at p (stands from) refl first (first_of-some stands n (from + 1) at p)
 
--- where nothing was found, nothing stands
+-- where nothing was found, there is nothing
 is_nothing : (stands : ℕ → Option PlacedFrame) (n from at : ℕ) (o : Option PlacedFrame) → stands from ≡ o → slice_get (cons_option o (filter_map stands (range_with_len (from + 1) n))) 0 ≡ None →
     (first_of stands n (from + 1) ≡ None → from + 1 ≤ at → at < (from + 1) + n → stands at ≡ None) → (x : Option PlacedFrame) → stands at ≡ x → from ≤ at → at < from + suc n → stands at ≡ None
 is_nothing stands n from at (Some q) is found behind x here low high = absurd cc
@@ -120,11 +120,11 @@ pub first_anchored-none : (count : ℕ) (file : List ℕ) (from : ℕ) → ((at 
 unfolding first_anchored
 first_anchored-none count file from none = first_of-none (anchored_frame file) count from none
 
--- the frame at the least offset of the range where an anchored one stands; none where none does
+-- the frame at the smallest offset of the range at which there is an anchored one; none if there is none
 abbrev IsFirstAnchored : List ℕ → ℕ → ℕ → Option PlacedFrame → Type 0
 IsFirstAnchored file from to r = MatchOption r ((at : ℕ) → from ≤ at → at < to → is_anchored file at ≡ false) (λ p. IsLeast (is_anchored file) from to p.offset)
 
--- and it is at the least offset
+-- and it is at the smallest offset
 least_at : (file : List ℕ) (from to at : ℕ) (p : PlacedFrame) → IsFirstAt (anchored_frame file) from to at p → IsLeast (is_anchored file) from to at
 least_at file from to at p first = (first.low, first.high, ap is_some first.here, (λ earlier low high. ap is_some (first.none earlier low high)))
 
@@ -199,7 +199,7 @@ front_cases file at Free s e = absurd cc
 front_cases file at (Block b) s e = absurd cc
 front_cases file at _ s e = front_behind at _ s e
 
--- the start keeps where the blocks and zero bytes at the front end
+-- the start has where the front of the file ends
 pub start-front : (file : List ℕ) (s : Start) → start_of file ≡ Ok s → s.front_end ≡ front_end_of file
 unfolding start_of
 start-front file s e = front_cases file (front_end_of file) (item_at file (front_end_of file)) s e

@@ -158,7 +158,7 @@ fault_rightly class allowed at (Frame h) front old fault is =
 fault_rightly class allowed at Free front old fault is = absurd is
 fault_rightly class allowed at _ front old fault is = absurd is
 
--- ---- where frames and blocks stand
+-- ---- where frames and blocks are
 
 laid_push : (from : ℕ) (rows : List Row) (to later : ℕ) (r : Row) → AreLaid from rows to → SideFits (class_of r.header) r.side → to ≤ r.offset → r.offset + length_of (class_of r.header) r.header.slot ≤ later → AreLaid from (rows ++ r ∷ []) later
 laid_push from [] to later r laid fits low high = (omega (arith, laid, low), fits, high)

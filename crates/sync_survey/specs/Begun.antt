@@ -10,14 +10,14 @@ use Rattle.sync_survey.specs.Start.{start_of}
 use Rattle.sync_survey.specs.Walk.{head_of, IsFrameOf}
 use Rattle.sync_survey.specs.Survey.{HasLength, BlocksAreLaid}
 
--- these bytes begin so
+-- the bytes begin as this says
 pub record BeginsSo (bytes : List ℕ) (w : Walk) : Type 0 where
   pub start : start_of bytes ≡ Ok w.start
   pub head : w.head ≡ head_of bytes w.start.first
   pub kept : w.pieces.items ≡ blocks_of (run Front bytes 0).items
 
--- The name's file begins so: its first frame is within its length, the blocks and the junk are before it, and the head is that frame;
--- where the file is told, so are its bytes.
+-- What is known of the name's file: its first frame is within its length, the blocks and the junk are before it, and the head is that
+-- frame; where the file is told, its bytes begin as this says.
 pub record IsWalk (files : Files) (name : List ℕ) (w : Walk) : Type 0 where
   pub known : HasLength files name w.size
   pub whole : w.start.first.offset + size_of (Frame w.start.first.header) ≤ w.size

@@ -21,15 +21,15 @@ use Rattle.sync_survey.specs.MainData.{rows_of, own_area, start_of_data, end_of_
 
 -- ---- a frame
 
--- the fault, where it is one
+-- this fault, if the test holds
 abbrev pub where_true : Bool → SurveyFault → List SurveyFault
 where_true holds fault = if holds then fault ∷ [] else []
 
--- this check word is in the frame, and isn't the right one
+-- the frame has this check word, and it isn't the right one
 abbrev pub has_wrong_word : ℕ → Row → Bool
 has_wrong_word said r = r.header.protected && not (said == check_word_of r.header r.side)
 
--- the main data of a frame whose own area begins at this place begin before the end of those before
+-- the main data of a frame whose own area begins at this place begin before the end of those before them
 abbrev pub overlaps : ℕ → ℕ → Row → Bool
 overlaps place ended r = nat_lt (start_of_data place r) ended
 
@@ -37,11 +37,11 @@ overlaps place ended r = nat_lt (start_of_data place r) ended
 abbrev pub overruns : ℕ → Row → Bool
 overruns place r = nat_lt (place + own_area r.header) (end_of_data place r)
 
--- the bits that are there for them
+-- how many bits there are for them
 abbrev pub room_for_data : Row → ℕ
 room_for_data r = 8 * (r.side.main_data_begin + own_area r.header)
 
--- the faults of a frame's main data, in their order, where it has its own
+-- the faults of a frame's main data, in their order, if the frame isn't lost
 abbrev pub own_faults : ℕ → ℕ → Row → List SurveyFault
 own_faults place ended r =
     where_true (points_too_far place r) (BackPointer r.offset r.side.main_data_begin place)
@@ -56,7 +56,7 @@ data_faults place ended r = if lacks_data place ended r then [] else own_faults 
 abbrev pub word_faults : ℕ → Row → List SurveyFault
 word_faults said r = where_true (has_wrong_word said r) (CheckWord r.offset said (check_word_of r.header r.side))
 
--- the fault of a frame that so many frames are before, where so many are allowed
+-- the fault of a frame before which there are as many frames as are allowed
 abbrev pub count_faults : ℕ → ℕ → Row → List SurveyFault
 count_faults count allowed r = where_true (count == allowed) (TooManyFrames r.offset)
 
@@ -64,8 +64,8 @@ count_faults count allowed r = where_true (count == allowed) (TooManyFrames r.of
 abbrev pub later_faults : ℕ → ℕ → ℕ → ℕ → ℕ → Row → List SurveyFault
 later_faults said allowed place ended count r = word_faults said r ++ data_faults place ended r ++ count_faults count allowed r
 
--- The faults of a frame, in their order: the check word that is in it, the place of its own area among the main data, the end of
--- the main data before it, and how many frames are before it are given, and of how many frames the file may be.
+-- The faults of a frame, in their order. Given are the check word that is in it, the class, how many frames the file may have, the place of
+-- the frame's own area among all areas, the end of the main data before it, and how many frames are before it.
 unfoldable pub faults_at : ℕ → ClassFields → ℕ → ℕ → ℕ → ℕ → Row → List SurveyFault
 faults_at said class allowed place ended count r =
     where_true (not (same_class (class_of r.header) class)) (Mixed r.offset)
@@ -88,7 +88,7 @@ abbrev pub first_of : List SurveyFault → Option SurveyFault
 first_of [] = None
 first_of (fault ∷ later) = Some fault
 
--- the class of the first frame of the walk, be it the head
+-- the class of the first frame of the walk, also if it is the head
 abbrev pub class_from : Start → ClassFields
 class_from start = class_of start.first.header
 
@@ -133,7 +133,7 @@ survey_by file allowed (Ok start) = unless_fault (first_of (faults_from file all
 unfoldable pub surveyed : List ℕ → ℕ → Result SurveyFields SurveyFault
 surveyed file allowed = survey_by file allowed (start_of file)
 
--- where a fault of the bytes stands; what isn't one is nowhere, and has 0
+-- the offset of a fault of the bytes, 0 for any other fault
 abbrev pub fault_place : SurveyFault → ℕ
 fault_place (NoFrame at) = at
 fault_place (LostSync at) = at
@@ -147,7 +147,7 @@ fault_place (Overrun at bits room) = at
 fault_place (TooManyFrames at) = at
 fault_place _ = 0
 
--- none of these faults is before an offset
+-- none of these faults is before this offset
 abbrev pub NoneBefore : ℕ → List SurveyFault → Type 0
 NoneBefore at [] = Unit {0}
 NoneBefore at (fault ∷ later) = (at ≤ fault_place fault) × NoneBefore at later
@@ -164,17 +164,17 @@ tells s = record {
   length = s.length;
 }
 
--- an input may have so many bytes
+-- the greatest length of an input in bytes
 abbrev pub longest_file : ℕ
 longest_file = 1073741824
 
 -- ---- well-formed files, and their streams
 
--- the survey of a file, whatever number of frames is allowed: there are no more frames than bytes
+-- the survey of a file that may have any number of frames: there are no more frames than bytes
 abbrev pub surveyed_freely : List ℕ → Result SurveyFields SurveyFault
 surveyed_freely file = surveyed file (length file + 1)
 
--- a file is well-formed where it has no fault then
+-- a file is well-formed exactly if this survey has no fault
 abbrev pub IsWellFormed : List ℕ → Type 0
 IsWellFormed file = (s : SurveyFields) × (surveyed_freely file ≡ Ok s)
 

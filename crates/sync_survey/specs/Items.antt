@@ -1,4 +1,4 @@
--- What is at an offset of a file: frames (ISO/IEC 11172-3 and 13818-3, 2.4.1), blocks of tags, single zero bytes.
+-- What begins at an offset of a file: frames (ISO/IEC 11172-3 and 13818-3, 2.4.1), blocks of tags, single zero bytes.
 use Rattle.std.specs.Prelude.{◌≡◌, ◌≢◌, ℕ, ◌-◌, ◌==◌, nat_le, if◌then◌else◌, Bool, List, [], ◌∷◌, length, take, drop, Option, Some, None, Result, Ok, Err}
 use Rattle.frame_header.specs.declared.header.NotHeader.{NotHeader}
 use Rattle.frame_header.specs.declared.header.NotHeader.TheVariants.{Free as FreeHeader, No}
@@ -11,11 +11,11 @@ use Rattle.tag_blocks.specs.Blocks.{block_front}
 use Rattle.sync_survey.specs.declared.items.Item.{Item}
 use Rattle.sync_survey.specs.declared.items.Item.TheVariants.{Frame, Free, Block, Zero, End, Nothing}
 
--- the header at the front of these bytes; where fewer than four are left, none is there
+-- the header with which these bytes begin; none if they are fewer than four
 unfoldable pub header_front : List ℕ → Result HeaderFields NotHeader
 header_front bytes = if nat_le 4 (length bytes) then header_at (take 4 bytes) else Err No
 
--- this item is at the front of these bytes
+-- these bytes begin with this item
 abbrev pub Stands : List ℕ → Item → Type 0
 Stands bytes (Frame h) = header_front bytes ≡ Ok h
 Stands bytes Free = header_front bytes ≡ Err FreeHeader
@@ -24,13 +24,13 @@ Stands bytes Zero = take 1 bytes ≡ 0 ∷ []
 Stands bytes End = bytes ≡ []
 Stands bytes Nothing = (header_front bytes ≡ Err No) × (block_front bytes ≡ None) × (bytes ≢ []) × (take 1 bytes ≢ 0 ∷ [])
 
--- a header, else what is there otherwise
+-- a header, else what there is otherwise
 abbrev pub by_header : Result HeaderFields NotHeader → Item → Item
 by_header (Ok h) other = Frame h
 by_header (Err FreeHeader) other = Free
 by_header (Err No) other = other
 
--- a block, else what is there otherwise
+-- a block, else what there is otherwise
 abbrev pub by_block : Option TagBlock → Item → Item
 by_block (Some b) other = Block b
 by_block None other = other
@@ -40,7 +40,7 @@ abbrev pub by_byte : List ℕ → Item
 by_byte [] = End
 by_byte (b ∷ bs) = if b == 0 then Zero else Nothing
 
--- the item at the front of these bytes; at most one kind is there, so the order of these questions decides nothing
+-- the item with which these bytes begin; they begin with one kind at most, so the order of these questions decides nothing
 unfoldable pub item_front : List ℕ → Item
 item_front bytes = by_header (header_front bytes) (by_block (block_front bytes) (by_byte bytes))
 
@@ -48,7 +48,7 @@ item_front bytes = by_header (header_front bytes) (by_block (block_front bytes) 
 unfoldable pub item_at : List ℕ → ℕ → Item
 item_at file at = item_front (drop at file)
 
--- the length in bytes of a frame by its header, of a block by its front, of a zero byte; what is no part of a file has none
+-- the length in bytes of a frame by its header, of a block by its first bytes, of a zero byte; what is no part of a file has none
 abbrev pub size_of : Item → ℕ
 size_of (Frame h) = length_of (class_of h) h.slot
 size_of Free = 0
@@ -57,6 +57,6 @@ size_of Zero = 1
 size_of End = 0
 size_of Nothing = 0
 
--- the item at the offset doesn't pass the end of the file
+-- the item at the offset doesn't go past the end of the file
 abbrev pub fits : List ℕ → ℕ → Item → Bool
 fits file at item = nat_le (size_of item) (length file - at)

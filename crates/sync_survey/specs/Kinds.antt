@@ -15,7 +15,7 @@ pub data InputKind : Type 0 where
   IsShorter : InputKind
   -- want of memory
   IsTooMuch : InputKind
-  -- it is there, and refused: it is too long, or its bytes are at fault
+  -- it is there, and its length or its bytes are refused
   IsRefused : InputKind
 
 -- the kind of a fault
@@ -26,8 +26,8 @@ kind_of Read = IsUnread
 kind_of Memory = IsTooMuch
 kind_of _ = IsRefused
 
--- the numbers that a fault carries, whatever is told of the file: it is too long above the limit alone, and it ended before the length
--- that it was found with
+-- the numbers that a fault has, whatever is told of the file: a length is too long only above the limit, and a file ended before the length
+-- with which it was found
 abbrev pub HasRightNumbers : SurveyFault → Type 0
 HasRightNumbers (TooLong size) = longest_file < size
 HasRightNumbers (Shrunk first second) = second < first
@@ -37,7 +37,7 @@ HasRightNumbers _ = Unit {0}
 abbrev pub IsFromOutside : SurveyFault → Type 0
 IsFromOutside fault = kind_of fault ≡ IsRefused → ⊥
 
--- what is there for each kind
+-- what there is for each kind
 pub record ByKind {ℓ} (A : Type ℓ) : Type ℓ where
   pub absent : A
   pub unread : A

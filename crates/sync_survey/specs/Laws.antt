@@ -13,12 +13,12 @@ use Rattle.sync_survey.specs.MainData.{is_silent, points_too_far, place, is_lost
 use Rattle.sync_survey.specs.Faults.{SurveyFields, surveyed, stream_of_survey, HoldsStream}
 use Rattle.sync_survey.specs.Survey.{AreWellPlaced}
 
--- at the front of bytes one item stands, and no other
+-- bytes begin with one item, and with no other
 abbrev pub OneItemStands : Type 0
 OneItemStands = (bytes : List ℕ) (item : Item) → Stands bytes item ↔ (item ≡ item_front bytes)
 
--- The items of a run are whole and follow end to end, and none is after them; with the bytes after them they are the file's bytes;
--- and no other items of the part stand so.
+-- The items of a run are whole and follow end to end, and none is after them; with the bytes after them they are the file's bytes; and no
+-- other items of the part are so.
 pub record IsOnlyRun (part : Part) (file : List ℕ) (from : ℕ) : Type 0 where
   pub items : AreEndToEnd part file from (run part file from).items (run part file from).stop
   pub last : item_of part file (run part file from).stop ≡ None
@@ -28,8 +28,7 @@ pub record IsOnlyRun (part : Part) (file : List ℕ) (from : ℕ) : Type 0 where
 abbrev pub RunsAreOnly : Type 0
 RunsAreOnly = (part : Part) (file : List ℕ) (from : ℕ) → IsOnlyRun part file from
 
--- The first frame of a stream is whole. It is where the blocks and zero bytes at the front end, or after junk at the least offset
--- where an anchored frame stands.
+-- The first frame of a stream is whole. It is where the front ends, or after junk at the smallest offset at which an anchored frame begins.
 pub record IsFirstOfStream (file : List ℕ) (start : Start) : Type 0 where
   pub item : item_at file start.first.offset ≡ Frame start.first.header
   pub whole : start.first.offset + size_of (Frame start.first.header) ≤ length file
@@ -42,7 +41,7 @@ StartsAreLeast = (file : List ℕ) (start : Start) → start_of file ≡ Ok star
 abbrev pub AreSilentOrLost : Option Head → List Row → ℕ → Type 0
 AreSilentOrLost head rows i = (j : ℕ) (q : Row) → j < i → slice_get rows j ≡ Some q → (is_silent q ≡ true) ⊎ (is_lost head rows j q ≡ true)
 
--- lost are exactly the frames whose main data begin before the stream and that have only silent and lost frames before them
+-- lost are exactly the frames whose main data begin before the stream and before which there are only silent and lost frames
 abbrev pub LostFramesLead : Type 0
 LostFramesLead =
     (head : Option Head) (rows : List Row) (i : ℕ) (r : Row)
@@ -52,6 +51,6 @@ LostFramesLead =
 abbrev pub SurveysHoldStreams : Type 0
 SurveysHoldStreams = (file : List ℕ) (allowed : ℕ) (s : SurveyFields) → surveyed file allowed ≡ Ok s → HoldsStream file (stream_of_survey file s)
 
--- the frames of a file without fault are well placed
+-- the main data of the frames of a file without fault are where they may be
 abbrev pub SurveysArePlaced : Type 0
 SurveysArePlaced = (file : List ℕ) (allowed : ℕ) (s : SurveyFields) → surveyed file allowed ≡ Ok s → AreWellPlaced s.head s.class s.frames

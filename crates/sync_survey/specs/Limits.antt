@@ -1,6 +1,6 @@
--- How much a file may be.
+-- How many frames a file may have.
 use Rattle.std.specs.Prelude.{ℕ}
 
--- an input may have so many frames
+-- the greatest number of frames of an input
 abbrev pub most_frames : ℕ
 most_frames = 2900000

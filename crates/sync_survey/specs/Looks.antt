@@ -1,4 +1,4 @@
--- What is seen of a file through a look at so many of its bytes.
+-- What a look shows of a file.
 use Rattle.std.specs.Prelude.{◌≡◌, ℕ, ◌+◌, ◌-◌, ◌≤◌, List, [], ◌∷◌, ◌++◌, length, take, drop, Option, Some, None, option_to_list}
 use Rattle.frame_header.specs.Fields.{HeaderFields, ClassFields}
 use Rattle.frame_header.specs.Tables.{class_of, overhead_of}
@@ -18,7 +18,7 @@ use Rattle.sync_survey.specs.declared.runs.Part.{Part}
 use Rattle.sync_survey.specs.declared.runs.Step.{Step}
 use Rattle.sync_survey.specs.Runs.{item_of, run, frame_as, block_as, frames_of, blocks_of}
 
--- a look shows so many bytes, where the file has them: more than a frame and the 32 bytes after it that tell what is there
+-- how many bytes a look shows, if the file has them: more than a frame and the 32 bytes after it, by which the next item is known
 abbrev pub look_size : ℕ
 look_size = 4096
 
@@ -33,14 +33,14 @@ pub record Passes (part : Part) (file : List ℕ) (at : ℕ) (item : Item) (size
   pub blocks : blocks_of (run part file at).items ≡ option_to_list (block_as at item) ++ blocks_of (run part file (at + size)).items
   pub stop : (run part file at).stop ≡ (run part file (at + size)).stop
 
--- this is passed at the offset, or nothing of the part is there whole
+-- this is passed at the offset, or no whole item of the part is there
 abbrev pub IsStep : Part → List ℕ → ℕ → Option Step → Type 0
 IsStep part file at None = item_of part file at ≡ None
 IsStep part file at (Some step) = Passes part file at step.item step.size
 
 -- ---- a frame that is judged
 
--- the bytes reach to the own area of the frame that they begin with
+-- the bytes with which a frame begins reach to its own area
 abbrev pub ReachArea : HeaderFields → List ℕ → Type 0
 ReachArea h bytes = overhead_of (class_of h) h.protected ≤ length bytes
 
@@ -62,14 +62,14 @@ frame_fault bytes allowed b count r = first_of (later_faults (word_said bytes) a
 
 -- ---- what is kept of an item
 
--- what a frame without fault leaves, by the place of its own area and where the main data before it end: whether it is lost, and the main
--- data before the next frame
+-- what is known after a frame without fault, by the place of its own area and where the main data before it end: whether it is lost, and
+-- the areas before the next frame
 pub record IsBehind (place_now ended_now : ℕ) (r : Row) (b : Behind) : Type 0 where
   pub lost : b.lost ≡ lacks_data place_now ended_now r
   pub place : b.before.place ≡ place_now + own_area r.header
   pub ended : b.before.ended ≡ end_behind place_now ended_now (Some r)
 
--- a frame has no fault, and is kept after the others, marked where it is lost
+-- a frame has no fault, and is kept after the others, marked if it is lost
 pub record KeepsFrame (said : ℕ) (class : ClassFields) (allowed : ℕ) (r : Row) (old new : Found) : Type 0 where
   pub sound : first_of (faults_at said class allowed old.before.place old.before.ended (length old.rows.items) r) ≡ None
   pub fits : SideFits (class_of r.header) r.side

@@ -1,5 +1,5 @@
--- Where the main data of the frames are in the file (main_data_begin, ISO/IEC 11172-3 and 13818-3, 2.4.2.7). The areas of the head and
--- of all frames, one after the other, are the main data of the file; a frame's own begin so many bytes before its own area as its
+-- Where the main data of the frames are in the file (main_data_begin, ISO/IEC 11172-3 and 13818-3, 2.4.2.7). The areas of the head and of
+-- all frames, one after the other, are the main data of the file. A frame's own begin as many bytes before its own area as its
 -- main_data_begin says, counted in areas alone.
 use Rattle.std.specs.Prelude.{ℕ, zero, suc, ◌+◌, ◌-◌, ◌*◌, ◌==◌, ◌&&◌, ◌||◌, nat_lt, if◌then◌else◌, Bool, false, List, [], ◌∷◌, ◌++◌, take, drop, map, sum_by, flat_map, slice_get, Option, Some, None}
 use Rattle.std.specs.List.{enumerate_from}
@@ -16,8 +16,8 @@ use Rattle.sync_survey.specs.declared.rows.Row.{Row}
 
 -- ---- frames with their side information
 
--- a frame with the side information that is in these bytes, the first of which are the frame's; whether it is lost goes by the
--- frames before it (`marked` below)
+-- a frame with the side information that is in these bytes, the first of which are the frame's; whether it is lost depends on the frames
+-- before it (`marked` below)
 abbrev pub row_in : ℕ → HeaderFields → List ℕ → Row
 row_in offset h bytes = record { offset = offset; header = h; side = side_in h bytes; lost = false }
 
@@ -30,11 +30,11 @@ rows_of file ps = map (row_of file) ps
 
 -- ---- places
 
--- the bytes of a frame with this header that hold main data
+-- the length in bytes of the area of a frame with this header
 abbrev pub own_area : HeaderFields → ℕ
 own_area h = area_of (class_of h) h.slot h.protected
 
--- the head's area counts
+-- the length in bytes of the head's area, 0 without a head
 abbrev pub head_area : Option Head → ℕ
 head_area None = 0
 head_area (Some head) = own_area head.header
@@ -50,20 +50,21 @@ start_of_data place r = place - r.side.main_data_begin
 abbrev pub end_of_data : ℕ → Row → ℕ
 end_of_data place r = start_of_data place r + payload_bytes r.side
 
--- it has no main data
+-- the frame has no main data
 abbrev pub is_silent : Row → Bool
 is_silent r = payload_bits r.side == 0
 
--- they begin before all main data, by the place of its own area
+-- its main data begin before all areas, by the place of its own area
 abbrev pub points_too_far : ℕ → Row → Bool
 points_too_far place r = nat_lt place r.side.main_data_begin
 
--- so they do, and no main data are before it, which would end after 0: what it points to stood before the stream, and was cut off
+-- so they do, and no main data are before them, which would end after 0: what main_data_begin points to was before the stream, and was
+-- cut off
 abbrev pub lacks_data : ℕ → ℕ → Row → Bool
 lacks_data place ended r = ended == 0 && points_too_far place r
 
--- where the main data end after a frame, by the place of its own area and where those before it end: a frame that is silent or lost
--- moves no end
+-- where the main data end after a frame, by the place of its own area and where those before it end: a silent or lost frame doesn't change
+-- it
 abbrev pub end_behind : ℕ → ℕ → Option Row → ℕ
 end_behind place ended None = ended
 end_behind place ended (Some r) = if is_silent r || lacks_data place ended r then ended else end_of_data place r
@@ -76,12 +77,12 @@ end_before head rows (suc i) = end_behind (place head rows i) (end_before head r
 
 -- ---- lost frames
 
--- Frame i is lost: its main data begin before the stream, and every frame before it is silent or lost. (That `end_before` is 0 where,
--- and only where, there is no other frame before it is the law `LostFramesLead`.)
+-- Frame i is lost: its main data begin before the stream, and every frame before it is silent or lost. (The law `LostFramesLead` says that
+-- `end_before` is 0 exactly if no other frame is before it.)
 abbrev pub is_lost : Option Head → List Row → ℕ → Row → Bool
 is_lost head rows i r = lacks_data (place head rows i) (end_before head rows i) r
 
--- frame i, marked where it is lost
+-- frame i, marked if it is lost
 abbrev pub marked_row : Option Head → List Row → ℕ → Row → Row
 marked_row head rows i r = record r { lost = is_lost head rows i r }
 
@@ -114,7 +115,7 @@ parts_of (n ∷ ns) bs = take n bs ∷ parts_of ns (drop n bs)
 
 -- ---- the stream
 
--- What a frame of a stream is, wherever it stands: the header but its bit rate index and padding, the side information but
+-- What a frame of a stream is, wherever it is: the header except its bit rate index and padding, the side information except
 -- main_data_begin, and the main data of each granule and channel. A lost frame has none: its side fields are all 0.
 pub record StreamFrame : Type 0 where
   pub header : HeaderFields
@@ -128,7 +129,7 @@ no_slot = record { rate_index = 0; padding = false }
 abbrev pub part_lengths : HeaderFields → Side → List ℕ
 part_lengths h s = map (λ (g : Granule). g.part2_3_length) (granules_in (class_of h) s)
 
--- the side information of a frame, which is of no account where the frame is lost
+-- the side information of a frame, all 0 if the frame is lost
 abbrev pub side_of : Row → Side
 side_of r = if r.lost then no_side else r.side
 

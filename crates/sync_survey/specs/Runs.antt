@@ -8,12 +8,12 @@ use Rattle.sync_survey.specs.declared.runs.Part.{Part}
 use Rattle.sync_survey.specs.declared.runs.Part.TheVariants.{Front, Stream}
 use Rattle.sync_survey.specs.Items.{item_at, size_of, fits}
 
--- an item and the offset where it stands
+-- an item and the offset at which it begins
 pub record Placed : Type 0 where
   pub offset : ℕ
   pub item : Item
 
--- before the first frame stand blocks and zero bytes, from it on frames too
+-- blocks and zero bytes may be before the first frame, from it on frames too
 abbrev pub belongs : Part → Item → Bool
 belongs part (Block b) = true
 belongs part Zero = true
@@ -23,7 +23,7 @@ belongs part Free = false
 belongs part End = false
 belongs part Nothing = false
 
--- the item, where it belongs to the part and is whole
+-- the item, if it belongs to the part and is whole
 abbrev pub whole : Part → List ℕ → ℕ → Item → Option Item
 whole part file at item = if belongs part item && fits file at item then Some item else None
 
@@ -31,7 +31,7 @@ whole part file at item = if belongs part item && fits file at item then Some it
 unfoldable pub item_of : Part → List ℕ → ℕ → Option Item
 item_of part file at = whole part file at (item_at file at)
 
--- the items of the part that follow end to end from an offset on, and the offset where no further one stands
+-- the items of the part that follow end to end from an offset on, and the offset at which none begins
 pub record Run : Type 0 where
   pub items : List Placed
   pub stop : ℕ
@@ -42,7 +42,7 @@ stopped at = record { items = []; stop = at }
 abbrev pub behind : ℕ → Item → Run → Run
 behind at item run = record { items = record { offset = at; item = item } ∷ run.items; stop = run.stop }
 
--- the item, and the run from its end on; where there is none, the run stops
+-- the item, and the run from its end on; without an item the run stops
 abbrev pub onward : ℕ → (ℕ → Run) → Option Item → Run
 onward at next None = stopped at
 onward at next (Some item) = behind at item (next (at + size_of item))

@@ -46,11 +46,11 @@ is_anchored file at = is_some (anchored_frame file at)
 
 -- ---- the first frame
 
--- so many bytes of junk may be before the first frame
+-- the greatest length of junk in bytes
 abbrev pub longest_junk : ℕ
 longest_junk = 65536
 
--- the anchored frame at the first of so many offsets, from one on, where one stands
+-- the anchored frame at the first of so many offsets, from one on, at which there is one
 unfoldable pub first_anchored : ℕ → List ℕ → ℕ → Option PlacedFrame
 first_anchored count file from = slice_get (filter_map (anchored_frame file) (range_with_len from count)) 0
 
@@ -59,7 +59,7 @@ abbrev pub start_behind : ℕ → Option PlacedFrame → Result Start SurveyFaul
 start_behind front_end (Some frame) = Ok (record { front_end = front_end; first = frame })
 start_behind front_end None = Err (NoFrame front_end)
 
--- the start by what is where the blocks and zero bytes at the front end; a header there needs no anchor
+-- the start by the item at which the front ends; a header there needs no anchor
 abbrev pub start_at : List ℕ → ℕ → Item → Result Start SurveyFault
 start_at file at (Frame h) = if fits file at (Frame h) then Ok (record { front_end = at; first = record { offset = at; header = h } }) else Err (Truncated at)
 start_at file at Free = Err (FreeFormat at)
@@ -68,7 +68,7 @@ start_at file at Zero = start_behind at (first_anchored longest_junk file (at + 
 start_at file at End = start_behind at (first_anchored longest_junk file (at + 1))
 start_at file at Nothing = start_behind at (first_anchored longest_junk file (at + 1))
 
--- the offset that is reached from 0 by passing whole blocks and zero bytes, where neither stands
+-- the offset that is reached from 0 past whole blocks and zero bytes, at which neither begins
 unfoldable pub front_end_of : List ℕ → ℕ
 front_end_of file = (run Front file 0).stop
 
@@ -78,10 +78,10 @@ start_of file = start_at file (front_end_of file) (item_at file (front_end_of fi
 
 -- ---- what a start says, without the list of offsets
 
--- the least offset of a range where a test holds
+-- the smallest offset of a range at which a test holds
 abbrev pub IsLeast : (ℕ → Bool) → ℕ → ℕ → ℕ → Type 0
 IsLeast test from to at = (from ≤ at) × (at < to) × (test at ≡ true) × ((earlier : ℕ) → from ≤ earlier → earlier < at → test earlier ≡ false)
 
--- no junk is before the first frame, or it is at the least offset after the junk where an anchored frame is
+-- no junk is before the first frame, or it is at the smallest offset after the first byte of junk at which there is an anchored frame
 abbrev pub IsLeastStart : List ℕ → Start → Type 0
 IsLeastStart file s = (s.first.offset ≡ s.front_end) ⊎ IsLeast (is_anchored file) (s.front_end + 1) ((s.front_end + 1) + longest_junk) s.first.offset

@@ -27,11 +27,11 @@ survey_of file allowed = if nat_lt longest_file (length file) then Err (TooLong 
 abbrev pub IsSurveyOf : List ℕ → Files → ℕ → SurveyFields → Type 0
 IsSurveyOf name files allowed s = (bytes : List ℕ) → Holds files name bytes → survey_of bytes allowed ≡ Ok s
 
--- where it is told, it is bytes
+-- where it is told, it consists of bytes
 abbrev pub HoldsOctets : List ℕ → Files → Type 0
 HoldsOctets name files = (bytes : List ℕ) → Holds files name bytes → AreBytes bytes
 
--- where it is told, no other fault of its bytes is before this one
+-- where it is told, no fault of its bytes is before this one
 abbrev pub IsFirstFault : List ℕ → Files → ℕ → SurveyFault → Type 0
 IsFirstFault name files allowed fault =
     (bytes : List ℕ) → Holds files name bytes → (start : Start) → start_of bytes ≡ Ok start → NoneBefore (fault_place fault) (faults_from bytes allowed start)
@@ -50,7 +50,7 @@ pub record HasShrunk (files : Files) (before after : Counts) : Type 0 where
   pub ended : Rose before.ends after.ends
   pub counts : NothingFailed before after
 
--- the file is there with a length that it may have, so that memory is taken, and nothing is counted
+-- the file is there and isn't too long, so that memory is taken, and nothing is counted
 pub record AsksForMemory (name : List ℕ) (files : Files) (before after : Counts) : Type 0 where
   pub there : IsThere files name
   pub few : (bytes : List ℕ) → Holds files name bytes → length bytes ≤ longest_file
@@ -77,7 +77,7 @@ pub record IsRefusal (name : List ℕ) (files : Files) (allowed : ℕ) (before a
   pub cause : IsSurveyFault name files allowed before after fault
   pub numbers : HasRightNumbers fault
 
--- so refused, whatever number of frames is allowed
+-- refused so, whatever number of frames is allowed
 abbrev pub IsEarlyRefusal : List ℕ → Files → Counts → Counts → SurveyFault → Type 0
 IsEarlyRefusal name files before after fault = (allowed : ℕ) → IsRefusal name files allowed before after fault
 
@@ -110,7 +110,7 @@ BlocksAreLaid from [] to = from ≤ to
 BlocksAreLaid from (b ∷ blocks) to = (from ≤ b.offset) × BlocksAreLaid (b.offset + b.block.length) blocks to
 
 -- frame i of a stream of this class: its header is one of the standard's and of the class, its side fields are within their bits, its main
--- data have no fault, and it is marked exactly where it is lost
+-- data have no fault, and it is marked exactly if it is lost
 pub record IsWellPlaced (head : Option Head) (class : ClassFields) (rows : List Row) (i : ℕ) (r : Row) : Type 0 where
   pub known : IsHeader r.header
   pub class_is : class_of r.header ≡ class

@@ -20,7 +20,7 @@ stream_run file start = run Stream file start.first.offset
 
 -- ---- the head
 
--- a frame's own bytes, by the bytes from its first on
+-- a frame's own bytes, out of those from its first on
 abbrev pub own_bytes : PlacedFrame → List ℕ → List ℕ
 own_bytes p bytes = take (length_of (class_of p.header) p.header.slot) bytes
 
@@ -28,7 +28,7 @@ own_bytes p bytes = take (length_of (class_of p.header) p.header.slot) bytes
 abbrev pub frame_bytes : List ℕ → PlacedFrame → List ℕ
 frame_bytes file p = own_bytes p (drop p.offset file)
 
--- a frame with these bytes is a head where `Xing` or `Info` is in it
+-- a frame with these bytes is a head exactly if `Xing` or `Info` is in it
 abbrev pub head_by : PlacedFrame → List ℕ → Option Head
 head_by p own = option_map (λ at. record { offset = p.offset; header = p.header; text_at = at }) (head_text_of p.header own)
 
@@ -50,13 +50,13 @@ abbrev pub numbered_at : PlacedFrame → Option Head → ℕ
 numbered_at first None = first.offset
 numbered_at first (Some head) = first.offset + length_of (class_of first.header) first.header.slot
 
--- the blocks at the front of the file, and those from the first frame on
+-- the blocks of the front, and those from the first frame on
 abbrev pub all_blocks : List ℕ → Start → List Piece
 all_blocks file start = blocks_of (run Front file 0).items ++ blocks_of (stream_run file start).items
 
 -- ---- where the walk ends
 
--- why the walk stops at an offset with this item, which is not whole where it is a frame or a block; at the end of the file all is well
+-- why the walk stops at an offset with this item, which isn't whole if it is a frame or a block; at the end of the file nothing is wrong
 abbrev pub fault_at : ℕ → Item → Option SurveyFault
 fault_at at (Frame h) = Some (Truncated at)
 fault_at at Free = Some (FreeFormat at)

@@ -24,8 +24,8 @@ use crate::surveys::Survey;
 use outside::{Feed, Folder};
 use std::alloc::Global;
 
-/// Why the walk stops at an offset where nothing of the stream is whole. The bytes are those from there
-/// on.
+/// Why the walk stops at an offset at which nothing of the stream begins whole. The bytes are those from
+/// there on, at least one.
 fn stop_fault(bytes: &[u8], at: u64) -> SurveyFault
     requires { 0 < length bytes.now }
     ensures fault { fault_at at (item_front_lem bytes.now) ≡ Some result }
@@ -36,8 +36,8 @@ fn stop_fault(bytes: &[u8], at: u64) -> SurveyFault
         .unwrap_or(SurveyFault::LostSync(at))
 }
 
-/// What is known of a file before its frames are judged: its length, where its stream begins, its head, and
-/// the blocks before.
+/// What is known of a file before its frames are judged: its length in bytes, where its stream begins, its
+/// head, and the blocks before the first frame.
 #[derive(Drop)]
 pub(crate) struct Walk {
     pub(crate) size: u64,
@@ -46,7 +46,10 @@ pub(crate) struct Walk {
     pub(crate) pieces: Vec<Piece>,
 }
 
-/// The survey of a file that begins so: the frames are judged one after the other.
+/// The survey of a file of which this is known. Its frames are judged one after the other.
+///
+/// # Errors
+/// The first fault from the first frame on, or `Read`, `Shrunk` or `Memory`.
 fn judge_frames<D: Folder>(
     alloc: Global,
     feed: &mut Feed,
@@ -135,15 +138,19 @@ fn survey_file<D: Folder>(
     judge_frames(alloc, &mut feed, folder, name, walk, allowed)
 }
 
-/// The survey of a file that may have so many frames besides the head. The files stay.
+/// The survey of a file that may have `allowed` frames, not counting the head. The files stay.
 ///
-/// Refuses with `Absent` where the file isn't there; with `TooLong` and its length, before any byte is
-/// read, where it has more than 1,073,741,824 bytes; with `Read` where a call failed; with `Shrunk` where
-/// a read gave no byte before the length that the file was found with, which comes only where the folder
-/// doesn't tell its files. Else with the fault of its bytes that has the least offset, and at one offset
-/// with the first in the order of `SurveyFault`: `NoFrame`, `LostSync`, `Truncated`, `FreeFormat`, and for a
-/// frame `Mixed`, `CheckWord`, `BackPointer`, `Overlap`, `Overrun`, `TooManyFrames`. `Memory` may come once
-/// the length is known, before a fault of the bytes is met.
+/// # Errors
+/// - `Absent` where the file isn't there;
+/// - `TooLong` with its length, before any byte is read, where it has more than 1,073,741,824 bytes;
+/// - `Read` where a call failed;
+/// - `Shrunk` where a read gave no byte before the length with which the file was found, which comes only
+///   where the folder doesn't tell its files;
+/// - else the fault of its bytes that has the smallest offset, and of several at one offset the first in
+///   the order of `SurveyFault`: `NoFrame`, `LostSync`, `Truncated`, `FreeFormat`, and for a frame `Mixed`,
+///   `CheckWord`, `BackPointer`, `Overlap`, `Overrun`, `TooManyFrames`;
+/// - `Memory` where there is no memory, which may come once the length is known, before a fault of the
+///   bytes is met.
 pub fn survey<D: Folder>(
     alloc: Global,
     folder: &mut D,
@@ -151,8 +158,8 @@ pub fn survey<D: Folder>(
     allowed: u32,
 ) -> Result<Survey, SurveyFault>
     ensures exact { IfOk result (λ s. IsSurveyOf name.now (D.files folder.old) allowed (tells s)) }
-    // Whether the files are told or not: where head, frames and blocks stand, that there is a frame, and that the main data of
-    // the frames are placed well.
+    // Whether the files are told or not: where head, frames and blocks are, that there is a frame, and that
+    // the main data of the frames are where they may be.
     ensures laid { IfOk result (λ s. IsLaidOut (tells s)) }
     ensures few { IfOk result (λ s. length (tells s).frames ≤ allowed) }
     ensures there { OnOk result (IsThere (D.files folder.old) name.now) }
@@ -161,7 +168,7 @@ pub fn survey<D: Folder>(
     ensures refused { IfErr result (IsSurveyFault name.now (D.files folder.old) allowed
         (D.counts folder.old) (D.counts folder.new)) }
     ensures numbers { IfErr result HasRightNumbers }
-    // No other fault of the bytes is before the one that is told.
+    // No fault of the bytes is before the one that is told.
     ensures first { IfErr result (IsFirstFault name.now (D.files folder.old) allowed) }
     ensures files { D.files folder.new ≡ D.files folder.old }
     ensures counts { OnlyReads (D.counts folder.old) (D.counts folder.new) }

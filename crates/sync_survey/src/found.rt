@@ -11,7 +11,7 @@ use crate::survey_fault::SurveyFault;
 use frame_header::{Class, Header};
 use side_info::Side;
 
-/// The frames that were judged and have no fault, the blocks that were met, and the main data so far.
+/// The frames that were judged and have no fault, the blocks that were met, and the areas so far.
 #[derive(Drop)]
 pub(crate) struct Found {
     pub(crate) rows: Vec<Row>,
@@ -20,9 +20,12 @@ pub(crate) struct Found {
 }
 
 impl Found {
-    /// Judges the frame at the offset, and keeps it where it has no fault, marked where it is lost. The first
-    /// of the bytes are its own.
-    // The walk is instantiated for each folder, and clang doesn't put in line what has several callers.
+    /// Judges the frame at the offset, and keeps it if it has no fault, marked if it is lost. The bytes
+    /// begin with the frame's own.
+    ///
+    /// # Errors
+    /// The first fault of the frame; `Memory` where there is no memory.
+    // The walk is instantiated for each folder, and clang doesn't inline what has several callers.
     #[inline(always)]
     fn judge(
         &mut self,
@@ -44,7 +47,7 @@ impl Found {
             return Err(SurveyFault::Mixed(offset));
         }
         let count = self.rows.len();
-        // The row is read and judged where it stays, since to copy it takes as long as to read it.
+        // The row is read and judged where it stays, since copying it takes as long as reading it.
         self.rows.push(Row {
             offset: offset as u32,
             header,
@@ -58,8 +61,11 @@ impl Found {
         Ok(())
     }
 
-    /// Keeps the item at the offset: a frame where it has no fault, and a block. The first of the bytes are
-    /// its own.
+    /// Keeps the item at the offset, if it is a frame without fault or a block. The bytes begin with its
+    /// own.
+    ///
+    /// # Errors
+    /// The first fault of a frame; `Memory` where there is no memory.
     #[inline(always)]
     pub(crate) fn keep(
         &mut self,

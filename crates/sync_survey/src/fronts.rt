@@ -16,7 +16,10 @@ use crate::survey_fault::SurveyFault;
 use outside::{Feed, Folder};
 use std::alloc::AllocError;
 
-/// Keeps the item, where it is a block.
+/// Keeps the item if it is a block.
+///
+/// # Errors
+/// Where there is no memory.
 pub(crate) fn keep_block(
     pieces: &mut Vec<Piece>,
     offset: u64,
@@ -31,8 +34,11 @@ pub(crate) fn keep_block(
     Ok(())
 }
 
-/// Passes the blocks and zero bytes at the front of the file, keeps the blocks, and answers where neither
-/// stands.
+/// Goes past the front of the file, which is the blocks and zero bytes with which it begins, keeps the
+/// blocks, and answers the offset at which the front ends.
+///
+/// # Errors
+/// `Read` or `Shrunk` where the file can't be read, `Memory` where there is no memory.
 pub fn pass_front<D: Folder>(
     feed: &mut Feed,
     folder: &mut D,

@@ -16,7 +16,7 @@ use crate::survey_fault::SurveyFault;
 use info_header::head_text;
 use outside::{Feed, Folder};
 
-/// The head that the frame is, where it is one. The first of the bytes are the frame's, all of them.
+/// The head that the frame is, if it is one. The bytes begin with all of the frame's own.
 pub fn head_in(frame: &PlacedFrame, bytes: &[u8]) -> Option<Head>
     ensures most { length_of (class_of frame.now.header) frame.now.header.slot ≤ 1441 }
     ensures head { result ≡ head_by frame.now (own_bytes frame.now bytes.now) }
@@ -32,7 +32,10 @@ pub fn head_in(frame: &PlacedFrame, bytes: &[u8]) -> Option<Head>
     })
 }
 
-/// The head that the first frame is, where it is one.
+/// The head that the first frame is, if it is one.
+///
+/// # Errors
+/// `Read` or `Shrunk` where the file can't be read.
 #[tactic(auto, unfolding(crate::specs::Walk::head_of))]
 pub fn find_head<D: Folder>(
     feed: &mut Feed,
@@ -59,7 +62,7 @@ pub fn find_head<D: Folder>(
     Ok(head_in(first, feed.bytes()))
 }
 
-/// The bytes of the head that count as main data.
+/// The length of the head's area in bytes, 0 without a head. Main data may begin in it.
 pub fn head_area(head: &Option<Head>) -> u64
     ensures area { result ≡ head_area_lem head.now }
     ensures most { result ≤ 1441 }
@@ -70,7 +73,8 @@ pub fn head_area(head: &Option<Head>) -> u64
     }
 }
 
-/// Where the numbered frames begin: at the first frame, or after it where that is the head.
+/// The offset at which the numbered frames begin: that of the first frame, or the end of it if it is the
+/// head.
 pub fn numbered_from(first: &PlacedFrame, head: &Option<Head>) -> u64
     requires { first.now.offset + size_of (Frame first.now.header) ≤ 2 ^ 62 }
     ensures at { result ≡ numbered_at first.now head.now }

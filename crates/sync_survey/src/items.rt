@@ -1,4 +1,4 @@
-//! What is at the front of bytes.
+//! What begins at an offset.
 ghost use Rattle.std.specs.Prelude.{◌≡◌, ◌≤◌};
 ghost use Rattle.frame_header.specs.Fields.{HeaderFields};
 ghost use Rattle.sync_survey.specs.Items.{header_front as header_front_lem, item_front as item_front_lem, size_of, same_class};
@@ -8,14 +8,14 @@ use crate::survey_fault::SurveyFault;
 use frame_header::{Class, Header, NotHeader};
 use tag_blocks::{Block, block_at};
 
-/// What is at an offset of a file. At most one of these does.
+/// What begins at an offset of a file. Exactly one of these does.
 #[derive(Clone, Copy, Debug, PartialEq, Eq)]
 pub enum Item {
-    /// The header of a frame, which may pass the end of the file.
+    /// The header of a frame, which may go past the end of the file.
     Frame(Header),
     /// A header with bit rate index 0: free format.
     Free,
-    /// The beginning of a block, which may pass the end of the file.
+    /// The first bytes of a block, which may go past the end of the file.
     Block(Block),
     /// A zero byte.
     Zero,
@@ -25,7 +25,7 @@ pub enum Item {
     Nothing,
 }
 
-/// The header at the front of the bytes, of which there have to be four.
+/// The header with which the bytes begin, and `No` for fewer than four bytes.
 #[tactic(auto, unfolding(crate::specs::Items::header_front))]
 pub fn header_front(bytes: &[u8]) -> Result<Header, NotHeader>
     ensures { result ≡ header_front_lem bytes.now }
@@ -36,7 +36,7 @@ pub fn header_front(bytes: &[u8]) -> Result<Header, NotHeader>
     Header::read([*a, *b, *c, *d])
 }
 
-/// The item at the front of the bytes.
+/// The item with which the bytes begin.
 #[inline(always)]
 #[tactic(auto, unfolding(crate::specs::Items::item_front))]
 pub fn item_front(bytes: &[u8]) -> Item
@@ -71,7 +71,8 @@ impl Item {
         }
     }
 
-    /// Why a walk stops at this offset, where the item is there and isn't whole.
+    /// Why a walk stops at this offset, if this item begins there and isn't passed; `None` at the end of
+    /// the file.
     pub(crate) fn fault(&self, at: u64) -> Option<SurveyFault>
         ensures { result ≡ fault_at_lem at self.now }
     {

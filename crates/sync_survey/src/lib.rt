@@ -1,4 +1,5 @@
-//! What is where in a file: blocks of tags, junk, a head, and the frames of the stream.
+//! Finds what is where in a file: blocks of tags, junk, a head, and the frames of the stream; or what is
+//! first at fault in it.
 #![tactic(auto)]
 
 mod folders;

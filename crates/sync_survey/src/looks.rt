@@ -11,13 +11,17 @@ ghost use Rattle.sync_survey.specs.Survey.{HasLength, IsEarlyRefusal, IsOfLength
 use crate::survey_fault::SurveyFault;
 use outside::{Feed, FindFault, Folder};
 
-/// An input may have so many bytes.
+/// The greatest length of an input in bytes.
 const LONGEST_FILE: u64 = 1_073_741_824;
 
-/// A look is at so many bytes.
+/// How many bytes a look is at.
 const LOOK_SIZE: u64 = 4096;
 
-/// The length of the file in bytes, where it may have it.
+/// The length of the file in bytes, at most 1,073,741,824.
+///
+/// # Errors
+/// `Absent` where it isn't there, `TooLong` with its length where it is longer, `Read` where the call
+/// failed.
 pub fn find_length<D: Folder>(folder: &mut D, name: &str) -> Result<u64, SurveyFault>
     ensures found { IfOk result (HasLength (D.files folder.old) name.now) }
     ensures octets { IfOk result (λ _. (bytes : List ℕ) → Holds (D.files folder.old) name.now bytes
@@ -37,8 +41,11 @@ pub fn find_length<D: Folder>(folder: &mut D, name: &str) -> Result<u64, SurveyF
     }
 }
 
-/// Looks at the file, which was found with so many bytes, from an offset within them on, and answers how many are left
-/// there. The feed gives 4,096 of them, or all where there are fewer.
+/// Looks at the file, which was found with `size` bytes, from the offset `at` on, and answers how many
+/// bytes are left from there to its end. The feed gives 4,096 of them, or all where there are fewer.
+///
+/// # Errors
+/// `Read` where a read failed, `Shrunk` where the file has ended before `size`.
 pub fn look<D: Folder>(
     feed: &mut Feed,
     folder: &mut D,

@@ -11,37 +11,38 @@ use crate::survey_fault::SurveyFault;
 use frame_header::Header;
 use side_info::{Side, check_word, read_side, word_said};
 
-/// A frame of the stream: the offset of its header in bytes, its header, and its side information. The fields are in
-/// the order in which it takes 88 bytes.
+/// A frame of the stream: the offset of its header in bytes, its header, and its side information. By the
+/// order of its fields it takes 88 bytes.
 #[derive(Clone, Copy, Debug, PartialEq, Eq)]
 pub struct Row {
-    /// Below 2^30, since a longer file is refused.
+    /// Less than 2^30, since a longer file is refused.
     pub offset: u32,
     pub header: Header,
-    /// Whether the main data of the frame begin before the stream, and every frame before it is silent or lost
-    /// too: they were cut off with the frames that stood before. Such a frame has no main data.
+    /// Whether the frame is lost: its main data begin before the stream, and every frame before it is
+    /// silent or lost. They were cut off with earlier frames, so no main data of it are there.
     pub lost: bool,
-    /// What is in the file, also where the frame is lost.
+    /// What is in the file, also if the frame is lost.
     pub side: Side,
 }
 
-/// The main data before a frame.
+/// The areas before a frame, the head's among them, and the main data in them.
 #[derive(Clone, Copy)]
 pub struct Before {
-    /// How many bytes they are: the place where the own area of the frame begins among them.
+    /// How many bytes they are: the place among all areas at which the frame's own begins.
     pub place: u64,
-    /// The place where those of the last frame end that is neither silent nor lost; 0 where there is none.
+    /// The place among all areas at which the main data end of the last frame that is neither silent nor
+    /// lost; 0 if there is none.
     pub ended: u64,
 }
 
-/// What a frame without fault leaves: whether it is lost, and the main data before the next frame.
+/// What is known after a frame without fault: whether it is lost, and the areas before the next frame.
 #[derive(Clone, Copy)]
 pub struct Behind {
     pub lost: bool,
     pub before: Before,
 }
 
-/// The fault of the frame's check word, where it has one and it isn't the right one.
+/// The fault of a protected frame's check word, if it isn't the right one.
 fn word_fault(row: &Row, bytes: &[u8]) -> Option<SurveyFault>
     requires room { ReachArea row.now.header bytes.now }
     requires fits { SideFits (class_of row.now.header) row.now.side }
@@ -58,7 +59,7 @@ fn word_fault(row: &Row, bytes: &[u8]) -> Option<SurveyFault>
     Some(SurveyFault::CheckWord(u64::from(row.offset), said, right))
 }
 
-/// The fault of a frame that as many frames are before as are allowed.
+/// The fault of a frame before which there are as many frames as are allowed.
 fn count_fault(row: &Row, count: u64, allowed: u64) -> Option<SurveyFault>
     ensures { result ≡ first_of (count_faults count allowed row.now) }
 {
@@ -70,15 +71,18 @@ fn count_fault(row: &Row, count: u64, allowed: u64) -> Option<SurveyFault>
 }
 
 impl Before {
-    /// Whether the frame is lost: its main data begin before the stream, and no frame before it has any.
+    /// Whether the frame is lost: its main data begin before the stream, and every frame before it is
+    /// silent or lost.
     fn is_lost(&self, row: &Row) -> bool
         ensures { result ≡ lacks_data self.now.place self.now.ended row.now }
     {
         self.ended == 0 && self.place < u64::from(row.side.main_data_begin)
     }
 
-    /// What the frame leaves, whose own area has so many bytes, or the first fault of its main data. A lost
-    /// frame has none.
+    /// What is known after the frame, whose own area has `area` bytes.
+    ///
+    /// # Errors
+    /// The first fault of its main data: `BackPointer`, `Overlap` or `Overrun`. A lost frame has none.
     pub fn behind(&self, row: &Row, area: u32) -> Result<Behind, SurveyFault>
         requires bound { self.now.place ≤ 2 ^ 62 }
         requires area { area ≡ own_area row.now.header }
@@ -117,8 +121,11 @@ impl Before {
         })
     }
 
-    /// What a frame of the class leaves, whose own area has so many bytes, or its first fault, where so many
-    /// frames are before it. The first of the bytes are its own.
+    /// What is known after a frame of the class, whose own area has `area` bytes, where `count` frames are
+    /// before it. The bytes begin with the frame's own.
+    ///
+    /// # Errors
+    /// The first fault of the frame.
     fn step(
         &self,
         row: &Row,
@@ -147,9 +154,12 @@ impl Before {
         }
     }
 
-    /// Reads the side information of a frame of the class into its row, which has this header, and marks the
-    /// row where the frame is lost; answers the main data before the next frame. Or the first fault of the
-    /// frame, where so many frames are before it. The first of the bytes are its own.
+    /// Reads the side information of a frame of the class into its row, which has this header, and marks
+    /// the row if the frame is lost; answers the areas before the next frame. `count` frames are before it,
+    /// and the bytes begin with its own.
+    ///
+    /// # Errors
+    /// The first fault of the frame.
     #[inline(always)]
     pub(crate) fn read_row(
         &self,

@@ -8,16 +8,16 @@ ghost use Rattle.sync_survey.specs.Looks.{Shows, IsStep};
 
 use crate::items::{Item, item_front};
 
-/// A part of a file, by the items that it is made of.
+/// A part of a file, by the items of which it consists.
 #[derive(Clone, Copy, Debug, PartialEq, Eq)]
 pub enum Part {
-    /// What is before the first frame: blocks and zero bytes.
+    /// The front, which is before the first frame: blocks and zero bytes.
     Front,
     /// What is from the first frame on: frames, blocks and zero bytes.
     Stream,
 }
 
-/// Whether the part has such items.
+/// Whether the part may have such an item.
 fn belongs(part: Part, item: &Item) -> bool
     ensures { result ≡ belongs_lem part item.now }
 {
@@ -28,7 +28,7 @@ fn belongs(part: Part, item: &Item) -> bool
     }
 }
 
-/// A whole item, and how many bytes are passed with it: its own, and after a zero byte all zero bytes that
+/// A whole item, and how many bytes are passed with it: its own, or after a zero byte all zero bytes that
 /// were seen.
 #[derive(Clone, Copy)]
 pub struct Step {
@@ -36,7 +36,7 @@ pub struct Step {
     pub size: u64,
 }
 
-/// How many zero bytes are at the front.
+/// With how many zero bytes the bytes begin.
 fn zeros(bytes: &[u8]) -> usize
     ensures count { result ≡ prefix_len (λ b. b == 0) bytes.now }
     ensures within { result ≤ length bytes.now }
@@ -44,7 +44,7 @@ fn zeros(bytes: &[u8]) -> usize
     bytes.iter().take_while(|byte| **byte == 0).count()
 }
 
-/// How many bytes are passed with the item of this size at the front of the bytes.
+/// How many bytes are passed with the item of this size, with which the bytes begin.
 fn passed(item: &Item, size: u64, front: &[u8]) -> u64
     requires { size ≡ size_of item.now }
     ensures zeros { item.now ≡ Item.Zero → result ≡ prefix_len (λ b. b == 0) front.now }
@@ -56,8 +56,8 @@ fn passed(item: &Item, size: u64, front: &[u8]) -> u64
     }
 }
 
-/// The item of the part at the front of the bytes that a look has shown, where it is whole: so many bytes
-/// are left of the file there.
+/// The item of the part with which the bytes of a look begin, if it is whole. `left` is how many bytes the
+/// file has from there on.
 #[inline(always)]
 pub fn step_at(part: Part, front: &[u8], left: u64) -> Option<Step>
     requires { length front.now ≤ left }

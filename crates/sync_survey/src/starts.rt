@@ -16,10 +16,11 @@ use crate::survey_fault::SurveyFault;
 use frame_header::Class;
 use outside::{Feed, Folder};
 
-/// So many bytes of junk may be before the first frame.
+/// The greatest length of junk in bytes.
 const LONGEST_JUNK: u64 = 65_536;
 
-/// Whether the item may be at the end of an anchored frame of the class.
+/// Whether the item may be at the end of an anchored frame of the class: a header of the class, a block, or
+/// the end of the file.
 fn is_anchor(class: Class, item: &Item) -> bool
     ensures { result ≡ is_anchor_lem class item.now }
 {
@@ -30,15 +31,16 @@ fn is_anchor(class: Class, item: &Item) -> bool
     }
 }
 
-/// The bytes from a place on; none past their end.
+/// The bytes from a place on; none if it is past their end.
 pub fn bytes_behind(bytes: &[u8], place: usize) -> &[u8]
     ensures { result.now ≡ drop place bytes.now }
 {
     bytes.get(place..).unwrap_or(&[])
 }
 
-/// The anchored frame at the offset where a look has shown these bytes, and so many are left: it is whole,
-/// and at its end stands a header of its class, the beginning of a block, or the end of the file.
+/// The anchored frame at the offset from which on a look has shown these bytes, where `left` bytes of the
+/// file are left: it is whole, and at its end there is a header of its class, the first byte of a block, or
+/// the end of the file.
 #[tactic(auto, unfolding(crate::specs::Start::anchored_frame))]
 pub fn anchored_frame(front: &[u8], offset: u64, left: u64) -> Option<PlacedFrame>
     ensures frame { (file : List ℕ) → Shows file offset front.now left
@@ -61,7 +63,8 @@ pub fn anchored_frame(front: &[u8], offset: u64, left: u64) -> Option<PlacedFram
     Some(PlacedFrame { offset, header })
 }
 
-/// The start that the item at an offset makes, where so many bytes are left; none where junk begins there.
+/// The start by the item at an offset, where `left` bytes of the file are left, or its fault; `None` if
+/// junk begins there.
 fn start_here(item: &Item, offset: u64, left: u64) -> Option<Result<Start, SurveyFault>>
     ensures start { (file : List ℕ) → left ≡ length file - offset
         → MatchOption result (start_at file offset item.now ≡ start_behind_lem offset
@@ -83,7 +86,10 @@ fn start_here(item: &Item, offset: u64, left: u64) -> Option<Result<Start, Surve
     }
 }
 
-/// The anchored frame at the first offset after the first byte of junk, where one is among 65,536.
+/// The anchored frame at the first offset from `from` on, if there is one at one of 65,536 offsets.
+///
+/// # Errors
+/// `Read` or `Shrunk` where the file can't be read.
 fn first_anchored<D: Folder>(
     feed: &mut Feed,
     folder: &mut D,
@@ -115,13 +121,14 @@ fn first_anchored<D: Folder>(
     Ok(None)
 }
 
-/// Where the stream of frames begins, by where the blocks and zero bytes at the front end. A frame that stands
-/// there is the first one. Else the bytes from there are junk, at most 65,536 of them, and the first frame is
-/// at the least offset from the next byte on where an anchored frame stands.
+/// Where the stream of frames begins. `front_end` is where the front of the file ends. A frame there is the
+/// first one. Else the bytes from there on are junk, at most 65,536 of them, and the first frame is the
+/// anchored one at the smallest offset from the next byte on.
 ///
-/// Refuses with `Truncated` where a block or a frame is there that passes the end of the file; with
-/// `FreeFormat` where a header of free format is there; and with `NoFrame` where no anchored frame
-/// follows.
+/// # Errors
+/// `Truncated` where a block or a frame that begins there goes past the end of the file; `FreeFormat` where
+/// a header of free format is there; `NoFrame` where no anchored frame follows; `Read` or `Shrunk` where
+/// the file can't be read.
 #[tactic(auto, unfolding(crate::specs::Start::start_of))]
 pub(crate) fn find_start<D: Folder>(
     feed: &mut Feed,

@@ -12,31 +12,31 @@ pub enum SurveyFault {
     Absent,
     /// The file is longer than 1,073,741,824 bytes: its length.
     TooLong(u64),
-    /// No frame begins where the blocks and zero bytes at the front of the file end, nor after junk; or,
-    /// with the file's length, the only frame is a head.
+    /// No frame begins where the front of the file ends, nor after junk; or, with the file's length, the
+    /// only frame is a head.
     NoFrame(u64),
-    /// Neither a frame nor a block nor a zero byte is here.
+    /// Neither a frame nor a block nor a zero byte begins here.
     LostSync(u64),
-    /// The frame or block that begins here passes the end of the file.
+    /// The frame or block that begins here goes past the end of the file.
     Truncated(u64),
-    /// A header of free format is here.
+    /// A header of free format begins here.
     FreeFormat(u64),
     /// The frame here is of another class than the first frame: version, sampling frequency or number of
     /// channels differ.
     Mixed(u64),
     /// The check word of the frame here is wrong: the word that is there, and the one that is right.
     CheckWord(u64, u16, u16),
-    /// The main data of the frame here begin before all main data of the file, and an earlier frame has some,
-    /// so that the frame isn't lost: its main_data_begin, and how many bytes of main data are before it.
+    /// The main data of the frame here begin before all areas of the file, and an earlier frame has main
+    /// data, so that the frame isn't lost: its main_data_begin, and how many bytes of areas are before it.
     BackPointer(u64, u32, u64),
     /// The main data of the frame here begin before those of an earlier frame end.
     Overlap(u64),
-    /// The main data of the frame here pass the end of its own area: their bits, and the bits that are
-    /// there for them.
+    /// The main data of the frame here go past the end of its own area: how many bits they have, and how
+    /// many bits there are for them.
     Overrun(u64, u32, u32),
     /// The frame here is the first past the number that is allowed.
     TooManyFrames(u64),
-    /// The file was of the first length when it was found, and ended at the second when it was read.
+    /// The file had the first length when it was found, and ended at the second when it was read.
     Shrunk(u64, u64),
     /// The file could not be read.
     Read,

@@ -1,4 +1,4 @@
--- The start is by what is where the front ends.
+-- The start is by the item at which the front ends.
 use Rattle.std.proofs.Common.{◌≡◌, ℕ, List, refl, sym, ◌∙◌, ap, subst}
 use Rattle.std.proofs.lemmas.Result.{err_from_is_err_and}
 use Rattle.outside.specs.Files.{Holds}
@@ -12,7 +12,7 @@ use Rattle.sync_survey.proofs.starts.find_start.Given as given
 use Rattle.sync_survey.proofs.starts.find_start.Goals as goal
 use Rattle.sync_survey.proofs.starts.find_start.Goals.{After-item_front}
 
--- where this many bytes are left, and this item is at the front of what is shown
+-- so many bytes are left, and what is shown begins with this item
 started : (file front : List ℕ) (at left : ℕ) → at ≡ front_end_of file → Shows file at front left → start_of file ≡ start_at file at (item_front front)
 started file front at left end shows = start_is file at (item_front front) end (sym (item_at-shown file at front left shows))
 

@@ -1,4 +1,4 @@
--- The first offset where an anchored frame stands.
+-- The first offset at which there is an anchored frame.
 use Rattle.std.proofs.Common.{sym, subst, arith}
 use Rattle.std.proofs.lemmas.Result.{err_from_is_err_and}
 use Rattle.outside.specs.Files.{Holds}

@@ -1,4 +1,4 @@
--- A frame of the class is judged by its later faults, where its row stands.
+-- A frame of the class is judged by its later faults, in its row.
 use Rattle.std.proofs.Common.{◌≡◌, ◌+◌, false, true, List, [], ◌∷◌, ◌++◌, length, get_or, slice_set, Some, refl, sym, ◌∙◌, ap, ap₂, subst, inr, arith}
 use Rattle.std.proofs.lemmas.Result.{err_from_is_err_and}
 use Rattle.frame_header.specs.Tables.{class_of}
