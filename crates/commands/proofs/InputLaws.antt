@@ -53,7 +53,7 @@ pub refusal_numbers : (refuses : Refusal → Bool) (fault : EditFault) → IsRef
 refusal_numbers refuses (Refused refusal) is = is
 refusal_numbers refuses _ is = absurd is
 
--- it is one of the enum's
+-- it is a variant of the enum
 pub refusal-of : (refuses : Refusal → Bool) (fault : EditFault) → IsRefusal refuses fault → (refusal : Refusal) × (fault ≡ Refused refusal) × (refuses refusal ≡ true)
 refusal-of refuses (Refused refusal) is = (refusal, refl, is)
 refusal-of refuses _ is = absurd is

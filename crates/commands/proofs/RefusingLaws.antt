@@ -1,4 +1,4 @@
--- What is in front of what is made: what its refusals are, and when it isn't refused.
+-- What comes before what is made: what its refusals are, and when it isn't refused.
 use Rattle.std.proofs.Common.{◌≡◌, Option, Some, None, Result, Ok, Err, refl, subst}
 use Rattle.std.specs.Prelude.{IfErr}
 use Rattle.commands.specs.declared.fault.EditFault.{EditFault}

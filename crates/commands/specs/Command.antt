@@ -1,4 +1,4 @@
--- What a command is for the outside: of the files that are there it makes files and a text, or it is refused.
+-- What a command is as seen from outside: of the files that are there it makes files and a text, or it is refused.
 use Rattle.std.specs.Prelude.{◌≡◌, ℕ, ◌+◌, Bool, List, [], ◌∷◌, ◌++◌, take, drop, if◌then◌else◌, bytes_eq, Option, Some, None, Result, Ok, IfSome}
 use Rattle.std.specs.List.{list_any}
 use Rattle.outside.specs.Files.{Contents, Files, with_file, IfTold}
@@ -45,12 +45,12 @@ clash_of command = clash_from command.outputs 0 command.inputs
 
 -- ---- files
 
--- the same files with these outputs
+-- the files once these outputs were written
 abbrev pub written : List Output → Contents → Contents
 written [] files = files
 written (output ∷ outputs) files = written outputs (with_file files output.name output.bytes)
 
--- the next output's first bytes, where it was created
+-- the next output with its first bytes, if it was created
 abbrev pub begun : Option ℕ → List Output → List Output
 begun (Some count) (output ∷ outputs) = record output { bytes = take count output.bytes } ∷ []
 begun _ _ = []
@@ -76,7 +76,7 @@ abbrev pub AreSound : Contents → List (List ℕ) → Type 0
 AreSound files [] = Unit {0}
 AreSound files (name ∷ names) = ((bytes : List ℕ) × (files name ≡ Some bytes) × IsWellFormed bytes) × AreSound files names
 
--- the command is done with well-formed sources alone, and what it makes of them holds the streams that it has to hold
+-- the command is done with well-formed sources only, and what it makes of them holds the streams that it has to hold
 pub record MakesStreams (command : Command) (files : Contents) (made : Made) : Type 0 where
   pub sources : AreSound files command.sources
   pub streams : AreStreams made.outputs (command.streams files)

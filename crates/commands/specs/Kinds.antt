@@ -5,7 +5,7 @@ use Rattle.sync_survey.specs.declared.survey_fault.SurveyFault.{SurveyFault}
 use Rattle.commands.specs.declared.fault.EditFault.{EditFault}
 use Rattle.commands.specs.declared.fault.EditFault.TheVariants.{Input, Memory as NoMemory}
 
--- the fault of an input of a command, counted from 0; want of memory is alone
+-- the fault of an input of a command, counted from 0; want of memory is a fault of its own
 abbrev pub of_survey : ℕ → SurveyFault → EditFault
 of_survey place fault =
     by_kind (record { absent = Input place fault; unread = Input place fault; shorter = Input place fault; too_much = NoMemory; refused = Input place fault }) (kind_of fault)

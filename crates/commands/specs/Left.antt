@@ -51,12 +51,12 @@ pub record IsDone (command : Command) (old new : Seen) : Type 0 where
   pub touches : OnlyTouches command.outputs old.files new.files
   pub counts : new.counts ≡ old.counts
 
--- nothing is refused, and of what the command makes the first k outputs are whole; the next one holds a prefix, or wasn't created
+-- the command isn't refused, and of what it makes the first k outputs are whole; the next one holds a prefix, or wasn't created
 pub record IsWrittenTo (command : Command) (k : ℕ) (old new : Files) : Type 0 where
   pub made : IfTold old (λ f. (made : Made) × (command.makes f ≡ Ok made) × (k < length made.outputs) × (count : Option ℕ) × (new ≡ Told (written_to k count made.outputs f)))
   pub touches : OnlyTouches (take (k + 1) command.outputs) old new
 
--- the command is refused so; all is as it was
+-- the command is refused with this fault; all is as it was
 pub record IsRefused (command : Command) (old new : Seen) (fault : EditFault) : Type 0 where
   pub defined : Gives command old.files (Err fault)
   pub stays : new ≡ old
@@ -88,7 +88,7 @@ is_before_memory (Input place Absent) = place == 0
 is_before_memory (Input place (TooLong size)) = place == 0
 is_before_memory _ = false
 
--- the fault is found once memory was taken
+-- the fault is found after memory was taken
 abbrev pub IsLate : EditFault → Type 0
 IsLate fault = is_before_memory fault ≡ false
 
@@ -111,7 +111,7 @@ LeavesBy command old new fault (Unwritten k) = IsUnwritten command k old new
 LeavesBy command old new fault Unsent = IsDone command old new
 LeavesBy command old new fault NoMemory = IsOutOfMemory command old new
 
--- what a fault of the command leaves, and its cause: its text is sent last, so where that failed all of its files were written
+-- what a fault of the command leaves, and its cause; the text is sent last, so if sending failed all of the command's files were written
 abbrev pub Leaves : Command → Seen → Seen → EditFault → Type 0
 Leaves command old new fault = LeavesBy command old new fault (why_of fault)
 
@@ -131,7 +131,7 @@ IsOfSurvey at (Input place fault) = (place ≡ at) × (fault ≢ NoRoom) × HasR
 IsOfSurvey at Memory = Unit {0}
 IsOfSurvey at _ = ⊥
 
--- the fault is one of the only input, such a refusal, or want of memory
+-- the fault is one of the only input, a refusal that passes the test, or want of memory
 abbrev pub IsOfInput : (Refusal → Bool) → EditFault → Type 0
 IsOfInput refuses (Input place fault) = (place ≡ 0) × (fault ≢ NoRoom) × HasRightNumbers fault
 IsOfInput refuses (Refused refusal) = refuses refusal ≡ true
@@ -145,7 +145,7 @@ IsOfPass (Write place) = place ≡ 0
 IsOfPass Memory = Unit {0}
 IsOfPass _ = ⊥
 
--- the fault is such a refusal
+-- the fault is a refusal that passes the test
 abbrev pub IsRefusal : (Refusal → Bool) → EditFault → Type 0
 IsRefusal refuses (Refused refusal) = refuses refusal ≡ true
 IsRefusal refuses _ = ⊥

@@ -34,13 +34,13 @@ made_where make (Some file) = made_file make file
 
 -- ---- the command
 
--- What a command reads, what it makes of the files that are there, where no name is another's, the stream that this has to hold, and which
+-- What a command reads, what it makes of the files that are there if no name is another's, the stream that this has to hold, and which
 -- refusals it can give.
 pub record Task : Type 0 where
-  -- the input that is read again while the output is written, of several the first, and all of them
+  -- the input that is read again while the output is written, which is the first, and all inputs
   pub source : List ℕ
   pub inputs : List (List ℕ)
-  -- those that it reads as streams of frames
+  -- those inputs that it reads as streams of frames
   pub sources : List (List ℕ)
   pub makes : Contents → Result (List ℕ) EditFault
   pub stream : Contents → List StreamFrame
@@ -57,15 +57,15 @@ file_task make stream refuses input = record {
   refuses = refuses;
 }
 
--- the first of them that has the output's name
+-- the first input that has the output's name
 abbrev pub clash_in : Task → List ℕ → Option ℕ
 clash_in task output = clash_from (output ∷ []) 0 task.inputs
 
 abbrev pub first_input : List (List ℕ) → List ℕ
 first_input inputs = unwrap_or (slice_get inputs 0) []
 
--- What has to hold of it: the source is the first input, no file that may be read is refused before memory is taken for it, and what is made of
--- sources that are bytes holds the stream that it has to hold, and the sources are well-formed.
+-- What has to hold of it: the source is the first input; if the source isn't too long, every fault is one that is found after memory was taken;
+-- and what is made of a source that consists of bytes holds the stream that it has to hold, and all sources are well-formed.
 pub record IsProper (task : Task) : Type 0 where
   pub some : 1 ≤ length task.inputs
   pub first : first_input task.inputs ≡ task.source
@@ -98,12 +98,12 @@ one_command task output = record {
 
 -- ---- its steps
 
--- the same files, but that the name holds these bytes
+-- the files once the name holds these bytes; where they aren't told, the name was touched
 unfoldable pub holding : Files → List ℕ → List ℕ → Files
 holding (Told f) name bytes = Told (with_file f name bytes)
 holding (Untold touched) name bytes = Untold (with_touch touched name true)
 
--- the file is there, and the survey of it is refused, where so many frames are allowed
+-- the file is there, and its survey is refused if so many frames are allowed
 pub record RefusesFile (allowed : ℕ) (name : List ℕ) (old new : Seen) (fault : SurveyFault) : Type 0 where
   pub there : IsThere old.files name
   pub bytes : (bytes : List ℕ) → Holds old.files name bytes → survey_of bytes allowed ≡ Err fault
@@ -136,7 +136,7 @@ pub record LosesInput (old new : Seen) : Type 0 where
   pub untold : is_told old.files ≡ false
   pub files : new.files ≡ old.files
 
--- the input is there with a length that it may have, so that memory is taken for it
+-- the input is there and isn't too long, so that memory is taken for it
 pub record NeedsMemory (name : List ℕ) (old new : Seen) : Type 0 where
   pub there : IsThere old.files name
   pub few : (bytes : List ℕ) → Holds old.files name bytes → length bytes ≤ longest_file
@@ -151,7 +151,7 @@ IsFileFaultBy place allowed name old new fault (Unwritten k) = ⊥
 IsFileFaultBy place allowed name old new fault Unsent = ⊥
 IsFileFaultBy place allowed name old new fault NoMemory = NeedsMemory name old new
 
--- what a fault of the survey of an input says of it: the input is counted from 0, and so many frames are allowed
+-- what a fault of the survey of an input says of it; the input is counted from 0, and so many frames are allowed
 abbrev pub IsFileFault : ℕ → ℕ → List ℕ → Seen → Seen → EditFault → Type 0
 IsFileFault place allowed name old new fault = IsFileFaultBy place allowed name old new fault (why_of fault)
 
@@ -170,7 +170,7 @@ IsInputFault make name old new fault = IsInputFaultBy make name old new fault (w
 
 -- ---- before the output is created
 
--- the files are refused so
+-- the files are refused with this fault
 abbrev pub Refuses : Task → Files → EditFault → Type 0
 Refuses task files fault = IfTold files (λ f. task.makes f ≡ Err fault)
 
@@ -205,7 +205,7 @@ IsOfInputs task _ = ⊥
 
 -- ---- the second pass
 
--- The source is there, and where it is told, the command makes this of it.
+-- The source is there, and if it is told, the command makes this of it.
 pub record IsMaking (task : Task) (made : List ℕ → List ℕ) (files : Files) : Type 0 where
   pub there : IsThere files task.source
   pub makes : IfTold files (λ f. (bytes : List ℕ) → f task.source ≡ Some bytes → AreBytes bytes × (task.makes f ≡ Ok (made bytes)))
@@ -214,7 +214,7 @@ pub record IsMaking (task : Task) (made : List ℕ → List ℕ) (files : Files)
 abbrev pub HoldsPrefix : List ℕ → List ℕ → Files → Files → Type 0
 HoldsPrefix name bytes old new = (new ≡ old) ⊎ ((count : ℕ) × (new ≡ holding old name (take count bytes)))
 
--- the output wasn't created, or holds a prefix of what it is to hold, where the input is told
+-- the output wasn't created, or holds a prefix of what it is to hold, if the input is told
 abbrev pub IsBegun : (List ℕ → List ℕ) → List ℕ → List ℕ → Files → Files → Type 0
 IsBegun made input output old new = (bytes : List ℕ) → Holds old input bytes → HoldsPrefix output (made bytes) old new
 

@@ -12,7 +12,7 @@ abbrev pub unless : {A : Type 0} → Option Refusal → A → Result A EditFault
 unless (Some refusal) a = Err (Refused refusal)
 unless None a = Ok a
 
--- what is made of this, where it isn't refused
+-- what is made of this, if it isn't refused
 abbrev pub then_made : {A B : Type 0} → Result A EditFault → (A → Result B EditFault) → Result B EditFault
 then_made (Ok a) make = make a
 then_made (Err fault) make = Err fault

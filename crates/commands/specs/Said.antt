@@ -6,7 +6,7 @@ use Rattle.commands.specs.declared.fault.EditFault.{EditFault}
 use Rattle.commands.specs.declared.fault.EditFault.TheVariants.{Sent as NotSent}
 use Rattle.commands.specs.Command.{Made, Command}
 
--- what can be seen of a sink at a moment: what it got, where that is told, and how often a write failed
+-- what can be seen of a sink at a moment: the bytes that it got, if they are told, and how often a write failed
 pub record Heard : Type 0 where
   pub sent : Sent
   pub faults : ℕ
@@ -14,7 +14,7 @@ pub record Heard : Type 0 where
 abbrev pub heard : Sent → ℕ → Heard
 heard sent faults = record { sent = sent; faults = faults }
 
--- the text that the command makes of these files; over files that aren't told one that it makes of all
+-- the text that the command makes of these files; over files that aren't told, one that it makes of all
 abbrev pub IsText : Command → Files → List ℕ → Type 0
 IsText command files text = (command.always ≡ Some text) ⊎ ((f : Contents) × (made : Made) × (files ≡ Told f) × (command.makes f ≡ Ok made) × (made.text ≡ text))
 
@@ -28,7 +28,7 @@ pub record SaysPrefix (command : Command) (files : Files) (old new : Heard) : Ty
   pub text : (text : List ℕ) → IsText command files text → (count : ℕ) × (count ≤ length text) × (new.sent ≡ sent_more old.sent (take count text))
   pub rose : Rose old.faults new.faults
 
--- the sink's part of the answer of a command: the whole text where it was done, a prefix where a write failed, and else nothing
+-- the sink's part of the answer of a command: the whole text if it was done, a prefix if a write failed, and else nothing
 abbrev pub Says : Command → Files → Heard → Heard → Option EditFault → Type 0
 Says command files old new None = SaysAll command files old new
 Says command files old new (Some NotSent) = SaysPrefix command files old new

@@ -10,7 +10,7 @@ use Rattle.commands.specs.Kinds.{HasRightNumbers}
 use Rattle.commands.specs.Left.{Why, Rejected, Missing, Unread, Shorter, NoMemory, why_of, Seen}
 use Rattle.commands.specs.One.{MissesAt, ReadsNothing, LosesInput}
 
--- it may have so many bytes
+-- the greatest length of a sheet in bytes
 abbrev pub longest_sheet : ℕ
 longest_sheet = 65536
 
@@ -18,7 +18,7 @@ longest_sheet = 65536
 abbrev pub sheet_read : List ℕ → Result (List ℕ) EditFault
 sheet_read sheet = if nat_lt longest_sheet (length sheet) then Err (Refused (SheetTooLarge (length sheet))) else Ok sheet
 
--- or why there are none
+-- or why there is none
 abbrev pub sheet_in : Option (List ℕ) → Result (List ℕ) EditFault
 sheet_in None = Err (Input 1 Absent)
 sheet_in (Some sheet) = sheet_read sheet
@@ -44,7 +44,7 @@ IsSheetFaultBy name old new fault _ = ⊥
 abbrev pub IsSheetFault : List ℕ → Seen → Seen → EditFault → Type 0
 IsSheetFault name old new fault = IsSheetFaultBy name old new fault (why_of fault)
 
--- what may be refused of its size
+-- the refusals for its length
 abbrev pub sheet_refuses : Refusal → Bool
 sheet_refuses (SheetTooLarge size) = nat_lt longest_sheet size
 sheet_refuses _ = false

@@ -4,7 +4,7 @@ use Rattle.outside.specs.Files.{Contents}
 use Rattle.commands.specs.declared.fault.EditFault.{EditFault}
 use Rattle.commands.specs.Command.{Made, Command}
 
--- with this text, where it isn't refused
+-- with this text, if it isn't refused
 abbrev pub with_text : List ℕ → Result Made EditFault → Result Made EditFault
 with_text text (Ok made) = Ok (record made { text = text })
 with_text text (Err fault) = Err fault

@@ -11,10 +11,10 @@ use crate::fault::EditFault;
 use outside::{Folder, PassFault};
 use std::alloc::Global;
 
-/// A command that makes one file, except the output's name: what it reads and decides before the output is created, and
-/// how it writes it.
+/// A command that makes one file, without the output's name: what it reads and decides before the output is
+/// created, and how it writes it.
 pub trait Edit {
-    /// What is known and made ready before the output is created, with all memory.
+    /// What is known and ready before the output is created, with all its memory.
     type Work: Drop;
 
     /// What it reads, and what it makes of the files that are there.
@@ -33,10 +33,11 @@ pub trait Edit {
     fn clash(&self, output: &str) -> Option<u32>
         ensures { result ≡ clash_in (task self.now) output.now };
 
-    /// Reads what is asked for, decides, and takes all memory.
+    /// Reads what is needed, decides, and takes all memory.
     ///
     /// # Errors
-    /// `Input` with the number of an input and its fault, `Refused`, and `Memory`. The files stay.
+    /// `Input` with the number of an input, counted from 0, and its fault; `Refused`; and `Memory`. The
+    /// files stay.
     fn prepare<D: Folder>(&self, alloc: Global, folder: &mut D) -> Result<Self::Work, EditFault>
         requires { IsLegal self.now }
         ensures ready { IfOk result (λ work. IsReady self.now work (D.files folder.old)) }
@@ -53,8 +54,8 @@ pub trait Edit {
     /// Appends the whole output to the file that was created for it. It takes no memory.
     ///
     /// # Errors
-    /// `Read` and `Shrunk` where a read failed, or gave no byte before the length that the input was found with; `Write`
-    /// where a write failed. Then a prefix of the output was appended.
+    /// `Read` where a read failed; `Shrunk` where one gave no byte before the length with which the input
+    /// was found; `Write` where a write failed. Then a prefix of the output was appended.
     fn write<D: Folder>(
         &self,
         folder: &mut D,
@@ -74,6 +75,9 @@ pub trait Edit {
 }
 
 /// Creates the output and writes it. All memory was taken before.
+///
+/// # Errors
+/// `Write(0)`, and `Input(0, ..)` with `Read` or `Shrunk`.
 fn write_output<E: Edit, D: Folder>(
     folder: &mut D,
     edit: &E,
@@ -103,11 +107,17 @@ fn write_output<E: Edit, D: Folder>(
     }
 }
 
-/// Makes the one file of a command, or refuses it.
+/// Makes the one file of a command.
 ///
-/// Refuses, in this order: `EqualNames` with the number of the first input that has the output's name, byte for byte; what
-/// `prepare` refuses, and then nothing was created; `Input(0, ..)` with `Read`, and `Write(0)`. After these the
-/// output is as it was or holds a prefix of its bytes. `Memory` comes before the output is created, and not from then on.
+/// # Errors
+/// In this order:
+/// - `EqualNames` with the number, counted from 0, of the first input that has the output's name, byte for
+///   byte;
+/// - what `prepare` refuses. Nothing was created then;
+/// - `Input(0, ..)` with `Read` or `Shrunk`, and `Write(0)`, while the output is created and written. It is
+///   then as it was or holds a prefix of its bytes.
+///
+/// `Memory` comes before the output is created, and not from then on.
 pub fn make_one<E: Edit, D: Folder>(
     alloc: Global,
     folder: &mut D,

@@ -1,4 +1,4 @@
-//! Why a job was not done.
+//! Why a command wasn't done.
 
 ghost use Rattle.std.specs.Prelude.{◌≡◌};
 ghost use Rattle.commands.specs.declared.fault.EditFault.TheVariants.{Refused, Memory};
@@ -33,12 +33,13 @@ pub enum Refusal {
     UndoRange(i32),
     /// The file that is to be written would have so many bytes, more than 1,073,741,824.
     OutputTooLong(u64),
-    /// The frames from the first number on and before the second aren't in a file of so many frames, or are none.
+    /// The frames from the first number on and before the second aren't in a file with the third number of
+    /// frames, or are none.
     Range(u64, u64, u64),
     /// No frame of the class has this bit rate, in kbit/s.
     NoRate(u16),
-    /// Up to this frame, counted from 0, the main data have no room in slots of the bit rates that are allowed, even after a
-    /// lead-in.
+    /// The main data up to this frame, counted from 0, have no room in slots of the bit rates that are
+    /// allowed, even after a lead-in.
     Unfit(u32),
     /// The frames of this input, counted from 0, are of another class than those of the first.
     Differ(u32),
@@ -52,7 +53,7 @@ pub enum Refusal {
     CurveNotRising(u32),
 }
 
-/// Why a job was not done.
+/// Why a command wasn't done.
 #[derive(Clone, Copy, Debug, PartialEq, Eq)]
 pub enum EditFault {
     /// An output's name is that of this input, counted from 0.
@@ -93,7 +94,7 @@ impl<T: Drop> From<AllocFailed<T>> for EditFault {
     }
 }
 
-/// The fault of the one input of a command; want of memory is alone.
+/// The fault of the one input of a command; want of memory is a fault of its own.
 impl From<SurveyFault> for EditFault {
     ghost from_gives = { λ fault e. e ≡ of_input fault };
 

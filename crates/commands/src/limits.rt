@@ -1,10 +1,10 @@
-//! How much a file may be.
+//! The limits of files.
 
-/// An input may have so many frames besides its head.
+/// The greatest number of frames of an input, not counting the head.
 pub const MOST_FRAMES: u32 = 2_900_000;
 
-/// A file has at most so many bytes.
+/// The greatest length of a file in bytes.
 pub const LONGEST_FILE: u64 = 1_073_741_824;
 
-/// A tag has at most so many bytes.
+/// The greatest length of a tag in bytes.
 pub const LONGEST_TAG: u64 = 1_048_576;

@@ -10,13 +10,16 @@ use outside::{FindFault, Folder, read_exact};
 use std::alloc::Global;
 use sync_survey::SurveyFault;
 
-/// A sheet may have so many bytes.
+/// The greatest length of a sheet in bytes.
 const LONGEST_SHEET: u64 = 65_536;
 
-/// The number of the sheet among the inputs.
+/// The number of the sheet among the inputs, counted from 0.
 const SHEET: u32 = 1;
 
 /// The length of the sheet in bytes.
+///
+/// # Errors
+/// `Input(1, ..)` with `Absent` or `Read`; `SheetTooLarge`.
 fn sheet_length<D: Folder>(folder: &mut D, sheet: &str) -> Result<u64, EditFault>
     ensures there { OnOk result (IsThere (D.files folder.old) sheet.now) }
     ensures length { IfOk result (λ n. (bytes : List ℕ) → Holds (D.files folder.old) sheet.now bytes
@@ -41,9 +44,11 @@ fn sheet_length<D: Folder>(folder: &mut D, sheet: &str) -> Result<u64, EditFault
 /// The bytes of a sheet, the second input of a command. The files stay.
 ///
 /// # Errors
-/// `Input(1, ..)` with `Absent` and `Read`, and with `Shrunk`, the length that the sheet was found with and the one that it
-/// had when it was read, only where the folder doesn't tell its files; `SheetTooLarge` with its length above 65,536 bytes;
-/// `Memory`.
+/// - `Input(1, ..)` with `Absent` where it isn't there, with `Read` where a call failed, and with `Shrunk`,
+///   the length with which the sheet was found and the one at which it ended when it was read, only where
+///   the folder doesn't tell its files;
+/// - `SheetTooLarge` with its length where it has more than 65,536 bytes;
+/// - `Memory` where there is no memory.
 pub fn sheet_bytes<D: Folder>(
     alloc: Global,
     folder: &mut D,

@@ -16,7 +16,7 @@ use outside::Folder;
 use std::alloc::Global;
 use sync_survey::{Survey, SurveyFault, survey};
 
-/// The fault of the survey of an input, counted from 0; want of memory is alone.
+/// The fault of the survey of an input, counted from 0; want of memory is a fault of its own.
 fn of_survey(place: u32, fault: SurveyFault) -> EditFault
     ensures { result ≡ of_survey_lem place fault }
 {
@@ -26,10 +26,12 @@ fn of_survey(place: u32, fault: SurveyFault) -> EditFault
     }
 }
 
-/// What is known of an input of a command, counted from 0, of which so many frames are allowed.
+/// What is known of an input of a command that may have `allowed` frames. `place` is its number among the
+/// inputs, counted from 0. The files stay.
 ///
 /// # Errors
-/// `Input` with that number and the fault of the survey, `TooManyFrames` where it has more frames; `Memory`. The files stay.
+/// `Input` with that number and the fault of the survey, which is `TooManyFrames` if it has more frames;
+/// `Memory`.
 pub fn survey_at<D: Folder>(
     alloc: Global,
     folder: &mut D,
@@ -58,7 +60,10 @@ pub fn survey_at<D: Folder>(
     }
 }
 
-/// What is known of the input.
+/// What is known of the only input of a command, which may have 2,900,000 frames.
+///
+/// # Errors
+/// `Input(0, ..)` with the fault of the survey; `Memory`.
 pub fn survey_input<D: Folder>(
     alloc: Global,
     folder: &mut D,
@@ -71,7 +76,7 @@ pub fn survey_input<D: Folder>(
     ensures few { IfOk result (λ s. length (tells s).frames ≤ most_frames) }
     ensures octets { OnOk result ((bytes : List ℕ) → Holds (D.files folder.old) name.now bytes
         → AreBytes bytes) }
-    // Whatever the command changes.
+    // Whatever the command makes of the input.
     ensures refused { IfErr result (λ fault. (make : Making)
         → IsInputFault make name.now (seen (D.files folder.old) (D.counts folder.old))
         (seen (D.files folder.new) (D.counts folder.new)) fault) }

@@ -1,4 +1,4 @@
--- What is at the front of bytes that were cut short: the item that stood there, or nothing that is known.
+-- With what bytes begin that were cut short: the item that was there, or nothing that is known.
 use Rattle.std.proofs.Common.{◌≡◌, ◌≢◌, ℕ, ◌+◌, ◌-◌, ◌<◌, ◌≤◌, ◌⊎◌, inl, inr, leb, cond, Bool, true, false, List, [], ◌∷◌, ◌++◌, length, take, drop, codes, Option, Some, None, Ok, Err, refl, sym, ◌∙◌, ap, subst, arith}
 use Rattle.std.proofs.lemmas.Bool.{false≢true, leb-true}
 use Rattle.std.proofs.lemmas.Slice.Eq.{bytes_eq-Decides}
@@ -42,7 +42,7 @@ begins-long Ape bytes is = leb-true 32 (length bytes) (both _ _ (both _ _ (both 
 
 -- ---- the first of bytes
 
--- the item that stood there, or what isn't known
+-- the item that was there, or what isn't known
 abbrev pub IsCutItem : Item → Item → Type 0
 IsCutItem now whole = (now ≡ whole) ⊎ ((now ≡ End) ⊎ (now ≡ Nothing))
 
@@ -91,7 +91,7 @@ module _ (file : List ℕ) (n : ℕ) (within : n ≤ length file) where
       subst (IsCutItem (item_front (drop at cut))) is
       (subst (λ (bytes : List ℕ). IsCutItem (item_front bytes) (item_front (drop at file))) (sym (drop-cut at low)) (cut-item (n - at) (drop at file)))
 
-  -- an item that is whole still is there
+  -- an item that still is whole is there
   pub item-kept : (part : Part) (at : ℕ) (item : Item) → item_of part file at ≡ Some item → at + size_of item ≤ n → item_of part cut at ≡ Some item
   item-kept part at item is low =
       let here = item_of-is part file at item is in

@@ -1,4 +1,4 @@
--- The items of a file that was cut short: those that are whole still.
+-- The items of a file that was cut short: those that still are whole.
 use Rattle.std.proofs.Common.{◌≡◌, ℕ, ◌+◌, ◌-◌, ◌<◌, ◌≤◌, ◌⊎◌, inl, inr, true, false, List, [], ◌∷◌, ◌++◌, length, Option, Some, None, Ok, Err, refl, sym, ◌∙◌, ap, subst, arith}
 use Rattle.std.proofs.lemmas.Bool.{false≢true, cases_lt, lt-leb, le-leb}
 use Rattle.std.proofs.lemmas.List.{drop_all}
@@ -69,7 +69,7 @@ module _ (file : List ℕ) (n : ℕ) (within : n ≤ length file) where
   cut-run part from (p ∷ ps) to ends low =
       run-more part from p ps to ends low (λ kept. cut-run part (p.offset + size_of p.item) ps to ends.2 kept) (cases_lt n (p.offset + size_of p.item))
 
-  -- ---- where nothing of the part is whole
+  -- ---- where no item of the part is whole
 
   -- a fault that a file that was cut may have, or none
   abbrev pub MayBeCut : Option SurveyFault → Type 0
@@ -108,7 +108,7 @@ module _ (file : List ℕ) (n : ℕ) (within : n ≤ length file) where
   abbrev pub IsCutStart : Start → Type 0
   IsCutStart start = ((start_of now ≡ Ok start) × (start.first.offset + size_of (Frame start.first.header) ≤ n)) ⊎ ((fault : SurveyFault) × (start_of now ≡ Err fault) × IsCutFault fault)
 
-  -- no start, where the item at which the front ends was cut through
+  -- no start, if the item at which the front ends was cut through
   no_start : (at : ℕ) (item : Item) → IsCutThrough file n within Stream at item → (x : Item) → item_at now at ≡ x → IsCutItem x item → (fault : SurveyFault) × (start_at now at x ≡ Err fault) × IsCutFault fault
   no_start at item through x is (inl same) = whole_start item same (item_of-is Stream file at item through.is).belongs through
     where
@@ -146,7 +146,7 @@ module _ (file : List ℕ) (n : ℕ) (within : n ≤ length file) where
       let here = item_of-is part file at item through.is in
       record { is = item_of-whole Stream file at item here.is (stream_belongs part item here.belongs) here.within; low = through.low; over = through.over }
 
-  -- the blocks and zero bytes at the front end at this offset now
+  -- the front ends at this offset now
   front-now : (front : List Placed) (stop : ℕ) → AreEndToEnd Front now 0 front stop → item_of Front now stop ≡ None → stop ≡ front_end_of now
   front-now front stop ends none = sym (ap (λ (r : Run). r.stop) (run-only Front now 0 front stop ends none)) ∙ stop-is now
 

@@ -16,15 +16,14 @@ IsCutFault (LostSync at) = Unit {0}
 IsCutFault (Truncated at) = Unit {0}
 IsCutFault _ = ⊥
 
--- what a survey of a file says that was cut out of the front of another: such a fault, or none, and then its stream is a front of the
--- other's
+-- what a survey says of a prefix of a file: one of these faults, or none, and then its stream is the first frames of the file's
 abbrev pub IsCutAnswer : List ℕ → List ℕ → Result SurveyFields SurveyFault → Type 0
 IsCutAnswer file front (Ok s) = IsWellFormed front × IsFrontOf (stream_of front) (stream_of file)
 IsCutAnswer file front (Err fault) = IsCutFault fault
 
--- For every file without fault and without junk, and every number of bytes up to its length: so many of its first bytes have no fault,
--- or their first fault is that there is no frame, a frame or block that isn't whole, or lost synchronisation. As many frames are allowed
--- as the file has.
+-- For every file without fault and without junk, and every number of bytes up to its length: the prefix of so many bytes has no fault, or
+-- its first fault is that there is no frame, a frame or block that isn't whole, or lost synchronisation. As many frames are allowed as the
+-- file has.
 abbrev pub PrefixFault : Type 0
 PrefixFault =
     (file : List ℕ) (allowed : ℕ) (s : SurveyFields) (count : ℕ) → surveyed file allowed ≡ Ok s → s.junk ≡ s.first → count ≤ length file

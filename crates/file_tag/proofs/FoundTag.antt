@@ -52,7 +52,7 @@ pub found_tag : (xs : List Piece) (b : Piece) → find is_tag xs ≡ Some b → 
 found_tag [] b e = absurd cc
 found_tag (x ∷ xs) b e = found_case x b xs (is_tag b ≡ true) e (λ is same. subst (λ y. is_tag y ≡ true) same is) (λ none rest. found_tag xs b rest)
 
--- ---- where it stands
+-- ---- where it is
 
 laid_from : (from : ℕ) (xs : List Piece) (to : ℕ) → BlocksAreLaid from xs to → from ≤ to
 laid_from from [] to laid = laid

@@ -23,7 +23,7 @@ unfolding item_at
 there own at item file bytes is same =
     ap item_front (sym (take-append-drop own (drop at file)) ∙ ap (λ l. l ++ drop own (drop at file)) same) ∙ is.known (drop own (drop at file))
 
--- a whole item is where its bytes stand
+-- a whole item is where its bytes are
 pub item-moved : (file new : List ℕ) (at place : ℕ) (item : Item) → item_of Stream file at ≡ Some item → take (size_of item) (drop place new) ≡ take (size_of item) (drop at file) → item_of Stream new place ≡ Some item
 item-moved file new at place item is same =
     let here = item_of-is Stream file at item is in
@@ -44,7 +44,7 @@ frame_by to p = record p { offset = to p.offset }
 abbrev pub piece_by : (ℕ → ℕ) → Piece → Piece
 piece_by to p = record p { offset = to p.offset }
 
--- the bytes of the file between two offsets are in the other one, where their offsets then are
+-- the bytes of the file between two offsets are in the other one, where their offsets are then
 pub record IsMovedTo (to : ℕ → ℕ) (file new : List ℕ) (from end at : ℕ) : Type 0 where
   pub place : (x : ℕ) → from ≤ x → x < end → to x ≡ at + (x - from)
   pub same : (x k : ℕ) → from ≤ x → x < end → x + k ≤ end → take k (drop (to x) new) ≡ take k (drop x file)
@@ -61,7 +61,7 @@ module _ (to : ℕ → ℕ) (file new : List ℕ) where
   rises from [] end ends = omega (arith, ends)
   rises from (p ∷ ps) end ends = omega (arith, ends.0, rises (p.offset + size_of p.item) ps end ends.2)
 
-  -- items end to end stand so there
+  -- items end to end are so there
   pub ends-moved : (from : ℕ) (ps : List Placed) (end at : ℕ) → AreEndToEnd Stream file from ps end → IsMovedTo to file new from end at → AreEndToEnd Stream new at (map (placed_by to) ps) (at + (end - from))
   ends-moved from [] end at ends moved = omega (arith, ends)
   ends-moved from (p ∷ ps) end at ends moved =

@@ -31,7 +31,7 @@ abbrev pub head_by : (ℕ → ℕ) → Head → Head
 head_by to head = record head { offset = to head.offset }
 
 module _ (to : ℕ → ℕ) (head : Option Head) where
-  -- ---- where main data stand doesn't go by offsets
+  -- ---- where main data are doesn't depend on offsets
 
   abbrev new_head : Option Head
   new_head = option_map (head_by to) head
@@ -145,7 +145,7 @@ module _ (to : ℕ → ℕ) (file new : List ℕ) where
   head_placed p None = refl
   head_placed p (Some at) = refl
 
-  -- it is a head there where it is one here
+  -- it is a head there exactly if it is one here
   pub head-by : (p : PlacedFrame) → IsKept to file new p → head_of new (frame_by to p) ≡ option_map (head_by to) (head_of file p)
   unfolding head_of
   head-by p kept =
@@ -184,7 +184,7 @@ module _ (to : ℕ → ℕ) (file new : List ℕ) where
       subst (IsSoundAt new (option_map (head_by to) head) class allowed (map (row_by to) rows) i) found.2
       (sound_by to head rows (word_said (drop q.offset file)) (word_said (drop (to q.offset) new)) class allowed i q (word_get ps i q kept found.1) (sound i q found.1))
 
-  -- they have no fault there, where they have none here
+  -- they have no fault there if they have none here
   pub no_faults-by : (head : Option Head) (class : ClassFields) (allowed : ℕ) (ps : List PlacedFrame) → AreKept to file new ps → all_faults file head class allowed (rows_of file ps) ≡ []
       → all_faults new (option_map (head_by to) head) class allowed (map (row_by to) (rows_of file ps)) ≡ []
   no_faults-by head class allowed ps kept none =

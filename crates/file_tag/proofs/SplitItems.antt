@@ -1,4 +1,4 @@
--- The items of a file, split at its tag, or after the last frame where it has none.
+-- The items of a file, split at its tag, or after the last frame if it has none.
 use Rattle.std.proofs.Common.{Bool, cond, ◌≡◌, ℕ, ◌+◌, true, false, List, [], ◌∷◌, ◌++◌, map, Option, Some, None, refl, sym, ◌∙◌, ap, subst, arith}
 use Rattle.std.specs.List.{find, cons_option, enumerate_from}
 use Rattle.frame_header.specs.Tables.{class_of, length_of}
@@ -34,7 +34,7 @@ none_more : (o : Option Piece) (xs : List Piece) → ((x : Piece) → o ≡ Some
 none_more None xs other none = none
 none_more (Some x) xs other none = rw (other x refl) none
 
--- one item more in front of them, which is no tag
+-- one item more before them, which is no tag
 push : (file : List ℕ) (at : ℕ) (item : Item) (ps : List Placed) (cut next to : ℕ) (old : List Piece) → item_of Stream file at ≡ Some item → ((x : Piece) → block_as at item ≡ Some x → is_tag x ≡ false)
     → IsSplit file ps (at + size_of item) cut next to old → IsSplit file (record { offset = at; item = item } ∷ ps) at cut next to old
 push file at item ps cut next to old is other split = record {

@@ -51,11 +51,11 @@ module _ (bytes file : List ℕ) (s : SurveyFields) (room : tag_at s + tag_lengt
   pub new-later : drop (cut + n) new ≡ later
   new-later = sym (drop-drop n cut new) ∙ ap (drop n) new-tag ∙ drop_at bytes later n refl
 
-  -- what stood before the tag
+  -- what was before the tag
   pub stays : (x : ℕ) → x < cut → moved_at n s x ≡ x
   stays x low = let is : ltb x cut ≡ true = lt-ltb x cut low in ap (λ (b : Bool). cond b x (x - gone + n)) is
 
-  -- what stood after it
+  -- what was after it
   pub follows : (x : ℕ) → cut ≤ x → moved_at n s x ≡ x - gone + n
   follows x high = let is : ltb x cut ≡ false = le-ltb x cut high in ap (λ (b : Bool). cond b x (x - gone + n)) is
 

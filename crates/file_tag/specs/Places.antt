@@ -1,4 +1,4 @@
--- Where the tag of a file stands, and the file with another tag in its place.
+-- Where the tag of a file is, and the file with another tag in its place.
 use Rattle.std.specs.Prelude.{◌≡◌, ◌⊎◌, ℕ, ◌+◌, ◌-◌, ◌==◌, nat_le, nat_lt, if◌then◌else◌, Bool, true, false, List, [], ◌∷◌, ◌++◌, length, take, drop, map, filter, slice_get, Option, Some, None, option_map}
 use Rattle.std.specs.List.{find}
 use Rattle.frame_header.specs.Tables.{class_of, length_of}
@@ -10,7 +10,7 @@ use Rattle.sync_survey.specs.declared.places.Head.{Head}
 use Rattle.sync_survey.specs.declared.rows.Row.{Row}
 use Rattle.sync_survey.specs.Faults.{SurveyFields}
 
--- ---- where the tag stands
+-- ---- where the tag is
 
 -- the block is an APEv2 tag
 abbrev pub is_tag : Piece → Bool
@@ -21,7 +21,7 @@ is_tag piece = is_ape piece.block.kind
     is_ape Id3v1 = false
     is_ape Ape = true
 
--- the tag's block: the first APEv2 block of the file, where there is one
+-- the tag's block: the first APEv2 block of the file, if there is one
 abbrev pub tag_block : SurveyFields → Option Piece
 tag_block s = find is_tag s.blocks
 
@@ -45,7 +45,7 @@ tag_at s = place_of s.frames (tag_block s)
     place_of rows (Some b) = b.offset
     place_of rows None = last_end rows
 
--- its length in bytes, 0 where there is none
+-- its length in bytes, 0 if there is none
 abbrev pub tag_length : SurveyFields → ℕ
 tag_length s = length_in (tag_block s)
   where
@@ -65,7 +65,7 @@ with_tag bytes s file = take (tag_at s) file ++ (bytes ++ drop (tag_at s + tag_l
 
 -- ---- what a survey tells of that file
 
--- where what is at an offset of the file is there then, if the new tag has n bytes: what stood after the tag follows the new one
+-- where what is at an offset of the file is then, if the new tag has n bytes: what was after the tag follows the new one
 abbrev pub moved_at : ℕ → SurveyFields → ℕ → ℕ
 moved_at n s at = if nat_lt at (tag_at s) then at else at - tag_length s + n
 
@@ -78,19 +78,19 @@ moved_head n s head = record head { offset = moved_at n s head.offset }
 abbrev pub moved_piece : ℕ → SurveyFields → Piece → Piece
 moved_piece n s piece = record piece { offset = moved_at n s piece.offset }
 
--- the block of the new tag, where it has bytes
+-- the block of the new tag, if it has bytes
 abbrev pub new_blocks : ℕ → SurveyFields → List Piece
 new_blocks n s = if n == 0 then [] else record { offset = tag_at s; block = record { kind = Ape; length = n } } ∷ []
 
--- the block is in front of the tag, or after it
+-- the block is before the tag, or after it
 abbrev pub stands_before : SurveyFields → Piece → Bool
 stands_before s piece = nat_lt piece.offset (tag_at s)
 
 abbrev pub stands_behind : SurveyFields → Piece → Bool
 stands_behind s piece = nat_le (tag_at s + tag_length s) piece.offset
 
--- What a survey tells of the file where its tag has n bytes: the same frames, head and blocks, at the offsets where they then stand,
--- and the new block among the others where the old one stood.
+-- What a survey tells of the file once its tag has n bytes: the same frames, head and blocks, at the offsets at which they are then, and
+-- the new block among the others where the old one was.
 unfoldable pub retagged : ℕ → SurveyFields → SurveyFields
 retagged n s = record {
   frames = map (moved_row n s) s.frames;

@@ -16,7 +16,7 @@ use Rattle.file_tag.specs.declared.fault.FileTagFault.{FileTagFault}
 use Rattle.file_tag.specs.declared.fault.FileTagFault.TheVariants.{TooLarge, Bad, Read, Shrunk, Memory}
 use Rattle.file_tag.specs.Places.{tag_block, tag_at, tag_length}
 
--- a tag that is read has at most so many bytes
+-- the greatest length of a tag that is read, in bytes
 abbrev pub longest_tag : ℕ
 longest_tag = 1048576
 
@@ -24,7 +24,7 @@ longest_tag = 1048576
 abbrev pub empty_tag : TagFields
 empty_tag = record { header_flags = 0xa0000000; footer_flags = 0x80000000; items = [] }
 
--- the same tag, or the fault by its offset in the file where the block stands
+-- the same tag, or its fault, by the offset of the block in the file
 abbrev pub in_file : ℕ → Result TagFields TagFault → Result TagFields FileTagFault
 in_file at (Ok tag) = Ok tag
 in_file at (Err (BadTag inside)) = Err (Bad (at + inside))
@@ -47,16 +47,17 @@ abbrev pub of_read : ReadFault → FileTagFault
 of_read Failed = Read
 of_read (ShrunkRead first second) = Shrunk first second
 
--- the survey is that of the file, whatever number of frames was allowed
+-- the survey is that of the file, for some number of frames that was allowed
 abbrev pub IsSurveyOf : List ℕ → SurveyFields → Type 0
 IsSurveyOf file s = (allowed : ℕ) × (survey_of file allowed ≡ Ok s)
 
--- where the bytes of the file are told, its tag is refused so
+-- where the bytes of the file are told, its tag is refused with this fault
 abbrev pub RefusesTag : List ℕ → Files → SurveyFields → FileTagFault → Type 0
 RefusesTag name files s fault = (bytes : List ℕ) → Holds files name bytes → file_tag bytes s ≡ Err fault
 
 -- Why the tag isn't read: it is too long, or at fault at one of its bytes; or a call failed; or a file of which nothing is told had the
--- survey's length, and a read before it gave no byte; or there is no memory. All counts stay except a failed call and an early end.
+-- survey's length, and a read before it gave no byte; or there is no memory. All counts stay, except those of a failed call and of an early
+-- end.
 abbrev pub IsTagCause : List ℕ → Files → SurveyFields → Counts → Counts → FileTagFault → Type 0
 IsTagCause name files s before after (TooLarge size) = RefusesTag name files s (TooLarge size) × (size ≡ tag_length s) × (longest_tag < size) × (after ≡ before)
 IsTagCause name files s before after (Bad at) = RefusesTag name files s (Bad at) × (tag_at s ≤ at) × (0 < tag_length s → at < tag_at s + tag_length s) × (after ≡ before)
@@ -64,8 +65,8 @@ IsTagCause name files s before after Read = Rose before.read_faults after.read_f
 IsTagCause name files s before after (Shrunk first second) = (is_told files ≡ false) × (first ≡ s.length) × (second < first) × Rose before.ends after.ends × NothingFailed before after
 IsTagCause name files s before after Memory = after ≡ before
 
--- Why there is no tag of a block at this offset: its tag is refused so, or no block of its length begins with its bytes; or there is no
--- memory.
+-- Why there is no tag of a block at this offset: its tag is refused with this fault, or no block of its length begins with its bytes; or
+-- there is no memory.
 abbrev pub IsBlockCause : ℕ → List ℕ → FileTagFault → Type 0
 IsBlockCause offset block (Bad at) =
     (block_front block ≡ Some (record { kind = Ape; length = length block }) → tag_of_block offset block ≡ Err (Bad at)) × (offset ≤ at) × (0 < length block → at < offset + length block)

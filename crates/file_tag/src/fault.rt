@@ -14,7 +14,7 @@ pub enum FileTagFault {
     Bad(u64),
     /// The file could not be read.
     Read,
-    /// The file was of the first length when it was found, and ended at the second when it was read.
+    /// The file had the first length when it was found, and ended at the second when it was read.
     Shrunk(u64, u64),
     /// There was no memory left.
     Memory,

@@ -1,5 +1,5 @@
-//! The tag of a file: its first APEv2 block. Where it stands, what it says, and what the file with another tag in
-//! its place is: it holds the same stream.
+//! The tag of a file: its first APEv2 block. Where it is, what it says, and what the file with another tag
+//! in its place is: it holds the same stream.
 #![tactic(auto)]
 
 mod fault;

@@ -1,4 +1,4 @@
-//! Where the tag of a file stands.
+//! Where the tag of a file is.
 ghost use Rattle.std.specs.Prelude.{◌≡◌, ◌≤◌, option_copied};
 ghost use Rattle.std.specs.List.{find};
 ghost use Rattle.sync_survey.specs.Faults.{tells, longest_file};
@@ -11,9 +11,9 @@ use tag_blocks::Kind;
 /// The place of a tag in a file, in bytes.
 #[derive(Clone, Copy, Debug, PartialEq, Eq)]
 pub struct TagPlace {
-    /// The offset of the tag's block. Where there is none, the end of the last frame, where a new one goes.
+    /// The offset of the tag's block; if there is none, the end of the last frame, where a new one goes.
     pub offset: u64,
-    /// The length of the block, 0 where there is none.
+    /// The length of the block, 0 if there is none.
     pub length: u64,
 }
 
@@ -31,14 +31,14 @@ fn first_of(blocks: &[Piece]) -> Option<&Piece>
     blocks.iter().find(|piece| is_tag(piece))
 }
 
-/// The block of the file's tag: its first APEv2 block. `None` where the file has none.
+/// The block of the file's tag: its first APEv2 block. `None` if the file has none.
 pub fn first_tag(survey: &Survey) -> Option<Piece>
     ensures { result ≡ tag_block (tells survey.now) }
 {
     first_of(survey.blocks()).copied()
 }
 
-/// The end of the last frame, 0 where there is none.
+/// The end of the last frame, 0 if there is none.
 fn last_end(frames: &[Row]) -> u64
     requires { last_end_lem frames.now ≤ longest_file }
     ensures { result ≡ last_end_lem frames.now }
@@ -49,7 +49,7 @@ fn last_end(frames: &[Row]) -> u64
     }
 }
 
-/// Where the file's tag stands and how long it is, or where a new one goes: right after the last frame, with
+/// The offset and the length of the file's tag, or where a new one goes: right after the last frame, with
 /// length 0.
 pub fn tag_place(survey: &Survey) -> TagPlace
     requires { IsLaidOut (tells survey.now) }

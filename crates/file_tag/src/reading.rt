@@ -16,10 +16,13 @@ use std::alloc::Global;
 use sync_survey::{Piece, Survey};
 use tag_blocks::{Kind, Tag, TagFault, block_at};
 
-/// A tag that is read has at most so many bytes.
+/// The greatest length of a tag that is read, in bytes.
 const LONGEST_TAG: u64 = 1_048_576;
 
 /// The bytes of the block of the file's tag.
+///
+/// # Errors
+/// `Memory`, `Read` or `Shrunk`, as `read_tag` says.
 fn read_block<D: Folder>(
     alloc: Global,
     folder: &mut D,
@@ -48,8 +51,12 @@ fn read_block<D: Folder>(
     Ok(block)
 }
 
-/// The tag of a block at this offset of a file. Bytes that aren't an APEv2 block of exactly their length are refused too,
-/// with the offset: a file that changed since its survey may hold any.
+/// The tag of a block at this offset of a file.
+///
+/// # Errors
+/// `Bad` with the offset in the file of the first fault in the block, or with that of the block if its
+/// bytes aren't an APEv2 block of exactly their length: a file that changed since its survey may hold any.
+/// `Memory` where there is no memory.
 fn tag_at_offset(alloc: Global, offset: u64, block: &[u8]) -> Result<Tag, FileTagFault>
     requires few { length block.now ≤ longest_tag }
     requires place { offset + length block.now ≤ 2 ^ 62 }
@@ -74,6 +81,9 @@ fn tag_at_offset(alloc: Global, offset: u64, block: &[u8]) -> Result<Tag, FileTa
 }
 
 /// The tag of the block, which is in the file.
+///
+/// # Errors
+/// As `read_tag` says.
 fn read_piece<D: Folder>(
     alloc: Global,
     folder: &mut D,
@@ -103,18 +113,18 @@ fn read_piece<D: Folder>(
     tag_at_offset(alloc, piece.offset, &block)
 }
 
-/// The tag of a file: what `Tag::read` gives of its first APEv2 block, and `Tag::new` where there is none. The file is
-/// there, and the survey is its own. The files stay.
+/// The tag of a file: what `Tag::read` gives for its first APEv2 block, and `Tag::new` if there is none.
+/// The file has to be there, and the survey to be its own. The files stay.
 ///
 /// # Errors
-/// In this order, and none where the file has no tag:
+/// In this order, and none if the file has no tag:
 /// - `TooLarge` with the length of the block, before any byte is read, where it is longer than 1,048,576 bytes;
 /// - `Memory` where there is no memory for the block's bytes;
 /// - `Read` where a call failed;
-/// - `Shrunk` with the survey's length and the offset where a read gave no byte, before the end of the block. It comes
-///   only where the folder doesn't tell its files;
-/// - `Bad` with the offset in the file of the first fault that `Tag::read` has, and, where the folder doesn't tell its
-///   files, with that of the block where no such block is there any more;
+/// - `Shrunk` with the survey's length and the offset at which a read gave no byte, before the end of the
+///   block. It comes only where the folder doesn't tell its files;
+/// - `Bad` with the offset in the file of the first fault that `Tag::read` finds, or with that of the block
+///   if no such block is there any more, which comes only where the folder doesn't tell its files;
 /// - `Memory` where there is no memory for the tag's items.
 pub fn read_tag<D: Folder>(
     alloc: Global,

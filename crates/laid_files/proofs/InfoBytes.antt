@@ -70,7 +70,7 @@ unfolding first_with_room
 slot_in c d [] each = (omega arith, omega arith)
 slot_in c d (slot ∷ slots) each = slot_if _ slot (first_with_room c slots) (each 0 (omega arith)) (slot_in c d slots (λ i within. each (suc i) (omega (arith, within))))
 
--- the least slot with room is a slot
+-- the smallest slot with room is a slot
 info_slot-is : (c : ClassFields) → IsSlot (info_slot_of c)
 unfolding info_slot_of
 info_slot-is c = slot_in c (slot_of 1 false) all_slots (λ i within. IsSlot-nth_slot i (omega (arith, within, length-all_slots)))

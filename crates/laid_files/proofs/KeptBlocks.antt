@@ -21,7 +21,7 @@ use Rattle.sync_survey.proofs.SurveyParts.{surveyed-parts}
 use Rattle.laid_files.specs.LaidFiles.{IsBlock, IsBlocks, block_bytes}
 use Rattle.laid_files.specs.Laws.{SurveyedBlocks}
 
--- a whole block at the front of bytes
+-- a whole block with which bytes begin
 whole_block : (bytes : List ℕ) (b : TagBlock) → block_front bytes ≡ Some b → b.length ≤ length bytes → IsBlock (take b.length bytes)
 whole_block bytes b is within =
     (b, ap block_front (sym (append-nil (take b.length bytes))) ∙ block_front-bytes bytes [] b is within, sym (length-take-le b.length bytes within))

@@ -1,4 +1,4 @@
--- Main data laid into areas: how many bytes they are together, and where each frame's stand.
+-- Main data laid into areas: how many bytes they are together, and where each frame's are.
 use Rattle.std.proofs.Common.{◌≡◌, ℕ, zero, suc, ◌+◌, ◌-◌, ◌≤◌, List, [], ◌∷◌, ◌++◌, length, take, drop, Some, None, refl, sym, ◌∙◌, ap, subst, arith, append_assoc, length-append}
 use Rattle.std.specs.Prelude.{slice_get}
 use Rattle.std.proofs.lemmas.List.{drop-drop, drop_at}
@@ -39,13 +39,13 @@ well-laid end area_start (q ∷ ps) (suc i) p fits is =
     let behind = well-laid (end_of area_start q) (area_start + q.area) ps i p fits.2 is in
     record { later = omega (arith, fits.0, behind.later); begins = behind.begins; ends = behind.ends }
 
--- after it the main data of the frame end that was laid last
+-- after frame i the main data end that were laid last
 pub data_end-next : (end area_start : ℕ) (ps : List Piece) (i : ℕ) (p : Piece) → slice_get ps i ≡ Some p → data_end end area_start (take (suc i) ps) ≡ end_of (areas_end area_start (take i ps)) p
 data_end-next end area_start [] i p is = absurd cc
 data_end-next end area_start (q ∷ ps) zero p is = let same : q ≡ p = cc in ap (end_of area_start) same
 data_end-next end area_start (q ∷ ps) (suc i) p is = data_end-next (end_of area_start q) (area_start + q.area) ps i p is
 
--- after the last there is no further
+-- nothing is after the last
 pub take-last : (ps : List Piece) (i : ℕ) → slice_get ps i ≡ None → take (suc i) ps ≡ take i ps
 take-last [] zero is = refl
 take-last [] (suc i) is = refl

@@ -33,7 +33,7 @@ payload_least : (s : Side) → payload_bits s ≤ 8 * payload_bytes s
 unfolding payload_bytes
 payload_least s = omega arith
 
--- bits from the start of the main data on, where they are after the bytes of a head
+-- bits from the start of the main data on, if the main data are after the bytes of a head
 pub payload_there : (main before area_data payload rest : List ℕ) (start at : ℕ) (s : Side) → main ≡ before ++ area_data → start ≡ length before + at → drop at area_data ≡ payload ++ rest → length payload ≡ payload_bytes s
     → payload_at main start s ≡ take (payload_bits s) (bits payload)
 payload_there main before area_data payload rest start at s is place there long =

@@ -39,7 +39,7 @@ pub front_end-is : (file : List ℕ) → (run Front file 0).stop ≡ front_end_o
 unfolding front_end_of
 front_end-is file = refl
 
--- a whole frame after the blocks at the front is the first of the stream
+-- a whole frame after the blocks of the front is the first of the stream
 pub start_by : (file : List ℕ) (at : ℕ) (h : HeaderFields) → at ≡ front_end_of file → item_at file at ≡ FrameItem h → at + size_of (FrameItem h) ≤ length file → start_of file ≡ Ok (record { front_end = at; first = record { offset = at; header = h } })
 start_by file at h front is within =
     let fit : fits file at (FrameItem h) ≡ true = le-leb _ _ (omega (arith, within)) in

@@ -54,7 +54,7 @@ module _ (file : List ℕ) (c : ClassFields) (head : ℕ) (end area_start : ℕ)
     within = le-ltb _ _ (omega (arith, end-there, ends, ap own_area row.header));
   }
 
-  -- after it the main data end no later than those that were laid; a silent frame moves no end
+  -- after it the main data end no later than those that were laid; a silent frame doesn't change where they end
   pub behind-most : (ended : ℕ) → ended ≤ head + end → end_behind (head + area_start) ended (Some r) ≤ head + end_of area_start (piece_of f)
   behind-most ended before =
       either_most (is_silent r || lacks_data (head + area_start) ended r) ended (end_of_data (head + area_start) r) (head + end_of area_start (piece_of f)) (omega (arith, begins, before)) (omega (arith, end-there))

@@ -30,7 +30,7 @@ whole-append part [] ys front back are behind = subst (AreWhole part ys) (sym (a
 whole-append part (x ∷ xs) ys front back are behind =
     (are.0, are.1 ++ back, ap (λ (l : List ℕ). l ++ back) are.2 ∙ append_assoc are.0 are.1 back, are.3, are.4, whole-append part xs ys are.1 back are.5 behind)
 
--- ---- where they stand
+-- ---- where they are
 
 -- the items one after the other, the first of them at an offset
 abbrev pub placed : ℕ → List Item → List Placed
@@ -54,7 +54,7 @@ whole-end part file at (item ∷ items) bytes behind are within is =
       subst (AreEndToEnd part file (at + size) (placed (at + size) items)) to (whole-end part file (at + size) items rest behind are.5 room next),
     )
 
--- they are the run, where no further item of the part is after them
+-- they are the run, if no further item of the part is after them
 pub whole-run : (part : Part) (file : List ℕ) (at : ℕ) (items : List Item) (bytes behind : List ℕ) → AreWhole part items bytes → at ≤ length file → drop at file ≡ bytes ++ behind
     → item_of part file (at + length bytes) ≡ None → run part file at ≡ record { items = placed at items; stop = at + length bytes }
 whole-run part file at items bytes behind are within is none = run-only part file at (placed at items) (at + length bytes) (whole-end part file at items bytes behind are within is) none

@@ -1,5 +1,5 @@
--- Files into whose frames all main data were laid out again: blocks of tags, an Info frame, the frames, and other blocks
--- (ISO/IEC 11172-3 and 13818-3, 2.4.1 and 2.4.2.7).
+-- Files into whose frames all main data were laid: blocks of tags, an Info frame, the frames, and other blocks (ISO/IEC 11172-3 and
+-- 13818-3, 2.4.1 and 2.4.2.7).
 use Rattle.std.specs.Prelude.{◌≡◌, ℕ, ◌+◌, ◌-◌, ◌*◌, ◌<◌, false, List, [], ◌∷◌, ◌++◌, length, take, drop, slice_index_or, Some, IfSome, option_map, option_to_list}
 use Rattle.std.specs.List.{concat}
 use Rattle.bit_fields.specs.Bits.{bits, AreBytes}
@@ -26,7 +26,7 @@ use Rattle.sync_survey.specs.Faults.{SurveyFields}
 abbrev pub IsBlock : List ℕ → Type 0
 IsBlock bytes = (block : Block) × (block_front bytes ≡ Some block) × (block.length ≡ length bytes)
 
--- each of these is
+-- each of these is the bytes of a block
 abbrev pub IsBlocks : List (List ℕ) → Type 0
 IsBlocks [] = Unit {0}
 IsBlocks (b ∷ blocks) = IsBlock b × IsBlocks blocks
@@ -35,14 +35,14 @@ IsBlocks (b ∷ blocks) = IsBlock b × IsBlocks blocks
 abbrev pub block_bytes : List ℕ → Piece → List ℕ
 block_bytes file p = take p.block.length (drop p.offset file)
 
--- the lists of side information have two granules of two channels each, and scfsi two channels, also where the class has fewer
+-- the lists of side information have two granules of two channels each, and scfsi two channels, also if the class has fewer
 pub record HasPairs (s : Side) : Type 0 where
   pub scfsi : length s.scfsi ≡ 2
   pub granules : length s.granules ≡ 2
   pub first : length (slice_index_or s.granules 0 []) ≡ 2
   pub second : length (slice_index_or s.granules 1 []) ≡ 2
 
--- a frame of the class and its main data, as many bytes as its side information says, the last of them filled up with 0
+-- a frame of the class and its main data, as many bytes as its side information says, the last of them filled up with zeros
 pub record IsEntry (c : ClassFields) (f : Frame) : Type 0 where
   pub header : IsHeader f.kept.header
   pub class : class_of f.kept.header ≡ c
@@ -64,14 +64,14 @@ entry_of f = record {
   payload = parts_of (part_lengths f.kept.header f.kept.side) (take (payload_bits f.kept.side) (bits f.payload));
 }
 
--- the table of an Info frame, where it has one, has 100 entries, and the extension 36 bytes
+-- the seek table of an Info frame has 100 entries, if there is one, and the extension 36 bytes
 pub record HasInfoSizes (info : Info) : Type 0 where
   pub table : IfSome info.table (λ table. length table ≡ 100)
   pub extension : length info.extension ≡ 36
 
 -- ---- the file
 
--- blocks, an Info frame like this header, the frames with all main data laid into their areas, and blocks
+-- blocks, an Info frame by this header, the frames with all main data laid into their areas, and blocks
 unfoldable pub laid_file : List (List ℕ) → HeaderFields → Info → List Frame → List (List ℕ) → List ℕ
 laid_file front first info frames back = concat front ++ (info_frame first info ++ (frame_bytes frames ++ concat back))
 
@@ -88,7 +88,7 @@ pub record IsLaidFile (c : ClassFields) (front : List (List ℕ)) (first : Heade
 
 -- ---- what a survey tells of it
 
--- the bytes of a frame
+-- the length of a frame in bytes
 abbrev pub frame_length : Frame → ℕ
 frame_length f = length_of (class_of f.kept.header) f.kept.header.slot
 

@@ -1,4 +1,4 @@
--- Laws of files into whose frames all main data were laid out again.
+-- Laws of files into whose frames all main data were laid.
 use Rattle.std.specs.Prelude.{◌≡◌, ℕ, ◌≤◌, List, length, map, Ok}
 use Rattle.frame_header.specs.Fields.{HeaderFields, ClassFields}
 use Rattle.info_header.specs.declared.fields.Info.{Info}
@@ -12,7 +12,7 @@ LaidStream =
     (c : ClassFields) (front : List (List ℕ)) (first : HeaderFields) (info : Info) (frames : List Frame) (back : List (List ℕ)) → IsLaidFile c front first info frames back
     → HoldsStream (laid_file front first info frames back) (map entry_of frames)
 
--- a survey of it that allows as many frames tells where they, the Info frame and the blocks stand
+-- a survey of it that allows as many frames tells where they, the Info frame and the blocks are
 abbrev pub LaidSurvey : Type 0
 LaidSurvey =
     (c : ClassFields) (front : List (List ℕ)) (first : HeaderFields) (info : Info) (frames : List Frame) (back : List (List ℕ)) (allowed : ℕ) → IsLaidFile c front first info frames back → length frames ≤ allowed

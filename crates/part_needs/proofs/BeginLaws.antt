@@ -1,4 +1,4 @@
--- How far back main data begin: main_data_begin has nine bits in MPEG-1, and eight in MPEG-2 and MPEG-2.5.
+-- The bounds of main_data_begin, which has nine bits in MPEG-1, and eight in MPEG-2 and MPEG-2.5.
 use Rattle.std.proofs.Common.{ℕ, ◌^◌, ◌<◌, ◌≤◌, ◌==◌, Bool, true, false, cond, [], ◌∷◌, arith}
 use Rattle.std.specs.Prelude.{slice_index}
 use Rattle.frame_header.specs.declared.version.Version.{Version}

@@ -1,7 +1,7 @@
--- Every part of a stream fits. In the file each frame's main data are apart from those before, within its own area and
--- at most the window back. So before each frame at least those bytes are free that lie after the main data before it, as far as the
--- window shows them: also where silent and lost frames, which move no end, are between. After a whole window of free bytes no
--- frame has fewer.
+-- Every part of a stream fits. In the file each frame's main data don't overlap those before, end within its own area and begin at most the
+-- window before it. So at least those bytes are free before each frame that are after the main data before it, as far as the window shows
+-- them; also if silent and lost frames, which don't change where main data end, are between. After a whole window of free bytes no frame
+-- has fewer.
 use Rattle.std.proofs.Common.{◌≡◌, ℕ, zero, suc, ◌+◌, ◌-◌, ◌≤◌, ◌||◌, Bool, true, false, cond, List, [], ◌∷◌, take, drop, map, Option, Some, refl, sym, ap, ◌∙◌, subst, arith}
 use Rattle.std.specs.Prelude.{slice_get, slice_range, sum_by}
 use Rattle.std.proofs.lemmas.Bool.{eqb-true, ltb-false}
@@ -32,8 +32,8 @@ use Rattle.part_needs.proofs.BeginLaws.{begin-near}
 abbrev shown : ℕ → ℕ → ℕ → ℕ
 shown window place ended = (place - ended) - ((place - ended) - window)
 
--- A frame's main data fit in the free bytes before it and its own area, and the ends after it lie within the areas. What is free
--- after it is no less than what the window shows there.
+-- A frame's main data fit in the free bytes before it and its own area, and the end of the main data after it is within the areas. As many
+-- bytes are free after it as the window shows there, or more.
 abbrev Goes : (window place ended area bytes free : ℕ) → Type 0
 Goes window place ended area bytes free = (bytes ≤ free + area) × (ended ≤ place + area) × (shown window (place + area) ended ≤ free_behind window free bytes area)
 
@@ -89,7 +89,7 @@ known-drop (suc n) [] all = all
 known-drop (suc n) (r ∷ rows) all = known-drop n rows all.1
 
 module _ (head : Option Head) (class : ClassFields) (rows : List Row) (placed : AreWellPlaced head class rows) where
-  -- these rows are from number n on
+  -- these rows are those from number n on
   abbrev StandFrom : ℕ → List Row → Type 0
   StandFrom n xs = (i : ℕ) (r : Row) → slice_get xs i ≡ Some r → slice_get rows (n + i) ≡ Some r
 

@@ -1,4 +1,4 @@
--- Parts of streams, and what a plan of them is on.
+-- Parts of streams, and what `plan` asks of them.
 use Rattle.std.specs.Prelude.{◌≡◌, ℕ, ◌<◌, ◌≤◌, List, [], ◌∷◌, length, slice_index, slice_range, All, AllPairs}
 use Rattle.frame_header.specs.Fields.{SlotFields, ClassFields, HeaderFields}
 use Rattle.frame_header.specs.Tables.{window_of}
@@ -26,7 +26,7 @@ pub record IsPartOf (class : ClassFields) (rows : List Row) : Type 0 where
   pub within : to ≤ length survey.frames
   pub are : rows ≡ slice_range survey.frames from to
 
--- what `plan` is on, but the numbers of frames and parts
+-- what `plan` asks for, except the numbers of frames and parts
 pub record CanBePlanned (asked : Asked) : Type 0 where
   pub class : AreOfOneClass asked.needs
   pub some : 1 ≤ length asked.places
@@ -42,7 +42,7 @@ own_choice h = h.slot ∷ []
 abbrev pub any_choice : HeaderFields → List SlotFields
 any_choice h = all_slots
 
--- that holds, all frames are of this class, also part by part, and their choices are in order by either policy
+-- parts can be planned, all frames are of this class, also part by part, and their choices are in order by either policy
 pub record AreFit (class : ClassFields) (asked : Asked) : Type 0 where
   pub all : AreOfClass class asked.needs
   pub each : All (λ part. AreOfClass class part) (parts_of asked.needs asked.places)

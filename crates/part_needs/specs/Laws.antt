@@ -21,7 +21,7 @@ PartFits =
     → AreOfClass s.class (needs_between s from to)
     × IsFeasible (window_of s.class.version) (window_of s.class.version) (map own_frame (needs_between s from to))
 
--- where it has a frame, it can be planned
+-- a part with a frame can be planned
 abbrev pub OnePartFits : Type 0
 OnePartFits =
     (s : SurveyFields) (from to : ℕ) → IsPlaced s → from < to → to ≤ length s.frames

@@ -1,10 +1,10 @@
--- What frames of surveys need where they are placed again, part by part.
+-- What frames of surveys need when they are placed anew, part by part.
 use Rattle.std.specs.Prelude.{ℕ, ◌+◌, if◌then◌else◌, List, [], ◌∷◌, length, map, flat_map}
 use Rattle.side_info.specs.Side.{payload_bytes}
 use Rattle.sync_survey.specs.declared.rows.Row.{Row}
 use Rattle.slot_plan.specs.declared.needs.Need.{Need}
 
--- the header of a frame, and the bytes of its main data; a lost frame has none
+-- the header of a frame, and the length of its main data in bytes, 0 for a lost frame
 abbrev pub need_of : Row → Need
 need_of r = record { header = r.header; bytes = if r.lost then 0 else payload_bytes r.side }
 
@@ -12,7 +12,7 @@ need_of r = record { header = r.header; bytes = if r.lost then 0 else payload_by
 unfoldable pub needs_of : List (List Row) → List Need
 needs_of parts = flat_map (map need_of) parts
 
--- the place of each part's first frame, where so many frames are before all of them
+-- the place of each part's first frame, if so many frames are before all of them
 unfoldable pub places_from : ℕ → List (List Row) → List ℕ
 places_from at [] = []
 places_from at (rows ∷ parts) = at ∷ places_from (at + length rows) parts
@@ -22,6 +22,6 @@ pub record Asked : Type 0 where
   pub needs : List Need
   pub places : List ℕ
 
--- these parts
+-- what the planner is given for these parts
 abbrev pub asked_of : List (List Row) → Asked
 asked_of parts = record { needs = needs_of parts; places = places_from 0 parts }

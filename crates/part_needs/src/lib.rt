@@ -6,7 +6,7 @@
 //! let plan = parts.plan(alloc, &Keep)?;
 //! ```
 //!
-//! That the call of `plan` may be made is the law `parts_fit`, for one part `one_part_fits`.
+//! The law `parts_fit` says that `plan` may be called, `one_part_fits` for one part.
 #![tactic(auto)]
 
 mod laws;

@@ -11,7 +11,7 @@ use std::alloc::{AllocError, Global};
 use std::marker::Model;
 use sync_survey::Row;
 
-/// Frames to be placed again, and where each part of them begins: what `plan` is given.
+/// Frames that are to be placed, and where each part of them begins: what `plan` is given.
 #[derive(Drop)]
 pub struct Parts {
     needs: Vec<Need>,
@@ -41,7 +41,10 @@ fn need_of(row: &Row) -> Need
     }
 }
 
-/// Adds what these frames need. Without memory nothing is added.
+/// Adds what these frames need.
+///
+/// # Errors
+/// Where there is no memory. Then nothing is added.
 fn append_needs(rows: &[Row], needs: &mut Vec<Need>) -> Result<(), AllocError>
     ensures added { OnOk result (needs.new.items ≡ needs.old.items ++ map need_of_lem rows.now) }
     ensures stays { OnErr result (needs.new.items ≡ needs.old.items) }
@@ -54,7 +57,7 @@ fn append_needs(rows: &[Row], needs: &mut Vec<Need>) -> Result<(), AllocError>
 }
 
 impl Parts {
-    /// No part yet.
+    /// Without parts. It takes no memory.
     #[tactic(auto, unfolding(crate::specs::Needs::needs_of, crate::specs::Needs::places_from))]
     pub fn new(alloc: Global) -> Parts
         ensures parts { result ≡ asked_of [] }
@@ -74,14 +77,14 @@ impl Parts {
         &self.needs
     }
 
-    /// The place of each part's first frame among them.
+    /// The place of each part's first frame among these, counted from 0.
     pub fn places(&self) -> &[u32]
         ensures { result.now ≡ self.now.places }
     {
         &self.places
     }
 
-    /// Adds a part after those before: these frames of a survey.
+    /// Adds a part after those that are there: these frames of a survey.
     ///
     /// # Errors
     /// Where there is no memory. Then nothing is added.
@@ -101,8 +104,11 @@ impl Parts {
         Ok(())
     }
 
-    /// The plan of these parts, as `slot_plan::plan` says. `parts_fit` says when they can be planned. Want of memory
-    /// is the one refusal.
+    /// The plan of these parts, as `slot_plan::plan` says. The law `parts_fit` says when they can be
+    /// planned. There are at most 64 parts and 2,900,000 frames.
+    ///
+    /// # Errors
+    /// Where there is no memory.
     pub fn plan<P: Policy>(&self, alloc: Global, policy: &P) -> Result<Plan, AllocError>
         requires planned { CanBePlanned self.now }
         requires needs { length self.now.needs ≤ 2900000 }
