@@ -1,4 +1,4 @@
--- A plan can be written frame by frame: its starts are as early as may be, so no later than those of a layout.
+-- A plan can be written frame by frame: its starts are as early as they may be, so no later than those of a layout.
 use Rattle.std.proofs.Common.{◌≡◌, ℕ, ◌+◌, ◌-◌, ◌≤◌, min, cond, Bool, true, false, List, [], ◌∷◌, ◌++◌, map, get_or, drop, Option, Some, None, refl, sym, ap, ap₂, subst, arith}
 use Rattle.std.specs.Prelude.{max, flat_map}
 use Rattle.std.proofs.Math.Nat.{le-max_left, le-max_right, max-le}
@@ -20,7 +20,7 @@ use Rattle.laying.specs.Laws.{PlansFit, AskedPlans}
 
 -- ---- items of a plan, as they were asked for
 
--- an item is the lead-in in front of this frame, or the frame
+-- an item is the lead-in before this frame, or the frame
 abbrev pub IsAsked : Bool → Item → Need → Type 0
 IsAsked true item need = (item.class ≡ class_of need.header) × (item.protected ≡ false) × (item.bytes ≡ 0)
 IsAsked false item need = (item.class ≡ class_of need.header) × (item.protected ≡ need.header.protected) × (item.bytes ≡ need.bytes)
@@ -69,7 +69,7 @@ fits-on window (item ∷ items) (need ∷ needs) (p ∷ placed) end low before (
           (fits-on window items (left_behind p.lead_in need needs) placed (start + item.bytes) (at + item.bytes) (before + area_in item p.slot) starts follow for_items.2 layout.4 (omega (arith, first)) (omega (arith, first, layout.3)) (ap (drop 1) begins)),
     )
 
--- items that ask for these frames, laid as early as may be
+-- items that ask for these frames, laid as early as they may be
 pub items-fit : (window : ℕ) (items : List Item) (needs : List Need) (placed : List Placed) → Asks items needs → AreFor items placed → IsFeasible window 0 (frames_of (map open_of items) (areas_in items placed))
     → map (λ (p : Placed). p.begin) placed ≡ begins_of window 0 0 (frames_of (map open_of items) (areas_in items placed)) → FitsFrom window 0 needs placed
 unfolding IsFeasible

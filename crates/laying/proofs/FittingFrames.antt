@@ -30,7 +30,7 @@ next-needs false need needs f fs are = are.2
 
 -- ---- all of them
 
--- from a place on after which so many free bytes are within reach
+-- from a place on after which there are so many free bytes within reach
 laid-fitting : (c : ClassFields) (needs : List Need) (fs : List Frame) (placed : List Placed) (reach end before : ℕ) → AreEntries c fs → AreNeedsOf needs fs → AreInSlots placed
     → FitsFrom (window_of c.version) reach needs placed → reach ≤ window_of c.version → end + reach ≤ before
     → AreLaidFrom c end before (relaid fs placed) (with_lead_ins placed (map entry_of fs))

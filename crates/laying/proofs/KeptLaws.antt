@@ -6,7 +6,7 @@ use Rattle.info_header.specs.Info.{info_in, field_in, field_place}
 use Rattle.sync_survey.specs.declared.places.Head.{Head}
 use Rattle.laying.specs.Written.{head_info}
 
--- no field is there where there is no head
+-- there is no field without a head
 none-quality : (info_in []).quality ≡ None
 unfolding info_in field_in
 none-quality = refl

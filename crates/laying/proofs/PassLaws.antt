@@ -14,7 +14,7 @@ use Rattle.sync_survey.specs.Faults.{SurveyFields}
 use Rattle.laying.specs.declared.relay.Relay.{Relay}
 use Rattle.laying.specs.Passing.{IsReady, IsOver, Lays, LaysPart}
 
--- all is ready for the next step where some bytes were appended to the output, and the feed is of the input still
+-- all is ready for the next step once some bytes were appended to the output, and the feed is still of the input
 pub ready-with : (relay : Relay) (old new : Files) (fed now : Fed) (more : List ℕ) → new ≡ appended old relay.pass.output.now more → IsReady relay old fed → PassReady relay.pass new now → IsReady relay new now
 ready-with relay old new fed now more is ready pass = record {
   pass = pass;

@@ -137,7 +137,7 @@ next-entries c false f fs is are = are
 
 -- ---- what the plan was made for
 
--- an item is this frame, or a lead-in in front of it
+-- an item is this frame, or a lead-in before it
 abbrev pub IsFor : Bool → Item → Frame → Type 0
 IsFor true item f = (item.class ≡ class_of f.kept.header) × (item.protected ≡ false) × (item.bytes ≡ 0)
 IsFor false item f = (item.class ≡ class_of f.kept.header) × (item.protected ≡ f.kept.header.protected) × (item.bytes ≡ length f.payload)
@@ -172,7 +172,7 @@ pub none_laid : (c : ClassFields) (end before : ℕ) (placed : List Placed) → 
 unfolding relaid with_lead_ins
 none_laid c end before placed = record { entries = tt; fit = tt; stream_is = refl }
 
--- one frame more in front
+-- one frame more before the others
 pub laid_more : (c : ClassFields) (end before bytes area : ℕ) (g : Frame) (gs : List Frame) (q : StreamFrame) (qs : List StreamFrame)
     → IsEntry c g → entry_of g ≡ q → length g.payload ≡ bytes → kept_area g.kept ≡ area
     → end + g.kept.side.main_data_begin ≤ before → before - g.kept.side.main_data_begin + bytes ≤ before + area
@@ -183,7 +183,7 @@ laid_more c end before bytes area g gs q qs is same long wide starts ends behind
   stream_is = ap₂ (λ x xs. x ∷ xs) same behind.stream_is;
 }
 
--- a start that is as early as may be
+-- a start that is as early as it may be
 module _ (window low end before start bytes area : ℕ) (early : low ≤ end) (later : end ≤ start) (reach : before ≤ start + window) (own : start ≤ before) (ends : start + bytes ≤ before + area) where
   abbrev first : ℕ
   first = max low (before - window)
@@ -326,7 +326,7 @@ plan-laid c choices parts frames placed slots are needs_are plan =
     laid-on c (whole_of choices parts plan.lead_ins) (joined frames) placed 0 0 0 feasible.0 (entries-all c frames are)
     (whole-follows c (window_of c.version) choices parts plan.lead_ins frames slots are needs_are plan.alone) whole.slots feasible.1 (omega arith) whole.begins
 
--- where there are frames, there are some in the plan
+-- if there are frames, there are some in the plan
 relaid-some : (items : List Item) (fs : List Frame) (placed : List Placed) → 0 < length fs → Follow items fs → AreFor items placed → 0 < length (relaid fs placed)
 unfolding AreFor
 relaid-some [] [] placed some follow for_items = absurd (omega (arith, some))

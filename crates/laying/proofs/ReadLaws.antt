@@ -74,7 +74,7 @@ main-next file head rows i r is =
     ∙ ap (λ (l : List ℕ). head_bytes file head ++ l) (areas-last file (take i rows) r)
     ∙ sym (append_assoc (head_bytes file head) (flat_map (λ (q : Row). area_bytes file q.offset q.header) (take i rows)) (area_bytes file r.offset r.header))
 
--- the main data of the first frames are the first of all
+-- the areas of the first frames are the first of all
 areas-append : (file : List ℕ) (rows more : List Row) → flat_map (λ (q : Row). area_bytes file q.offset q.header) (rows ++ more) ≡ flat_map (λ (q : Row). area_bytes file q.offset q.header) rows ++ flat_map (λ (q : Row). area_bytes file q.offset q.header) more
 areas-append file [] more = refl
 areas-append file (q ∷ rows) more =
@@ -93,7 +93,7 @@ main-front file head rows n =
 
 -- ---- the main data of one frame in a window
 
--- where they stand and how far a window has to reach
+-- where they are and how far a window has to reach
 pub record IsWithin (head : Option Head) (rows : List Row) (i : ℕ) (r : Row) : Type 0 where
   pub begins : r.side.main_data_begin ≤ place head rows i
   pub near : r.side.main_data_begin ≤ 511
@@ -224,7 +224,7 @@ last-none window input files s first some held has =
     other : (n : ℕ) → (n ≡ 0 → ⊥) → (n == 0) ≡ false
     other n some = told n some (eqb_tells n 0)
 
--- the last 2,048 bytes of all are those of the last ones
+-- the last 2,048 bytes of all are those of the last areas
 last-kept : (held front main : List ℕ) → 2048 ≤ length main → IsWindowOver held main → IsWindowOver held (front ++ main)
 last-kept held front main many is =
     let from : length (front ++ main) - 2048 ≡ length front + (length main - 2048) = omega (arith, length-append front main, many) in

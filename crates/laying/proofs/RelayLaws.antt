@@ -100,7 +100,7 @@ module _ (s : SurveyFields) (i to next : ℕ) (row : Row) (p : Placed) (placed :
 
 -- ---- as many places as frames
 
--- where a place is left, a frame is
+-- if a place is left, a frame is
 pub fits-some : (window reach : ℕ) (s : SurveyFields) (i to : ℕ) (p : Placed) (placed : List Placed) → FitsFrom window reach (map need_of (slice_range s.frames i to)) (p ∷ placed) → i < to
 unfolding FitsFrom
 fits-some window reach s i to p placed fits = by_cases (cases_lt i to)

@@ -1,4 +1,4 @@
--- Each frame of a plan is in the slot that is there.
+-- Each frame of a plan is in the slot of its place.
 use Rattle.std.proofs.Common.{◌≡◌, Bool, true, false, List, [], ◌∷◌, map, refl, sym, ◌∙◌, ap, ap₂, subst}
 use Rattle.frame_header.specs.Fields.{SlotFields}
 use Rattle.slot_plan.specs.declared.needs.Placed.{Placed}

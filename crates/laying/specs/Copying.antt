@@ -6,11 +6,11 @@ use Rattle.sync_survey.specs.Faults.{SurveyFields}
 use Rattle.laid_files.specs.LaidFiles.{block_bytes}
 use Rattle.laying.specs.Written.{goes_in_front}
 
--- the block is one of those that go in front, or one of the others
+-- the block is one of those that go before the frames, or one of the others
 abbrev pub is_chosen : Bool → SurveyFields → Piece → Bool
 is_chosen true s p = goes_in_front s p
 is_chosen false s p = not (goes_in_front s p)
 
--- the bytes of those of these blocks that go in front, or of the others
+-- the bytes of those of these blocks that go before the frames, or of the others
 abbrev pub chosen_bytes : Bool → SurveyFields → List Piece → List ℕ → List ℕ
 chosen_bytes in_front s blocks file = concat (map (block_bytes file) (filter (is_chosen in_front s) blocks))

@@ -6,20 +6,20 @@ use Rattle.slot_plan.specs.declared.needs.Need.{Need}
 use Rattle.slot_plan.specs.declared.needs.Placed.{Placed}
 use Rattle.laying.specs.Relaid.{left_behind}
 
--- the main data of a lead-in or frame of a plan, in bytes, by the next frame that was asked for
+-- the length of the main data of a lead-in or frame of a plan in bytes, by the next frame that was asked for
 abbrev pub bytes_at : Bool → Need → ℕ
 bytes_at lead_in need = if lead_in then 0 else need.bytes
 
--- the bytes of its area; a lead-in has no check word
+-- the length of its area in bytes; a lead-in has no check word
 abbrev pub area_at : Placed → Need → ℕ
 area_at p need = area_of (class_of need.header) p.slot (if p.lead_in then false else need.header.protected)
 
--- how many bytes before the area after it main data may begin
+-- how many bytes before the area of the next frame its main data may begin
 abbrev pub reach_behind : ℕ → Placed → Need → ℕ
 reach_behind window p need = min window (p.begin + area_at p need - bytes_at p.lead_in need)
 
--- Where main data may begin so many bytes before the first area: there is a place for each frame, and none is left; each main_data_begin is
--- within reach, and no main data end after their own area.
+-- If main data may begin so many bytes before the first area, there is a place for each frame, and no other; each main_data_begin is within
+-- reach, and no main data end after their own area.
 unfoldable pub FitsFrom : ℕ → ℕ → List Need → List Placed → Type 0
 FitsFrom window reach [] [] = Unit {0}
 FitsFrom window reach [] (p ∷ placed) = ⊥
@@ -27,7 +27,7 @@ FitsFrom window reach (need ∷ needs) [] = ⊥
 FitsFrom window reach (need ∷ needs) (p ∷ placed) =
     (p.begin ≤ reach) × (bytes_at p.lead_in need ≤ p.begin + area_at p need) × FitsFrom window (reach_behind window p need) (left_behind p.lead_in need needs) placed
 
--- the reach after all of them
+-- how far before the next area main data may begin after all of them
 unfoldable pub last_reach : ℕ → ℕ → List Need → List Placed → ℕ
 last_reach window reach [] placed = reach
 last_reach window reach (need ∷ needs) [] = reach

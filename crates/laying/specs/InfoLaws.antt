@@ -1,4 +1,4 @@
--- Laws of the Info frame in front of chosen frames.
+-- Laws of the Info frame before chosen frames.
 use Rattle.std.specs.Prelude.{◌≡◌, List, map, flat_map}
 use Rattle.frame_header.specs.Fields.{SlotFields, HeaderFields, ClassFields}
 use Rattle.frame_header.specs.Tables.{window_of}

@@ -26,7 +26,7 @@ pub record AreLaidAs (c : ClassFields) (frames : List Frame) (stream : List Stre
   pub fit : CanBeLaid (pieces frames)
   pub stream_is : map entry_of frames ≡ stream
 
--- the frames of parts as they were planned can be laid, and are the lead-ins and, else as they were, the frames of the files' streams
+-- the frames of parts as they were planned can be laid, and are the lead-ins and, otherwise as they were, the frames of the files' streams
 abbrev pub EntriesHold : Type 0
 EntriesHold =
     (c : ClassFields) (choices : HeaderFields → List SlotFields) (parts : List Part) (placed : List Placed) → 1 ≤ length parts → AreParts c parts → AreSlots choices → IsPlan (window_of c.version) choices (map needs_in parts) placed
@@ -59,7 +59,8 @@ AskedPlans =
     (c : ClassFields) (choices : HeaderFields → List SlotFields) (parts : List (List Row)) (placed : List Placed) → AreFit c (asked_of parts)
     → IsPlan (window_in (asked_of parts).needs) choices (parts_of (asked_of parts).needs (asked_of parts).places) placed → IsPlan (window_of c.version) choices (map (map need_of) parts) placed
 
--- the frames of a part in the slots of any plan by which they can be laid: a file of them is well-formed, and its stream is the lead-ins of the plan and the frames
+-- a file of the frames of a part in the slots of any plan by which they can be laid is well-formed, and its stream is the lead-ins of the
+-- plan and the frames
 abbrev pub FittingFilesHold : Type 0
 FittingFilesHold =
     (c : ClassFields) (part : Part) (placed : List Placed) → IsPart c part → IsFitting (window_of c.version) (needs_in part) placed

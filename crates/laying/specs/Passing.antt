@@ -1,4 +1,4 @@
--- What a pass that lays out frames again makes of its output.
+-- What a pass that lays frames out again makes of its output.
 use Rattle.std.specs.Prelude.{◌≡◌, ℕ, ◌+◌, ◌-◌, ◌==◌, ◌≤◌, min, if◌then◌else◌, List, [], ◌∷◌, ◌++◌, length, take, map, slice_range}
 use Rattle.std.specs.List.{concat}
 use Rattle.frame_header.specs.Fields.{ClassFields}
@@ -26,7 +26,7 @@ use Rattle.laying.specs.Relaid.{frame_of, all_frames, moved_to, placed_as, relai
 use Rattle.laying.specs.Fits.{reach_behind, FitsFrom, last_reach}
 use Rattle.laying.specs.Written.{front_blocks, back_blocks}
 
--- The survey tells of frames of the input, which is read to be written to the output, and what is held of the input is of its bytes.
+-- The survey is that of the input, which is read while the output is written, and the feed holds bytes of the input.
 pub record IsReady (relay : Relay) (files : Files) (fed : Fed) : Type 0 where
   pub pass : PassReady relay.pass files fed
   pub length_is : relay.pass.length ≡ (tells relay.survey.now).length
@@ -43,37 +43,36 @@ pub record IsFresh (class : ClassFields) (b : Buffers) : Type 0 where
 abbrev pub writing_in : Buffers → Writing
 writing_in b = writing b.writer b.waiting
 
--- a window is over so many bytes of main data
+-- a window is over so many bytes of areas
 abbrev pub Reaches : List ℕ → ℕ → Type 0
 Reaches window count = (main : List ℕ) × IsWindowOver window main × (length main ≡ count)
 
--- A window is over as many bytes as the areas of the head and of the frames before frame i have. Where the input is told, these are
--- they.
+-- A window is over as many bytes as the areas of the head and of the frames before frame i have. If the input is told, these are they.
 pub record IsOver (window input : List ℕ) (files : Files) (s : SurveyFields) (i : ℕ) : Type 0 where
   pub main : List ℕ
   pub held : IsWindowOver window main
   pub long : length main ≡ place s.head s.frames i
   pub is : (file : List ℕ) → Holds files input file → main ≡ main_bytes file s.head (take i s.frames)
 
--- so many bytes of main data are before the first frame whose area was read; where it is the first of all, that of the head was too
+-- how many bytes of areas are before the first one that was read; if that is the first frame's, the area of the head was read too
 abbrev pub skipped_before : SurveyFields → ℕ → ℕ
 skipped_before s first = if first == 0 then 0 else place s.head s.frames first
 
--- Of the areas before frame i a window is over those from this first frame on. Where the input is told, these are they.
+-- A window is over those of the areas before frame i that begin with this first one. If the input is told, these are they.
 pub record IsOverLast (window input : List ℕ) (files : Files) (s : SurveyFields) (first i : ℕ) : Type 0 where
   pub main : List ℕ
   pub held : IsWindowOver window main
   pub long : skipped_before s first + length main ≡ place s.head s.frames i
   pub is : (file : List ℕ) → Holds files input file → (skipped : List ℕ) × (length skipped ≡ skipped_before s first) × (main_bytes file s.head (take i s.frames) ≡ skipped ++ main)
 
--- The area of a frame was read into a window: where the input is told, its bytes.
+-- The area of a frame was read into a window: if the input is told, its bytes.
 pub record HasArea (before after input : List ℕ) (files : Files) (row : Row) : Type 0 where
   pub area : List ℕ
   pub long : length area ≡ own_area row.header
   pub is : (file : List ℕ) → Holds files input file → area ≡ area_bytes file row.offset row.header
   pub held : (main : List ℕ) → IsWindowOver before main → IsWindowOver after (main ++ area)
 
--- Frames were given to the writer: where the input is told, they are made of its bytes so. More was appended to the output.
+-- Frames were given to the writer: if the input is told, those that are made of its bytes. More was appended to the output.
 pub record Lays (input output : List ℕ) (made : List ℕ → List Frame) (old new : Writing) (before after : Files) : Type 0 where
   pub frames : List Frame
   pub is : (file : List ℕ) → Holds before input file → frames ≡ made file
@@ -82,7 +81,7 @@ pub record Lays (input output : List ℕ) (made : List ℕ → List Frame) (old 
   pub writer : (base out : List ℕ) (fs : List Frame) → IsWriterOf base out old fs → IsWriterOf base (out ++ passed) new (fs ++ frames)
 
 -- Only the first of these frames were given to the writer, or all of them. A prefix was appended of bytes that no later main data can
--- reach, whichever frames follow that begin within so many bytes before their own area.
+-- reach, whatever frames follow whose main data begin within so many bytes before their own area.
 pub record LaysPart (input output : List ℕ) (made : List ℕ → List Frame) (reach : ℕ) (old : Writing) (before after : Files) : Type 0 where
   pub settled : List ℕ
   pub prefix : AppendedPrefix output settled before after
@@ -104,11 +103,11 @@ GivesPart relay made reach old before after = LaysPart relay.pass.input.now rela
 abbrev pub moved_frame : Relay → ℕ → Row → Placed → List ℕ → List Frame
 moved_frame relay i row p file = moved_to p (frame_of file (tells relay.survey.now) i row) ∷ []
 
--- what is at a place of the plan: the lead-in in front of frame i, or the frame
+-- what is at a place of the plan: the lead-in before frame i, or the frame
 abbrev pub placed_frame : Relay → ℕ → Row → Placed → List ℕ → List Frame
 placed_frame relay i row p file = placed_as p (frame_of file (tells relay.survey.now) i row) ∷ []
 
--- the frames from one on and before another, as they were planned
+-- the frames from one up to, but not including, another, as they were planned
 abbrev pub planned_frames : Relay → ℕ → ℕ → List Placed → List ℕ → List Frame
 planned_frames relay from to placed file = relaid (slice_range (all_frames file (tells relay.survey.now)) from to) placed
 
@@ -119,18 +118,18 @@ window_in s = window_of s.class.version
 abbrev pub own_reach : Relay → Row → Placed → ℕ
 own_reach relay row p = min (window_in (tells relay.survey.now)) (p.begin + area_of (class_of row.header) p.slot row.header.protected - (need_of row).bytes)
 
--- after what is at this place of the plan
+-- the same after what is at this place of the plan
 abbrev pub reach_at : Relay → Row → Placed → ℕ
 reach_at relay row p = reach_behind (window_in (tells relay.survey.now)) p (need_of row)
 
 abbrev pub needs_from : SurveyFields → ℕ → ℕ → List Need
 needs_from s from to = map need_of (slice_range s.frames from to)
 
--- after all places
+-- the same after all places
 abbrev pub reach_behind_all : ℕ → Relay → ℕ → ℕ → List Placed → ℕ
 reach_behind_all reach relay from to placed = last_reach (window_in (tells relay.survey.now)) reach (needs_from (tells relay.survey.now) from to) placed
 
--- the plan can be written frame by frame, where main data may begin so many bytes before the first area
+-- the plan can be written frame by frame, if main data may begin so many bytes before the first area
 abbrev pub FitsBehind : ℕ → Relay → ℕ → ℕ → List Placed → Type 0
 FitsBehind reach relay from to placed = FitsFrom (window_in (tells relay.survey.now)) reach (needs_from (tells relay.survey.now) from to) placed
 
@@ -146,7 +145,7 @@ pub record IsSection (s : SurveyFields) (section : Section) : Type 0 where
 abbrev pub section_frames : SurveyFields → Section → List ℕ → List Frame
 section_frames s section file = relaid (slice_range (all_frames file s) section.from section.to) section.placed.now
 
--- the blocks in front, the Info frame and the frames
+-- the blocks before the frames, the Info frame and the frames
 abbrev pub section_front : SurveyFields → Section → List ℕ → List ℕ
 section_front s section file = (concat (front_blocks file s) ++ section.info.now) ++ frame_bytes (section_frames s section file)
 

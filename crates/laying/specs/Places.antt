@@ -1,4 +1,4 @@
--- The first places of a plan, which all frames of one input take, where those of others are after them.
+-- The first places of a plan, which all frames of one input take, before those of other inputs.
 use Rattle.std.specs.Prelude.{ℕ, zero, suc, Bool, true, false, List, [], ◌∷◌, length, map, take, slice_range}
 use Rattle.frame_header.specs.Tables.{window_of}
 use Rattle.slot_plan.specs.declared.needs.Placed.{Placed}
@@ -8,7 +8,7 @@ use Rattle.sync_survey.specs.Faults.{SurveyFields}
 use Rattle.laying.specs.Relaid.{all_frames, relaid}
 use Rattle.laying.specs.Fits.{last_reach}
 
--- how many frames are left after a lead-in, or after one of one more
+-- how many frames are left after a lead-in, or after a frame
 abbrev pub frames_behind : Bool → ℕ → ℕ
 frames_behind true frames = suc frames
 frames_behind false frames = frames

@@ -1,4 +1,4 @@
--- Frames that are chosen of surveyed files, and the same frames in the slots of a plan with all main data laid out again (main_data_begin
+-- Frames that are chosen from surveyed files, and the same frames in the slots of a plan with all main data laid out again (main_data_begin
 -- and main data, ISO/IEC 11172-3 and 13818-3, 2.4.2.7).
 use Rattle.std.specs.Prelude.{◌≡◌, ℕ, ◌+◌, ◌-◌, ◌*◌, ◌/◌, ◌<◌, ◌≤◌, if◌then◌else◌, false, List, [], ◌∷◌, ◌++◌, length, map, slice_range, Contains, Bool, true}
 use Rattle.std.specs.List.{enumerate_from}
@@ -35,7 +35,7 @@ all_frames file s = map (λ (p : ℕ × Row). frame_of file s p.0 p.1) (enumerat
 
 -- ---- the frames that are chosen
 
--- the frames of a surveyed file from one on and before another
+-- the frames of a surveyed file from one up to, but not including, another
 pub record Part : Type 0 where
   pub file : List ℕ
   pub survey : SurveyFields
@@ -52,7 +52,7 @@ frames_in p = slice_range (all_frames p.file p.survey) p.from p.to
 abbrev pub stream_in : Part → List StreamFrame
 stream_in p = slice_range (stream_of_survey p.file p.survey) p.from p.to
 
--- the frames lie in the file as the survey says, and are of this class, and the part has a frame
+-- the file has this survey, the frames are of this class, and the part has a frame
 pub record IsPart (c : ClassFields) (p : Part) : Type 0 where
   pub has : HasSurvey p.file p.survey
   pub class : p.survey.class ≡ c
@@ -63,7 +63,7 @@ abbrev pub AreParts : ClassFields → List Part → Type 0
 AreParts c [] = Unit {0}
 AreParts c (p ∷ parts) = IsPart c p × AreParts c parts
 
--- what a plan is given of them
+-- what a plan is given for them
 abbrev pub needs_in : Part → List Need
 needs_in p = map need_of (rows_in p)
 
@@ -83,7 +83,7 @@ lead_in_to p behind = lead_in_before p behind.kept.header
 abbrev pub placed_as : Placed → Frame → Frame
 placed_as p f = if p.lead_in then lead_in_to p f else moved_to p f
 
--- what is left after a lead-in is all, after a frame the others
+-- after a lead-in all frames are left, after a frame the others
 abbrev pub left_behind : {X : Type 0} → Bool → X → List X → List X
 left_behind true x xs = x ∷ xs
 left_behind false x xs = xs
@@ -96,7 +96,7 @@ relaid (f ∷ frames) (p ∷ placed) = placed_as p f ∷ relaid (left_behind p.l
 
 -- ---- their stream
 
--- a lead-in as a frame of a stream, by the frame after it: no field of its side information is set, and it has no main data
+-- a lead-in as a frame of a stream, by the frame after it: all fields of its side information are 0, and it has no main data
 abbrev pub silent_before : StreamFrame → StreamFrame
 silent_before behind = record {
   header = record behind.header { protected = false };
@@ -104,7 +104,7 @@ silent_before behind = record {
   payload = parts_of (part_lengths behind.header no_side) [];
 }
 
--- the frames of a stream with the lead-ins of a plan, and else as they are
+-- the frames of a stream with the lead-ins of a plan, and otherwise as they are
 unfoldable pub with_lead_ins : List Placed → List StreamFrame → List StreamFrame
 with_lead_ins placed [] = []
 with_lead_ins [] (f ∷ stream) = []

@@ -1,5 +1,6 @@
--- What laying frames again asks of the survey of a file: that its frames and blocks are whole there, and that the main data of each frame are
--- among the areas. The survey of a file without fault is such a one (`SurveysAreHad`), and so is that of what is left of a damaged file.
+-- What laying frames out again asks of the survey of a file: that its frames and blocks are whole in the file, and that the main data of
+-- each frame are within the areas. The survey of a file without fault is such a one (`SurveysAreHad`), and so is that of what can be read
+-- of a damaged file.
 use Rattle.std.specs.Prelude.{◌≡◌, ℕ, ◌+◌, ◌≤◌, List, [], ◌∷◌, length, map, Option, Some, None}
 use Rattle.frame_header.specs.Fields.{HeaderFields, IsHeader}
 use Rattle.frame_header.specs.Tables.{class_of, length_of}
@@ -9,17 +10,17 @@ use Rattle.sync_survey.specs.Faults.{SurveyFields}
 use Rattle.sync_survey.specs.Survey.{AreWellPlaced}
 use Rattle.laid_files.specs.LaidFiles.{HasPairs, IsBlocks, block_bytes}
 
--- a frame with this header has room in the file at the offset
+-- a frame with this header is whole in the file at the offset
 pub record IsWholeAt (file : List ℕ) (offset : ℕ) (h : HeaderFields) : Type 0 where
   pub header : IsHeader h
   pub within : offset + length_of (class_of h) h.slot ≤ length file
 
--- so has the head
+-- so is the head
 abbrev pub HasWholeHead : List ℕ → Option Head → Type 0
 HasWholeHead file None = Unit {0}
 HasWholeHead file (Some head) = IsWholeAt file head.offset head.header
 
--- so has a frame
+-- so is a frame
 pub record IsWholeRow (file : List ℕ) (r : Row) : Type 0 where
   pub frame : IsWholeAt file r.offset r.header
   pub pairs : HasPairs r.side
@@ -28,7 +29,7 @@ abbrev pub AreWholeRows : List ℕ → List Row → Type 0
 AreWholeRows file [] = Unit {0}
 AreWholeRows file (r ∷ rows) = IsWholeRow file r × AreWholeRows file rows
 
--- The length is the file's; the head, the frames and the blocks are whole there; and the frames are of one class, their side fields are
+-- The length is the file's; the head, the frames and the blocks are whole in it; and the frames are of one class, their side fields are
 -- within their bits, and their main data have no fault.
 pub record HasSurvey (file : List ℕ) (s : SurveyFields) : Type 0 where
   pub long : length file ≡ s.length

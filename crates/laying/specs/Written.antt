@@ -37,11 +37,11 @@ back_blocks file s = map (block_bytes file) (filter (λ p. not (goes_in_front s 
 abbrev pub slot_in : Frame → SlotFields
 slot_in f = f.kept.header.slot
 
--- entry i of the table of an Info frame in front of these frames
+-- entry i of the seek table of an Info frame before these frames
 abbrev pub table_entry : ClassFields → List Frame → ℕ → ℕ
 table_entry c frames i = entry_of (info_length c + bytes_of c slot_in (take (i * length frames / 100) frames)) (all_bytes c slot_in frames)
 
--- the fields of the Info frame in front of these frames, with this quality and extension
+-- the fields of the Info frame before these frames, with this quality and extension
 abbrev pub info_for : ClassFields → List Frame → Option ℕ → List ℕ → Info
 info_for c frames quality extension = record {
   vbr = not (has_one_rate c slot_in frames);
@@ -56,7 +56,7 @@ info_for c frames quality extension = record {
 abbrev pub plain_info : ClassFields → List Frame → Info
 plain_info c frames = info_for c frames None (replicate 36 0)
 
--- the fields of the head of a file, from its text on; where there is no head no field is there
+-- the fields of the head of a file, from its text on; without a head none
 unfoldable pub head_info : List ℕ → Option Head → Info
 head_info file None = info_in []
 head_info file (Some head) = info_in (drop head.text_at (take (length_of (class_of head.header) head.header.slot) (drop head.offset file)))

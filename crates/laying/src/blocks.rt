@@ -12,14 +12,18 @@ use sync_survey::Piece;
 use tag_blocks::Kind;
 
 impl<'a> Relay<'a> {
-    /// It is an ID3v2 block before the first frame or the head.
+    /// Whether a block goes before the frames: it is an ID3v2 block before the first frame or the head.
     fn goes_in_front(&self, block: &Piece) -> bool
         ensures { result ≡ goes_in_front_lem (tells self.now.survey.now) block.now }
     {
         block.block.kind == Kind::Id3v2 && block.offset < self.survey.first()
     }
 
-    /// Copies a block where it is one of those that go in front, or where it is one of the others.
+    /// Copies a block if it is one of those that go before the frames, or with `in_front` false if it is
+    /// one of the others.
+    ///
+    /// # Errors
+    /// `Read` or `Shrunk` where the input can't be read, `Write` where a write failed.
     fn copy_chosen<D: Folder>(
         &self,
         folder: &mut D,
@@ -50,7 +54,11 @@ impl<'a> Relay<'a> {
         }
     }
 
-    /// Copies the blocks that go in front, or all others, in the order of the input.
+    /// Copies the blocks that go before the frames, or with `in_front` false all others, in the order of
+    /// the input.
+    ///
+    /// # Errors
+    /// `Read` or `Shrunk` where the input can't be read, `Write` where a write failed.
     pub(crate) fn copy_blocks<D: Folder>(
         &self,
         folder: &mut D,

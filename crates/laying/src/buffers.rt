@@ -1,4 +1,4 @@
-//! All memory of a pass that lays out frames again.
+//! All memory of a pass that lays frames out again.
 ghost use Rattle.std.specs.Prelude.{IfOk};
 ghost use Rattle.laying.specs.Passing.{IsFresh};
 
@@ -8,8 +8,9 @@ use outside::{Feed, WriteBuffer};
 use reservoir::Window;
 use std::alloc::{AllocError, Global};
 
-/// All memory of a pass that lays out frames again: the bytes of the input that are read, the main data in reach, the frames
-/// that wait, and the bytes in front of the output. It is taken before the first output is created, and serves for all.
+/// All memory of a pass that lays frames out again: the bytes of the input that are read, the areas in
+/// reach, the frames that wait, and the bytes that wait for the output. It is taken before the first output
+/// is created, and serves for all.
 #[derive(Drop)]
 pub struct Buffers {
     pub feed: Feed,
@@ -19,7 +20,7 @@ pub struct Buffers {
 }
 
 impl Buffers {
-    /// Buffers that hold nothing, for frames of this class.
+    /// Buffers that hold nothing, for frames of this class. They take all their memory here.
     ///
     /// # Errors
     /// Where there is no memory.

@@ -12,7 +12,8 @@ use crate::section::Section;
 use outside::{Feed, Folder, PassFault, WriteBuffer};
 
 impl<'a> Relay<'a> {
-    /// Adds to what waits for the output the blocks that go in front, and an Info frame of these bytes. It takes no memory.
+    /// Adds to what waits for the output the blocks that go before the frames, and an Info frame of these
+    /// bytes. It takes no memory.
     ///
     /// # Errors
     /// As `write`.
@@ -39,7 +40,10 @@ impl<'a> Relay<'a> {
         self.pass.push(folder, info, waiting)
     }
 
-    /// Adds to what waits for the output the file of a section except what goes after its frames.
+    /// Adds to what waits for the output the file of a section, except the blocks after its frames.
+    ///
+    /// # Errors
+    /// As `lay`.
     fn write_frames<D: Folder>(
         &self,
         folder: &mut D,
@@ -69,15 +73,15 @@ impl<'a> Relay<'a> {
         self.lay(folder, section, buffers)
     }
 
-    /// Appends to the output a file of the frames of a section of the input: the input's ID3v2 blocks that are before
-    /// its first frame, an Info frame of these bytes, the frames as at `lay`, and all other blocks of the input. Nothing waits
-    /// in the buffer in front of the output; what else the buffers hold may be of whatever was written before. It takes no
-    /// memory.
+    /// Appends to the output a file of the frames of a section of the input: the input's ID3v2 blocks that
+    /// are before its first frame, an Info frame of these bytes, the frames as `lay` gives them, and all
+    /// other blocks of the input. Nothing waits for the output at first; what else the buffers hold may be
+    /// of whatever was written before. It takes no memory.
     ///
     /// # Errors
-    /// `Read` where a read failed; `Shrunk`, the length that the input was found with and the one that it had when it was
-    /// read, where a read gave no byte before that length; `Write` where a write failed. Then a prefix of the bytes, none to
-    /// all of them, was appended.
+    /// `Read` where a read failed; `Shrunk`, the length with which the input was found and the one at which
+    /// it ended when it was read, where a read gave no byte before that length; `Write` where a write
+    /// failed. Then a prefix of the bytes, none to all of them, was appended.
     pub fn write<D: Folder>(
         &self,
         folder: &mut D,

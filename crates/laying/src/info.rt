@@ -1,4 +1,4 @@
-//! The fields of the Info frame in front of the frames of a plan.
+//! The fields of the Info frame before the frames of a plan.
 ghost use Rattle.std.specs.Prelude.{◌≡◌, ◌+◌, ◌≤◌, List, ℕ, length, take, drop, map, replicate, None, Some, Ok, IfOk, IfErr, OnOk, IsErrOf};
 ghost use Rattle.outside.specs.Files.{Holds, IsThere};
 ghost use Rattle.outside.specs.Counts.{OnlyReads};
@@ -18,7 +18,7 @@ use outside::{Folder, PassFault, read_exact};
 use slot_plan::Placed;
 use sync_survey::{Head, Survey};
 
-/// What an Info frame takes over from the head of an input.
+/// What an Info frame takes over from the head of an input: its quality, and the 36 bytes of its extension.
 #[derive(Clone, Copy, Debug, PartialEq, Eq)]
 pub struct Kept {
     pub quality: Option<u32>,
@@ -36,7 +36,7 @@ impl Kept {
         }
     }
 
-    /// What the bytes of a head's frame say, with its text at this place.
+    /// What the bytes of a head's frame say. Its text is at byte `text_at`.
     fn read(frame: &[u8], text_at: u32) -> Kept
         ensures quality { result.quality ≡ (info_in (drop text_at frame.now)).quality }
         ensures extension { result.extension ≡ (info_in (drop text_at frame.now)).extension }
@@ -51,7 +51,7 @@ impl Kept {
     }
 }
 
-/// A table has 100 entries.
+/// The seek table has 100 entries.
 fn has_all(table: &[u8; 100])
     ensures { length table.now ≡ 100 }
 {
@@ -67,8 +67,9 @@ fn are_sized(info: &Info)
     }
 }
 
-/// The fields of the Info frame in front of the frames of a plan: their number, the bytes of the Info frame and of all of
-/// them, the table, and what is kept of a head. The text is `Info` where all have one bit rate. At most 2,900,064 frames.
+/// The fields of the Info frame before the frames of a plan, of which there are at most 2,900,064: how many
+/// they are, the bytes of the Info frame and of all of them, the seek table, and what is kept of a head.
+/// The text is `Info` if all have one bit rate, else `Xing`.
 pub fn info_of(class: Class, placed: &[Placed], kept: &Kept) -> Info
     requires few { length placed.now ≤ 2900064 }
     ensures info { (frames : List Frame) → map slot_in frames ≡ map
@@ -86,6 +87,9 @@ pub fn info_of(class: Class, placed: &[Placed], kept: &Kept) -> Info
 }
 
 /// What the head of an input says.
+///
+/// # Errors
+/// As `kept_fields`.
 fn kept_of<D: Folder>(
     folder: &mut D,
     name: &str,
@@ -114,14 +118,14 @@ fn kept_of<D: Folder>(
     Ok(Kept::read(frame, head.text_at))
 }
 
-/// The quality and the extension that the head of an input has, and `Kept::none` where there is no head. It reads the
-/// head's frame, at most 1,441 bytes, and takes no memory. The files stay.
+/// The quality and the extension that the head of an input has, and `Kept::none` if there is no head. It
+/// reads the head's frame, at most 1,441 bytes, and takes no memory. The files stay.
 ///
 /// # Errors
-/// None where there is no head.
+/// Without a head none, else:
 /// - `Read` where a read failed;
-/// - `Shrunk`, the length that the input was found with and the one that it had when it was read, where a read gave no
-///   byte before that length. It comes only where the folder doesn't tell its files.
+/// - `Shrunk`, the length with which the input was found and the one at which it ended when it was read,
+///   where a read gave no byte before that length. It comes only where the folder doesn't tell its files.
 pub fn kept_fields<D: Folder>(
     folder: &mut D,
     name: &str,

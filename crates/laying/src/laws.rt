@@ -1,41 +1,41 @@
 //! Laws of files of chosen frames. Each function does nothing: a proof that needs its law calls it.
 ghost use Rattle.laying.specs.Laws.{EntriesHold, FilesHold, SurveysAreHad, BlocksAreKept, PlansFit, AskedPlans, FittingFilesHold, FittingSlots};
 
-/// The frames of parts of surveyed files, in the slots and with the main_data_begin of their plan, are of the class, and
-/// their main data can be laid so. In a stream they are the plan's lead-ins, and each chosen frame as it is in the stream of its
-/// file: the same header but bit rate index and padding, the same side information but main_data_begin, the same main data. A
-/// lost frame is an empty one.
+/// The frames of parts of surveyed files, in the slots and with the main_data_begin of their plan, are of
+/// the class, and their main data can be laid so. In a stream they are the plan's lead-ins, and each chosen
+/// frame as it is in the stream of its file: the same header except bit rate index and padding, the same
+/// side information except main_data_begin, the same main data. A lost frame is an empty one.
 pub fn entries_hold()
     ensures { EntriesHold }
 {}
 
-/// A file of these frames, with blocks and an Info frame in front of them and blocks after, is well-formed, and its stream
-/// is the lead-ins and the chosen frames.
+/// A file of these frames, with blocks and an Info frame before them and blocks after them, is well-formed,
+/// and its stream is the lead-ins and the chosen frames.
 pub fn files_hold()
     ensures { FilesHold }
 {}
 
-/// The survey of a file without fault tells frames and blocks that are whole there, and main data that are among the areas:
-/// so its frames can be laid out again.
+/// The survey of a file without fault tells frames and blocks that are whole in it, and main data that are
+/// within the areas, so its frames can be laid out again.
 pub fn surveys_are_had()
     ensures { SurveysAreHad }
 {}
 
-/// The bytes of the blocks that a survey tells of its file, those that go in front of the frames and all others, may be in
-/// such a file.
+/// The bytes of the blocks that a survey tells of its file, those that go before the frames and all others,
+/// may be in such a file.
 pub fn blocks_are_kept()
     ensures { BlocksAreKept }
 {}
 
-/// A plan of parts can be written frame by frame: no main_data_begin reaches back before the end of the main data before,
-/// or further than the window, and no main data end after their own area (main_data_begin, ISO/IEC 11172-3 and 13818-3,
-/// 2.4.2.7).
+/// A plan of parts can be written frame by frame: no main_data_begin reaches back before the end of the
+/// main data before it, or further than the window, and no main data end after their own area
+/// (main_data_begin, ISO/IEC 11172-3 and 13818-3, 2.4.2.7).
 pub fn plans_fit()
     ensures { PlansFit }
 {}
 
-/// What is planned of parts that were put together as the planner takes them is a plan of the parts, with the window of
-/// their class: so the other laws speak of it.
+/// What is planned of parts that were put together as the planner takes them is a plan of the parts, with
+/// the window of their class, so the other laws hold of it.
 pub fn asked_plans()
     ensures { AskedPlans }
 {}
@@ -46,7 +46,8 @@ pub fn fitting_files_hold()
     ensures { FittingFilesHold }
 {}
 
-/// These frames are in the slots of the plan, one for each of its lead-ins and frames.
+/// The frames of `fitting_files_hold` are in the slots of the plan, one for each of its lead-ins and
+/// frames.
 pub fn fitting_slots()
     ensures { FittingSlots }
 {}

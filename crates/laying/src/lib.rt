@@ -1,4 +1,5 @@
-//! Frames of surveyed files in the slots of a plan, with all main data laid out again, as they are cut, split, joined and packed.
+//! Writes frames of surveyed files in the slots of a plan, with all main data laid out again, to cut,
+//! split, join and pack.
 #![tactic(auto)]
 
 mod blocks;

@@ -1,4 +1,5 @@
-//! The frames of a surveyed input, read once from front to back and given to the writer of an output.
+//! The frames of a surveyed input, read once from its beginning to its end and given to the writer of an
+//! output.
 ghost use Rattle.std.specs.Prelude.{◌≡◌, ◌⊎◌, false, if◌then◌else◌, ◌+◌, ◌-◌, ◌^◌, ◌<◌, ◌≤◌, ◌++◌, min, List, ℕ, [], ◌∷◌, length, take, map, slice_range, slice_get, Some, IfOk, IfErr, OnOk, OnErr};
 ghost use Rattle.frame_header.specs.Tables.{class_of, area_of, overhead_of, window_of};
 ghost use Rattle.outside.specs.Files.{IsThere};
@@ -26,14 +27,14 @@ use side_info::Side;
 use slot_plan::Placed;
 use sync_survey::{Row, Survey};
 
-/// A surveyed input, and the output that its frames go to.
+/// A surveyed input, and the output to which its frames go.
 #[derive(Clone, Copy)]
 pub struct Relay<'a> {
     pub pass: Pass<'a>,
     pub survey: &'a Survey,
 }
 
-/// The bytes of a frame that are before its main data.
+/// How many bytes of a frame are before its area: header, check word and side information.
 #[tactic(auto, unfolding(frame_header::specs::Tables::overhead_of))]
 fn overhead(header: &Header) -> u32
     ensures overhead { result ≡ overhead_of (class_of header.now) header.now.protected }
@@ -45,6 +46,9 @@ fn overhead(header: &Header) -> u32
 
 impl<'a> Relay<'a> {
     /// Gives a frame to the writer.
+    ///
+    /// # Errors
+    /// `Write` where a write failed.
     #[inline(always)]
     fn write_frame<D: Folder>(
         &self,
@@ -78,7 +82,11 @@ impl<'a> Relay<'a> {
         }
     }
 
-    /// Gives a lead-in to the writer: an empty frame without a check word, with the header of the frame after it.
+    /// Gives a lead-in to the writer: an empty frame without a check word, else with the header of the
+    /// frame after it.
+    ///
+    /// # Errors
+    /// `Write` where a write failed.
     fn lead_in<D: Folder>(
         &self,
         folder: &mut D,
@@ -118,6 +126,9 @@ impl<'a> Relay<'a> {
     }
 
     /// Reads the area of frame `i` into the window.
+    ///
+    /// # Errors
+    /// `Read` or `Shrunk` where the input can't be read.
     #[inline(always)]
     fn read_area<D: Folder>(
         &self,
@@ -144,7 +155,10 @@ impl<'a> Relay<'a> {
         Ok(())
     }
 
-    /// Reads the area of the head, where there is one, into a window over nothing.
+    /// Reads the area of the head, if there is one, into a window over no areas.
+    ///
+    /// # Errors
+    /// `Read` or `Shrunk` where the input can't be read.
     fn read_head<D: Folder>(
         &self,
         folder: &mut D,
@@ -171,8 +185,8 @@ impl<'a> Relay<'a> {
         Ok(())
     }
 
-    /// The first of the frames before frame `i` whose areas are all that a window holds: with those after it it has at
-    /// least 2,048 bytes, or it is the first of all.
+    /// The frame from which on a window has to be over the areas before frame `i`: these have at least
+    /// 2,048 bytes, or it is the first frame of all.
     fn first_held(&self, i: usize) -> usize
         requires within { i ≤ length (tells self.now.survey.now).frames }
         ensures before { result ≤ i }
@@ -190,7 +204,11 @@ impl<'a> Relay<'a> {
         first
     }
 
-    /// Begins to read the areas of frames from this first one on: with that of the head, where it is the first of all.
+    /// Begins to read the areas of frames from this first one on: with that of the head, if it is the first
+    /// frame of all.
+    ///
+    /// # Errors
+    /// `Read` or `Shrunk` where the input can't be read.
     fn begin_at<D: Folder>(
         &self,
         folder: &mut D,
@@ -215,8 +233,11 @@ impl<'a> Relay<'a> {
         }
     }
 
-    /// Reads into the window, whatever it held, the last 2,048 bytes of the areas of the head and of all frames before
-    /// frame `i`, or all where there are fewer.
+    /// Reads into the window, whatever it held, the last 2,048 bytes of the areas of the head and of all
+    /// frames before frame `i`, or all where there are fewer.
+    ///
+    /// # Errors
+    /// `Read` or `Shrunk` where the input can't be read.
     pub fn read_before<D: Folder>(
         &self,
         folder: &mut D,
@@ -247,6 +268,9 @@ impl<'a> Relay<'a> {
     }
 
     /// Reads frame `i` and gives it to the writer.
+    ///
+    /// # Errors
+    /// `Read` or `Shrunk` where the input can't be read, `Write` where a write failed.
     fn frame<D: Folder>(
         &self,
         folder: &mut D,
@@ -292,8 +316,11 @@ impl<'a> Relay<'a> {
         self.write_frame(folder, &frame, &mut buffers.writer, &mut buffers.waiting)
     }
 
-    /// Gives to the writer what is at a place of the plan: a lead-in in front of frame `i`, or that frame. The answer
-    /// is the number of the next frame.
+    /// Gives to the writer what is at a place of the plan: a lead-in before frame `i`, or that frame.
+    /// Answers the number of the frame for the next place.
+    ///
+    /// # Errors
+    /// `Read` or `Shrunk` where the input can't be read, `Write` where a write failed.
     fn place<D: Folder>(
         &self,
         folder: &mut D,
@@ -344,8 +371,11 @@ impl<'a> Relay<'a> {
         }
     }
 
-    /// Reads the frames from one on and before another, and gives them to the writer as they were planned, with the
-    /// lead-ins of the plan.
+    /// Reads the frames from frame `from` up to, but not including, frame `to`, and gives them to the
+    /// writer as they were planned, with the lead-ins of the plan.
+    ///
+    /// # Errors
+    /// `Read` or `Shrunk` where the input can't be read, `Write` where a write failed.
     pub fn frames<D: Folder>(
         &self,
         folder: &mut D,
@@ -385,7 +415,7 @@ impl<'a> Relay<'a> {
         Ok(())
     }
 
-    /// Hands on all that waits in the writer, to the buffer in front of the output. It takes no memory.
+    /// Hands on all that waits in the writer to the buffer before the output. It takes no memory.
     ///
     /// # Errors
     /// `Write` where a write failed. Then a prefix of what waits was appended.
@@ -411,13 +441,14 @@ impl<'a> Relay<'a> {
         }
     }
 
-    /// Adds to what waits for the output the frames of a section, in the slots and with the lead-ins of their plan, with all
-    /// main data laid out again. The writer is new, and the window may hold whatever it does. It takes no memory.
+    /// Adds to what waits for the output the frames of a section, in the slots and with the lead-ins of
+    /// their plan, with all main data laid out again. The writer is new; the window may hold anything. It
+    /// takes no memory.
     ///
     /// # Errors
-    /// `Read` where a read failed; `Shrunk`, the length that the input was found with and the one that it had when it was
-    /// read, where a read gave no byte before that length; `Write` where a write failed. Then a prefix of what waited and
-    /// the bytes, none to all of them, was appended.
+    /// `Read` where a read failed; `Shrunk`, the length with which the input was found and the one at which
+    /// it ended when it was read, where a read gave no byte before that length; `Write` where a write
+    /// failed. Then a prefix of what waited and the bytes, none to all of them, was appended.
     pub(crate) fn lay<D: Folder>(
         &self,
         folder: &mut D,
@@ -444,15 +475,15 @@ impl<'a> Relay<'a> {
     }
 }
 
-/// The side information of a frame, which is of no account where the frame is lost.
+/// The side information of a frame, all 0 if the frame is lost.
 fn side_of(row: &Row) -> Side
     ensures { result ≡ side_of_lem row.now }
 {
     if row.lost { Side::empty() } else { row.side }
 }
 
-/// The main data of frame `i`, whose area has so many bytes, in the window, in as few bytes as hold them. A lost frame has
-/// none.
+/// The main data of frame `i`, whose area has `area` bytes, out of the window, in as few bytes as hold
+/// them. A lost frame has none.
 fn cut_payload<'w>(
     survey: &Survey,
     i: usize,

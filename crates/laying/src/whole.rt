@@ -1,4 +1,4 @@
-//! All frames of an input, where those of other inputs go to the same writer.
+//! All frames of an input, for a writer that gets those of other inputs too.
 ghost use Rattle.std.specs.Prelude.{◌≡◌, ◌≤◌, length, map, IfOk, IfErr, OnOk, OnErr};
 ghost use Rattle.frame_header.specs.Tables.{window_of};
 ghost use Rattle.outside.specs.Pass.{HasPassCause};
@@ -14,7 +14,7 @@ use crate::relay::Relay;
 use outside::{Folder, PassFault};
 use slot_plan::Placed;
 
-/// How many places of a plan so many frames take, with their lead-ins.
+/// How many places of a plan so many frames take, together with their lead-ins.
 fn places_for(frames: usize, placed: &[Placed]) -> usize
     ensures places { result ≡ places_for_lem frames placed.now }
     ensures within { result ≤ length placed.now }
@@ -34,11 +34,11 @@ fn places_for(frames: usize, placed: &[Placed]) -> usize
 }
 
 impl<'a> Relay<'a> {
-    /// Gives all frames of the input to the writer as the first of these places say, and answers how many places they take. The
-    /// window may hold whatever it does. It takes no memory.
+    /// Gives all frames of the input to the writer as the first of these places say, and answers how many
+    /// places they take. The window may hold anything. It takes no memory.
     ///
     /// # Errors
-    /// As at `frames`.
+    /// As `frames`.
     pub fn lay_whole<D: Folder>(
         &self,
         folder: &mut D,

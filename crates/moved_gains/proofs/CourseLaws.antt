@@ -56,7 +56,7 @@ laid_rising from (row ∷ rows) to known laid =
       rising_less (suc row.offset) next rows (omega (arith, some_bytes row (known 0 row refl))) (laid_rising next rows to (λ i r is. known (suc i) r is) laid.2),
     )
 
--- no more than bytes
+-- there are no more frames than bytes
 laid_few : (from : ℕ) (rows : List Row) (to : ℕ) → AreKnown rows → AreLaid from rows to → from + length rows ≤ to
 laid_few from [] to known laid = omega (arith, laid)
 laid_few from (row ∷ rows) to known laid =

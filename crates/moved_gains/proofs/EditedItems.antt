@@ -1,4 +1,4 @@
--- The items of a file with moved gains are the same items, and its frames are where they stood.
+-- The items of a file with moved gains are the same items, and its frames are where they were.
 use Rattle.std.proofs.Common.{◌≡◌, ℕ, ◌+◌, ◌-◌, ◌≤◌, Bool, true, List, [], ◌∷◌, ◌++◌, length, take, drop, refl, sym, ◌∙◌, ap, arith, append_assoc, length-drop}
 use Rattle.std.specs.List.{cons_option}
 use Rattle.std.proofs.lemmas.Bool.{false≢true}
@@ -67,7 +67,7 @@ moved_are steps lost file from (p ∷ ps) to all ends =
 
 -- ---- the frames among them
 
--- the frame of a file is in another one, so many bytes nearer to its front, and with moved gains where it isn't lost
+-- the frame of a file is in another one, so many bytes nearer to its beginning, and with moved gains if it isn't lost
 pub record IsMovedAt (steps : ℕ → Steps) (lost : ℕ → Bool) (file new : List ℕ) (gap : ℕ) (p : PlacedFrame) : Type 0 where
   pub whole : IsWhole p.header (frame_bytes file p)
   pub rest : List ℕ

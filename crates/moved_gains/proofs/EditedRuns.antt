@@ -59,7 +59,7 @@ numbered-mapped gap None frames = refl
 numbered-mapped gap (Some head) [] = refl
 numbered-mapped gap (Some head) (p ∷ ps) = refl
 
--- the offsets where the lost frames of a file stand
+-- the offsets of the lost frames of a file
 abbrev pub lost_from : List ℕ → Start → ℕ → Bool
 lost_from file start = is_lost_at (told_from file start).frames
 

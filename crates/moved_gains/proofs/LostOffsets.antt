@@ -1,4 +1,4 @@
--- A frame is lost where a lost frame is at its offset, since no two frames are at one offset.
+-- A frame is lost if a lost frame is at its offset, since no two frames are at one offset.
 use Rattle.std.proofs.Common.{◌≡◌, ℕ, zero, suc, ◌+◌, ◌<◌, ◌≤◌, ◌==◌, ◌&&◌, ◌||◌, Bool, true, false, List, [], ◌∷◌, ◌++◌, map, Option, Some, None, refl, sym, ◌∙◌, ap, ap₂, subst, arith, zero-add}
 use Rattle.std.specs.Prelude.{option_to_list, slice_get}
 use Rattle.std.specs.List.{enumerate_from}
@@ -83,7 +83,7 @@ marked_get : (head : Option Head) (rows : List Row) (i : ℕ) (r : Row) → slic
 unfolding marked
 marked_get head rows i r is = each_get head rows 0 rows i r is ∙ ap (λ m. Some (marked_row head rows m r)) (zero-add i)
 
--- frame i is lost exactly where a lost frame of them is at its offset
+-- frame i is lost exactly if a lost frame of them is at its offset
 pub lost-at : (head : Option Head) (from : ℕ) (rows : List Row) → AreRising from rows → (i : ℕ) (r : Row) → slice_get rows i ≡ Some r → is_lost_at (marked head rows) r.offset ≡ is_lost head rows i r
 lost-at head from rows rise i r is = lost_get from (marked head rows) i (marked_row head rows i r) (marked_rising head from rows rise) (marked_get head rows i r is)
 

@@ -24,7 +24,7 @@ use Rattle.moved_gains.specs.Gains.{is_silent_granule, is_outside, moved_gain, m
 abbrev pub rem : ℤ → ℕ
 rem z = unsigned_abs (int_rem_euclid z (pos 256))
 
--- the remainder of a sum goes by that of its first part
+-- the remainder of a sum depends on that of its first part
 rem_sum : (z b : ℤ) → rem (pos (rem z) +ℤ b) ≡ rem (z +ℤ b)
 rem_sum (pos n) (pos m) = omega arith
 rem_sum (pos n) (negsuc m) =
@@ -59,7 +59,7 @@ pub within : (sum : ℤ) → is_outside sum ≡ false → IsGain sum
 within (pos n) inside = record { gain = n; is = refl; small = omega (arith, ltb-false 255 n inside) }
 within (negsuc n) inside = absurd (false≢true (sym inside))
 
--- where the first sum is within the range, the second is the sum of all
+-- if the first sum is within the range, the second is the sum of all
 gain_then : (a b : ℤ) (gain : ℕ) → is_outside (pos gain +ℤ a) ≡ false → is_outside (pos gain +ℤ (a +ℤ b)) ≡ false → is_outside (pos (moved_gain a gain) +ℤ b) ≡ false
 gain_then a b gain inside all =
     let sum = within (pos gain +ℤ a) inside in
@@ -223,7 +223,8 @@ then-with one two all strict_one strict_two strict_all left right m p a b g h k 
     (record { first = on_left g f.first w.first; second = on_right h f.second w.second; third = on_left k f.third w.third; fourth = on_right l f.fourth w.fourth })
     strict_two
 
--- where no gain leaves the range by one change nor by both together, none leaves it by the other change after the one; with wrap none does ever
+-- if no gain leaves the range by one change nor by both together, none leaves it by the other change after the one; with wrap none ever
+-- does
 pub side_then : (one two all : Steps) (s : Side) → IsShaped s → two.wrap ≡ one.wrap || all.wrap → all.left ≡ one.left +ℤ two.left → all.right ≡ one.right +ℤ two.right
     → stuck_in one s ≡ None → stuck_in all s ≡ None → stuck_in two (moved_side one s) ≡ None
 side_then one two all s shaped wraps left right first whole = by_wrap one.wrap all.wrap refl refl

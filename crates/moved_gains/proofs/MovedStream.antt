@@ -51,7 +51,7 @@ side-moved : (steps : Steps) (s : Side) → record (moved_side steps s) { main_d
 unfolding moved_side
 side-moved steps s = refl
 
--- the side information that counts, where a lost frame has none
+-- the side information that matters; a lost frame has none
 counts-moved : (steps : Steps) (lost : Bool) (s : Side) → cond lost no_side (moved_unless lost steps s) ≡ moved_side steps (cond lost no_side s)
 unfolding moved_side
 counts-moved steps true s = refl

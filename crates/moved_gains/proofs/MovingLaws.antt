@@ -1,4 +1,4 @@
--- What is written from front to back is the edited file.
+-- What is written is the edited file.
 use Rattle.std.proofs.Common.{◌≡◌, ℕ, ◌+◌, ◌-◌, ◌≤◌, List, [], ◌∷◌, ◌++◌, length, take, drop, Option, Some, None, Ok, refl, sym, ◌∙◌, ap, ap₂, subst, arith, append_assoc, take-append-drop, append-nil, length-drop, length-append}
 use Rattle.std.specs.Prelude.{option_to_list, Bool, cond}
 use Rattle.std.proofs.lemmas.List.{drop-drop, take_at}

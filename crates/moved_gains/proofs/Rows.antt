@@ -3,7 +3,7 @@ use Rattle.std.proofs.Common.{◌≡◌, ℕ, suc, ◌+◌, ◌<◌, List, ◌�
 use Rattle.std.proofs.Math.Seq.{drop-cons}
 use Rattle.sync_survey.specs.declared.rows.Row.{Row}
 
--- the item at i, and those after it
+-- the row at i, and those after it
 pub next_row : (rows : List Row) (i : ℕ) (d : Row) → i < length rows → drop i rows ≡ get_or rows i d ∷ drop (i + 1) rows
 next_row rows i d lt =
     let one : suc i ≡ i + 1 = omega arith in

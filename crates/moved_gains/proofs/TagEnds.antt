@@ -1,4 +1,4 @@
--- Where the tag stands, and where it ends.
+-- Where the tag begins, and where it ends.
 use Rattle.std.proofs.Common.{◌≡◌, ◌+◌, ◌≤◌, Option, Some, None, refl, arith}
 use Rattle.file_tag.specs.Places.{tag_block, tag_at, tag_length}
 use Rattle.file_tag.proofs.FoundTag.{tag-within, last-within}

@@ -1,4 +1,4 @@
--- Where the tag of a file is among its frames: in front of all of them, or after some and in front of the others.
+-- Where the tag of a file is among its frames: before all of them, or after some and before the others.
 use Rattle.std.proofs.Common.{◌≡◌, ℕ, suc, ◌+◌, ◌<◌, ◌≤◌, true, false, List, [], ◌∷◌, ◌++◌, length, take, drop, map, Bool, cond, Option, Some, None, Ok, refl, sym, ◌∙◌, ap, ap₂, subst, arith, inl, inr, length-drop, append-nil}
 use Rattle.std.specs.Prelude.{◌⊎◌}
 use Rattle.std.specs.List.{find, cons_option, enumerate_from}
@@ -99,7 +99,7 @@ module _ (lost : ℕ → Bool) (file : List ℕ) where
     items_sized part from [] to ends = tt
     items_sized part from (p ∷ ps) to ends = sized_more part p.offset p.item (frames_of ps) (item_of-is part file p.offset p.item ends.1) (items_sized part (p.offset + size_of p.item) ps to ends.2)
 
-  -- ---- the frames in front of a block, and those after it
+  -- ---- the frames before a block, and those after it
 
   pub record IsCut (from : ℕ) (frames : List PlacedFrame) (b : Piece) (to : ℕ) : Type 0 where
     pub before : List PlacedFrame
@@ -150,7 +150,7 @@ module _ (lost : ℕ → Bool) (file : List ℕ) where
       subst (λ n. IsCut n (frames_of (p ∷ ps)) b to) ends.0
       (cut_more part p.offset p.item ps b to here (items_end part next ps to ends.2) (λ found. items_cut part next ps b to ends.2 found) e)
 
-  -- ---- a block in front of all frames
+  -- ---- a block before all frames
 
   front_more : (part : Part) (at : ℕ) (item : Item) (ps : List Placed) (b : Piece) (to : ℕ) → IsItemOf part file at item → at + size_of item ≤ to → (find is_tag (blocks_of ps) ≡ Some b → (0 < b.block.length) × (b.offset + b.block.length ≤ to))
       → find is_tag (cons_option (block_as at item) (blocks_of ps)) ≡ Some b → (0 < b.block.length) × (b.offset + b.block.length ≤ to)
@@ -172,16 +172,16 @@ module _ (lost : ℕ → Bool) (file : List ℕ) where
 
 -- ---- the end of the last frame
 
--- all frames are in front of it
+-- all frames are before it
 pub last_ends : (from : ℕ) (row : Row) (rows : List Row) (to : ℕ) → EndBy from (row ∷ rows) to → EndBy from (row ∷ rows) (last_end (row ∷ rows)) × (last_end (row ∷ rows) ≤ to)
 last_ends from row [] to ends = ((ends.0, ends.1, omega arith), ends.2)
 last_ends from row (q ∷ rows) to ends =
     let rest = last_ends (row_end row) q rows to ends.2 in
     ((ends.0, ends.1, subst (EndBy (row_end row) (q ∷ rows)) (sym (last_more row q rows)) rest.0), omega (arith, last_more row q rows, rest.1))
 
--- ---- where the tag stands
+-- ---- where the tag is
 
--- the tag is after some frames, and in front of the others; or there is none, and all frames are in front of its place
+-- the tag is after some frames, and before the others; or there is none, and all frames are before its place
 pub record IsAmong (s : SurveyFields) : Type 0 where
   pub before : List Row
   pub behind : List Row
@@ -192,7 +192,7 @@ pub record IsAmong (s : SurveyFields) : Type 0 where
   pub rest : EndBy (tag_at s + tag_length s) behind s.length
   pub up : tag_at s + tag_length s ≤ s.length
 
--- it is in front of the junk
+-- it is before the junk
 pub record IsInFront (s : SurveyFields) : Type 0 where
   pub some : 0 < tag_length s
   pub before : tag_at s + tag_length s ≤ s.junk

@@ -59,7 +59,7 @@ module _ (steps : ℕ → Steps) (file : List ℕ) (allowed : ℕ) (s : SurveyFi
   moved_is : edited steps file s ≡ take s.junk file ++ moved_from steps file s.first s.frames
   moved_is = sym (written-edited steps file allowed s is)
 
-  -- where the tag is in front of the frames
+  -- where the tag is before the frames
   abbrev pub rest_front : List ℕ
   rest_front = bytes_between file (tag_at s + tag_length s) s.junk ++ moved_to steps file s.first (length file) s.frames
 
@@ -88,7 +88,7 @@ module _ (steps : ℕ → Steps) (file : List ℕ) (allowed : ℕ) (s : SurveyFi
       ∙ append_assoc (take a file) (own ++ between) all
       ∙ ap (λ (l : List ℕ). take a file ++ l) (append_assoc own between all))
 
-  -- where it is after some frames and in front of the others
+  -- where it is after some frames and before the others
   module _ (among : IsAmong s) where
     abbrev pub to_tag : List ℕ
     to_tag = take s.junk file ++ moved_to steps file s.first (tag_at s) among.before
@@ -165,7 +165,7 @@ module _ (one : ℕ → Steps) (file : List ℕ) (allowed : ℕ) (s : SurveyFiel
   abbrev old : ℕ
   old = tag_length s
 
-  -- where what is at an offset of the file is there then
+  -- where what is at an offset of the file is then
   abbrev pub to : ℕ → ℕ
   to x = moved_at size m (x - gap)
 
@@ -230,7 +230,7 @@ module _ (one : ℕ → Steps) (file : List ℕ) (allowed : ℕ) (s : SurveyFiel
   whole : length new ≡ new_survey.length
   whole = (known one new allowed new_survey new_is).size
 
-  -- where the tag is after some frames and in front of the others, so is the new one
+  -- where the tag is after some frames and before the others, so is the new one
   module _ (at : IsAmong s) where
     kept : tag_at m ≡ a - gap
     kept = at_behind one s s.length (omega (arith, at.low)) here.ends here.some
@@ -284,7 +284,7 @@ module _ (one : ℕ → Steps) (file : List ℕ) (allowed : ℕ) (s : SurveyFiel
     there : StandsSomewhere two new n
     there = known two new allowed n new_is
 
-    -- the tag is in front of the frames
+    -- the tag is before the frames
     front_again : IsInFront s → (bytes : List ℕ) → with_tag bytes (moved_survey two n) (edited two new n) ≡ with_tag bytes (moved_survey all s) (edited all file s)
     front_again at bytes =
         let place : tag_at n ≡ a = has_block.place ∙ at_front one s (omega (arith, at.some, at.before, here.junk)) at.some in
@@ -325,7 +325,7 @@ module _ (one : ℕ → Steps) (file : List ℕ) (allowed : ℕ) (s : SurveyFiel
         ∙ ap₂ (λ (j k : List ℕ). j ++ (bytes ++ k)) before_same (ap₂ (λ (j k : List ℕ). j ++ k) between_same rows_same)
         ∙ sym ((parted_front all file allowed s is at).tagged bytes)
 
-    -- it is after some frames and in front of the others
+    -- it is after some frames and before the others
     module _ (at : IsAmong s) where
       abbrev junk : List ℕ
       junk = take s.junk file

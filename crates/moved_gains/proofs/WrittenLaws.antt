@@ -1,4 +1,4 @@
--- What is written from front to back, with the new tag in its place, is the changed file.
+-- What is written, with the new tag in its place, is the changed file.
 use Rattle.std.proofs.Common.{◌≡◌, ℕ, ◌+◌, ◌-◌, ◌<◌, ◌≤◌, leb, Bool, true, false, cond, ◌&&◌, List, [], ◌∷◌, ◌++◌, length, drop, Option, Some, None, refl, sym, ◌∙◌, ap, ap₂, subst, arith, append_assoc, length-append, length-drop}
 use Rattle.std.proofs.lemmas.Bool.{le-leb, lt-leb}
 use Rattle.std.proofs.lemmas.List.{take_all, length-take-le}
@@ -41,7 +41,7 @@ written-none steps file at (row ∷ rows) =
     ∙ ap (λ (l : List ℕ). bytes_between file at row.offset ++ (moved_row_bytes (steps row.offset) file row ++ l)) (written-none steps file (row_end row) rows)
     ∙ sym (moved_from-cons steps file at row rows)
 
--- ---- frames in front of the tag, and frames after it
+-- ---- frames before the tag, and frames after it
 
 -- these frames, none of which is empty, are in their order between two offsets
 abbrev pub EndBy : ℕ → List Row → ℕ → Type 0
@@ -130,7 +130,7 @@ module _ (steps : ℕ → Steps) (file : List ℕ) (tag : NewTag) where
       ∙ ap₂ (λ (a b : List ℕ). a ++ (moved_row_bytes (steps row.offset) file row ++ b)) (behind_tag at row.offset past) (written-behind (row_end row) rows to (omega (arith, past, ends.0, ends.1)) ends.2)
       ∙ sym (moved_from-cons steps file at row rows)
 
-  -- the tag is in front of these frames, or at the end
+  -- the tag is before these frames, or at the end
   written-next : (at : ℕ) (behind : List Row) (to : ℕ) → at ≤ tag.at → tag.at ≤ tag.end → tag.end ≤ length file → EndBy tag.end behind to
       → written_from steps (Some tag) file at behind ≡ bytes_between file at tag.at ++ (new ++ moved_from steps file tag.end behind)
   written-next at [] to low up within ends =
@@ -144,7 +144,7 @@ module _ (steps : ℕ → Steps) (file : List ℕ) (tag : NewTag) where
       ∙ append_three (bytes_between file at tag.at) new (bytes_between file tag.end row.offset) rest
       ∙ ap (λ (l : List ℕ). bytes_between file at tag.at ++ (new ++ l)) (sym (moved_from-cons steps file tag.end row behind))
 
-  -- it is after some frames, and in front of the others
+  -- it is after some frames, and before the others
   pub written-split : (at : ℕ) (before behind : List Row) (to : ℕ) → EndBy at before tag.at → tag.at ≤ tag.end → tag.end ≤ length file → EndBy tag.end behind to
       → written_from steps (Some tag) file at (before ++ behind) ≡ moved_to steps file at tag.at before ++ (new ++ moved_from steps file tag.end behind)
   written-split at [] behind to ends up within next = written-next at behind to ends up within next

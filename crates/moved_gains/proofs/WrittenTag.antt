@@ -1,4 +1,4 @@
--- What is written from front to back is the changed file: the edited one with the new tag in the place of its tag.
+-- What is written is the changed file: the edited one with the new tag in the place of its tag.
 use Rattle.std.proofs.Common.{◌≡◌, ℕ, ◌+◌, ◌-◌, ◌<◌, ◌≤◌, ltb, Bool, true, false, cond, List, [], ◌∷◌, ◌++◌, length, take, drop, map, Option, Some, None, option_map, Ok, refl, sym, ◌∙◌, ap, ap₂, subst, arith, inl, inr, append_assoc, length-append, length-drop}
 use Rattle.std.specs.Prelude.{◌⊎◌}
 use Rattle.std.specs.List.{find}
@@ -73,7 +73,7 @@ module _ (steps : ℕ → Steps) (s : SurveyFields) where
       at None is = (tag_none m (none_moved is)).1 ∙ sym (tag_none s is).1
       at (Some b) is = (place-some m (moved_block s.first gap b) (some_moved b is)).1 ∙ size_kept s.first gap b ∙ sym (place-some s b is).1
 
-  -- a tag in front of the frames stays where it is
+  -- a tag before the frames stays where it is
   pub at_front : tag_at s < s.first → 0 < tag_length s → tag_at m ≡ tag_at s
   at_front front some = at (tag_block s) refl
     where
@@ -86,7 +86,7 @@ module _ (steps : ℕ → Steps) (s : SurveyFields) where
           ∙ ap (λ c. (cond c b (record b { offset = b.offset - gap })).offset) low
           ∙ sym place
 
-  -- one after the first frame's offset is nearer to the front by the junk
+  -- one after the first frame's offset is nearer to the beginning by the junk
   pub at_behind : (to : ℕ) → s.first ≤ tag_at s → EndBy s.first s.frames to → 0 < length s.frames → tag_at m ≡ tag_at s - gap
   at_behind to low ends some = at (tag_block s) refl
     where

@@ -8,12 +8,12 @@ use Rattle.moved_gains.specs.Course.{steps_over}
 use Rattle.moved_gains.specs.Edited.{edited}
 use Rattle.moved_gains.specs.Streams.{moved_survey}
 
--- by how many steps the gains of the frame at an offset move, and the bytes that are in place of the tag, where it changes: none, where it is taken out
+-- by how many steps the gains of the frame at an offset move, and the bytes of the new tag, if it changes; none take the tag out
 pub record Change : Type 0 where
   pub steps : ℕ → Steps
   pub tag : Option (List ℕ)
 
--- that of the code, of a file with this survey
+-- that of the code, for a file with this survey
 abbrev pub change_in : CodeChange → SurveyFields → Change
 change_in change s = record { steps = steps_over change.course s.frames; tag = option_map (λ tag. tag.items) change.tag }
 

@@ -10,7 +10,7 @@ use Rattle.moved_gains.specs.declared.shift.Steps.{Steps}
 abbrev pub even : Steps → ℕ → Steps
 even steps at = steps
 
--- both channels by as many steps, without wrap
+-- the same steps for both channels, without wrap
 abbrev pub alike : ℤ → Steps
 alike steps = record { left = steps; right = steps; wrap = false }
 
@@ -19,7 +19,7 @@ abbrev pub steps_in : Course → ℕ → Steps
 steps_in (Even steps) frame = steps
 steps_in (Along curve back) frame = alike (steps_back back (steps_at curve frame))
 
--- as many of these frames are before an offset: the number of the one that is there
+-- how many of these frames are before an offset: the number of the one that is there
 abbrev pub number_at : List Row → ℕ → ℕ
 number_at [] at = 0
 number_at (row ∷ rows) at = if nat_lt row.offset at then suc (number_at rows at) else number_at rows at

@@ -23,7 +23,7 @@ moved_frame steps h frame = frame_with h (moved_side steps (side_in h frame)) fr
 abbrev pub moved_unless_lost : Bool → Steps → HeaderFields → List ℕ → List ℕ
 moved_unless_lost lost steps h frame = if lost then frame else moved_frame steps h frame
 
--- the bytes of an item, where a frame that isn't lost has moved gains and all else stays
+-- the bytes of an item: a frame that isn't lost has moved gains, and all else stays
 abbrev pub moved_item : Steps → Bool → Item → List ℕ → List ℕ
 moved_item steps lost (Frame h) bytes = moved_unless_lost lost steps h bytes
 moved_item steps lost Free bytes = bytes
@@ -32,7 +32,7 @@ moved_item steps lost Zero bytes = bytes
 moved_item steps lost End bytes = bytes
 moved_item steps lost Nothing bytes = bytes
 
--- the same of items of a file, one after the other, where a frame at an offset moves by the steps there, and the frames at these offsets are lost
+-- the same of items of a file, one after the other; a frame at an offset moves by the steps there, and the frames at these offsets are lost
 unfoldable pub moved_items : (ℕ → Steps) → (ℕ → Bool) → List ℕ → List Placed → List ℕ
 moved_items steps lost file ps = flat_map (λ (p : Placed). moved_item (steps p.offset) (lost p.offset) p.item (bytes_in file p)) ps
 

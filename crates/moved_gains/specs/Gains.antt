@@ -1,5 +1,5 @@
--- Moved gains (global_gain of ISO/IEC 11172-3, 2.4.2.7, in steps of 1.5 dB). The rules for moving it are this project's: a lost frame and a
--- silent channel of a granule are left alone, and without wrap a sum that would leave the range refuses the whole file.
+-- Moved gains (global_gain of ISO/IEC 11172-3, 2.4.2.7, in steps of 1.5 dB). The rules for moving them are this project's: a lost frame and
+-- a silent granule stay as they are, and without wrap a gain that would leave the range from 0 to 255 refuses the whole file.
 use Rattle.std.specs.Prelude.{ℕ, ◌==◌, ◌&&◌, not, nat_lt, if◌then◌else◌, Bool, true, List, [], ◌∷◌, Option, Some, None, ℤ, pos, negsuc, ◌+ℤ◌, unsigned_abs}
 use Rattle.std.specs.Int.{int_rem_euclid}
 use Rattle.std.specs.Option.{option_or}
@@ -26,11 +26,11 @@ right_steps_of Right steps = steps
 abbrev pub steps_of : Shift → Steps
 steps_of shift = record { left = left_steps_of shift.channels shift.steps; right = right_steps_of shift.channels shift.steps; wrap = shift.wrap }
 
--- silent: no main data, so that the gain is of no account
+-- silent: no main data, so that the gain doesn't matter
 abbrev pub is_silent_granule : Granule → Bool
 is_silent_granule g = g.part2_3_length == 0
 
--- a gain by so many steps; without wrap no sum outside 0 to 255 comes here
+-- a gain moved by so many steps, modulo 256; without wrap no sum outside 0 to 255 comes here
 abbrev pub moved_gain : ℤ → ℕ → ℕ
 moved_gain steps gain = unsigned_abs (int_rem_euclid (pos gain +ℤ steps) (pos 256))
 

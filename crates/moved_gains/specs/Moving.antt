@@ -1,4 +1,4 @@
--- A file that is read once from front to back and written with moved gains and with another tag.
+-- A file that is read once from its beginning to its end and written with moved gains and with another tag.
 use Rattle.std.specs.Prelude.{◌≡◌, ℕ, ◌+◌, ◌&&◌, nat_le, if◌then◌else◌, Option, Some, None, length, List, [], ◌∷◌, ◌++◌, take, drop}
 use Rattle.frame_header.specs.Tables.{class_of, length_of, overhead_of}
 use Rattle.side_info.specs.Frame.{side_in, frame_with}
@@ -11,14 +11,14 @@ use Rattle.moved_gains.specs.declared.shift.Steps.{Steps}
 use Rattle.moved_gains.specs.Gains.{moved_side}
 use Rattle.moved_gains.specs.Change.{Change}
 
--- the length of a frame in bytes, and the offset where it ends
+-- the length of a frame in bytes, and the offset at which it ends
 abbrev pub row_length : Row → ℕ
 row_length row = length_of (class_of row.header) row.header.slot
 
 abbrev pub row_end : Row → ℕ
 row_end row = row.offset + row_length row
 
--- the bytes before its main data: header, check word and side information
+-- how many bytes are before its area: header, check word and side information
 abbrev pub row_overhead : Row → ℕ
 row_overhead row = overhead_of (class_of row.header) row.header.protected
 
@@ -45,14 +45,14 @@ moved_row_bytes steps file row = moved_bytes steps row (row_bytes file row)
 abbrev pub bytes_around : NewTag → ℕ → ℕ → List ℕ → List ℕ
 bytes_around tag from to file = bytes_between file from tag.at ++ (tag.bytes.now ++ bytes_between file tag.end to)
 
--- the bytes from one offset to another, with the new tag where what it replaces is among them
+-- the bytes from one offset to another, with the new tag if what it replaces is among them
 abbrev pub copied : Option NewTag → List ℕ → ℕ → ℕ → List ℕ
 copied None file from to = bytes_between file from to
 copied (Some tag) file from to =
     if nat_le from tag.at && (nat_le tag.at tag.end && nat_le tag.end to) then bytes_around tag from to file else bytes_between file from to
 
--- The bytes of the file from an offset on, with the gains of these frames moved, each by the steps at its offset, which are after it in their order, and with the new tag,
--- where what it replaces is between them.
+-- The bytes of the file from an offset on, with the gains of these frames moved, which are after it in their order, each by the steps at
+-- its offset; and with the new tag, if what it replaces is between them.
 unfoldable pub written_from : (ℕ → Steps) → Option NewTag → List ℕ → ℕ → List Row → List ℕ
 written_from steps tag file at [] = copied tag file at (length file)
 written_from steps tag file at (row ∷ rows) =

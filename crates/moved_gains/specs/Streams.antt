@@ -16,15 +16,15 @@ use Rattle.moved_gains.specs.Gains.{moved_side, moved_unless}
 abbrev pub junk_length : SurveyFields → ℕ
 junk_length s = s.first - s.junk
 
--- a frame that isn't lost has its gains moved by the steps at its offset, and each stands so many bytes nearer to the front of the file
+-- a frame that isn't lost has its gains moved by the steps at its offset, and each is so many bytes nearer to the beginning of the file
 abbrev pub moved_row : (ℕ → Steps) → ℕ → Row → Row
 moved_row steps gap row = record row { offset = row.offset - gap; side = moved_unless row.lost (steps row.offset) row.side }
 
--- a head stands so many bytes nearer to the front, and stays
+-- a head is so many bytes nearer to the beginning, and stays as it is
 abbrev pub moved_head : ℕ → Head → Head
 moved_head gap head = record head { offset = head.offset - gap }
 
--- a block before the first frame stays where it is, and one after it stands so many bytes nearer to the front
+-- a block before the first frame stays where it is, and one after it is so many bytes nearer to the beginning
 abbrev pub moved_block : ℕ → ℕ → Piece → Piece
 moved_block first gap piece = if nat_lt piece.offset first then piece else record piece { offset = piece.offset - gap }
 

@@ -8,6 +8,6 @@ use crate::course::Course;
 pub struct Change {
     /// By how many steps the gains of each frame move.
     pub course: Course,
-    /// The bytes that are in place of the tag, where it changes: none, where it is taken out.
+    /// The bytes of the new tag, if it changes; none take the tag out.
     pub tag: Option<Vec<u8>>,
 }

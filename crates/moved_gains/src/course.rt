@@ -5,7 +5,7 @@ ghost use Rattle.moved_gains.specs.Course.{alike as alike_lem, steps_in};
 use crate::shift::Steps;
 use fade_plan::Curve;
 
-/// Both channels by as many steps, without wrap.
+/// The same steps for both channels, without wrap.
 fn alike(steps: i16) -> Steps
     ensures { result ≡ alike_lem steps }
 {
@@ -19,16 +19,16 @@ fn alike(steps: i16) -> Steps
 /// By how many steps of 1.5 dB the gains of each frame of a file move.
 #[derive(Drop)]
 pub enum Course {
-    /// Those of every frame by the same.
+    /// Every frame by the same steps.
     Even(Steps),
-    /// Those of a frame by the steps of the curve there, both channels alike and without wrap; with `true` by as many
-    /// steps the other way.
+    /// Each frame by the steps that the curve has for it, both channels alike and without wrap. With `true`
+    /// the steps have the opposite sign.
     Along(Curve, bool),
 }
 
 impl Course {
-    /// The steps of a frame, counted from 0, whatever `near` is: 0 at first, it is for a curve that is asked for frames one
-    /// after another (`Curve::steps_near`). Takes no memory.
+    /// The steps of a frame, counted from 0. `near` doesn't change them: it is 0 at first, and makes a
+    /// curve faster that is asked for frames one after another (`Curve::steps_near`). It takes no memory.
     #[inline]
     pub fn steps(&self, frame: u32, near: &mut usize) -> Steps
         ensures { result ≡ steps_in self.now frame }

@@ -5,7 +5,8 @@ ghost use Rattle.moved_gains.specs.Gains.{is_silent_granule, is_outside, moved a
 use crate::shift::Steps;
 use side_info::{Granule, Side};
 
-/// A gain that would leave the range from 0 to 255: its granule, its channel, and the gain that stands.
+/// A gain that would leave the range from 0 to 255: its granule and its channel, counted from 0, and the
+/// gain.
 #[derive(Clone, Copy, Debug, PartialEq, Eq)]
 pub struct Stuck {
     pub granule: u8,
@@ -13,14 +14,14 @@ pub struct Stuck {
     pub gain: u8,
 }
 
-/// The gain by so many steps, which may leave the range.
+/// The gain and so many steps, which may leave the range from 0 to 255.
 fn sum(steps: i16, gain: u8) -> i32
     ensures { result ≡ pos gain +ℤ steps }
 {
     i32::from(gain) + i32::from(steps)
 }
 
-/// A silent granule stays; any other gets its gain moved, modulo 256.
+/// The granule with its gain moved modulo 256; a silent one stays.
 fn moved(steps: i16, granule: Granule) -> Granule
     ensures { result ≡ moved_lem steps granule }
 {
@@ -73,7 +74,8 @@ fn stuck_at(steps: i16, side: &Side, granule: u8, channel: u8) -> Option<Stuck>
 }
 
 #[tactic(auto, unfolding(crate::specs::Gains::stuck_in))]
-/// The first gain that would leave the range, in order of granules and channels; none with wrap.
+/// The first gain that would leave the range from 0 to 255, in order of granules and channels; `None` with
+/// wrap.
 pub fn stuck_in(steps: &Steps, side: &Side) -> Option<Stuck>
     ensures { result ≡ stuck_in_lem steps.now side.now }
 {

@@ -1,6 +1,7 @@
-//! Gains that are moved by steps of 1.5 dB: those of a frame, and those of a whole file, which is read once from front to
-//! back and written with them, each frame by its own steps, and with another tag where that changes. What is written is a well-formed file with the same
-//! stream except the gains.
+//! Gains that are moved by steps of 1.5 dB: those of a frame, and those of a whole file, which is read once
+//! from its beginning to its end and written with moved gains, each frame by its own steps, and with
+//! another tag if that changes. What is written is a well-formed file with the same stream except the
+//! gains.
 #![tactic(auto)]
 
 mod buffers;

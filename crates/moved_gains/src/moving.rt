@@ -1,5 +1,5 @@
-//! The second pass over an input: it is read from front to back, and written with the gains of its frames moved,
-//! except lost ones, and with another tag where that changes.
+//! The second pass over an input: it is read from its beginning to its end, and written with the gains of
+//! its frames moved, except those of lost ones, and with another tag if that changes.
 ghost use Rattle.std.specs.Prelude.{◌≡◌, ◌≢◌, ◌+◌, ◌<◌, ◌≤◌, ◌^◌, ◌++◌, List, ℕ, [], length, take, drop, IfOk, IfErr, OnOk, OnErr, Ok};
 ghost use Rattle.frame_header.specs.Fields.{HeaderFields};
 ghost use Rattle.frame_header.specs.Tables.{class_of, length_of, overhead_of};
@@ -25,7 +25,8 @@ use outside::{Folder, Pass, PassFault, WriteBuffer};
 use side_info::put_gains;
 use sync_survey::{Row, Survey};
 
-/// As many bytes as are before the main data of a frame, at most: header, check word and side information.
+/// The greatest length of what is before the area of a frame, in bytes: header, check word and side
+/// information.
 const MOST_OVERHEAD: usize = 38;
 
 /// The length of a frame in bytes.
@@ -37,8 +38,8 @@ fn frame_length(header: &Header) -> u32
     header.class().length_of(header.slot)
 }
 
-/// Moves the gains in the bytes of a frame that are before its main data, and in a protected frame puts
-/// the check word that is right for them. A lost frame stays.
+/// Moves the gains in the front of a frame, and makes the check word of a protected frame right for them. A
+/// lost frame stays.
 #[inline(always)]
 fn move_front(steps: &Steps, row: &Row, front: &mut [u8])
     requires { row_overhead row.now ≤ length front.old }
@@ -51,7 +52,7 @@ fn move_front(steps: &Steps, row: &Row, front: &mut [u8])
     put_gains(&row.header, &moved_side(steps, &row.side), front);
 }
 
-/// The bytes of a new tag, and from where to where in the input stands what they replace.
+/// The bytes of a new tag, and the offsets in the input at which what they replace begins and ends.
 #[derive(Clone, Copy)]
 struct NewTag<'a> {
     at: u64,
@@ -71,12 +72,15 @@ struct MovedRow<'a> {
 struct GainPass<'a> {
     pass: Pass<'a>,
     course: &'a Course,
-    /// The new tag, where that changes.
+    /// The new tag, if that changes.
     tag: Option<NewTag<'a>>,
 }
 
 impl<'a> GainPass<'a> {
-    /// Copies the bytes from one offset to another, with the new tag where what it replaces is among them.
+    /// Copies the bytes from one offset up to another, with the new tag if what it replaces is among them.
+    ///
+    /// # Errors
+    /// `Read` or `Shrunk` where the input can't be read, `Write` where a write failed.
     #[inline]
     fn copy<D: Folder>(
         &self,
@@ -110,7 +114,10 @@ impl<'a> GainPass<'a> {
         }
     }
 
-    /// Copies the bytes from one offset to another with a new tag between them.
+    /// Copies the bytes from one offset up to another, with a new tag between them.
+    ///
+    /// # Errors
+    /// `Read` or `Shrunk` where the input can't be read, `Write` where a write failed.
     #[inline(never)]
     fn copy_around<D: Folder>(
         &self,
@@ -140,8 +147,11 @@ impl<'a> GainPass<'a> {
         self.pass.copy(folder, tag.end, to, feed, waiting)
     }
 
-    /// Adds a frame to what waits for the output, with its gains moved, where it isn't lost. All that changes is
-    /// in the first `size` of its bytes.
+    /// Adds a frame to what waits for the output, with its gains moved if it isn't lost. All that changes
+    /// is in the first `size` of its bytes.
+    ///
+    /// # Errors
+    /// `Write` where a write failed.
     #[inline(always)]
     fn push_moved<D: Folder>(
         &self,
@@ -174,7 +184,10 @@ impl<'a> GainPass<'a> {
         self.pass.push_both(folder, front, &frame[size..], waiting)
     }
 
-    /// Adds a frame to what waits for the output, with its gains moved, where it isn't lost.
+    /// Adds a frame to what waits for the output, with its gains moved if it isn't lost.
+    ///
+    /// # Errors
+    /// `Write` where a write failed.
     #[inline]
     fn push_frame<D: Folder>(
         &self,
@@ -197,7 +210,7 @@ impl<'a> GainPass<'a> {
         ensures cause { IfErr result (HasPassCause self.now.pass.length (D.files folder.old)
             (D.counts folder.old) (D.counts folder.new)) }
     {
-        // Bytes are copied fastest where their number is known.
+        // Copying is fastest if the number of bytes is a constant.
         if frame.len() >= MOST_OVERHEAD {
             self.push_moved(folder, moved, frame, MOST_OVERHEAD, waiting)
         } else {
@@ -205,7 +218,10 @@ impl<'a> GainPass<'a> {
         }
     }
 
-    /// Copies a frame and moves its gains, where it isn't lost. The answer is the offset where it ends.
+    /// Copies a frame with its gains moved if it isn't lost, and answers the offset at which it ends.
+    ///
+    /// # Errors
+    /// `Read` or `Shrunk` where the input can't be read, `Write` where a write failed.
     #[inline]
     fn move_frame<D: Folder>(
         &self,
@@ -238,7 +254,10 @@ impl<'a> GainPass<'a> {
         Ok(at + u64::from(length))
     }
 
-    /// Copies what is from an offset on, and moves the gains of these frames.
+    /// Copies what is from the offset `from` on, with the gains of these frames moved.
+    ///
+    /// # Errors
+    /// `Read` or `Shrunk` where the input can't be read, `Write` where a write failed.
     #[inline(never)]
     fn move_frames<D: Folder>(
         &self,
@@ -274,7 +293,7 @@ impl<'a> GainPass<'a> {
     }
 }
 
-/// The new tag of a change, in place of the input's, where it changes.
+/// The new tag of a change, in place of the input's, if it changes.
 fn new_tag<'a>(survey: &Survey, change: &'a Change) -> Option<NewTag<'a>>
     requires { IsLaidOut (tells survey.now) }
     ensures { IsNewTag (tells survey.now) (change_in change.now (tells survey.now)) result }
@@ -288,13 +307,13 @@ fn new_tag<'a>(survey: &Survey, change: &'a Change) -> Option<NewTag<'a>>
     })
 }
 
-/// Appends the input to the output, with its gains moved, but those of lost frames, with the new tag where that changes,
-/// and without its junk. It takes no memory.
+/// Appends the input to the output, with its gains moved, except those of lost frames, with the new tag if
+/// that changes, and without its junk. It takes no memory.
 ///
 /// # Errors
-/// `Read` where a read failed; `Shrunk`, the length that the input was found with and the one that it had
-/// when it was read, where a read gave no byte before that length; `Write` where a write failed. Then a
-/// prefix of the bytes, none to all of them, was appended.
+/// `Read` where a read failed; `Shrunk`, the length with which the input was found and the one at which it
+/// ended when it was read, where a read gave no byte before that length; `Write` where a write failed. Then
+/// a prefix of the bytes, none to all of them, was appended.
 pub fn write_changed<D: Folder>(
     folder: &mut D,
     input: &str,

@@ -1,8 +1,8 @@
-//! How loudness is to change.
+//! How the volume is to change.
 ghost use Rattle.std.specs.Prelude.{◌≡◌};
 ghost use Rattle.moved_gains.specs.Gains.{left_steps_of, right_steps_of, steps_of};
 
-/// The channels whose loudness changes.
+/// The channels whose volume changes.
 #[derive(Clone, Copy, Debug, PartialEq, Eq)]
 pub enum Channels {
     /// Every channel there is.
@@ -13,15 +13,15 @@ pub enum Channels {
     Right,
 }
 
-/// A change of loudness.
+/// A change of volume.
 #[derive(Clone, Copy, Debug, PartialEq, Eq)]
 pub struct Shift {
     /// The channels that change.
     pub channels: Channels,
-    /// Steps of 1.5 dB: louder above 0, quieter below. The words give -255 to 255.
+    /// Steps of 1.5 dB, from -255 to 255 on the command line: positive is louder, negative quieter.
     pub steps: i16,
-    /// Whether a gain that leaves the range from 0 to 255 comes in again at its other end.
-    /// Without it such a gain is refused.
+    /// Whether gains wrap around modulo 256. Without it, a gain that would leave the range from 0 to 255 is
+    /// refused.
     pub wrap: bool,
 }
 
@@ -32,7 +32,7 @@ pub struct Steps {
     pub left: i16,
     /// Those of channel 1.
     pub right: i16,
-    /// Whether a gain that leaves the range from 0 to 255 comes in again at its other end.
+    /// Whether gains wrap around modulo 256 where they would leave the range from 0 to 255.
     pub wrap: bool,
 }
 

@@ -1,4 +1,4 @@
--- Without a head no field is there.
+-- Without a head there is no field.
 use Rattle.std.proofs.Common.{sym, ◌∙◌, ap}
 use Rattle.laying.proofs.KeptLaws.{quality-none, extension-none}
 use Rattle.laying.specs.declared.info.Kept.{Kept}

@@ -1,4 +1,4 @@
--- Where the first isn't the first of all, nothing is read.
+-- Nothing is read, unless the first is the first frame of all.
 use Rattle.sync_survey.specs.Faults.{tells}
 use Rattle.laying.proofs.ReadLaws.{last-none}
 use Rattle.laying.proofs.relay.Relay.begin_at.Goals as goal

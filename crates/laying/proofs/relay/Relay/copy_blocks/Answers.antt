@@ -1,4 +1,4 @@
--- One block more goes on, where it is chosen.
+-- One block more is copied, if it is chosen.
 use Rattle.std.proofs.Common.{◌≡◌, ℕ, ◌+◌, ◌≤◌, length, List, ◌∷◌, [], ◌++◌, drop, refl, sym, ◌∙◌, ap, subst, arith}
 use Rattle.std.proofs.lemmas.Result.{err_from_is_err_and}
 use Rattle.std.proofs.lemmas.List.{drop_all}
@@ -14,7 +14,7 @@ use Rattle.laying.proofs.relay.Relay.copy_blocks.Given as given
 use Rattle.laying.proofs.relay.Relay.copy_blocks.Goals as goal
 use Rattle.laying.proofs.relay.Relay.copy_blocks.Goals.{After-copy_chosen}
 
--- what is where there is no block
+-- what a list without blocks gives
 abbrev no_block : Piece
 no_block = record { offset = 0; block = record { kind = Id3v2; length = 0 } }
 

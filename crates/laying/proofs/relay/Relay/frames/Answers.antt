@@ -198,7 +198,7 @@ returns-clause-reach g c =
     let needs = map need_of (slice_range s.frames i c.args.to) in
     sym (ap (last_reach window reach needs) none ∙ fits-none window reach needs) ∙ inv.reach
 
--- where there is a place, there is a frame
+-- if there is a place, there is a frame
 bounded : (g : given.Over) (c : After-place-item g) → c.loop-place.i < length c.frames-rows.result.now
 bounded g c =
     let s = tells c.args.self.now.survey.now in

@@ -1,4 +1,4 @@
--- Before the first frame stands the area of the head.
+-- Before the first frame there is only the area of the head.
 use Rattle.std.proofs.Common.{◌≡◌, ◌+◌, [], length, take, drop, sym, ◌∙◌, ap, ap₂, subst, arith}
 use Rattle.std.proofs.lemmas.List.{drop-drop}
 use Rattle.frame_header.specs.Tables.{class_of, overhead_of}

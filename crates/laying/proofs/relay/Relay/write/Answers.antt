@@ -1,4 +1,4 @@
--- What is in front and the frames, what is after, and then what waits of them.
+-- What is before the frames and the frames, then what is after them, and then what of these still waits.
 use Rattle.std.proofs.Common.{◌≡◌, ◌++◌, List, ℕ, [], sym, ◌∙◌, append_assoc, append-nil}
 use Rattle.std.specs.List.{concat}
 use Rattle.std.proofs.lemmas.Result.{on_ok_weaker, on_err_weaker, err_from_is_err_and}

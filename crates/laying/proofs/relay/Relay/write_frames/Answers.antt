@@ -1,4 +1,4 @@
--- What is in front, and the frames after it.
+-- What is before the frames, and the frames after it.
 use Rattle.std.proofs.Common.{refl}
 use Rattle.std.proofs.lemmas.Result.{on_ok_weaker, on_err_weaker}
 use Rattle.outside.proofs.PassedLaws.{on_err}

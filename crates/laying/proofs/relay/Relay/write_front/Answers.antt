@@ -1,4 +1,4 @@
--- The blocks in front, and the bytes of the Info frame.
+-- The blocks before the frames, and the bytes of the Info frame.
 use Rattle.std.proofs.Common.{◌++◌, true, refl}
 use Rattle.std.proofs.lemmas.Result.{on_ok_weaker, on_err_weaker}
 use Rattle.outside.proofs.PassedLaws.{on_err}
