@@ -21,7 +21,7 @@ use Rattle.drill_stream.specs.Laws.{drill_needs, StreamsNeedNoLeadIn}
 use Rattle.drill_stream.proofs.MakingLaws.{area-is, length-payload, payload-within, before-ended}
 use Rattle.drill_stream.proofs.DrillLaws.{from_on, bytes-is, ended-next, first-begin}
 
--- the needs of the frames from one on, wherever they stand
+-- the needs of the frames from one on, wherever they are
 abbrev needs_on : ℕ → ℕ → ℕ → ℕ → List Need
 needs_on seed at i count = map need_of (rows_from at (from_on seed i count))
 

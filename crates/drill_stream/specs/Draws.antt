@@ -5,7 +5,7 @@ use Rattle.std.specs.Prelude.{ℕ, zero, suc, ◌+◌, ◌*◌, ◌/◌, ◌%◌
 abbrev pub next_state : ℕ → ℕ
 next_state state = (state * 1103515245 + 12345) % 2147483648
 
--- the number that was drawn where this state is reached: its bits but the lowest 16, from 0 to 32,767
+-- the number that was drawn when this state was reached: its bits except the lowest 16, from 0 to 32,767
 abbrev pub drawn : ℕ → ℕ
 drawn state = state / 65536
 
@@ -14,7 +14,7 @@ unfoldable pub state_behind : ℕ → ℕ → ℕ
 state_behind zero state = state
 state_behind (suc count) state = state_behind count (next_state state)
 
--- so many draws from a state on, the first of them first
+-- so many draws from a state on, in their order
 unfoldable pub draws : ℕ → ℕ → List ℕ
 draws zero state = []
 draws (suc count) state = drawn (next_state state) ∷ draws count (next_state state)

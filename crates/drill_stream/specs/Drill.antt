@@ -1,5 +1,5 @@
--- A stream made from a number: frames whose main data are drawn by chance and use the bit reservoir (main_data_begin, ISO/IEC 11172-3,
--- 2.4.2.7). All are of MPEG-1, 128 kbit/s at 44,100 Hz in two channels, so 417 bytes long with an own area of 381.
+-- A stream that is made from a number: frames whose main data are drawn from it and use the bit reservoir (main_data_begin, ISO/IEC
+-- 11172-3, 2.4.2.7). All are of MPEG-1, 128 kbit/s at 44,100 Hz in two channels, so 417 bytes long with an own area of 381.
 use Rattle.std.specs.Prelude.{ℕ, zero, suc, ◌+◌, ◌-◌, ◌*◌, ◌/◌, ◌%◌, max, false, List, [], ◌∷◌, ◌++◌, length, take, map, slice_index}
 use Rattle.std.specs.List.{range_with_len}
 use Rattle.bit_fields.specs.Bits.{bits, bytes}
@@ -15,7 +15,7 @@ use Rattle.drill_stream.specs.Draws.{state_behind, draws}
 
 -- ---- one frame
 
--- ff fb 90 00
+-- the four bytes ff fb 90 00 (hexadecimal)
 abbrev pub drill_header : HeaderFields
 drill_header = record {
   version = One;
@@ -30,11 +30,11 @@ drill_header = record {
   emphasis = 0;
 }
 
--- the bytes that there are for the main data of a frame: those of its own area, and those before it that its main_data_begin counts
+-- how many bytes there are for the main data of a frame: those of its own area, and those before it that its main_data_begin counts
 abbrev pub room_of : ℕ → ℕ
 room_of begin = 381 + begin
 
--- the part2_3_length of each granule and channel, up to twice the bytes of room: together they are as many bits as the room at most
+-- the part2_3_length of each granule and channel, at most twice the bytes of room: together they are at most as many bits as the room has
 abbrev pub drawn_lengths : ℕ → ℕ → List ℕ
 drawn_lengths begin state = map (λ draw. draw % (2 * room_of begin + 1)) (draws 4 state)
 
@@ -60,11 +60,11 @@ side_with begin lengths gains = record no_side { main_data_begin = begin; granul
 unfoldable pub drawn_side : ℕ → ℕ → Side
 drawn_side begin state = side_with begin (drawn_lengths begin state) (drawn_gains state)
 
--- so many draws as bytes, each from 00 to 3f
+-- so many draws as bytes, each from 00 to 3f (hexadecimal)
 abbrev pub drawn_bytes : ℕ → ℕ → List ℕ
 drawn_bytes count state = map (λ draw. draw % 64) (draws count state)
 
--- the first so many bits of bytes, and 0 after them to the end of the last byte
+-- the first bits of bytes, so many, and zeros after them to the end of the last byte
 abbrev pub first_bits : ℕ → List ℕ → List ℕ
 first_bits count octets = bytes (take count (bits octets) ++ zeros (8 * length octets - count))
 
@@ -72,7 +72,7 @@ first_bits count octets = bytes (take count (bits octets) ++ zeros (8 * length o
 unfoldable pub drawn_payload : ℕ → ℕ → List ℕ
 drawn_payload bit_count state = first_bits bit_count (drawn_bytes ((bit_count + 7) / 8) state)
 
--- the bits of the main data
+-- the length of the main data in bits
 abbrev pub drawn_bits : ℕ → ℕ → ℕ
 drawn_bits begin state = payload_bits (drawn_side begin state)
 
@@ -83,13 +83,13 @@ drawn_frame begin state = record {
   payload = drawn_payload (drawn_bits begin state) (state_behind 8 state);
 }
 
--- the draws that it takes
+-- how many draws it takes
 abbrev pub draws_of : ℕ → ℕ → ℕ
 draws_of begin state = 8 + (drawn_bits begin state + 7) / 8
 
 -- ---- all frames
 
--- what is known before a frame: the state of the draws, and the place among the bytes of all areas where the main data before it end
+-- what is known before a frame: the state of the draws, and the place among the bytes of all areas at which the main data before it end
 pub record Before : Type 0 where
   pub state : ℕ
   pub ended : ℕ
@@ -128,6 +128,6 @@ frame_at seed i = frame_behind i (before_frame seed i)
 unfoldable pub drill_frames : ℕ → ℕ → List Frame
 drill_frames seed count = map (frame_at seed) (range_with_len 0 count)
 
--- their bytes: the main data of each where its main_data_begin says, and 0 in the areas everywhere else
+-- their bytes: the main data of each where its main_data_begin says, and zeros in the areas everywhere else
 unfoldable pub drill_stream : ℕ → ℕ → List ℕ
 drill_stream seed count = frame_bytes (drill_frames seed count)

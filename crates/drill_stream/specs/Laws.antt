@@ -44,8 +44,8 @@ FirstBeginsInItsArea = (seed : ℕ) → (frame_at seed 0).kept.side.main_data_be
 abbrev pub drill_needs : ℕ → ℕ → List Need
 drill_needs seed count = map need_of (rows_from 0 (drill_frames seed count))
 
--- Where each frame may keep its own slot, the frames have a layout without a lead-in, so that no plan of them has one: neither where each
--- keeps its slot nor where each may have any.
+-- If each frame may keep its own slot, the frames have a layout without a lead-in, so no plan of them has one: neither if each keeps its
+-- slot nor if each may have any.
 abbrev pub StreamsNeedNoLeadIn : Type 0
 StreamsNeedNoLeadIn =
     (seed count : ℕ) (choices : HeaderFields → List SlotFields) (placed : List Placed) → Contains (choices drill_header) drill_header.slot

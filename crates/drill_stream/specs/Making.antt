@@ -26,7 +26,7 @@ pub record IsBefore (seed i : ℕ) (m : Making) : Type 0 where
   pub state : m.draws.state ≡ (before_frame seed i).state
   pub reach : reach_of m.writer ≡ data_begin i (before_frame seed i)
 
--- After what stood in the file the bytes of these frames were appended, as far as they don't wait.
+-- The bytes of these frames were appended to the file, except those that wait.
 pub record HasMade (name : List ℕ) (w : Writing) (frames : List Frame) (before after : Files) : Type 0 where
   pub passed : List ℕ
   pub files : after ≡ appended before name passed

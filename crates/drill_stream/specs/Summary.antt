@@ -1,4 +1,4 @@
--- What is told of a stream that was made and packed.
+-- What is said of a stream that was made and packed.
 use Rattle.std.specs.Prelude.{ℕ, List, ◌++◌, codes, decimal}
 use Rattle.drill_stream.specs.declared.summary.Summary.{Summary}
 

@@ -1,4 +1,4 @@
-//! Numbers drawn by chance from a seed.
+//! Numbers that are drawn from a seed.
 ghost use Rattle.std.specs.Prelude.{◌≡◌, ◌<◌, ◌^◌, length, map};
 ghost use Rattle.drill_stream.specs.Draws.{next_state, drawn, state_behind, draws};
 ghost use Rattle.drill_stream.specs.Drill.{drawn_bytes};
@@ -20,7 +20,7 @@ impl Draws {
         (self.state / 65_536) as u16
     }
 
-    /// Four numbers, the first of them first.
+    /// Four numbers, in the order of the draws.
     #[tactic(auto, unfolding(crate::specs::Draws::state_behind, crate::specs::Draws::draws))]
     pub(crate) fn four(&mut self) -> [u16; 4]
         ensures draws { result ≡ draws 4 self.old.state }
@@ -32,7 +32,7 @@ impl Draws {
         [first, second, third, self.draw()]
     }
 
-    /// Writes over each byte a number from 00 to 3f, one draw for each.
+    /// Draws a number from 00 to 3f (hexadecimal) for each byte and writes it there.
     pub(crate) fn fill(&mut self, bytes: &mut [u8])
         ensures bytes { bytes.new ≡ drawn_bytes (length bytes.old) self.old.state }
         ensures state { self.new.state ≡ state_behind (length bytes.old) self.old.state }

@@ -7,14 +7,16 @@ use crate::stream::write_stream;
 use in_memory::MemFolder;
 use std::alloc::{AllocError, Global};
 
-/// The bytes of a frame of the stream.
+/// The length of a frame of the stream in bytes.
 const FRAME: u64 = 417;
 
-/// The most bytes of a frame that is written: one of 320 kbit/s at 32,000 Hz, or of 160 kbit/s at 8,000 Hz, padded.
+/// The greatest length of a frame that is written, in bytes: one of 320 kbit/s at 32,000 Hz, or of 160
+/// kbit/s at 8,000 Hz, padded.
 const LONGEST: u64 = 1441;
 
-/// A folder in memory that holds the stream of this number, of so many frames, under the one name, and that has under the
-/// other room for as many frames, an Info frame and a lead-in, each as long as a frame can be.
+/// A folder in memory that holds the stream of `count` frames that the number `seed` gives under the one
+/// name, and that has room under the other for as many frames, an Info frame and a lead-in, each as long as
+/// a frame can be.
 ///
 /// # Errors
 /// Where there is no memory.

@@ -8,10 +8,11 @@ use frame_header::{Header, Slot, Version};
 use reservoir::{Payload, Window};
 use side_info::{Granule, Side};
 
-/// The bytes of a frame that hold main data.
+/// The length of a frame's area in bytes.
 const AREA: u16 = 381;
 
-/// The most bytes of main data: the own area, and as many before it as main_data_begin can count.
+/// The greatest length of a frame's main data in bytes: its own area, and as many bytes before it as
+/// main_data_begin can count.
 const ROOM: usize = 892;
 
 /// The header of each frame: MPEG-1, 128 kbit/s at 44,100 Hz in two channels, without a check word. The frame has 417
@@ -36,7 +37,7 @@ pub(crate) fn drill_header() -> Header
     }
 }
 
-/// A granule's channel with so many bits of main data and this global_gain; its other fields are 0.
+/// A granule and channel with so many bits of main data and this global_gain; its other fields are 0.
 fn granule(bits: u16, gain: u8) -> Granule
     ensures { result ≡ granule_with bits gain }
 {
@@ -53,9 +54,9 @@ fn granule(bits: u16, gain: u8) -> Granule
     }
 }
 
-/// The granules of a frame whose main data begin `begin` bytes before its own area, by a draw for the length and one for the
-/// gain of each granule and channel. Each has at most twice as many bits as there are bytes for the main data, so that all
-/// four fit, and a gain from 100 to 199.
+/// The granules of a frame whose main data begin `begin` bytes before its own area, by a draw for the
+/// length and one for the gain of each granule and channel. Each has at most twice as many bits as there
+/// are bytes for the main data, so that all four fit, and a gain from 100 to 199.
 fn granules(begin: u16, lengths: &[u16; 4], gains: &[u16; 4]) -> [[Granule; 2]; 2]
     requires few { begin ≤ 511 }
     requires four { (length lengths.now ≡ 4) × (length gains.now ≡ 4) }
@@ -82,8 +83,8 @@ pub(crate) fn draw_side(draws: &mut Draws, begin: u16) -> Side
     side
 }
 
-/// These bytes as main data of so many bits, at most 7,136, as many as they are for: the unused low bits of the last byte
-/// are 0. They are in the window, in place of what it held.
+/// These bytes as main data of `bits` bits, at most 7,136, for which they are as many as needed; the unused
+/// low bits of the last byte are 0. They are in the window, in place of what it held.
 fn pack<'w>(bytes: &[u8], bits: u32, window: &'w mut Window) -> Payload<'w>
     requires few { bits ≤ 7136 }
     requires size { length bytes.now ≡ (bits + 7) / 8 }
@@ -95,7 +96,8 @@ fn pack<'w>(bytes: &[u8], bits: u32, window: &'w mut Window) -> Payload<'w>
     window.payload(bytes.len() as u32, 0, bits)
 }
 
-/// Draws the main data of a frame, so many bits, at most 7,136, in as few bytes as hold them, each at most 3f.
+/// Draws the main data of a frame: `bits` bits, at most 7,136, in as few bytes as hold them, each at most
+/// 3f (hexadecimal).
 #[tactic(auto, unfolding(crate::specs::Drill::drawn_payload))]
 pub(crate) fn draw_payload<'w>(draws: &mut Draws, bits: u32, window: &'w mut Window) -> Payload<'w>
     requires few { bits ≤ 7136 }

@@ -1,6 +1,7 @@
-//! Streams made from a number, as long as is asked: a large input that needs no file. Each frame's main data are drawn by
-//! chance and use the bit reservoir; the same number gives the same bytes. A frame is written as soon as no later main data
-//! can reach it, so that memory doesn't grow with the stream.
+//! Streams that are made from a number, as long as is asked: a large input that needs no file. Each frame's
+//! main data are drawn from the number and use the bit reservoir; the same number gives the same bytes. A
+//! frame is written as soon as no later main data can reach it, so that memory doesn't grow with the
+//! stream.
 #![tactic(auto)]
 
 mod draws;

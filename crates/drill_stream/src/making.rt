@@ -17,8 +17,8 @@ use outside::{Failed, Folder, WriteBuffer};
 use reservoir::Window;
 use std::alloc::{AllocError, Global};
 
-/// A stream on its way to a file: the draws, the main data of one frame, the frames that wait, and the bytes in front of
-/// the file.
+/// A stream on its way to a file: the draws, the main data of one frame, the frames that wait, and the
+/// bytes that wait for the file.
 #[derive(Drop)]
 pub(crate) struct Making {
     pub(crate) draws: Draws,
@@ -28,7 +28,7 @@ pub(crate) struct Making {
 }
 
 impl Making {
-    /// No frame of the stream of this number was drawn. It takes all its memory here.
+    /// No frame of the stream of this number was drawn yet. It takes all its memory here.
     ///
     /// # Errors
     /// Where there is no memory.
@@ -76,7 +76,7 @@ impl Making {
         self.writer.frame(&frame, folder, name, &mut self.unsent)
     }
 
-    /// Draws so many frames and gives them to the writer.
+    /// Draws `count` frames and gives them to the writer.
     ///
     /// # Errors
     /// Where a write failed. Then a prefix of the stream of these frames was appended.
@@ -98,7 +98,7 @@ impl Making {
         Ok(())
     }
 
-    /// Appends the stream of so many frames.
+    /// Appends the stream of `count` frames.
     ///
     /// # Errors
     /// Where a write failed. Then a prefix of it was appended.

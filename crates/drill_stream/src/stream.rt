@@ -11,8 +11,8 @@ use crate::making::Making;
 use outside::Folder;
 use std::alloc::Global;
 
-/// Makes the name hold the stream of this number, of so many frames of 417 bytes. All memory is taken before the file is
-/// created, and doesn't grow with the stream.
+/// Makes the name hold the stream of `count` frames that the number `seed` gives, 417 bytes for each. All
+/// memory is taken before the file is created, and doesn't grow with the stream.
 ///
 /// # Errors
 /// `Memory` where there is no memory; then the files stay. `Write` where `create` or a write failed; then they stay, or the

@@ -9,7 +9,7 @@ use arrayvec::ArrayVec;
 use itoa::Buffer;
 use outside::{Failed, Sink, send_all};
 
-/// As many bytes as the line may have: four numbers of 20 digits, and the words between them.
+/// The greatest length of the line in bytes: four numbers of 20 digits, and the words between them.
 const ROOM: usize = 128;
 
 /// A stream and the file that it was packed into.
@@ -21,7 +21,7 @@ pub struct Summary {
     pub bytes_in: u64,
     /// The length of the packed file in bytes.
     pub bytes_out: u64,
-    /// The empty frames in the packed file that are in front of others to make room for their main data.
+    /// The silent frames of the packed file that are before others to make room for their main data.
     pub lead_ins: u64,
 }
 

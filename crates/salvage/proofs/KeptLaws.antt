@@ -1,4 +1,4 @@
--- The frames that are kept stand well among those of all runs.
+-- The main data of the frames that are kept are where they may be among those of all runs.
 use Rattle.std.proofs.Common.{◌≡◌, ℕ, zero, suc, ◌+◌, ◌-◌, ◌≤◌, ◌&&◌, ◌||◌, Bool, true, false, cond, not, List, [], ◌∷◌, ◌++◌, length, length-append, Option, Some, inl, inr, refl, sym, ◌∙◌, ap, ap₂, subst, arith}
 use Rattle.std.specs.Prelude.{slice_get}
 use Rattle.std.proofs.lemmas.Bool.{ltb-false, le-ltb, cases_lt}
@@ -87,7 +87,7 @@ module _ (head : Option Head) where
     within = kept.within;
   }
 
-  -- what a frame leaves
+  -- where the main data end after a frame
   end_by : (base now ended : ℕ) (b : Before) (r : Row) (sound silent : Bool) → is_sound b.place b.ended r ≡ sound → is_silent r ≡ silent → now ≡ base + b.place → ended ≤ base + b.ended → ended ≤ now
       → (cond (not sound || silent) ended (end_of_data now r) ≤ base + cond (sound && not silent) (end_of_data b.place r) b.ended) × (cond (not sound || silent) ended (end_of_data now r) ≤ now + own_area r.header)
   end_by base now ended b r true true is other at low high = (low, omega (arith, high))

@@ -223,7 +223,7 @@ mended_step rows now i d new within is one =
     at_end (y ∷ front) x rest zero e = absurd (omega (arith, e))
     at_end (y ∷ front) x rest (suc i) e = at_end front x rest i (omega (arith, e))
 
--- one frame more is counted, where it becomes an empty one
+-- one frame more is counted if it becomes an empty one
 pub emptied_step : (rows : List Row) (i : ℕ) (d : Row) (done : List Emptied) → i < length rows → done ++ emptied_from i (drop i rows) ≡ emptied_from 0 rows
     → (done ++ option_to_list (emptied_as i (get_or rows i d))) ++ emptied_from (i + 1) (drop (i + 1) rows) ≡ emptied_from 0 rows
 emptied_step rows i d done within is =

@@ -127,7 +127,7 @@ read_whole file b found so_far end =
       gaps = kept_whole found.gaps.items _ _ (ap gaps_of none) so_far.gaps;
     }
 
--- ---- where things stand
+-- ---- where things are
 
 rows_push : (from : ℕ) (rows : List Row) (to later : ℕ) (r : Row) → AreLaid from rows to → SideFits (class_of r.header) r.side → to ≤ r.offset → r.offset + length_of (class_of r.header) r.header.slot ≤ later → AreLaid from (rows ++ r ∷ []) later
 rows_push from [] to later r laid fits low high = (omega (arith, laid, low), fits, high)

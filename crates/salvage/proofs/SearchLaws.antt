@@ -93,7 +93,7 @@ begun (a ∷ b ∷ []) h few many e = absurd (omega (arith, many))
 begun (a ∷ b ∷ c ∷ []) h few many e = absurd (omega (arith, many))
 begun (a ∷ b ∷ c ∷ d ∷ rest) h few many e = begins_by a b c d (few 0) (few 1) (few 2) (few 3) (readable_at (a ∷ b ∷ c ∷ d ∷ []) h e)
 
--- where a header stands, it may begin
+-- where a header begins, it may begin
 header_begins : (bytes : List ℕ) (h : HeaderFields) → AreFew bytes → header_front bytes ≡ Ok h → may_begin (get_or bytes 0 0) (get_or bytes 1 0) ≡ true
 header_begins bytes h few e =
     let four = header_four bytes h e in
@@ -116,7 +116,7 @@ get_drop (x ∷ xs) (suc k) i =
     let next : suc (k + i) ≡ suc k + i = omega arith in
     get_drop xs k i ∙ ap (λ n. get_or (x ∷ xs) n 0) next
 
--- where none may begin, none stands
+-- where none may begin, none does
 pub bare_at : (front : List ℕ) → ((i : ℕ) → get_or front i 0 < 256) → (k : ℕ) → may_begin (get_or front k 0) (get_or front (k + 1) 0) ≡ false → (h : HeaderFields) → item_front (drop k front) ≡ Frame h → ⊥
 bare_at front few k bare h is =
     let header : header_front (drop k front) ≡ Ok h = subst (Stands (drop k front)) is (stands (drop k front)) in
@@ -144,7 +144,7 @@ not_anchor bytes class few many bare letter = by_item (item_front bytes) refl (s
     by_item End is here = absurd (omega (arith, ap length here, many))
     by_item Nothing is here = refl
 
--- ---- where no anchored frame stands
+-- ---- where there is no anchored frame
 
 -- a header other than this one isn't here
 pub header_same : (bytes : List ℕ) (h g : HeaderFields) → header_front bytes ≡ Ok h → item_front bytes ≡ Frame g → h ≡ g

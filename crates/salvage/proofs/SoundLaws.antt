@@ -79,7 +79,7 @@ later_same file (run ∷ later) = ap₂ (λ (a b : List Row). a ++ b) (judged-fr
 runs-from : (file : List ℕ) (head : Option Head) (runs : FrameRuns) → judged_runs file head runs ≡ runs_from file (record { place = head_area head; ended = 0 }) runs
 runs-from file head runs = ap₂ (λ (a b : List Row). a ++ b) (judged-from head (rows_of file runs.first)) (later_same file runs.later)
 
--- one thing in front
+-- one thing more before the others
 thing_first : (file : List ℕ) (b : Before) (at : ℕ) (thing : Thing) (runs : FrameRuns) → runs_from file b (runs_behind at thing runs) ≡ rows_here file b at thing ++ runs_from file (before_here file b at thing) runs
 thing_first file b at (IsGap n) runs = refl
 thing_first file b at (IsItem (Frame h)) runs = refl

@@ -1,4 +1,4 @@
--- The stream of what is left, run by run, is that of all frames as a survey tells of them.
+-- The stream of what is read, run by run, is that of all frames as a survey tells of them.
 use Rattle.std.proofs.Common.{◌≡◌, ℕ, suc, ◌+◌, ◌-◌, ◌*◌, ◌≤◌, Bool, true, false, cond, not, List, [], ◌∷◌, ◌++◌, length, take, drop, map, Option, Some, None, Ok, refl, sym, ◌∙◌, ap, ap₂, subst, arith, append_assoc, length-append, length-take, length-drop}
 use Rattle.std.specs.Prelude.{flat_map, slice_get, IfSome}
 use Rattle.std.specs.List.{enumerate_from}

@@ -1,4 +1,4 @@
--- Whether a frame is usable is seen by a look.
+-- A look shows whether a frame is usable.
 use Rattle.std.proofs.Common.{◌≡◌, ℕ, ◌+◌, ◌-◌, ◌<◌, ◌≤◌, ◌||◌, ◌&&◌, ◌==◌, min, Bool, true, false, cond, not, List, length, take, drop, Option, Some, None, Result, Ok, Err, refl, sym, ◌∙◌, ap, ap₂, arith}
 use Rattle.std.specs.Prelude.{is_some}
 use Rattle.std.proofs.lemmas.Bool.{leb-true}
@@ -33,7 +33,7 @@ use Rattle.salvage.specs.Usable.{has_right_word, is_head, is_usable, if_usable, 
 use Rattle.salvage.specs.Walk.{is_read, if_read, item_read}
 use Rattle.salvage.specs.Steps.{admits_item}
 
--- a header that is somewhere is of a frame with few bytes
+-- a header anywhere is that of a frame with few bytes
 pub length_few : (front : List ℕ) (h : HeaderFields) → item_front front ≡ Frame h → length_of (class_of h) h.slot ≤ 1441
 length_few front h is =
     let known = item_header front (Frame h) (sym is) h refl in
@@ -43,13 +43,13 @@ length_few front h is =
 pub room_shown : (front : List ℕ) (h : HeaderFields) (left : ℕ) → item_front front ≡ Frame h → size_of (Frame h) ≤ left → length front ≡ min look_size left → overhead_of (class_of h) h.protected ≤ length front
 room_shown front h left is within many = omega (arith, overhead_few front (Frame h) h (sym is) refl, length_few front h is, within, many)
 
--- ---- the check word of the bytes as they stand
+-- ---- the check word of the bytes
 
 header_cases : (b : Bool) (r : Result HeaderFields NotHeader) (h : HeaderFields) → cond b r (Err No) ≡ Ok h → (b ≡ true) × (r ≡ Ok h)
 header_cases true r h e = (refl, e)
 header_cases false r h e = absurd cc
 
--- a header that is at the front is read of four bytes
+-- a header with which bytes begin is read from four bytes
 pub header_four : (bytes : List ℕ) (h : HeaderFields) → header_front bytes ≡ Ok h → (4 ≤ length bytes) × (header_at (take 4 bytes) ≡ Ok h)
 unfolding header_front
 header_four bytes h e =

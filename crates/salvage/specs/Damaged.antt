@@ -19,21 +19,21 @@ use Rattle.salvage.specs.declared.gap.Gap.{Gap}
 use Rattle.salvage.specs.Walk.{first_frame, PlacedThing, things, gaps_of, blocks_in}
 use Rattle.salvage.specs.Sound.{runs_of, judged_runs}
 
--- a file may have so many frames
+-- the greatest number of frames of a file
 abbrev pub most_frames : ℕ
 most_frames = 2900000
 
--- What is read: the frames, each marked that becomes an empty one, the blocks outside of gaps, and the head, as a survey tells of them;
--- and the gaps.
+-- What is read: the frames, of which those that become empty ones are marked, the blocks outside of gaps, and the head, as a survey tells
+-- of them; and the gaps.
 pub record DamagedFields : Type 0 where
   pub survey : SurveyFields
   pub gaps : List Gap
 
--- the bytes between two offsets are a gap, where there are some
+-- the bytes between two offsets are a gap, if there are some
 abbrev pub gap_between : ℕ → ℕ → List Gap
 gap_between from to = if nat_lt from to then record { offset = from; length = to - from } ∷ [] else []
 
--- what is after the head, or from the first frame on where that is none
+-- what is after the head, or from the first frame on if there is no head
 abbrev pub things_from : List ℕ → PlacedFrame → List PlacedThing
 things_from file first = things file (class_of first.header) (numbered_at first (head_of file first))
 
@@ -70,7 +70,7 @@ abbrev pub damaged_by : List ℕ → ℕ → Option PlacedFrame → Result Damag
 damaged_by file front_end None = Err (NoFrame front_end)
 damaged_by file front_end (Some first) = with_number front_end (damaged_from file front_end first)
 
--- what is read of a file of a length that it may have
+-- what is read of a file that isn't too long
 unfoldable pub damaged : List ℕ → Result DamagedFields SurveyFault
 damaged file = damaged_by file (front_end_of file) (first_frame file (front_end_of file))
 
@@ -82,13 +82,13 @@ damaged_of file = if nat_lt longest_file (length file) then Err (TooLong (length
 abbrev pub tells_of : Damaged → DamagedFields
 tells_of d = record { survey = tells d.survey; gaps = d.gaps.items }
 
--- where the name's file is told, this is read of it
+-- where the name's file is told, this is what is read of it
 abbrev pub IsReadOf : List ℕ → Files → DamagedFields → Type 0
 IsReadOf name files d = (bytes : List ℕ) → Holds files name bytes → damaged_of bytes ≡ Ok d
 
 -- ---- refusals
 
--- the file is there, its bytes are refused so, and nothing is counted
+-- the file is there, its bytes are refused with this fault, and nothing is counted
 pub record RefusesDamaged (name : List ℕ) (files : Files) (before after : Counts) (fault : SurveyFault) : Type 0 where
   pub there : IsThere files name
   pub bytes : (bytes : List ℕ) → Holds files name bytes → damaged_of bytes ≡ Err fault

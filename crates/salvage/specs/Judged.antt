@@ -15,15 +15,15 @@ use Rattle.salvage.specs.Walk.{Thing, IsItem, IsGap, PlacedThing}
 use Rattle.salvage.specs.Sound.{is_sound, sound_end}
 use Rattle.salvage.specs.Damaged.{most_frames}
 
--- a frame, marked where it isn't sound by the main data before it
+-- a frame, marked if it isn't sound by the areas before it
 abbrev pub judged_by : Before → Row → Row
 judged_by b r = record r { lost = not (is_sound b.place b.ended r) }
 
--- the main data before the frame after it
+-- the areas before the frame after it
 abbrev pub before_next : Before → Row → Before
 before_next b r = record { place = b.place + own_area r.header; ended = sound_end b.place b.ended (Some r) }
 
--- those before the first frame after a gap
+-- the areas before the first frame after a gap: none
 abbrev pub none_before : Before
 none_before = record { place = 0; ended = 0 }
 
@@ -32,7 +32,7 @@ abbrev pub rows_in : Before → ℕ → List ℕ → Item → List Row
 rows_in b at bytes (Frame h) = judged_by b (row_in at h bytes) ∷ []
 rows_in b at bytes item = []
 
--- the main data after it
+-- the areas before what follows it
 abbrev pub before_behind : Before → ℕ → List ℕ → Item → Before
 before_behind b at bytes (Frame h) = before_next b (row_in at h bytes)
 before_behind b at bytes item = b
@@ -44,12 +44,12 @@ abbrev pub rows_here : List ℕ → Before → ℕ → Thing → List Row
 rows_here file b at (IsItem item) = rows_in b at (drop at file) item
 rows_here file b at (IsGap n) = []
 
--- the main data after it
+-- the areas before what follows it
 abbrev pub before_here : List ℕ → Before → ℕ → Thing → Before
 before_here file b at (IsItem item) = before_behind b at (drop at file) item
 before_here file b at (IsGap n) = none_before
 
--- the rows of these things, by the main data before the first of them
+-- the rows of these things, by the areas before the first of them
 abbrev pub rows_left : List ℕ → Before → List PlacedThing → List Row
 rows_left file b [] = []
 rows_left file b (t ∷ ts) = rows_here file b t.offset t.thing ++ rows_left file (before_here file b t.offset t.thing) ts
@@ -64,11 +64,11 @@ pub record Adds (found_rows : List Row) (found_blocks : List Piece) (found_gaps 
   pub before : new.before ≡ main
   pub at : new.at ≡ to
 
--- the item where the reading stands is kept, by the bytes from there on, and so many bytes are passed
+-- the item at the offset that was reached is kept, by the bytes from there on, and the reading goes on by so many bytes
 abbrev pub AddsItem : Item → ℕ → List ℕ → Found → Found → Type 0
 AddsItem item size bytes old new = Adds (rows_in old.before old.at bytes item) (option_to_list (block_as old.at item)) [] (before_behind old.before old.at bytes item) (old.at + size) old new
 
--- a gap from there to another offset is
+-- a gap from there to another offset is kept
 abbrev pub AddsGap : ℕ → Found → Found → Type 0
 AddsGap to old new = Adds [] [] (record { offset = old.at; length = to - old.at } ∷ []) none_before to old new
 

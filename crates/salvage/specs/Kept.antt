@@ -1,4 +1,4 @@
--- Where the main data of the frames that are kept are among those of all frames, whatever gaps are between.
+-- Where the main data of the frames that are kept are in the areas of all frames, whatever gaps are between.
 use Rattle.std.specs.Prelude.{◌≡◌, ℕ, zero, suc, ◌+◌, ◌≤◌, ◌||◌, if◌then◌else◌, true, false, List, length, slice_get, Option, Some, None}
 use Rattle.sync_survey.specs.declared.places.Head.{Head}
 use Rattle.sync_survey.specs.declared.rows.Row.{Row}
@@ -6,18 +6,18 @@ use Rattle.sync_survey.specs.MainData.{place, is_silent, end_of_data}
 use Rattle.sync_survey.specs.declared.rows.Before.{Before}
 use Rattle.salvage.specs.Sound.{is_sound}
 
--- where the main data end after a frame: one that becomes empty, or has none, moves no end
+-- where the main data end after a frame; one that becomes empty, or has none, doesn't change it
 abbrev pub kept_end : ℕ → ℕ → Option Row → ℕ
 kept_end place ended None = ended
 kept_end place ended (Some r) = if r.lost || is_silent r then ended else end_of_data place r
 
--- where those end that are before frame i of all: of the last frame before it that is kept and has some, or 0
+-- where the main data end of the last frame before frame i that is kept and has some, or 0
 unfoldable pub end_of_kept : Option Head → List Row → ℕ → ℕ
 end_of_kept head rows zero = 0
 end_of_kept head rows (suc i) = kept_end (place head rows i) (end_of_kept head rows i) (slice_get rows i)
 
--- The main data that are kept before a frame end before its own area. Those of each frame that is kept begin neither before all main data
--- nor before the end of those kept before it, and end within its own area: so among the areas of all frames, as in its run.
+-- The main data that are kept before a frame end before its own area. Those of each frame that is kept begin neither before all areas nor
+-- before the end of those kept before it, and end within its own area: so it is in the areas of all frames, as in those of its run.
 pub record IsKeptWell (head : Option Head) (rows : List Row) (i : ℕ) (r : Row) : Type 0 where
   pub before : end_of_kept head rows i ≤ place head rows i
   pub sound : r.lost ≡ false → is_sound (place head rows i) (end_of_kept head rows i) r ≡ true
@@ -25,7 +25,7 @@ pub record IsKeptWell (head : Option Head) (rows : List Row) (i : ℕ) (r : Row)
 abbrev pub AreKeptWell : Option Head → List Row → Type 0
 AreKeptWell head rows = (i : ℕ) (r : Row) → slice_get rows i ≡ Some r → IsKeptWell head rows i r
 
--- the frames so far, and where the run began among their main data
+-- the frames so far, and where in their areas the run began
 pub record AreKeptTo (head : Option Head) (rows : List Row) (b : Before) : Type 0 where
   pub frames : AreKeptWell head rows
   pub base : ℕ

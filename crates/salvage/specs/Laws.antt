@@ -1,4 +1,4 @@
--- What the definitions of this crate say together.
+-- Laws of what is read of damaged files.
 use Rattle.std.specs.Prelude.{◌≡◌, ℕ, ◌≤◌, List, length, Ok, Some}
 use Rattle.sync_survey.specs.declared.places.PlacedFrame.{PlacedFrame}
 use Rattle.sync_survey.specs.Start.{front_end_of}
@@ -8,14 +8,14 @@ use Rattle.salvage.specs.Damaged.{DamagedFields, damaged, gap_between, most_fram
 use Rattle.salvage.specs.Stream.{salvaged_stream}
 use Rattle.salvage.specs.Progress.{IsLaidOut}
 
--- of a file without fault all is read that its survey tells, and nothing is missing but the junk before the first frame
+-- of a file without fault all is read that its survey tells, and nothing is missing except the junk before the first frame
 abbrev pub SalvageKeepsStreams : Type 0
 SalvageKeepsStreams =
     (file : List ℕ) (allowed : ℕ) (s : SurveyFields) → surveyed file allowed ≡ Ok s → length s.frames ≤ most_frames
     → damaged file ≡ Ok (record { survey = s; gaps = gap_between s.junk s.first })
 
--- The stream that the survey of what is read tells is that of what is left, run by run: the main data of each frame that is kept are those
--- of its run, and each other one is an empty frame.
+-- The stream that the survey of what is read tells is that of the runs of frames between gaps: the main data of each frame that is kept are
+-- those of its run, and each other one is an empty frame.
 abbrev pub SalvageTellsStreams : Type 0
 SalvageTellsStreams =
     (file : List ℕ) (d : DamagedFields) → damaged file ≡ Ok d → IsLaidOut d

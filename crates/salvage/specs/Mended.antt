@@ -1,4 +1,4 @@
--- What is read of a damaged file as it is written: each frame that isn't sound is one without main data.
+-- What is read of a damaged file, as it is written: each frame that isn't sound is one without main data.
 use Rattle.std.specs.Prelude.{ℕ, if◌then◌else◌, false, List, map, filter_map, Option, Some, None}
 use Rattle.std.specs.List.{enumerate_from}
 use Rattle.side_info.specs.Side.{no_side}
@@ -13,10 +13,10 @@ mended_row r = if r.lost then record r { side = no_side; lost = false } else r
 abbrev pub mended : SurveyFields → SurveyFields
 mended s = record s { frames = map mended_row s.frames }
 
--- a frame with its number, where it becomes an empty one
+-- a frame with its number, if it becomes an empty one
 abbrev pub emptied_as : ℕ → Row → Option Emptied
 emptied_as number r = if r.lost then Some (record { number = number; offset = r.offset }) else None
 
--- those of these frames, counted from a number on
+-- those among these frames, which are counted from a number on
 abbrev pub emptied_from : ℕ → List Row → List Emptied
 emptied_from number rows = filter_map (λ (p : ℕ × Row). emptied_as p.0 p.1) (enumerate_from number rows)

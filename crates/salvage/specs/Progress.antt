@@ -22,14 +22,14 @@ use Rattle.salvage.specs.Kept.{AreKeptWell, AreKeptTo}
 abbrev pub class_in : Begun → ClassFields
 class_in b = class_of b.start.first.header
 
--- a file begins so
+-- a file begins as this says
 pub record BeginsSo (file : List ℕ) (b : Begun) : Type 0 where
   pub front : b.start.front_end ≡ front_end_of file
   pub first : first_frame file b.start.front_end ≡ Some b.start.first
   pub head : b.head ≡ head_of file b.start.first
 
--- The name's file begins so: its first frame is within its length, and is the head where there is one; where the file is told, so are its
--- bytes.
+-- What is known of the name's file: its first frame is within its length, and is the head if there is one; where the file is told, its
+-- bytes begin as this says.
 pub record IsBegun (files : Files) (name : List ℕ) (b : Begun) : Type 0 where
   pub known : HasLength files name b.size
   pub whole : b.start.first.offset + size_of (Frame b.start.first.header) ≤ b.size
@@ -41,7 +41,7 @@ pub record IsBegun (files : Files) (name : List ℕ) (b : Begun) : Type 0 where
 abbrev pub whole_of : List ℕ → Begun → DamagedFields
 whole_of file b = damaged_from file b.start.front_end b.start.first
 
--- what the code tells of a file that begins so, where this was found in it
+-- what the code tells of a file that begins so, if this was found in it
 abbrev pub told_of : Begun → Found → DamagedFields
 told_of b found = record {
   survey = record {
@@ -62,7 +62,7 @@ pub record IsReadTo (file : List ℕ) (b : Begun) (found : Found) : Type 0 where
   pub blocks : found.pieces.items ++ blocks_in (things file (class_in b) found.at) ≡ (whole_of file b).survey.blocks
   pub gaps : found.gaps.items ++ gaps_of (things file (class_in b) found.at) ≡ (whole_of file b).gaps
 
--- so far the name's file was read
+-- the name's file was read up to here
 abbrev pub AreReadTo : Files → List ℕ → Begun → Found → Type 0
 AreReadTo files name b found = (bytes : List ℕ) → Holds files name bytes → IsReadTo bytes b found
 
@@ -78,7 +78,7 @@ abbrev pub AreOfClass : ClassFields → List Row → Type 0
 AreOfClass class [] = Unit {0}
 AreOfClass class (r ∷ rows) = IsHeader r.header × (class_of r.header ≡ class) × AreOfClass class rows
 
--- what was found is in order, before where the reading stands
+-- what was found is in order, before the offset that was reached
 pub record IsLaidTo (b : Begun) (found : Found) : Type 0 where
   pub rows : AreLaid b.start.first.offset found.rows.items found.at
   pub class : AreOfClass (class_in b) found.rows.items
@@ -89,17 +89,18 @@ pub record IsLaidTo (b : Begun) (found : Found) : Type 0 where
   pub few : length found.rows.items ≤ most_frames
   pub kept : AreKeptTo b.head found.rows.items found.before
 
--- so far the name's file was read, and what was found is laid so
+-- the name's file was read up to here, and what was found is in order
 pub record IsReading (files : Files) (name : List ℕ) (b : Begun) (found : Found) : Type 0 where
   pub told : AreReadTo files name b found
   pub laid : IsLaidTo b found
 
--- where it was, so it is after a call, further on
+-- after a call the reading is as before it, at a later offset
 pub record ReadsOn (files : Files) (name : List ℕ) (b : Begun) (old new : Found) : Type 0 where
   pub reading : IsReading files name b new
   pub on : old.at < new.at
 
--- the gaps and the junk are before the first frame or after it, and head, frames, blocks and gaps are within the length
+-- The junk is before the first frame; head, frames, blocks and gaps are in order within the length; the frames are of the class, at least
+-- one and not too many; and the main data that are kept are where they may be.
 pub record IsLaidOut (d : DamagedFields) : Type 0 where
   pub junk : d.survey.junk ≤ d.survey.first
   pub first : d.survey.first ≤ d.survey.length

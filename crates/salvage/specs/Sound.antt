@@ -11,12 +11,12 @@ use Rattle.salvage.specs.Walk.{Thing, IsItem, IsGap, PlacedThing}
 
 -- ---- runs of frames
 
--- a run begins with the first frame, and one after each gap
+-- a run of frames: one begins with the first frame, and one after each gap
 pub record FrameRuns : Type 0 where
   pub first : List PlacedFrame
   pub later : List (List PlacedFrame)
 
--- these runs after a thing: a gap ends a run, and a frame belongs to the first
+-- these runs with a thing before them: a gap ends a run, and a frame belongs to the first
 abbrev pub runs_behind : ℕ → Thing → FrameRuns → FrameRuns
 runs_behind at (IsItem item) runs = record { first = option_to_list (frame_as at item) ++ runs.first; later = runs.later }
 runs_behind at (IsGap n) runs = record { first = []; later = runs.first ∷ runs.later }
@@ -27,17 +27,17 @@ runs_of (t ∷ ts) = runs_behind t.offset t.thing (runs_of ts)
 
 -- ---- sound frames
 
--- The main data of a frame begin neither before all main data of its run nor before the end of those before it, and end within its own
--- area: by the place of its own area among the main data of the run, and where those before it end.
+-- The main data of a frame begin neither before all areas of its run nor before the end of those before it, and end within its own area: by
+-- the place of its own area among the areas of the run, and where those before it end.
 abbrev pub is_sound : ℕ → ℕ → Row → Bool
 is_sound place ended r = not (points_too_far place r) && not (overlaps place ended r) && not (overruns place r)
 
--- where the main data end after a frame: one that isn't sound, or has none, moves no end
+-- where the main data end after a frame; one that isn't sound, or has none, doesn't change it
 abbrev pub sound_end : ℕ → ℕ → Option Row → ℕ
 sound_end place ended None = ended
 sound_end place ended (Some r) = if is_sound place ended r && not (is_silent r) then end_of_data place r else ended
 
--- where the main data end that are before frame i of a run: those of the last sound frame before it that has some, or 0
+-- where the main data end of the last sound frame of a run before frame i that has some, or 0
 unfoldable pub end_of_sound : Option Head → List Row → ℕ → ℕ
 end_of_sound head rows zero = 0
 end_of_sound head rows (suc i) = sound_end (place head rows i) (end_of_sound head rows i) (slice_get rows i)
@@ -46,7 +46,7 @@ end_of_sound head rows (suc i) = sound_end (place head rows i) (end_of_sound hea
 abbrev pub judged_row : Option Head → List Row → ℕ → Row → Row
 judged_row head rows i r = record r { lost = not (is_sound (place head rows i) (end_of_sound head rows i) r) }
 
--- all frames of a run, before which the head's main data are where there is one
+-- all frames of a run, after the head's area if there is one
 unfoldable pub judged : Option Head → List Row → List Row
 judged head rows = map (λ (p : ℕ × Row). judged_row head rows p.0 p.1) (enumerate_from 0 rows)
 

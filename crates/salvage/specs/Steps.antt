@@ -1,4 +1,4 @@
--- What is read at an offset that a look has shown.
+-- What is read at an offset, by what a look has shown.
 use Rattle.std.specs.Prelude.{◌≡◌, ℕ, ◌+◌, ◌≤◌, ◌/◌, ◌%◌, ◌==◌, ◌&&◌, ◌||◌, ◌⊎◌, Bool, true, false, List, drop, Option, Some, None}
 use Rattle.sync_survey.specs.declared.items.Item.{Item}
 use Rattle.sync_survey.specs.declared.items.Item.TheVariants.{Frame}
@@ -19,7 +19,7 @@ may_begin first second = (first == 255) && (second / 2 % 4 == 1)
 abbrev pub may_begin_block : ℕ → Bool
 may_begin_block first = (first == 73) || ((first == 84) || (first == 65))
 
--- so many bytes of a look are searched at once: after each of them 32 are seen
+-- how many bytes of a look are searched at once: 32 are seen after each of them
 abbrev pub reach : ℕ
 reach = 4064
 
@@ -27,7 +27,7 @@ reach = 4064
 abbrev pub HasNoHeader : List ℕ → ℕ → Type 0
 HasNoHeader front k = (h : HeaderFields) → item_front (drop k front) ≡ Frame h → ⊥
 
--- No usable anchored frame is at this place of a look at the offset: no header does, or the look shows that there is no anchor at the
+-- No usable anchored frame is at this place of a look at the offset: there is no header, or the look shows that there is no anchor at the
 -- frame's end, or that the frame isn't usable.
 abbrev pub IsBare : Role → ℕ → List ℕ → ℕ → Type 0
 IsBare role offset front k =

@@ -1,4 +1,4 @@
--- The stream of what is left of a damaged file.
+-- The stream of what is read of a damaged file.
 use Rattle.std.specs.Prelude.{ℕ, List, ◌++◌, flat_map, Option, None}
 use Rattle.sync_survey.specs.declared.places.Head.{Head}
 use Rattle.sync_survey.specs.declared.places.PlacedFrame.{PlacedFrame}
@@ -8,8 +8,8 @@ use Rattle.sync_survey.specs.Walk.{head_of}
 use Rattle.salvage.specs.Sound.{FrameRuns, runs_of, judged}
 use Rattle.salvage.specs.Damaged.{things_from}
 
--- The frames of a run, with the main data that are in its areas: each sound frame as it stands, and each other one as an empty frame,
--- whose side fields are all 0 and which has no main data.
+-- The frames of a run, with the main data that are in its areas: each sound frame as it is, and each other one as an empty frame, whose
+-- side fields are all 0 and which has no main data.
 abbrev pub run_stream : List ℕ → Option Head → List Row → List StreamFrame
 run_stream file head rows = stream_frames (main_bytes file head rows) head rows
 
@@ -17,6 +17,6 @@ run_stream file head rows = stream_frames (main_bytes file head rows) head rows
 abbrev pub runs_stream : List ℕ → Option Head → FrameRuns → List StreamFrame
 runs_stream file head runs = run_stream file head (judged head (rows_of file runs.first)) ++ flat_map (λ run. run_stream file None (judged None (rows_of file run))) runs.later
 
--- the stream of what is left of a file with this first frame
+-- the stream of what is read of a file with this first frame
 unfoldable pub salvaged_stream : List ℕ → PlacedFrame → List StreamFrame
 salvaged_stream file first = runs_stream file (head_of file first) (runs_of (things_from file first))

@@ -1,11 +1,11 @@
--- The text that tells what is missing of a damaged file.
+-- The text that says what is missing of a damaged file.
 use Rattle.std.specs.Prelude.{ℕ, nat_lt, if◌then◌else◌, List, [], ◌∷◌, ◌++◌, length, map, filter_map, flat_map, codes, decimal, Option, Some, None}
 use Rattle.std.specs.List.{enumerate_from}
 use Rattle.sync_survey.specs.declared.rows.Row.{Row}
 use Rattle.salvage.specs.declared.gap.Gap.{Gap}
 use Rattle.salvage.specs.Damaged.{DamagedFields}
 
--- what a line tells of
+-- what a line is about
 pub data Line : Type 0 where
   -- a gap
   OfGap : Gap → Line
@@ -20,14 +20,14 @@ abbrev pub line_text : Line → List ℕ
 line_text (OfGap g) = codes "gap at " ++ (decimal g.offset ++ (codes ": " ++ (decimal g.length ++ codes " bytes\n")))
 line_text (OfEmpty number at) = codes "empty frame " ++ (decimal number ++ (codes " at " ++ (decimal at ++ codes "\n")))
 
--- a frame with its number, where it becomes an empty one
+-- a frame with its number, if it becomes an empty one
 abbrev pub empty_as : ℕ → Row → Option Line
 empty_as number r = if r.lost then Some (OfEmpty number r.offset) else None
 
 abbrev pub empty_lines : List Row → List Line
 empty_lines rows = filter_map (λ (p : ℕ × Row). empty_as p.0 p.1) (enumerate_from 0 rows)
 
--- a line before the first of these that doesn't tell of an earlier offset
+-- these lines with one more, before the first of them that isn't about an earlier offset
 abbrev pub put_line : Line → List Line → List Line
 put_line l [] = l ∷ []
 put_line l (m ∷ ms) = if nat_lt (line_place m) (line_place l) then m ∷ put_line l ms else l ∷ m ∷ ms

@@ -10,7 +10,7 @@ use Rattle.sync_survey.specs.Walk.{own_bytes, head_by}
 use Rattle.salvage.specs.declared.usable.Role.{Role}
 use Rattle.salvage.specs.declared.usable.Role.TheVariants.{First, Later}
 
--- the frame that these bytes begin with has no check word, or the right one
+-- the frame with which these bytes begin has no check word, or the right one
 abbrev pub has_right_word : HeaderFields → List ℕ → Bool
 has_right_word h bytes = not h.protected || (word_said bytes == word_right h bytes)
 
@@ -24,15 +24,15 @@ abbrev pub is_usable : Role → PlacedFrame → List ℕ → Bool
 is_usable First p bytes = has_right_word p.header bytes || is_head p bytes
 is_usable (Later class) p bytes = same_class (class_of p.header) class && has_right_word p.header bytes
 
--- the frame of the file, where it is usable
+-- the frame of the file, if it is usable
 abbrev pub if_usable : List ℕ → Role → Option PlacedFrame → Option PlacedFrame
 if_usable file role None = None
 if_usable file role (Some p) = if is_usable role p (drop p.offset file) then Some p else None
 
--- the anchored frame at the offset, where it is usable
+-- the anchored frame at the offset, if it is usable
 unfoldable pub usable_anchored : List ℕ → Role → ℕ → Option PlacedFrame
 usable_anchored file role at = if_usable file role (anchored_frame file at)
 
--- the frame at the least offset, from one on, where a usable anchored one stands
+-- the usable anchored frame at the smallest offset from one on
 unfoldable pub next_usable : List ℕ → Role → ℕ → Option PlacedFrame
 next_usable file role from = slice_get (filter_map (usable_anchored file role) (range_with_len from (length file))) 0

@@ -29,12 +29,12 @@ if_read file role at (Some item) = if is_read file role at item then Some item e
 unfoldable pub item_read : List ℕ → Role → ℕ → Option Item
 item_read file role at = if_read file role at (item_of Stream file at)
 
--- The first frame, by where the blocks and zero bytes at the front of the file end: it is usable, and is there or, anchored, at the
--- least offset after.
+-- The first frame, by the offset at which the front of the file ends: it is usable, and begins there or, anchored, at the smallest offset
+-- after.
 unfoldable pub first_frame : List ℕ → ℕ → Option PlacedFrame
 first_frame file front_end = option_or (option_and_then (frame_as front_end) (item_read file First front_end)) (next_usable file First (front_end + 1))
 
--- a gap that begins at an offset ends at the least greater one where a usable anchored frame stands, or with the file
+-- a gap that begins at an offset ends at the smallest greater one at which there is a usable anchored frame, or with the file
 abbrev pub end_by : List ℕ → Option PlacedFrame → ℕ
 end_by file None = length file
 end_by file (Some p) = p.offset

@@ -2,7 +2,8 @@
 
 use sync_survey::{Head, Start};
 
-/// What is known of a file before its frames are judged: its length, its first frame, and its head.
+/// What is known of a file before its frames are judged: its length in bytes, its first frame, and its
+/// head.
 #[derive(Clone, Copy)]
 pub(crate) struct Begun {
     pub(crate) size: u64,

@@ -13,15 +13,15 @@ pub struct Damaged {
 }
 
 impl Damaged {
-    /// What is read, as a survey tells of it: `lost` is each frame that becomes an empty one, and the junk
-    /// is the gap before the first frame.
+    /// What is read, as a survey tells of it: `lost` marks each frame that becomes an empty one, and the
+    /// junk is the gap before the first frame.
     pub fn survey(&self) -> &Survey
         ensures { result.now ≡ self.now.survey }
     {
         &self.survey
     }
 
-    /// The frames in their order, without the head. `lost` is each that becomes an empty one.
+    /// The frames in their order, without the head. `lost` marks each that becomes an empty one.
     pub fn frames(&self) -> &[Row]
         ensures { result.now ≡ (tells_of self.now).survey.frames }
     {
@@ -42,7 +42,7 @@ impl Damaged {
         self.survey.blocks()
     }
 
-    /// The head, where the first frame is one.
+    /// The head, if the first frame is one.
     pub fn head(&self) -> Option<Head>
         ensures { result ≡ (tells_of self.now).survey.head }
     {

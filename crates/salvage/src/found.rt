@@ -14,10 +14,10 @@ use side_info::{Side, read_side};
 use std::alloc::AllocError;
 use sync_survey::{Before, Item, Piece, Row, SurveyFault};
 
-/// A file may have so many frames.
+/// The greatest number of frames of a file.
 const MOST_FRAMES: usize = 2_900_000;
 
-/// The frames that were found and judged, the blocks, the gaps, the main data since the last gap, and the
+/// The frames that were found and judged, the blocks, the gaps, the areas since the last gap, and the
 /// offset up to which the file was read.
 #[derive(Drop)]
 pub(crate) struct Found {
@@ -28,7 +28,7 @@ pub(crate) struct Found {
     pub(crate) at: u64,
 }
 
-/// Marks the row where its frame isn't sound by the main data before it, and answers those before the next
+/// Marks the row if its frame isn't sound by the areas before it, and answers the areas before the next
 /// frame.
 fn mark(before: &Before, row: &mut Row) -> Before
     requires bound { before.now.place ≤ 2 ^ 62 }
@@ -51,7 +51,10 @@ fn mark(before: &Before, row: &mut Row) -> Before
 }
 
 impl Found {
-    /// Judges the frame where the reading stands, and keeps it. The first of the bytes are its own.
+    /// Judges the frame at the offset that was reached, and keeps it. The bytes begin with its own.
+    ///
+    /// # Errors
+    /// `TooManyFrames` with the offset of the frame, `Memory`.
     fn judge(&mut self, header: Header, bytes: &[u8]) -> Result<(), SurveyFault>
         requires room { ReachArea header bytes.now }
         requires early { self.old.at ≤ longest_file }
@@ -67,7 +70,7 @@ impl Found {
         if count == MOST_FRAMES {
             return Err(SurveyFault::TooManyFrames(self.at));
         }
-        // The row is read and judged where it stays, since to copy it takes as long as to read it.
+        // The row is read and judged where it stays, since copying it takes as long as reading it.
         self.rows.push(Row {
             offset: self.at as u32,
             header,
@@ -80,7 +83,10 @@ impl Found {
         Ok(())
     }
 
-    /// Keeps the item where the reading stands. The first of the bytes are its own.
+    /// Keeps the item at the offset that was reached. The bytes begin with its own.
+    ///
+    /// # Errors
+    /// `TooManyFrames` with the offset of a frame, `Memory`.
     fn keep_item(&mut self, item: &Item, bytes: &[u8]) -> Result<(), SurveyFault>
         requires room { (h : HeaderFields) → item.now ≡ Item.Frame h → ReachArea h bytes.now }
         requires early { self.old.at ≤ longest_file }
@@ -102,7 +108,11 @@ impl Found {
         Ok(())
     }
 
-    /// Keeps the item where the reading stands, and passes so many bytes. The first of the bytes are its own.
+    /// Keeps the item at the offset that was reached, and goes on by `size` bytes. The bytes begin with its
+    /// own.
+    ///
+    /// # Errors
+    /// `TooManyFrames` with the offset of a frame, `Memory`.
     pub(crate) fn keep(&mut self, item: &Item, size: u64, bytes: &[u8]) -> Result<(), SurveyFault>
         requires room { (h : HeaderFields) → item.now ≡ Item.Frame h → ReachArea h bytes.now }
         requires bound { self.old.before.place ≤ 2 ^ 62 }
@@ -118,7 +128,10 @@ impl Found {
         Ok(())
     }
 
-    /// Keeps a gap from where the reading stands to another offset. The main data begin again after it.
+    /// Keeps a gap from the offset that was reached to another. After it the areas count from 0 again.
+    ///
+    /// # Errors
+    /// Where there is no memory.
     pub(crate) fn skip(&mut self, to: u64) -> Result<(), AllocError>
         requires { self.old.at ≤ to }
         ensures { OnOk result (AddsGap to self.old self.new) }

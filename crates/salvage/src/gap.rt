@@ -1,6 +1,6 @@
-//! What is missing of a damaged file.
+//! What isn't read of a damaged file.
 
-/// Bytes that are not read: the offset of the first of them, and how many they are.
+/// Bytes that aren't read: the offset of the first of them, and how many there are.
 #[derive(Clone, Copy, Debug, PartialEq, Eq)]
 pub struct Gap {
     pub offset: u64,

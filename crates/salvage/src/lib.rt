@@ -1,4 +1,5 @@
-//! What can be read of a damaged file: the frames between gaps, and which of them have their main data.
+//! Reads what can be read of a damaged file: the frames between gaps, and which of them have their main
+//! data.
 #![tactic(auto)]
 
 mod begun;

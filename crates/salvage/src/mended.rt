@@ -1,4 +1,4 @@
-//! What is read of a damaged file as it is written: its frames that aren't sound are empty.
+//! What is read of a damaged file, as it is written: its frames that aren't sound are empty.
 ghost use Rattle.std.specs.Prelude.{◌≡◌, ◌≤◌, ◌++◌, length, map, option_to_list, IfOk, OnOk};
 ghost use Rattle.sync_survey.specs.Faults.{tells};
 ghost use Rattle.sync_survey.specs.Survey.{IsLaidOut as IsLaidSurvey};
@@ -19,8 +19,8 @@ pub struct Emptied {
     pub offset: u64,
 }
 
-/// What is read of a damaged file as it is written: a survey in which each frame that isn't sound is one without main
-/// data, these frames, and the gaps.
+/// What is read of a damaged file, as it is written: a survey in which each frame that isn't sound is one
+/// without main data, the list of these frames, and the gaps.
 #[derive(Drop)]
 pub struct Mended {
     pub survey: Survey,
@@ -28,7 +28,10 @@ pub struct Mended {
     pub gaps: Vec<Gap>,
 }
 
-/// Adds the frame with this number, where it becomes an empty one.
+/// Adds the frame with this number if it becomes an empty one.
+///
+/// # Errors
+/// Where there is no memory.
 fn push_emptied(emptied: &mut Vec<Emptied>, number: u32, row: &Row) -> Result<(), AllocError>
     ensures { OnOk result (emptied.new.items ≡ emptied.old.items
         ++ option_to_list (emptied_as number row.now)) }
@@ -41,6 +44,9 @@ fn push_emptied(emptied: &mut Vec<Emptied>, number: u32, row: &Row) -> Result<()
 }
 
 /// The frames that become empty ones.
+///
+/// # Errors
+/// Where there is no memory.
 fn emptied_of(alloc: Global, rows: &[Row]) -> Result<Vec<Emptied>, AllocError>
     requires few { length rows.now ≤ 2900000 }
     ensures { IfOk result (λ emptied. emptied.items ≡ emptied_from 0 rows.now) }
@@ -54,7 +60,7 @@ fn emptied_of(alloc: Global, rows: &[Row]) -> Result<Vec<Emptied>, AllocError>
     Ok(emptied)
 }
 
-/// Makes the frame an empty one where it isn't sound.
+/// Makes the frame an empty one if it isn't sound.
 fn mend_row(row: &mut Row)
     ensures { row.new ≡ mended_row row.old }
 {

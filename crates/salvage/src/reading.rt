@@ -1,4 +1,4 @@
-//! The reading of a damaged file of a folder.
+//! Reads a damaged file of a folder.
 ghost use Rattle.std.specs.Prelude.{◌≡◌, ◌+◌, ◌<◌, ◌≤◌, ℕ, List, [], None, length, IfOk, IfErr, IfSome, OnOk, ◌^◌};
 ghost use Rattle.outside.specs.Files.{Holds, IsThere};
 ghost use Rattle.outside.specs.Counts.{OnlyReads};
@@ -30,7 +30,10 @@ use sync_survey::{
     look, numbered_from, pass_front,
 };
 
-/// The gap before the first frame, where there is one.
+/// The gap before the first frame, if there is one.
+///
+/// # Errors
+/// Where there is no memory.
 fn front_gaps(alloc: Global, start: &Start) -> Result<Vec<Gap>, AllocError>
     ensures { IfOk result (λ gaps. gaps.items ≡ gap_between start.now.front_end
         start.now.first.offset) }
@@ -46,7 +49,10 @@ fn front_gaps(alloc: Global, start: &Start) -> Result<Vec<Gap>, AllocError>
     Ok(gaps)
 }
 
-/// What is found up to the first frame, or to the end of the head.
+/// What is found up to the first frame, or up to the end of the head.
+///
+/// # Errors
+/// Where there is no memory.
 fn found_first(alloc: Global, begun: &Begun, pieces: Vec<Piece>) -> Result<Found, AllocError>
     requires whole { begun.now.start.first.offset
         + size_of (Frame begun.now.start.first.header) ≤ 2 ^ 62 }
@@ -74,7 +80,7 @@ fn found_first(alloc: Global, begun: &Begun, pieces: Vec<Piece>) -> Result<Found
     })
 }
 
-/// Where a gap ends: where the next frame begins, or with the file.
+/// The offset at which a gap ends: where the next frame begins, or at the end of the file.
 fn end_of(next: Option<PlacedFrame>, size: u64) -> u64
     ensures told { (file : List ℕ) → size ≡ length file → result ≡ end_by file next }
     ensures within { IfSome next (λ p. p.offset + size_of (Frame p.header) ≤ size)
@@ -87,14 +93,17 @@ fn end_of(next: Option<PlacedFrame>, size: u64) -> u64
     }
 }
 
-/// What a frame after the first is wanted for.
+/// What a frame after the first has to be.
 fn later_role(begun: &Begun) -> Role
     ensures { result ≡ Later (class_in begun.now) }
 {
     Role::Later(begun.start.first.header.class())
 }
 
-/// Keeps the gap that begins where the reading stands.
+/// Keeps the gap that begins at the offset that was reached.
+///
+/// # Errors
+/// `Read`, `Shrunk` or `Memory`.
 fn read_gap<D: Folder>(
     feed: &mut Feed,
     folder: &mut D,
@@ -124,7 +133,10 @@ fn read_gap<D: Folder>(
     Ok(())
 }
 
-/// Keeps the item that is read where the reading stands, or the gap that begins there.
+/// Keeps the item that is read at the offset that was reached, or the gap that begins there.
+///
+/// # Errors
+/// `TooManyFrames` with the offset of a frame, `Read`, `Shrunk` or `Memory`.
 fn read_thing<D: Folder>(
     feed: &mut Feed,
     folder: &mut D,
@@ -154,6 +166,9 @@ fn read_thing<D: Folder>(
 }
 
 /// Reads on to the end of the file.
+///
+/// # Errors
+/// `TooManyFrames` with the offset of a frame, `Read`, `Shrunk` or `Memory`.
 fn read_things<D: Folder>(
     feed: &mut Feed,
     folder: &mut D,
@@ -178,7 +193,10 @@ fn read_things<D: Folder>(
     Ok(())
 }
 
-/// What was found in a file that was read to its end. Refuses with `NoFrame` where no frame was.
+/// What was found in a file that was read to its end.
+///
+/// # Errors
+/// `NoFrame` with the offset at which the front ends, if no frame was found besides a head.
 fn damaged_by(begun: &Begun, found: Found) -> Result<Damaged, SurveyFault>
     ensures told { IfOk result (λ d. tells_of d ≡ told_of begun.now found) }
     ensures some { OnOk result (found.rows.items ≡ [] → ⊥) }
@@ -200,7 +218,11 @@ fn damaged_by(begun: &Begun, found: Found) -> Result<Damaged, SurveyFault>
     })
 }
 
-/// Finds where the file begins, and keeps the blocks at its front.
+/// Finds where the file begins, and keeps the blocks of its front.
+///
+/// # Errors
+/// `NoFrame` with the offset at which the front ends, if there is no first frame; `Read`, `Shrunk` or
+/// `Memory`.
 fn begin<D: Folder>(
     feed: &mut Feed,
     folder: &mut D,
@@ -231,7 +253,10 @@ fn begin<D: Folder>(
     Ok(Begun { size, start, head })
 }
 
-/// What is read of a file that begins so, with these blocks at its front.
+/// What is read of a file of which this is known, with these blocks in its front.
+///
+/// # Errors
+/// `NoFrame`, `TooManyFrames`, `Read`, `Shrunk` or `Memory`.
 fn read_on<D: Folder>(
     alloc: Global,
     feed: &mut Feed,
@@ -281,23 +306,25 @@ fn read_file<D: Folder>(alloc: Global, folder: &mut D, name: &str) -> Result<Dam
 
 /// What is read of a damaged file. The files stay.
 ///
-/// Blocks and zero bytes are passed at the front of the file. The first frame is the usable one that
-/// is where they end, or the first usable one after that is anchored. From there on the file is read
-/// item by item: usable frames, blocks and zero bytes. Where none of them is whole a gap begins; it ends
-/// where the next usable frame stands that is anchored, or with the file. A frame is usable where it is
-/// whole, of the class of the first, and its check word is right where it has one; the first one may be a
-/// head with any check word.
+/// The blocks and zero bytes with which the file begins are its front. The first frame is the usable one at
+/// the offset at which the front ends, or else the first usable one after it that is anchored. From there
+/// on the file is read item by item: usable frames, blocks and zero bytes. At an offset at which none of
+/// them begins whole, a gap begins; it ends where the next usable frame begins that is anchored, or with
+/// the file. A frame is usable if it is whole and of the class of the first, and its check word is right if
+/// it has one; the first one may be a head with any check word.
 ///
-/// Refuses with `Absent`, `TooLong`, `Read`, `Shrunk` and `Memory` as `survey` does; with `NoFrame` and where
-/// the blocks and zero bytes at the front end, where there is no frame besides a head; and with
-/// `TooManyFrames` at the frame with number 2,900,000. With nothing else.
+/// # Errors
+/// - `Absent`, `TooLong`, `Read`, `Shrunk` and `Memory` as for `survey`;
+/// - `NoFrame` with the offset at which the front ends, if there is no frame besides a head;
+/// - `TooManyFrames` with the offset of the frame with number 2,900,000, counted from 0.
 pub fn read_damaged<D: Folder>(
     alloc: Global,
     folder: &mut D,
     name: &str,
 ) -> Result<Damaged, SurveyFault>
     ensures exact { IfOk result (λ d. IsReadOf name.now (D.files folder.old) (tells_of d)) }
-    // Whether the files are told or not: where head, frames, blocks and gaps stand, and that there is a frame.
+    // Whether the files are told or not: where head, frames, blocks and gaps are, and that there is a
+    // frame.
     ensures laid { IfOk result (λ d. IsLaidOut (tells_of d)) }
     ensures there { OnOk result (IsThere (D.files folder.old) name.now) }
     ensures octets { OnOk result (HoldsOctets name.now (D.files folder.old)) }

@@ -1,4 +1,4 @@
-//! The next usable frame.
+//! Finds the next usable frame.
 ghost use Rattle.std.specs.Prelude.{◌≡◌, ◌+◌, ◌^◌, ◌<◌, ◌≤◌, ℕ, List, Ok, false, length, IfOk, IfErr, IfSome, OnOk};
 ghost use Rattle.frame_header.specs.Fields.{ClassFields, HeaderFields};
 ghost use Rattle.sync_survey.specs.Start.{is_anchor as is_anchor_lem};
@@ -21,7 +21,7 @@ use sync_survey::{
     Item, PlacedFrame, SurveyFault, bytes_behind, header_front, is_same_class, item_front, look,
 };
 
-/// So many bytes of a look are searched at once: after each of them 32 are seen.
+/// How many bytes of a look are searched at once: 32 are seen after each of them.
 const REACH: usize = 4_064;
 
 /// Whether a header may begin with these two bytes: by eight bits of the sync word and the two of the layer.
@@ -50,7 +50,7 @@ fn may_anchor(bytes: &[u8]) -> bool
     may_begin(bytes[0], bytes[1]) || may_begin_block(bytes[0])
 }
 
-/// Whether an anchor of the class is at the front of the bytes.
+/// Whether the bytes begin with an anchor of the class.
 fn is_anchor(class: Class, bytes: &[u8]) -> bool
     ensures { result ≡ is_anchor_lem class (item_front_lem bytes.now) }
 {
@@ -64,7 +64,7 @@ fn is_anchor(class: Class, bytes: &[u8]) -> bool
     }
 }
 
-/// Whether the frame that these bytes begin with is usable for the role. They are those at the offset.
+/// Whether the frame with which these bytes begin is usable for the role. They are those at the offset.
 // It is apart, and reads the header once more, so that a search reads no more of a header than it needs.
 #[inline(never)]
 fn admits_front(role: &Role, bytes: &[u8], offset: u64) -> bool
@@ -78,8 +78,8 @@ fn admits_front(role: &Role, bytes: &[u8], offset: u64) -> bool
     role.admits(&PlacedFrame { offset, header }, bytes)
 }
 
-/// Whether a usable anchored frame may be at this place of a look at the offset. It is judged where the look
-/// shows all of it and the 32 bytes after it.
+/// Whether a usable anchored frame may be at this place of a look at the offset. This is judged if the look
+/// shows all of the frame and the 32 bytes after it; else it may be.
 fn may_stand(role: &Role, front: &[u8], place: usize, offset: u64) -> bool
     requires within { place < 2 ^ 32 }
     requires early { offset < 2 ^ 32 }
@@ -99,8 +99,8 @@ fn may_stand(role: &Role, front: &[u8], place: usize, offset: u64) -> bool
     admits_front(role, bytes, offset + place as u64)
 }
 
-/// The first place of a look, from one on and before another, where a header may begin; that other where none
-/// may.
+/// The first place of a look, from `from` on and before `to`, at which a header may begin; `to` if there is
+/// none.
 fn find_begin(front: &[u8], from: usize, to: usize) -> usize
     requires within { to < length front.now }
     requires ordered { from ≤ to }
@@ -116,8 +116,8 @@ fn find_begin(front: &[u8], from: usize, to: usize) -> usize
     to
 }
 
-/// How many bytes of a look at the offset are passed up to the next place where a usable anchored frame may
-/// stand, at least one.
+/// The next place of a look at the offset, after its first byte, at which a usable anchored frame may be, or at
+/// which this look has been searched: from 1 to 4,064.
 fn bare(role: &Role, front: &[u8], offset: u64) -> u64
     requires early { offset < 2 ^ 32 }
     ensures some { 0 < result }
@@ -136,7 +136,10 @@ fn bare(role: &Role, front: &[u8], offset: u64) -> u64
     at as u64
 }
 
-/// The frame at the least offset, from one on, where a usable anchored one stands.
+/// The usable anchored frame at the smallest offset from `from` on.
+///
+/// # Errors
+/// `Read` or `Shrunk` where the file can't be read.
 pub(crate) fn next_usable<D: Folder>(
     feed: &mut Feed,
     folder: &mut D,
@@ -171,7 +174,10 @@ pub(crate) fn next_usable<D: Folder>(
     Ok(None)
 }
 
-/// The first frame, by where the blocks and zero bytes at the front of the file end.
+/// The first frame of a file whose front ends at this offset.
+///
+/// # Errors
+/// `Read` or `Shrunk` where the file can't be read.
 pub(crate) fn first_frame<D: Folder>(
     feed: &mut Feed,
     folder: &mut D,

@@ -15,16 +15,16 @@ use frame_header::{Class, Header};
 use side_info::{check_word_of_bytes, word_said};
 use sync_survey::{Item, Part, PlacedFrame, Step, anchored_frame, head_in, is_same_class, step_at};
 
-/// What a frame is wanted for.
+/// What a frame has to be.
 #[derive(Clone, Copy)]
 pub(crate) enum Role {
-    /// As the first frame, which may be a head.
+    /// The first frame, which may be a head.
     First,
-    /// As a later frame, of the class of the first.
+    /// A later frame, of the class of the first.
     Later(Class),
 }
 
-/// The check word that is right for the protected frame that these bytes begin with, by its bytes as they stand.
+/// The check word that is right for the protected frame with which these bytes begin.
 fn right_word(header: &Header, bytes: &[u8]) -> u16
     requires protected { header.now.protected ≡ true }
     requires own { header_front bytes.now ≡ Ok header.now }
@@ -35,7 +35,7 @@ fn right_word(header: &Header, bytes: &[u8]) -> u16
     check_word_of_bytes(&bytes[..4], &bytes[6..side_end])
 }
 
-/// Whether the frame that these bytes begin with has no check word, or the right one.
+/// Whether the frame with which these bytes begin has no check word, or the right one.
 fn has_right_word(header: &Header, bytes: &[u8]) -> bool
     requires own { header_front bytes.now ≡ Ok header.now }
     requires room { ReachArea header.now bytes.now }
@@ -60,7 +60,7 @@ fn frame_of(item: &Item, offset: u64) -> Option<PlacedFrame>
 }
 
 impl Role {
-    /// Whether a whole frame is usable for the role. The first of the bytes are its own.
+    /// Whether a whole frame is usable for the role. The bytes begin with its own.
     pub(crate) fn admits(&self, frame: &PlacedFrame, bytes: &[u8]) -> bool
         requires own { header_front bytes.now ≡ Ok frame.now.header }
         requires room { ReachArea frame.now.header bytes.now }
@@ -76,7 +76,7 @@ impl Role {
         }
     }
 
-    /// Whether a whole item at the offset is read. The first of the bytes are its own.
+    /// Whether a whole item at the offset is read. The bytes begin with its own.
     fn admits_item(&self, item: &Item, bytes: &[u8], at: u64) -> bool
         requires own { (h : HeaderFields) → item.now ≡ Item.Frame h → header_front bytes.now ≡ Ok h }
         requires room { (h : HeaderFields) → item.now ≡ Item.Frame h → ReachArea h bytes.now }
@@ -88,7 +88,8 @@ impl Role {
         }
     }
 
-    /// The usable anchored frame at the offset where a look has shown these bytes, and so many are left.
+    /// The usable anchored frame at the offset at which a look has shown these bytes, where `left` bytes of
+    /// the file are left.
     pub(crate) fn anchored(&self, front: &[u8], at: u64, left: u64) -> Option<PlacedFrame>
         requires many { length front.now ≡ min look_size left }
         ensures frame { (file : List ℕ) → Shows file at front.now left
@@ -106,7 +107,8 @@ impl Role {
         }
     }
 
-    /// The item that is read at the offset where a look has shown these bytes, and so many are left.
+    /// The item that is read at the offset at which a look has shown these bytes, where `left` bytes of the
+    /// file are left.
     pub(crate) fn step(&self, front: &[u8], at: u64, left: u64) -> Option<Step>
         requires many { length front.now ≡ min look_size left }
         ensures read { (file : List ℕ) → Shows file at front.now left
@@ -132,7 +134,8 @@ impl Role {
         }
     }
 
-    /// The frame that is read at the offset where a look has shown these bytes, and so many are left.
+    /// The frame that is read at the offset at which a look has shown these bytes, where `left` bytes of
+    /// the file are left.
     pub(crate) fn whole(&self, front: &[u8], at: u64, left: u64) -> Option<PlacedFrame>
         requires many { length front.now ≡ min look_size left }
         ensures frame { (file : List ℕ) → Shows file at front.now left

@@ -1,4 +1,4 @@
--- The frames so far are empty where they aren't sound.
+-- The frames so far are empty if they aren't sound.
 use Rattle.std.proofs.Common.{◌≡◌, ◌++◌, map, take, drop}
 use Rattle.salvage.specs.Mended.{mended_row}
 use Rattle.salvage.proofs.mended.mend_rows.Given as goal

@@ -1,4 +1,4 @@
--- The file was read up to where the reading stands.
+-- The file was read up to the offset that was reached.
 use Rattle.std.proofs.Common.{◌≡◌, ◌-◌}
 use Rattle.outside.specs.Feed.{IsFedFrom}
 use Rattle.salvage.specs.Progress.{IsReading}

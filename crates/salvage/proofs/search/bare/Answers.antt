@@ -1,4 +1,4 @@
--- No usable anchored frame stands up to the place that is found.
+-- There is no usable anchored frame up to the place that is found.
 use Rattle.std.proofs.Common.{arith}
 use Rattle.salvage.specs.Steps.{IsBare}
 use Rattle.salvage.proofs.SearchLaws.{bare_more, bare_joined}

@@ -1,4 +1,4 @@
--- Where none may begin, none stands.
+-- Where none may begin, none does.
 use Rattle.std.proofs.Common.{sym, ◌∙◌, arith}
 use Rattle.salvage.specs.Steps.{HasNoHeader}
 use Rattle.salvage.proofs.SearchLaws.{bare_at, bare_more}

@@ -1,4 +1,4 @@
--- Neither a header nor a block begins so.
+-- Neither a header nor a block begins with these bytes.
 use Rattle.std.proofs.Common.{sym, ◌∙◌, arith}
 use Rattle.salvage.proofs.SearchLaws.{not_anchor}
 use Rattle.salvage.proofs.search.may_anchor.Goals as goal

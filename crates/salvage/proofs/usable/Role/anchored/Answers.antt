@@ -1,4 +1,4 @@
--- The anchored frame, where it is usable.
+-- The anchored frame, if it is usable.
 use Rattle.std.proofs.Common.{sym, ◌∙◌}
 use Rattle.salvage.proofs.UsableLaws.{room_shown, none_anchored, frame_anchored, frame_refused}
 use Rattle.salvage.proofs.SearchLaws.{header_of}

@@ -1,4 +1,4 @@
--- The item that is passed, where it is read.
+-- The item that is passed, if it is read.
 use Rattle.std.proofs.Common.{sym, ◌∙◌}
 use Rattle.sync_survey.proofs.StepLaws.{shown_room}
 use Rattle.salvage.proofs.UsableLaws.{none_read, step_whole, item_taken, item_refused}
