@@ -92,6 +92,7 @@ impl Model for Header {
     ghost inverse = { inside_of };
 }
 
+/// The version by the twelfth bit of a header and ID.
 fn version_of(word: u32) -> Version
     ensures { result ≡ version_of_lem (bits_of 32 word) }
 {
@@ -103,6 +104,9 @@ fn version_of(word: u32) -> Version
 }
 
 /// Reads the 32 bits of a header.
+///
+/// # Errors
+/// `No` where they aren't readable, `Free` where they are with bit rate index 0.
 #[tactic(auto, unfolding(crate::specs::Reading::header_in, crate::specs::Reading::header_fields, crate::specs::Reading::is_readable))]
 fn read_word(word: u32) -> Result<Header, NotHeader>
     ensures { result ≡ header_in (bits_of 32 word) }

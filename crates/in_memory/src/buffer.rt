@@ -24,6 +24,7 @@ impl Model for Buffer {
 }
 
 impl Buffer {
+    /// Without bytes and room. It takes no memory.
     pub fn new(alloc: Global) -> Self
         ensures { result ≡ record { bytes = []; room = 0 } }
     {
@@ -52,6 +53,7 @@ impl Buffer {
         self.content.as_slice()
     }
 
+    /// How many bytes there may be.
     pub fn room(&self) -> u64
         ensures value { result ≡ self.now.room }
         ensures enough { length self.now.bytes ≤ result }
@@ -60,6 +62,7 @@ impl Buffer {
         self.room
     }
 
+    /// Drops the bytes. The room stays.
     pub fn clear(&mut self)
         ensures { self.new ≡ record self.old { bytes = [] } }
     {

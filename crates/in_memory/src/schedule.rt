@@ -21,6 +21,7 @@ impl Model for Schedule {
 }
 
 impl Schedule {
+    /// No call was made, and none is to fail. It takes no memory.
     pub fn new(alloc: Global) -> Self
         ensures { result ≡ record { made = 0; failing = [] } }
     {
@@ -30,6 +31,10 @@ impl Schedule {
         }
     }
 
+    /// Makes the call with this number fail, counted from 1.
+    ///
+    /// # Errors
+    /// Where there is no memory. Then the list of calls that are to fail stays.
     pub fn fail(&mut self, number: u64) -> Result<(), AllocError>
         ensures added { OnOk result (self.new
             ≡ record self.old { failing = self.old.failing ++ number ∷ [] }) }

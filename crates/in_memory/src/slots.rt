@@ -33,6 +33,7 @@ impl Slot {
         })
     }
 
+    /// How many bytes there may be.
     pub fn room(&self) -> u64
         ensures value { result ≡ self.now.buffer.room }
         ensures enough { length (unwrap_or (content_of self.now) []) ≤ result }

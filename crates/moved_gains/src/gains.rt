@@ -57,6 +57,7 @@ fn is_stuck(steps: i16, granule: &Granule) -> bool
     granule.part2_3_length != 0 && !(0..=255).contains(&sum(steps, granule.global_gain))
 }
 
+/// The gain of this granule and channel, if it would leave the range from 0 to 255.
 fn stuck_at(steps: i16, side: &Side, granule: u8, channel: u8) -> Option<Stuck>
     requires granule { granule < 2 }
     requires channel { channel < 2 }

@@ -38,6 +38,7 @@ impl<F: Write> Opened<F> {
 }
 
 impl<F: Read + Seek> Opened<F> {
+    // Reads what there is from the offset `at` on, as much as fits.
     fn read_part(&mut self, at: u64, into: &mut [u8]) -> io::Result<usize>
         ensures name { self.new.name ≡ self.old.name }
         ensures bound { IfOk result (λ k. k ≤ length into.old) }

@@ -41,6 +41,7 @@ impl Noted {
         }
     }
 
+    /// Whether the file was noted, by whatever name.
     pub fn has(&self, file: &FileId) -> bool
         ensures { result ≡ list_any (λ noted. ⟦<FileId as PartialEq>⟧.eq noted file.now)
             self.now.files.items }

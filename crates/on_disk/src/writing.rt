@@ -24,6 +24,7 @@ pub fn write_some<W: Write>(writer: &mut W, bytes: &[u8]) -> Result<usize, Faile
     Ok(count)
 }
 
+// One write, tried again as long as a signal comes first.
 fn write_once<W: Write>(writer: &mut W, bytes: &[u8]) -> io::Result<usize>
     ensures bound { IfOk result (λ k. k ≤ length bytes.now) }
     ensures passed { WriteAppends (W.contents writer.old) (W.contents writer.new) result bytes.now }

@@ -1,5 +1,5 @@
-//! The outside of a program: a folder of files and a sink of bytes, as traits with a written meaning, and buffers in
-//! front of them. `in_memory` has both for tests, and `on_disk` over real files and streams.
+//! The outside of a program: a folder of files and a sink of bytes, as traits with a written meaning, and
+//! buffers before them. `in_memory` has both for tests, and `on_disk` over real files and streams.
 #![tactic(auto)]
 
 mod exact;

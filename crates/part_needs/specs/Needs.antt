@@ -1,4 +1,4 @@
--- What frames of surveys need when they are placed anew, part by part.
+-- What frames of surveys need when they are placed again, part by part.
 use Rattle.std.specs.Prelude.{ℕ, ◌+◌, if◌then◌else◌, List, [], ◌∷◌, length, map, flat_map}
 use Rattle.side_info.specs.Side.{payload_bytes}
 use Rattle.sync_survey.specs.declared.rows.Row.{Row}

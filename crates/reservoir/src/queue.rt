@@ -4,8 +4,8 @@ ghost use Rattle.std.specs.Prelude.{◌≡◌, ◌+◌, ◌-◌, ◌≤◌, [], 
 use std::alloc::{AllocError, Global};
 use std::marker::Model;
 
-/// The bytes of memory of a queue. They are twice as many as may wait, so that bytes are moved to the first
-/// of them at most once for as many that are pushed.
+/// The bytes of memory of a queue. They are twice as many as may wait, so that what waits is moved at most
+/// once while 8,192 bytes are pushed.
 const SIZE: usize = 16_384;
 
 /// A queue of at most 8,192 bytes. Contracts see it as the list of these bytes, the oldest first.

@@ -55,7 +55,7 @@ last_16 TwoFive g h alike =
 abbrev pub last_granule : ClassFields → Side → Granule
 last_granule c s = granule_in s (granules_of c.version - 1) (c.channels - 1)
 
--- the bits of the granule after a front and other granules
+-- the bits of the granule after the fields before the granules and other granules
 behind_others : (c : ClassFields) (ns : List ℕ) (gs : List Granule) (last : Granule) → length ns ≡ length (front_widths c)
     → drop (sum (front_widths c) + length gs * granule_size c.version) (spelled (front_widths c) ns ++ flat_map (granule_bits c.version) (gs ++ (last ∷ []))) ≡ granule_bits c.version last
 behind_others c ns gs last long =

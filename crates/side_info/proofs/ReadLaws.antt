@@ -19,7 +19,7 @@ use Rattle.side_info.specs.Parts.{front_of, front_at, front_size, no_pair, pair_
 use Rattle.side_info.specs.Side.{channels_at, side_at}
 use Rattle.side_info.proofs.SideLaws.{each_class}
 
--- ---- the front
+-- ---- the fields before the granules
 total : (a b c d : ℕ) → sum (a ∷ b ∷ c ∷ d ∷ []) ≡ a + b + c + d
 total a b c d = omega (arith, sum-cons a (b ∷ c ∷ d ∷ []), sum-cons b (c ∷ d ∷ []), sum-cons c (d ∷ []), sum-cons d [])
 

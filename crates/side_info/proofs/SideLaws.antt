@@ -104,7 +104,7 @@ module _ (P : Side → Type 0) (each : (m p a b : ℕ) (g h k l : Granule) → P
   pub each_shaped : (s : Side) → IsShaped s → P s
   each_shaped s shaped = by_scfsi s.main_data_begin s.private_bits s.scfsi s.granules shaped.scfsi shaped.granules shaped.first shaped.second
 
--- the side information of these front numbers and granules
+-- the side information of these numbers of the fields before the granules, and these granules
 unfoldable built : ClassFields → List ℕ → List ℕ → Side
 built c front bs = record {
   main_data_begin = get_or front 0 0;
@@ -117,7 +117,7 @@ side_at-built : (c : ClassFields) (bs : List ℕ) → side_at c bs ≡ built c (
 unfolding side_at built
 side_at-built c bs = refl
 
--- a front and granules after it
+-- the fields before the granules, and granules after them
 back : (c : ClassFields) (ns : List ℕ) (gs : List Granule) → Fits (front_widths c) ns → length ns ≡ length (front_widths c) → side_at c (spelled (front_widths c) ns ++ flat_map (granule_bits c.version) gs) ≡ built c ns (flat_map (granule_bits c.version) gs)
 back c ns gs fits l =
     side_at-built c (spelled (front_widths c) ns ++ flat_map (granule_bits c.version) gs)
@@ -196,7 +196,7 @@ AreBits-side_bits c s =
 abbrev Long : ClassFields → Side → Type 0
 Long c s = length (side_bits c s) ≡ 8 * side_size_of c
 
--- the front numbers that the class has, and the granules
+-- the numbers of the fields before the granules that the class has, and the granules
 long : (c : ClassFields) (ns : List ℕ) (gs : List Granule) → length ns ≡ length (front_widths c) → length (spelled (front_widths c) ns ++ flat_map (granule_bits c.version) gs) ≡ sum (front_widths c) + length gs * granule_size c.version
 long c ns gs l =
     length-append (spelled (front_widths c) ns) (flat_map (granule_bits c.version) gs)

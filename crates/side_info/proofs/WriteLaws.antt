@@ -66,8 +66,8 @@ module _ (version : Version) (g : Granule) (fits : GranuleFits version g) (compr
   unfolding granule_bits
   word_bits = ap (bits_of (granule_size version)) word-joined ∙ sym (spelled-joined (granule_widths version) (granule_numbers g) (Fits-granule version g fits))
 
--- ---- the front as one number
--- the number of the front for these widths, of which there are four
+-- ---- the fields before the granules as one number
+-- the number of these fields for these widths, of which there are four
 abbrev FrontIs : List ℕ → Type 0
 FrontIs ws = (m p : ℕ) (cs : List ℕ) (n : ℕ) → m < 2 ^ get_or ws 0 0 → p < 2 ^ get_or ws 1 0 → ((k : ℕ) → get_or cs k 0 < 2 ^ get_or ws (2 + k) 0) → length cs ≡ 2 → n ≡ joined ws (m ∷ p ∷ get_or cs 0 0 ∷ get_or cs 1 0 ∷ []) → bits_of (sum ws) n ≡ spelled ws (m ∷ p ∷ cs)
 
@@ -160,8 +160,8 @@ side_bits-parts c s l =
     ap (λ bs. front ++ bs) (two_granules c.version c.channels s.granules l)
     ∙ sym (append_assoc front (flat_map (granule_bits c.version) (take c.channels (get_or s.granules 0 []))) (second_bits c.version c.channels (get_or s.granules 1 [])))
 
--- ---- a front and granules after it
--- the bits of a front and of the granules that a version has
+-- ---- the fields before the granules, and granules after them
+-- the bits of the fields before the granules, and of the granules that a version has
 abbrev Whole : Version → ℕ → ℕ → List Granule → List Granule → List ℕ
 Whole version channels front gs hs = (bits_of (front_size version channels) front ++ flat_map (granule_bits version) (take channels gs)) ++ second_bits version channels hs
 

@@ -25,7 +25,10 @@ pub enum Item {
     Nothing,
 }
 
-/// The header with which the bytes begin, and `No` for fewer than four bytes.
+/// The header with which the bytes begin.
+///
+/// # Errors
+/// `Free` where it has bit rate index 0, `No` where there is none, as where the bytes are fewer than four.
 #[tactic(auto, unfolding(crate::specs::Items::header_front))]
 pub fn header_front(bytes: &[u8]) -> Result<Header, NotHeader>
     ensures { result ≡ header_front_lem bytes.now }

@@ -79,7 +79,7 @@ joined a b key value rest =
 split : (n : ℕ) (bytes : List ℕ) → bytes ≡ take n bytes ++ drop n bytes
 split n bytes = sym (take-append-drop n bytes)
 
--- the parts of an item and what is after it, from the front
+-- the parts of an item and what is after it, from the first byte on
 parts_of : (bytes : List ℕ) → stands bytes ≡ true
     → bytes ≡ take 4 bytes ++ (take 4 (drop 4 bytes) ++ (take (key_length bytes) (drop 8 bytes) ++ (0 ∷ (take (ape_number 0 bytes) (drop (value_place bytes) bytes) ++ drop (value_place bytes + ape_number 0 bytes) bytes))))
 parts_of bytes is =

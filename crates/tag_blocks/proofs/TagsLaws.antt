@@ -53,7 +53,7 @@ length-tag_bytes tag =
 
 -- ---- a header or a footer that was written
 
--- what is at the front of bytes that begin with a header or a footer
+-- what bytes consist of that begin with a header or a footer
 pub record IsEnd (size count flags : ℕ) (bytes rest : List ℕ) : Type 0 where
   pub long : nat_le 32 (length bytes) ≡ true
   pub text : begins_with (codes "APETAGEX") bytes ≡ true

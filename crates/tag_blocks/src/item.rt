@@ -30,6 +30,7 @@ impl Model for Item {
     ghost view = { λ item. record { key = item.key.items; flags = item.flags; value = item.value.items } };
 }
 
+/// Whether a byte is a character of a key.
 fn is_key_char(byte: u8) -> bool
     ensures { result ≡ is_key_char_lem byte }
 {

@@ -37,7 +37,10 @@ impl Model for Tag {
     ghost invariant = { λ tag. IsTag (record { header_flags = tag.header_flags; footer_flags = tag.footer_flags; items = tag.items.items }) };
 }
 
-/// The tag that an APEv2 block is, or the first fault.
+/// The tag that an APEv2 block is.
+///
+/// # Errors
+/// As `Tag::read`.
 fn read_block(alloc: Global, block: &[u8]) -> Result<Tag, TagFault>
     requires long { 64 ≤ length block.now }
     requires most { length block.now ≤ 1048576 }

@@ -1,4 +1,4 @@
--- The front and the granules are the side information.
+-- The fields before the granules and the granules are the side information.
 use Rattle.std.proofs.Common.{◌≡◌, [], ◌++◌, get_or, subst, sym, ap, ◌∙◌, arith}
 use Rattle.bit_fields.specs.Bits.{bits}
 use Rattle.frame_header.specs.Fields.{IsClass}
