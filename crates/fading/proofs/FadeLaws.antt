@@ -67,7 +67,7 @@ change_numbers sheet back input Memory h = tt
 change_numbers sheet back input _ h = absurd h
 
 module _ (sheet : List ℕ) (back : Bool) (input : List ℕ) where
-  -- what the command makes of its input, where its files are told
+  -- what the command makes of its input, by the sheet that these files hold
   abbrev pub making_in : Files → Making
   making_in (Untold touched) = changing (fade_change None back)
   making_in (Told f) = changing (fade_change (f sheet) back)

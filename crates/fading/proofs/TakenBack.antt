@@ -1,4 +1,4 @@
--- A fade is taken back by the same sheet the other way: all bytes of the file come back, except the junk.
+-- A fade the other way with the same sheet undoes a fade: all bytes of the file come back, except the junk.
 use Rattle.std.proofs.Common.{◌≡◌, ◌≢◌, ℕ, suc, ◌-◌, ◌||◌, Bool, true, false, cond, not, List, [], ◌∷◌, ◌++◌, length, take, drop, map, Option, Some, None, Result, Ok, Err, ℤ, refl, sym, ◌∙◌, ap, ap₂, subst, take-append-drop}
 use Rattle.std.specs.Prelude.{slice_get, option_map, bytes_eq}
 use Rattle.std.proofs.lemmas.Bool.{false≢true}
@@ -85,7 +85,7 @@ module _ (curve : List CurvePoint) (back : Bool) (file : List ℕ) (s : SurveyFi
   abbrev two : ℕ → Steps
   two = steps_over (Along curve (not back)) m.frames
 
-  -- where what is at an offset of the file is there then
+  -- the offset in the faded file of what is at this offset of the file
   abbrev nearer : ℕ → ℕ
   nearer x = x - junk_length s
 
@@ -100,7 +100,7 @@ module _ (curve : List CurvePoint) (back : Bool) (file : List ℕ) (s : SurveyFi
   unfolding moved_survey
   moved_class = refl
 
-  -- each frame has its number there too
+  -- each frame has the same number in the faded file
   moved_number : (i : ℕ) (row : Row) → slice_get s.frames i ≡ Some row → number_at m.frames (nearer row.offset) ≡ i
   moved_number i row there =
       survey_numbered moved most_frames m (surveyed-edited one file most_frames s are is) i (stood nearer one row)
@@ -118,7 +118,7 @@ module _ (curve : List CurvePoint) (back : Bool) (file : List ℕ) (s : SurveyFi
   sum : AllTogether one two (even still) nearer s.frames
   sum = opposite_together one two nearer s.frames opposites
 
-  -- the sheet has the same curve there
+  -- the sheet gives the faded file the same curve
   same_curve : (bytes : List ℕ) → curve_by m bytes ≡ curve_by s bytes
   same_curve bytes =
       ap₂ (λ (class : ClassFields) (count : ℕ). then_made (points_in bytes) (λ points. curve_read (curve_of class count points))) moved_class (ap length moved_frames ∙ length-map s.frames (stood nearer one))

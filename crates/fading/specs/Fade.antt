@@ -44,7 +44,7 @@ curve_read (Err line) = Err (Refused (CurveNotRising line))
 abbrev pub curve_on : SurveyFields → List EnvelopePoint → Result (List CurvePoint) EditFault
 curve_on s points = curve_read (curve_of s.class (length s.frames) points)
 
--- the curve that the bytes of a sheet give a file with this survey: the sheet is at fault, or else a point doesn't rise
+-- the curve that the bytes of a sheet give a file with this survey; it is refused where the sheet is at fault, or else where a point doesn't rise
 abbrev pub curve_by : SurveyFields → List ℕ → Result (List CurvePoint) EditFault
 curve_by s sheet = then_made (points_in sheet) (curve_on s)
 
@@ -61,7 +61,7 @@ faded back s curve = faded_by (steps_over (Along curve back) s.frames) s
 unfoldable pub fade_in : List ℕ → Bool → SurveyFields → Result Change EditFault
 fade_in sheet back s = then_made (curve_by s sheet) (faded back s)
 
--- what a sheet changes: it isn't there or is too large, or else that
+-- what a sheet changes; it is refused where the sheet isn't there or is too large
 abbrev pub fade_of : Option (List ℕ) → Bool → SurveyFields → Result Change EditFault
 fade_of sheet back s = then_made (sheet_in sheet) (λ bytes. fade_in bytes back s)
 
@@ -92,7 +92,7 @@ abbrev pub is_of_sheet : EnvelopeFault → Bool
 is_of_sheet NoRoom = false
 is_of_sheet _ = true
 
--- what may be refused of the bytes of the sheet and of the gains
+-- the refusals that the bytes of the sheet and the gains may cause
 abbrev pub choice_refuses : Refusal → Bool
 choice_refuses (GainRange offset granule channel gain) = true
 choice_refuses (Curve fault) = is_of_sheet fault
@@ -102,7 +102,7 @@ choice_refuses _ = false
 abbrev pub fade_refuses : Refusal → Bool
 fade_refuses refusal = choice_refuses refusal || sheet_refuses refusal
 
--- the sheet is the second input, and the input is at fault before the sheet is
+-- the sheet is the second input, and is looked at once the first is without fault
 abbrev pub fade_task : List ℕ → Bool → List ℕ → Task
 fade_task sheet back input = record {
   source = input;

@@ -29,7 +29,7 @@ IsChangeFaultBy sheet back s old new fault (Unwritten k) = ⊥
 IsChangeFaultBy sheet back s old new fault Unsent = ⊥
 IsChangeFaultBy sheet back s old new fault NoMemory = new ≡ old
 
--- what a fault says that was met once the input was surveyed
+-- what a fault that was met once the input was surveyed says of its cause
 abbrev pub IsChangeFault : List ℕ → Bool → SurveyFields → Seen → Seen → EditFault → Type 0
 IsChangeFault sheet back s old new fault = IsChangeFaultBy sheet back s old new fault (why_of fault)
 

@@ -1,4 +1,4 @@
--- What a fade the other way makes of a file that a fade has written, by the same sheet.
+-- What a fade the other way, with the same sheet, makes of a file that a fade has written.
 use Rattle.std.specs.Prelude.{◌≡◌, ◌≢◌, ℕ, Bool, not, List, Option, Some, Ok}
 use Rattle.bit_fields.specs.Bits.{AreBytes}
 use Rattle.outside.specs.Files.{Contents}
@@ -17,7 +17,7 @@ pub record IsFadedBack (sheet : Option (List ℕ)) (back : Bool) (file faded : L
   pub same : s.junk ≡ s.first → changed_file (fade_change sheet (not back)) faded ≡ Ok file
   pub stream : HoldsStream (without_junk s file) (stream_of file)
 
--- of a file that the fade accepts, either way
+-- of any file that the fade accepts, with or without `--back`
 abbrev pub FadeGivesBack : Type 0
 FadeGivesBack =
     (sheet : Option (List ℕ)) (back : Bool) (file faded : List ℕ) (s : SurveyFields) → AreBytes file → survey_of file most_frames ≡ Ok s
@@ -25,7 +25,7 @@ FadeGivesBack =
 
 -- ---- the command
 
--- of these files the command makes the input of the first one again, as above
+-- of what a first fade wrote the command makes the first one's input again, as above
 pub record IsTakenBack (sheet output last : List ℕ) (back : Bool) (files : Contents) (file : List ℕ) : Type 0 where
   pub survey : SurveyFields
   pub well_formed : survey_of file most_frames ≡ Ok survey
@@ -33,7 +33,7 @@ pub record IsTakenBack (sheet output last : List ℕ) (back : Bool) (files : Con
   pub same : survey.junk ≡ survey.first → (fade_command sheet (not back) output last).makes files ≡ made_of last (Ok file)
   pub stream : HoldsStream (without_junk survey file) (stream_of file)
 
--- Once `fade IN OUT SHEET` was done, `fade --back OUT LAST SHEET` is accepted, and so the other way about, where LAST is neither OUT nor SHEET.
+-- Once `fade IN OUT SHEET` was done, `fade --back OUT LAST SHEET` is accepted, where LAST is neither OUT nor SHEET; and so where `--back` came first.
 abbrev pub FadeIsTakenBack : Type 0
 FadeIsTakenBack =
     (sheet input output last : List ℕ) (back : Bool) (files : Contents) (file : List ℕ) (made : Made) → files input ≡ Some file → AreBytes file

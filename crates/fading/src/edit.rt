@@ -11,7 +11,7 @@ use outside::{Folder, PassFault};
 use std::alloc::Global;
 use sync_survey::Survey;
 
-/// An input that fades, the sheet that says how, and whether it is taken back.
+/// An input that fades, the sheet that says how, and whether a fade by this sheet is undone.
 #[derive(Clone, Copy)]
 pub struct FadeEdit<'a> {
     pub input: &'a str,

@@ -1,4 +1,4 @@
-//! The command that fades: each frame's gains move by the steps that a sheet gives at its place.
+//! The command that fades: each frame's gains move by the steps that a sheet gives for its number.
 #![tactic(auto)]
 
 mod calls;

@@ -1,4 +1,4 @@
--- Frames that a command chooses of a surveyed file: they have a plan, and the file of them holds the stream that the command says.
+-- Frames that a command chooses from a surveyed file: they have a plan, and the file of them holds the stream that the command says.
 use Rattle.std.proofs.Common.{◌≡◌, ℕ, ◌+◌, ◌&&◌, Bool, true, false, cond, List, [], ◌∷◌, ◌++◌, length, get_or, map, drop, take, Option, Some, None, Result, Ok, Err, refl, sym, ◌∙◌, ap, subst, arith, rules, append-nil, length-append}
 use Rattle.std.specs.Prelude.{◌↔◌, ◌<◌, ◌≤◌, nat_lt, nat_le, IfErr, Contains, All, replicate}
 use Rattle.std.proofs.lemmas.Option.{slice_get-get_or}
@@ -74,7 +74,7 @@ chosen_kind : (slots : Slots) (c : ClassFields) (rows : List Row) → AreFit c (
 chosen_kind Least c rows fit = fit.least
 chosen_kind Own c rows fit = fit.kept
 
--- frames of a survey that a command chooses
+-- frames that a command chooses from a survey
 module _ (chosen : Chosen) (s : SurveyFields) (placed : IsPlaced s) (some : chosen.from < chosen.to) (within : chosen.to ≤ length s.frames) where
   abbrev part_rows : List Row
   part_rows = chosen_rows chosen s

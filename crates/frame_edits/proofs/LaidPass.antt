@@ -1,4 +1,4 @@
--- The pass that lays out chosen frames again.
+-- The second pass, which lays chosen frames anew.
 use Rattle.std.proofs.Common.{◌≡◌, ◌≢◌, ℕ, List, ◌++◌, take, Some, None, refl, sym, subst, ◌∙◌, ap, inl, inr, arith, get_or, length}
 use Rattle.std.specs.Prelude.{◌⊎◌, ◌<◌, ◌≤◌, slice_get, slice_range}
 use Rattle.std.specs.List.{concat}
@@ -21,7 +21,7 @@ use Rattle.sync_survey.specs.Survey.{IsLaidOut}
 use Rattle.frame_edits.specs.Laid.{Laid, file_from, file_laid, IsLaidInfo}
 use Rattle.frame_edits.specs.Chosen.{Chosen, plan_of, laid_by, chosen_file}
 
--- the same, said otherwise
+-- the same by another function that gives the same bytes of the input
 pub appends-as : {input output : List ℕ} (made other : List ℕ → List ℕ) {old new : Files} → ((file : List ℕ) → Holds old input file → made file ≡ other file) → Appends input output made old new → Appends input output other old new
 appends-as made other same h = record { bytes = h.bytes; is = λ file holds. h.is file holds ∙ same file holds; files = h.files }
 

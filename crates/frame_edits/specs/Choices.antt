@@ -25,7 +25,7 @@ refused_by (All slots) = pack_refuses
 abbrev pub task_of : Choice → List ℕ → Task
 task_of choice input = chosen_task (choosing_by choice) (refused_by choice) input
 
--- the places can be ones
+-- both positions are sound: a time has 1 to 100 parts a second
 abbrev pub IsChoice : Choice → Type 0
 IsChoice (Between from to slots) = IsPlace from.now × IsPlace to.now
 IsChoice (All slots) = Unit {0}

@@ -1,4 +1,4 @@
--- A file of frames chosen of another, laid out again into slots: what is cut out, and what is packed.
+-- A file of frames chosen from another, laid anew in slots: what is cut out, and what is packed.
 use Rattle.std.specs.Prelude.{ℕ, nat_lt, nat_le, ◌&&◌, if◌then◌else◌, Bool, true, false, List, [], ◌∷◌, length, map, slice_range, replicate, Option, Some, None, Result, Ok, Err}
 use Rattle.frame_header.specs.Fields.{SlotFields, HeaderFields}
 use Rattle.frame_header.specs.Tables.{window_of}
@@ -30,7 +30,7 @@ use Rattle.commands.specs.One.{Making, most_frames, Task, file_task, one_command
 
 -- ---- what is chosen
 
--- The frames from one on and before another, the slots that they may have, and what the Info frame tells of quality and extension.
+-- The frames from one up to, but not including, another, the slots that they may have, and the quality and extension for the Info frame.
 pub record Chosen : Type 0 where
   pub from : ℕ
   pub to : ℕ
@@ -52,7 +52,7 @@ abbrev pub choices_by : Slots → HeaderFields → List SlotFields
 choices_by Least = any_choice
 choices_by Own = own_choice
 
--- the frames that are chosen, as the survey tells of them
+-- the chosen frames, as they are in the survey
 abbrev pub chosen_rows : Chosen → SurveyFields → List Row
 chosen_rows chosen s = slice_range s.frames chosen.from chosen.to
 
@@ -60,11 +60,11 @@ chosen_rows chosen s = slice_range s.frames chosen.from chosen.to
 abbrev pub plan_of : Chosen → SurveyFields → List Placed
 plan_of chosen s = the_plan (window_of s.class.version) (choices_by chosen.slots) (map need_of (chosen_rows chosen s) ∷ [])
 
--- they in the slots of a plan
+-- the chosen frames in the slots of a plan
 abbrev pub laid_by : Chosen → List Placed → Laid
 laid_by chosen placed = record { from = chosen.from; to = chosen.to; placed = placed; quality = chosen.quality; extension = chosen.extension }
 
--- in those of their own
+-- the chosen frames in the slots of their own plan
 abbrev pub laid_of : Chosen → SurveyFields → Laid
 laid_of chosen s = laid_by chosen (plan_of chosen s)
 
@@ -101,7 +101,7 @@ abbrev pub laid_with : List ℕ → SurveyFields → Result Chosen EditFault →
 laid_with file s (Err fault) = Err fault
 laid_with file s (Ok chosen) = Ok (chosen_file chosen file s)
 
--- what comes of a file with this survey
+-- what such a command makes of a file with this survey, or why it refuses it
 abbrev pub choosing : Choosing → Making
 choosing choose file s = laid_with file s (choose file s)
 
@@ -113,18 +113,18 @@ abbrev pub stream_chosen_by : Choosing → List ℕ → Result SurveyFields Surv
 stream_chosen_by choose file (Err fault) = []
 stream_chosen_by choose file (Ok s) = stream_with file s (choose file s)
 
--- the stream of what is written; where nothing is, none
+-- the stream of what is written; empty where nothing is written
 abbrev pub stream_chosen : Choosing → List ℕ → List StreamFrame
 stream_chosen choose file = stream_chosen_by choose file (survey_of file most_frames)
 
--- the frames between two places, if there is one and all are there
+-- the frames between two numbers, if there is one and all are there
 abbrev pub chosen_with : Option ℕ → List ℕ → ℕ → ℕ → Slots → ℕ → Result Chosen EditFault
 chosen_with quality extension from to slots frames = unless (outside_fault from to frames) (record { from = from; to = to; slots = slots; quality = quality; extension = extension })
 
 unfoldable pub cut_choice : Place → Place → Slots → Choosing
 cut_choice from to slots file s = chosen_with None (replicate 36 0) (frame_at s.class (length s.frames) from) (frame_at s.class (length s.frames) to) slots (length s.frames)
 
--- all frames, with the quality and extension that the head told
+-- all frames, with the quality and extension that the head has
 unfoldable pub all_choice : Slots → Choosing
 all_choice slots file s = chosen_with (head_info file s.head).quality (head_info file s.head).extension 0 (length s.frames) slots (length s.frames)
 
@@ -132,7 +132,7 @@ all_choice slots file s = chosen_with (head_info file s.head).quality (head_info
 abbrev pub chosen_task : Choosing → (Refusal → Bool) → List ℕ → Task
 chosen_task choose refuses input = file_task (choosing choose) (stream_chosen choose) refuses input
 
--- a cut may refuse its places, and a packing nothing
+-- a cut may refuse its positions, and a packing nothing
 abbrev pub cut_refuses : Refusal → Bool
 cut_refuses (Range from to frames) = true
 cut_refuses _ = false

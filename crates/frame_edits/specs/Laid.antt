@@ -1,4 +1,4 @@
--- A file of frames of another in the slots of a plan, whatever it was planned by.
+-- A file of frames of another in the slots of a plan, whichever planner made it.
 use Rattle.std.specs.Prelude.{◌≡◌, ℕ, List, [], map, slice_get, slice_range, Option, Some, None}
 use Rattle.slot_plan.specs.declared.needs.Need.{Need}
 use Rattle.slot_plan.specs.declared.needs.Placed.{Placed}
@@ -13,7 +13,7 @@ use Rattle.sync_survey.specs.declared.rows.Row.{Row}
 use Rattle.sync_survey.specs.MainData.{StreamFrame}
 use Rattle.sync_survey.specs.Faults.{SurveyFields}
 
--- The frames from one on and before another, the slots of their plan, and what the Info frame in front of them tells of quality and extension.
+-- The frames from one up to, but not including, another, the slots of their plan, and the quality and extension for the Info frame before them.
 pub record Laid : Type 0 where
   pub from : ℕ
   pub to : ℕ
@@ -24,7 +24,7 @@ pub record Laid : Type 0 where
 abbrev pub part_laid : Laid → List ℕ → SurveyFields → Part
 part_laid laid file s = record { file = file; survey = s; from = laid.from; to = laid.to }
 
--- what their plan was made of
+-- what their plan was made for: what each frame needs
 abbrev pub needs_laid : Laid → SurveyFields → List Need
 needs_laid laid s = map need_of (slice_range s.frames laid.from laid.to)
 
@@ -32,12 +32,12 @@ needs_laid laid s = map need_of (slice_range s.frames laid.from laid.to)
 abbrev pub frames_laid : Laid → List ℕ → SurveyFields → List Frame
 frames_laid laid file s = relaid (frames_in (part_laid laid file s)) laid.placed
 
--- what the Info frame in front of them tells
+-- the fields of the Info frame before them
 abbrev pub info_laid : Laid → List ℕ → SurveyFields → Info
 info_laid laid file s = info_for s.class (frames_laid laid file s) laid.quality laid.extension
 
--- The ID3v2 blocks that are in front of the first frame, an Info frame like this first one that is chosen, the frames, and all other
--- blocks; of no frames there is no file.
+-- The ID3v2 blocks before the first frame of the file, an Info frame with the header of the first chosen frame, the frames, and all other blocks; of no
+-- frames there is no file.
 abbrev pub file_from : Option Row → Laid → List ℕ → SurveyFields → List ℕ
 file_from None laid file s = []
 file_from (Some first) laid file s = laid_file (front_blocks file s) first.header (info_laid laid file s) (frames_laid laid file s) (back_blocks file s)

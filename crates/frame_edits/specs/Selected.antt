@@ -10,11 +10,11 @@ use Rattle.frame_edits.specs.declared.plans.Selection.{Selection}
 use Rattle.frame_edits.specs.Laid.{Laid, IsLaidInfo}
 use Rattle.frame_edits.specs.Chosen.{chosen_in, chosen_file, plan_of, laid_by, IsChosenInfo}
 
--- the chosen frames in the slots of the plan that was made of them, whatever it was made by
+-- the chosen frames in the slots of the plan that was made for them, whichever planner made it
 abbrev pub laid_in : Selection → Laid
 laid_in selection = laid_by (chosen_in selection.chosen) (entries selection.planned.plan)
 
--- There is a frame, all are there, the plan can be written frame by frame, and these are the bytes of the Info frame in front of it.
+-- There is a frame, all are there, the plan can be written frame by frame, and these are the bytes of the Info frame before them.
 pub record IsWritable (s : SurveyFields) (selection : Selection) : Type 0 where
   pub some : selection.chosen.from < selection.chosen.to
   pub within : selection.chosen.to ≤ length s.frames

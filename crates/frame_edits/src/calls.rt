@@ -20,19 +20,21 @@ fn slots_of(least: bool) -> Slots
     if least { Slots::Least } else { Slots::Own }
 }
 
-/// Writes the output, which is the frames of the input from one place on and before another, with all main data: its ID3v2
-/// blocks that are in front of the first frame, an Info frame, these frames in the slots of their plan, and all other
-/// blocks. Each frame keeps its own bit rate and padding; with `least` each has the least with which all main data have
-/// room (ISO/IEC 11172-3, 2.4.2.7). A lead-in, one empty frame, is in front where the first frames' main data need room.
+/// Writes the output, which is the frames of the input from the position `from` up to, but not including, `to`, with all main
+/// data: the input's ID3v2 blocks before its first frame, an Info frame, these frames in the slots of their plan, and all
+/// other blocks. Each frame keeps its own bit rate and padding; with `least` each has the lowest with which the main data of
+/// all later frames still have room (ISO/IEC 11172-3, 2.4.2.7). A lead-in, one silent frame, comes before them where the main
+/// data of the first frames need more room than they have themselves.
 ///
-/// Refuses, in this order: `EqualNames(0)` where the names are equal, byte for byte; `Input(0, ..)` with the fault of the
-/// survey of the input, of which 2,900,000 frames are allowed; `Range` with the numbers of the two frames and that of all
-/// frames where there is no frame between the places, or where the second is after all frames. Then nothing was created.
+/// # Errors
+/// In this order: `EqualNames(0)` where the names are equal, byte for byte; `Input(0, ..)` with the fault of the survey of
+/// the input, of which 2,900,000 frames are allowed; `Range` with the numbers of the two frames and that of all frames where
+/// there is no frame between the positions, or where the second is after the end. After these nothing was created.
 ///
 /// `Input` with `Read` and `Write(0)` come only where a call of that kind failed, `Input` with `Absent` only where the input
-/// isn't there, and every other answer only where none failed; after `Write(0)` the output is as it was or
-/// holds a prefix of its bytes. `Memory` may come once the input was found with a length that it may have,
-/// before the output is created, and not from then on.
+/// isn't there, and every other answer only where none failed. `Input(0, ..)` with `Read` or `Shrunk` may also come while the
+/// output is written; after it, and after `Write(0)`, the output is as it was or holds a prefix of its bytes. `Memory` may
+/// come once the input was found with a length that it may have, before the output is created, and not from then on.
 pub fn cut<D: Folder>(
     alloc: Global,
     folder: &mut D,
@@ -64,17 +66,13 @@ pub fn cut<D: Folder>(
     make_one(alloc, folder, &FrameEdit { input, choice }, output)
 }
 
-/// Writes the output, which is all frames of the input, each with the least bit rate and padding with which all main data
-/// have room (ISO/IEC 11172-3, 2.4.2.7): its ID3v2 blocks that are in front of the first frame, an Info frame with the
-/// quality and extension of the input's, the frames, and all other blocks.
+/// Writes the output, which is all frames of the input, each from the first on with the lowest bit rate and padding with which
+/// the main data of all later frames still have room (ISO/IEC 11172-3, 2.4.2.7): the input's ID3v2 blocks before its first
+/// frame, an Info frame with the quality and the extension of the input's head, the frames, and all other blocks.
 ///
-/// Refuses, in this order: `EqualNames(0)` where the names are equal, byte for byte; `Input(0, ..)` with the fault of the
-/// survey of the input, of which 2,900,000 frames are allowed. Then nothing was created.
-///
-/// `Input` with `Read` and `Write(0)` come only where a call of that kind failed, `Input` with `Absent` only where the input
-/// isn't there, and every other answer only where none failed; after `Write(0)` the output is as it was or
-/// holds a prefix of its bytes. `Memory` may come once the input was found with a length that it may have,
-/// before the output is created, and not from then on.
+/// # Errors
+/// In this order: `EqualNames(0)` where the names are equal, byte for byte; `Input(0, ..)` with the fault of the survey of
+/// the input, of which 2,900,000 frames are allowed. After these nothing was created. For all other answers see `cut`.
 pub fn pack<D: Folder>(
     alloc: Global,
     folder: &mut D,

@@ -21,13 +21,13 @@ use sync_survey::Survey;
 /// Which frames are chosen, and which slots they may have.
 #[derive(Clone, Copy)]
 pub enum Choice<'a> {
-    /// Those from one place on and before another.
+    /// Those from the first position up to, but not including, the second.
     Between(&'a Place, &'a Place, Slots),
-    /// All, with the quality and extension that the head of the input tells.
+    /// All, with the quality and extension that the head of the input has.
     All(Slots),
 }
 
-/// The frames between two places: `Range` where there is none, or where not all are there.
+/// The frames between two positions: `Range` where there is none, or where the second is after the end of the file.
 #[tactic(auto, unfolding(crate::specs::Chosen::cut_choice))]
 fn cut_choice(survey: &Survey, from: &Place, to: &Place, slots: Slots) -> Result<Chosen, EditFault>
     requires from { IsPlace from.now }
@@ -49,7 +49,7 @@ fn cut_choice(survey: &Survey, from: &Place, to: &Place, slots: Slots) -> Result
     choose(from, to, frames, slots, Kept::none())
 }
 
-/// All frames, with the quality and extension that the head of the input tells.
+/// All frames, with the quality and extension that the head of the input has.
 ///
 /// # Errors
 /// `Input` with `Read` and `Shrunk` where the frame of the head could not be read. The files stay.
@@ -92,7 +92,8 @@ pub fn all_choice<D: Folder>(
 }
 
 impl<'a> Choice<'a> {
-    /// The frames of a surveyed input: `Range` where there is none between the places, or where not all are there.
+    /// The chosen frames of a surveyed input: `Range` where there is none between the positions, or where the second is after
+    /// the end; `Input(0, ..)` with `Read` and `Shrunk` where the frame of the head could not be read.
     pub(crate) fn find<D: Folder>(
         &self,
         folder: &mut D,

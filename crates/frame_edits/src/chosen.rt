@@ -11,12 +11,12 @@ use laying::Kept;
 pub enum Slots {
     /// Its own.
     Own,
-    /// The least with which all main data have room.
+    /// The lowest with which the main data of all later frames still have room.
     Least,
 }
 
-/// The frames from one on and before another, counted from 0, the slots that they may have, and what the Info frame in
-/// front of them tells of quality and extension.
+/// The frames from `from` up to, but not including, `to`, counted from 0, the slots that they may have, and the quality and
+/// extension for the Info frame before them.
 #[derive(Drop)]
 pub struct Chosen {
     pub from: usize,
@@ -25,7 +25,8 @@ pub struct Chosen {
     pub kept: Kept,
 }
 
-/// The frames from one on and before another of so many: `Range` where there is none between them, or not all are there.
+/// The frames from `from` up to, but not including, `to`, counted from 0, of a file of `frames` frames: `Range` where there
+/// is none between them, or `to` is greater than `frames`.
 pub fn choose(
     from: u64,
     to: u64,

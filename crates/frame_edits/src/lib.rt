@@ -1,4 +1,4 @@
-//! The commands that lay chosen frames again in one file: `cut` and `pack`.
+//! The commands that lay chosen frames of a file anew in another: `cut` and `pack`.
 #![tactic(auto)]
 
 mod calls;

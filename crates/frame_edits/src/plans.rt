@@ -1,4 +1,4 @@
-//! The plan of chosen frames, and the Info frame in front of them.
+//! The plan of chosen frames, and the Info frame before them.
 ghost use Rattle.std.specs.Prelude.{◌≡◌, ◌<◌, ◌≤◌, ℕ, List, [], ◌∷◌, length, map, slice_get, slice_range, Some, Ok, IfOk};
 ghost use Rattle.frame_header.specs.Tables.{window_of};
 ghost use Rattle.info_header.specs.InfoFrame.{info_frame};
@@ -26,7 +26,7 @@ use slot_plan::{Keep, Least, Placed, Plan, Policy};
 use std::alloc::{AllocError, Global};
 use sync_survey::{Row, Survey};
 
-/// The slots of chosen frames and of their lead-in, and the bytes of the Info frame in front of them.
+/// The slots of chosen frames and of their lead-in, and the bytes of the Info frame before them, at most 1,441.
 #[derive(Drop)]
 pub struct Planned {
     pub plan: Plan,
@@ -72,7 +72,7 @@ fn plan_chosen(alloc: Global, survey: &Survey, chosen: &Chosen) -> Result<Plan, 
     }
 }
 
-/// The bytes of the Info frame in front of chosen frames in the slots of a plan, whatever they were planned by.
+/// The bytes of the Info frame before chosen frames in the slots of a plan, whichever planner made it.
 pub fn info_bytes(survey: &Survey, chosen: &Chosen, placed: &[Placed]) -> ArrayVec<u8, 1441>
     requires laid { IsLaidOut (tells survey.now) }
     requires within { chosen.now.from < length (tells survey.now).frames }

@@ -1,4 +1,4 @@
-//! The pass that lays out chosen frames again.
+//! The second pass, which lays chosen frames anew.
 ghost use Rattle.std.specs.Prelude.{◌≡◌, ◌≢◌, List, ℕ, [], is_some, IfErr, OnOk, OnErr};
 ghost use Rattle.outside.specs.Files.{Holds, IsThere};
 ghost use Rattle.outside.specs.Counts.{NoneFell};
@@ -15,8 +15,8 @@ use crate::plans::Selection;
 use laying::{Buffers, Relay, Section};
 use outside::{Folder, PassFault};
 
-/// Appends the file of the chosen frames in the slots of their plan to the output, whatever they were planned by. Nothing waits in front of it, and what else the buffers hold may be
-/// of whatever was written before. It takes no memory.
+/// Appends the file of the chosen frames in the slots of their plan to the output, whichever planner made it. Nothing may wait
+/// in the buffers to be written; what else they hold may be of a file that was written before. It takes no memory.
 ///
 /// # Errors
 /// `Read` and `Shrunk` where a read failed, or gave no byte before the length that the input was found with; `Write` where a
@@ -53,8 +53,8 @@ pub fn write_laid<D: Folder>(
     relay.write(folder, &section, buffers)
 }
 
-/// Appends the file of the chosen frames to the output. Nothing waits in front of it, and what else the buffers hold may be
-/// of whatever was written before. It takes no memory.
+/// Appends the file of the chosen frames to the output. Nothing may wait in the buffers to be written; what else they hold may
+/// be of a file that was written before. It takes no memory.
 ///
 /// # Errors
 /// `Read` and `Shrunk` where a read failed, or gave no byte before the length that the input was found with; `Write` where a

@@ -1,4 +1,4 @@
--- By no step, a file without fault gives its own bytes except the junk, and its own stream.
+-- Moved by 0 steps, a well-formed file gives its own bytes except the junk, and its own stream.
 use Rattle.std.proofs.Common.{◌≡◌, ℕ, ◌+◌, ◌-◌, ◌≤◌, Bool, true, false, cond, List, [], ◌∷◌, ◌++◌, length, take, drop, map, Option, Ok, refl, sym, ◌∙◌, ap, ap₂, subst, arith, inl, inr, length-drop}
 use Rattle.std.specs.Prelude.{◌⊎◌, IfSome}
 use Rattle.std.specs.List.{enumerate_from}
@@ -111,7 +111,7 @@ pub stream_still : (steps : Steps) → IsNoStep steps → (file : List ℕ) (all
 unfolding stream_of_survey stream_frames
 stream_still steps none file allowed s are is = still_frames steps none file (main_bytes file s.head s.frames) s.head s.frames 0 s.frames (frames_there file allowed s are is)
 
--- what a change by no step makes holds it, whatever tag the change writes
+-- what a change by 0 steps makes holds the stream of the file, whatever tag the change writes
 pub still_holds : (steps : Steps) → IsNoStep steps → (o : Option (List ℕ)) → IfSome o IsTagBytes → (file : List ℕ) (allowed : ℕ) (s : SurveyFields) → AreBytes file → surveyed file allowed ≡ Ok s
     → HoldsStream (changed (record { steps = even steps; tag = o }) file s) (stream_of file)
 still_holds steps none o tags file allowed s are is =

@@ -1,4 +1,4 @@
--- A change of gains without a note is taken back by the opposite one: all bytes of the file come back, except the junk.
+-- The opposite change undoes a change of gains without a note: all bytes of the file come back, except the junk.
 use Rattle.std.proofs.Common.{◌≡◌, ℕ, ◌+◌, ◌-◌, ◌≤◌, Bool, true, false, cond, List, [], ◌∷◌, ◌++◌, length, take, drop, map, Option, Some, None, Ok, ℤ, pos, neg_ℤ, ◌+ℤ◌, ◌==◌, refl, sym, ◌∙◌, ap, ap₂, subst, arith, append-nil}
 use Rattle.std.proofs.lemmas.List.{take_at, drop_at, length-take-le}
 use Rattle.std.proofs.Math.IntN.{+ℤ_invr}
@@ -122,7 +122,7 @@ module _ (one two : ℕ → Steps) (file : List ℕ) (s : SurveyFields) (sum : A
   abbrev gap : ℕ
   gap = junk_length s
 
-  -- where what is at an offset of the file is there then
+  -- the offset in the changed file of what is at this offset of the file
   abbrev to : ℕ → ℕ
   to x = x - gap
 
@@ -230,7 +230,7 @@ module _ (shift : Shift) (file : List ℕ) (s : SurveyFields) (are : AreBytes fi
       changed-ok (gain_change (opposite shift) false) moved m (record { steps = second; tag = None }) (new_survey first second file s both are short) (plain-ok (opposite shift) moved m (channel_back shift s apart) range)
       ∙ ap Ok (plain-changed second moved m ∙ bytes_again first second file s both are short)
 
--- what a change without a note makes of a file, the opposite change makes the file again, except its junk
+-- of what a change without a note made of a file, the opposite change makes the file again, except its junk
 pub steps_back : OppositeGivesBack
 steps_back shift file new s are short e =
     let made = made_by (gain_change shift false) file new s short e in

@@ -38,7 +38,7 @@ use Rattle.gain_edits.proofs.Refusals.{gain_late, undo_change_late}
 
 -- ---- what is made
 
--- how a tag was noted
+-- the change was noted in this tag, whose undo item said this before
 pub record IsNoted (shift : Shift) (file : List ℕ) (s : SurveyFields) (change : Change) : Type 0 where
   pub tag : TagFields
   pub undo : Undo

@@ -111,7 +111,7 @@ stuck_none at None later e = (refl, e)
 none_stuck : (at : ℕ) (s : Option Stuck) (later : Option Refusal) → s ≡ None → later ≡ None → stuck_fault at s later ≡ None
 none_stuck at s later e rest = ap (λ x. stuck_fault at x later) e ∙ rest
 
--- where each of two facts of a frame's gains gives a third, it does so where a lost frame has none
+-- what follows for a frame of which no gain leaves the range follows also for a lost one, whose gains are never looked at
 unless_both : (lost : Bool) (a b c : Option Stuck) → (a ≡ None → b ≡ None → c ≡ None) → cond lost None a ≡ None → cond lost None b ≡ None → cond lost None c ≡ None
 unless_both true a b c three first second = refl
 unless_both false a b c three first second = three first second
@@ -120,7 +120,7 @@ moved_or_lost : (lost : Bool) (two one : Steps) (s : Side) → cond lost None (s
 moved_or_lost true two one s = refl
 moved_or_lost false two one s = refl
 
--- none leaves its range by both together
+-- where no gain leaves its range by the first change, and then none by the second, none does by both together
 pub range_both : (one two all : Steps) → all.wrap ≡ one.wrap || two.wrap → AreTogether one two all → (file : List ℕ) (to : ℕ → ℕ) (rows : List Row) → AreFramesOf file rows
     → range_fault (even one) rows ≡ None → range_fault (even two) (map (stood to (even one)) rows) ≡ None → range_fault (even all) rows ≡ None
 range_both one two all wraps sum file to [] frames first second = range-nil (even all)
@@ -148,7 +148,7 @@ pub even_opposite : (one two : Steps) → AreOpposite one two → (to : ℕ → 
 even_opposite one two opposite to [] = tt
 even_opposite one two opposite to (row ∷ rows) = (opposite, even_opposite one two opposite to rows)
 
--- none leaves it after the one by the other, where both together are no step
+-- where both together are no step, no gain that the first moved leaves its range by the second
 pub range_back : (one two : ℕ → Steps) (file : List ℕ) (to : ℕ → ℕ) (rows : List Row) → AllOpposite one two to rows → AreFramesOf file rows
     → range_fault one rows ≡ None → range_fault two (map (stood to one) rows) ≡ None
 range_back one two file to [] opposite frames free = range-nil two

@@ -59,7 +59,7 @@ undo_change_late file s =
 
 -- ---- which there are
 
--- all that this says is one of these
+-- the refusal, if there is one, is one of these
 abbrev pub May : (Refusal → Bool) → Option Refusal → Type 0
 May may o = IfSome o (λ refusal. may refusal ≡ true)
 

@@ -1,4 +1,4 @@
--- What a file is that noted gains have changed, one after the other; and that undo takes them back.
+-- What a file is after noted changes of gains, one after the other; and that undo takes them back.
 use Rattle.std.proofs.Common.{◌≡◌, ℕ, ◌+◌, ◌-◌, ◌≤◌, ◌==◌, ◌||◌, Bool, true, false, cond, List, [], ◌∷◌, ◌++◌, length, take, drop, map, Option, Some, None, Result, Ok, pos, ◌+ℤ◌, refl, sym, ◌∙◌, ap, subst, arith, inl, inr, take-append-drop}
 use Rattle.std.proofs.lemmas.Bool.{ne_eqb}
 use Rattle.bit_fields.specs.Bits.{AreBytes}
@@ -54,8 +54,8 @@ use Rattle.gain_edits.proofs.NotedAgain.{sum_again, sum_first, tag_without_none,
 
 -- ---- what is known of it
 
--- It is the file with its gains moved by all steps together, and with a tag that is the file's except the undo item; and this says the steps
--- that take all of them back.
+-- It is the file with its gains moved by all steps together, and with a tag that is the file's except the undo item, which says the steps that
+-- undo all of them.
 pub record IsGained (file : List ℕ) (s : SurveyFields) (tag : TagFields) (last : List ℕ) : Type 0 where
   pub steps : Steps
   pub noted : TagFields
@@ -214,7 +214,7 @@ module _ (file : List ℕ) (s : SurveyFields) (tag : TagFields) (are : AreBytes 
               );
         }
 
-    -- undo gives the file by no step, with the other items of its tag
+    -- undo gives the file with its gains moved by 0 steps, and with the other items of its tag
     pub undone : changed_file undo_change last ≡ Ok (with_tag (bytes_unless_empty (tag_without tag)) (moved_survey (even still) s) (edited (even still) file s))
     undone =
         let back = undo_steps g.undo in
@@ -255,7 +255,7 @@ module _ (file : List ℕ) (s : SurveyFields) (tag : TagFields) (are : AreBytes 
   undone_tidied : with_tag bytes (moved_survey (even still) s) (edited (even still) file s) ≡ tidied tag s file
   undone_tidied = ap (with_tag bytes (moved_survey (even still) s)) edited_is ∙ sym tidied-is
 
-  -- the bytes of its tag are those that are there
+  -- the bytes of its tag, written again, are those that are in the file
   own_cases : (read : file_tag file s ≡ Ok tag) (o : Option Piece) → tag_block s ≡ o → HasNoEmptyTag tag s → bytes ≡ own_bytes file s
   own_cases read None none has =
       let nothing : empty_tag ≡ tag = same_tag empty_tag tag (sym (file_tag-none file s none) ∙ read) in
@@ -299,7 +299,7 @@ module _ (file : List ℕ) (s : SurveyFields) (tag : TagFields) (are : AreBytes 
         stream = tidied_stream own;
       }
 
--- one gain or more are taken back by one undo
+-- one undo takes back one change or more
 pub gains_undone : UndoGivesBack
 gains_undone shift shifts file last s tag are short read none e =
     let is = (survey_of-parts file most_frames s short).1 in

@@ -17,7 +17,7 @@ abbrev pub changed_with : List ℕ → SurveyFields → Result Change EditFault 
 changed_with file s (Err fault) = Err fault
 changed_with file s (Ok change) = Ok (changed change file s)
 
--- what comes of a file with this survey
+-- what such a command makes of a file with this survey, or why it refuses it
 abbrev pub changing : Changing → Making
 changing of file s = changed_with file s (of file s)
 

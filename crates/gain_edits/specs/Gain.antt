@@ -21,12 +21,12 @@ use Rattle.commands.specs.One.{one_command}
 use Rattle.gain_edits.specs.Change.{Changing, change_task}
 use Rattle.commands.specs.Command.{Command}
 
--- Tags are neither read nor written: one channel can't change alone, or else a gain would leave the range.
+-- Tags are neither read nor written. It is refused where one channel can't change alone, or else where a gain would leave the range.
 abbrev pub plain_change : Shift → SurveyFields → Result Change EditFault
 plain_change shift s = unless (or_else (channel_fault shift s) (range_fault (even (steps_of shift)) s.frames)) (record { steps = even (steps_of shift); tag = None })
 
--- The change is noted in this tag, which says this undo: one channel can't change alone, or else a number of the next undo is too large, or else the
--- new tag, or else the file with it, or else a gain would leave the range.
+-- The change is noted in this tag, whose undo item says this. It is refused where one channel can't change alone, or else where a number of the next
+-- undo item is too large, or else the new tag, or else the file with it, or else where a gain would leave the range.
 abbrev pub noted_change : Shift → SurveyFields → TagFields → Undo → Result Change EditFault
 noted_change shift s tag undo =
     let next = next_undo shift undo in
@@ -34,14 +34,14 @@ noted_change shift s tag undo =
     unless (or_else (channel_fault shift s) (or_else (undo_fault next) (or_else (size_fault bytes) (or_else (output_fault s bytes) (range_fault (even (steps_of shift)) s.frames)))))
     (record { steps = even (steps_of shift); tag = Some bytes })
 
--- the tag is at fault, or else its undo item, or else the change is noted
+-- the change is noted in the file's tag; it is refused where the tag is at fault, or else its undo item
 abbrev pub tagged_change : Shift → List ℕ → SurveyFields → Result Change EditFault
 tagged_change shift file s = then_made (tag_read (file_tag file s)) (λ tag. then_made (noted_undo (tag_at s) (undo_from 32 tag.items)) (noted_change shift s tag))
 
 unfoldable pub gain_change : Shift → Bool → Changing
 gain_change shift tags file s = if tags then tagged_change shift file s else plain_change shift s
 
--- what it may refuse: with tags it may be the tag and its undo item too
+-- the refusals that it may give: those of the tag and of its undo item only with tags
 abbrev pub gain_refuses : Bool → Refusal → Bool
 gain_refuses tags (GainRange offset granule channel gain) = true
 gain_refuses tags Mono = true

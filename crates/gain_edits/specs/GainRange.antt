@@ -7,7 +7,7 @@ use Rattle.moved_gains.specs.declared.gains.Stuck.{Stuck}
 use Rattle.moved_gains.specs.declared.shift.Steps.{Steps}
 use Rattle.moved_gains.specs.Edited.{stuck_of}
 
--- where the gain is in the file
+-- the gain that would leave the range, in the frame at this offset; where there is none, what comes later
 abbrev pub stuck_fault : ℕ → Option Stuck → Option Refusal → Option Refusal
 stuck_fault offset (Some stuck) later = Some (GainRange offset stuck.granule stuck.channel stuck.gain)
 stuck_fault offset None later = later

@@ -1,4 +1,4 @@
--- What undo makes of a file that gains have changed, one after the other, and what the opposite change makes of a changed file.
+-- What undo makes of a file that several changes of gains were made of, and what the opposite change makes of a changed file.
 use Rattle.std.specs.Prelude.{◌≡◌, ◌⊎◌, ℕ, ◌<◌, List, [], ◌∷◌, length, true, false, neg_ℤ, None, Result, Ok}
 use Rattle.bit_fields.specs.Bits.{AreBytes}
 use Rattle.tag_blocks.specs.declared.undo.UndoItem.TheVariants.{Missing}
@@ -19,7 +19,7 @@ use Rattle.gain_edits.specs.Change.{changed_file}
 use Rattle.gain_edits.specs.Gain.{gain_change}
 use Rattle.gain_edits.specs.Undo.{undo_change}
 
--- what these gains make of a file, each of what the one before it made, and each noted in the tag; or why one of them is refused
+-- what these changes make of a file, each of what the one before it made, and each noted in the tag; or why one of them is refused
 abbrev pub gained_by_all : List Shift → List ℕ → Result (List ℕ) EditFault
 gained_by_all [] file = Ok file
 gained_by_all (shift ∷ shifts) file = then_made (changed_file (gain_change shift true) file) (gained_by_all shifts)
@@ -32,9 +32,9 @@ tidied tag s file = with_tag (bytes_unless_empty tag) (moved_survey (even (undo_
 abbrev pub HasNoEmptyTag : TagFields → SurveyFields → Type 0
 HasNoEmptyTag tag s = (tag_block s ≡ None) ⊎ (0 < length tag.items)
 
--- Undo makes the file again of what the gains made of it last: without its junk, and without its tag where that had no item before them. So
--- where it had a tag with an item, or none, all bytes but those of the junk come back; where there is no junk, the file itself. The stream of
--- the file comes back in every case.
+-- Undo makes of the last file the first again: without its junk, and without its tag where that had no item before the changes. So where it had a
+-- tag with an item, or none, all bytes except those of the junk come back; where there is no junk, the file itself. The stream of the file comes
+-- back in every case.
 pub record IsGivenBack (file last : List ℕ) (s : SurveyFields) (tag : TagFields) : Type 0 where
   pub back : changed_file undo_change last ≡ Ok (tidied tag s file)
   pub kept : HasNoEmptyTag tag s → changed_file undo_change last ≡ Ok (without_junk s file)
@@ -53,8 +53,8 @@ UndoGivesBack =
 abbrev pub opposite : Shift → Shift
 opposite shift = record shift { steps = neg_ℤ shift.steps }
 
--- What a change of gains without a note makes of a file, with or without wrap, the opposite change accepts. It makes of it the file again, byte
--- for byte, except the junk before its first frame. A file without junk comes back whole: `without_junk` is then the file.
+-- After a change of gains without a note, with or without wrap, the opposite change is accepted. It gives the file from before the first, byte for
+-- byte, except the junk before its first frame. A file without junk comes back whole: `without_junk` is then the file.
 abbrev pub OppositeGivesBack : Type 0
 OppositeGivesBack =
     (shift : Shift) (file new : List ℕ) (s : SurveyFields) → AreBytes file → survey_of file most_frames ≡ Ok s

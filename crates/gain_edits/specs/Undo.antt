@@ -1,4 +1,4 @@
--- The undo command: it takes back the changes that the undo item of the tag tells of, and then the item.
+-- The undo command: it undoes the changes that the undo item of the tag lists, and removes the item.
 use Rattle.std.specs.Prelude.{ℕ, Bool, true, false, List, Some, Result, Ok, Err}
 use Rattle.tag_blocks.specs.declared.undo.Undo.{Undo}
 use Rattle.tag_blocks.specs.Tags.{TagFields}
@@ -22,11 +22,12 @@ use Rattle.commands.specs.One.{one_command}
 use Rattle.gain_edits.specs.Change.{Changing, change_task}
 use Rattle.commands.specs.Command.{Command}
 
--- by the steps of this undo: a gain would leave the range, or else the item goes, and with it a tag that has no other
+-- The gains move by the steps of this undo item, and the item is removed, and with it a tag that has no other. It is refused where a gain would leave
+-- the range.
 abbrev pub undone_change : SurveyFields → TagFields → Undo → Result Change EditFault
 undone_change s tag undo = unless (range_fault (even (undo_steps undo)) s.frames) (record { steps = even (undo_steps undo); tag = Some (bytes_unless_empty (tag_without tag)) })
 
--- the tag is at fault, or else there is no undo item, or else its value is none, or else the steps that it says are taken
+-- it is refused where the tag is at fault, or else where there is no undo item, or else where its value isn't of the form; or else as above
 unfoldable pub undo_change : Changing
 undo_change file s = then_made (tag_read (file_tag file s)) (λ tag. then_made (found_undo (tag_at s) (undo_from 32 tag.items)) (undone_change s tag))
 
@@ -44,7 +45,7 @@ abbrev pub steps_by : List ℕ → Result SurveyFields SurveyFault → Steps
 steps_by file (Ok s) = steps_when (undo_in file s)
 steps_by file (Err fault) = undo_steps no_undo
 
--- those that the undo item of the file says; none where the file is refused
+-- the steps that the undo item of the file says; 0 where the file is refused
 abbrev pub steps_back : List ℕ → Steps
 steps_back file = steps_by file (survey_of file most_frames)
 

@@ -37,7 +37,7 @@ tag_read (Err fault) = Err (of_tag fault)
 
 -- ---- its undo item
 
--- nothing is to be taken back
+-- 0 steps: nothing is to be undone
 abbrev pub no_undo : Undo
 no_undo = record { left = pos 0; right = pos 0; wrap = false }
 
@@ -53,11 +53,11 @@ found_undo at Missing = Err (Refused NoUndo)
 found_undo at (Bad place) = Err (Refused (BadUndo (at + place)))
 found_undo at (Found undo) = Ok undo
 
--- the steps that take back what the item says
+-- the steps that the item lists: those that undo the changes
 abbrev pub undo_steps : Undo → Steps
 undo_steps undo = record { left = undo.left; right = undo.right; wrap = undo.wrap }
 
--- the item after a further change: its steps are subtracted, and wrap is there once it was asked for
+-- the undo item after a further change: the steps of the change are subtracted, and it wraps if it did before or the change does
 abbrev pub next_undo : Shift → Undo → Undo
 next_undo shift undo = let steps = steps_of shift in record {
   left = undo.left -ℤ steps.left;
@@ -89,7 +89,7 @@ bytes_unless_empty tag = if length tag.items == 0 then [] else tag_bytes tag
 abbrev pub size_fault : List ℕ → Option Refusal
 size_fault bytes = if nat_lt longest_tag (length bytes) then Some (TagTooLarge (length bytes)) else None
 
--- the length of the file with this tag: it is without junk, and its old tag is gone
+-- the length of the output with a tag of these bytes: the file without its junk and its old tag, and this one
 abbrev pub output_length : SurveyFields → List ℕ → ℕ
 output_length s bytes = s.length - junk_length s - tag_length s + length bytes
 

@@ -13,22 +13,26 @@ use moved_gains::Shift;
 use outside::Folder;
 use std::alloc::Global;
 
-/// Writes the output, which is the input with its gains moved by the shift, but those of lost frames. With `tags` the
-/// change is noted in the file's tag, which is its first APEv2 block, or a new one right after the last frame: the
-/// item `MP3GAIN_UNDO` then says the steps that take back this change and all that it told of before. Without them tags are
+/// Writes the output, which is the input without the junk before its first frame and with its gains moved by the shift,
+/// except those of silent granules and of lost frames. The check words of protected frames that change are recomputed. With
+/// `tags` the change is noted in the file's tag, which is its first APEv2 block, or a new one right after the last frame:
+/// the item `MP3GAIN_UNDO` then holds the steps that undo this change and all that it held before. Without `tags`, tags are
 /// neither read nor changed.
 ///
-/// Refuses, in this order: `EqualNames(0)` where the names are equal, byte for byte; `Input(0, ..)` with the
-/// fault of the survey of the input, of which 2,900,000 frames are allowed; with tags `TagTooLarge` with the length of
-/// a tag of more than 1,048,576 bytes, `BadTag` and `BadUndo` with the offset of its first fault or of its undo item;
-/// where one channel alone is to change, `Mono` and `Joint`; with tags `UndoRange` with a number of the new undo item that
+/// # Errors
+/// In this order: `EqualNames(0)` where the names are equal, byte for byte; `Input(0, ..)` with the
+/// fault of the survey of the input, of which 2,900,000 frames are allowed; with `tags` `TagTooLarge` with the length of
+/// a tag of more than 1,048,576 bytes, `BadTag` with the offset in bytes of its first fault, and `BadUndo` with that of an
+/// undo item whose value isn't of the form; where one channel alone is to change, `Mono` where there is only one, and `Joint`
+/// with the offset of the first frame of joint stereo; with `tags` `UndoRange` with a number of the new undo item that
 /// isn't from -999 to 999, `TagTooLarge` and `OutputTooLong` with the length in bytes of the new tag and of the output;
-/// `GainRange` for the first gain, but those of lost frames, that would leave the range without wrap. Then nothing was created.
+/// without wrap `GainRange` for the first gain to be moved that would leave the range from 0 to 255. After these nothing was
+/// created.
 ///
 /// `Input` with `Read` and `Write(0)` come only where a call of that kind failed, `Input` with `Absent` only where the input
-/// isn't there, and every other answer only where none failed; after `Write(0)` the output is as it was or
-/// holds a prefix of its bytes. `Memory` may come once the input was found with a length that it may have,
-/// before the output is created, and not from then on.
+/// isn't there, and every other answer only where none failed. `Input(0, ..)` with `Read` or `Shrunk` may also come while the
+/// output is written; after it, and after `Write(0)`, the output is as it was or holds a prefix of its bytes. `Memory` may
+/// come once the input was found with a length that it may have, before the output is created, and not from then on.
 pub fn gain<D: Folder>(
     alloc: Global,
     folder: &mut D,
@@ -56,16 +60,18 @@ pub fn gain<D: Folder>(
     make_one(alloc, folder, &GainEdit { input, changes }, output)
 }
 
-/// Writes the output, which is the input with those changes taken back that the undo item of its tag tells of: the left
-/// number of steps is added to the gains of channel 0, the right one to those of channel 1, modulo 256 where it says `W`, but
-/// not to those of lost frames. The item goes, and with it a tag that has no other.
+/// Writes the output, which is the input without the junk before its first frame and with the changes undone that the undo
+/// item of its tag lists: the left number of steps is added to the gains of channel 0, the right one to those of channel 1,
+/// modulo 256 where it says `W`, except to those of silent granules and of lost frames. The item is removed, and with it a tag
+/// that has no other item.
 ///
-/// Refuses, in this order: `EqualNames(0)` where the names are equal, byte for byte; `Input(0, ..)` with the
+/// # Errors
+/// In this order: `EqualNames(0)` where the names are equal, byte for byte; `Input(0, ..)` with the
 /// fault of the survey of the input, of which 2,900,000 frames are allowed; `TagTooLarge` with the length of
-/// a tag of more than 1,048,576 bytes; `BadTag` with the offset of its first fault; `NoUndo` where it has no undo item;
-/// `BadUndo` with the offset of an item whose value isn't of the form; `GainRange` for the first gain, but
-/// those of lost frames, that would leave the range without wrap. Then nothing was created. For all other answers see
-/// `gain`.
+/// a tag of more than 1,048,576 bytes; `BadTag` with the offset in bytes of its first fault; `NoUndo` where there is no tag,
+/// or no undo item in it; `BadUndo` with the offset of an item whose value isn't of the form; where the item doesn't say `W`,
+/// `GainRange` for the first gain to be moved that would leave the range from 0 to 255. After these nothing was created. For
+/// all other answers see `gain`.
 pub fn undo<D: Folder>(
     alloc: Global,
     folder: &mut D,

@@ -23,12 +23,15 @@ use sync_survey::Survey;
 pub enum Changes<'a> {
     /// They move by this shift; with `true` that is noted in the file's tag.
     Move(&'a Shift, bool),
-    /// What the undo item of the file's tag tells of is taken back.
+    /// The changes that the undo item of the file's tag lists are undone.
     Undo,
 }
 
 impl<'a> Changes<'a> {
-    /// By how many steps they move in a surveyed file, and its new tag.
+    /// By how many steps the gains of a surveyed file move, and its new tag.
+    ///
+    /// # Errors
+    /// What `gain` and `undo` refuse once the input was surveyed; `Input(0, ..)` with `Read` and `Shrunk`; `Memory`.
     pub(crate) fn find<D: Folder>(
         &self,
         alloc: Global,

@@ -42,8 +42,8 @@ fn joint_fault(rows: &[Row]) -> Option<Refusal>
     None
 }
 
-/// Why one channel alone can't change, where one is to: `Mono` where there is only one, else `Joint` with the offset of the
-/// first frame whose two are coded jointly.
+/// Why one channel alone can't change: `Mono` where the file has only one, else `Joint` with the offset in bytes of the
+/// first frame whose two are coded jointly. None where both are to change.
 pub(crate) fn channel_fault(shift: &Shift, survey: &Survey) -> Option<Refusal>
     ensures { result ≡ channel_fault_lem shift.now (tells survey.now) }
 {

@@ -40,7 +40,7 @@ fn plain_change(survey: &Survey, shift: &Shift) -> Result<Change, EditFault>
     }
 }
 
-/// The length in bytes of the file with a tag of so many bytes.
+/// The length in bytes of the output with a tag of `tag` bytes: the file without its junk and its old tag, and this one.
 fn output_length(survey: &Survey, tag: u64) -> u64
     requires laid { IsLaidOut (tells survey.now) }
     requires few { tag ≤ 2097088 }
@@ -52,8 +52,8 @@ fn output_length(survey: &Survey, tag: u64) -> u64
     (survey.length() - junk).saturating_sub(tag_place(survey).length) + tag
 }
 
-/// The tag, with the change noted in it: `Mono`, `Joint`, `UndoRange`, `TagTooLarge`, `OutputTooLong` and `GainRange`, the
-/// first of these.
+/// The change, noted in this tag, whose undo item says `undo`. Refused by the first of `Mono`, `Joint`, `UndoRange`,
+/// `TagTooLarge`, `OutputTooLong` and `GainRange`; or `Memory`.
 fn noted_change(
     alloc: Global,
     survey: &Survey,
@@ -94,6 +94,9 @@ fn noted_change(
 }
 
 /// What the command changes in the file.
+///
+/// # Errors
+/// What `gain` refuses once the input was surveyed; `Input(0, ..)` with `Read` and `Shrunk`; `Memory`.
 pub(crate) fn gain_change<D: Folder>(
     alloc: Global,
     folder: &mut D,

@@ -10,7 +10,7 @@ use commands::Refusal;
 use moved_gains::{Course, Steps, Stuck, stuck_in};
 use sync_survey::{Row, Survey};
 
-/// The gain as a fault of the file, where its frame stands.
+/// A gain that would leave the range, as a fault of the file, with the offset in bytes of its frame.
 fn fault_at(offset: u32, stuck: Option<Stuck>) -> Option<Refusal>
     ensures { result ≡ stuck_fault offset stuck None }
 {
@@ -18,7 +18,7 @@ fn fault_at(offset: u32, stuck: Option<Stuck>) -> Option<Refusal>
     Some(Refusal::GainRange(u64::from(offset), stuck.granule, stuck.channel, stuck.gain))
 }
 
-/// The first gain of a frame that would leave the range. A lost frame stays, so it has none.
+/// The first gain of a frame that would leave the range from 0 to 255. A lost frame isn't changed, so it has none.
 fn stuck_of(steps: &Steps, row: &Row) -> Option<Stuck>
     ensures { result ≡ stuck_of_lem steps.now row.now }
 {

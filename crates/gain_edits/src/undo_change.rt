@@ -22,7 +22,7 @@ use std::alloc::{AllocError, Global};
 use sync_survey::Survey;
 use tag_blocks::{Tag, Undo};
 
-/// The bytes of the tag, none of one without items.
+/// The bytes of the tag; none where it has no items.
 fn bytes_unless_empty(alloc: Global, tag: &Tag) -> Result<Vec<u8>, AllocError>
     ensures { IfOk result (λ bytes. bytes.items ≡ bytes_unless_empty_lem tag.now) }
 {
@@ -33,8 +33,8 @@ fn bytes_unless_empty(alloc: Global, tag: &Tag) -> Result<Vec<u8>, AllocError>
     }
 }
 
-/// The steps of the undo item are taken, and the item is taken out of the tag: `GainRange` for the first gain that would
-/// leave its range.
+/// The gains move by the steps of the undo item, and the item is taken out of the tag: `GainRange` for the first gain that
+/// would leave the range from 0 to 255; `Memory`.
 fn undone_change(alloc: Global, survey: &Survey, tag: Tag, undo: &Undo) -> Result<Change, EditFault>
     requires laid { IsLaidOut (tells survey.now) }
     ensures change { MatchResult result
@@ -55,6 +55,9 @@ fn undone_change(alloc: Global, survey: &Survey, tag: Tag, undo: &Undo) -> Resul
 }
 
 /// What the command changes in the file.
+///
+/// # Errors
+/// What `undo` refuses once the input was surveyed; `Input(0, ..)` with `Read` and `Shrunk`; `Memory`.
 pub(crate) fn undo_change<D: Folder>(
     alloc: Global,
     folder: &mut D,

@@ -29,13 +29,13 @@ pub(crate) fn of_tag(fault: FileTagFault) -> EditFault
     }
 }
 
-/// What the undo item of a tag at this offset says: nothing is to be taken back where there is none. `BadUndo` with the
-/// offset of the item where its value isn't one.
+/// What the undo item of a tag at this offset in bytes says; 0 steps where there is none. `BadUndo` with the offset of the
+/// item where its value isn't of the form.
 pub(crate) fn noted_undo(at: u64, tag: &Tag) -> Result<Undo, EditFault>
     requires { at ≤ longest_file }
     ensures { result ≡ noted_undo_lem at (undo_from 32 tag.now.items) }
 {
-    // No place in the tag is after its end.
+    // Called for its contract: the item is within the tag, so the sum below can't overflow.
     let _ = tag.length();
     match tag.undo() {
         UndoItem::Missing => Ok(Undo {
@@ -53,7 +53,7 @@ pub(crate) fn found_undo(at: u64, tag: &Tag) -> Result<Undo, EditFault>
     requires { at ≤ longest_file }
     ensures { result ≡ found_undo_lem at (undo_from 32 tag.now.items) }
 {
-    // No place in the tag is after its end.
+    // As in `noted_undo`.
     let _ = tag.length();
     match tag.undo() {
         UndoItem::Missing => Err(Refusal::NoUndo.into()),
@@ -62,7 +62,7 @@ pub(crate) fn found_undo(at: u64, tag: &Tag) -> Result<Undo, EditFault>
     }
 }
 
-/// The steps that take back what the item says.
+/// The steps that the item lists: those that undo the changes.
 pub(crate) fn undo_steps(undo: &Undo) -> Steps
     ensures { result ≡ undo_steps_lem undo.now }
 {
@@ -79,7 +79,7 @@ fn difference(steps: i16, taken: i16) -> i32
     i32::from(steps) - i32::from(taken)
 }
 
-/// A number of the item less the steps that are taken: `UndoRange` where it isn't from -999 to 999.
+/// A number of the item less the steps of a change: `UndoRange` with the difference where it isn't from -999 to 999.
 fn number(steps: i16, taken: i16) -> Result<i16, Refusal>
     ensures number { MatchResult result
         (λ number. (number ≡ steps -ℤ taken) × (unsigned_abs number ≤ 999)
@@ -94,8 +94,8 @@ fn number(steps: i16, taken: i16) -> Result<i16, Refusal>
     }
 }
 
-/// The item after a further change: its steps are subtracted, and wrap is there once it was asked for. `UndoRange` for
-/// the first number, the left one first, that isn't from -999 to 999.
+/// The undo item after a further change: the steps of the change are subtracted, and it says `W` if it did before or the
+/// change wraps. `UndoRange` with the first number, the left one first, that isn't from -999 to 999.
 pub(crate) fn next_undo(shift: &Shift, undo: &Undo) -> Result<Undo, Refusal>
     ensures undo { MatchResult result
         (λ next. (next ≡ next_undo_lem shift.now undo.now) × (undo_fault next ≡ None))

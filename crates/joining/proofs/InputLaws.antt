@@ -95,7 +95,7 @@ then-then : (r : Result (List Part) EditFault) (g h : List Part → List Part) �
 then-then (Ok parts) g h = refl
 then-then (Err fault) g h = refl
 
--- what is left to be looked at after these
+-- the parts of inputs, some of which have their surveys, are those and then the parts of the others
 pub parts-behind : (place : ℕ) (first : Option ClassFields) (allowed : ℕ) (f : Contents) (before after : List (List ℕ)) (ss : List SurveyFields) → AreInputs first allowed (Some f) before ss
     → parts_from place first allowed f (before ++ after) ≡ then_made (parts_from (place + length before) (class_after first ss) (allowed - frames_of ss) f after) (λ parts. ok_parts (parts_in f before ss ++ parts))
 unfolding parts_from parts_in frames_of
@@ -189,7 +189,7 @@ first-late f name rest file holds few =
     (λ p. then_late (parts_from (0 + 1) (Some (unwrap_or None p.survey.class)) (most_frames - length p.survey.frames) f rest) (λ parts. ok_parts (p ∷ parts))
     (parts-late (0 + 1) (Some (unwrap_or None p.survey.class)) (most_frames - length p.survey.frames) f rest (not_first 0)) (λ parts. tt))
 
--- no file that may be read is refused before memory is taken for it
+-- where the first input is no longer than allowed, every refusal comes once memory was taken
 pub join-late : (names : List (List ℕ)) (f : Contents) (bytes : List ℕ) → f (first_input names) ≡ Some bytes → length bytes ≤ longest_file → IfErr ((join_task names).makes f) IsLate
 unfolding parts_from
 join-late [] f bytes held few = tt

@@ -50,7 +50,7 @@ told-holds (Told f) key told name holds there =
     let held = there_holds f name there in
     held.1 ∙ ap (λ (o : Option (List ℕ)). Some (unwrap_or o [])) (sym held.1)
 
--- where they are told, there is what the plan was made for
+-- where they are told, their frames are those that the plan was made for
 pub sources-needs : (class : ClassFields) (output : List ℕ) (files : Files) (key file : List ℕ) (names : List (List ℕ)) (ss : List SurveyFields) → Holds files key file → AreSources class output files names ss
     → AreNeedsOf (needs_of (rows_of ss)) (told_frames files names ss)
 unfolding needs_of parts_in

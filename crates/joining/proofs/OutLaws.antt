@@ -1,4 +1,4 @@
--- What is appended to the output: the front, and then the frames of all inputs.
+-- What is appended to the output: the blocks and the Info frame at its beginning, and then the frames of all inputs.
 use Rattle.std.proofs.Common.{◌≡◌, ◌≢◌, ℕ, List, [], ◌∷◌, ◌++◌, map, Option, Some, None, Result, Ok, Err, refl, sym, ◌∙◌, ap, ap₂, subst, append_assoc, append-nil}
 use Rattle.std.specs.Prelude.{IfErr, OnOk, OnErr, unwrap_or, flat_map}
 use Rattle.std.specs.List.{concat}
@@ -79,7 +79,7 @@ told-emptied class output old new names ss created are = ap (λ f. told_parts f 
 
 -- ---- the whole
 
--- the front and all frames are the file, where the first input is told
+-- the blocks, the Info frame and all frames are the file, where the first input is told
 joined-told : (output : List ℕ) (files : Files) (name file : List ℕ) (names : List (List ℕ)) (s : SurveyFields) (ss : List SurveyFields) (placed : List Placed) (info : List ℕ) → CanBeJoined (s ∷ ss) → AreSources s.class output files (name ∷ names) (s ∷ ss)
     → placed ≡ the_plan_of (s ∷ ss) → IsJoinedInfo (s ∷ ss) placed info → Holds files name file
     → (concat (front_blocks file s) ++ info) ++ frame_bytes (relaid (told_frames files (name ∷ names) (s ∷ ss)) placed) ≡ joined_file (told_parts files (name ∷ names) (s ∷ ss))

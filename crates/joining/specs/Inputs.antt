@@ -17,7 +17,7 @@ use Rattle.joining.specs.Join.{whole_part, part_of, join_refuses}
 
 -- ---- one input
 
--- an input is there and has a frame, and this is its survey, where so many frames are allowed
+-- an input is there and has a frame, and this is its survey, where `allowed` frames are allowed
 pub record IsInput (allowed : ℕ) (files : Files) (name : List ℕ) (s : SurveyFields) : Type 0 where
   pub there : IsThere files name
   pub exact : (file : List ℕ) → Holds files name file → survey_of file allowed ≡ Ok s
@@ -39,11 +39,11 @@ IsPartFaultBy place first allowed name old new fault (Unwritten k) = ⊥
 IsPartFaultBy place first allowed name old new fault Unsent = ⊥
 IsPartFaultBy place first allowed name old new fault NoMemory = NeedsMemory name old new
 
--- what the fault of an input says of it
+-- what the fault of an input says of its cause
 abbrev pub IsPartFault : ℕ → Option ClassFields → ℕ → List ℕ → Seen → Seen → EditFault → Type 0
 IsPartFault place first allowed name old new fault = IsPartFaultBy place first allowed name old new fault (why_of fault)
 
--- the fault is one of so many inputs, of the output, or want of memory; the class of the first input can't differ
+-- the fault is one of `count` inputs, of the output, or want of memory; the class of the first input can't differ
 abbrev pub IsOfJoin : ℕ → EditFault → Type 0
 IsOfJoin count (Input place fault) = (place < count) × (fault ≢ NoRoom) × HasRightNumbers fault
 IsOfJoin count (Refused refusal) = join_refuses count refusal ≡ true
@@ -98,7 +98,7 @@ parts_in files [] ss = []
 parts_in files (name ∷ names) [] = []
 parts_in files (name ∷ names) (s ∷ ss) = whole_part (unwrap_or (files name) []) s ∷ parts_in files names ss
 
--- where they are told
+-- the same by what the folder tells; none where it doesn't tell its files
 abbrev pub told_parts : Files → List (List ℕ) → List SurveyFields → List Part
 told_parts (Untold touched) names ss = []
 told_parts (Told files) names ss = parts_in files names ss

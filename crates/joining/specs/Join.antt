@@ -30,7 +30,7 @@ use Rattle.commands.specs.One.{Task, first_input, one_command, most_frames}
 abbrev pub whole_part : List ℕ → SurveyFields → Part
 whole_part file s = record { file = file; survey = s; from = 0; to = length s.frames }
 
--- frames of this class may follow: any where no input is before, else those of the first input's class
+-- an input of this class may follow: any where there is no input before it, else one of the first input's class
 abbrev pub may_follow : Option ClassFields → ClassFields → Bool
 may_follow None class = true
 may_follow (Some first) class = same_class class first
@@ -39,13 +39,13 @@ abbrev pub part_by : ℕ → Option ClassFields → List ℕ → Result SurveyFi
 part_by place first file (Err fault) = Err (Input place fault)
 part_by place first file (Ok s) = if may_follow first s.class then Ok (whole_part file s) else Err (Refused (Differ place))
 
--- What an input gives, counted from 0, of which so many frames are allowed: it isn't there, or it is at fault itself, or else its frames
--- are of another class than those of the first.
+-- All frames of the input with this number, counted from 0, of which `allowed` frames are allowed. It is refused where it isn't there, or else is at
+-- fault, or else its frames are of another class than those of the first.
 abbrev pub part_of : ℕ → Option ClassFields → ℕ → Option (List ℕ) → Result Part EditFault
 part_of place first allowed None = Err (Input place Absent)
 part_of place first allowed (Some file) = part_by place first file (survey_of file allowed)
 
--- the inputs from one on, or the first refusal: together they may have so many frames
+-- the inputs from this number on, or the first refusal; together they may have `allowed` frames
 unfoldable pub parts_from : ℕ → Option ClassFields → ℕ → Contents → List (List ℕ) → Result (List Part) EditFault
 parts_from place first allowed files [] = Ok []
 parts_from place first allowed files (name ∷ names) =
@@ -65,8 +65,8 @@ plan_of class parts = the_plan (window_of class.version) own_choice (map needs_i
 abbrev pub joined_frames : ClassFields → List Part → List Frame
 joined_frames class parts = relaid (flat_map frames_in parts) (plan_of class parts)
 
--- The ID3v2 blocks that are in front of the first frame of the first part, an Info frame like this first frame, and the frames; of no
--- frames there is no file.
+-- The ID3v2 blocks before the first frame of the first input, an Info frame with the header of this first frame, and the frames; of no frames there is
+-- no file.
 abbrev pub joined_from : Option Row → Part → List Part → List ℕ
 joined_from None part parts = []
 joined_from (Some first) part parts =
@@ -87,7 +87,7 @@ abbrev pub join_stream : Result (List Part) EditFault → List StreamFrame
 join_stream (Err fault) = []
 join_stream (Ok parts) = joined_stream parts
 
--- one of so many inputs may differ from the first
+-- any of the `count` inputs after the first may differ from it
 abbrev pub join_refuses : ℕ → Refusal → Bool
 join_refuses count (Differ place) = nat_lt 0 place && nat_lt place count
 join_refuses count _ = false

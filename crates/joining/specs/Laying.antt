@@ -39,20 +39,20 @@ abbrev pub FitsAll : List SurveyFields → List Placed → Type 0
 FitsAll [] placed = ⊥
 FitsAll (first ∷ ss) placed = FitsFrom (window_of first.class.version) 0 (needs_of (rows_of (first ∷ ss))) placed
 
--- these are the bytes of the Info frame in front of frames in the slots of this plan
+-- these are the bytes of the Info frame before frames in the slots of this plan
 abbrev pub IsJoinedInfo : List SurveyFields → List Placed → List ℕ → Type 0
 IsJoinedInfo [] placed bytes = ⊥
 IsJoinedInfo (s ∷ ss) placed bytes =
     (frames : List Frame) → map slot_in frames ≡ map (λ (p : Placed). p.slot) placed → (first : Row) → slice_get s.frames 0 ≡ Some first → bytes ≡ info_frame first.header (plain_info s.class frames)
 
--- the inputs can be joined, and this is their plan, with the Info frame in front
+-- the inputs can be joined, and this is their plan, with the Info frame before it
 pub record IsPlanned (ss : List SurveyFields) (planned : Planned) : Type 0 where
   pub joined : CanBeJoined ss
   pub plan : entries planned.plan ≡ the_plan_of ss
   pub fits : FitsAll ss (entries planned.plan)
   pub info : IsJoinedInfo ss (entries planned.plan) planned.info.items
 
--- where the inputs are told, all their frames as they were planned
+-- all frames of the inputs in the slots of the plan, by what the folder tells
 abbrev pub all_laid : Files → List (List ℕ) → List SurveyFields → List Placed → List ℕ → List Frame
 all_laid files names ss placed _ = relaid (flat_map frames_in (told_parts files names ss)) placed
 
@@ -79,7 +79,7 @@ of_pass place Read = Input place Unread
 of_pass place (Shrunk first second) = Input place (Shorter first second)
 of_pass place Write = Unwritten 0
 
--- the fault is one of the pass over one of so many inputs, with its cause
+-- the fault is one of the pass over one of `count` inputs, with its cause
 pub record HasJoinCause (count : ℕ) (files : Files) (before after : Counts) (fault : EditFault) : Type 0 where
   pub place : ℕ
   pub size : ℕ

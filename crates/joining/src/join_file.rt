@@ -27,19 +27,20 @@ fn clash(output: &str, inputs: &[String]) -> Option<u32>
 }
 
 /// Writes the output, which is all frames of the inputs, 1 to 64 of one class, in their order and with all main data: the
-/// ID3v2 blocks of the first input that are in front of its first frame, an Info frame, and the frames in the slots of
-/// their plan, each with its own bit rate and padding (ISO/IEC 11172-3, 2.4.2.7). A lead-in, one empty frame, is in
-/// front of the frames of each input whose first main data need room. No other block of any input is written.
+/// ID3v2 blocks of the first input before its first frame, an Info frame, and the frames in the slots of their plan, each
+/// with its own bit rate and padding (ISO/IEC 11172-3, 2.4.2.7). A lead-in, one silent frame, comes before the frames of each
+/// input whose first frames need more room for their main data than there is. No other block of any input is written.
 ///
-/// Refuses, in this order: `EqualNames` with the first input, counted from 0, whose name is the output's, byte for byte;
+/// # Errors
+/// In this order: `EqualNames` with the first input, counted from 0, whose name is the output's, byte for byte;
 /// then for each input in turn `Input` with its number and the fault of its survey, of which as many frames are allowed as
 /// those before leave of 2,900,000, and `Differ` with its number where its version, frequency or channels aren't those of
-/// the first. Then nothing was created. A file may be named twice.
+/// the first. After these nothing was created. A file may be named twice.
 ///
-/// `Input` with `Read` and `Write(0)` come only where a call of that kind failed, `Input` with `Absent` only where the
-/// input isn't there, and every other answer only where none failed; after `Write(0)` the output is as it was or
-/// holds a prefix of its bytes. `Memory` may come once the first input was found with a length that it may have,
-/// before the output is created, and not from then on.
+/// `Input` with `Read` and `Write(0)` come only where a call of that kind failed, `Input` with `Absent` only where that
+/// input isn't there, and every other answer only where none failed. `Input` with `Read` or `Shrunk` may also come while the
+/// output is written; after it, and after `Write(0)`, the output is as it was or holds a prefix of its bytes. `Memory` may
+/// come once the first input was found with a length that it may have, before the output is created, and not from then on.
 pub fn join<D: Folder>(
     alloc: Global,
     folder: &mut D,

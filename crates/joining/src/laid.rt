@@ -32,10 +32,10 @@ pub(crate) fn of_pass(place: u32, fault: PassFault) -> EditFault
 }
 
 /// Adds to what waits for the output the frames of all inputs as they were planned, one input after the other. The writer is
-/// new. What is said of the output is said where the first input is told.
+/// new. The clauses about the output speak of folders that tell the bytes of the first input.
 ///
 /// # Errors
-/// As at `Relay::lay`, with the number of the input. Then a prefix of what waited and the frames' bytes was appended.
+/// Those of `Relay::lay`, with the number of the input. Then a prefix of what waited and the frames' bytes was appended.
 pub(crate) fn lay_all<'a, D: Folder>(
     first: &Relay<'a>,
     folder: &mut D,

@@ -1,4 +1,4 @@
-//! The plan of all frames, and the Info frame in front of them.
+//! The plan of all frames, and the Info frame before them.
 ghost use Rattle.std.specs.Prelude.{◌≡◌, ◌<◌, ◌≤◌, ℕ, List, [], ◌∷◌, length, map, IfOk};
 ghost use Rattle.part_needs.specs.Needs.{asked_of};
 ghost use Rattle.slot_plan.specs.Plans.{entries};
@@ -37,7 +37,7 @@ fn plan_all(alloc: Global, surveys: &[Survey]) -> Result<Plan, AllocError>
     parts.plan(alloc, &Keep)
 }
 
-/// The plan of all frames, and the Info frame in front of them, which is like the first.
+/// The plan of all frames, and the Info frame before them, whose header is that of the first frame.
 pub(crate) fn plan_join(alloc: Global, surveys: &[Survey]) -> Result<Planned, AllocError>
     requires { CanBeJoined (map tells surveys.now) }
     ensures { IfOk result (IsPlanned (map tells surveys.now)) }

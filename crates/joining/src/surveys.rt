@@ -14,7 +14,7 @@ use outside::Folder;
 use std::alloc::Global;
 use sync_survey::Survey;
 
-/// Frames of this class may follow: any where there is no first input, else those of its class.
+/// Whether an input of this class may follow: any where there is no input before it, else one of the first input's class.
 fn may_follow(first: Option<Class>, class: Class) -> bool
     ensures value { result ≡ may_follow_lem first class }
     ensures follows { result ≡ true → Follows first class }
@@ -25,7 +25,8 @@ fn may_follow(first: Option<Class>, class: Class) -> bool
     }
 }
 
-/// What is known of an input, counted from 0, of which so many frames are allowed, after a first one of this class.
+/// The survey of the input with the number `place`, counted from 0, of which `allowed` frames are allowed, after a first input
+/// of this class.
 ///
 /// # Errors
 /// `Input` with that number and the fault of the survey; `Differ` with it where the input's frames are of another class;
@@ -68,10 +69,10 @@ fn first_class(surveys: &[Survey]) -> Option<Class>
     }
 }
 
-/// What is known of all inputs, one after the other; together they may have 2,900,000 frames.
+/// The surveys of all inputs, one after the other; together they may have 2,900,000 frames.
 ///
 /// # Errors
-/// As at `survey_part`, for the first input of which it has to be said.
+/// Those of `survey_part`, for the first input that has one.
 pub(crate) fn survey_all<D: Folder>(
     alloc: Global,
     folder: &mut D,

@@ -23,7 +23,7 @@ use outside::{Folder, Pass, PassFault};
 use std::alloc::{AllocError, Global};
 use sync_survey::Survey;
 
-/// Appends to the output the blocks of an input that go in front, and an Info frame of these bytes.
+/// Appends to the output the ID3v2 blocks of an input before its first frame, and an Info frame of these bytes.
 fn append_front<D: Folder>(
     relay: &Relay<'_>,
     folder: &mut D,
@@ -48,10 +48,10 @@ fn append_front<D: Folder>(
     relay.pass.finish(folder, &mut buffers.waiting)
 }
 
-/// Appends the file of all frames to the output, beginning with what the first input has in front. It takes no memory.
+/// Appends the file of all frames to the output, beginning with the ID3v2 blocks of the first input. It takes no memory.
 ///
 /// # Errors
-/// As at `Relay::write`, with the number of the input. Then a prefix of the file was appended.
+/// Those of `Relay::write`, with the number of the input. Then a prefix of the file was appended.
 fn append_joined<'a, D: Folder>(
     first: &Relay<'a>,
     folder: &mut D,
@@ -111,6 +111,10 @@ pub(crate) fn new_buffers(alloc: Global, surveys: &[Survey]) -> Result<Buffers, 
 }
 
 /// Creates the output and writes it. It takes no memory.
+///
+/// # Errors
+/// `Input` with the number of an input and `Read` or `Shrunk`, and `Write(0)`. Then the output is as it was or holds a prefix
+/// of its bytes.
 pub(crate) fn write_joined<D: Folder>(
     folder: &mut D,
     inputs: &[String],

@@ -37,7 +37,7 @@ use Rattle.splitting.specs.declared.split_file.Points.TheVariants.{Places, Sheet
 use Rattle.splitting.specs.Steps.{Says, IsPlacesFaultBy, IsPlacesFault, ArePieces, chosen_of, outputs_of, with_outputs, with_part, IsWrittenPart, IsPiecesFaultBy, IsPiecesFault}
 use Rattle.splitting.proofs.PiecesLaws.{outputs-are}
 
--- ---- want of memory is no refusal that is found before any is taken
+-- ---- the refusals that come once memory was taken
 
 first-late : (first : Chosen) (r : Result (List Chosen) EditFault) → IfErr r IsLate → IfErr (with_first first r) IsLate
 first-late first (Ok more) late = tt
@@ -68,7 +68,7 @@ short-late prefix file places late few =
     subst (λ r. IfErr (made_by prefix places file r) IsLate) (sym (survey_of-short file most_frames few))
     (by-late prefix file places (surveyed file most_frames) late (surveyed_of_bytes file most_frames))
 
--- the faults of a sheet, and none where the places are given
+-- the faults of the positions come once memory was taken
 abbrev pub AreLate : Placing → Type 0
 AreLate placing = (f : Contents) → IfErr (placing.places f) IsLate
 
@@ -208,7 +208,7 @@ module _ (points : Points) (input prefix : List ℕ) where
               let held = held-of f told in
               subst TakesMemory (sym (makes-then f held.0 told held.1)) (takes (then_made (placing.places f) (made_at prefix held.0 s)) (made-late prefix held.0 s (placing.places f) (points-late points f)))
 
-      -- no places
+      -- there are no positions
       pub places-refused : (fault : EditFault) → IfTold files (λ f. placing.places f ≡ Err fault) → Gives command files (Err fault)
       places-refused fault none = at files refl none
         where
@@ -218,7 +218,7 @@ module _ (points : Points) (input prefix : List ℕ) where
               let held = held-of f told in
               makes-then f held.0 told held.1 ∙ ap (λ p. then_made p (made_at prefix held.0 s)) none
 
-      -- ---- these places
+      -- ---- these positions
 
       module _ (places : List Place) (are : Says placing files (Ok places)) where
         makes-at : (f : Contents) (bytes : List ℕ) → files ≡ Told f → f input ≡ Some bytes → command.makes f ≡ made_at prefix bytes s places
@@ -277,7 +277,7 @@ module _ (points : Points) (input prefix : List ℕ) where
       places-left-by fault NoMemory h = record { names = apart; takes = behind-takes s old.files there surveyed; stays = h }
       places-left-by fault _ h = absurd h
 
-      -- there are no places
+      -- what is left where there are no positions
       pub places-left : (fault : EditFault) → IsPlacesFault placing mid new fault → Leaves command old new fault
       places-left fault h = places-left-by fault (why_of fault) (subst (λ (m : Seen). IsPlacesFault placing m new fault) stays h)
 
@@ -285,7 +285,7 @@ module _ (points : Points) (input prefix : List ℕ) where
       memory-left same = record { names = apart; takes = behind-takes s old.files there surveyed; stays = same ∙ stays }
 
       module _ (places : List Place) (are : Says placing old.files (Ok places)) where
-        -- they aren't pieces
+        -- what is left where they aren't pieces
         pub range-left : (fault : EditFault) → new ≡ mid → (fault ≡ Memory) ⊎ (IsRefusal cut_refuses fault × (chosen_at s.class (length s.frames) places ≡ Err fault)) → Leaves command old new fault
         range-left fault same (inl is) = subst (Leaves command old new) (sym is) (memory-left same)
         range-left (Refused refusal) same (inr h) = record { defined = range-refused s old.files there surveyed places are (Refused refusal) h.1; stays = same ∙ stays }

@@ -36,7 +36,7 @@ unfolding with_outputs holding
 more-written xs name bytes (Untold touched) input file holds = absurd holds
 more-written xs name bytes (Told f) input file holds = ap Told (sym (written-append xs (record { name = name; bytes = bytes } ∷ []) f))
 
--- after whole ones an output wasn't created, or holds a prefix
+-- after whole outputs one wasn't created, or holds a prefix
 part-is : (xs ys : List Output) (o : Output) (count : Option ℕ) (files : Files) → with_outputs (xs ++ begun count (o ∷ ys)) files ≡ with_part (length xs) count (xs ++ o ∷ ys) files
 unfolding with_outputs with_part
 part-is xs ys o count (Untold touched) = refl

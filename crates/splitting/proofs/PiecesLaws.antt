@@ -1,4 +1,4 @@
--- Pieces one more at a time, from the places and for the outputs.
+-- Pieces one more at a time, from the positions and for the outputs.
 use Rattle.std.proofs.Common.{◌≡◌, ◌≢◌, ℕ, ◌+◌, ◌-◌, ◌<◌, ◌≤◌, true, false, List, [], ◌∷◌, ◌++◌, length, map, take, drop, get_or, Result, Ok, Err, refl, sym, ◌∙◌, ap, ap₂, subst, zero, suc, bytes_eq, string_bytes, arith, append_assoc}
 use Rattle.std.specs.List.{All, list_any, range_with_len}
 use Rattle.std.proofs.lemmas.List.{drop_more}
@@ -34,7 +34,7 @@ one-chosen frames from to more done first is =
     ap (λ r. chosen_before done (then_made r (λ c. with_first c (chosen_from frames to more)))) is
     ∙ before-first done first (chosen_from frames to more)
 
--- up to this place, and then after it
+-- the choice up to a position, and then after it
 pub place-chosen : (class : ClassFields) (frames index from : ℕ) (rest : List Place) (d : Place) (done : List Chosen) (first : Chosen) (whole : Result (List Chosen) EditFault) → index < length rest
     → frames_between frames from (frame_at class frames (get_or rest index d)) ≡ Ok first → chosen_before done (chosen_from frames from (map (frame_at class frames) (drop index rest))) ≡ whole
     → chosen_before (done ++ first ∷ []) (chosen_from frames (frame_at class frames (get_or rest index d)) (map (frame_at class frames) (drop (index + 1) rest))) ≡ whole

@@ -11,7 +11,7 @@ use Rattle.commands.specs.Sheet.{sheet_read, IsSheetFaultBy as IsUnreadBy, IsShe
 use Rattle.splitting.specs.Split.{with_end, places_in, sheet_refuses}
 use Rattle.splitting.specs.Steps.{IsSheetFaultBy, IsSheetFault, IsOfSheet}
 
--- a sheet whose bytes aren't read says no places
+-- a sheet whose bytes aren't read says no positions
 read-places : (bytes : List ℕ) (fault : EditFault) → sheet_read bytes ≡ Err fault → places_in bytes ≡ Err fault
 read-places bytes fault is = ap (λ r. then_made r (λ read. with_end (cue_of read))) is
 

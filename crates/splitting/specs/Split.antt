@@ -1,4 +1,4 @@
--- One file cut at places: the frames between two neighbouring places are a piece, a file of its own.
+-- One file cut at positions: the frames between two neighbouring positions are a piece, a file of its own.
 use Rattle.std.specs.Prelude.{ℕ, ◌≤◌, ◌+◌, ◌/◌, ◌%◌, ◌||◌, Bool, true, false, List, [], ◌∷◌, ◌++◌, length, map, replicate, codes, Option, Some, None, Result, Ok, Err}
 use Rattle.std.specs.List.{All, range_with_len}
 use Rattle.frame_header.specs.Fields.{ClassFields}
@@ -39,7 +39,7 @@ piece_names prefix = map (piece_name prefix) (range_with_len 1 99)
 
 -- ---- pieces
 
--- the frames from one on and before another, in their own slots
+-- the frames from one up to, but not including, another, in their own slots
 abbrev pub frames_between : ℕ → ℕ → ℕ → Result Chosen EditFault
 frames_between frames from to = chosen_with None (replicate 36 0) from to Own frames
 
@@ -52,7 +52,7 @@ abbrev pub chosen_from : ℕ → ℕ → List ℕ → Result (List Chosen) EditF
 chosen_from frames from [] = Ok []
 chosen_from frames from (to ∷ more) = then_made (frames_between frames from to) (λ first. with_first first (chosen_from frames to more))
 
--- the frames from each place to the next
+-- the frames from each position to the next
 abbrev pub chosen_at : ClassFields → ℕ → List Place → Result (List Chosen) EditFault
 chosen_at class frames [] = Ok []
 chosen_at class frames (place ∷ places) = chosen_from frames (frame_at class frames place) (map (frame_at class frames) places)
@@ -64,7 +64,7 @@ pieces_from prefix k file s (chosen ∷ more) = record { name = piece_name prefi
 
 -- ---- the commands
 
--- what is made of a file with this survey, cut at these places
+-- what is made of a file with this survey, of which these frames are the pieces
 abbrev pub made_of : List ℕ → List ℕ → SurveyFields → List Chosen → Result Made EditFault
 made_of prefix file s chosen = Ok (record { outputs = pieces_from prefix 1 file s chosen; text = [] })
 
@@ -75,7 +75,8 @@ abbrev pub made_by : List ℕ → Result (List Place) EditFault → List ℕ →
 made_by prefix places file (Err fault) = Err (Input 0 fault)
 made_by prefix places file (Ok s) = then_made places (made_at prefix file s)
 
--- the input is at fault, or else there are no places, or else one is after the next or after the frames
+-- It is refused where the input is at fault, or else where there are no positions, or else where there is no frame from one to the next or the next is
+-- after the end.
 abbrev pub made_where : List ℕ → Result (List Place) EditFault → Option (List ℕ) → Result Made EditFault
 made_where prefix places None = Err (Input 0 Absent)
 made_where prefix places (Some file) = made_by prefix places file (survey_of file most_frames)
@@ -84,11 +85,11 @@ abbrev pub unless_equal : Option ℕ → Result Made EditFault → Result Made E
 unless_equal (Some place) answer = Err (EqualNames place)
 unless_equal None answer = answer
 
--- an input has the name of a piece, or else that
+-- it is refused where an input has the name of a piece, or else as above
 unfoldable pub made_result : List ℕ → List (List ℕ) → Result (List Place) EditFault → Option (List ℕ) → Result Made EditFault
 made_result prefix names places input = unless_equal (clash_from (piece_names prefix) 0 names) (made_where prefix places input)
 
--- the streams of the pieces; where there are none, none
+-- the streams of the pieces; none where the split is refused
 abbrev pub streams_of : List ℕ → SurveyFields → Result (List Chosen) EditFault → List (List StreamFrame)
 streams_of file s (Err fault) = []
 streams_of file s (Ok chosen) = map (λ c. chosen_stream c file s) chosen
@@ -105,12 +106,12 @@ unfoldable pub streams_where : Result (List Place) EditFault → Option (List �
 streams_where places None = []
 streams_where places (Some file) = streams_by places file (survey_of file most_frames)
 
--- the places, or why there are none, by what the folder holds; and which refusals there can be
+-- the positions, or why there are none, by what the folder holds; and which refusals there can be
 pub record Placing : Type 0 where
   pub places : Contents → Result (List Place) EditFault
   pub refuses : Refusal → Bool
 
--- The input is cut at places that further inputs may say. It may write a file of each of the 99 names.
+-- The input is cut at positions, which a further input may say. It may write a file of each of the 99 names.
 abbrev pub split_command : Placing → List (List ℕ) → List ℕ → List ℕ → Command
 split_command placing more input prefix = record {
   inputs = input ∷ more;
@@ -125,18 +126,18 @@ split_command placing more input prefix = record {
 abbrev pub given : List Place → Placing
 given places = record { places = λ files. Ok places; refuses = cut_refuses }
 
--- the input is cut at these places
+-- the input is cut at these positions
 abbrev pub split_at_command : List Place → List ℕ → List ℕ → Command
 split_at_command places input prefix = split_command (given places) [] input prefix
 
 -- ---- a cue sheet
 
--- from each start on, and up to the end
+-- the starts of the tracks, and the end
 abbrev pub with_end : Result (List Place) CueFault → Result (List Place) EditFault
 with_end (Ok starts) = Ok (starts ++ End ∷ [])
 with_end (Err fault) = Err (Refused (Sheet fault))
 
--- the places that the bytes of a cue sheet say
+-- the positions that the bytes of a cue sheet say
 abbrev pub places_in : List ℕ → Result (List Place) EditFault
 places_in sheet = then_made (sheet_read sheet) (λ bytes. with_end (cue_of bytes))
 
@@ -147,12 +148,12 @@ abbrev pub is_of_sheet : CueFault → Bool
 is_of_sheet NoRoom = false
 is_of_sheet _ = true
 
--- what may be refused of a sheet
+-- the refusals that a sheet may cause
 abbrev pub sheet_refuses : Refusal → Bool
 sheet_refuses (Sheet fault) = is_of_sheet fault
 sheet_refuses refusal = read_refuses refusal
 
--- and of the places that it says
+-- and those that its positions may cause
 abbrev pub told_refuses : Refusal → Bool
 told_refuses refusal = cut_refuses refusal || sheet_refuses refusal
 
@@ -169,7 +170,7 @@ abbrev pub placing_of : Points → Placing
 placing_of (Places places) = given places.now
 placing_of (InSheet sheet) = told_by sheet.now
 
--- the inputs beside that which is cut
+-- the inputs besides the one that is cut
 abbrev pub more_of : Points → List (List ℕ)
 more_of (Places places) = []
 more_of (InSheet sheet) = sheet.now ∷ []
@@ -177,7 +178,7 @@ more_of (InSheet sheet) = sheet.now ∷ []
 abbrev pub split_command_of : Points → List ℕ → List ℕ → Command
 split_command_of points input prefix = split_command (placing_of points) (more_of points) input prefix
 
--- there are so many places, and each can be one
+-- given positions are 2 to 100, and each is sound: a time has 1 to 100 parts a second
 abbrev pub ArePoints : Points → Type 0
 ArePoints (Places places) = All IsPlace places.now × (2 ≤ length places.now) × (length places.now ≤ 100)
 ArePoints (InSheet sheet) = Unit {0}

@@ -23,7 +23,7 @@ use Rattle.splitting.specs.Split.{piece_name, places_where, sheet_refuses, Placi
 
 -- ---- the sheet
 
--- the sheet is there, and says no places
+-- the sheet is there, and is refused
 pub record RefusesSheet (name : List ℕ) (old new : Seen) (fault : EditFault) : Type 0 where
   pub there : IsThere old.files name
   pub bytes : (bytes : List ℕ) → Holds old.files name bytes → places_where (Some bytes) ≡ Err fault
@@ -33,7 +33,7 @@ abbrev pub IsSheetFaultBy : List ℕ → Seen → Seen → EditFault → Why →
 IsSheetFaultBy name old new fault Rejected = RefusesSheet name old new fault
 IsSheetFaultBy name old new fault why = IsUnreadBy name old new fault why
 
--- what a fault says that was met while the sheet was read
+-- what a fault that was met while the sheet was read says of its cause
 abbrev pub IsSheetFault : List ℕ → Seen → Seen → EditFault → Type 0
 IsSheetFault name old new fault = IsSheetFaultBy name old new fault (why_of fault)
 
@@ -44,7 +44,7 @@ IsOfSheet fault = IsOfRead fault
 
 -- ---- the places
 
--- the files that are told say these places, or none
+-- where the folder tells its files, they say these positions, or this fault
 abbrev pub Says : Placing → Files → Result (List Place) EditFault → Type 0
 Says placing files answer = IfTold files (λ f. placing.places f ≡ answer)
 
@@ -57,11 +57,11 @@ IsPlacesFaultBy placing old new fault (Unwritten k) = ⊥
 IsPlacesFaultBy placing old new fault Unsent = ⊥
 IsPlacesFaultBy placing old new fault NoMemory = new ≡ old
 
--- what a fault says that was met while the places were found
+-- what a fault that was met while the positions were found says of its cause
 abbrev pub IsPlacesFault : Placing → Seen → Seen → EditFault → Type 0
 IsPlacesFault placing old new fault = IsPlacesFaultBy placing old new fault (why_of fault)
 
--- the fault is one of the sheet, or want of memory; given places have no other
+-- the fault is one of the sheet, or want of memory; of given positions only want of memory
 abbrev pub IsOfPlaces : Points → EditFault → Type 0
 IsOfPlaces (Places places) fault = fault ≡ Memory
 IsOfPlaces (InSheet sheet) fault = IsOfSheet fault
@@ -127,7 +127,7 @@ IsPiecesFaultBy made names input old new Shorter = StopsShort old new
 IsPiecesFaultBy made names input old new (Unwritten k) = StopsWriting made names input k old new
 IsPiecesFaultBy made names input old new _ = ⊥
 
--- what a fault leaves that was met while the pieces were written
+-- what a fault that was met while the pieces were written leaves
 abbrev pub IsPiecesFault : (List ℕ → List Output) → List (List ℕ) → List ℕ → Seen → Seen → EditFault → Type 0
 IsPiecesFault made names input old new fault = IsPiecesFaultBy made names input old new (why_of fault)
 
@@ -137,13 +137,13 @@ of_piece place CopyRead = Input 0 Read
 of_piece place (CopyShrunk first second) = Input 0 (Shrunk first second)
 of_piece place CopyWrite = Unwritable place
 
--- the numbers of such a fault, of so many pieces
+-- the numbers of such a fault are in range, where there are `count` pieces
 abbrev pub IsOfPieces : ℕ → EditFault → Type 0
 IsOfPieces count (Input place fault) = (place ≡ 0) × (fault ≢ NoRoom) × HasRightNumbers fault
 IsOfPieces count (Unwritable place) = place < count
 IsOfPieces count _ = ⊥
 
--- the numbers of the fault of a pass
+-- the numbers of the fault of a pass are in range
 abbrev pub IsOfCopy : PassFault → Type 0
 IsOfCopy CopyRead = Unit {0}
 IsOfCopy (CopyShrunk first second) = second < first

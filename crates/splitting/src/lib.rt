@@ -1,4 +1,4 @@
-//! The split commands: one MP3 file becomes several, cut at places.
+//! The split commands: one MP3 file becomes several, cut at positions.
 #![tactic(auto)]
 
 mod names;

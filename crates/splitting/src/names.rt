@@ -5,7 +5,7 @@ ghost use Rattle.splitting.specs.Split.{piece_name as piece_name_lem, piece_name
 
 use std::alloc::{AllocError, Global};
 
-/// A prefix has so many names.
+/// How many names a prefix can give: the number of a piece has two digits, from 01 on.
 pub(crate) const MOST_PIECES: u8 = 99;
 
 /// The digit of the tens.

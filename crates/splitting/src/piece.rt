@@ -25,8 +25,8 @@ pub(crate) struct Piece {
     pub selection: Selection,
 }
 
-/// The piece with this number, of the frames from one on and before another: `Range` where there is none between them, or
-/// not all are there.
+/// The piece with this number, of the frames from `from` up to, but not including, `to`: `Range` where there is none between
+/// them, or not all are there; `Memory`.
 fn make_piece(
     alloc: Global,
     survey: &Survey,
@@ -55,8 +55,8 @@ fn make_piece(
     })
 }
 
-/// The pieces from each place to the next: `Range` for the first pair between which there is no frame, or of which not all
-/// frames are there.
+/// The pieces from each position to the next: `Range` for the first pair between which there is no frame, or of which the
+/// second is after the end of the file; `Memory`.
 pub(crate) fn make_pieces(
     alloc: Global,
     survey: &Survey,

@@ -1,4 +1,4 @@
-//! The places that a cue sheet says.
+//! The positions at which a cue sheet cuts a file.
 ghost use Rattle.std.specs.Prelude.{◌≡◌, ◌⊎◌, ◌≤◌, List, ℕ, length, Ok, Err, Some, IfOk, IfErr, OnOk, MatchResult};
 ghost use Rattle.std.specs.List.{All};
 ghost use Rattle.outside.specs.Files.{Holds, IsThere};
@@ -14,7 +14,8 @@ use cue_sheet::{Cue, CueFault, Place};
 use outside::Folder;
 use std::alloc::Global;
 
-/// The starts that the bytes of a sheet say, and the end after them.
+/// The starts of the tracks in the bytes of a sheet, and the end of the file after them. `Sheet` with the fault of the bytes;
+/// `Memory`.
 fn places_in(alloc: Global, bytes: &[u8]) -> Result<Vec<Place>, EditFault>
     requires { length bytes.now ≤ longest_sheet }
     ensures places { MatchResult result
@@ -35,12 +36,12 @@ fn places_in(alloc: Global, bytes: &[u8]) -> Result<Vec<Place>, EditFault>
     Ok(places)
 }
 
-/// The places that a sheet says, the second input of a command. The files stay.
+/// The positions at which a sheet, the second input of a command, cuts a file. The files stay.
 ///
 /// # Errors
-/// `Input(1, ..)` with `Absent` and `Read`, and with `Shrunk`, the length that the sheet was found with and the one that it
-/// had when it was read, only where the folder doesn't tell its files; `SheetTooLarge` with its length above 65,536 bytes;
-/// `Sheet` with the fault of its bytes; `Memory`.
+/// `Input(1, ..)` with `Absent` and `Read`, and, only where the folder doesn't tell its files, with `Shrunk`, the length in
+/// bytes that the sheet was found with and the one that it had when it was read; `SheetTooLarge` with its length above 65,536
+/// bytes; `Sheet` with the fault of its bytes; `Memory`.
 pub(crate) fn sheet_places<D: Folder>(
     alloc: Global,
     folder: &mut D,

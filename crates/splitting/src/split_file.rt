@@ -21,9 +21,9 @@ use std::alloc::Global;
 /// Where a file is cut.
 #[derive(Clone, Copy)]
 pub enum Points<'a> {
-    /// At these places, of which the last is after the last piece.
+    /// At these positions, 2 to 100: each but the last is where a piece begins, and the last where the last piece ends.
     Places(&'a [Place]),
-    /// At each start of a track that the cue sheet of this name says, and at the end.
+    /// At the start of each track in the cue sheet of this name, and at the end.
     Sheet(&'a str),
 }
 
@@ -46,10 +46,10 @@ fn clash(input: &str, points: &Points<'_>, prefix: &str) -> Option<u32>
     }
 }
 
-/// The places where the file is cut: those that are given, or each start that a cue sheet says and the end. The files stay.
+/// The positions where the file is cut: those that are given, or the starts in a cue sheet and the end. The files stay.
 ///
 /// # Errors
-/// As at `sheet_places`; `Memory`.
+/// Those of `sheet_places`; `Memory`.
 fn places_of<D: Folder>(
     alloc: Global,
     folder: &mut D,
@@ -75,23 +75,25 @@ fn places_of<D: Folder>(
     }
 }
 
-/// Writes the pieces of the input, which are the frames from each place on and before the next, with all main data. Each is
-/// a file as `edits::cut` writes one that keeps the slots of its frames: the ID3v2 blocks of the input that are in front of
-/// its first frame, an Info frame, these frames in the slots of their plan, with a lead-in where their main data need
-/// room, and all other blocks. The name of a piece is the prefix, two decimal digits of its number, which is counted from
-/// 1, and `.mp3`.
+/// Writes the pieces of the input, which are the frames from each position up to, but not including, the next, with all main
+/// data. Each is a file as `edits::cut` writes one that keeps the slots of its frames: the ID3v2 blocks of the input before
+/// its first frame, an Info frame, these frames in the slots of their plan, with a lead-in where the first of them need more
+/// room for their main data than they have themselves, and all other blocks. The name of a piece is the prefix, two decimal
+/// digits of its number, which is counted from 1, and `.mp3`.
 ///
-/// Refuses, in this order: `EqualNames` with 0 where the name of the input is one of the 99 that the prefix can give, byte
+/// # Errors
+/// In this order: `EqualNames` with 0 where the name of the input is one of the 99 that the prefix can give, byte
 /// for byte, whether there are so many pieces or not, and with 1 where that of the sheet is; `Input(0, ..)` with the fault
-/// of the survey of the input, of which 2,900,000 frames are allowed; of a sheet, which is input 1, `Input(1, ..)` where it
-/// isn't there, `SheetTooLarge` with its length where it has more than 65,536 bytes, and `Sheet` with its first fault; `Range` with the numbers of the two frames and that of all frames for the first place
-/// and the next between which there is no frame, or of which the second is after all frames. Then nothing was created.
+/// of the survey of the input, of which 2,900,000 frames are allowed; of a sheet, which is input 1, `Input(1, ..)` with
+/// `Absent`, `Read` and `Shrunk`, `SheetTooLarge` with its length where it has more than 65,536 bytes, and `Sheet` with its
+/// first fault; `Range` with the numbers of the two frames and that of all frames for the first position and the next between
+/// which there is no frame, or of which the second is after the end. After these nothing was created.
 ///
-/// `Input` with `Read` and `Write` come only where a call of that kind failed, `Input` with `Absent` only where the input
+/// `Input` with `Read` and `Write` come only where a call of that kind failed, `Input` with `Absent` only where that input
 /// isn't there, and every other answer only where none failed. `Write` names the piece, counted from 0. After it, and after
-/// `Input` with `Read` where an output was created, the pieces before are whole, and this one is as it was or holds a prefix
-/// of its bytes. `Memory` may come once the input was found with a length that it may have, before the first output
-/// is created, and not from then on.
+/// `Input(0, ..)` with `Read` or `Shrunk` where an output was created, the pieces before are whole, and this one is as it was
+/// or holds a prefix of its bytes. `Memory` may come once the input was found with a length that it may have, before the first
+/// output is created, and not from then on.
 pub fn split<D: Folder>(
     alloc: Global,
     folder: &mut D,

@@ -1,4 +1,4 @@
--- All frames, with what the head tells.
+-- All frames, with the quality and extension of the head.
 use Rattle.std.proofs.Common.{◌≡◌, ℕ, ◌<◌, ◌&&◌, true, List, length, Option, Ok, refl, sym, ◌∙◌, ap, rules}
 use Rattle.std.specs.Prelude.{nat_lt, nat_le}
 use Rattle.laying.specs.Written.{head_info}

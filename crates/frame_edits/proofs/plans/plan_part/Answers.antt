@@ -1,4 +1,4 @@
--- The parts are the one.
+-- There is only one part.
 use Rattle.std.proofs.Common.{◌≡◌, [], ◌∷◌, sym, subst}
 use Rattle.std.specs.Prelude.{IfOk}
 use Rattle.slot_plan.specs.Parts.{window_in, parts_of}

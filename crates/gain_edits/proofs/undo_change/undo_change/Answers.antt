@@ -66,7 +66,7 @@ returns-in_err-undo-clause-numbers g c =
     let p = err_from_is_err_and c.from_residual.result c.from_residual.ensures.1 in
     rw (p.1, p.2) (refusal_numbers undo_refuses _ (of_err (IsRefusal undo_refuses) _ _ (found_item_may c.tag_place.result.offset (undo_from 32 c.in-Ok.tag.items)) (sym c.in_err-undo.ensures)))
 
--- the file's change is the one that its item tells of
+-- the file's change is the one that its undo item lists
 undone : (g : given.Over) (c : After-undone_change g) (bytes : List ℕ) → Holds (g.D.Folder.files c.args.folder.now) c.args.name.now bytes
     → undo_change bytes (tells c.args.survey.now) ≡ undone_change (tells c.args.survey.now) c.in-Ok.tag c.in_ok-undo.undo
 undone g c bytes holds =

@@ -1,4 +1,4 @@
--- What waits of the front is handed on.
+-- What waits of the blocks and the Info frame is written.
 use Rattle.std.proofs.lemmas.Result.{on_ok_weaker, on_err_weaker}
 use Rattle.outside.proofs.PassedLaws.{on_err}
 use Rattle.outside.proofs.PassLaws.{writes_all, writes_end, writes_behind_none, part_behind_none, causes_behind}

@@ -1,4 +1,4 @@
--- What the first input has in front, the frames of all inputs, and then what waits of them.
+-- The ID3v2 blocks of the first input and the Info frame, the frames of all inputs, and then what waits of them.
 use Rattle.std.proofs.Common.{◌≡◌, ℕ, List, ◌++◌, length, map, string_bytes, refl, sym, ap, subst, arith}
 use Rattle.std.specs.List.{concat}
 use Rattle.std.proofs.lemmas.List.{length-map}
@@ -52,7 +52,7 @@ lay_all-requires-clause-target g c =
 pub lay_all-requires-clause-new : goal.lay_all-requires-clause-new
 lay_all-requires-clause-new g c = subst (λ (w : Held). IsNew (tells c.args.first.now.survey.now).class w) (sym c.append_front.ensures.writer) c.requires.fresh.new
 
--- the front was appended, and then the frames
+-- the blocks and the Info frame were appended, and then the frames
 module _ (g : given.Over) (c : After-lay_all g) where
   abbrev old : Files
   old = g.D.Folder.files c.args.folder.now

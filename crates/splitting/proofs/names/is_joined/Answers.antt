@@ -1,4 +1,4 @@
--- By its front and its back.
+-- By its prefix and what is after it.
 use Rattle.std.proofs.Common.{◌≡◌, true, false, bytes_eq, rules}
 use Rattle.splitting.proofs.NamesLaws.{front-is_other, back-decides}
 use Rattle.splitting.proofs.names.is_joined.Goals as goal

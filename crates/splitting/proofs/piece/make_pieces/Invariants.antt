@@ -1,4 +1,4 @@
--- The pieces up to a place, and the places after it.
+-- The pieces up to a position, and the positions after it.
 use Rattle.std.proofs.Common.{◌≡◌, length, map, drop}
 use Rattle.cue_sheet.specs.Places.{frame_at}
 use Rattle.sync_survey.specs.Faults.{tells}

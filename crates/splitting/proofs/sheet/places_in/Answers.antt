@@ -1,4 +1,4 @@
--- The starts, and one place more.
+-- The starts, and the end after them.
 use Rattle.std.proofs.Common.{[], ◌∷◌, length, ap, length-append, arith}
 use Rattle.cue_sheet.specs.declared.place.Place.TheVariants.{End}
 use Rattle.splitting.proofs.sheet.places_in.Goals as goal

@@ -1,4 +1,4 @@
--- A sheet whose bytes aren't read says no places.
+-- A sheet whose bytes aren't read says no positions.
 use Rattle.std.proofs.lemmas.Result.{err_from_is_err_and}
 use Rattle.splitting.proofs.SheetLaws.{unread-fault, unread-number}
 use Rattle.splitting.proofs.sheet.sheet_places.Goals as goal

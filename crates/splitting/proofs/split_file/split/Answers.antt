@@ -31,7 +31,7 @@ returns-in_err-places-clause-left g c =
     (places-left c.args.points.now c.args.input.now c.args.prefix.now (sym c.clash.ensures ∙ c.in_default.is) (tells c.in_ok-survey.survey) (seen (files c.args.folder.now) (counts c.args.folder.now)) (seen (files c.survey_at.new.folder) (counts c.survey_at.new.folder)) _
     (ap₂ seen c.survey_at.ensures.files c.in_ok-survey.ensures.done) c.in_ok-survey.ensures.there c.in_ok-survey.ensures.surveyed _ c.in_err-places.ensures.refused)
 
--- the places are said by the files as they were, and nothing changed
+-- the positions are those that the files from before say, and nothing changed
 said : (g : given.Over) (c : After-as_slice g) → Says (placing_of c.args.points.now) (g.D.Folder.files c.args.folder.now) (Ok c.as_slice.result.now)
 said g c =
     subst (λ ps. Says (placing_of c.args.points.now) (g.D.Folder.files c.args.folder.now) (Ok ps)) (sym c.as_slice.ensures.value)

@@ -1,4 +1,4 @@
--- A cut's places are decided by the survey alone.
+-- What a cut chooses is decided by the survey alone.
 use Rattle.std.proofs.Common.{◌≡◌, ℕ, List, Result, Ok, Err, refl, sym, ◌∙◌, ap, subst}
 use Rattle.std.specs.Prelude.{IfOk, IfErr, MatchResult}
 use Rattle.outside.specs.Files.{Holds, IsThere}
@@ -44,7 +44,7 @@ returns-in-Between-clause-refused g c =
     subst (λ choice. IfErr c.cut_choice.result (IsInputFault (choosing (choosing_by choice)) c.args.name.now now now)) (sym c.in-Between.is)
     (choice_err (cut_choice c.in-Between.from.now c.in-Between.to.now c.in-Between.slots) c.args.name.now (tells c.args.survey.now) now c.requires.there c.requires.surveyed c.cut_choice.result c.cut_choice.ensures.chosen c.cut_choice.ensures.refusal)
 
--- what holds whatever the command makes holds of this one
+-- what holds whatever a command makes of its input holds of this command
 of_making : (P : Making → EditFault → Type 0) (make : Making) (r : Result CodeChosen EditFault) → IfErr r (λ fault. (other : Making) → P other fault) → IfErr r (P make)
 of_making P make (Ok chosen) is = tt
 of_making P make (Err fault) is = is make
