@@ -1,4 +1,4 @@
--- A stream made from a number, packed: the packing isn't refused, the packed file holds the frames that were drawn, and needs no lead-in.
+-- A stream made from a seed, packed: the packing isn't refused, the packed file holds the frames that were drawn, and needs no lead-in.
 use Rattle.std.proofs.Common.{◌≡◌, ◌≢◌, ℕ, suc, ◌-◌, ◌<◌, ◌≤◌, ◌&&◌, Bool, true, false, List, [], ◌∷◌, ◌++◌, length, take, map, Option, Some, None, Result, Ok, Err, refl, sym, ◌∙◌, ap, subst, inl, inr, arith, rules}
 use Rattle.std.specs.Prelude.{All, slice_range, nat_lt, nat_le, decimal}
 use Rattle.std.specs.List.{enumerate_from}
@@ -58,7 +58,7 @@ none-counted (p ∷ placed) none =
     let here : p.lead_in ≡ false = none 0 p (omega arith) in
     rw here (none-counted placed (rest-none p placed none))
 
--- of such a plan the stream stays
+-- a plan without lead-ins leaves the stream as it is
 same-stream : (window reach : ℕ) (needs : List Need) (placed : List Placed) (stream : List StreamFrame) → FitsFrom window reach needs placed → All (λ p. p.lead_in ≡ false) placed → length needs ≡ length stream
     → with_lead_ins placed stream ≡ stream
 unfolding FitsFrom with_lead_ins
@@ -183,14 +183,14 @@ module _ (seed count : ℕ) (some : 0 < count) (few : count ≤ 20000) where
     holds = subst (λ (l : List ℕ). HoldsStream l drawn) (sym packed-is) (subst (HoldsStream (chosen_file all file told)) packed-stream (chosen-holds all file told (survey-had file most_frames told is-surveyed) right.some right.within right.extension));
   }
 
-  -- what a survey tells of it
+  -- how many frames a survey finds in it
   pub packed-frames : (t : SurveyFields) → survey_of (packed_file seed count) most_frames ≡ Ok t → length t.frames ≡ count
   packed-frames t e =
       let packed = packed_file seed count in
       let found = surveyed-stream packed most_frames t (survey_of-parts packed most_frames t e).1 in
       sym (stream-length packed t) ∙ ap length (sym found.stream_is ∙ is-packed.holds.stream_is) ∙ drawn-many
 
-  -- where the packing of the file of a folder was done, the folder holds it
+  -- once the file of a folder was packed, the folder holds the packed file
   pub packed-there : (stream packed : List ℕ) (f : Contents) (new : Files) → f stream ≡ Some file → ((made : Made) × ((pack_command stream packed).makes f ≡ Ok made) × (new ≡ Told (written made.outputs f)))
       → Holds new packed (packed_file seed count)
   unfolding made_result

@@ -1,4 +1,4 @@
--- The drill command: a stream is made from a number and packed, and a line tells of both. No file of any folder is read or written.
+-- The drill command: a stream is made from a seed and packed, and a line says how long both are. No file of any folder is read or written.
 use Rattle.std.specs.Prelude.{ℕ, List, [], ◌∷◌, length, filter, Some, Result, Ok, Err, false}
 use Rattle.frame_header.specs.Tables.{window_of}
 use Rattle.slot_plan.specs.declared.needs.Placed.{Placed}
@@ -35,7 +35,7 @@ packed_plan seed count = the_plan (window_of drill_header.version) any_choice (d
 abbrev pub lead_ins_in : List Placed → ℕ
 lead_ins_in placed = length (filter (λ (p : Placed). p.lead_in) placed)
 
--- what is told of both
+-- the numbers of the line
 abbrev pub drill_summary : ℕ → ℕ → Summary
 drill_summary seed count = record {
   frames = count;
@@ -47,7 +47,7 @@ drill_summary seed count = record {
 unfoldable pub drill_text : ℕ → ℕ → List ℕ
 drill_text seed count = summary_text (drill_summary seed count)
 
--- the text is that of the numbers, whatever the files are
+-- the text is that of the seed and the count, whatever the files are
 abbrev pub drill_command : ℕ → ℕ → Command
 drill_command seed count = record {
   inputs = [];
@@ -59,7 +59,7 @@ drill_command seed count = record {
   refuses = λ refusal. false;
 }
 
--- nothing is refused: there was no memory, or a write to standard output failed
+-- nothing is refused: the fault is want of memory, or that a write to standard output failed
 abbrev pub IsDrillFault : EditFault → Type 0
 IsDrillFault NotSent = Unit {0}
 IsDrillFault Memory = Unit {0}

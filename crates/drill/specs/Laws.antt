@@ -1,4 +1,4 @@
--- What holds of every stream that is made from a number and packed.
+-- What holds of every stream that is made from a seed and packed.
 use Rattle.std.specs.Prelude.{◌≡◌, ℕ, ◌<◌, ◌≤◌, map, Ok}
 use Rattle.sync_survey.specs.Faults.{HoldsStream}
 use Rattle.laid_files.specs.LaidFiles.{entry_of}

@@ -14,10 +14,10 @@ use outside::{Failed, Sink};
 use std::alloc::{AllocError, Global};
 use sync_survey::{Survey, survey};
 
-/// The bytes of a frame of the stream.
+/// The length in bytes of each frame of the stream: 128 kbit/s at 44.1 kHz, without padding.
 const FRAME: u64 = 417;
 
-/// Makes the stream of this number, of so many frames, in a folder of its own, packs it there, and surveys the packed file.
+/// Makes the stream of this seed, of `count` frames, in a folder of its own, packs it there, and surveys the packed file.
 ///
 /// # Errors
 /// Where there is no memory.
@@ -43,7 +43,7 @@ fn survey_packed(
     }
 }
 
-/// What is told of the stream and of the packed file.
+/// The numbers of the line about the stream and the packed file.
 ///
 /// # Errors
 /// Where there is no memory.
@@ -63,10 +63,10 @@ fn summary_of(alloc: Global, seed: u32, count: u32) -> Result<Summary, AllocErro
     })
 }
 
-/// Makes the stream of this number, of so many frames, in a folder in memory of its own, packs it there with the least slots,
+/// Makes the stream of this seed, of `count` frames, in a folder in memory of its own, packs it there with the least slots,
 /// surveys the packed file, and sends the line `N frames, A bytes in, B bytes out, L lead-ins`: N is the number of frames, A
 /// the length of the stream in bytes, B that of the packed file, and L the number of lead-ins in it, which is always 0. The
-/// seed is one of a linear congruential generator modulo 2^31, and a frame has 417 bytes.
+/// seed is one of a linear congruential generator modulo 2^31, and each frame of the stream has 417 bytes.
 ///
 /// # Errors
 /// `Memory` where there was none, also where a call of the folder in memory failed; then nothing was sent. `Sent` only
@@ -74,7 +74,7 @@ fn summary_of(alloc: Global, seed: u32, count: u32) -> Result<Summary, AllocErro
 pub fn drill<T: Sink>(alloc: Global, seed: u32, count: u32, out: &mut T) -> Result<(), EditFault>
     requires some { 1 ≤ count }
     requires few { count ≤ 20000 }
-    // Whatever a folder tells beside it: it isn't read.
+    // Whatever files there are: none is read.
     ensures says { (files : Files) → Says (drill_command seed count) files
         (heard (T.sent out.old) (T.faults out.old)) (heard (T.sent out.new) (T.faults out.new))
         (fault_of result) }

@@ -1,4 +1,4 @@
-//! The command that makes a stream from a number, packs it in memory, and tells how long both are: a large input that needs no
+//! The command that makes a stream from a seed, packs it in memory, and says how long both are: a large input that needs no
 //! file.
 #![tactic(auto)]
 

@@ -1,18 +1,18 @@
 //! The commands: from the files of a folder they make new ones, or are refused.
 //!
-//! Each takes the memory's allocator, a folder and names in it. It is refused with an `EditFault` that says why, and its
-//! contract says what the files hold then and where it is done. This crate only gathers them:
+//! Each takes the allocator, a folder and names in it. It is refused with an `EditFault` that says why, and its contract says
+//! what the files hold then, and what they hold where it was done. This crate only gathers them:
 //!
 //! | call | crate | what it does |
 //! |---|---|---|
-//! | `list` | `listing` | sends what a file holds, a line for each frame and block, to a sink |
-//! | `gain`, `undo` | `gain_edits` | moves the gains of a file, and takes back what the file's tag says of that |
+//! | `list` | `listing` | sends what a file holds, a line for each block, junk, head and frame, to a sink |
+//! | `gain`, `undo` | `gain_edits` | moves the gains of a file; undoes the changes that the file's tag lists |
 //! | `fade` | `fading` | moves the gains of a file by a curve over its frames |
-//! | `cut`, `pack` | `frame_edits` | lays out chosen frames, or all, again in one file |
-//! | `pack_with` | `packing` | packs in a mode: with the least slots, one bit rate alone, or bit rates from one on |
-//! | `split` | `splitting` | lays out the frames between places again, a file for each piece |
-//! | `join` | `joining` | lays out the frames of several files again in one |
-//! | `salvage` | `salvaging` | lays out what can be read of a damaged file again, and sends what is missing to a sink |
+//! | `cut`, `pack` | `frame_edits` | lays the frames between two positions, or all, anew in one file |
+//! | `pack_with` | `packing` | packs in a mode: with the least slots, one bit rate alone, bit rates from one on, or the fewest bytes |
+//! | `split` | `splitting` | lays the frames between positions anew, a file for each piece |
+//! | `join` | `joining` | lays the frames of several files anew in one |
+//! | `salvage` | `salvaging` | lays what can be read of a damaged file anew, and sends what is missing to a sink |
 //!
 //! What they share, the faults and the one body of those that make one file, is in `commands`.
 

@@ -25,7 +25,7 @@ needs-length [] (f ∷ fs) are = absurd are
 needs-length (need ∷ needs) [] are = absurd are
 needs-length (need ∷ needs) (f ∷ fs) are = omega (arith, needs-length needs fs are.2)
 
--- what is at the front of a part's stream: as many frames as were planned, and at least one
+-- a part's stream has as many frames as were planned, and at least one
 pub record IsSized (needs : List Need) (stream : List StreamFrame) : Type 0 where
   pub some : 0 < length needs
   pub same : length stream ≡ length needs
@@ -43,7 +43,7 @@ pub one-on : (b : Bool) (p : Placed) (placed : List Placed) (f : StreamFrame) (f
     → with_lead_ins (p ∷ placed) (f ∷ fs) ≡ one_in_stream b f ∷ with_lead_ins placed (left_behind b f fs)
 one-on b p placed f fs is = stream-cons p placed f fs ∙ ap (λ lead_in. one_in_stream lead_in f ∷ with_lead_ins placed (left_behind lead_in f fs)) is
 
--- frames that aren't lead-ins stand as they are
+-- frames of a plan without lead-ins are as they are
 pub frames-on : (choices : HeaderFields → List SlotFields) (items : List Item) (needs : List Need) (fs tail : List StreamFrame) (placed : List Placed)
     → length fs ≡ length needs → AreFor (map (item_of choices) needs ++ items) placed
     → (left : List Placed) × (with_lead_ins placed (fs ++ tail) ≡ fs ++ with_lead_ins left tail) × AreFor items left

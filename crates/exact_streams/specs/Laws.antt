@@ -1,4 +1,4 @@
--- What holds of the streams and plans of the commands that lay out main data again.
+-- What holds of the streams and plans of the commands that lay main data anew.
 use Rattle.std.specs.Prelude.{◌≡◌, ℕ, ◌<◌, ◌≤◌, List, [], ◌∷◌, map, flat_map, length, slice_range, Ok}
 use Rattle.frame_header.specs.Fields.{SlotFields, HeaderFields, ClassFields}
 use Rattle.frame_header.specs.Tables.{window_of}
@@ -17,14 +17,14 @@ use Rattle.packing.specs.Packing.{needs_of}
 use Rattle.packing.specs.Rates.{rates_plan}
 use Rattle.exact_streams.specs.Exact.{IsExactly}
 
--- Parts of files without fault in the slots of their plan: the stream is exactly the frames of each part, as in a join.
+-- Parts of well-formed files in the slots of their plan: the stream is exactly the frames of each part, as in a join.
 abbrev pub PlannedStreamsAreExact : Type 0
 PlannedStreamsAreExact =
     (class : ClassFields) (choices : HeaderFields → List SlotFields) (parts : List Part) (placed : List Placed)
     → AreParts class parts → IsPlan (window_of class.version) choices (map needs_in parts) placed
     → IsExactly (map stream_in parts) (with_lead_ins placed (flat_map stream_in parts))
 
--- What a cut, a piece of a split and a plain packing write holds exactly the chosen frames of the stream of the input.
+-- The output of a cut, of a packing with the least slots, and each piece of a split holds exactly the chosen frames of the stream of the input.
 abbrev pub ChosenStreamsAreExact : Type 0
 ChosenStreamsAreExact =
     (chosen : Chosen) (file : List ℕ) (s : SurveyFields)
@@ -38,7 +38,7 @@ ChosenPlansAreFirst =
     → survey_of file most_frames ≡ Ok s → chosen.from < chosen.to → chosen.to ≤ length s.frames
     → IsPlan (window_of s.class.version) (choices_by chosen.slots) (map need_of (chosen_rows chosen s) ∷ []) (plan_of chosen s)
 
--- What a packing with the slots of some bit rates writes holds exactly the frames of the stream of the input.
+-- The output of a packing with the slots of some bit rates holds exactly the frames of the stream of the input.
 abbrev pub PackedStreamsAreExact : Type 0
 PackedStreamsAreExact =
     (rates : Rates) (chosen : Chosen) (file : List ℕ) (s : SurveyFields) (placed : List Placed)
@@ -46,7 +46,7 @@ PackedStreamsAreExact =
     → rates_plan rates s.class (needs_of chosen s) ≡ Ok placed
     → IsExactly (slice_range (stream_of file) chosen.from chosen.to ∷ []) (with_lead_ins placed (slice_range (stream_of file) chosen.from chosen.to))
 
--- What a join writes holds exactly the frames of each part, which are all frames of an input.
+-- The output of a join holds exactly the frames of each part, which are all frames of an input.
 abbrev pub JoinedStreamsAreExact : Type 0
 JoinedStreamsAreExact =
     (first : Part) (parts : List Part) → AreParts first.survey.class (first ∷ parts)

@@ -18,7 +18,7 @@ pub record IsListedTo (s : SurveyFields) (left : List Thing) (waits : List ℕ) 
 pub listed_none : (s : SurveyFields) (left : List Thing) (sent : Sent) → left ≡ in_order (things_of s) → IsListedTo s left [] sent sent
 listed_none s left sent is = record { done = []; lines = ap lines_of (sym is); sent = sent_none sent [] }
 
--- the first thing is left no longer
+-- the first thing is met, and the others are left
 split_first : (left : List Thing) (t : Thing) → Some t ≡ first_of left → left ≡ t ∷ drop 1 left
 split_first [] t is = absurd cc
 split_first (u ∷ us) t is = let same : t ≡ u = cc in rw same refl
@@ -47,7 +47,7 @@ listed_failed s left t waits old now new h is part =
     let whole : listing s ≡ (h.done ++ line_of t) ++ behind = listing_is s (h.done ++ line_of t) (drop 1 left) (lines_split s left t h.done is h.lines) in
     subst (λ text. SentPrefix text old new) (sym whole) (sent_prefix_of behind (sent_more_prefix (line_of t) h.sent part))
 
--- nothing is left but the summary
+-- only the summary is left
 no_more : (left : List Thing) → None ≡ first_of left → left ≡ []
 no_more [] is = refl
 no_more (t ∷ ts) is = absurd cc
@@ -69,7 +69,7 @@ summary_more s left waits after old now new h is more =
     let all = listed_all s left waits old now h is in
     subst (λ text. SentOn text after old new) (sym all.1) (sent_more_on (summary s.class (length s.frames)) all.2 more)
 
--- the end of what waits
+-- all that waited was sent
 pub sent_behind : {T E : Type 0} (r : Result T E) {text waits : List ℕ} {old now : Sent} (new : Sent) → SentOn text waits old now → OnOk r (new ≡ sent_more now waits) → OnOk r (new ≡ sent_more old text)
 sent_behind (Ok x) new so_far all = sent_then_all so_far all
 sent_behind (Err e) new so_far all = tt

@@ -14,7 +14,7 @@ use Rattle.listing.specs.declared.things.Thing.TheVariants.{Block, Junk}
 use Rattle.listing.specs.declared.things.Things.{Things}
 use Rattle.listing.specs.Things.{offset_of, head_of, frames_from, stream_things, things_of, put_in, in_order, before, merged, stream_left, left, first_of}
 
--- each is at or after the one before it, and the first at or after a place
+-- each is at or after the offset of the one before it, and the first at or after this offset
 abbrev pub Rises : ℕ → List Thing → Type 0
 Rises from [] = Unit {0}
 Rises from (t ∷ ts) = (from ≤ offset_of t) × Rises (offset_of t) ts
@@ -36,7 +36,7 @@ unfolding merged
 merged_first [] u us from rises lt = refl
 merged_first (t ∷ ts) u us from rises lt = rw (lt-ltb (offset_of u) (offset_of t) (omega (arith, rises.0, lt))) refl
 
--- and what is at or after a place is put after the thing there
+-- a thing after which all others are is put first
 put_before : (t : Thing) (ts us : List Thing) → Rises (offset_of t) ts → Rises (offset_of t) us → put_in t (merged ts us) ≡ t ∷ merged ts us
 unfolding merged
 put_before t [] us rises behind = put_first t us behind
@@ -115,7 +115,7 @@ before_stream t behind (u ∷ us) offset is lt =
     let first : ltb (offset_of u) (offset_of t) ≡ true = lt-ltb (offset_of u) (offset_of t) (omega (arith, same, lt)) in
     (rw first refl, rw first refl)
 
--- and else it is met itself
+-- where nothing is before the thing, it is met itself
 pub before_block : (t : Thing) (behind : List Thing → List Thing) (us : List Thing) (o : Option ℕ) → option_map offset_of (first_of us) ≡ o → IfSome o (λ offset. offset_of t ≤ offset)
     → (first_of (before t behind us) ≡ Some t) × (drop 1 (before t behind us) ≡ behind us)
 before_block t behind [] o is le = (refl, refl)

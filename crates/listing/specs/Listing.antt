@@ -34,11 +34,11 @@ extent at size = codes " at " ++ (decimal at ++ (codes ": " ++ (decimal size ++ 
 abbrev pub padding_text : Bool → List ℕ
 padding_text padding = if padding then codes " padded" else []
 
--- its main data begin before the stream
+-- the frame is lost: its main data begin before the file
 abbrev pub lost_text : Bool → List ℕ
 lost_text lost = if lost then codes ", lost" else []
 
--- number and offset of a frame, its bit rate, how far back its main data begin, and how many bits they are
+-- number and offset of a frame, its bit rate in kbit/s, its main_data_begin in bytes, and how many bits its main data are
 abbrev pub frame_line : ℕ → Row → List ℕ
 frame_line number row =
     codes "frame " ++ (decimal number ++ (codes " at " ++ (decimal row.offset ++ (codes ": " ++ (decimal (rate_of (class_of row.header) row.header.slot)
@@ -58,18 +58,18 @@ version_name One = codes "MPEG-1"
 version_name Two = codes "MPEG-2"
 version_name TwoFive = codes "MPEG-2.5"
 
--- how long so many frames of this class are heard, in hundredths of a second, rounded down
+-- how long `count` frames of this class sound, in hundredths of a second, rounded down
 abbrev pub hundredths : ClassFields → ℕ → ℕ
 hundredths class count = (count * samples_of class.version * 100) / frequency_of class
 
 abbrev pub two_digits : ℕ → List ℕ
 two_digits n = (48 + n / 10 % 10) ∷ (48 + n % 10) ∷ []
 
--- minutes, seconds and hundredths, with points between them
+-- a time in hundredths of a second as minutes, seconds and hundredths, with dots between them
 abbrev pub time_text : ℕ → List ℕ
 time_text time = decimal (time / 6000) ++ (codes "." ++ (two_digits (time / 100 % 60) ++ (codes "." ++ two_digits (time % 100))))
 
--- how many frames there are, what they share, and how long they are heard
+-- how many frames there are, what they share, and how long they sound
 unfoldable pub summary : ClassFields → ℕ → List ℕ
 summary class count =
     decimal count ++ (codes " frames, " ++ (version_name class.version ++ (codes ", " ++ (decimal (frequency_of class) ++ (codes " Hz, " ++ (decimal class.channels
@@ -92,7 +92,7 @@ abbrev pub listed_where : Option (List ℕ) → Result Made EditFault
 listed_where None = Err (Input 0 Absent)
 listed_where (Some file) = listed_by (survey_of file most_frames)
 
--- nothing is written, and the text is that of the input
+-- nothing is written to the folder, and the text is that of the input
 abbrev pub list_command : List ℕ → Command
 list_command input = record {
   inputs = input ∷ [];

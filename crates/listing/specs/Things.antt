@@ -16,11 +16,11 @@ offset_of (Frame number row) = row.offset
 
 -- ---- all things of a file, kind by kind
 
--- the bytes between the blocks at the front and the first frame, where there are any
+-- the bytes between the front and the first frame, where there are any
 abbrev pub junk_of : SurveyFields → List Thing
 junk_of s = if nat_lt s.junk s.first then Junk s.junk (s.first - s.junk) ∷ [] else []
 
--- the head is the first frame
+-- the head, where the first frame is one
 abbrev pub head_of : ℕ → Option Head → List Thing
 head_of first None = []
 head_of first (Some head) = FirstHead first head.header ∷ []
@@ -37,7 +37,7 @@ things_of s = map Block s.blocks ++ stream_things s
 
 -- ---- in order of their offsets
 
--- a thing before the first of these that isn't before it
+-- the list with a thing put before the first whose offset isn't less
 abbrev pub put_in : Thing → List Thing → List Thing
 put_in t [] = t ∷ []
 put_in t (u ∷ us) = if nat_lt (offset_of u) (offset_of t) then u ∷ put_in t us else t ∷ u ∷ us
@@ -46,9 +46,9 @@ unfoldable pub in_order : List Thing → List Thing
 in_order [] = []
 in_order (t ∷ ts) = put_in t (in_order ts)
 
--- ---- what a walk over them has left
+-- ---- what a walk over them hasn't met yet
 
--- the thing, or before it those of the others that are before it
+-- the thing after those of the others that have lesser offsets, and then what `behind` makes of the rest
 abbrev pub before : Thing → (List Thing → List Thing) → List Thing → List Thing
 before t behind [] = t ∷ behind []
 before t behind (u ∷ us) = if nat_lt (offset_of u) (offset_of t) then u ∷ before t behind us else t ∷ behind (u ∷ us)

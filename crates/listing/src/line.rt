@@ -1,13 +1,13 @@
-//! A line of text that is put together from its end to its front.
+//! A line of text that is put together from its end to its beginning.
 ghost use Rattle.std.specs.Prelude.{◌≡◌, ◌+◌, ◌≤◌, [], ◌++◌, length, decimal};
 
 use itoa::write_digits;
 use std::marker::Model;
 
-// No line of a listing is longer.
+// In bytes; no line of a listing is longer.
 const ROOM: usize = 192;
 
-/// A text of at most 192 bytes, to which more is put in front: so the digits of a number are written where they
+/// A text of at most 192 bytes that grows at its beginning: so the digits of a number are written where they
 /// stay. Contracts see it as its bytes.
 #[derive(Drop)]
 pub struct Line {
@@ -36,7 +36,7 @@ impl Line {
         }
     }
 
-    /// Lets the text go.
+    /// Makes the text empty again.
     #[inline]
     pub fn clear(&mut self)
         ensures { self.new ≡ [] }
@@ -44,7 +44,7 @@ impl Line {
         self.front = ROOM;
     }
 
-    /// Puts a text in front.
+    /// Puts another text before it.
     #[inline]
     pub fn put(&mut self, text: &[u8])
         requires { length self.old + length text.now ≤ 192 }
@@ -55,7 +55,7 @@ impl Line {
         self.front = front;
     }
 
-    /// Puts the decimal digits of a number in front.
+    /// Puts the decimal digits of a number before it.
     #[inline]
     pub fn put_number(&mut self, number: u64)
         requires { length self.old + 20 ≤ 192 }

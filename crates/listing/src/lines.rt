@@ -9,7 +9,7 @@ use itoa::Buffer;
 use sync_survey::Row;
 use tag_blocks::Kind;
 
-// The end of a line: where a thing begins, and how long it is.
+// The end of a line: the offset of a thing, and its length, in bytes.
 fn set_extent(line: &mut Line, at: u64, size: u64)
     ensures text { line.new ≡ extent_lem at size }
     ensures few { length line.new ≤ 64 }
@@ -33,7 +33,7 @@ fn kind_name<'a>(kind: Kind) -> &'a [u8]
     }
 }
 
-// The number of a frame, its offset, its bit rate, how far back its main data begin, how many bits they are, and whether it is lost.
+// The number of a frame, its offset, its bit rate in kbit/s, its main_data_begin in bytes, how many bits its main data are, and whether it is lost.
 fn set_frame_line(line: &mut Line, number: u64, row: &Row)
     ensures { line.new ≡ frame_line_lem number row.now }
 {
@@ -93,7 +93,7 @@ fn version_name<'a>(version: Version) -> &'a [u8]
     }
 }
 
-// Puts the last two decimal digits of a number in front of the line.
+// Puts the last two decimal digits of a number before the line.
 fn put_two_digits(line: &mut Line, number: u64)
     requires { length line.old + 2 ≤ 192 }
     ensures { line.new ≡ two_digits_lem number ++ line.old }
@@ -103,7 +103,7 @@ fn put_two_digits(line: &mut Line, number: u64)
     line.put(&[tens, ones]);
 }
 
-// The end of a line: a time of so many hundredths of a second.
+// The end of a line: a time in hundredths of a second, written as M.SS.HH.
 fn set_time(line: &mut Line, time: u128)
     ensures text { line.new ≡ time_text time ++ codes "\n" }
     ensures few { length line.new ≤ 64 }
@@ -117,7 +117,7 @@ fn set_time(line: &mut Line, time: u128)
     line.put(Buffer::new().format(time / 6000).as_bytes());
 }
 
-/// Makes the text the summary of so many frames of this class.
+/// Makes the text the summary of `count` frames of this class.
 #[tactic(auto, unfolding(crate::specs::Listing::summary))]
 pub(crate) fn set_summary(line: &mut Line, class: Class, count: u64)
     ensures { line.new ≡ summary class count }

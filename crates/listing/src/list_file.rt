@@ -52,9 +52,9 @@ fn send_listing<T: Sink>(survey: &Survey, mut buffer: SendBuffer, out: &mut T) -
 /// | summary | `N frames, V, F Hz, C channels, M.SS.HH` |
 ///
 /// O is an offset and L a length in bytes, I the number of the frame, counted from 0 without the head, R its bit
-/// rate, B its main_data_begin in bytes, P the bits of its main data; it is lost where they begin before the
-/// stream, in bytes that were cut off. V is `MPEG-1`, `MPEG-2` or `MPEG-2.5`,
-/// M.SS.HH minutes, seconds and hundredths, rounded down.
+/// rate, B its main_data_begin in bytes, P how many bits its main data are; it is lost where they begin before the
+/// file, in frames that were cut off. F is the sampling frequency in Hz, V is `MPEG-1`, `MPEG-2` or `MPEG-2.5`, and
+/// M.SS.HH are minutes, seconds and hundredths, rounded down.
 ///
 /// # Errors
 /// `Input(0, ..)` with the fault of the survey of the input, of which 2,900,000 frames are allowed; `Memory` may

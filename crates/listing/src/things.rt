@@ -32,7 +32,7 @@ impl Thing {
     }
 }
 
-/// The things of a surveyed file that a walk has left.
+/// The things of a surveyed file that a walk hasn't met yet.
 #[derive(Drop)]
 pub(crate) struct Things<'a> {
     pieces: &'a [Piece],
@@ -76,7 +76,7 @@ impl<'a> Things<'a> {
         }
     }
 
-    /// The first thing that is left; the walk goes after it.
+    /// The next thing, in order of the offsets; none once all were met.
     pub(crate) fn next(&mut self) -> Option<Thing>
         ensures first { result ≡ first_of (left self.old) }
         ensures rest { left self.new ≡ drop 1 (left self.old) }
@@ -93,7 +93,7 @@ impl<'a> Things<'a> {
         }
     }
 
-    /// The offset of the next thing that is no block.
+    /// The offset of the next thing that isn't a block.
     fn stream_offset(&self) -> Option<u64>
         ensures { result ≡ option_map offset_of (first_of (stream_left self.now)) }
     {
@@ -107,7 +107,7 @@ impl<'a> Things<'a> {
         Some(u64::from(row.offset))
     }
 
-    /// The next thing that is no block.
+    /// The next thing that isn't a block.
     fn next_of_stream(&mut self) -> Option<Thing>
         ensures first { result ≡ first_of (stream_left self.old) }
         ensures rest { stream_left self.new ≡ drop 1 (stream_left self.old) }

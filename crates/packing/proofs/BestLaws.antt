@@ -99,7 +99,7 @@ module _ (chosen : Chosen) (s : SurveyFields) (placed : IsPlaced s) (some : chos
   pub in-order : ChooseInOrder any_choice (needs_of chosen s ∷ [])
   in-order = subst (ChooseInOrder any_choice) (parts_are [] 0 (chosen_rows chosen s ∷ []) refl) (rows-fit chosen s placed some within).least
 
-  -- the plan of the plain packing
+  -- the plan of the packing with the least slots
   pub plain-plan : IsPlan (window_of s.class.version) any_choice (needs_of chosen s ∷ []) (plan_of (record chosen { slots = Least }) s)
   plain-plan = the-plan (record chosen { slots = Least }) s placed some within
 

@@ -1,4 +1,4 @@
--- Where all bit rates from one on are allowed no file is unfit.
+-- Where all bit rates from one on are allowed, no file is refused with `Unfit`.
 use Rattle.std.proofs.Common.{◌≡◌, ℕ, ◌&&◌, Bool, true, false, cond, List, length, Some, None, Result, Ok, Err, refl, ap}
 use Rattle.std.specs.Prelude.{nat_lt, nat_le}
 use Rattle.frame_header.specs.Tables.{window_of}

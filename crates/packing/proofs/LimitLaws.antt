@@ -1,4 +1,4 @@
--- A file of so many frames at most: its faults, and that where it has none it has none where more are allowed.
+-- A file of at most so many frames: its faults, and that it has none where more frames are allowed, if it has none here.
 use Rattle.std.proofs.Common.{◌≡◌, ℕ, ◌≤◌, ◌==◌, false, List, length, Option, Some, None, Result, Ok, Err, refl, sym, ◌∙◌, ap, subst, inl, inr, arith, rules}
 use Rattle.std.specs.Prelude.{Bool, IfErr, IfSome}
 use Rattle.std.proofs.lemmas.Option.{slice_get_within, slice_get_cases}
@@ -82,7 +82,7 @@ limited-late allowed file made few late = at (survey_of file allowed) refl
     at (Ok s) is = late
 
 module _ (allowed : ℕ) (task : Task) where
-  -- where the source is told, it has no fault
+  -- by what the folder tells, the source has no fault
   abbrev pub IsFaultless : Files → Type 0
   IsFaultless files = (file : List ℕ) → Holds files task.source file → (s : SurveyFields) × (survey_of file allowed ≡ Ok s)
 

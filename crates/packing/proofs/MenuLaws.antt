@@ -1,4 +1,5 @@
--- The slots of some bit rates: their areas ascend, there are some where the named one is a bit rate of the class, and up from one on the largest is among them.
+-- The slots of some bit rates: their areas ascend, there are some where the named one is a bit rate of the class, and the largest slot is among those
+-- of all bit rates from one on.
 use Rattle.std.proofs.Common.{◌≡◌, ℕ, zero, suc, ◌-◌, ◌<◌, ◌≤◌, ◌==◌, ◌&&◌, Bool, true, false, cond, List, [], ◌∷◌, length, get_or, rules, All, Contains, AllPairs, None, Some, refl, subst, arith}
 use Rattle.std.specs.Prelude.{leb, nat_lt, slice_index, filter}
 use Rattle.std.specs.List.{list_all}
@@ -45,7 +46,7 @@ menu-slots rates class slot has = subst IsSlot has.2 (All-filter (allows rates c
 
 -- ---- there are some
 
--- what passes one test passes the other, so where some pass the first, some are kept by the other
+-- where all that pass one test pass another, and some pass the first, some pass the other
 some-kept : (p q : SlotFields → Bool) → ((x : SlotFields) → p x ≡ true → q x ≡ true) → (xs : List SlotFields) → 1 ≤ length (filter p xs) → 1 ≤ length (filter q xs)
 some-kept p q weaker [] some = absurd (omega (arith, some))
 some-kept p q weaker (x ∷ xs) some = at (q x) refl (p x) refl some (λ more. some-kept p q weaker xs more)
@@ -81,7 +82,7 @@ rates-top One = refl
 rates-top Two = refl
 rates-top TwoFive = refl
 
--- a number that is one of these is at most what all are at most
+-- where all of these numbers are at most this, so is one of them
 any-most : (f : SlotFields → ℕ) (n most : ℕ) (xs : List SlotFields) → list_all (λ x. leb (f x) most) xs ≡ true → 1 ≤ length (filter (λ x. f x == n) xs) → n ≤ most
 any-most f n most [] all some = absurd (omega (arith, some))
 any-most f n most (x ∷ xs) all some = at (leb (f x) most) refl all (f x == n) refl some (λ more. any-most f n most xs more)

@@ -31,7 +31,7 @@ use Rattle.packing.specs.declared.edit.Work.{Work}
 use Rattle.packing.specs.Packing.{Planning, needs_of, laid_as, packed, packing, stream_with, stream_by, packed_stream, packed_task, IsPlanFault}
 use Rattle.packing.specs.Ready.{IsReady, packed_file}
 
--- whatever the plan is made by, its refusals come late, and frames can be laid by it
+-- a planner whose refusals come once memory was taken, and by whose plans frames can be laid
 pub record IsPlanning (plan : Planning) : Type 0 where
   pub late : (class : ClassFields) (needs : List Need) → IfErr (plan class needs) IsLate
   pub fitting : (chosen : Chosen) (s : SurveyFields) → IsPlaced s → chosen.from < chosen.to → chosen.to ≤ length s.frames → (placed : List Placed) → plan s.class (needs_of chosen s) ≡ Ok placed
@@ -82,7 +82,7 @@ work_makes plan refuses input work files ready =
 
 -- ---- before the output is created
 
--- what was as before is as it was
+-- a fault that was met in a state equal to the old one
 pub input_moved : (make : Making) (name : List ℕ) (before old new : Seen) (fault : EditFault) → before ≡ old → IsInputFault make name before new fault → IsInputFault make name old new fault
 input_moved make name before old new fault same is = subst (λ o. IsInputFault make name o new fault) same is
 

@@ -1,4 +1,4 @@
--- The plan with the slots of some bit rates: it can be laid, and up from a bit rate on there is always one.
+-- The plan with the slots of some bit rates: it can be laid, and with all bit rates from one on there is always one.
 use Rattle.std.proofs.Common.{◌≡◌, ℕ, zero, suc, ◌+◌, ◌-◌, ◌==◌, cond, get_or, append-nil, rules, ◌<◌, ◌≤◌, Bool, true, false, List, [], ◌∷◌, length, map, drop, All, Contains, Some, None, Result, Ok, Err, refl, sym, ◌∙◌, ap, subst, arith, length-drop}
 use Rattle.std.specs.Prelude.{IfOk, IfErr, MatchResult, slice_range}
 use Rattle.std.proofs.lemmas.List.{length-map, length-take}
@@ -208,7 +208,7 @@ module _ (chosen : Chosen) (s : SurveyFields) (placed : IsPlaced s) (some : chos
   known : AreKnown (chosen_rows chosen s)
   known = part-known s chosen.from chosen.to placed
 
-  -- up from a bit rate on no frame is unfit
+  -- with all bit rates from one on no frame is unfit
   pub never-unfit : (rate i : ℕ) → no_rate (From rate) s.class ≡ None → menu_plan (window_of s.class.version) (menu_in (From rate) s.class) (needs_of chosen s) ≡ Err i → ⊥
   never-unfit rate i none is =
       let menu = menu_in (From rate) s.class in

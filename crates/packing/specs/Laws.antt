@@ -7,6 +7,6 @@ use Rattle.packing.specs.declared.mode.Rates.TheVariants.{From}
 use Rattle.packing.specs.Packing.{packing}
 use Rattle.packing.specs.Rates.{rates_plan}
 
--- where all bit rates from one on are allowed no file is unfit
+-- where all bit rates from one on are allowed, no file is refused with `Unfit`
 abbrev pub FloorsFit : Type 0
 FloorsFit = (rate i : ℕ) (file : List ℕ) → made_file (packing (rates_plan (From rate))) file ≡ Err (Refused (Unfit i)) → ⊥

@@ -21,13 +21,13 @@ use Rattle.frame_edits.specs.Chosen.{Chosen, chosen_rows, all_choice, laid_by}
 abbrev pub Planning : Type 0
 Planning = ClassFields → List Need → Result (List Placed) EditFault
 
--- the fault of a plan: there is none, which may be refused so, or there was no memory
+-- why there is no plan: a refusal of the definition, which may come, or want of memory
 abbrev pub IsPlanFault : Planning → (Refusal → Bool) → ClassFields → List Need → EditFault → Type 0
 IsPlanFault plan refuses class needs (Refused refusal) = (plan class needs ≡ Err (Refused refusal)) × (refuses refusal ≡ true)
 IsPlanFault plan refuses class needs Memory = Unit {0}
 IsPlanFault plan refuses class needs _ = ⊥
 
--- what is planned
+-- what the chosen frames need, which is what is planned
 abbrev pub needs_of : Chosen → SurveyFields → List Need
 needs_of chosen s = map need_of (chosen_rows chosen s)
 
@@ -53,7 +53,7 @@ abbrev pub stream_by : Planning → List ℕ → Result SurveyFields SurveyFault
 stream_by plan file (Err fault) = []
 stream_by plan file (Ok s) = stream_with file s (packed plan file s)
 
--- where nothing is written, none
+-- the stream of what is written; empty where nothing is written
 abbrev pub packed_stream : Planning → List ℕ → List StreamFrame
 packed_stream plan file = stream_by plan file (survey_of file most_frames)
 

@@ -47,19 +47,19 @@ fitted (Err i) = Err (Refused (Unfit i))
 abbrev pub rates_plan : Rates → ClassFields → List Need → Result (List Placed) EditFault
 rates_plan rates class needs = then_made (unless (no_rate rates class) (menu_in rates class)) (λ menu. fitted (menu_plan (window_of class.version) menu needs))
 
--- With one bit rate alone a frame may be unfit; up from one on none is.
+-- With one bit rate alone a frame may be unfit; with all from one on none is.
 abbrev pub rates_refuse : Rates → Refusal → Bool
 rates_refuse rates (NoRate rate) = rate == named rates
 rates_refuse (Only rate) (Unfit i) = true
 rates_refuse (From rate) (Unfit i) = false
 rates_refuse rates _ = false
 
--- that of the planner as one of a command
+-- a fault of the planner as one of a command
 abbrev pub of_rate : RateFault → EditFault
 of_rate (UnfitFrame i) = Refused (Unfit i)
 of_rate NoMemory = Memory
 
--- what a refusal of the planner says
+-- what a fault of the planner says
 abbrev pub IsMenuFault : Result (List Placed) ℕ → RateFault → Type 0
 IsMenuFault r (UnfitFrame i) = r ≡ Err i
 IsMenuFault r NoMemory = Unit {0}

@@ -31,7 +31,7 @@ refuses_by Best = pack_refuses
 
 -- ---- how many frames are allowed
 
--- the shortest packing is of so many frames at most
+-- how many frames a file may have that is packed in the fewest bytes
 abbrev pub most_best : ℕ
 most_best = 200000
 
@@ -43,17 +43,17 @@ abbrev pub unless_fault : Result SurveyFields SurveyFault → Result (List ℕ) 
 unless_fault (Err fault) made = Err (Input 0 fault)
 unless_fault (Ok s) made = made
 
--- a file that has a fault where so many frames are allowed is refused with the first
+-- a file that has a fault where this many frames are allowed is refused with it
 abbrev pub limited_by : Option ℕ → Option (List ℕ) → Result (List ℕ) EditFault → Result (List ℕ) EditFault
 limited_by None file made = made
 limited_by (Some allowed) None made = made
 limited_by (Some allowed) (Some file) made = unless_fault (survey_of file allowed) made
 
--- the same task for a source of so many frames at most, where there is such a limit
+-- the same task for a source of at most as many frames as the limit, where there is one
 abbrev pub limited : Option ℕ → Task → Task
 limited limit task = record task { makes = λ files. limited_by limit (files task.source) (task.makes files) }
 
--- of bit rates every file may be packed that any command takes
+-- a packing by bit rates has no limit besides that of all commands
 abbrev pub limit_by : Rule → Option ℕ
 limit_by (Rates rates) = None
 limit_by Best = Some most_best

@@ -15,7 +15,7 @@ use outside::Folder;
 use pack_mode::PackMode;
 use std::alloc::Global;
 
-/// Packs by a rule.
+/// Packs by a rule. For the refusals see `pack_with`.
 fn pack_by<D: Folder>(
     alloc: Global,
     folder: &mut D,
@@ -40,21 +40,24 @@ fn pack_by<D: Folder>(
     make_one(alloc, folder, &PackEdit { input, rule }, output)
 }
 
-/// Writes the output, which is all frames of the input, each with the least bit rate and padding that the mode allows and with
-/// which all main data have room (ISO/IEC 11172-3, 2.4.2.7): its ID3v2 blocks that are in front of the first frame, an
-/// Info frame with the quality and extension of the input's, the frames, and all other blocks. A lead-in, one empty frame,
-/// is in front where the main data have no room without it. With `PackMode::Best` the frames have the bit rates and
-/// padding with which they take the fewest bytes in all, and of several such lists those of the first in the order of their areas.
+/// Writes the output, which is all frames of the input, each from the first on with the lowest bit rate and padding that the
+/// mode allows and with which the main data of all later frames still have room (ISO/IEC 11172-3, 2.4.2.7): the input's ID3v2
+/// blocks before its first frame, an Info frame with the quality and the extension of the input's head, the frames, and all
+/// other blocks. A lead-in, one silent frame, comes before them where the main data have no room without it. With
+/// `PackMode::Best` the frames have the bit rates and padding with which they take the fewest bytes in all; of several such
+/// lists of slots, those of the first in the order of their areas.
 ///
-/// Refuses, in this order: `EqualNames(0)` where the names are equal, byte for byte; `Input(0, ..)` with the fault of the
-/// survey of the input, of which 2,900,000 frames are allowed, and 200,000 with `PackMode::Best`; `NoRate` with the bit rate of the mode where it isn't one of
-/// the input's class; `Unfit` with the first frame up to which the main data have no room, even after a lead-in.
-/// `PackMode::Least` and `PackMode::Best` are never refused these two, and `PackMode::Floor` is never `Unfit`. Then nothing was created.
+/// # Errors
+/// In this order: `EqualNames(0)` where the names are equal, byte for byte; `Input(0, ..)` with the fault of the survey of
+/// the input, of which 2,900,000 frames are allowed, and 200,000 with `PackMode::Best`; `NoRate` with the bit rate of the
+/// mode, in kbit/s, where it isn't one of the input's class; `Unfit` with the first frame, counted from 0, up to which the
+/// main data have no room, even after a lead-in. `NoRate` comes only with `PackMode::Constant` and `PackMode::Floor`, and
+/// `Unfit` only with `PackMode::Constant`. After these nothing was created.
 ///
 /// `Input` with `Read` and `Write(0)` come only where a call of that kind failed, `Input` with `Absent` only where the input
-/// isn't there, and every other answer only where none failed; after `Write(0)` the output is as it was or
-/// holds a prefix of its bytes. `Memory` may come once the input was found with a length that it may have,
-/// before the output is created, and not from then on.
+/// isn't there, and every other answer only where none failed. `Input(0, ..)` with `Read` or `Shrunk` may also come while the
+/// output is written; after it, and after `Write(0)`, the output is as it was or holds a prefix of its bytes. `Memory` may
+/// come once the input was found with a length that it may have, before the output is created, and not from then on.
 pub fn pack_with<D: Folder>(
     alloc: Global,
     folder: &mut D,

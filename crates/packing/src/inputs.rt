@@ -15,7 +15,7 @@ use outside::Folder;
 use std::alloc::Global;
 use sync_survey::Survey;
 
-/// So many frames may a file have that is packed in the fewest bytes.
+/// How many frames a file may have that is packed in the fewest bytes.
 const MOST_BEST: u32 = 200_000;
 
 /// How many frames a file may have that is packed by this rule.
@@ -28,10 +28,11 @@ fn allowed(rule: Rule) -> u32
     }
 }
 
-/// What is known of the input.
+/// The survey of the input.
 ///
 /// # Errors
-/// `Input` with the fault of the survey, `TooManyFrames` where it has more frames than the rule allows; `Memory`. The files stay.
+/// `Input(0, ..)` with the fault of the survey, which is `TooManyFrames` where the input has more frames than the rule allows;
+/// `Memory`. The files stay.
 pub(crate) fn survey_packed<D: Folder>(
     alloc: Global,
     folder: &mut D,

@@ -12,7 +12,8 @@ pub enum Rates {
 /// How the frames of a file get their slots.
 #[derive(Clone, Copy, Debug, PartialEq, Eq)]
 pub enum Rule {
-    /// Each gets the least slot of these bit rates with which all main data have room.
+    /// Each, from the first on, gets the least slot of these bit rates with which the main data of all later frames still have
+    /// room.
     Rates(Rates),
     /// They get the slots that take the fewest bytes in all.
     Best,

@@ -1,4 +1,4 @@
-//! The plan of all frames of a file by a rule, and the Info frame in front of them.
+//! The plan of all frames of a file by a rule, and the Info frame before them.
 ghost use Rattle.std.specs.Prelude.{◌≡◌, ◌<◌, ◌≤◌, ℕ, List, [], ◌∷◌, length, map, Some, Ok, IfOk, IfErr, MatchResult};
 ghost use Rattle.frame_header.specs.Tables.{window_of};
 ghost use Rattle.slot_plan.specs.Layouts.{IsFeasible};
@@ -33,7 +33,7 @@ use slot_plan::{Least, Plan};
 use std::alloc::{AllocError, Global};
 use sync_survey::{Row, Survey};
 
-/// `NoRate` where no slot of the class has the bit rate that is named.
+/// `NoRate` where no slot of the class has the named bit rate, in kbit/s.
 fn no_rate(rates: Rates, class: Class) -> Option<Refusal>
     ensures { result ≡ no_rate_lem rates class }
 {
@@ -57,7 +57,7 @@ fn of_rate(fault: RateFault) -> EditFault
     }
 }
 
-/// The plan of frames with slots of a menu.
+/// The plan of frames with slots of a menu: `Unfit` with the first frame up to which the main data have no room; `Memory`.
 fn plan_menu(alloc: Global, class: Class, rows: &[Row], menu: &[Slot]) -> Result<Plan, RateFault>
     requires class { AreOfClass class (map need_of rows.now) }
     requires some { 1 ≤ length rows.now }
@@ -103,7 +103,7 @@ fn plan_rates(
     }
 }
 
-/// The best plan of frames.
+/// The best plan of frames: the slots that take the fewest bytes in all.
 fn plan_best(alloc: Global, class: Class, rows: &[Row]) -> Result<Plan, AllocError>
     requires class { AreOfClass class (map need_of rows.now) }
     requires some { 1 ≤ length rows.now }
@@ -114,7 +114,7 @@ fn plan_best(alloc: Global, class: Class, rows: &[Row]) -> Result<Plan, AllocErr
     ensures { IfOk result (λ plan. best_plan_of (window_of class.version) any_choice
         (map need_of rows.now) ≡ Some (entries plan)) }
 {
-    // All have its window.
+    // Named for the proof alone: the frames' window is that of this version.
     let _ = &class.version;
     let mut parts = Parts::new(alloc);
     parts.push(rows)?;
@@ -148,7 +148,7 @@ fn plan_by(alloc: Global, survey: &Survey, chosen: &Chosen, rule: Rule) -> Resul
 /// The plan of chosen frames by a rule, and their Info frame.
 ///
 /// # Errors
-/// By bit rates `NoRate` where the one that is named isn't one of the class, and `Unfit` where the frames don't fit; `Memory`.
+/// By bit rates `NoRate` where the named one isn't one of the class, and `Unfit` where the frames don't fit; `Memory`.
 pub(crate) fn plan_packed(
     alloc: Global,
     survey: &Survey,

@@ -1,4 +1,4 @@
--- The line of both.
+-- The line about both.
 use Rattle.std.proofs.Common.{◌≡◌, List, ℕ, ap, ◌∙◌, subst}
 use Rattle.outside.specs.Files.{sent_more}
 use Rattle.outside.specs.Passed.{SentPrefix}

@@ -1,4 +1,4 @@
--- Where the input has no fault by fewer frames it has none by more.
+-- Where the input has no fault with fewer frames allowed, it has none with more.
 use Rattle.std.proofs.Common.{◌≡◌, Ok, subst}
 use Rattle.std.proofs.lemmas.Result.{IfErr-weaker, IfOk-weaker}
 use Rattle.sync_survey.specs.Faults.{tells}

@@ -36,7 +36,7 @@ returns-in-Some-stream_offset-clause-rest c =
     ∙ rw (c.next_of_stream-in-Some-stream_offset.ensures.same_blocks, c.next_of_stream-in-Some-stream_offset.ensures.same_place, c.next_of_stream-in-Some-stream_offset.ensures.rest) (sym step.1)
     ∙ ap (drop 1) (sym block)
 
--- no thing that is no block is before the block
+-- nothing that isn't a block is before the block
 not_before : (c : goal.After-result-1) → (o : Option ℕ) × (option_map offset_of (first_of (stream_left c.args.self.now)) ≡ o) × IfSome o (λ offset. c.in-Some.piece.now.offset ≤ offset)
 not_before c = elim c.in_default-stream_offset.branch [
   | in_default-stream_offset-via-in-Some-stream_offset+else-offset-piece w ↦ (Some w.in-Some-stream_offset.offset, sym c.stream_offset.ensures ∙ w.in-Some-stream_offset.is, omega arith)
