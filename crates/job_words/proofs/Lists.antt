@@ -1,4 +1,4 @@
--- Searches, members and agreeing fronts of lists.
+-- Searches, members and agreeing prefixes of lists.
 use Rattle.std.proofs.Common.{◌≡◌, ℕ, zero, suc, ◌+◌, ◌<◌, ◌≤◌, ◌⊎◌, ◌&&◌, Bool, true, false, cond, List, [], ◌∷◌, ◌++◌, length, get_or, take, drop, map, Some, None, refl, sym, subst, inl, inr, arith}
 use Rattle.std.specs.Prelude.{find, Contains}
 use Rattle.std.specs.List.{All, common_prefix_len, filter, flat_map}
@@ -24,11 +24,11 @@ not_found p (y ∷ ys) e k d lt =
       | false ↦ λ other e'. elim k as (λ i. i < length (y ∷ ys) → p (get_or (y ∷ ys) i d) ≡ false) [ zero ↦ λ lt'. other | suc i ↦ λ lt'. not_found p ys e' i d (omega (arith, lt')) ] lt
     ] refl e
 
--- of a member
+-- a member doesn't pass where the search finds nothing
 pub none_is : {X : Type 0} (p : X → Bool) (xs : List X) (x : X) → find p xs ≡ None → Contains xs x → p x ≡ false
 none_is p xs x none member = subst (λ y. p y ≡ false) member.2 (not_found p xs none member.0 x member.1)
 
--- the first that passes
+-- the search finds the first that passes
 pub found_at : {X : Type 0} (p : X → Bool) (xs : List X) (i : ℕ) (d : X) → i < length xs → find p (take i xs) ≡ None → p (get_or xs i d) ≡ true → find p xs ≡ Some (get_or xs i d)
 found_at p [] i d lt none here = absurd (omega (arith, lt))
 found_at p (x ∷ xs) zero d lt none here = rw here refl
@@ -93,7 +93,7 @@ contains_filter p xs x member = All-contains (Contains xs) (filter p xs) x (All-
 
 -- ---- how far two lists agree
 
--- after the same front, the one that agrees further does so in all
+-- of two lists after the same prefix, the one that agrees further does so with the prefix too
 pub further : {X Y : Type 0} (e : X → Y → Bool) (front xs ys : List X) (zs : List Y) → common_prefix_len e xs (drop (length front) zs) ≤ common_prefix_len e ys (drop (length front) zs)
     → common_prefix_len e (front ++ xs) zs ≤ common_prefix_len e (front ++ ys) zs
 further e [] xs ys zs le = le
@@ -104,7 +104,7 @@ further e (x ∷ front) xs ys (z ∷ zs) le =
       | false ↦ omega arith
     ]
 
--- the rest agrees where all does
+-- where a whole list agrees, so does the rest after a prefix
 pub rest_agrees : {X Y : Type 0} (e : X → Y → Bool) (front xs : List X) (zs : List Y) → pointwise e (front ++ xs) zs ≡ true → pointwise e xs (drop (length front) zs) ≡ true
 rest_agrees e [] xs zs all = all
 rest_agrees e (x ∷ front) xs [] all = absurd cc
@@ -114,7 +114,7 @@ rest_agrees e (x ∷ front) xs (z ∷ zs) all =
       | false ↦ λ all'. absurd cc
     ] all
 
--- lists that agree in each place agree as far as both reach
+-- lists that agree as far as both reach agree
 pub all_of_both : {X Y : Type 0} (e : X → Y → Bool) (xs : List X) (ys : List Y) → common_prefix_len e xs ys ≡ length ys → common_prefix_len e xs ys ≡ length xs → pointwise e xs ys ≡ true
 all_of_both e [] [] p q = refl
 all_of_both e [] (y ∷ ys) p q = absurd (omega (arith, p))

@@ -35,21 +35,21 @@ starts _ = refl
 some_is : {A : Type 0} (a b : A) → Some a ≡ Some b → a ≡ b
 some_is a b e = cc
 
--- no two flags have the same
+-- no two flags have the same first word
 same_flag : (word : List ℕ) (a b : Flag) → begins_flag word a ≡ true → begins_flag word b ≡ true → a ≡ b
 same_flag word a b is_a is_b =
     let of_a : word ≡ first_word a = (bytes_eq-Decides word (first_word a)).0 is_a in
     let of_b : word ≡ first_word b = (bytes_eq-Decides word (first_word b)).0 is_b in
     some_is a b (sym (named a) ∙ ap flag_of (sym of_a ∙ of_b) ∙ named b)
 
--- a word that isn't the flag's first ends the front at once
+-- where the first word isn't the flag's, no word has the kinds that begin with the flag's
 not_begun : (word : List ℕ) (words : List (List ℕ)) (flag : Flag) (more : List Kind) → begins_flag word flag ≡ false → common_prefix_len fits_kind (flag_kinds flag ++ more) (word ∷ words) ≡ 0
 not_begun word words flag more other = rw (starts flag, other) refl
 
 never_begun : (word : List ℕ) (words : List (List ℕ)) (flag : Flag) (more : List Kind) → begins_flag word flag ≡ false → pointwise fits_kind (flag_kinds flag ++ more) (word ∷ words) ≡ false
 never_begun word words flag more other = rw (starts flag, other) refl
 
--- ---- the kinds by the flags that are given; `after` has those of so many words after them
+-- ---- the kinds by the flags that are given; `behind` has those of the words after them, by how many these are
 
 abbrev pub kinds_by : (ℕ → List Kind) → List Flag → List (List ℕ) → List Kind
 kinds_by behind given words = given_kinds given ++ behind (length words - length (given_kinds given))
@@ -70,7 +70,7 @@ AreClear behind flags = (flag : Flag) → Contains flags flag → (word : List �
 clear_without : (behind : ℕ → List Kind) (flags : List Flag) (flag : Flag) → AreClear behind flags → AreClear behind (without flag flags)
 clear_without behind flags flag clear other member = clear other (contains_filter _ flags other member)
 
--- the words go no further with this order than with that, and have all kinds with that alone
+-- the words go no further with this order than with the best, and have all kinds only with the best
 pub record IsNoBetter (behind : ℕ → List Kind) (words : List (List ℕ)) (best given : List Flag) : Type 0 where
   pub far : common_prefix_len fits_kind (kinds_by behind given words) words ≤ common_prefix_len fits_kind (kinds_by behind best words) words
   pub only : pointwise fits_kind (kinds_by behind given words) words ≡ true → given ≡ best

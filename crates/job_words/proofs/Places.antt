@@ -15,7 +15,7 @@ use Rattle.job_words.proofs.Lists.{found, none_is}
 use Rattle.job_words.proofs.Reading.{greatest_each, greatest_is, reading_ok, reading_err, listed_form}
 use Rattle.job_words.proofs.Sound.{shape_is_sound}
 
--- how far two lists agree is the longest front in which they do
+-- two lists agree in as many first values as are counted
 agree_to : {X Y : Type 0} (e : X → Y → Bool) (xs : List X) (ys : List Y) → pointwise e (take (common_prefix_len e xs ys) xs) (take (common_prefix_len e xs ys) ys) ≡ true
 agree_to e [] ys = refl
 agree_to e (x ∷ xs) [] = refl
@@ -39,7 +39,7 @@ agree_from e (suc n) (x ∷ xs) (y ∷ ys) in_xs in_ys all =
 
 -- ---- shapes
 
--- a shape of the table and a place of its own
+-- the words follow the shape at a place of the table no further than the furthest
 at_place : (table : List Shape) (words : List (List ℕ)) (k : ℕ) (shape : Shape) → k < length table → get_or table k shape ≡ shape → followed words shape ≤ furthest table words
 at_place table words k shape lt here =
     let there : get_or (map (followed words) table) k 0 ≡ followed words shape = get_or-map (followed words) table k shape 0 lt ∙ ap (followed words) here in
@@ -63,7 +63,7 @@ none_of table words none shape listed all =
     let clash : true ≡ false = sym all ∙ none_is (λ (shape : Shape). have_kinds (kinds_in words shape) words) table shape none listed in
     absurd cc
 
--- the front of the words that follow a shape begins it, and is the longest that does
+-- the words that follow a shape have its first kinds, and no longer prefix has
 begins : (words : List (List ℕ)) (shape : Shape) → Begins (followed words shape) shape words
 begins words shape = record {
   enough_words = (common_prefix_len-le fits_kind (kinds_in words shape) words).1;
@@ -106,7 +106,7 @@ is_bad_word words place e =
       longest = λ n shape listed b. omega (arith, r.1, begins-le words shape n b, at_place table words listed.0 shape listed.1 listed.2);
     }
 
--- what holds of each answer of the definition holds of the code's
+-- what holds of each answer of the definition holds of the answer of the code
 pub of_ok : (words : List (List ℕ)) (P : Asked → Type 0) → ((asked : Asked) → Ok asked ≡ job_of words → P asked) → (r : Result Job ℕ) → answer r ≡ job_of words → IfOk r (λ job. P (asked_by_code job))
 of_ok words P each (Ok job) is = each (asked_by_code job) is
 of_ok words P each (Err place) is = tt

@@ -43,7 +43,7 @@ greatest_is a (x ∷ xs) =
       | inr at ↦ inr (suc at.0, omega (arith, at.1), at.2)
     ]
 
--- that of a member which none exceeds
+-- the greatest is that of a member which none exceeds
 greatest_at : {X : Type 0} (f : X → ℕ) (xs : List X) (x : X) → Contains xs x → All (λ y. f y ≤ f x) xs → fold max 0 (map f xs) ≡ f x
 greatest_at f xs x member all =
     let here : get_or (map f xs) member.0 0 ≡ f x = get_or-map f xs member.0 x 0 member.1 ∙ ap f member.2 in
@@ -65,7 +65,7 @@ greatest_append a (x ∷ xs) ys = greatest_append (max a x) xs ys
 
 -- ---- the shapes of one form
 
--- that with the flags that the words begin with
+-- the shape with the flags that the words begin with
 abbrev pub best_of : Form → List (List ℕ) → Shape
 best_of form words = shape_with form (given_in form.flags (drop 1 words))
 
@@ -97,7 +97,7 @@ kinds_in-cons form given word words =
     let left : length (word ∷ words) - length (Fixed form.command ∷ given_kinds given) ≡ length words - length (given_kinds given) = omega arith in
     rw left refl
 
--- the words go no further with the shape than with that, and have all kinds with that alone
+-- the words go no further with this shape than with the best, and have all kinds only with the best
 pub record IsNoBetterShape (words : List (List ℕ)) (best shape : Shape) : Type 0 where
   pub far : followed words shape ≤ followed words best
   pub only : have_kinds (kinds_in words shape) words ≡ true → shape ≡ best

@@ -75,7 +75,7 @@ place_in_range word =
 
 -- ---- what words say
 
--- the steps, the place, the seed and the number of frames of a value
+-- the steps, the position, the seed and the number of frames of a value are in range
 record IsInRange (value : Said) : Type 0 where
   steps : IsStepCount (steps_said value)
   place : IsPlace (place_said value)
@@ -172,7 +172,7 @@ one_name (kind ∷ kinds) (word ∷ words) (suc k) h lt is =
 name_there : (kinds : List Kind) (words : List (List ℕ)) (k : ℕ) → have_kinds kinds words ≡ true → k < length kinds → get_or kinds k Name ≡ Name → IsName (name_at (values_of kinds words) k)
 name_there kinds words k h lt is = let one = one_name kinds words k h lt is in rw one.0 one.1
 
--- all values there are
+-- there are as many values as kinds
 all_values : (kinds : List Kind) (words : List (List ℕ)) → have_kinds kinds words ≡ true → length (values_of kinds words) ≡ length kinds
 all_values [] words h = refl
 all_values (kind ∷ kinds) [] h = absurd cc
@@ -183,7 +183,7 @@ all_values (kind ∷ kinds) (word ∷ words) h =
       | None ↦ λ fits. absurd cc
     ] (and_first (fits_kind kind word) (have_kinds kinds words) h)
 
--- those after some kinds
+-- the values after those of some first kinds
 rest_values : (front kinds : List Kind) (words : List (List ℕ)) → have_kinds (front ++ kinds) words ≡ true → drop (length front) (values_of (front ++ kinds) words) ≡ values_of kinds (drop (length front) words)
 rest_values [] kinds words h = refl
 rest_values (kind ∷ front) kinds [] h = absurd cc
@@ -203,7 +203,7 @@ AreSoundOf form kinds = (given : List Flag) (words : List (List ℕ)) → have_k
 abbrev AreSound : Form → Type 0
 AreSound form = (count : ℕ) → AreSoundOf form (kinds_behind form count)
 
--- where the last kind isn't again
+-- of a form whose last kind isn't repeated
 once : (form : Form) → form.more ≡ 0 → AreSoundOf form form.kinds → AreSound form
 once form none sound count =
     let no_more : min form.more (count - length form.kinds) ≡ 0 = omega (arith, none) in
@@ -255,7 +255,7 @@ sheet_is_sound : AreSound sheet_form
 sheet_is_sound = once sheet_form refl (λ given words h.
     (name_there sheet_form.kinds words 0 h (omega arith) refl, name_there sheet_form.kinds words 1 h (omega arith) refl, name_there sheet_form.kinds words 3 h (omega arith) refl))
 
--- so many kinds a form has after its flags
+-- how many kinds a form has after its flags
 length-kinds_behind : (form : Form) (count : ℕ) → length (kinds_behind form count) ≡ length form.kinds + min form.more (count - length form.kinds)
 length-kinds_behind form count = rw (length-append, length-replicate) refl
 

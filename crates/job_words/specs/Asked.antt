@@ -9,15 +9,15 @@ pub data Asked : Type 0 where
   Version : Asked
   -- the file's name
   ListFile : List ℕ → Asked
-  -- the change, whether a note of it is kept in the tag, the names of the input and of the output
+  -- the change, whether it is noted in the tag, the names of the input and of the output
   Gain : Shift → Bool → List ℕ → List ℕ → Asked
   -- the names of the input and of the output
   Undo : List ℕ → List ℕ → Asked
-  -- the place of the first frame and that of the first after them, whether each has the least slot, the names of the input and of the output
+  -- the position of the first frame and that of the first after them, whether each has the least slot, the names of the input and of the output
   Cut : Place → Place → Bool → List ℕ → List ℕ → Asked
-  -- which bit rates are allowed, the names of the input and of the output
+  -- how the bit rates are chosen, the names of the input and of the output
   Pack : PackMode → List ℕ → List ℕ → Asked
-  -- the name of the input, what the names of the outputs begin with, and the places
+  -- the name of the input, what the names of the outputs begin with, and the positions
   SplitAt : List ℕ → List ℕ → List Place → Asked
   -- the name of the input, what the names of the outputs begin with, and the name of the cue sheet
   SplitBy : List ℕ → List ℕ → List ℕ → Asked
@@ -25,7 +25,7 @@ pub data Asked : Type 0 where
   Join : List ℕ → List (List ℕ) → Asked
   -- the seed of a stream, and the number of its frames
   Drill : ℕ → ℕ → Asked
-  -- whether a fade is taken back, the names of the input, of the output and of the sheet
+  -- whether a fade is undone, the names of the input, of the output and of the sheet
   Fade : Bool → List ℕ → List ℕ → List ℕ → Asked
   -- the names of the input and of the output
   Salvage : List ℕ → List ℕ → Asked

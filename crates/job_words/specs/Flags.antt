@@ -7,19 +7,19 @@ use Rattle.job_words.specs.Kinds.{Kind, Fixed}
 
 -- the words of a flag
 abbrev pub flag_words : Flag → List (List ℕ)
--- tags aren't touched
+-- tags are neither read nor changed
 flag_words Tagless = codes "-s" ∷ codes "s" ∷ []
--- gains that leave their range come in again at its other end
+-- gains wrap around modulo 256
 flag_words Wrapping = codes "-w" ∷ []
 -- each frame has the least slot
 flag_words Least = codes "--least" ∷ []
--- a fade is taken back
+-- a fade is undone
 flag_words Back = codes "--back" ∷ []
 
 abbrev pub flag_kinds : Flag → List Kind
 flag_kinds flag = map Fixed (flag_words flag)
 
--- those of flags one after another
+-- the kinds of the words of flags, one after another
 abbrev pub given_kinds : List Flag → List Kind
 given_kinds given = flat_map flag_kinds given
 
@@ -30,7 +30,7 @@ first_word flag = slice_index_or (flag_words flag) 0 []
 abbrev pub begins_flag : List ℕ → Flag → Bool
 begins_flag word flag = bytes_eq word (first_word flag)
 
--- the flag is among those
+-- the flag is among those that are given
 abbrev pub is_given : List Flag → Flag → Bool
 is_given given flag = list_any (begins_flag (first_word flag)) given
 
@@ -38,7 +38,7 @@ is_given given flag = list_any (begins_flag (first_word flag)) given
 abbrev pub without : Flag → List Flag → List Flag
 without flag flags = filter (λ other. not (begins_flag (first_word flag) other)) flags
 
--- all lists of at most so many of the flags, each at most once
+-- all lists of at most n of the flags, each at most once
 abbrev pub orders_up_to : ℕ → List Flag → List (List Flag)
 orders_up_to zero flags = [] ∷ []
 orders_up_to (suc n) flags = [] ∷ flat_map (λ flag. map (λ rest. flag ∷ rest) (orders_up_to n (without flag flags))) flags
@@ -62,6 +62,6 @@ abbrev pub given_up_to : ℕ → List Flag → List (List ℕ) → List Flag
 given_up_to zero flags words = []
 given_up_to (suc n) flags words = flag_first (next_flag flags words) (λ flag. given_up_to n (without flag flags) (drop (length (flag_words flag)) words))
 
--- the flags by whose first words these can go on, each at most once
+-- the flags with which the words begin, each at most once
 abbrev pub given_in : List Flag → List (List ℕ) → List Flag
 given_in flags words = given_up_to (length flags) flags words

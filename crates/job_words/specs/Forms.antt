@@ -1,4 +1,4 @@
--- The forms that the program's words have, and what words of a form ask for.
+-- The forms that the program's words have, and what the words of a form ask for.
 use Rattle.std.specs.Prelude.{◌≡◌, ◌≤◌, ℕ, ◌+◌, ◌-◌, min, Bool, true, not, List, [], ◌∷◌, ◌++◌, length, map, drop, replicate, slice_index_or, codes}
 use Rattle.std.specs.List.{flat_map, list_all}
 use Rattle.moved_gains.specs.declared.shift.Channels.{Channels}
@@ -13,7 +13,7 @@ use Rattle.job_words.specs.Kinds.{Kind, Fixed, Name, Steps, Channel, Place, Rate
 use Rattle.job_words.specs.Flags.{given_kinds, first_word, is_given, orders}
 use Rattle.job_words.specs.Asked.{Asked, Help, Version, ListFile, Gain, Undo, Cut, Pack, SplitAt, SplitBy, Join, Drill, Fade, Salvage}
 
--- the command's word, the flags that may be after it, the kinds of the words after those, how often the last of them may stand again,
+-- the command's word, the flags that may be after it, the kinds of the words after those, how many further words of the last kind there may be,
 -- and what is asked for
 pub record Form : Type 0 where
   pub command : List ℕ
@@ -122,7 +122,7 @@ shapes table = flat_map shapes_of table
 abbrev pub last_kind : List Kind → Kind
 last_kind kinds = slice_index_or kinds (length kinds - 1) Name
 
--- the kinds of so many words after the flags: the last is there again as often as words are left for it, and as it may
+-- the kinds of `count` words after the flags: the last is repeated for the words that are left, as often as it may be
 abbrev pub kinds_behind : Form → ℕ → List Kind
 kinds_behind form count = form.kinds ++ replicate (min form.more (count - length form.kinds)) (last_kind form.kinds)
 
@@ -133,23 +133,23 @@ front_kinds command given = Fixed command ∷ given_kinds given
 abbrev pub front_of : Shape → List Kind
 front_of shape = front_kinds shape.form.command shape.given
 
--- the kinds of so many words
+-- the kinds of `count` words
 abbrev pub kinds_for : Shape → ℕ → List Kind
 kinds_for shape count = front_of shape ++ kinds_behind shape.form (count - length (front_of shape))
 
 -- ---- what is asked for
 
--- a change of the channels, by the steps and of the files that are from this place on
+-- a change of gains of these channels: the values from this place on are its steps, its input and its output
 abbrev pub gain_asked : Channels → List Flag → List Said → ℕ → Asked
 gain_asked channels given values place =
     Gain (record { channels = channels; steps = steps_said (said_at values place); wrap = is_given given Wrapping })
     (not (is_given given Tagless)) (name_at values (place + 1)) (name_at values (place + 2))
 
--- a packing in this mode, of the files that are from this place on
+-- a packing in this mode: the values from this place on are its input and its output
 abbrev pub pack_asked : PackMode → List Said → ℕ → Asked
 pack_asked mode values place = Pack mode (name_at values place) (name_at values (place + 1))
 
--- by the flags that are given, by what the words after them say, and by these words themselves
+-- what is asked for by the flags that are given, by what the words after them say, and by these words themselves
 abbrev pub reads_of : Asks → List Flag → List Said → List (List ℕ) → Asked
 reads_of asks.Help given values words = Help
 reads_of asks.Version given values words = Version

@@ -17,13 +17,13 @@ pub data Kind : Type 0 where
   Steps : Kind
   -- a channel: `0` is the left one, `1` the right one
   Channel : Kind
-  -- a place in a stream
+  -- a position
   Place : Kind
-  -- a bit rate
+  -- a bit rate in kbit/s
   Rate : Kind
   -- the seed of a stream
   Seed : Kind
-  -- the number of its frames
+  -- the number of frames of that stream
   Count : Kind
 
 -- a name isn't empty, and doesn't begin with `-`
@@ -35,7 +35,7 @@ is_name (first ∷ rest) = not (first == 45)
 abbrev pub step_count : List ℕ → Option ℕ
 step_count digits = number_in 1 3 255 digits
 
--- such digits after `+` or `-` or alone
+-- the same after `+` or `-`, or alone
 abbrev pub steps_of : List ℕ → Option ℤ
 steps_of [] = None
 steps_of (first ∷ rest) =
@@ -60,15 +60,15 @@ count_in digits = option_and_then (λ count. if count == 0 then None else Some c
 
 -- what a word says
 pub data Said : Type 0 where
-  -- nothing but itself
+  -- nothing more than the word itself
   Itself : Said
   -- a name
   NameSaid : List ℕ → Said
-  -- so many steps
+  -- a number of steps
   StepsSaid : ℤ → Said
   -- a channel
   ChannelSaid : Channels → Said
-  -- a place in a stream
+  -- a position
   PlaceSaid : StreamPlace → Said
   -- a bit rate in kbit/s
   RateSaid : ℕ → Said
@@ -125,12 +125,12 @@ abbrev pub said_first : Option Said → List Said → List Said
 said_first None rest = []
 said_first (Some value) rest = value ∷ rest
 
--- what the words in front say that have the first of the kinds
+-- what the first words say, up to the first that isn't of its kind
 abbrev pub values_of : List Kind → List (List ℕ) → List Said
 values_of (kind ∷ kinds) (word ∷ words) = said_first (said kind word) (values_of kinds words)
 values_of kinds words = []
 
--- the value at a place, counted from 0, and what it says
+-- the value at a place of the list, counted from 0, and the name that it says
 abbrev pub said_at : List Said → ℕ → Said
 said_at values place = slice_index_or values place Itself
 

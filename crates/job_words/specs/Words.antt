@@ -18,7 +18,7 @@ have_kinds kinds words = pointwise fits_kind kinds words
 abbrev pub kinds_in : List (List ℕ) → Shape → List Kind
 kinds_in words shape = kinds_for shape (length words)
 
--- how many words there are in front that have the shape's first kinds
+-- how many of the first words have the shape's first kinds
 abbrev pub followed : List (List ℕ) → Shape → ℕ
 followed words shape = common_prefix_len fits_kind (kinds_in words shape) words
 
@@ -30,7 +30,7 @@ furthest table words = fold max 0 (map (followed words) table)
 abbrev pub shape_in : List Shape → List (List ℕ) → Option Shape
 shape_in table words = find (λ shape. have_kinds (kinds_in words shape) words) table
 
--- what the words ask for by a shape, and where there is none, the place of the bad word
+-- what the words ask for by a shape; where there is none, the place of the bad word, counted from 1
 abbrev pub read_as : Option Shape → List (List ℕ) → ℕ → Result Asked ℕ
 read_as (Some shape) words longest = Ok (asked_of shape words)
 read_as None words longest = Err (1 + longest)
@@ -57,8 +57,8 @@ pub record IsReading (words : List (List ℕ)) (asked : Asked) : Type 0 where
   pub kinds : IsTrue (have_kinds (kinds_in words shape) words)
   pub read : asked ≡ asked_of shape words
 
--- The words have the kinds of no form. Those before this place have the first kinds of some form, and no
--- longer front of the words has.
+-- The words have the kinds of no form. Those before this place, counted from 1, have the first kinds of some form, and no longer prefix of the words
+-- has.
 pub record IsBadWord (words : List (List ℕ)) (place : ℕ) : Type 0 where
   pub none : (shape : Shape) → Contains (shapes forms) shape → ¬ IsTrue (have_kinds (kinds_in words shape) words)
   pub counted : 1 ≤ place
@@ -84,7 +84,7 @@ pub record AreInputs (inputs : List (List ℕ)) : Type 0 where
   pub few : length inputs ≤ 64
   pub names : All IsName inputs
 
--- places at which a stream can be split
+-- positions at which a stream can be split
 pub record AreSplitPlaces (places : List Place) : Type 0 where
   pub some : 2 ≤ length places
   pub few : length places ≤ 100

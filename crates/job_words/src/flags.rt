@@ -1,4 +1,4 @@
-//! The flags of a form: words in front of its other words that may be left out, each at most once and in any order.
+//! The flags of a form: words before its other words that may be left out, each at most once and in any order.
 ghost use Rattle.std.specs.Prelude.{◌≡◌, ◌≤◌, ◌+◌, length, map, drop, string_bytes, find};
 ghost use Rattle.job_words.specs.Flags.{flag_words, given_kinds, begins_flag, is_given as is_given_lem, without as without_lem, next_flag as next_flag_lem, given_in as given_in_lem};
 
@@ -7,13 +7,13 @@ use arrayvec::ArrayVec;
 /// A flag of a form.
 #[derive(Clone, Copy)]
 pub(crate) enum Flag {
-    /// `-s s`: the tag is untouched.
+    /// `-s s`: tags are neither read nor changed.
     Tagless,
-    /// `-w`: gains that leave their range come in again at its other end.
+    /// `-w`: gains wrap around modulo 256.
     Wrapping,
-    /// `--least`: each frame has the least bit rate and padding with room for it.
+    /// `--least`: each frame gets the lowest bit rate and padding with which all main data still have room.
     Least,
-    /// `--back`: a fade is taken back.
+    /// `--back`: a fade is undone.
     Back,
 }
 
@@ -45,7 +45,7 @@ impl Flag {
         }
     }
 
-    // The word is the first of the flag's.
+    // Whether the word is the first of the flag's.
     fn begins(self, word: &str) -> bool
         ensures { result ≡ begins_flag word.now self }
     {
@@ -53,7 +53,7 @@ impl Flag {
     }
 }
 
-/// Whether the flag is among those.
+/// Whether the flag is among those that are given.
 pub(crate) fn is_given(given: &[Flag], flag: Flag) -> bool
     ensures { result ≡ is_given_lem given.now flag }
 {
@@ -65,7 +65,7 @@ pub(crate) fn is_given(given: &[Flag], flag: Flag) -> bool
     false
 }
 
-/// How many words a command's word and these flags are.
+/// How many words a command's word and these flags have.
 pub(crate) fn front_count(given: &[Flag]) -> usize
     requires { length given.now ≤ 4 }
     ensures { result ≡ 1 + length (given_kinds given.now) }
@@ -113,14 +113,14 @@ fn next_flag(flags: &[Flag], words: &[String]) -> Option<Flag>
     }
 }
 
-/// The items after so many.
+/// The values of a list after the first `count`.
 pub(crate) fn behind<T>(items: &[T], count: usize) -> &[T]
     ensures { result.now ≡ drop count items.now }
 {
     &items[count.min(items.len())..]
 }
 
-/// The flags that are after the first word, each at most once.
+/// The flags with which the words after the first begin, each at most once.
 pub(crate) fn given_in(flags: &[Flag], words: &[String]) -> Flags
     requires { length flags.now ≤ 4 }
     ensures given { result.items ≡ given_in_lem flags.now (drop 1 (map string_bytes words.now)) }

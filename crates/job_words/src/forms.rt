@@ -14,7 +14,7 @@ use cue_sheet::Place;
 use moved_gains::{Channels, Shift};
 use pack_mode::PackMode;
 
-/// What words of a form ask for.
+/// What the words of a form ask for.
 #[derive(Clone, Copy)]
 pub(crate) enum Asks {
     Help,
@@ -36,7 +36,7 @@ pub(crate) enum Asks {
     Salvage,
 }
 
-/// A form: the command's word, then flags, then words of these kinds, of which the last may stand again so often.
+/// A form: the command's word, then flags, then words of these kinds, and up to `more` further words of the last kind.
 pub(crate) struct Form {
     pub(crate) command: &'static str,
     pub(crate) flags: &'static [Flag],
@@ -45,7 +45,7 @@ pub(crate) struct Form {
     pub(crate) asks: Asks,
 }
 
-/// The forms. C is a channel, N a number of steps, B a bit rate, SEED and COUNT are numbers, P1 to P100, FROM and TO places; all
+/// The forms. C is a channel, N a number of steps, B a bit rate, SEED and COUNT are numbers, P1 to P100, FROM and TO positions; all
 /// others are names.
 pub(crate) static FORMS: [Form; 18] = [
     // `--help`
@@ -230,13 +230,13 @@ pub(crate) static FORMS: [Form; 18] = [
     },
 ];
 
-/// The most kinds that a form has for its words: the command, four flags of two words, five kinds, and the last 98 times again.
+/// The most kinds that a form has for its words: the command's, four flags of two words, five kinds, and the last 98 times more.
 pub(crate) const MOST_KINDS: usize = 112;
 
 /// The kinds of a form's words.
 pub(crate) type Kinds = ArrayVec<WordKind, MOST_KINDS>;
 
-// The places that the values are.
+// The positions that the values are.
 fn places_of(values: &[Value]) -> ArrayVec<Place, 100>
     requires { length values.now ≤ 100 }
     ensures { result.items ≡ map place_said (map value_said values.now) }
@@ -248,7 +248,7 @@ fn places_of(values: &[Value]) -> ArrayVec<Place, 100>
     places
 }
 
-// The value at a place, counted from 0; nothing where there is none.
+// The value at a place of the list, counted from 0; `Fixed` where there is none.
 fn value_at<'a>(values: &[Value<'a>], place: usize) -> Value<'a>
     ensures { value_said result ≡ said_at (map value_said values.now) place }
 {
@@ -265,7 +265,7 @@ fn name_at<'a>(values: &[Value<'a>], place: usize) -> &'a str
     value_at(values, place).name()
 }
 
-// A change of these channels by the steps and of the files that are from a place on, counted from 0.
+// A change of gains of these channels: the values from this place on, counted from 0, are its steps, its input and its output.
 fn gain<'a>(channels: Channels, given: &[Flag], values: &[Value<'a>], place: usize) -> Job<'a>
     requires { place ≤ 2 }
     ensures { asked result ≡ gain_asked channels given.now (map value_said values.now) place }
@@ -282,7 +282,7 @@ fn gain<'a>(channels: Channels, given: &[Flag], values: &[Value<'a>], place: usi
     }
 }
 
-// A packing in this mode of the files that are from a place on, counted from 0.
+// A packing in this mode: the values from this place on, counted from 0, are its input and its output.
 fn pack<'a>(mode: PackMode, values: &[Value<'a>], place: usize) -> Job<'a>
     requires { place ≤ 2 }
     ensures { asked result ≡ pack_asked mode (map value_said values.now) place }
@@ -380,7 +380,7 @@ fn last_of(kinds: &[WordKind]) -> WordKind
     }
 }
 
-// Appends this kind so many times.
+// Appends this kind `count` times.
 fn repeat(kinds: &mut Kinds, kind: WordKind, count: usize)
     requires { length kinds.old.items + count ≤ 112 }
     ensures { kinds.new.items ≡ kinds.old.items ++ replicate count kind }
@@ -417,7 +417,7 @@ fn front_kinds(command: &'static str, given: &[Flag]) -> Kinds
 }
 
 impl Form {
-    // Appends the kinds of so many words after the flags.
+    // Appends the kinds of `count` words after the flags.
     fn append_behind(&self, kinds: &mut Kinds, count: usize)
         requires front { length kinds.old.items ≤ 9 }
         requires readable { IsReadable (form_given self.now) }
@@ -429,7 +429,7 @@ impl Form {
         repeat(kinds, last_of(self.kinds), more);
     }
 
-    // The kinds of so many words, with these flags.
+    // The kinds of `count` words, with these flags.
     fn kinds_for(&self, given: &[Flag], count: usize) -> Kinds
         requires few { length given.now ≤ 4 }
         requires readable { IsReadable (form_given self.now) }
@@ -467,7 +467,7 @@ impl Form {
     }
 }
 
-// What the words in front say that have the first of these kinds.
+// What the first words say, up to the first that isn't of its kind.
 fn follow<'a>(words: &'a [String], kinds: &[WordKind]) -> ArrayVec<Value<'a>, MOST_KINDS>
     requires { length kinds.now ≤ 112 }
     ensures { map value_said result.items ≡ values_of (map word_kind kinds.now)

@@ -17,54 +17,54 @@ pub enum Job<'a> {
         /// The name of the file to read.
         input: &'a str,
     },
-    /// Change the loudness of the file `input`, and write the result to `output`.
+    /// Move the gains of the file `input`, and write the result to `output`.
     Gain {
         /// The change.
         shift: Shift,
-        /// Whether a note of the change is kept in the tag.
+        /// Whether the change is noted in the tag.
         tags: bool,
         /// The name of the file to read.
         input: &'a str,
         /// The name of the file to write.
         output: &'a str,
     },
-    /// Take back all changes that the tag of the file `input` keeps a note of, and write the result to `output`.
+    /// Undo all changes that are noted in the tag of the file `input`, and write the result to `output`.
     Undo {
         /// The name of the file to read.
         input: &'a str,
         /// The name of the file to write.
         output: &'a str,
     },
-    /// Write the frames of the file `input` from one place on and before another to `output`.
+    /// Write the frames of the file `input` from one position up to, but not including, another to `output`.
     Cut {
-        /// The place of the first frame.
+        /// The position of the first frame.
         from: Place,
-        /// The place of the first frame after them.
+        /// The position of the first frame after them.
         to: Place,
-        /// Whether each frame has the least bit rate and padding with room for it, and doesn't keep its own.
+        /// Whether each frame gets the lowest bit rate and padding with which all main data still have room, and doesn't keep
+        /// its own.
         least: bool,
         /// The name of the file to read.
         input: &'a str,
         /// The name of the file to write.
         output: &'a str,
     },
-    /// Write all frames of the file `input` to `output`, each with the least bit rate and padding that the mode allows and that
-    /// has room for it.
+    /// Write all frames of the file `input` to `output`, with the bit rates and padding that the mode asks for.
     Pack {
-        /// Which bit rates are allowed. A rate is as the word says it, 0 to 999.
+        /// How the bit rates are chosen. A bit rate in it is as the word says it, 0 to 999 kbit/s.
         mode: PackMode,
         /// The name of the file to read.
         input: &'a str,
         /// The name of the file to write.
         output: &'a str,
     },
-    /// Write the frames of the file `input` between each two neighbouring places to a file of their own.
+    /// Write the frames of the file `input` between each two neighbouring positions to a file of their own.
     SplitAt {
         /// The name of the file to read.
         input: &'a str,
         /// What the names of the files to write begin with.
         prefix: &'a str,
-        /// The places in the stream, 2 to 100.
+        /// The positions, 2 to 100.
         places: ArrayVec<Place, 100>,
     },
     /// Write each track of the file `input` to a file of its own, as a cue sheet has them.
@@ -83,16 +83,16 @@ pub enum Job<'a> {
         /// The names of the files to read, 1 to 64.
         inputs: &'a [String],
     },
-    /// Make a stream from a number, pack it in memory, and say how long both are.
+    /// Make a stream from a seed, pack it in memory, and say how long both are.
     Drill {
-        /// The number, below 2^31.
+        /// The seed, below 2^31.
         seed: u32,
         /// How many frames the stream has, 1 to 20,000.
         count: u32,
     },
-    /// Write the file `input` to `output`, each frame louder or quieter by the steps that a sheet gives at its place.
+    /// Write the file `input` to `output`, each frame louder or quieter by the steps that a sheet gives for its number.
     Fade {
-        /// Whether by as many steps the other way, so that such a fade is taken back.
+        /// Whether by as many steps the other way, which undoes a fade by the same sheet.
         back: bool,
         /// The name of the file to read.
         input: &'a str,

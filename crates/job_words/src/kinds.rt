@@ -18,13 +18,13 @@ pub(crate) enum WordKind {
     Steps,
     /// A channel.
     Channel,
-    /// A place in a stream.
+    /// A position.
     Place,
-    /// A bit rate.
+    /// A bit rate in kbit/s.
     Rate,
     /// The seed of a stream.
     Seed,
-    /// The number of its frames.
+    /// The number of frames of that stream.
     Count,
 }
 
@@ -38,21 +38,21 @@ impl Default for WordKind {
 /// What a word says.
 #[derive(Clone, Copy)]
 pub(crate) enum Value<'a> {
-    /// Nothing but itself.
+    /// Nothing more than the word itself.
     Fixed,
     /// This name.
     Name(&'a str),
-    /// So many steps of 1.5 dB, -255 to 255.
+    /// A number of steps of 1.5 dB, -255 to 255.
     Steps(i16),
     /// This channel.
     Channel(Channels),
-    /// This place.
+    /// This position.
     Place(Place),
     /// This bit rate in kbit/s, 0 to 999.
     Rate(u16),
     /// This seed, below 2^31.
     Seed(u32),
-    /// So many frames, 1 to 20,000.
+    /// A number of frames, 1 to 20,000.
     Count(u32),
 }
 
@@ -77,7 +77,7 @@ fn read_size(digits: &[u8]) -> Option<i16>
     read_number(digits, 1, 3, 255).map(|size| size as i16)
 }
 
-// Such digits after `+` or `-` or alone.
+// The same after `+` or `-`, or alone.
 #[tactic(auto, unfolding(cue_sheet::specs::Digits::number_in))]
 fn read_steps(word: &str) -> Option<i16>
     ensures { result ≡ steps_of word.now }
@@ -107,10 +107,10 @@ fn read_rate(word: &str) -> Option<u16>
     read_number(word.as_bytes(), 1, 3, 999).map(|rate| rate as u16)
 }
 
-/// The greatest seed.
+/// The greatest seed: 2^31 - 1.
 const MOST_SEED: u64 = 2_147_483_647;
 
-// One to ten digits, of a number up to that.
+// One to ten digits, of a number up to `MOST_SEED`.
 fn read_seed(digits: &[u8]) -> Option<u32>
     ensures { result ≡ seed_in digits.now }
 {
@@ -192,7 +192,7 @@ impl<'a> Value<'a> {
         }
     }
 
-    /// The place; the end for any other value.
+    /// The position; the end for any other value.
     pub(crate) fn place(self) -> Place
         ensures { result ≡ place_said (value_said self.entry) }
     {

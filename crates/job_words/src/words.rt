@@ -7,7 +7,7 @@ ghost use Rattle.job_words.specs.Code.{form_given, asked, answer};
 use crate::forms::{FORMS, Form};
 use crate::jobs::Job;
 
-// What the words ask for by the first of these forms that they have, or the place of the first word that none takes.
+// What the words ask for by the first of these forms that they have, or the place, counted from 1, of the first word that none takes.
 fn read_by<'a>(forms: &[Form], words: &'a [String]) -> Result<Job<'a>, u32>
     requires { All IsReadable (map form_given forms.now) }
     ensures { answer result ≡ reading (shapes (map form_given forms.now))
@@ -23,25 +23,28 @@ fn read_by<'a>(forms: &[Form], words: &'a [String]) -> Result<Job<'a>, u32>
     Err(place as u32)
 }
 
-/// What the words ask for. Where they have no form, it is refused with the place, counted from 1, of the
-/// first word that no form takes, or the number of words plus 1 where a word is missing.
+/// What the words ask for. It takes no memory.
+///
 /// The forms are `list IN`; `gain [-s s] [-w] -g N IN OUT` and `gain [-s s] [-w] -l C N IN OUT`, with the two options in
 /// either order; `gain -u IN OUT`; `cut [--least] IN FROM TO OUT`; `pack IN OUT`, `pack --constant B IN OUT`,
 /// `pack --floor B IN OUT` and `pack --best IN OUT`; `split IN PREFIX P1 P2 [P3 to P100]`; `split IN PREFIX -c CUE`;
-/// `join OUT IN1 [IN2 to IN64]`; `drill SEED COUNT`; `fade [--back] IN OUT SHEET`; and `--help`, `-h` and `--version`, each
-/// alone. C is `0` or `1`. N is an optional `+` or `-` and one to three digits, from -255 to 255. B is a bit rate in kbit/s, one
-/// to three digits. SEED is a number up to 2,147,483,647 of one to ten digits, and COUNT one from 1 to 20,000 of one to five.
-/// FROM, TO and P1 to P100 are places as `Place::read` has them. All other words in capital letters are names: a name isn't
-/// empty and doesn't begin with `-`.
-/// It takes no memory.
+/// `join OUT IN1 [IN2 to IN64]`; `drill SEED COUNT`; `fade [--back] IN OUT SHEET`; `salvage IN OUT`; and `--help`, `-h` and
+/// `--version`, each alone. C is `0` or `1`. N is an optional `+` or `-` and one to three digits, from -255 to 255. B is a bit
+/// rate in kbit/s, one to three digits. SEED is a number up to 2,147,483,647 of one to ten digits, and COUNT one from 1 to
+/// 20,000 of one to five. FROM, TO and P1 to P100 are positions as `Place::read` has them. All other words in capital letters
+/// are names: a name isn't empty and doesn't begin with `-`.
+///
+/// # Errors
+/// Where the words have no form, the place, counted from 1, of the first word that no form takes, or the number of words plus
+/// 1 where a word is missing.
 pub fn job(words: &[String]) -> Result<Job<'_>, u32>
     ensures exact { answer result ≡ job_of (map string_bytes words.now) }
 
-    // The same as relations: the form that the words have, and the front of the words that comes furthest.
+    // The same as relations: the form that the words have, and the longest prefix of the words that follows a form.
     ensures read { IfOk result (λ job. IsReading (map string_bytes words.now) (asked job)) }
     ensures bad { IfErr result (IsBadWord (map string_bytes words.now)) }
 
-    // What a caller may do with the answer.
+    // What is asked for is in range, as the commands require.
     ensures sound { IfOk result (λ job. IsSound (asked job)) }
 {
     read_by(&FORMS, words)

@@ -64,7 +64,7 @@ is-some : (n : ℕ) → (n == 0) ≡ false → 0 < n
 is-some zero e = absurd cc
 is-some (suc n) e = omega arith
 
--- a granule and channel that can move
+-- the gain of a granule and channel can move
 abbrev GranuleMoves : ℤ → Side → ℕ → ℕ → Type 0
 GranuleMoves steps s granule channel = 0 < (granule_in s granule channel).part2_3_length → StaysGain steps (granule_in s granule channel).global_gain
 
@@ -95,7 +95,7 @@ unless-wrap : (wrap : Bool) (o : Option Stuck) → (wrap ≡ false → o ≡ Non
 unless-wrap true o none = refl
 unless-wrap false o none = none refl
 
--- each of the four
+-- each of the four gains of a frame can move
 abbrev SideMoves : Steps → Side → Type 0
 SideMoves steps s = (granule channel : ℕ) → granule < 2 → channel < 2 → GranuleMoves (steps_on steps channel) s granule channel
 
@@ -149,7 +149,7 @@ stuck-none : (at : ℕ) (o : Option Stuck) (later : Option Refusal) → stuck_fa
 stuck-none at (Some s) later e = absurd cc
 stuck-none at None later e = (refl, e)
 
--- by the steps of frame i, and those at its offset
+-- the steps of the number of a frame are those at its offset
 abbrev pub Agree : (ℕ → Steps) → (ℕ → Steps) → List Row → Type 0
 Agree at_offset at_number rows = Each rows (λ i row. at_offset row.offset ≡ at_number i)
 
@@ -180,7 +180,7 @@ else-none (Some x) b e = absurd cc
 none-else : (a b : Option Refusal) → a ≡ None → b ≡ None → or_else a b ≡ None
 none-else a b e d = ap (λ o. or_else o b) e ∙ d
 
--- what is refused where a test holds
+-- where nothing is refused, the test for it doesn't hold
 no-test : (b : Bool) (x : Refusal) → cond b (Some x) None ≡ None → b ≡ false
 no-test true x e = absurd cc
 no-test false x e = refl
@@ -242,7 +242,7 @@ found-ok at Missing undo e = absurd cc
 found-ok at (Bad place) undo e = absurd cc
 found-ok at (Found found) undo e = cc
 
--- a test of a number against the most that it may be
+-- where a number isn't refused, it is at most what it may be
 most : (n m : ℕ) (x : Refusal) → cond (nat_lt m n) (Some x) None ≡ None → n ≤ m
 most n m x e = ltb-false m n (no-test (nat_lt m n) x e)
 

@@ -80,7 +80,7 @@ few-sound file head class allowed other rows few sound = λ i r is.
     let here = sound i r is in
     record { same = here.same; word = here.word; main = here.main; few = ne_eqb i other (λ e. omega (arith, few, e, slice_get_within rows i r is)) }
 
--- a file that is no longer than allowed and has no fault where so many frames are allowed
+-- a file that is no longer than allowed and has no fault where `allowed` frames are allowed
 pub record IsWhole (file : List ℕ) (allowed : ℕ) (s : SurveyFields) : Type 0 where
   pub long : length file ≤ longest_file
   pub well_formed : surveyed_freely file ≡ Ok s
@@ -129,7 +129,7 @@ some-frames file allowed s e =
 
 -- ---- one input
 
--- of the one name there is one input, of which the choice is legal
+-- the name's file is an input without fault, and what was chosen is legal for it
 pub record IsOne (Choice : Input → Type 0) (files : Contents) (name : List ℕ) (most : ℕ) : Type 0 where
   pub input : Input
   pub is : IsInput files name input

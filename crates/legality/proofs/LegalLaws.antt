@@ -253,7 +253,7 @@ choice-pack Best file s surveyed legal = best-made file s surveyed
 choice-pack (Constant rate) file s surveyed legal = legal-constant file s surveyed rate legal
 choice-pack (Floor rate) file s surveyed legal = legal-floor file s surveyed rate legal
 
--- the shortest packing has a limit of its own
+-- the packing in the fewest bytes has a limit of its own
 module _ (files : Contents) (input : List ℕ) where
   best-parts : (o : Option (List ℕ)) (bytes : List ℕ) → files input ≡ o → limited_by (Some most_best) o (made_where (packing best_planning) o) ≡ Ok bytes → IsOne (LegalIn Best) files input most_best
   best-parts None bytes there e = absurd cc
@@ -295,7 +295,7 @@ module _ (files : Contents) (input : List ℕ) where
   packed-one (Constant rate) bytes e = made-one (making_in (Constant rate)) (LegalIn (Constant rate)) (pack-choice (Constant rate)) (choice-pack (Constant rate)) files input bytes e
   packed-one (Floor rate) bytes e = made-one (making_in (Floor rate)) (LegalIn (Floor rate)) (pack-choice (Floor rate)) (choice-pack (Floor rate)) files input bytes e
 
-  -- it reads the input alone
+  -- it reads only the input
   free-in : (mode : PackMode) (output : List ℕ) → AreApart (input ∷ []) (output ∷ []) → clash_in (pack_task mode input) output ≡ None
   free-in Least output apart = apart_no-clash (output ∷ []) (input ∷ []) 0 apart
   free-in Best output apart = apart_no-clash (output ∷ []) (input ∷ []) 0 apart

@@ -1,4 +1,4 @@
--- What a command makes that makes one file of one input.
+-- What a command that makes one file of one input makes.
 use Rattle.std.proofs.Common.{◌≡◌, ℕ, List, [], ◌∷◌, Option, Some, None, Result, Ok, Err, refl, ◌∙◌, ap, ap₂}
 use Rattle.outside.specs.Files.{Contents}
 use Rattle.sync_survey.specs.declared.survey_fault.SurveyFault.{SurveyFault}

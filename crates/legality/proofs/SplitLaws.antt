@@ -72,7 +72,7 @@ pub range-cut : (from to : Place) (slots : Slots) (file : List ℕ) (s : SurveyF
 unfolding cut_choice
 range-cut from to slots file s is = within-chosen None (replicate 36 0) (frame_at s.class (length s.frames) from) (frame_at s.class (length s.frames) to) slots (length s.frames) is
 
--- ---- from each place to the next
+-- ---- from each position to the next
 
 first-parts : (first : Chosen) (r : Result (List Chosen) EditFault) (cs : List Chosen) → with_first first r ≡ Ok cs → (more : List Chosen) × (r ≡ Ok more)
 first-parts first (Ok more) cs e = (more, refl)
@@ -129,7 +129,7 @@ pub record IsSplit (files : Contents) (input : List ℕ) (places : Result (List 
 abbrev pub made_in : (files : Contents) (prefix input : List ℕ) (places : Result (List Place) EditFault) → IsSplit files input places → Made
 made_in files prefix input places is = record { outputs = pieces_from prefix 1 is.file is.survey is.chosen; text = [] }
 
--- from each place to the next there is a frame
+-- from each position to the next there is a frame
 pub split-pieces : (files : Contents) (input : List ℕ) (places : Result (List Place) EditFault) (is : IsSplit files input places) → ArePieces is.survey is.found
 split-pieces files input places is = chosen-pieces is.survey.class (length is.survey.frames) is.found is.chosen is.picked
 
@@ -187,7 +187,7 @@ end-parts : (r : Result (List Place) CueFault) (places : List Place) → with_en
 end-parts (Ok starts) places e = (starts, refl, cc)
 end-parts (Err fault) places e = absurd cc
 
--- the places are those of the bytes of the sheet
+-- the positions are those that the bytes of the sheet say
 by-sheet : (o : Option (List ℕ)) → places_where o ≡ then_made (sheet_in o) (λ bytes. with_end (cue_of bytes))
 by-sheet o = refl
 

@@ -37,7 +37,7 @@ use Rattle.legality.specs.Inputs.{Each, EachNext, Input}
 
 -- ---- gains (global_gain of ISO/IEC 11172-3 and 13818-3, 2.4.2.7)
 
--- a gain moved by so many steps is one again, from 0 to 255
+-- a gain moved by these steps is one again, from 0 to 255
 abbrev pub StaysGain : ℤ → ℕ → Type 0
 StaysGain steps gain = (moved : ℕ) × (moved ≤ 255) × (pos gain +ℤ steps ≡ pos moved)
 
@@ -46,14 +46,14 @@ abbrev pub steps_on : Steps → ℕ → ℤ
 steps_on steps zero = steps.left
 steps_on steps (suc channel) = steps.right
 
--- The gains of a frame can move so: they wrap, or the frame is lost and left alone, or the gain of each granule and channel that has main data
--- is one afterwards too.
+-- The gains of a frame can move by these steps: they wrap, or the frame is lost and left alone, or the gain of each granule and channel that has main
+-- data is from 0 to 255 afterwards too.
 abbrev pub CanMove : Steps → Row → Type 0
 CanMove steps row =
     steps.wrap ≡ false → row.lost ≡ false → (granule channel : ℕ) → granule < 2 → channel < 2 → 0 < (granule_in row.side granule channel).part2_3_length
     → StaysGain (steps_on steps channel) (granule_in row.side granule channel).global_gain
 
--- those of all frames can, by the steps of each frame's number
+-- the gains of all frames can move, each frame's by the steps of its number
 abbrev pub CanAllMove : (ℕ → Steps) → SurveyFields → Type 0
 CanAllMove steps s = Each s.frames (λ i row. CanMove (steps i) row)
 
@@ -69,8 +69,8 @@ CanChange Both s = Unit {0}
 CanChange Left s = AreSeparate s
 CanChange Right s = AreSeparate s
 
--- The change can be noted: the tag of the file is read (`file_tag`, whose law says that it is its bytes), its undo item is one or isn't there, the
--- numbers of the new item are from -999 to 999, the new tag has at most 1,048,576 bytes, and the file with it at most 1,073,741,824.
+-- The change can be noted: the tag of the file is read (`file_tag`, whose law says that it is its bytes), its undo item has a value of the form or isn't
+-- there, the numbers of the new item are from -999 to 999, the new tag has at most 1,048,576 bytes, and the file with it at most 1,073,741,824.
 pub record CanBeNoted (shift : Shift) (input : Input) : Type 0 where
   pub tag : TagFields
   pub read : file_tag input.bytes input.survey ≡ Ok tag
@@ -88,7 +88,7 @@ pub record IsLegalGain (shift : Shift) (tags : Bool) (input : Input) : Type 0 wh
 
 -- ---- undo
 
--- the tag of the file is read, its undo item is one, and all gains can move by its steps
+-- the tag of the file is read, it has an undo item with a value of the form, and all gains can move by its steps
 pub record IsLegalUndo (input : Input) : Type 0 where
   pub tag : TagFields
   pub read : file_tag input.bytes input.survey ≡ Ok tag
@@ -111,11 +111,11 @@ pub record IsLegalFade (sheet : List ℕ) (back : Bool) (files : Contents) (inpu
 
 -- ---- cut and split
 
--- between the places there is a frame, and none of them is after the last frame
+-- between the positions there is a frame, and neither is after the end
 abbrev pub IsRange : SurveyFields → Place → Place → Type 0
 IsRange s from to = (frame_at s.class (length s.frames) from < frame_at s.class (length s.frames) to) × (frame_at s.class (length s.frames) to ≤ length s.frames)
 
--- so it is between each place and the next
+-- so it is between each position and the next
 abbrev pub ArePieces : SurveyFields → List Place → Type 0
 ArePieces s places = EachNext places (IsRange s)
 
@@ -140,7 +140,7 @@ IsRate rate class = (slot : SlotFields) × Contains all_slots slot × (rate_of c
 abbrev pub HasRoom : ℕ → SurveyFields → Type 0
 HasRoom rate s = (lead_in : Bool) × CanBeLaidFrom (window_of s.class.version) lead_in (menu_in (Only rate) s.class) (map need_of s.frames)
 
--- with the least slots, and with all from a bit rate on, there is always room
+-- with the least slots, with the fewest bytes, and with all slots from a bit rate on there is always room
 abbrev pub IsLegalPack : PackMode → SurveyFields → Type 0
 IsLegalPack Least s = Unit {0}
 IsLegalPack Best s = Unit {0}
@@ -155,8 +155,8 @@ AreOfOneClass inputs = (i j : ℕ) (p q : Input) → slice_get inputs i ≡ Some
 
 -- ---- salvage
 
--- The input needn't be well-formed: it is there, has at most 1,073,741,824 bytes, and what can be read of it (`damaged_of`) has a frame besides
--- an Info frame, and no more than allowed.
+-- The input needn't be well-formed: it is there, has at most 1,073,741,824 bytes, and what can be read of it (`damaged_of`) has a frame besides a Xing or
+-- Info frame, and no more frames than allowed.
 pub record IsLegalSalvage (input : List ℕ) (files : Contents) : Type 0 where
   pub bytes : List ℕ
   pub there : files input ≡ Some bytes

@@ -1,4 +1,4 @@
--- The inputs of a command that are streams, as they are there.
+-- The inputs of a command that are read as streams.
 use Rattle.std.specs.Prelude.{◌≡◌, ℕ, suc, ◌+◌, ◌≤◌, All, Contains, List, [], ◌∷◌, length, slice_get, Some, Ok}
 use Rattle.outside.specs.Files.{Contents}
 use Rattle.sync_survey.specs.Faults.{SurveyFields, longest_file, surveyed_freely}
@@ -15,13 +15,13 @@ EachNext {A} xs P = (i : ℕ) (x y : A) → slice_get xs i ≡ Some x → slice_
 
 -- ---- names
 
--- no name of these is one of those
+-- no input's name is an output's
 abbrev pub AreApart : List (List ℕ) → List (List ℕ) → Type 0
 AreApart inputs outputs = All (λ name. Contains outputs name → ⊥) inputs
 
 -- ---- files
 
--- an input, and what the survey of its bytes tells
+-- an input's bytes, and their survey
 pub record Input : Type 0 where
   pub bytes : List ℕ
   pub survey : SurveyFields

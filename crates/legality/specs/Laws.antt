@@ -21,7 +21,7 @@ use Rattle.legality.specs.Legal.{IsLegalFor}
 abbrev pub Makes : Command → Contents → Type 0
 Makes command files = (made : Made) × (command.makes files ≡ Ok made)
 
--- so it is for each command and all files, whatever was chosen
+-- for each command and all files, whatever was chosen, it is legal exactly where it isn't refused
 pub record LegalIsAccepted : Type 0 where
   pub list : (files : Contents) (input : List ℕ) → IsLegalFor (ListFile input) files ↔ Makes (list_command input) files
   pub gain : (files : Contents) (shift : Shift) (tags : Bool) (input output : List ℕ) → IsLegalFor (Gain shift tags input output) files ↔ Makes (gain_command shift tags input output) files

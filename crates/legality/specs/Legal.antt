@@ -1,4 +1,4 @@
--- What a command that was asked for may be done with.
+-- When a command that was asked for is legal.
 use Rattle.std.specs.Prelude.{ℕ, ◌≤◌, List, [], ◌∷◌, ◌++◌}
 use Rattle.outside.specs.Files.{Contents}
 use Rattle.commands.specs.One.{most_frames}
@@ -51,7 +51,7 @@ outputs_of (Drill seed count) = []
 outputs_of (Fade back input output sheet) = output ∷ []
 outputs_of (Salvage input output) = output ∷ []
 
--- so many frames the inputs may have together
+-- how many frames the inputs may have together
 abbrev pub most_in_mode : PackMode → ℕ
 most_in_mode Best = most_best
 most_in_mode Least = most_frames
@@ -81,8 +81,8 @@ AreLegal (Salvage input output) files inputs = IsLegalSalvage input files
 
 -- ---- all of it
 
--- No input is an output; each input that is a stream is there, no longer than allowed, and well-formed, and they have no more frames than
--- allowed; and the choices are legal.
+-- No input is an output; each input that is read as a stream is there, no longer than allowed, and well-formed, and together they have no more frames
+-- than allowed; and the choices are legal.
 pub record IsLegalFor (asked : Asked) (files : Contents) : Type 0 where
   pub names : AreApart (sources_of asked ++ others_of asked) (outputs_of asked)
   pub inputs : List Input

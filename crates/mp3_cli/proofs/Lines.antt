@@ -1,4 +1,4 @@
--- A line that is sent piece by piece.
+-- A line that is sent text by text.
 use Rattle.std.proofs.Common.{◌≡◌, ℕ, ◌+◌, ◌<◌, ◌≤◌, List, [], ◌∷◌, ◌++◌, length, get_or, take, drop, flat_map, map, refl, ap, sym, ◌∙◌, subst, inl, inr, arith, length-append}
 use Rattle.std.proofs.lemmas.List.{take_more, take-append-drop, take-append-le, append-nil}
 use Rattle.std.proofs.lemmas.Grind.{flat_map-append}
@@ -13,11 +13,11 @@ use Rattle.mp3_cli.specs.declared.parts.Part.{Part as CodePart}
 use Rattle.mp3_cli.specs.Lines.{spelled_part, spelled, part_of}
 use Rattle.mp3_cli.specs.Texts.{GotWhole, GotFront, GotLine}
 
--- the pieces with one more
+-- the texts with one more
 pub piece_more : {X : Type 0} (f : X → List ℕ) (xs : List X) (i : ℕ) (d : X) → i < length xs → flat_map f (take (i + 1) xs) ≡ flat_map f (take i xs) ++ f (get_or xs i d)
 piece_more f xs i d lt = rw (take_more xs i d lt, flat_map-append f (take i xs) (get_or xs i d ∷ [])) (ap (λ (last : List ℕ). flat_map f (take i xs) ++ last) (append-nil (f (get_or xs i d))))
 
--- a front of a piece after the pieces before it
+-- a prefix of a text after the texts before it
 pub front_more : {X : Type 0} (f : X → List ℕ) (xs : List X) (i : ℕ) (d : X) (k : ℕ) → i < length xs → k ≤ length (f (get_or xs i d))
     → take (length (flat_map f (take i xs)) + k) (flat_map f xs) ≡ flat_map f (take i xs) ++ take k (f (get_or xs i d))
 front_more f xs i d k lt short =
@@ -34,13 +34,13 @@ front_of f xs i d piece k lt piece-is short =
     let short_there : k ≤ length (f (get_or xs i d)) = rw (← piece-is) short in
     rw piece-is (front_more f xs i d k lt short_there)
 
--- what was sent when the pieces before i were
+-- the texts before i were sent
 pub record Before {X : Type 0} (f : X → List ℕ) (xs : List X) (i : ℕ) (sent_first sent_before : Sent) (faults_first faults_before : ℕ) : Type 0 where
   pub index : i < length xs
   pub later : faults_first ≤ faults_before
   pub sent : sent_before ≡ sent_more sent_first (flat_map f (take i xs))
 
--- a piece that failed
+-- a text that failed
 pub front_failed : {X : Type 0} (f : X → List ℕ) (xs : List X) (i : ℕ) (d : X) (sent_first sent_before sent_after : Sent) (faults_first faults_before faults_after : ℕ) (piece : List ℕ)
     → Before f xs i sent_first sent_before faults_first faults_before → piece ≡ f (get_or xs i d) → Rose faults_before faults_after
     → ((k : ℕ) × (k ≤ length piece) × (sent_after ≡ sent_more sent_before (take k piece)))
@@ -62,7 +62,7 @@ pub got_either : {T E : Type 0} (r : Result T E) (sent_before sent_after : Sent)
 got_either (Ok x) sent_before sent_after faults_before faults_after text later whole front = record { later = later; got = inl whole }
 got_either (Err e) sent_before sent_after faults_before faults_after text later whole front = record { later = later; got = inr front }
 
--- a piece that was sent
+-- a text that was sent after the others
 pub line_more : {X : Type 0} (f : X → List ℕ) (xs : List X) (i : ℕ) (d : X) (sent_first sent_before sent_after : Sent) (faults_first faults_before : ℕ) (piece : List ℕ)
     → Before f xs i sent_first sent_before faults_first faults_before → piece ≡ f (get_or xs i d)
     → sent_after ≡ sent_more sent_before piece
@@ -74,7 +74,7 @@ line_more f xs i d sent_first sent_before sent_after faults_first faults_before 
     ∙ ap (λ (list : List ℕ). sent_more sent_first (flat_map f (take i xs) ++ list)) piece-is
     ∙ ap (sent_more sent_first) (sym (piece_more f xs i d before.index))
 
--- another spelling of the line
+-- the same of a line that is equal
 pub line_is : (sent_before sent_after : Sent) (faults_before faults_after : ℕ) (line other : List ℕ) → line ≡ other → GotLine sent_before sent_after faults_before faults_after line → GotLine sent_before sent_after faults_before faults_after other
 line_is sent_before sent_after faults_before faults_after line other same got = subst (λ (l : List ℕ). GotLine sent_before sent_after faults_before faults_after l) same got
 

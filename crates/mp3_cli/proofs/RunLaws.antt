@@ -39,7 +39,7 @@ input_sent : (kind : InputKind) → by_kind (record { absent = Missing; unread =
 input_sent IsAbsent e = absurd cc
 input_sent _ e = absurd cc
 
--- is the one fault with which something was sent
+-- it is the only fault with which something was sent
 module _ (command : Command) (files : Files) (old new : Heard) where
   pub sent_rose : (fault : EditFault) → why_of fault ≡ Unsent → Says command files old new (Some fault) → Rose old.faults new.faults
   sent_rose (Input place fault) is says = absurd (input_sent (kind_of fault) is)
@@ -228,7 +228,7 @@ text_in (Err fault) = []
 some_is : {A : Type 0} (a b : A) → Some a ≡ Some b → a ≡ b
 some_is a b e = cc
 
--- a command makes no text of any files
+-- a command that has no text, whatever the files are
 pub record IsSilent (command : Command) : Type 0 where
   pub always : command.always ≡ Some []
   pub silent : (f : Contents) (made : Made) → command.makes f ≡ Ok made → made.text ≡ []
@@ -241,7 +241,7 @@ module _ (command : Command) (no_text : IsSilent command) (files : Files) (out :
   says_nothing : SaysAll command files out out
   says_nothing = record { text = λ text is. sym (ap (sent_more out.sent) (text_is text is) ∙ sent_nothing out.sent); faults = refl }
 
-  -- so it is silent with every fault that it has
+  -- such a command sends nothing with any fault that it has
   says_fault : (fault : EditFault) → HasNumbers command fault → Says command files out out (Some fault)
   says_fault NotSent numbers = absurd (numbers no_text.always)
   says_fault _ numbers = refl
@@ -327,7 +327,7 @@ module _ (text : List ℕ) (some : Some text ≢ Some []) (now : Seen) where
   said_ends (Ok x) out_old out_new says is = record { says = says; done = λ e. record { made = text_made; touches = touches_none [] now.files; counts = refl }; left = tt; numbers = tt; names = λ place e. absurd cc }
   said_ends (Err fault) out_old out_new says is = record { says = says; done = λ e. absurd cc; left = (said_left fault is).0; numbers = (said_left fault is).1; names = λ place e. absurd cc }
 
--- a failed write is one of these faults
+-- a failed write to standard output is one of the faults of a drill
 pub sent_alone : {T : Type 0} (r : Result T EditFault) → IfErr r (λ fault. fault ≡ NotSent) → IfErr r IsDrillFault
 sent_alone (Ok x) is = tt
 sent_alone (Err fault) is = subst IsDrillFault (sym is) tt

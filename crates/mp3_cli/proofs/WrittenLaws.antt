@@ -35,7 +35,7 @@ use Rattle.mp3_cli.specs.Run.{command_of, world, Answers, AreThere, HoldsWritten
 
 -- ---- several outputs
 
--- none of these has the name
+-- none of these outputs has the name
 abbrev HasNone : List ℕ → List Output → Type 0
 HasNone name [] = Unit {0}
 HasNone name (output ∷ outputs) = (name ≢ output.name) × HasNone name outputs
@@ -87,7 +87,7 @@ all-named : (prefix file : List ℕ) (s : SurveyFields) (chosen : List Chosen) �
 unfolding piece_names
 all-named prefix file s chosen few = pieces-named prefix file s 1 99 chosen few (omega (arith, few))
 
--- no more than may be chosen
+-- there are at most 99 pieces
 first-parts : (first : Chosen) (r : Result (List Chosen) EditFault) (cs : List Chosen) → with_first first r ≡ Ok cs → (more : List Chosen) × (r ≡ Ok more) × (length cs ≡ suc (length more))
 first-parts first (Ok more) cs e = let same : first ∷ more ≡ cs = cc in (more, refl, ap length (sym same))
 first-parts first (Err fault) cs e = absurd cc

@@ -10,14 +10,14 @@ pub data Part : Type 0 where
   Text : List ℕ → Part
   -- a number, as decimal digits
   Number : ℕ → Part
-  -- the same with `-` before it where it is negative
+  -- a number, as decimal digits, with `-` before them where it is negative
   Signed : ℤ → Part
-  -- a word, as four hexadecimal digits
+  -- a check word, as four hexadecimal digits
   Hexadecimal : ℕ → Part
   -- the name of a file
   Name : List ℕ → Part
 
--- a number below 16 as a hexadecimal digit, and a word as four of them
+-- a number below 16 as a hexadecimal digit, and a check word as four of them
 abbrev pub hex_digit : ℕ → ℕ
 hex_digit n = slice_index (codes "0123456789abcdef") n
 

@@ -24,7 +24,7 @@ use Rattle.legality.specs.Legal.{IsLegalFor}
 use Rattle.legality.specs.Laws.{Makes}
 use Rattle.mp3_cli.specs.Texts.{status_of, fault_line, bad_word_line, help_text, version_text, GotLine}
 
--- a text, whatever the files are
+-- a command that says a text, whatever the files are
 abbrev pub said_command : List ℕ → Command
 said_command text = record {
   inputs = [];
@@ -52,13 +52,13 @@ command_of (Drill seed count) = drill_command seed count
 command_of (Fade back input output sheet) = fade_command sheet back input output
 command_of (Salvage input output) = salvage_command input output
 
--- ---- the answer of a command, whatever its folder tells
+-- ---- the answer of a command over every folder, also one that doesn't tell its files
 
 abbrev pub fault_status : Option EditFault → ℕ
 fault_status None = 0
 fault_status (Some fault) = status_of fault
 
--- nothing is sent where the command was done
+-- the line of a fault; none where the command was done
 abbrev pub result_line : List (List ℕ) → List (List ℕ) → Option EditFault → List ℕ
 result_line inputs outputs None = []
 result_line inputs outputs (Some fault) = fault_line fault inputs outputs
@@ -79,8 +79,8 @@ pub record World : Type 0 where
 abbrev pub world : Seen → Heard → Heard → World
 world folder out err = record { folder = folder; out = out; err = err }
 
--- How a command ended, with this fault or none: the text of the command is there where it was done, and a fault has its cause and what it
--- leaves. Equal names are found whatever else is at fault.
+-- How a command ended, with this fault or none: the text of the command was sent where it was done, and a fault has its cause and what it leaves. Equal
+-- names are found whatever else is at fault.
 pub record Ends (command : Command) (old new : Seen) (out_old out_new : Heard) (fault : Option EditFault) : Type 0 where
   pub says : Says command old.files out_old out_new fault
   pub done : fault ≡ None → IsDone command old new
@@ -88,8 +88,8 @@ pub record Ends (command : Command) (old new : Seen) (out_old out_new : Heard) (
   pub numbers : IfSome fault (HasNumbers command)
   pub names : (place : ℕ) → clash_of command ≡ Some place → fault ≡ Some (EqualNames place)
 
--- The command was done, or there is a fault with its status, its line, its cause and what it leaves. The line is there whole, or a
--- prefix of it where a write failed; the text of the command is there where it was done. Equal names are found whatever else is at fault.
+-- The command was done, or there is a fault with its status, its line, its cause and what it leaves. The line was sent whole, or a prefix of it where a
+-- write failed; the text of the command was sent where it was done. Equal names are found whatever else is at fault.
 pub record Answers (command : Command) (old new : World) (status : ℕ) : Type 0 where
   pub fault : Option EditFault
   pub status_is : status ≡ fault_status fault
@@ -100,7 +100,7 @@ pub record Answers (command : Command) (old new : World) (status : ℕ) : Type 0
   pub numbers : IfSome fault (HasNumbers command)
   pub names : (place : ℕ) → clash_of command ≡ Some place → fault ≡ Some (EqualNames place)
 
--- bad words: their line is sent, and all else stays
+-- a bad word: its line is sent, and all else stays
 pub record AnswersBadWord (place : ℕ) (old new : World) (status : ℕ) : Type 0 where
   pub status_is : status ≡ 2
   pub line : GetsLine old.err new.err (bad_word_line place)
@@ -159,8 +159,8 @@ abbrev pub IsLegalBy : Contents → Result Asked ℕ → Type 0
 IsLegalBy files (Ok asked) = IsLegalFor asked files
 IsLegalBy files (Err place) = ⊥
 
--- The words ask for a command, no input is an output, each input is there, no longer than allowed, and well-formed, and the choices are legal
--- (`IsLegalFor`).
+-- The words ask for a command, no input is an output, each input that is read as a stream is there, no longer than allowed, and well-formed, and the
+-- choices are legal (`IsLegalFor`).
 abbrev pub IsLegal : List (List ℕ) → Contents → Type 0
 IsLegal words files = IsLegalBy files (job_of words)
 
@@ -178,7 +178,7 @@ LegalIsAccepted = (words : List (List ℕ)) (files : Contents) → IsLegal words
 
 -- ---- the streams
 
--- the files of as many of these names as there are streams are there and well-formed, and each holds the stream at its place
+-- there are at least as many names as streams; the file of each of the first names is there, is well-formed, and holds the stream at its place
 abbrev pub AreThere : Contents → List (List ℕ) → List (List StreamFrame) → Type 0
 AreThere files names [] = Unit {0}
 AreThere files [] (stream ∷ streams) = ⊥

@@ -46,7 +46,7 @@ input_parts (Overrun at bits room) =
 input_parts (TooManyFrames at) = Text (codes ": too many frames at ") ∷ Number at ∷ Text (codes "\n") ∷ []
 input_parts (Shrunk first second) = Text (codes ": shrunk from ") ∷ Number first ∷ Text (codes " to ") ∷ Number second ∷ Text (codes "\n") ∷ []
 input_parts Read = Text (codes ": read fault\n") ∷ []
--- want of memory is a fault of its own, and none of an input
+-- want of memory isn't a fault of an input: it has a line of its own
 input_parts Memory = []
 
 -- those of a fault of a cue sheet, after its name
@@ -54,14 +54,14 @@ abbrev pub sheet_parts : CueFault → List Part
 sheet_parts (Line number) = Text (codes ": bad line ") ∷ Number number ∷ Text (codes "\n") ∷ []
 sheet_parts (NotRising number) = Text (codes ": not rising at line ") ∷ Number number ∷ Text (codes "\n") ∷ []
 sheet_parts NoTracks = Text (codes ": no tracks\n") ∷ []
--- nor of a cue sheet
+-- nor is it one of a cue sheet
 sheet_parts NoSheetMemory = []
 
 -- those of a fault of the sheet of a fade, after its name
 abbrev pub curve_parts : EnvelopeFault → List Part
 curve_parts (BadLine number) = Text (codes ": bad line ") ∷ Number number ∷ Text (codes "\n") ∷ []
 curve_parts NoPoints = Text (codes ": no points\n") ∷ []
--- nor of this one
+-- nor is it one of this sheet
 curve_parts NoCurveMemory = []
 
 -- those of a refusal, by the names of the inputs; a sheet is input 1
@@ -155,14 +155,14 @@ pub record GotWhole (sent_before sent_after : Sent) (faults_before faults_after 
   pub sent : sent_after ≡ sent_more sent_before line
   pub done : faults_after ≡ faults_before
 
--- a front of the line was sent, and a write failed
+-- a prefix of the line was sent, and a write failed
 pub record GotFront (sent_before sent_after : Sent) (faults_before faults_after : ℕ) (line : List ℕ) : Type 0 where
   pub count : ℕ
   pub in_range : count ≤ length line
   pub sent : sent_after ≡ sent_more sent_before (take count line)
   pub failed : Rose faults_before faults_after
 
--- the line was sent and no write failed, or a front of it and a write failed; the count of failures never falls
+-- the line was sent and no write failed, or a prefix of it and a write failed; the count of failures never falls
 pub record GotLine (sent_before sent_after : Sent) (faults_before faults_after : ℕ) (line : List ℕ) : Type 0 where
   pub later : faults_before ≤ faults_after
   pub got : GotWhole sent_before sent_after faults_before faults_after line ⊎ GotFront sent_before sent_after faults_before faults_after line

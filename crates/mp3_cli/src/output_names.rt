@@ -17,7 +17,7 @@ pub enum Outputs<'a> {
 }
 
 impl<'a> Outputs<'a> {
-    /// The name at a place, counted from 0. Where there is no such output it is empty.
+    /// The name at a place of the list, counted from 0; an empty one where there is no such output.
     pub(crate) fn named(self, place: u32) -> Part<'a>
         ensures { part_of result ≡ Name (name_in (names_in self.entry) place) }
     {

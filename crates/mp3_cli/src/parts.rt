@@ -15,9 +15,9 @@ pub(crate) enum Part<'a> {
     Text(&'a str),
     /// A number, as decimal digits.
     Number(u64),
-    /// The same with `-` before it where it is negative.
+    /// A number, as decimal digits, with `-` before them where it is negative.
     Signed(i32),
-    /// A word, as four hexadecimal digits.
+    /// A check word, as four hexadecimal digits.
     Hexadecimal(u16),
     /// The name of a file.
     Name(&'a str),
@@ -45,7 +45,7 @@ pub(crate) fn line<'a>(parts: &[Part<'a>]) -> Line<'a>
     line
 }
 
-/// A line of this text.
+/// A line that is this text.
 pub(crate) fn text_line(text: &str) -> Line<'_>
     ensures { map part_of result.items ≡ Text text.now ∷ [] }
 {
@@ -72,7 +72,7 @@ pub(crate) fn named_line<'a>(name: &'a str, text: &'a str, number: u64) -> Line<
     ])
 }
 
-/// Sends the pieces one after another, and stops at the first that fails.
+/// Sends the texts one after another, and stops at the first write that fails.
 pub(crate) fn send_text<T: Sink>(sink: &mut T, pieces: &[&str]) -> Result<(), Failed>
     ensures whole { OnOk result (GotWhole (T.sent sink.old) (T.sent sink.new) (T.faults sink.old)
         (T.faults sink.new) (flat_map (λ piece. piece.now) pieces.now)) }
@@ -98,7 +98,7 @@ fn hex_digit<'a>(number: u16) -> &'a str
     HEX_DIGITS[usize::from(number % 16)]
 }
 
-// A word as four hexadecimal digits.
+// A check word as four hexadecimal digits.
 fn hex_digits<'a>(word: u16) -> [&'a str; 4]
     ensures { flat_map (λ digit. digit.now) result ≡ hex_word word }
 {
@@ -118,7 +118,7 @@ fn digit<'a>(number: u32) -> &'a str
     HEX_DIGITS[number as usize]
 }
 
-// The name of a piece, in pieces, by the last two digits of its number.
+// The name of a split's piece, as four texts, by the last two digits of its number.
 fn piece_name<'a>(prefix: &'a str, number: u32) -> [&'a str; 4]
     ensures { flat_map (λ part. part.now) result ≡ piece_name_lem prefix.now (number % 100) }
 {
@@ -147,7 +147,7 @@ fn send_part<T: Sink>(sink: &mut T, part: &Part) -> Result<(), Failed>
     }
 }
 
-// Sends the parts one after another, and stops at the first that fails.
+// Sends the parts one after another, and stops at the first write that fails.
 fn send_parts<T: Sink>(sink: &mut T, parts: &[Part]) -> Result<(), Failed>
     ensures whole { OnOk result (GotWhole (T.sent sink.old) (T.sent sink.new) (T.faults sink.old)
         (T.faults sink.new) (flat_map (λ part. spelled_part (part_of part)) parts.now)) }
@@ -161,7 +161,7 @@ fn send_parts<T: Sink>(sink: &mut T, parts: &[Part]) -> Result<(), Failed>
     Ok(())
 }
 
-/// Sends the parts of a line. It stops at the first write that fails, and such a failure is not answered.
+/// Sends the parts of a line. It stops at the first write that fails, and doesn't answer that one did.
 pub(crate) fn send_line<E: Sink>(err: &mut E, parts: &[Part])
     ensures { GotLine (E.sent err.old) (E.sent err.new) (E.faults err.old) (E.faults err.new)
         (spelled (map part_of parts.now)) }

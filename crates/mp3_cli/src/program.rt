@@ -20,7 +20,7 @@ use job_words::{Job, job};
 use outside::{Folder, Sink};
 use std::alloc::Global;
 
-/// Reports how a command ended, and answers its status.
+/// Sends the line of a fault, if there is one, and answers the status.
 fn report<E: Sink>(
     err: &mut E,
     done: Result<(), EditFault>,
@@ -40,7 +40,7 @@ fn report<E: Sink>(
     }
 }
 
-/// Does what the job asks for.
+/// Does what the job asks for. The refusals are those of the command's own call.
 fn do_job<D: Folder, T: Sink>(
     alloc: Global,
     job: Job,
@@ -130,11 +130,11 @@ fn run_job<D: Folder, T: Sink, E: Sink>(
     report(err, done, inputs.as_slice(), &outputs)
 }
 
-/// Does what the words ask for over the folder, and answers the status: 0 where it was done, 1 for a refused
-/// input, 2 for a bad word, 3 for an absent file, a failed call of the folder or a failed write to `out`, 4 for want
-/// of memory.
+/// Does what the words ask for over the folder, and answers the status: 0 where it was done; 1 where an input, or what was
+/// asked of it, was refused; 2 for a bad word; 3 for an absent file, a failed call of the folder, a file that became shorter,
+/// or a failed write to `out`; 4 for want of memory.
 ///
-/// With every status but 0 one line is sent to `err`, without taking memory; a failed write there changes
+/// With every status except 0 one line is sent to `err`, without taking memory; a failed write there changes
 /// nothing else. All memory is taken before an output is created, and before the first byte is sent to `out`.
 pub fn run<D: Folder, T: Sink, E: Sink>(
     alloc: Global,
@@ -148,8 +148,8 @@ pub fn run<D: Folder, T: Sink, E: Sink>(
     // Refused words give status 2, and nothing else does.
     ensures bad_word { (result ≡ 2) ↔ IsErr (job_of (map string_bytes words.now)) }
 
-    // Over every folder, told or not: the command was done, or a fault has its status, its line with its
-    // numbers, its cause and what it leaves.
+    // Over every folder, also one that doesn't tell its files: the command was done, or there is a fault with its status, its
+    // line with its numbers, its cause and what it leaves.
     ensures answers { AnswersWords
         (world (seen (D.files folder.old) (D.counts folder.old))
         (heard (T.sent out.old) (T.faults out.old)) (heard (E.sent err.old) (E.faults err.old)))
@@ -167,14 +167,15 @@ pub fn run<D: Folder, T: Sink, E: Sink>(
         result) }
 
     // Where no call of the folder failed, nor a write to `out`, and memory was found, exactly what is legal is done: the words ask for a
-    // command, no input is an output, each input is there, no longer than allowed and well-formed, and the choices are legal.
+    // command, no input is an output, each input that is read as a stream is there, no longer than allowed and well-formed, and the
+    // choices are legal.
     ensures accepted { (files : Contents) → D.files folder.old ≡ Told files
         → (Rose (D.counts folder.old).read_faults (D.counts folder.new).read_faults → ⊥)
         → (Rose (D.counts folder.old).write_faults (D.counts folder.new).write_faults → ⊥)
         → (Rose (T.faults out.old) (T.faults out.new) → ⊥) → result ≢ 4
         → ((result ≡ 0) ↔ IsLegal (map string_bytes words.now) files) }
 
-    // Each output is there, by its name, well-formed and with exactly the stream that the command has to make of well-formed inputs.
+    // Each output is there, by its name, well-formed, and holds exactly the stream that the command has to make of its inputs.
     ensures streams { result ≡ 0 → HoldsAllStreams (map string_bytes words.now)
         (D.files folder.old) (D.files folder.new) }
 
@@ -190,8 +191,9 @@ pub fn run<D: Folder, T: Sink, E: Sink>(
 
     ensures quiet { result ≡ 0 → E.sent err.new ≡ E.sent err.old }
 
-    // Standard output gets a text only where the command was done, or a write there failed. Where the text is the same whatever the
-    // files are, it gets it over every folder: that of `--help`, `--version` and `drill`, and none of the commands that write a file but `salvage`.
+    // Standard output gets a text only where the command was done, or a write there failed. Some texts are the same whatever the files
+    // are, and are sent over every folder: those of `--help`, `--version` and `drill`, and the empty ones of the commands that write
+    // files, except `salvage`.
     ensures silent { result ≢ 0 → result ≢ 3 → T.sent out.new ≡ T.sent out.old }
     ensures text { result ≡ 0 → IfSome (always_of (job_of (map string_bytes words.now)))
         (λ text. T.sent out.new ≡ sent_more (T.sent out.old) text) }

@@ -27,7 +27,7 @@ fn input_status(fault: &SurveyFault) -> u8
 }
 
 /// The status of a fault: 3 for a fault of the outside (Input with Absent, Read or Shrunk, Write, and Sent), 4 for want of
-/// memory (Memory), and 1 for every other, which refuses the input or the change.
+/// memory (Memory), and 1 for every other, which refuses an input or what was asked of it.
 pub fn status(fault: &EditFault) -> u8
     ensures { result ≡ status_of fault.now }
 {
@@ -118,7 +118,7 @@ pub fn say_version<T: Sink>(out: &mut T) -> Result<(), EditFault>
     say(out, &["mp3edit 0.1.0\n"])
 }
 
-// The parts of the line of a fault of the input with this name.
+// The parts of the line of a fault of the input with this name. Want of memory isn't a fault of an input and never comes here.
 fn input_parts<'a>(name: &'a str, fault: &SurveyFault) -> Line<'a>
     ensures { map part_of result.items ≡ Name name.now ∷ input_parts_lem fault.now }
 {
@@ -203,7 +203,7 @@ fn curve_parts<'a>(name: &'a str, fault: &EnvelopeFault) -> Line<'a>
     }
 }
 
-// The name at a place, counted from 0.
+// The name at a place of the list, counted from 0; an empty one where there is none.
 fn name_in<'a>(names: &[&'a str], place: u32) -> &'a str
     ensures { result.now ≡ name_in_lem (map (λ name. name.now) names.now) place }
 {
@@ -300,12 +300,14 @@ fn fault_parts<'a>(fault: &EditFault, inputs: &[&'a str], outputs: Outputs<'a>) 
 }
 
 /// Sends the line of a fault, by the names of the inputs and of the outputs, without taking memory.
-/// It stops at the first write that fails, and such a failure is not answered.
+/// It stops at the first write that fails, and doesn't answer that one did.
 ///
 /// NAME is that of the input or, for Write, of the output whose place the fault has; for SheetTooLarge and the faults of a
-/// sheet, Line, NotRising, NoTracks and NoPoints, it is that of input 1. O is an offset, N a number of bytes or frames, L a line's
-/// number from 1, S a number of steps with `-` before it where it is negative, B a bit rate in kbit/s as it was asked for, and I
-/// the number of a frame from 0.
+/// sheet, Line, NotRising, NoTracks and NoPoints, it is that of input 1. O is an offset in bytes, N a number of bytes or frames, L
+/// a line's number from 1, I a frame's number from 0, G a granule's and C a channel's from 0, and F and T are frame numbers too.
+/// In UndoRange S is a number of steps, with `-` before it where it is negative; in Shrunk F and S are lengths in bytes; in NoRate
+/// B is a bit rate in kbit/s as it was asked for, in BackPointer a main_data_begin, and P the bytes of main data before it; in
+/// Overrun B and R are bits; V is a gain.
 ///
 /// | fault | line |
 /// |---|---|
@@ -353,7 +355,7 @@ pub fn send_fault<E: Sink>(err: &mut E, fault: &EditFault, inputs: &[&str], outp
 }
 
 /// Sends the line `bad word K`, K the place of the word counted from 1, without taking memory.
-/// It stops at the first write that fails, and such a failure is not answered.
+/// It stops at the first write that fails, and doesn't answer that one did.
 pub fn send_bad_word<E: Sink>(err: &mut E, word: u32)
     ensures { GotLine (E.sent err.old) (E.sent err.new) (E.faults err.old) (E.faults err.new)
         (bad_word_line word) }

@@ -20,12 +20,12 @@ use std::process::ExitCode;
 use std::rt::{Env, Files};
 use std::{env, io};
 
-/// The program's words without its name.
+/// The arguments of the program, without its name. An error where one isn't UTF-8, or for want of memory.
 fn words<R: Env + AllocGlobal>(rt: &R) -> io::Result<Vec<String>> {
     Ok(env::args(rt)?.skip(1).collect(rt.alloc())?)
 }
 
-/// The status where the system can't give the words: 4 for want of memory, else 3.
+/// The status where the words can't be had: 4 for want of memory, else 3.
 fn status_without_words(error: &io::Error) -> u8
     ensures memory { error_kind error.now ≡ OutOfMemory → result ≡ 4 }
     ensures other { error_kind error.now ≢ OutOfMemory → result ≡ 3 }
@@ -36,7 +36,7 @@ fn status_without_words(error: &io::Error) -> u8
     }
 }
 
-/// Does what the words ask for, and answers the status. Where there are no words, nothing is done and nothing
+/// Does what the words ask for, and answers the status. Where the words can't be had, nothing is done and nothing
 /// is sent.
 fn answer<D: Folder, T: Sink, E: Sink>(
     alloc: Global,
@@ -45,7 +45,7 @@ fn answer<D: Folder, T: Sink, E: Sink>(
     out: &mut T,
     err: &mut E,
 ) -> u8
-    // The clauses of `run`.
+    // Clauses of `run`.
     ensures answers { IfOk words (λ v. AnswersWords
         (world (seen (D.files folder.old) (D.counts folder.old))
         (heard (T.sent out.old) (T.faults out.old)) (heard (E.sent err.old) (E.faults err.old)))
@@ -77,8 +77,8 @@ fn answer<D: Folder, T: Sink, E: Sink>(
     }
 }
 
-/// Opens nothing, for reading. While it is kept, no other file gets its number: where standard output or standard error is
-/// closed, an output would get the number of that stream, and with it a line or a text that isn't its own.
+/// Opens `/dev/null` for reading. While it is kept open, no other file gets its descriptor: where standard output or standard
+/// error is closed, an output would get the descriptor of that stream, and with it a text or a line that isn't its own.
 fn keep_number<R: Files>(rt: &R) -> Option<R::File> {
     File::open(rt, "/dev/null").ok()
 }

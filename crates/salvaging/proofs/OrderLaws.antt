@@ -35,7 +35,7 @@ unfolding merged
 merged_first [] u us from rises lt = refl
 merged_first (t ∷ ts) u us from rises lt = rw (lt-ltb (line_place u) (line_place t) (omega (arith, rises.0, lt))) refl
 
--- and what is at or after a place is put after the line there
+-- a line after which all others are is put first
 put_before : (t : Line) (ts us : List Line) → Rises (line_place t) ts → Rises (line_place t) us → put_line t (merged ts us) ≡ t ∷ merged ts us
 unfolding merged
 put_before t [] us rises behind = put_first t us behind
@@ -127,7 +127,7 @@ before-emptied t behind (u ∷ us) offset is lt =
     let first : ltb (line_place u) (line_place t) ≡ true = lt-ltb (line_place u) (line_place t) (omega (arith, same, lt)) in
     (rw first refl, rw first refl)
 
--- and else it is met itself
+-- where nothing is before the line, it is met itself
 pub before-gap : (t : Line) (behind : List Line → List Line) (us : List Line) (o : Option ℕ) → option_map line_place (first_of us) ≡ o → IfSome o (λ offset. line_place t ≤ offset)
     → (first_of (before t behind us) ≡ Some t) × (drop 1 (before t behind us) ≡ behind us)
 before-gap t behind [] o is le = (refl, refl)

@@ -22,7 +22,7 @@ use Rattle.frame_edits.proofs.ChosenLaws.{chosen-holds}
 use Rattle.salvaging.specs.Salvaged.{all_of, salvaged_file, stream_from, left_stream}
 use Rattle.salvaging.proofs.HadLaws.{damaged-had}
 
--- ---- a frame that becomes an empty one is one in the stream already
+-- ---- a frame that becomes an empty one is already one in the stream of what is left
 
 -- a frame of the stream, by the place of its own area
 abbrev frame_at : List ℕ → ℕ → Row → StreamFrame

@@ -23,7 +23,7 @@ pub record IsSaidTo (r : Report) (frames : ℕ) (left : List Line) (waits : List
 pub said-none : (r : Report) (frames : ℕ) (left : List Line) (sent : Sent) → left ≡ lines_of r → IsSaidTo r frames left [] sent sent
 said-none r frames left sent is = record { done = []; lines = ap texts (sym is); sent = sent_none sent [] }
 
--- the first is left no longer
+-- the first line is met, and the others are left
 split-first : (left : List Line) (t : Line) → Some t ≡ first_of left → left ≡ t ∷ drop 1 left
 split-first [] t is = absurd cc
 split-first (u ∷ us) t is = let same : t ≡ u = cc in rw same refl
@@ -52,7 +52,7 @@ said-failed r frames left t waits old now new h is part =
     let whole : text_of frames r ≡ (h.done ++ line_text t) ++ behind = text-is r frames (h.done ++ line_text t) (drop 1 left) (lines-split r frames left t h.done is h.lines) in
     subst (λ text. SentPrefix text old new) (sym whole) (sent_prefix_of behind (sent_more_prefix (line_text t) h.sent part))
 
--- nothing is left but the counts
+-- only the last line is left
 no-more : (left : List Line) → None ≡ first_of left → left ≡ []
 no-more [] is = refl
 no-more (t ∷ ts) is = absurd cc

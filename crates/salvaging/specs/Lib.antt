@@ -1,4 +1,4 @@
--- What the contracts of this crate cite, and those of the command.
+-- What the contracts of this crate cite.
 pub mod Salvaged
 pub mod Ordered
 pub mod Ready

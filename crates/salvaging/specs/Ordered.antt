@@ -11,14 +11,14 @@ use Rattle.salvaging.specs.declared.lines.Lines.{Lines}
 abbrev pub of_emptied : Emptied → Line
 of_emptied e = OfEmpty e.number e.offset
 
--- that of what the code tells
+-- the line of what the code tells
 abbrev pub line_of : Told → Line
 line_of (Missing gap) = OfGap gap
 line_of (Empty emptied) = of_emptied emptied
 
 -- ---- two lists that each are in order, as one
 
--- the line, or before it those of the others that are before it
+-- the line after those of the others that have lesser offsets, and then what `behind` makes of the rest
 abbrev pub before : Line → (List Line → List Line) → List Line → List Line
 before l behind [] = l ∷ behind []
 before l behind (m ∷ ms) = if nat_lt (line_place m) (line_place l) then m ∷ before l behind ms else l ∷ behind (m ∷ ms)
@@ -27,7 +27,7 @@ unfoldable pub merged : List Line → List Line → List Line
 merged [] ms = ms
 merged (l ∷ ls) ms = before l (merged ls) ms
 
--- what a walk has left
+-- what a walk hasn't met yet
 abbrev pub emptied_left : Lines → List Line
 emptied_left l = map of_emptied (drop l.next_emptied l.emptied.now)
 
@@ -38,7 +38,7 @@ abbrev pub first_of : List Line → Option Line
 first_of [] = None
 first_of (l ∷ ls) = Some l
 
--- each line tells of an offset at or after that of the one before it, and the first at or after a place
+-- the offset of each line is at or after that of the one before it, and the first at or after this one
 abbrev pub Rises : ℕ → List Line → Type 0
 Rises from [] = Unit {0}
 Rises from (l ∷ ls) = (from ≤ line_place l) × Rises (line_place l) ls

@@ -14,12 +14,12 @@ use Rattle.salvaging.specs.declared.report.Report.{Report}
 use Rattle.salvaging.specs.declared.work.Work.{Work}
 use Rattle.salvaging.specs.Salvaged.{all_of}
 
--- the report tells of what was read
+-- the report has the gaps and the emptied frames of what was read
 pub record Reports (d : DamagedFields) (r : Report) : Type 0 where
   pub gaps : r.gaps.items ≡ d.gaps
   pub emptied : r.emptied.items ≡ emptied_from 0 d.survey.frames
 
--- this was read of the name's file, and is told with its emptied frames as frames without main data
+-- this was read of the name's file, and has its emptied frames as frames without main data
 pub record IsMended (name : List ℕ) (files : Files) (m : Mended) : Type 0 where
   pub of : DamagedFields
   pub read : IsReadOf name files of
@@ -28,7 +28,7 @@ pub record IsMended (name : List ℕ) (files : Files) (m : Mended) : Type 0 wher
   pub emptied : m.emptied.items ≡ emptied_from 0 of.survey.frames
   pub gaps : m.gaps.items ≡ of.gaps
 
--- The input is there and was read, all frames have their plan, nothing is held of any file, nothing waits, and this is to be told.
+-- The input is there and was read, all frames have their plan, nothing is held of any file, nothing waits, and the report is that of what was read.
 pub record IsReady (input : List ℕ) (files : Files) (work : Work) : Type 0 where
   pub there : IsThere files input
   pub octets : HoldsOctets input files

@@ -1,4 +1,4 @@
--- The salvage command: what is left of a damaged file, laid out again, and a text that tells what is missing.
+-- The salvage command: what is left of a damaged file, laid anew, and a text that says what is missing.
 use Rattle.std.specs.Prelude.{ℕ, Bool, false, List, [], ◌∷◌, length, replicate, Option, Some, None, Result, Ok, Err}
 use Rattle.sync_survey.specs.declared.places.PlacedFrame.{PlacedFrame}
 use Rattle.sync_survey.specs.declared.survey_fault.SurveyFault.{SurveyFault}
@@ -23,12 +23,12 @@ use Rattle.frame_edits.specs.Chosen.{Chosen, plan_of, chosen_file}
 
 -- ---- the file
 
--- all frames in their own slots; the Info frame tells no quality, and its extension is all 0
+-- all frames in their own slots; the Info frame has no quality, and its extension is all 0
 abbrev pub all_of : SurveyFields → Chosen
 all_of s = record { from = 0; to = length s.frames; slots = Own; quality = None; extension = replicate 36 0 }
 
--- what is left, laid as a cut lays it: the ID3v2 blocks that are in front of the first frame, an Info frame, all frames, and all other
--- blocks that were read. A frame that isn't sound has no main data.
+-- What is left, laid as a cut lays it: the ID3v2 blocks before the first frame, an Info frame, all frames, and all other blocks that were read. A frame
+-- whose main data can't be used has none.
 unfoldable pub salvaged_file : List ℕ → DamagedFields → List ℕ
 salvaged_file file d = chosen_file (all_of (mended d.survey)) file (mended d.survey)
 

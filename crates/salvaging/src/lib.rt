@@ -1,4 +1,4 @@
-//! What is left of a damaged file, laid out again, and a text that tells what is missing.
+//! What is left of a damaged file, laid anew, and a text that says what is missing.
 #![tactic(auto)]
 
 mod lines;

@@ -7,7 +7,7 @@ use crate::report::Report;
 use listing::Line;
 use salvage::{Emptied, Gap};
 
-/// What a line tells of.
+/// What a line is about.
 #[derive(Clone, Copy, Debug, PartialEq, Eq)]
 pub(crate) enum Told {
     /// Bytes that are not read.
@@ -16,7 +16,7 @@ pub(crate) enum Told {
     Empty(Emptied),
 }
 
-/// The gaps and the frames that become empty ones that a walk has left.
+/// The gaps, and the frames that become empty ones, that a walk hasn't met yet.
 #[derive(Drop)]
 pub(crate) struct Lines<'a> {
     gaps: &'a [Gap],
@@ -39,7 +39,7 @@ impl<'a> Lines<'a> {
         }
     }
 
-    /// The first that is left; the walk goes after it.
+    /// The next one, in order of the offsets; none once all were met.
     pub(crate) fn next(&mut self) -> Option<Told>
         ensures first { option_map line_of result ≡ first_of (left self.old) }
         ensures rest { left self.new ≡ drop 1 (left self.old) }
@@ -100,7 +100,7 @@ pub(crate) fn set_line(line: &mut Line, told: &Told)
     }
 }
 
-/// Makes the text the line that counts.
+/// Makes the text the last line, with the numbers of frames, gaps and empty frames.
 pub(crate) fn set_counts(line: &mut Line, frames: u64, gaps: u64, empty: u64)
     ensures { line.new ≡ count_text frames gaps empty }
 {

@@ -20,7 +20,7 @@ use salvage::{Mended, read_damaged};
 use std::alloc::Global;
 use sync_survey::Survey;
 
-/// What can be read of the input, with each frame that isn't sound as one without main data.
+/// What can be read of the input, with each frame whose main data can't be used as one without main data.
 ///
 /// # Errors
 /// `Input` with the fault of the reading; `Memory`. The files stay.

@@ -1,4 +1,4 @@
-//! What is missing of a damaged file.
+//! What is missing in a damaged file.
 ghost use Rattle.std.specs.Prelude.{◌≡◌, ◌<◌, ◌≤◌, [], OnOk, OnErr, length};
 ghost use Rattle.outside.specs.Files.{sent_more};
 ghost use Rattle.outside.specs.Passed.{SentPrefix};
@@ -17,8 +17,8 @@ pub(crate) struct Report {
     pub emptied: Vec<Emptied>,
 }
 
-/// Sends a line for each gap and each frame that becomes an empty one, in order of their offsets, and one that counts
-/// the frames, the gaps and the empty frames. It takes no memory.
+/// Sends a line for each gap and each frame that becomes an empty one, in order of their offsets, and a last one with the
+/// numbers of frames, gaps and empty frames. It takes no memory.
 ///
 /// # Errors
 /// Where a write failed. Then a prefix of the text was sent.

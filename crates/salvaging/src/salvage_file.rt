@@ -23,11 +23,12 @@ fn clash(input: &str, output: &str) -> Option<u32>
 }
 
 /// Reads what can be read of a damaged file (`salvage::read_damaged`), writes what is left to the output, and then sends to
-/// `out` what is missing. The output is laid as a cut lays it: the ID3v2 blocks that are in front of the first frame, an
-/// Info frame whose extension is all 0, all frames with their own bit rates and padding, and all other blocks that were read.
-/// A frame whose main data are missing becomes an empty one, and all others are as they were.
+/// `out` what is missing. The output is laid as a cut lays it: the ID3v2 blocks before the first frame, an Info frame whose
+/// extension is all 0, a lead-in where the first frames need one, all frames with their own bit rates and padding, and all
+/// other blocks that were read. A frame whose main data are missing, overlap others or don't fit becomes an empty one, and all
+/// others are as they were.
 ///
-/// | line | what it tells of |
+/// | line | what it is about |
 /// |---|---|
 /// | `gap at O: L bytes` | L bytes from offset O on that were not read |
 /// | `empty frame I at O` | frame I, counted from 0 without the head, at offset O, that became an empty one |
@@ -35,10 +36,12 @@ fn clash(input: &str, output: &str) -> Option<u32>
 ///
 /// The others are in order of their offsets.
 ///
-/// Refuses, in this order: `EqualNames(0)` where the output has the input's name, byte for byte; `Input(0, ..)` with the
-/// fault of the reading; `Memory`. Then nothing was created and nothing sent. `Input(0, ..)` with `Read`, and `Write(0)`,
-/// where a call failed while the output was written; then it is as it was or holds a prefix of its bytes, and nothing was
-/// sent. `Sent` where a write to `out` failed; then the output is whole, and `out` got a prefix of the text.
+/// # Errors
+/// In this order: `EqualNames(0)` where the output has the input's name, byte for byte; `Input(0, ..)` with the
+/// fault of the reading; `Memory`. After these nothing was created and nothing sent. `Input(0, ..)` with `Read` or `Shrunk`,
+/// and `Write(0)`, where a call failed, or the input became shorter, while the output was written; then it is as it was or
+/// holds a prefix of its bytes, and nothing was sent. `Sent` where a write to `out` failed; then the output is whole, and
+/// `out` got a prefix of the text.
 pub fn salvage<D: Folder, T: Sink>(
     alloc: Global,
     folder: &mut D,
@@ -60,7 +63,7 @@ pub fn salvage<D: Folder, T: Sink>(
     ensures numbers { IfErr result (HasNumbers (salvage_command input.now output.now)) }
     ensures names { (place : ℕ) → IsErrOf result (EditFault.EqualNames place)
         ↔ (clash_of (salvage_command input.now output.now) ≡ Some place) }
-    // The output is well-formed, and holds what is left of the input, with at most one lead-in in front.
+    // The output is well-formed, and holds what is left of the input, after at most one lead-in.
     ensures streams { OnOk result (HoldsStreams (salvage_command input.now output.now)
         (D.files folder.old)) }
     ensures counts { NoneFell (D.counts folder.old) (D.counts folder.new) }

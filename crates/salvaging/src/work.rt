@@ -5,8 +5,7 @@ use laying::Buffers;
 use outside::SendBuffer;
 use sync_survey::Survey;
 
-/// What is left of the input, all its frames with their plan, what is missing of it, and the memory of the pass and of
-/// the text.
+/// What is left of the input, all its frames with their plan, what is missing, and the memory of the pass and of the text.
 #[derive(Drop)]
 pub(crate) struct Work {
     pub survey: Survey,

@@ -1,4 +1,4 @@
--- What the words so far say, and what those from there on do.
+-- What the words so far say, and what those after them say.
 use Rattle.std.proofs.Common.{◌≡◌, ◌-◌, ◌≤◌, ◌++◌, length, drop, map, string_bytes}
 use Rattle.job_words.specs.Kinds.{values_of}
 use Rattle.job_words.specs.Code.{word_kind, value_said}

@@ -1,4 +1,4 @@
--- The places so far.
+-- The positions so far.
 use Rattle.std.proofs.Common.{◌≡◌, ◌≤◌, length, map, take}
 use Rattle.job_words.specs.Kinds.{place_said}
 use Rattle.job_words.specs.Code.{value_said}

@@ -1,4 +1,4 @@
--- A piece that was sent, and one that failed.
+-- A text that was sent, and one that failed.
 use Rattle.std.proofs.Common.{[], refl, sym, ◌∙◌, arith}
 use Rattle.outside.proofs.FilesLaws.{sent_nothing}
 use Rattle.outside.proofs.PassedLaws.{on_err}

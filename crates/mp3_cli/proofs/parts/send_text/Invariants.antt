@@ -1,4 +1,4 @@
--- The pieces so far were sent.
+-- The texts so far were sent.
 use Rattle.std.proofs.Common.{◌≡◌, ◌≤◌, take, flat_map}
 use Rattle.outside.specs.Files.{sent_more}
 use Rattle.mp3_cli.proofs.parts.send_text.Given as goal

@@ -1,4 +1,4 @@
--- A fault of the reading is one of the only input; what is read is told as it is written.
+-- A fault of the reading is one of the only input; what was read is mended.
 use Rattle.std.proofs.Common.{sym, subst, ap₂}
 use Rattle.commands.specs.Left.{seen}
 use Rattle.commands.specs.One.{IsEarlyFault, IsOfInputs}

@@ -1,4 +1,4 @@
--- The last kind is there again as often as the definition says.
+-- The last kind is repeated as often as the definition says.
 use Rattle.std.proofs.Common.{◌≡◌, ◌∙◌, ◌-◌, length, map, min, replicate, ap, arith, append_assoc}
 use Rattle.std.proofs.lemmas.List.{map-append, length-map}
 use Rattle.job_words.specs.Code.{word_kind, form_given}
