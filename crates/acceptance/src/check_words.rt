@@ -37,7 +37,7 @@ $ gain -s s -g 1 m o
 > o M_LOUDER
 ";
 
-/// A wrong check word is told.
+/// A wrong check word is refused.
 static TOLD: &str = "
 < m WRONG_M
 $ gain -s s -g 1 m o

@@ -1,4 +1,4 @@
-//! The command that makes a stream from a number: it calls no folder that it is given, and writes one line.
+//! The command that makes a stream from a seed: it doesn't call the folder that it is given, and writes one line.
 
 use acceptance_kit::rows::{MORE, More, ROW, Row, first_difference, wants_memory};
 use acceptance_kit::running::{Ended, sink, words_of};
@@ -11,7 +11,7 @@ use std::test::Fail;
 use test_files::files::Stretch::Frames;
 use test_files::frames::Z;
 
-/// The length of the packed file is that of another program.
+/// The length of the packed file was worked out by another program.
 const LINE: &str = "1 frames, 417 bytes in, 469 bytes out, 0 lead-ins\n";
 
 static FOLDERS: [Row; 1] = [Row {

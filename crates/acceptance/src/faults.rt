@@ -155,7 +155,7 @@ fn expect_told<R: Abort + AllocGlobal>(rt: &R, case: &Told, number: u64) -> Resu
     Ok(())
 }
 
-// No line is sent in fifteen pieces: where the fifteenth would fail the line is whole.
+// No line takes fifteen writes: where the fifteenth would fail, the line is whole.
 #[test]
 fn standard_error_fails(rt: HostRuntime) -> Result<(), Fail> {
     for case in &TOLD {
@@ -166,7 +166,7 @@ fn standard_error_fails(rt: HostRuntime) -> Result<(), Fail> {
     Ok(())
 }
 
-/// Want of memory is told before the output is created.
+/// Want of memory comes before the output is created.
 static WHOLE: &str = "
 < g FILE
 $ gain -s s -g -5 g o

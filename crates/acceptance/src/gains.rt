@@ -99,7 +99,7 @@ $ gain -s s -g 56 g o
 ! 1 gain 200 out of range at 209, granule 0, channel 1
 ";
 
-/// An output that was there holds the new bytes alone.
+/// An output that was there holds only the new bytes.
 static OVER_OTHER_BYTES: &str = "
 < g G
 < o 55*1000

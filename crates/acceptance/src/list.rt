@@ -123,7 +123,7 @@ fn each_call_fails_in_turn(rt: HostRuntime) -> Result<(), Fail> {
     Ok(())
 }
 
-/// Asserts that so much of the text was sent at least.
+/// Asserts that a prefix of the text of at least `least` bytes was sent.
 fn expect_prefix(rt: &impl Abort, sent: &[u8], whole: &[u8], least: usize) {
     assert!(rt; sent.len() >= least);
     assert!(rt; whole.starts_with(sent));
@@ -172,7 +172,7 @@ fn expect_each_write<R: Abort + AllocGlobal>(
     expect_whole(rt, folder, whole.out.sent())
 }
 
-// Each write of a text of several fails in turn: a prefix of the text was sent.
+// Each of the writes of a long text fails in turn: a prefix of the text was sent.
 #[test]
 fn each_write_fails_once(rt: HostRuntime) -> Result<(), Fail> {
     let mut folder = folder_of_file(rt.alloc(), "z", &MANY)?;
@@ -182,7 +182,7 @@ fn each_write_fails_once(rt: HostRuntime) -> Result<(), Fail> {
 
 const THOUSAND: Stretch = Repeated(&[Z], 1000);
 
-/// So many frames that their lines take three writes.
+/// As many frames as take three writes for their lines.
 static MANY: [Stretch; 3] = [THOUSAND, THOUSAND, THOUSAND];
 
 #[test]

@@ -167,7 +167,7 @@ $ gain -s s -g 0 a o
 ! 1 a: overrun at 417, bits 3372, room 3368
 ";
 
-/// Two faults in the input `a`, of which the first is told.
+/// Two faults in the input `a`: the line is about the first.
 static TWO_FAULTS: &str = "
 # a frame at fault before bytes that are no item
 < a OVERFULL 41

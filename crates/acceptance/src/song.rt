@@ -11,8 +11,8 @@ use test_files::files::{ID3V1_BLOCK, Stretch};
 use test_files::frames::Frame;
 use test_files::table;
 
-/// Four joint stereo frames of changing rates at 44,100 Hz, whose main data begin in the areas of the frames
-/// before them. After them the same four may stand again. The second channel of the third is silent.
+/// Four joint stereo frames of changing bit rates at 44,100 Hz, whose main data begin in the areas of the frames
+/// before them. After them the same four may follow again. The second channel of the third is silent.
 const FRAMES: [Frame; 4] = table! {
     Frame { header, word, side, area, length }
     ([0xff, 0xfb, 0x90, 0x64], None,
@@ -47,7 +47,7 @@ const LOUDER: [Frame; 4] = table! {
 };
 
 /// An ID3v2 block of 30,000 bytes, and a head of 417 with its text, flags, number of frames and number of
-/// bytes. Then the frames stand 2,300 times, which is 9,200 of them and four minutes of sound, and at the end an ID3v1 block.
+/// bytes. Then the four frames 2,300 times, which is 9,200 of them and four minutes of sound, and at the end an ID3v1 block.
 macro_rules! song {
     ($frames:expr) => {
         &[

@@ -4,7 +4,7 @@ use crate::reservoirs;
 use acceptance_kit::scripts::first_unlike;
 use std::test::Fail;
 
-/// Gains move and all else but junk stays.
+/// Gains move, and all else stays except junk.
 static EDITS: &str = "
 # main data in the area of the frame before
 < a FIRST SECOND

@@ -64,7 +64,7 @@ static CASES: [Case; 3] = table! {
     (1_073_741_825, 0, 1, "a: too long, 1073741825 bytes\n", 0)
 };
 
-/// Whether what was found is that the command told want of memory.
+/// Whether what was found is that the command ended for want of memory.
 fn told_want_of_memory(other: &Option<Found>) -> bool {
     match other {
         Some(Found::Line(line)) => line.as_str() == "out of memory\n",

@@ -77,7 +77,8 @@ static READS: [Row; 4] = [
         }),
         ..ROW
     },
-    // Of the second time: what was read in front of it is written, so neither the input nor the output is held whole.
+    // The input is read a second time: what was read before the failing call is written, so neither the input nor the output is
+    // held whole.
     Row {
         files: &[SILENT, FIVE_DOWN],
         words: &["fade g o s"],

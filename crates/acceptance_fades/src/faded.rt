@@ -40,7 +40,7 @@ $ fade a o s
 > o AT_100 AT_100 AT_100 AT_96
 ";
 
-/// What is beside the frames that move.
+/// What is in a file besides the frames whose gains move.
 static OTHERS: &str = "
 # lost and silent frames stay, and have numbers
 < a LOST AT_100 Z AT_100

@@ -1,4 +1,4 @@
-//! Frames whose gains are all alike, worked out by hand.
+//! Frames whose gains are all equal, worked out by hand.
 
 /// Bytes that the rows name.
 pub const DEFINED: &str = "

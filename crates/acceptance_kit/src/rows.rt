@@ -70,7 +70,7 @@ pub const MORE: More = More {
     absent: None,
 };
 
-/// The first call of `find` is to fail, and so on.
+/// The first call of `find` is to fail; those after it are named in the same way.
 pub const FIRST_FIND: More = failing!(Find 1);
 
 pub const SECOND_FIND: More = failing!(Find 2);
@@ -119,7 +119,7 @@ pub enum Found {
     Status(u8),
     Line(String),
     Text(String),
-    /// The file of this name has so many bytes where so many are looked for, and they differ from a place on.
+    /// The file of this name has `length` bytes where `wanted` are expected, and they differ from `place` on.
     Bytes {
         name: &'static str,
         length: usize,
@@ -341,7 +341,7 @@ pub fn other_end<D: Folder>(
     difference_of_end(alloc, &ended, status, line, "")
 }
 
-/// Whether the command told want of memory.
+/// Whether the command ended for want of memory.
 pub fn wants_memory(ended: &Ended) -> bool {
     ended.status == 4 && ended.err.sent() == b"out of memory\n".as_slice()
 }

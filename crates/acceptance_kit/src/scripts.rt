@@ -1,6 +1,6 @@
 //! Whole commands in a text, and one runner for all of them. A text costs a check less than a table of values.
 //!
-//! A blank line is between two rows. What a line of a row says is told by its front:
+//! A blank line is between two rows. The prefix of a line tells what it says:
 //!
 //! ```text
 //! # what is tried
@@ -60,7 +60,7 @@ pub struct Unlike {
     pub found: Found,
 }
 
-/// Nothing where nothing was found.
+/// The row goes on where nothing was found.
 fn none_of(found: Option<Found>) -> Result<(), Stop> {
     match found {
         Some(found) => Err(Stop::Found(found)),
@@ -73,7 +73,7 @@ fn parted(text: &'static str) -> (&'static str, &'static str) {
     text.split_once(' ').unwrap_or((text, ""))
 }
 
-/// What is after this front in the first line that has it.
+/// What is after this prefix in the first line that has it.
 fn said(row: &'static str, front: &str) -> Option<&'static str> {
     for line in row.lines() {
         if let Some(rest) = line.strip_prefix(front) {
@@ -83,7 +83,7 @@ fn said(row: &'static str, front: &str) -> Option<&'static str> {
     None
 }
 
-/// What is after this front in the last line that has it.
+/// What is after this prefix in the last line that has it.
 fn last_said(row: &'static str, front: &str) -> Option<&'static str> {
     let mut last = None;
     for line in row.lines() {
@@ -94,7 +94,7 @@ fn last_said(row: &'static str, front: &str) -> Option<&'static str> {
     last
 }
 
-/// Whether a line of a file with this front has the name.
+/// Whether a line with this prefix names the file.
 fn names_file(row: &'static str, front: &str, name: &str) -> bool {
     for line in row.lines() {
         if let Some(file) = line.strip_prefix(front) {
@@ -259,7 +259,7 @@ fn compare_made(
     Ok(())
 }
 
-/// Compares the files that have to stay: those that no line with this front names.
+/// Compares the files that have to stay: those that no line with this prefix names.
 fn compare_kept(
     alloc: Global,
     folder: &MemFolder,
@@ -321,7 +321,7 @@ fn compare_outputs(folder: &MemFolder, row: &'static str, front: &str) -> Result
     Ok(())
 }
 
-/// Compares the folder with that before the command, where no file has this front.
+/// Compares the folder with that before the command. The prefix is one that no line has, so that every file has to stay.
 fn compare_before(
     alloc: Global,
     folder: &MemFolder,
@@ -385,7 +385,7 @@ fn run_last(
     compare_ended(alloc, folder, names, row, &ended)
 }
 
-/// What a row without a command comes to: nothing, where it has definitions alone.
+/// A row without a command may have only definitions.
 fn expect_definitions(row: &'static str) -> Result<(), Stop> {
     if said(row, "< ").is_some() || said(row, "> ").is_some() || said(row, "! ").is_some() {
         return Err(Stop::Found(Found::Word(row)));
@@ -415,7 +415,7 @@ fn run_over_empty(alloc: Global, names: &[Named], row: &'static str) -> Result<(
     run_row(alloc, &mut folder, names, row)
 }
 
-/// Whether the line is empty or has the front of one.
+/// Whether the line is empty or has one of the prefixes.
 fn is_known(line: &str) -> bool {
     for front in &FRONTS {
         if line.starts_with(*front) {

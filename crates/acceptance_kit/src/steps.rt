@@ -15,9 +15,9 @@ pub struct Kind {
     pub call: Call,
     /// The line where the first fails, where the second does, and so on; the last of them where a later one does.
     pub lines: &'static [&'static str],
-    /// So many are made at least.
+    /// How many are made at least.
     pub least: u64,
-    /// So many bytes at least were written when the last one is made.
+    /// How many bytes at least were written when the last one is made.
     pub written: usize,
 }
 
@@ -79,7 +79,7 @@ enum Progress {
 #[derive(Clone, Copy)]
 enum Run {
     Done,
-    /// A call failed when so many bytes were written.
+    /// A call failed when this many bytes were written.
     Failed(usize),
     Strayed(Stray),
 }
@@ -220,7 +220,8 @@ fn run_failing(
     run_over_folder(alloc, &mut folder, steps, kind, number)
 }
 
-/// Where a run is done whose call of this number doesn't fail, and so many bytes were written when the last one failed.
+/// What is wrong with a run that is done since there is no call of this number; `written` bytes were written when the last call
+/// failed.
 fn stray_of_done(kind: &'static Kind, number: u64, written: usize) -> Option<Stray> {
     if number > kind.least && written >= kind.written {
         None

@@ -6,7 +6,7 @@ use std::test::Fail;
 use test_files::files::Stretch;
 use test_files::frames::{Frame, Z};
 
-/// 4 times 136 bits of main data, 68 bytes. After them are the first bytes of the frame after it.
+/// 4 times 136 bits of main data, 68 bytes. After them are the first bytes of the next frame's.
 pub const SHORT: Frame = Frame {
     side: &[
         0x00, 0x00, 0x00, 0x88, 0x00, 0x00, 0x00, 0x00, 0x00, 0x00, 0x11, 0x00, 0x00, 0x00, 0x00,
@@ -34,7 +34,7 @@ const SHORT_AT_32: Frame = Frame {
     ..SHORT
 };
 
-/// The second at 160 kbit/s after it, with an area of 486.
+/// The second at 160 kbit/s after it, with an area of 486 bytes.
 const LONG_AT_160: Frame = Frame {
     header: [0xff, 0xfb, 0xa0, 0x00],
     side: &[
@@ -46,7 +46,7 @@ const LONG_AT_160: Frame = Frame {
     ..Z
 };
 
-/// The first with a byte more, which is the first of the second.
+/// The first with a byte more in its area, which is the first of the second's main data.
 pub const SHORT_PADDED: Frame = Frame {
     header: [0xff, 0xfb, 0x12, 0x00],
     area: &[0x55; 69],
@@ -54,7 +54,7 @@ pub const SHORT_PADDED: Frame = Frame {
     ..SHORT
 };
 
-/// So the second fits at 128 kbit/s with padding, whose area has 382.
+/// So the second fits at 128 kbit/s with padding, in an area of 382 bytes.
 pub const LONG_PADDED: Frame = Frame {
     header: [0xff, 0xfb, 0x92, 0x00],
     side: &[
@@ -66,7 +66,7 @@ pub const LONG_PADDED: Frame = Frame {
     ..Z
 };
 
-/// 4 times 2,020 bits, 1,010 bytes, a byte more than the largest area has. They begin in that of the head.
+/// 4 times 2,020 bits, 1,010 bytes, a byte more than the largest area has. They begin in the area of the head before it.
 const LARGE: Frame = Frame {
     header: [0xff, 0xfb, 0xe2, 0x00],
     side: &[
@@ -86,7 +86,7 @@ const LEAD_IN_OF_80: Frame = Frame {
     ..Z
 };
 
-/// The frame at 256 kbit/s after it, with an area of 799.
+/// The frame at 256 kbit/s after it, with an area of 799 bytes.
 const LARGE_AT_256: Frame = Frame {
     header: [0xff, 0xfb, 0xd0, 0x00],
     side: &[
@@ -104,7 +104,7 @@ const LEAST_FROM_136: Frame = Frame {
     ..LEAST
 };
 
-/// 300 bytes of main data at 112 kbit/s, with an area of 329.
+/// 300 bytes of main data at 112 kbit/s, with an area of 329 bytes.
 const ALONE_AT_112: Frame = Frame {
     header: [0xff, 0xfb, 0x80, 0x00],
     length: 365,

@@ -1,4 +1,4 @@
-//! Calls of the outside that fail while frames are read and laid out again.
+//! Calls of the outside that fail while frames are read and laid anew.
 
 use crate::cuts::A_1_ALONE;
 use crate::joins::{B, BOTH};
@@ -81,7 +81,7 @@ fn each_call_for_several_files_fails_in_turn(rt: HostRuntime) -> Result<(), Fail
     Ok(())
 }
 
-/// Want of memory is told before the output is created.
+/// Want of memory comes before the output is created.
 static WHOLE: &str = "
 < u A
 $ cut u 0 2 o

@@ -25,11 +25,11 @@ B_0_FROM_130 = fffb9000 41000320003200000000640006400000000c8000c800000001900019
 BOTH = INFO_FRONT 'Xing' 0000000f000000040000061b 22*25 66*25 aa*25 bb*25 INFO_REST A_0 A_1_FULL LEAD_IN_FROM_62 B_0_FROM_130
 ";
 
-/// A frame as A_1, but that its 400 bytes of main data begin 40 bytes before its own area.
+/// A_1, except that its 400 bytes of main data begin 40 bytes before its own area.
 const B_0: Frame =
     frame! { side: b"\x14\0\x03\x20\0\x32\0\0\0\0\x64\0\x06\x40\0\0\0\x0c\x80\0\xc8\0\0\0\x01\x90\0\x19", area: &[0x55; 360], ..Z };
 
-/// The file B: a head, whose area ends with the first 40 bytes of the main data of the frame after it.
+/// The file B: a head whose area ends with the first 40 bytes of the main data of the frame after it, and that frame.
 pub const B: &[Stretch] = &end_to_end! {
     Filled(&[0xff, 0xfb, 0x90, 0x00], 0, 32), Bytes(b"Info"), Fill(0, 337), Fill(0x55, 40),
     Frames(&[B_0])
@@ -48,7 +48,7 @@ const B_0_FROM_130: Frame = Frame {
     ..Z
 };
 
-/// 1,563 bytes.
+/// The file that joins both: 1,563 bytes.
 pub const BOTH: &[Stretch] = &end_to_end! {
     INFO_FRONT, Bytes(b"Xing\0\0\0\x0f\0\0\0\x04\0\0\x06\x1b"), Fill(34, 25), Fill(102, 25), Fill(170, 25),
     Fill(187, 25), INFO_REST,

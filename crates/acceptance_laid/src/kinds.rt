@@ -43,7 +43,7 @@ JOINT_LEAD_IN = fffb116f ~36 55*68 ~104
 JOINT_MOVED = fffb916f 22000320003200000000640006400000000c8000c800000001900019 ~36 55*332 ~417
 ";
 
-/// Classes of mpeg 1.
+/// Classes of MPEG-1.
 static KINDS: &str = "
 # MPEG-1, 44,100 Hz, one channel
 < a MONO_0 MONO_1

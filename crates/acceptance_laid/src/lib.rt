@@ -1,4 +1,4 @@
-//! Tests of whole commands that lay out main data again, over a folder and sinks in memory.
+//! Tests of whole commands that lay main data anew, over a folder and sinks in memory.
 #![tactic(auto)]
 
 #[cfg(test)]

@@ -25,16 +25,16 @@ macro_rules! quiet {
 
 const QUIET: Frame = quiet!(0x00 0x00, Z);
 
-/// Main data begin 377 bytes before the area: the frame before leaves so many free.
+/// Main data begin 377 bytes before the area: the frame before leaves these free.
 const QUIET_FROM_377: Frame = quiet!(0xbc 0x80, Z);
 
-/// They begin as far before it as they may.
+/// They begin as far before it as they may, 511 bytes.
 const QUIET_FROM_511: Frame = quiet!(0xff 0x80, Z);
 
 /// QUIET at 32 kbit/s.
 const LEAST: Frame = frame! { header: [0xff, 0xfb, 0x10, 0x00], length: 104, ..QUIET };
 
-/// Such frames, each of which leaves 64 bytes free: main data begin from frame to frame so much farther back, at most 511 bytes.
+/// Such frames, each of which leaves 64 bytes free: main data begin 64 bytes farther back from frame to frame, at most 511.
 const LEAST_FRAMES: &[Frame] = &[
     LEAST,
     quiet!(0x20 0x00, LEAST),

@@ -34,7 +34,7 @@ LOWEST_MONO_LEAD_IN = ffe314c0 ~13 55*35 ~48
 LOWEST_MONO_MOVED = ffe314c0 230a000190 ~13 5555555555 ~48
 ";
 
-/// Classes of mpeg 2.
+/// Classes of MPEG-2 and MPEG-2.5.
 static LOWER_KINDS: &str = "
 # MPEG-2, 22,050 Hz, two channels
 < a LOWER_0 LOWER_1

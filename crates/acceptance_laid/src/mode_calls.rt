@@ -46,10 +46,10 @@ fn each_call_of_the_fewest_bytes_fails_in_turn(rt: HostRuntime) -> Result<(), Fa
     Ok(())
 }
 
-/// Z, where main data could begin 381 bytes before the area: the frame before is free.
+/// Z, where main data could begin 381 bytes before the area: the whole area of the frame before is free.
 const FROM_381: Frame = frame! { side: b"\xbe\x80", ..Z };
 
-/// Z, where they could begin as far before it as they may.
+/// Z, where they could begin as far before it as they may, 511 bytes.
 const FROM_511: Frame = frame! { side: b"\xff\x80", ..Z };
 
 // 480 frames of 417 bytes, read and written by 65,536. The output has 200,368 bytes.
@@ -68,10 +68,10 @@ fn each_call_of_a_long_file_with_one_bit_rate_fails_in_turn(rt: HostRuntime) -> 
     Ok(())
 }
 
-/// Z at 32 kbit/s, where main data could begin as far before the area as they may.
+/// Z at 32 kbit/s, where main data could begin as far before the area as they may, 511 bytes.
 const LEAST_FROM_511: Frame = frame! { side: b"\xff\x80", ..LEAST };
 
-/// Frames at 32 kbit/s, each of which leaves 68 bytes free: main data could begin from frame to frame so much farther back.
+/// Frames at 32 kbit/s, each of which leaves 68 bytes free: main data could begin 68 bytes farther back from frame to frame.
 const LEAST_FRAMES: &[Frame] = &[
     LEAST,
     LEAST_FROM_68,

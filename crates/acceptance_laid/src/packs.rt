@@ -57,7 +57,7 @@ $ pack a o
 > o INFO_FRONT 'Info' 0000000f0000000300000d0f 0f*34 5f*33 af*33 INFO_REST FULL_0 FULL_1 FULL_2
 ";
 
-/// What a head tells is kept.
+/// The quality and the extension of a head are kept.
 static HEADED: &str = "
 # quality and extension of a head
 < a fffb9000 00*32 'Xing' 0000000f0000000700000007 07*100 LAME 07*225 Z Z
@@ -65,7 +65,7 @@ $ pack a o
 > o INFO_FRONT TWO_OF_416 80*50 c0*50 LAME 00*16 LEAST LEAST_FROM_68
 ";
 
-/// Main data alone are written.
+/// Only main data are written.
 static BITS: &str = "
 # bits behind the main data
 < a THREE_BITS

@@ -1,4 +1,4 @@
-//! Files that are split at places.
+//! Files that are split at positions.
 
 use crate::songs;
 use crate::songs::INFO_REST;

@@ -1,4 +1,4 @@
-//! Where tags are in a file that is laid out again.
+//! Where tags are in a file whose main data are laid anew.
 
 use crate::songs;
 use acceptance_kit::scripts::first_unlike;

@@ -36,7 +36,7 @@ TWO_OF_1042 = 'Info' 0000000f0000000200000412
 pub const A_0: Frame =
     frame! { side: b"\0\0\x02\x58\0\x32\0\0\0\0\x4b\0\x06\x40\0\0\0\x09\x60\0\xc8\0\0\0\x01\x2c\0\x19", area: &[0x55; 381], ..Z };
 
-/// The same with its own main data alone.
+/// The same with only its own main data.
 pub const A_0_ALONE: Frame = frame! { area: &[0x55; 300], ..A_0 };
 
 /// 4 times 800 bits of main data, 400 bytes, which begin 81 bytes before its own area.
@@ -75,8 +75,8 @@ pub const NO_SIDE: Stretch = Fill(0, 32);
 /// The quality 0 and 36 bytes of extension after the table, and the 16 bytes after the 156 of the fields.
 pub const INFO_REST: Stretch = Fill(0, 56);
 
-/// The fields in front of the table of an Info frame: `cut a 1 2 o` of the file A.
+/// The fields before the table of an Info frame, of what `cut a 1 2 o` makes of the file A: two frames, 729 bytes.
 pub const TWO_OF_729: Stretch = Bytes(b"Xing\0\0\0\x0f\0\0\0\x02\0\0\x02\xd9");
 
-/// The same of both frames of A.
+/// The same of both frames of A: two frames, 1,042 bytes.
 pub const TWO_OF_1042: Stretch = Bytes(b"Info\0\0\0\x0f\0\0\0\x02\0\0\x04\x12");

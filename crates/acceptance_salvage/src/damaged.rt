@@ -12,7 +12,7 @@ use test_files::frames::{Frame, Z};
 const FIRST: Frame =
     frame! { side: b"\0\0\x02\x58\0\x32\0\0\0\0\x4b\0\x06\x40\0\0\0\x09\x60\0\xc8\0\0\0\x01\x2c\0\x19", area: &[0x55; 381], ..Z };
 
-/// The same with its own main data alone.
+/// The same with only its own main data.
 const FIRST_ALONE: Frame = frame! { area: &[0x55; 300], ..FIRST };
 
 /// 4 times 800 bits of main data, 400 bytes, which begin 81 bytes before its own area.
@@ -27,7 +27,7 @@ const INFO: Stretch = Bytes(&[0xff, 0xfb, 0x50, 0x00]);
 
 const NO_SIDE: Stretch = Fill(0, 32);
 
-/// Its fields up to the table, in front of one frame.
+/// Its fields up to the table, where one frame of 417 bytes follows.
 const ONE_OF_625: Stretch = Bytes(b"Info\0\0\0\x0f\0\0\0\x01\0\0\x02\x71");
 
 /// What is after the table.

@@ -1,5 +1,5 @@
-//! Gaps in damaged files, and frames that they leave empty. What is written is by `checks/damaged.py` and `checks/laid.py`, which share
-//! nothing with the program.
+//! Gaps in damaged files, and frames that they leave empty. The outputs are those of `checks/damaged.py` and `checks/laid.py`, which
+//! share nothing with the program.
 
 use acceptance_kit::scripts::first_unlike;
 use std::test::Fail;

@@ -43,7 +43,7 @@ JOINT = fffb9040 ~417
 LOST = fffb9000 bf0000080032 ~417
 ";
 
-/// A tag with the undo item alone, 96 bytes, around the item's value of 11 bytes.
+/// A tag that has only the undo item, 96 bytes, around the item's value of 11 bytes.
 pub const UNDO: Ends = Ends(
     b"APETAGEX\xd0\x07\0\0\x40\0\0\0\x01\0\0\0\0\0\0\xa0\0\0\0\0\0\0\0\0\x0b\0\0\0\0\0\0\0MP3GAIN_UNDO\0",
     b"APETAGEX\xd0\x07\0\0\x40\0\0\0\x01\0\0\0\0\0\0\x80\0\0\0\0\0\0\0\0",

@@ -84,7 +84,7 @@ fn the_last_read_of_an_undo_fails(rt: HostRuntime) -> Result<(), Fail> {
     Ok(())
 }
 
-/// Want of memory is told before the output is created.
+/// Want of memory comes before the output is created.
 static WHOLE: &str = "
 < u ID3V2_BLOCK 00*2 55*10 HEAD G Z PROTECTED_G THREE_FRONT '-003,-003,N' THREE_END ID3V1_BLOCK
 $ gain -g -5 u o

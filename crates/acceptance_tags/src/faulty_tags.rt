@@ -179,7 +179,7 @@ $ gain -u a o
 ! 1 bad undo item at 449
 ";
 
-/// That file with the right tag, cut to so many bytes.
+/// That file with the right tag, cut to its first bytes.
 static CUTS: &str = "
 # 417 bytes
 < a G_WRAPPED_UP

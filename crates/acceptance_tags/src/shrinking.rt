@@ -11,7 +11,7 @@ use test_files::files::{Stretch, bytes_of};
 use test_files::frames::G_LOWER;
 use test_files::table;
 
-/// A folder whose files all have these bytes for so many reads, and then no more than the shorter length. It tells
+/// A folder whose files all have these bytes for `whole_reads` reads, and then no more than the shorter length. It tells
 /// nothing of them. What is written is counted.
 #[derive(Drop)]
 struct Shrinking {

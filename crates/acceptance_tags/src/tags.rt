@@ -1,4 +1,4 @@
-//! The note that a change of gains keeps in the tag.
+//! The undo item that notes a change of gains in the tag.
 
 use crate::blocks;
 use acceptance_kit::scripts::first_unlike;
@@ -14,7 +14,7 @@ SECOND_LOUDER = Z UNDO_FRONT '-510,-510,N' UNDO_END
 LOUDEST = Z UNDO_FRONT '-765,-765,N' UNDO_END
 ";
 
-/// Files of one frame, with and without a tag that has the undo item alone.
+/// Files of one frame, with and without a tag that has only the undo item.
 static CHANGES: &str = "
 # both channels, and 255 wraps
 < a G
@@ -103,7 +103,7 @@ $ gain -w -g -1 a o
 > o G UNDO_FRONT '-998,+999,W' UNDO_END
 ";
 
-/// Where the note stands.
+/// Where the note is.
 static PLACES: &str = "
 # items before and behind the undo item, whose key and flags stay
 < a G THREE_FRONT '-003,-003,N' THREE_END

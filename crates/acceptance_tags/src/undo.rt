@@ -1,4 +1,4 @@
-//! Changes that are taken back.
+//! Changes that are undone.
 
 use crate::blocks;
 use acceptance_kit::scripts::first_unlike;
@@ -120,7 +120,7 @@ $ gain -u a o
 > o LOST G LONG
 ";
 
-/// Three changes are taken back.
+/// Three changes are undone at once.
 static CHAINS: &str = "
 # both channels
 < a TWO_CHANNELS

@@ -1,4 +1,4 @@
-//! Tests of the shortest packing.
+//! Tests of plans that take the fewest bytes.
 #![tactic(auto)]
 
 #[cfg(test)]

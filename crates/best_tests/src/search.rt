@@ -8,7 +8,7 @@ use std::alloc::AllocGlobal;
 use std::process::Abort;
 use std::test::Fail;
 
-/// The first list of the least sum.
+/// The first list whose sum of areas is the least.
 fn searched(needs: &[Need], lead_ins: usize) -> Option<Found> {
     let slots = needs.first()?.header.class().slots();
     let menu = slots.as_slice();

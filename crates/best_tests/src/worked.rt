@@ -26,8 +26,8 @@ static CASES: [Case; 6] = table! {
     // A byte is missing. 225 and 799 have the same sum as 329 and 695, and all others more.
     ("behind a lead-in", &[Asked(LARGE, 1010)], &[LeadIn(80, 0), Frame(256, 225)])
     ("one", &[Asked(STEREO, 400)], &[Frame(160, 0)])
-    // By a program outside the repository's code that has a table of its own (checks/laid.py): the areas have 3,497 bytes, 6 more
-    // than the main data.
+    // By `checks/laid.py`, which shares nothing with the crates and has a table of its own: the areas have 3,497 bytes, 6 more than
+    // the main data.
     ("ten",
         &[
             Asked(STEREO, 300), Asked(STEREO, 0), Asked(STEREO, 700), Asked(STEREO, 95), Asked(STEREO, 420),

@@ -12,7 +12,7 @@ struct Bad {
     place: u32,
 }
 
-/// Words that are no number of steps.
+/// Words that aren't a number of steps.
 static NO_STEPS: [&str; 11] = [
     "300", "256", "-256", "-", "+", "0001", "+-1", "++1", "", "1a", "x",
 ];
@@ -30,7 +30,7 @@ fn no_steps(rt: HostRuntime) -> Result<(), Fail> {
     Ok(())
 }
 
-/// Words of gains and of undoing them.
+/// Words of gains and of undo.
 static GAINS: [Bad; 19] = table! {
     Bad { words, place }
     (&["gain"], 2)
@@ -99,7 +99,7 @@ static FADES: [Bad; 7] = table! {
     (&["fade", "--least", "a", "b", "s"], 2)
 };
 
-/// Words of streams made from a number.
+/// Words of drills.
 static DRILLS: [Bad; 10] = [
     Bad {
         words: &["drill"],
@@ -206,7 +206,7 @@ fn other_forms(rt: HostRuntime) -> Result<(), Fail> {
     Ok(())
 }
 
-/// A split has at most 100 places, and a join at most 64 inputs.
+/// A split has at most 100 positions, and a join at most 64 inputs.
 #[test]
 fn one_word_too_many(rt: HostRuntime) -> Result<(), Fail> {
     assert_eq!(rt; bad_word(&split_words(rt.alloc(), 101)?), Some(104));

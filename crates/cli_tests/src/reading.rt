@@ -19,7 +19,7 @@ pub fn bad_word(words: &[String]) -> Option<u32> {
     }
 }
 
-/// The words of a split of `a` with the prefix `p` at the places from 0 on, so many.
+/// The words of a split of `a` with the prefix `p` at the frames from 0 on, `count` of them.
 pub fn split_words(alloc: Global, count: u32) -> Result<Vec<String>, AllocError> {
     let mut words = owned(alloc, &["split", "a", "p"])?;
     for number in 0..count {
@@ -28,7 +28,7 @@ pub fn split_words(alloc: Global, count: u32) -> Result<Vec<String>, AllocError>
     Ok(words)
 }
 
-/// The words of a join of so many times `a` to `o`.
+/// The words of a join of `count` times `a` to `o`.
 pub fn join_words(alloc: Global, count: u32) -> Result<Vec<String>, AllocError> {
     let mut words = owned(alloc, &["join", "o"])?;
     for _ in 0..count {

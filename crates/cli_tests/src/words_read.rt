@@ -53,7 +53,7 @@ fn words_of_steps(rt: HostRuntime) -> Result<(), Fail> {
     Ok(())
 }
 
-/// The words of a gain, the channels that change, whether gains wrap, and whether a note is kept in the tag.
+/// The words of a gain, the channels that change, whether gains wrap, and whether the change is noted in the tag.
 struct GainWords {
     words: &'static [&'static str],
     channels: Channels,

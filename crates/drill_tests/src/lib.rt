@@ -1,4 +1,4 @@
-//! Tests of streams made from a number.
+//! Tests of streams made from a seed.
 #![tactic(auto)]
 
 #[cfg(test)]

@@ -1,4 +1,4 @@
-//! Streams made from a number. The bytes are those of a program in another language that follows the rules of the generator.
+//! Streams made from a seed. The bytes are those of a program in another language that follows the rules of the generator.
 
 use commands::EditFault;
 use drill::drill;
@@ -9,7 +9,7 @@ use std::alloc::{AllocError, AllocGlobal, Global};
 use std::process::Abort;
 use std::test::Fail;
 
-/// The header, the side information and the main data of the frame that the number 1 gives: 1,392 bits, in granules and channels of
+/// The header, the side information and the main data of the frame that the seed 1 gives: 1,392 bits, in granules and channels of
 /// 52, 417, 194 and 729.
 static FIRST: [u8; 210] = [
     0xff, 0xfb, 0x90, 0x00, 0x00, 0x00, 0x00, 0x34, 0x00, 0x4b, 0x80, 0x00, 0x00, 0x00, 0x34, 0x20,
@@ -28,7 +28,7 @@ static FIRST: [u8; 210] = [
     0x0a, 0x20,
 ];
 
-/// The header, the side information and four bytes of the own area of the three frames that the number 5 gives. Their main data begin
+/// The header, the side information and four bytes of the own area of the three frames that the seed 5 gives. Their main data begin
 /// 0, 168 and 387 bytes before their own area.
 static FRONTS: [[u8; 40]; 3] = [
     [
@@ -54,7 +54,7 @@ fn expect_first(rt: &impl Abort, stream: &[u8]) {
     assert!(rt; stream.iter().skip(210).all(|byte| *byte == 0));
 }
 
-/// The stream of a number as the file `s`.
+/// Puts the stream of a seed as the file `s`.
 fn put_stream(
     alloc: Global,
     folder: &mut MemFolder,

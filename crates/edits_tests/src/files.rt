@@ -33,7 +33,7 @@ fn expect_bytes(rt: &impl Abort, folder: &MemFolder, name: &str, wanted: &[u8]) 
     assert_eq!(rt; folder.get(name), Some(wanted), "{name}");
 }
 
-/// Asserts that the file has these lists of stretches end to end, and so many bytes.
+/// Asserts that the file has these lists of stretches end to end, and `length` bytes.
 pub fn expect_file<R: Abort + AllocGlobal>(
     rt: &R,
     folder: &MemFolder,
@@ -47,7 +47,7 @@ pub fn expect_file<R: Abort + AllocGlobal>(
     Ok(())
 }
 
-/// Asserts that so many bytes are in the file of this name, and that these do at a place.
+/// Asserts that the file of this name has `length` bytes, and these from `at` on.
 pub fn expect_part(
     rt: &impl Abort,
     folder: &MemFolder,

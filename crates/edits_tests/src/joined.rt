@@ -39,8 +39,8 @@ static TWICE: [Stretch; 12] = end_to_end! {
     Filled(&[0xff, 0xfb, 0x90, 0x00, 0x47, 0x80, 0x0c, 0x80], 0, 28), Fill(0x22, 257), Fill(0, 124)
 };
 
-/// A lead-in of 32 kbit/s, with an area of 68, after the first two of these, and the frame of the headed file. Its main data
-/// begin 130 bytes before its own area.
+/// The second frame of the first file; after it a lead-in of 32 kbit/s, with an area of 68, and the frame of the headed file,
+/// whose main data begin 130 bytes before its own area.
 static BEHIND: [Stretch; 7] = end_to_end! {
     OF_400, Fill(0x22, 319), Fill(0x33, 62),
     Filled(&[0xff, 0xfb, 0x10, 0x00, 0x1f, 0x00], 0, 30), Fill(0x33, 68),
@@ -55,7 +55,7 @@ fn put_files(alloc: Global, folder: &mut MemFolder) -> Result<(), AllocError> {
     folder.reserve("o", 4000)
 }
 
-/// Puts the file of two frames after a block in front, and room for `o` and `p`.
+/// Puts the file of two frames with a block before them as `a`, and room for `o` and `p`.
 fn put_block(alloc: Global, folder: &mut MemFolder) -> Result<(), AllocError> {
     put_file(alloc, folder, "a", &[&BLOCK, TWO])?;
     folder.reserve("o", 4000)?;
@@ -129,7 +129,7 @@ fn expect_lead_in<R: Abort + AllocGlobal>(rt: &R, folder: &mut MemFolder) -> Res
     Ok(())
 }
 
-/// A lead-in is between the files, as it does where the second is cut out alone.
+/// A lead-in is between the files, as before the second where it is cut out alone.
 #[test]
 fn lead_in_between(rt: HostRuntime) -> Result<(), Fail> {
     let mut folder = MemFolder::new(rt.alloc());
@@ -145,7 +145,7 @@ fn expect_alone<R: Abort + AllocGlobal>(rt: &R, folder: &mut MemFolder) -> Resul
     Ok(())
 }
 
-/// One file alone is as cut from its first frame to its end.
+/// A single file is joined as it is cut from its first frame to its end.
 #[test]
 fn one_file_alone(rt: HostRuntime) -> Result<(), Fail> {
     let mut folder = MemFolder::new(rt.alloc());
@@ -160,7 +160,7 @@ fn expect_one_block<R: Abort + AllocGlobal>(rt: &R, folder: &mut MemFolder) -> R
     Ok(())
 }
 
-/// Of several files the first one's block in front is alone.
+/// Of several files only the block before the frames of the first is written.
 #[test]
 fn one_block_in_front(rt: HostRuntime) -> Result<(), Fail> {
     let mut folder = MemFolder::new(rt.alloc());
@@ -204,7 +204,7 @@ fn refused(rt: HostRuntime) -> Result<(), Fail> {
     expect_cases(&rt, &mut folder)
 }
 
-/// The front was written, and not all of the rest.
+/// The Info frame was written, and not all of the rest.
 fn expect_begun(rt: &impl Abort, folder: &MemFolder) {
     let begun = folder.get("o").unwrap_or(&[]);
     assert!(rt; begun.len() >= 208);
@@ -222,7 +222,7 @@ fn expect_read_fault<R: Abort + AllocGlobal>(rt: &R, folder: &mut MemFolder) -> 
     Ok(())
 }
 
-/// The fourth read is that of the second file in the second pass: the front was written by then.
+/// The fourth read is that of the second file in the second pass: the Info frame was written by then.
 #[test]
 fn read_fails_late(rt: HostRuntime) -> Result<(), Fail> {
     let mut folder = MemFolder::new(rt.alloc());

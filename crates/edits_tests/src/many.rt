@@ -5,10 +5,10 @@ use in_memory::{MemFolder, MemSink};
 use std::alloc::{AllocError, AllocGlobal, Global};
 use std::test::Fail;
 
-/// So many frames of 24 bytes, of MPEG-2, 8 kbit/s, 24,000 Hz and one channel, without main data.
+/// How many frames the file has, each of 24 bytes: MPEG-2, 8 kbit/s, 24,000 Hz, one channel, without main data.
 const FRAMES: usize = 120_000;
 
-/// A frame.
+/// One of them.
 const FRAME: [u8; 24] = [
     0xff, 0xf3, 0x14, 0xc0, 0, 0, 0, 0, 0, 0, 0, 0, 0, 0, 0, 0, 0, 0, 0, 0, 0, 0, 0, 0,
 ];

@@ -71,7 +71,7 @@ fn split_tracks(
     split(alloc, folder, input, &Points::Sheet(sheet), "p")
 }
 
-/// Whether a piece is what `cut` writes of the frames from one on and before another.
+/// Whether a piece is what `cut` writes of the frames from one up to, but not including, another.
 fn is_cut(
     alloc: Global,
     folder: &mut MemFolder,

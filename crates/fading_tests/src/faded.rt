@@ -16,23 +16,23 @@ use test_files::{frame, table};
 const AT_100: Frame =
     frame! { side: b"\0\0\0\x08\0\x32\0\0\0\0\x01\0\x06\x40\0\0\0\0\x20\0\xc8\0\0\0\0\x04\0\x19", ..G };
 
-/// 99.
+/// All are 99.
 const AT_99: Frame =
     frame! { side: b"\0\0\0\x08\0\x31\x80\0\0\0\x01\0\x06\x30\0\0\0\0\x20\0\xc6\0\0\0\0\x04\0\x18\xc0", ..G };
 
-/// 98.
+/// All are 98.
 const AT_98: Frame =
     frame! { side: b"\0\0\0\x08\0\x31\0\0\0\0\x01\0\x06\x20\0\0\0\0\x20\0\xc4\0\0\0\0\x04\0\x18\x80", ..G };
 
-/// 97.
+/// All are 97.
 const AT_97: Frame =
     frame! { side: b"\0\0\0\x08\0\x30\x80\0\0\0\x01\0\x06\x10\0\0\0\0\x20\0\xc2\0\0\0\0\x04\0\x18\x40", ..G };
 
-/// 94.
+/// All are 94.
 const AT_94: Frame =
     frame! { side: b"\0\0\0\x08\0\x2f\0\0\0\0\x01\0\x05\xe0\0\0\0\0\x20\0\xbc\0\0\0\0\x04\0\x17\x80", ..G };
 
-/// 90.
+/// All are 90.
 const AT_90: Frame =
     frame! { side: b"\0\0\0\x08\0\x2d\0\0\0\0\x01\0\x05\xa0\0\0\0\0\x20\0\xb4\0\0\0\0\x04\0\x16\x80", ..G };
 

@@ -37,7 +37,7 @@ const FRONT_1: Stretch = Bytes(&[
     0x00, 0x00, 0x00, 0x00,
 ]);
 
-/// Two frames with 300 and 400 bytes of main data, one after the other, each 55.
+/// Two frames with 300 and 400 bytes of main data, one after the other, each byte 55 (hex).
 const TWO_FRAMES: &[Stretch] = &end_to_end! {
     FRONT_0, Fill(0x55, 381),
     FRONT_1, Fill(0x55, 319), Fill(0, 62)
@@ -85,7 +85,7 @@ const PROTECTED_OF_73: Stretch = Bytes(&[
     0, 0, 0,
 ]);
 
-/// As `PROTECTED` with main_data_begin 9 and 144 bits, which is two areas.
+/// As `PROTECTED` with main_data_begin 9 and 144 bits, which fill two areas.
 const PROTECTED_OF_144: Stretch = Bytes(&[
     0xff, 0xf2, 0x14, 0xc0, 0x50, 0x2a, 0x09, 0x04, 0x80, 0x01, 0x90, 0, 0, 0, 0, 0, 0, 0, 0, 0, 0,
     0, 0, 0,
@@ -288,7 +288,7 @@ fn faults_of_walks(rt: HostRuntime) -> Result<(), Fail> {
     Ok(())
 }
 
-/// The first so many bytes of the two frames.
+/// The first `length` bytes of the two frames, and their fault.
 struct Cut {
     length: usize,
     answer: Option<SurveyFault>,
@@ -320,7 +320,7 @@ fn files_cut_short(rt: HostRuntime) -> Result<(), Fail> {
     Ok(())
 }
 
-/// The two frames with this byte of the second header as this value.
+/// The two frames with another value of this byte, which is in the second header, and their fault.
 struct Change {
     at: usize,
     value: u8,

@@ -34,7 +34,7 @@ struct Frame {
     length: usize,
     class: Class,
     is_protected: bool,
-    /// Where its side information begins, from its first byte, and where its area does.
+    /// Where its side information begins, in bytes from its first byte, and where its area does.
     side_at: usize,
     area_at: usize,
 }
@@ -57,7 +57,7 @@ fn bit(bytes: &[u8], at: usize) -> bool {
     }
 }
 
-/// The number of so many bits, from one on; the first is the most significant.
+/// The number of `count` bits from this one on; the first is the most significant.
 fn number(bytes: &[u8], from: usize, count: usize) -> u32 {
     let mut number = 0;
     for i in 0..count {
@@ -119,7 +119,7 @@ fn frame_at(at: usize, bytes: &[u8], class: Class, rate: u16) -> Frame {
     }
 }
 
-/// The frame, or free format, where a header of layer III stands.
+/// The frame, or free format, where there is a header of Layer III.
 fn header_at(at: usize, bytes: &[u8]) -> Option<Found> {
     if bytes.len() < 4 || number(bytes, 0, 11) != 0x7ff || number(bytes, 13, 2) != 1 {
         return None;
@@ -150,7 +150,8 @@ fn id3v2_length(bytes: &[u8]) -> Option<usize> {
     Some((size as usize).saturating_add(ends))
 }
 
-/// Text, version and size, then a count, flags that say 'header' twice, and eight bytes more.
+/// The length of an APEv2 block by its header: text, version and size, then a count, flags which say that the tag has a header
+/// and that this is it, and eight bytes more.
 fn ape_length(bytes: &[u8]) -> Option<usize> {
     if bytes.len() < 32 || !bytes.starts_with(b"APETAGEX\xd0\x07\0\0") {
         return None;
@@ -191,7 +192,7 @@ fn is_whole(file: &[u8], at: usize, length: usize) -> bool {
     at.saturating_add(length) <= file.len()
 }
 
-/// The offset after all whole blocks and zero bytes from the file's front on.
+/// The offset after all whole blocks and zero bytes with which the file begins.
 fn front_end(file: &[u8]) -> usize {
     let mut at = 0;
     for _ in file {
@@ -328,7 +329,7 @@ fn main_data_begin(frame: &Frame, bytes: &[u8]) -> u32 {
     number(bytes, frame.side_at.saturating_mul(8), width)
 }
 
-/// The remainder by x^16 + x^15 + x^2 + 1, bit by bit, from this word on.
+/// The remainder by x^16 + x^15 + x^2 + 1, bit by bit, from this word on (ISO/IEC 11172-3, 2.4.3.1).
 fn remainder_behind(word: u16, bytes: &[u8], from: usize, to: usize) -> u16 {
     let mut word = word;
     for at in from..to {
@@ -377,7 +378,7 @@ struct Numbered<'a> {
     bits: u32,
     /// The main data of the file before the frame's own area, in bytes.
     before: u64,
-    /// With its own area.
+    /// The same with its own area.
     up_to: u64,
 }
 
@@ -423,8 +424,7 @@ impl<'a> Numbered<'a> {
     }
 }
 
-/// Whether the frame is lost: its main data begin before all of the file, and each frame before it has none or
-/// such.
+/// Whether the frame is lost: its main data begin before those of the whole file, and each frame before it is silent or lost.
 fn is_lost(
     alloc: Global,
     file: &[u8],

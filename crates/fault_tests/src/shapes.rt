@@ -33,7 +33,7 @@ fn expect_frames<R: Abort>(rt: &R, name: &str, survey: &Survey, offsets: &[u64])
     }
 }
 
-/// Asserts that the survey tells this of the start.
+/// Asserts that the survey says this of the start.
 fn expect_start<R: Abort>(rt: &R, name: &str, survey: &Survey, shape: &Shape) {
     let junk = shape.first.saturating_sub(shape.front_end);
     assert_eq!(rt; survey.junk(), (shape.front_end, junk), "{name}");
@@ -45,14 +45,14 @@ fn expect_blocks<R: Abort>(rt: &R, name: &str, found: &[Piece], blocks: &[Piece]
     assert_eq!(rt; found, blocks, "{name}");
 }
 
-/// Asserts that the survey tells this.
+/// Asserts that the survey says this.
 fn expect_shape<R: Abort>(rt: &R, name: &str, survey: &Survey, shape: &Shape) {
     expect_start(rt, name, survey, shape);
     expect_frames(rt, name, survey, shape.frames);
     expect_blocks(rt, name, survey.blocks(), shape.blocks);
 }
 
-/// The survey of a file of so many frames at most.
+/// The survey of a file of at most `allowed` frames.
 pub fn surveyed(
     alloc: Global,
     file: &[u8],
@@ -79,7 +79,7 @@ pub fn expect<R: Abort + AllocGlobal>(
     Ok(())
 }
 
-/// The fault that the survey of a file of so many frames at most finds, where there is one.
+/// The fault that the survey of a file of at most `allowed` frames finds, where there is one.
 pub fn survey_fault(
     alloc: Global,
     file: &[u8],

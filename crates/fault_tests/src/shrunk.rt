@@ -7,7 +7,7 @@ use std::test::Fail;
 use sync_survey::{SurveyFault, survey};
 use test_files::files::{Stretch, bytes_of};
 
-/// The fault that the survey finds in a file of which the folder says so many bytes more.
+/// The fault that the survey finds in a file that has `extra` bytes fewer than the folder says.
 fn fault_of(
     alloc: Global,
     file: &[Stretch],

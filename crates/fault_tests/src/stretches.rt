@@ -26,10 +26,10 @@ pub const SHORT_LOUD: Stretch = Bytes(&[
     0xff, 0xf3, 0x14, 0xc0, 0, 0, 0x40, 0, 0, 0, 0, 0, 0, 0, 0, 0, 0, 0, 0, 0, 0, 0, 0, 0,
 ]);
 
-/// The same with main_data_begin 33 and 352 bits, which is four areas.
+/// The same with main_data_begin 33 and 352 bits, which fill four areas.
 pub const SHORT_OF_FOUR: Stretch = Bytes(&[
     0xff, 0xf3, 0x14, 0xc0, 0x21, 0x0b, 0, 0, 0, 0, 0, 0, 0, 0, 0, 0, 0, 0, 0, 0, 0, 0, 0, 0,
 ]);
 
-/// The header of a frame of 417 bytes' kind at 48,000 Hz, where it has 384.
+/// The header of such a frame at 48,000 Hz, where it has 384 bytes.
 pub const OTHER_CLASS: Stretch = Bytes(&[0xff, 0xfb, 0x94, 0x00]);

@@ -73,7 +73,7 @@ fn files(rt: HostRuntime) -> Result<(), Fail> {
     Ok(())
 }
 
-/// What the first so many bytes of two frames give.
+/// The fault of the first `length` bytes of two frames.
 fn cut_answer(length: usize) -> Option<SurveyFault> {
     match length {
         0..=3 => Some(SurveyFault::NoFrame(0)),

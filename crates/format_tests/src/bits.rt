@@ -7,7 +7,7 @@ use test_files::table;
 /// The first eight side bytes of an MPEG-1 frame of two channels, ISO/IEC 11172-3, 2.4.1.7.
 static SIDE: [u8; 8] = [0x00, 0x00, 0x00, 0x08, 0x00, 0x32, 0x00, 0x00];
 
-/// A field that is taken: its width, its value, and the place after it.
+/// A field that is taken: its width in bits, its value, and the place of the bit after it.
 struct Taken {
     what: &'static str,
     width: u32,

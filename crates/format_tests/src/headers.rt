@@ -11,7 +11,7 @@ const MPEG_2: Version = Version::Two;
 
 const MPEG_2_5: Version = Version::TwoFive;
 
-/// Four bytes, and the version, the channels, the frequency, the length and the area that they say.
+/// Four bytes, and the version, the channels, the frequency in Hz, and the length and the area in bytes that they say.
 struct Says {
     bytes: [u8; 4],
     version: Version,
@@ -93,7 +93,7 @@ static REFUSED: [Refused; 11] = table! {
     ([0xff, 0xfb, 0x00, 0x00], NotHeader::Free)
     ([0xff, 0xf2, 0x08, 0xc0], NotHeader::Free)
     ([0xff, 0xe3, 0x08, 0xc0], NotHeader::Free)
-    // The twelfth bit is 0 and ID is 1.
+    // The twelfth bit is 0 and ID is 1: the reserved version.
     ([0xff, 0xeb, 0x90, 0x00], NotHeader::No)
     ([0xff, 0xe5, 0x90, 0x00], NotHeader::No)
     ([0xff, 0xd3, 0x90, 0x00], NotHeader::No)
@@ -162,7 +162,7 @@ fn lengths(rt: HostRuntime) {
     }
 }
 
-/// The bit rates of a version in kbit/s, for the bit rate indexes 1 to 14; the samples of a frame, and the window.
+/// The bit rates of a version in kbit/s, for the bit rate indexes 1 to 14; the samples of a frame, and the window in bytes.
 struct VersionRates {
     version: Version,
     rates: [u16; 14],
@@ -205,7 +205,7 @@ fn rates(rt: HostRuntime) {
     }
 }
 
-// A protected joint stereo frame of 128 kbit/s and 44,100 Hz: area 379.
+// A protected joint stereo frame of 128 kbit/s and 44,100 Hz: an area of 379 bytes.
 const PROTECTED: [u8; 4] = [0xff, 0xfa, 0x90, 0x64];
 
 fn expect_header(rt: &impl Abort, header: &Header, bytes: [u8; 4], area: u32) {

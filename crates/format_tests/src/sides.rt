@@ -100,7 +100,7 @@ const SMALL: Granule = Granule {
     ..NONE
 };
 
-// Written it is these bytes.
+// Asserts that the side information is written as these bytes.
 fn expect_written(rt: &impl Abort, class: Class, side: &Side, bytes: &[u8]) {
     assert!(rt; side.fits(class));
     assert_eq!(rt; bytes.len(), class.side_size() as usize);
@@ -110,7 +110,7 @@ fn expect_written(rt: &impl Abort, class: Class, side: &Side, bytes: &[u8]) {
     assert_eq!(rt; &*part, bytes, "{class:?}");
 }
 
-// What is read is as wanted, and written it is these bytes.
+// Asserts that these bytes are read as this side information, and that it is written as these bytes.
 fn expect_shape<R: Abort + AllocGlobal>(
     rt: &R,
     version: Version,
@@ -253,7 +253,7 @@ fn check_words(rt: HostRuntime) -> Result<(), Fail> {
     Ok(())
 }
 
-// The frame with other gains, which is at the front of these bytes.
+// Asserts what the frame at the beginning of these bytes becomes with other gains.
 fn expect_gains<R: Abort + AllocGlobal>(
     rt: &R,
     header: &Header,

@@ -7,10 +7,10 @@ use std::process::Abort;
 use std::test::Fail;
 use test_files::table;
 
-/// As many main bytes as the longest case has.
+/// As many bytes of main data as the longest case has.
 const MANY: usize = 4260;
 
-/// A byte of the areas, by its place among them.
+/// A byte of all areas, by its place among them.
 fn main_byte(place: usize) -> u8 {
     (place % 251) as u8
 }

@@ -19,27 +19,27 @@ use test_files::end_to_end;
 use test_files::files::Stretch::{Bytes, Fill};
 use test_files::files::{ID3V1, Stretch};
 
-/// The front of an ID3v2 block of 7,010 bytes: the size in its header is 54 * 128 + 88 (ID3v2.3.0, 3.1).
+/// The header of an ID3v2 block of 7,010 bytes: its size is 54 * 128 + 88 (ID3v2.3.0, 3.1).
 const LONG_BLOCK: Stretch = Bytes(b"ID3\x03\x00\x00\x00\x00\x36\x58");
 
 /// An ID3v2 block of 14 bytes.
 const SHORT_BLOCK: Stretch = Bytes(b"ID3\x03\x00\x00\x00\x00\x00\x04abcd");
 
-/// The rest of an ID3v1 block.
+/// The rest of an ID3v1 block after its first 3 bytes.
 const LAST_REST: Stretch = Fill(0x66, 125);
 
-/// The front of a frame with 300 bytes of main data. Their bits are the bits of the side information from the 21st to the
-/// 32nd.
+/// The first 8 bytes of a frame with 300 bytes of main data. How many bits these are is in the 21st to the 32nd bit of the side
+/// information.
 const FRAME: Stretch = Bytes(&[0xff, 0xfb, 0x90, 0x00, 0x00, 0x00, 0x09, 0x60]);
 
-/// A block in front of two frames, and two after them.
+/// A block before two frames, and two after them.
 static INPUT: [Stretch; 14] = end_to_end! {
     LONG_BLOCK, Fill(0x44, 3000), Fill(0x55, 4000), FRAME, Fill(0, 28), Fill(0x11, 300), Fill(0x22, 81),
     FRAME, Fill(0, 28), Fill(0x11, 300), Fill(0x22, 81),
     SHORT_BLOCK, ID3V1, LAST_REST
 };
 
-/// The same blocks, around four bytes in place of an Info frame and the first frame, in which 0 is after its main data.
+/// The same blocks, around four bytes in place of an Info frame and the first frame, whose area has zeros after its main data.
 static OUTPUT: [Stretch; 11] = end_to_end! {
     LONG_BLOCK, Fill(0x44, 3000), Fill(0x55, 4000), Bytes(b"info"), FRAME, Fill(0, 28), Fill(0x11, 300),
     Fill(0, 81),

@@ -31,7 +31,7 @@ const RATE_128: Slot = Slot {
 
 const EXTENSION: [u8; 36] = *b"LAME3.100 and 27 bytes more, in all.";
 
-/// Two frames, and so many bytes.
+/// Asserts that the Info frame says two frames and `bytes` bytes.
 fn expect_counts(rt: &impl Abort, info: &Info, vbr: bool, bytes: u32) {
     assert_eq!(rt;
         (info.vbr, info.frames, info.bytes),
@@ -121,7 +121,7 @@ static CASES: [Case; 4] = table! {
         Kept { quality: None, extension: [0; 36] })
 };
 
-/// Of the file `a`; none where its survey can't be read.
+/// What is kept of the head of the file `a`; none where it has no survey.
 fn kept_of<D: Folder>(alloc: Global, folder: &mut D) -> Option<Result<Kept, PassFault>> {
     let Ok(survey) = survey(alloc, folder, "a", 100) else {
         return None;
@@ -129,7 +129,7 @@ fn kept_of<D: Folder>(alloc: Global, folder: &mut D) -> Option<Result<Kept, Pass
     Some(kept_fields(folder, "a", &survey))
 }
 
-/// Of a file of these stretches.
+/// What is kept of the head of a file of these stretches.
 fn kept_in(
     alloc: Global,
     parts: &[Stretch],

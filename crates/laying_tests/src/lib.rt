@@ -1,4 +1,4 @@
-//! Tests of main data that are laid out again, and of the files that hold them.
+//! Tests of main data that are laid anew, and of the files that hold them.
 #![tactic(auto)]
 
 #[cfg(test)]

@@ -8,7 +8,7 @@ use std::alloc::{AllocError, AllocGlobal, Global};
 use std::process::Abort;
 use test_files::files::{Stretch, bytes_of};
 
-/// Puts these stretches as `a`, and room for so many bytes of `b`.
+/// Puts these stretches as `a`, and room for `room` bytes of `b`.
 pub fn put_input(
     alloc: Global,
     folder: &mut MemFolder,

@@ -15,7 +15,7 @@ use test_files::files::Stretch::{Fill, Filled};
 use test_files::files::{OF_300, OF_400, Stretch};
 
 /// Main data of 300 bytes, and of 400 that begin right after them, 81 bytes before the second area. Of the side information
-/// main_data_begin is the first 9 bits, and the bits of the first channel's main data are those from the 21st to the 32nd.
+/// main_data_begin is the first 9 bits, and how many bits the first channel's main data have is in the 21st to the 32nd.
 static INPUT: [Stretch; 6] = end_to_end! {
     OF_300, Fill(0x11, 300), Fill(0x22, 81),
     OF_400, Fill(0x22, 319), Fill(0x33, 62)

@@ -12,7 +12,7 @@ use test_files::files::Stretch::{Bytes, Fill, Filled};
 use test_files::files::{INFO_FRONT, OF_300, OF_400, Stretch, TWO, bytes_of};
 use test_files::{end_to_end, table};
 
-/// What is in the output before, and still does where nothing is written.
+/// What is in the output before, and still is where nothing is written.
 const OLD: &[Stretch] = &[Bytes(b"old")];
 
 /// A lead-in and two frames of 313 bytes with areas of 277: without the lead-in the main data have no room. The first main

@@ -15,11 +15,11 @@ pub const LOW: [u8; 4] = [0xff, 0xf3, 0x14, 0xc0];
 /// The same at 160 kbit/s, padded: 481 bytes, area 468.
 pub const HIGH: [u8; 4] = [0xff, 0xf3, 0xe6, 0xc0];
 
-/// A frame's header, and the bytes of its main data.
+/// A frame's header, and how many bytes its main data have.
 #[derive(Clone, Copy)]
 pub struct Asked(pub [u8; 4], pub u16);
 
-/// What these frames need; of none where a header can't be read.
+/// What these frames need; empty where a header can't be read.
 pub fn needs_of(alloc: Global, frames: &[Asked]) -> Result<Vec<Need>, AllocError> {
     let mut needs = Vec::with_capacity(alloc, frames.len())?;
     for frame in frames {

@@ -43,7 +43,7 @@ pub fn ascend(numbers: &[u32]) -> bool
     true
 }
 
-/// Whether each place is one of so many.
+/// Whether each place is below `count`.
 pub fn are_within(places: &[u32], count: usize) -> bool
     ensures { IsTrue result → All (λ place. place < count) places.now }
 {

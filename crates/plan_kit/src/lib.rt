@@ -1,4 +1,4 @@
-//! What the tests of plans share: frames that are asked for, the plans that are looked for, and plans by trying every list.
+//! What the tests of plans share: frames that are asked for, the plans that are expected, and plans by trying every list.
 #![tactic(auto)]
 
 pub mod asked;

@@ -4,7 +4,8 @@ use arrayvec::ArrayVec;
 use frame_header::Slot;
 use slot_plan::{Need, Placed};
 
-/// A list that has a layout, after so many lead-ins, and the sum of its areas.
+/// A list of slots in which the main data can be laid, with its first `lead_ins` those of lead-ins, and the sum of its areas in
+/// bytes.
 #[derive(Drop)]
 pub struct Found {
     pub sum: u32,
@@ -13,7 +14,7 @@ pub struct Found {
     pub begins: ArrayVec<u16, 5>,
 }
 
-/// The place of a frame's slot in the list of this number: the last frame's slot changes fastest.
+/// The place of a frame's slot in the menu, in the list of this number: the last frame's slot changes fastest.
 fn place_in(number: u64, slots: u64, behind: usize) -> usize {
     let mut left = number;
     for _ in 0..behind {
@@ -22,7 +23,7 @@ fn place_in(number: u64, slots: u64, behind: usize) -> usize {
     left.checked_rem(slots).unwrap_or(0) as usize
 }
 
-/// How many lists so many frames have.
+/// How many lists of slots there are.
 pub fn count_of(slots: usize, frames: usize) -> u64 {
     let mut count: u64 = 1;
     for _ in 0..frames {
@@ -31,8 +32,8 @@ pub fn count_of(slots: usize, frames: usize) -> u64 {
     count
 }
 
-/// The list of this number, laid as early as may be after so many lead-ins; none where some main data end after
-/// their frame.
+/// The list of this number, with main data laid as early as may be after `lead_ins` lead-ins; none where some main data end
+/// after their frame.
 pub fn laid(needs: &[Need], slots: &[Slot], lead_ins: usize, number: u64) -> Option<Found> {
     let class = needs.first()?.header.class();
     let frames = needs.len().saturating_add(lead_ins);
@@ -62,7 +63,8 @@ pub fn laid(needs: &[Need], slots: &[Slot], lead_ins: usize, number: u64) -> Opt
     Some(found)
 }
 
-/// The first place where a plan has another frame than the list, or their number.
+/// The first place where a plan has another frame than the list; how many frames the plan has where the list has more or
+/// fewer.
 pub fn other_place(placed: &[Placed], found: &Found) -> Option<usize> {
     if placed.len() != found.slots.len() {
         return Some(placed.len());

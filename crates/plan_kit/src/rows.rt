@@ -12,10 +12,10 @@ pub enum Row {
     Padded(u32, u16),
 }
 
-/// What a plan has in place of what is looked for.
+/// What a plan has in place of what is expected.
 #[derive(Clone, Copy, Debug, PartialEq, Eq)]
 pub enum Other {
-    /// So many frames.
+    /// This many frames.
     Count(usize),
     /// This frame at this place.
     At(usize, Row),

@@ -14,12 +14,12 @@ use sync_survey::{Survey, survey};
 use test_files::files::{Stretch, bytes_of};
 use test_files::table;
 
-/// The index of 128 kbit/s, and that of 32.
+/// The bit rate index of 128 kbit/s, and that of 32.
 const OWN: u8 = 9;
 
 const LEAST: u8 = 1;
 
-/// A frame whose main data stood before the file, one of 301 bytes, and one of 400 that begin right after them.
+/// A lost frame, one with 301 bytes of main data, and one with 400 that begin right after them.
 static FILE: [Stretch; 3] = [
     Stretch::Frame(10, 800),
     Stretch::Frame(0, 2401),
@@ -36,7 +36,7 @@ fn surveyed<R: Abort + AllocGlobal, D: Folder>(rt: &R, folder: &mut D) -> Survey
     }
 }
 
-/// The plan of the frames from one on and before another, each in its own slot.
+/// The plan of the frames from one up to, but not including, another, each in its own slot.
 fn plan_between<R: Abort + AllocGlobal>(
     rt: &R,
     survey: &Survey,
@@ -55,7 +55,7 @@ fn plan_between<R: Abort + AllocGlobal>(
     parts.plan(rt.alloc(), &Keep)
 }
 
-/// A frame of a plan: whether it is a lead-in, the index of its bit rate, and main_data_begin.
+/// A frame of a plan: whether it is a lead-in, its bit rate index, and its main_data_begin in bytes.
 #[derive(Clone, Copy, Debug, PartialEq, Eq)]
 struct Planned(bool, u8, u16);
 
@@ -67,10 +67,10 @@ struct Case {
 
 static CASES: [Case; 3] = table! {
     Case { from, to, placed }
-    // The lost frame is empty, so the next one's main data begin in its area, and so on.
+    // The lost frame has no main data, so those of the next one begin in its area, and so on.
     (0, 3, &[Planned(false, OWN, 0), Planned(false, OWN, 381), Planned(false, OWN, 461)])
     (1, 3, &[Planned(false, OWN, 0), Planned(false, OWN, 80)])
-    // 19 bytes are missing: a lead-in of area 68.
+    // 19 bytes are missing: a lead-in with an area of 68.
     (2, 3, &[Planned(true, LEAST, 0), Planned(false, OWN, 68)])
 };
 

@@ -31,7 +31,7 @@ fn is_menu(needs: &[Need], menu: &[Slot]) -> bool
     ascend(class, false, menu) && ascend(class, true, menu)
 }
 
-/// The slots of the bit rates between two in kbit/s, these too.
+/// The slots of the bit rates from `least` to `most`, in kbit/s.
 pub fn slots_between(class: Class, least: u32, most: u32) -> ArrayVec<Slot, 28> {
     let mut slots = ArrayVec::new();
     for slot in class.slots().as_slice() {
@@ -43,7 +43,7 @@ pub fn slots_between(class: Class, least: u32, most: u32) -> ArrayVec<Slot, 28> 
     slots
 }
 
-/// The plan; none where memory is missing.
+/// The plan, or the fault of the planner.
 pub fn plan_of<R: Abort + AllocGlobal>(
     rt: &R,
     needs: &[Need],

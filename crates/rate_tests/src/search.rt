@@ -11,7 +11,7 @@ use std::alloc::AllocGlobal;
 use std::process::Abort;
 use std::test::Fail;
 
-/// The first list after so many lead-ins.
+/// The first list after `lead_ins` lead-ins.
 fn first_list(needs: &[Need], menu: &[Slot], lead_ins: usize) -> Option<Found> {
     for number in 0..count_of(menu.len(), needs.len().saturating_add(lead_ins)) {
         if let Some(found) = laid(needs, menu, lead_ins, number) {

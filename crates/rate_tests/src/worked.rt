@@ -10,8 +10,8 @@ use std::process::Abort;
 use std::test::Fail;
 use test_files::table;
 
-/// The bit rates of the menu in kbit/s, the least and the most, of whose slots it has so many, and what the frames are
-/// given: a plan, or no row and the first unfit frame.
+/// The lowest and the highest bit rate of the menu in kbit/s, at most how many of their slots it has, and the answer: a plan, or
+/// no row and the first unfit frame.
 struct Case {
     name: &'static str,
     frames: &'static [Asked],

@@ -23,7 +23,7 @@ struct Case {
     head: Option<u64>,
 }
 
-/// Two frames, of which the second points 81 bytes back into the first.
+/// Two frames: the main data of the second begin 81 bytes before its own area, in that of the first.
 const FIRST: Stretch = Stretch::Frame(0, 2400);
 
 const SECOND: Stretch = Stretch::Frame(81, 3200);
@@ -64,7 +64,7 @@ static GAP_AT_END: Case = Case {
     head: None,
 };
 
-/// One frame between two stretches of junk: it points to nothing of its own run. The block after is an anchor.
+/// One frame between two stretches of junk: its main data begin before its own run of frames. The block after it is an anchor.
 static BETWEEN: Case = Case {
     file: &[
         FIRST,
@@ -132,7 +132,7 @@ static WRONG_WORD: Case = Case {
     head: None,
 };
 
-/// The first frame is a head whatever check word is in it; one after is a frame.
+/// The first frame is a head, whatever its check word is; one after it is a frame.
 static HEADS: Case = Case {
     file: &[
         ID3V2,
@@ -176,7 +176,7 @@ const SHORT: Frame =
 
 const SHORT_BACK: Frame = frame! { side: &[11], ..SHORT };
 
-/// A frame of MPEG-1 between them isn't one of the stream's.
+/// A frame of MPEG-1 between such frames isn't one of the stream's.
 static MPEG_2: Case = Case {
     file: &[
         Frames(&[SHORT, SHORT_BACK]),
@@ -230,7 +230,7 @@ static MPEG_2_5: Case = Case {
     head: None,
 };
 
-/// Files of which nothing is read, and where the blocks and zero bytes at their front end.
+/// Files of which nothing is read, and the offset at which their front ends.
 static NOTHING: [(&[Stretch], u64); 4] = [
     (&[], 0),
     (&[Fill(0x55, 70_000)], 0),

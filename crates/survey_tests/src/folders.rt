@@ -1,4 +1,4 @@
-//! The survey of a file of a folder: what it tells of a whole file, and what a folder may do to it.
+//! The survey of a file of a folder: what it says of a well-formed file, and what a folder may do to it.
 
 use crate::untold::Untold;
 use frame_header::{Class, Header, Slot, Version};
@@ -111,7 +111,7 @@ fn a_song(rt: HostRuntime) -> Result<(), Fail> {
     Ok(())
 }
 
-/// The fault that a survey of a file of so many frames at most finds, where there is one.
+/// The fault that a survey of a file of at most `allowed` frames finds, where there is one.
 fn fault_of<D: Folder>(
     alloc: Global,
     folder: &mut D,
@@ -162,7 +162,7 @@ fn outcome_where_it_fails(
     Ok(outcome_of(alloc, &mut folder, file))
 }
 
-/// Lets the calls of a kind fail in turn, until a survey makes fewer; gives how many it makes.
+/// Lets the calls of a kind fail in turn, until a survey makes fewer; answers how many it makes.
 fn fail_in_turn<R: Abort + AllocGlobal>(
     rt: &R,
     file: &[u8],

@@ -43,7 +43,7 @@ const NOT_RESERVED: Stretch = Bytes(
     b"APETAGEX\xd0\x07\0\0\x20\0\0\0\0\0\0\0\0\0\0\xa0\x01\0\0\0\0\0\0\0APETAGEX\xd0\x07\0\0\x20\0\0\0\0\0\0\0\0\0\0\x80\0\0\0\0\0\0\0\0",
 );
 
-/// The tag of a file: where it stands, and its bytes.
+/// The tag of a file: where it is, and its bytes.
 #[derive(Drop)]
 struct Found {
     place: TagPlace,
@@ -85,7 +85,7 @@ fn no_tag_of<D: Folder>(alloc: Global, folder: &mut D) -> Option<NoTag> {
     }
 }
 
-/// A file whose tag is read: where it stands, and its bytes.
+/// A file whose tag is read: where it is, and its bytes.
 struct Case {
     name: &'static str,
     parts: &'static [Stretch],

@@ -1,4 +1,4 @@
-//! Tests of places and cue sheets.
+//! Tests of positions and cue sheets.
 
 mod cues;
 mod places;

@@ -1,4 +1,4 @@
-//! Exact bytes at the front of blocks, and each way not to be one. The lengths are worked out by hand from
+//! The first bytes of blocks, exactly, and each way not to be one. The lengths are worked out by hand from
 //! the layouts.
 
 ghost use Rattle.std.specs.Prelude.{◌≡◌};
@@ -10,7 +10,7 @@ use byteorder::{ByteOrder, LittleEndian};
 use tag_blocks::*;
 use test_files::table;
 
-/// Bytes at the front of a block.
+/// The first bytes of a block, its kind, and its length in bytes.
 struct Begins {
     what: &'static str,
     front: &'static [u8],
@@ -49,7 +49,7 @@ fn blocks(rt: HostRuntime) {
     }
 }
 
-/// Bytes that are at the front of no block.
+/// Bytes with which no block begins.
 struct Other {
     what: &'static str,
     front: &'static [u8],

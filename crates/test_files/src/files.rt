@@ -8,22 +8,22 @@ use std::alloc::{AllocError, Global};
 pub enum Stretch {
     /// These frames end to end.
     Frames(&'static [Frame]),
-    /// These frames end to end, so many times.
+    /// These frames end to end, this many times.
     Repeated(&'static [Frame], usize),
     /// These bytes.
     Bytes(&'static [u8]),
-    /// One byte, so many times.
+    /// One byte, this many times.
     Fill(u8, usize),
-    /// These bytes, and then one byte so many times.
+    /// These bytes, and then one byte this many times.
     Filled(&'static [u8], u8, usize),
     /// These bytes around this value.
     Valued(&'static Ends, &'static [u8]),
     /// These bytes, with another one at this place.
     Changed(&'static [u8], usize, u8),
     /// A frame of 417 bytes, the last 381 of them for main data: MPEG-1, 44,100 Hz, 128 kbit/s, stereo, without check word.
-    /// Its main_data_begin, and the bits of its first granule's first channel; every other field is 0.
+    /// Its main_data_begin in bytes, and how many bits its first granule's first channel has; every other field is 0.
     Frame(u16, u16),
-    /// So many frames of 417 bytes that begin with these, and end with 0x5a.
+    /// This many frames of 417 bytes that begin with these bytes and are filled up with 0x5a.
     Copies(&'static [u8], usize),
 }
 
@@ -53,7 +53,8 @@ pub const OF_400: Stretch = Stretch::Filled(
     28,
 );
 
-/// Two such frames, with areas of 381 bytes: the first 81 bytes of the second's main data are after those of the first.
+/// Two such frames, with areas of 381 bytes: the first 81 bytes of the second's main data are in the first's area, after its
+/// own.
 pub const TWO: &[Stretch] = &[
     OF_300,
     Stretch::Fill(0x11, 300),
@@ -109,8 +110,8 @@ fn push_changed(
     Ok(())
 }
 
-/// main_data_begin is the first 9 bits of the side information, and the bits of the first channel's main
-/// data are those from the 21st to the 32nd.
+/// A frame of 417 bytes. main_data_begin is the first 9 bits of the side information, and how many bits the first channel's
+/// main data have is in the 21st to the 32nd (ISO/IEC 11172-3, 2.4.1.7).
 fn push_frame(file: &mut Vec<u8>, begin: u16, bits: u16) -> Result<(), AllocError> {
     let side_front = u32::from(begin) << 23 | u32::from(bits);
     file.extend_from_slice(&[0xff, 0xfb, 0x90, 0x00])?;

@@ -24,10 +24,10 @@ const PROTECTED: [u8; 4] = [0xff, 0xfa, 0x90, 0x00];
 
 const AREA: [u8; 4] = [0x11, 0x22, 0x33, 0x44];
 
-/// All bytes after the header are 0: its granules are silent.
+/// All bytes after the header are 0, so its granules are silent.
 pub const Z: Frame = frame! { header: PLAIN, word: None, side: &[], area: &[], length: 417 };
 
-/// Each granule's channel has 8 bits; the gains are 100, 101, 255, 90.
+/// Each channel of each granule has 8 bits; the gains are 100, 101, 255, 90.
 pub const G: Frame = Frame {
     header: PLAIN,
     word: None,
@@ -96,7 +96,7 @@ pub const FULL: Frame =
 pub const FULL_LOUDER: Frame =
     frame! { side: b"\0\0\x02\xfa\0\x32\x80\0\0\0\x5f\x40\x06\x50\0\0\0\x0b\xe8\0\xca\0\0\0\x01\x7d\0\x19\x40", ..G };
 
-/// The same as FULL with one bit more, which the area has no byte for.
+/// FULL with one bit more than the area has.
 pub const OVERFULL: Frame =
     frame! { side: b"\0\0\x02\xfa\0\x32\0\0\0\0\x5f\x40\x06\x40\0\0\0\x0b\xe8\0\xc8\0\0\0\x01\x7d\x80\x19", ..G };
 
@@ -185,7 +185,7 @@ pub const MPEG_2: Frame = frame! { header: [0xff, 0xf3, 0x80, 0x00], length: 208
 /// The same with the version that the standard reserves.
 pub const RESERVED_VERSION: Frame = frame! { header: [0xff, 0xeb, 0x80, 0x00], length: 208, ..Z };
 
-/// Z with the bits of layer II.
+/// Z with the layer field of Layer II.
 pub const LAYER_2: Frame = frame! { header: [0xff, 0xfd, 0x90, 0x00], ..Z };
 
 /// Z in free format.

@@ -1,13 +1,13 @@
 //! Bytes as words of a text, which cost a check less than tables of values.
 //!
-//! Words are parted by blanks. Each stands for bytes:
+//! Words are separated by blanks. Each stands for bytes:
 //!
 //! - a name that was defined before;
 //! - bytes in hexadecimal, as `fffb9000`;
 //! - `'Info'`, a text, in which `_` is a blank;
-//! - `word*300`, one of the first two so many times;
-//! - `NAME@8=d1`, with another byte at this place;
-//! - `~417`, zeros up to this length of the whole.
+//! - `word*300`, one of the first two this many times;
+//! - `NAME@8=d1`, with another byte at this place, counted from 0;
+//! - `~417`, zeros up to this length of the whole, in bytes.
 
 use std::alloc::{AllocError, AllocFailed, Global};
 

@@ -28,7 +28,7 @@ pub fn payload_of<'w>(rt: &impl Abort, window: &'w mut Window, bytes: &[u8]) -> 
     window.payload(size as u32, 0, 8 * size as u32)
 }
 
-/// What appends frames: the writer, the buffer in front of the file, and the window of their main data.
+/// What appends frames: the writer, the buffer before the file, and the window over their main data.
 #[derive(Drop)]
 pub struct Appending {
     pub writer: Writer,

@@ -7,7 +7,7 @@ use in_memory::MemFolder;
 use std::alloc::AllocError;
 use std::process::Abort;
 
-/// Puts a file without bytes, with room for so many.
+/// Puts a file without bytes, with room for `room`.
 pub fn put_empty(folder: &mut MemFolder, name: &str, room: u64) -> Result<(), AllocError> {
     folder.put(name, &[])?;
     folder.reserve(name, room)

@@ -14,14 +14,14 @@ use std::test::Fail;
 use sync_survey::{Piece, Row, Survey, survey};
 use tag_blocks::{Block, Kind};
 
-/// MPEG-1, 128 kbit/s at 44,100 Hz in two channels: 417 bytes, and an area of 381. An Info frame in front of such frames
+/// MPEG-1, 128 kbit/s at 44,100 Hz in two channels: 417 bytes, and an area of 381. An Info frame before such frames
 /// has 208 bytes, at 64 kbit/s.
 static PLAIN: [u8; 4] = [0xff, 0xfb, 0x90, 0x00];
 
 /// An ID3v2 tag of 2 bytes after its header of 10.
 static ID3V2: [u8; 12] = *b"ID3\x03\x00\x00\x00\x00\x00\x02ab";
 
-/// An ID3v1 tag, of 128 bytes with 125 spaces after it.
+/// The first 3 bytes of an ID3v1 tag, which has 128 with 125 spaces after these.
 static ID3V1: [u8; 3] = *b"TAG";
 
 static BLOCKS: [Piece; 2] = [

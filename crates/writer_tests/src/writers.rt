@@ -27,7 +27,7 @@ fn header_of(bytes: [u8; 4]) -> Result<Header, Fail> {
     }
 }
 
-/// These bytes as main data pushed after those of `areas`, so many bytes before an area of 381.
+/// Pushes these bytes as main data after those of `areas`; they begin `begin` bytes before an area of 381.
 fn push(
     rt: &impl Abort,
     alloc: Global,
@@ -55,7 +55,7 @@ fn two_areas(rt: HostRuntime) -> Result<(), Fail> {
     Ok(())
 }
 
-/// Where main data begin before the frame's own area, and their bytes.
+/// How many bytes before the frame's own area main data begin, and their bytes.
 type Main<'a> = (u16, &'a [u8]);
 
 /// Writes frames with this header.
@@ -196,7 +196,7 @@ const USED: usize = 1400;
 /// The other bytes of its area, in which the main data of the next begin.
 const LEFT: u16 = 20;
 
-/// Writes so many frames of the longest kind, and the end. The main data of frame n, counted from 0, are bytes n + 1.
+/// Writes `count` frames of the longest kind, and the end. All bytes of the main data of frame n, counted from 0, are n + 1.
 fn write_many<D: Folder>(
     rt: &impl Abort,
     frames: &mut Appending,
@@ -213,7 +213,7 @@ fn write_many<D: Folder>(
     frames.finish(folder)
 }
 
-/// The byte at this place of a file of so many such frames. Before the area stand the header's 4 bytes, and the side
+/// The byte at this place of a file of `count` such frames. Before the area are the header's 4 bytes, and the side
 /// information's 17, of which the first is main_data_begin.
 fn byte_at(place: usize, count: u8) -> u8 {
     let number = (place / 1441 % 256) as u8;
@@ -229,8 +229,8 @@ fn byte_at(place: usize, count: u8) -> u8 {
     }
 }
 
-/// So many frames, and how many bytes the file holds where its first write fails, its second, and so on, and at last
-/// where none does.
+/// How many frames are written, and how many bytes the file holds where its first write fails, its second, and so on, and at
+/// last where none does.
 struct Run {
     count: u8,
     held: &'static [usize],

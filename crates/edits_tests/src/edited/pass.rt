@@ -13,7 +13,7 @@ use test_files::files::Stretch::{Bytes, Copies, Fill};
 use test_files::files::{Stretch, bytes_of};
 use test_files::{end_to_end, table};
 
-/// One step louder, where 255 comes in again as 0.
+/// One step louder, where 255 wraps to 0.
 const LOUDER: Shift = Shift {
     channels: Channels::Both,
     steps: 1,
@@ -48,7 +48,7 @@ const PROTECTED_LOUDER: &[u8] = &[
     0x00, 0x16, 0xc0, 0x00, 0x00, 0x00,
 ];
 
-/// The front of a head.
+/// The front of a head, and its text.
 const HEAD: &[u8] =
     b"\xff\xfb\x90\0\0\0\0\0\0\0\0\0\0\0\0\0\0\0\0\0\0\0\0\0\0\0\0\0\0\0\0\0\0\0\0\0Info";
 
@@ -113,7 +113,7 @@ static CASES: [Case; 4] = table! {
     (Trouble::Unwritten(70_000), Err(EditFault::Write(0)), 70_436)
 };
 
-/// Asserts what is answered, and that so many bytes were written, which are the first of these.
+/// Asserts what is answered, and that as many bytes were written as the case says, which are the first of these.
 fn expect_case<R: Abort + AllocGlobal>(rt: &R, case: &Case, loud: &[u8]) -> Result<(), AllocError> {
     let quiet = bytes_of(rt.alloc(), &QUIET)?;
     let mut folder = Slow::new(rt.alloc(), quiet, case.trouble);

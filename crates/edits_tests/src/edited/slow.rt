@@ -13,7 +13,7 @@ pub enum Trouble {
     Unread(u64),
     /// The input has this length.
     Shorter(u64),
-    /// Writes fail after so many bytes.
+    /// Writes fail after this many bytes.
     Unwritten(u64),
 }
 

@@ -4,7 +4,7 @@ use info_header::{Info, entry};
 use std::test::Fail;
 use test_files::table;
 
-/// A head that has what is named.
+/// A head without fields, which the cases add to.
 const NONE: Info = Info {
     vbr: false,
     frames: None,
@@ -85,7 +85,7 @@ fn a_whole_head(rt: HostRuntime) {
     );
 }
 
-/// An entry, worked out by hand.
+/// An entry of the table, worked out by hand: the offset of a frame and the length of the file in bytes, and the entry.
 struct Entry {
     offset: u32,
     bytes: u32,

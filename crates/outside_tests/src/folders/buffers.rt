@@ -44,7 +44,7 @@ fn expect_filled(
     assert_eq!(rt; reads, case.reads, "{n} bytes at {at}");
 }
 
-// Reads of at most 1,000 bytes: the first buffer, and pieces at its end.
+// Reads of at most 1,000 bytes: those that fill the buffer, and those at its end.
 fn expect_front_by_short_reads(rt: &impl Abort, feed: &mut Feed, folder: &mut Slow, name: &str)
     requires fed { IsFedFrom feed.old untold name.now }
     ensures fed { IsFedFrom feed.new untold name.now }
@@ -249,7 +249,7 @@ fn a_feed_over_long_reads(rt: HostRuntime) -> Result<(), Fail> {
     Ok(())
 }
 
-// Pushes a part of a pattern, and looks at how many writes there were by then.
+// Pushes some bytes of a pattern, and looks at how many writes there were by then.
 fn push(
     rt: &impl Abort,
     buffer: &mut WriteBuffer,

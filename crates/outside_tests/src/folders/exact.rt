@@ -6,7 +6,7 @@ use outside::{ReadFault, read_exact};
 use std::process::Abort;
 use std::test::Fail;
 
-/// A reading of 20 bytes from a place on, of a file that was found with so many, what it answers, and how many reads there
+/// A reading of 20 bytes from `at` on, of a file that was found with `found` bytes, what it answers, and how many reads there
 /// were by then.
 #[derive(Clone, Copy)]
 struct Reading {

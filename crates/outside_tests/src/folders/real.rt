@@ -17,14 +17,14 @@ fn prepare<R: Files + AllocGlobal>(rt: &R, directory: &str, file: &str) -> Resul
     Ok(())
 }
 
-// The file of this name holds this text.
+// Asserts that the file of this name holds this text.
 fn expect<R: Files + AllocGlobal + Abort>(rt: &R, name: &str, text: &str) -> Result<(), Fail> {
     let content = fs::read_to_string(rt, name)?;
     assert_eq!(rt; content.as_str(), text, "{name}");
     Ok(())
 }
 
-// A copy of the ten bytes is made, and it has them alone.
+// Makes a copy of the ten bytes, and asserts that it has no others.
 fn expect_copied<R: Files + AllocGlobal + Abort>(
     rt: &R,
     folder: &mut DiskFolder<R>,
@@ -35,7 +35,7 @@ fn expect_copied<R: Files + AllocGlobal + Abort>(
     expect(rt, to, "0123456789")
 }
 
-// Two bytes are appended, and the file has this text then.
+// Appends two bytes, and asserts that the file has this text then.
 fn expect_grown<R: Files + AllocGlobal + Abort>(
     rt: &R,
     folder: &mut DiskFolder<R>,
@@ -47,7 +47,7 @@ fn expect_grown<R: Files + AllocGlobal + Abort>(
     expect(rt, name, text)
 }
 
-// From this place on the file has so many bytes, and the rest of the room stays.
+// Asserts that `count` bytes are read from this offset on, and that the rest of the room stays.
 fn expect_read<R: Files + AllocGlobal + Abort>(
     rt: &R,
     folder: &mut DiskFolder<R>,

@@ -1,4 +1,4 @@
-//! A buffer in front of a sink.
+//! A buffer before a sink.
 
 use in_memory::MemSink;
 use outside::{Failed, SendBuffer};
@@ -18,7 +18,7 @@ fn sink_of(alloc: Global, failing: Option<u64>) -> Result<MemSink, AllocError> {
     Ok(sink)
 }
 
-// So many bytes were sent once the piece is pushed.
+// Asserts that `sent` bytes in all were sent once these are pushed.
 fn expect_pushed(
     rt: &impl Abort,
     buffer: &mut SendBuffer,
@@ -30,7 +30,7 @@ fn expect_pushed(
     assert_eq!(rt; sink.sent().len(), sent, "a piece of {} bytes", piece.len());
 }
 
-// Whether what waits is sent too.
+// Sends what waits.
 fn finish(buffer: &mut SendBuffer, sink: &mut MemSink) -> Result<(), Failed> {
     buffer.finish(sink)
 }
@@ -39,7 +39,7 @@ fn are_around(front: &[u8], end: &[u8], bytes: &[u8]) -> bool {
     bytes.starts_with(front) && bytes.ends_with(end)
 }
 
-// Pieces that fit wait. One that doesn't is added when what waits was sent, or sent too where it is longer than the buffer.
+// Bytes that fit wait. Others are added once what waits was sent, or are sent too where they are more than the buffer holds.
 #[test]
 fn pieces_wait_and_are_sent(rt: HostRuntime) -> Result<(), Fail> {
     let mut sink = sink_of(rt.alloc(), None)?;

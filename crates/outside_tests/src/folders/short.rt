@@ -5,7 +5,8 @@ use outside::{Failed, FindFault, Folder, read_full};
 use std::process::Abort;
 use std::test::Fail;
 
-/// A folder over one with the file `a` of so many bytes, which says so many more, and with room for eight bytes as `o`.
+/// A folder over one with the file `a` of `size` bytes, which says that there are `extra` more, and with room for eight bytes as
+/// `o`.
 fn shorter(folder: MemFolder, size: usize, extra: u64) -> Result<ShortFolder, Fail> {
     let mut inner = folder;
     let file = [7; 834];

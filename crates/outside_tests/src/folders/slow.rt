@@ -17,7 +17,7 @@ impl Calls {
     }
 }
 
-/// A folder of one file, which gives and takes at most so many bytes at a time. It tells nothing.
+/// A folder of one file, which gives and takes at most `most` bytes at a time. It tells nothing.
 #[derive(Drop)]
 pub struct Slow {
     pub content: Vec<u8>,
@@ -59,7 +59,7 @@ pub fn stand_at(bytes: &[u8], at: u64) -> bool {
     true
 }
 
-/// So many bytes.
+/// The first `length` bytes of such a file.
 pub fn pattern(alloc: Global, length: usize) -> Result<Vec<u8>, AllocError> {
     let mut bytes = Vec::with_capacity(alloc, length)?;
     for place in 0..length {

@@ -1,4 +1,4 @@
-//! The greatest payload that a frame can have, in each class and slot.
+//! The most main data that a frame can have, in each class and slot.
 
 use super::checked::expect_plan;
 use frame_header::{Header, Slot};
@@ -38,7 +38,7 @@ static CLASSES: [Row; 18] = table! {
     ([0xff, 0xe3, 0x18, 0xc0], 32)
 };
 
-/// The greatest payload of a frame in this slot takes a whole window after its lead-in.
+/// The most main data that a frame in this slot can have begin a whole window before its area, after its lead-in.
 fn expect_greatest<R: Abort + AllocGlobal>(
     rt: &R,
     header: Header,

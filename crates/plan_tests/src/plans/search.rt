@@ -38,7 +38,7 @@ fn place_in(number: u64, choices: u64, behind: usize) -> usize
     (left % choices) as usize
 }
 
-/// The frames in the slots of the list of this number, laid as early as may be after so many bytes of a
+/// The frames in the slots of the list of this number, with main data laid as early as may be after `lead_in` bytes of a
 /// lead-in's area; none where some main data end after their frame.
 fn laid<P: Policy>(needs: &[Need], policy: &P, lead_in: u32, number: u64) -> Option<Found> {
     let mut slots = ArrayVec::new();
@@ -72,7 +72,7 @@ fn count_of<P: Policy>(needs: &[Need], policy: &P) -> u64 {
     count
 }
 
-/// The first list that can be laid after so many bytes of a lead-in's area.
+/// The first list that can be laid after `lead_in` bytes of a lead-in's area.
 fn first_list<P: Policy>(needs: &[Need], policy: &P, lead_in: u32) -> Option<Found> {
     for number in 0..count_of(needs, policy) {
         if let Some(found) = laid(needs, policy, lead_in, number) {
@@ -165,7 +165,7 @@ fn searched<R: Abort + AllocGlobal>(rt: &R, frames: &[Asked]) -> Result<bool, Fa
     Ok(true)
 }
 
-/// Silent frames, frames that miss a byte or a whole window, and frames that leave a whole window.
+/// Silent frames, frames that need a byte or a whole window more than their area, and frames that leave a whole window.
 static FRAMES: [Asked; 9] = [
     Asked(LOW, 0),
     Asked(LOW, 12),

@@ -1,4 +1,4 @@
-//! Places worked out by hand from their forms, and frames by division.
+//! Positions worked out by hand from their forms, and their frames by division.
 
 use cue_sheet::Place;
 use frame_header::{Class, Version};

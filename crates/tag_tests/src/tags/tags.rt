@@ -7,7 +7,7 @@ use std::test::Fail;
 use tag_blocks::{Block, Kind, Tag, TagFault, Undo, UndoItem, block_at};
 use test_files::table;
 
-/// A tag that has the undo item alone: -1 step left and right, with `W`. Header, item of 32 bytes and footer.
+/// A tag that has only the undo item: -1 step left and right, with `W`. Header, item of 32 bytes and footer.
 static ALONE: &[u8] = b"\
     APETAGEX\xd0\x07\x00\x00\x40\x00\x00\x00\
     \x01\x00\x00\x00\x00\x00\x00\xa0\x00\x00\x00\x00\x00\x00\x00\x00\
