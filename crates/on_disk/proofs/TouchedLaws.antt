@@ -1,14 +1,14 @@
 -- A name that was added to those that may have been touched.
-use Rattle.std.proofs.Common.{◌≡◌, ℕ, List, refl, ◌∙◌, sym, ap, string_bytes}
+use Rattle.std.proofs.Common.{◌≡◌, ℕ, List, refl, ◌∙◌, sym, ap, inr, string_bytes}
 use Rattle.std.proofs.lemmas.Map.Text.{btree_set_updates_text}
 use Rattle.std.specs.BTreeSet.{UpdatesBy, contains_text}
 use Rattle.std.specs.Cmp.Lexicographic.{slice_cmp}
 use Rattle.std.specs.Ordering.{nat_cmp}
-use Rattle.std.specs.Prelude.{Bool, true, false, cond, ◌||◌, ◌&&◌, bytes_eq}
+use Rattle.std.specs.Prelude.{Bool, true, false, cond, ◌||◌, ◌&&◌, bytes_eq, Result, Ok, Err, OnOk, OnErr}
 use Rattle.std.specs.String.{string_cmp}
 use Rattle.on_disk.specs.Names.{touched_in}
 use Rattle.on_disk.specs.declared.touched.Touched.{Touched as TouchedNames}
-use Rattle.outside.specs.Files.{Touched, with_touch}
+use Rattle.outside.specs.Files.{Touched, Untold, with_touch, emptied, tried, FailsToCreate}
 use Rattle.outside.proofs.FilesLaws.{same_touched}
 use Rattle.std.proofs.lemmas.Slice.Eq.{bytes_eq-Decides}
 
@@ -31,3 +31,16 @@ touch_again touched name is_so was = same_touched _ _ (λ other. at other is_so 
     at other true false false e t = refl
     at other false same false e t = refl
     at other true true false e t = sym t ∙ sym (ap touched ((bytes_eq-Decides name other).0 e)) ∙ was
+
+-- ---- a name that is touched, and whose file is then emptied or not
+
+module _ {T E : Type 0} (old mid new : Touched) (name : List ℕ) (added : mid ≡ with_touch old name true) (stays : new ≡ mid) where
+  pub touch_emptied : (r : Result T E) → OnOk r (Untold new ≡ emptied (Untold old) name)
+  unfolding emptied
+  touch_emptied (Ok x) = ap Untold (stays ∙ added)
+  touch_emptied (Err fault) = tt
+
+  pub touch_failed : (r : Result T E) → OnErr r (FailsToCreate name (Untold old) (Untold new))
+  unfolding tried
+  touch_failed (Ok x) = tt
+  touch_failed (Err fault) = inr (ap Untold (stays ∙ added))

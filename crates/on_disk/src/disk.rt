@@ -196,6 +196,20 @@ impl<'a, R: Files> DiskFolder<'a, R> {
         Ok(())
     }
 
+    // Notes the name as touched, opens its file and empties it, and keeps it open.
+    fn touch_and_empty(&mut self, name: &str) -> Result<(), Failed>
+        ensures tally { disk_counts self.new ≡ disk_counts self.old }
+        ensures emptied { OnOk result (disk_files self.new ≡ emptied (disk_files self.old) name.now) }
+        ensures kept { OnErr result (FailsToCreate name.now (disk_files self.old)
+            (disk_files self.new)) }
+        ensures opened { OnOk result (created_name self.new ≡ Some name.now) }
+        ensures found { self.new.found ≡ self.old.found }
+        ensures noted { self.new.noted ≡ self.old.noted }
+    {
+        self.touched.add(self.alloc, name)?;
+        self.make_empty(name)
+    }
+
     // Appends a prefix of the bytes to the file of this name.
     fn append(&mut self, name: &str, bytes: &[u8]) -> Result<usize, Failed>
         ensures bound { IfOk result (λ k. k ≤ length bytes.now) }
@@ -370,7 +384,7 @@ impl<'a, R: Files> Folder for DiskFolder<'a, R> {
         ensures failed_counts { OnErr result
             (disk_counts self.new ≡ with_write_fault (disk_counts self.old)) }
     {
-        if self.touched.add(self.alloc, name).is_err() || self.make_empty(name).is_err() {
+        if self.touch_and_empty(name).is_err() {
             self.tally.count_write_fault();
             return Err(Failed);
         }

@@ -40,7 +40,8 @@ impl Touched {
         if self.has(name) {
             return Ok(());
         }
-        self.names.insert(String::from_str(alloc, name)?)?;
+        let key = String::from_str(alloc, name)?;
+        self.names.insert(key)?;
         Ok(())
     }
 }
