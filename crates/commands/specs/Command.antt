@@ -23,7 +23,7 @@ pub record Command : Type 0 where
   pub outputs : List (List ℕ)
   -- those that it reads as streams of frames
   pub sources : List (List ℕ)
-  -- the text that it makes of all files, where it is the same of all
+  -- the text that it makes whatever the files are, if it makes the same of all
   pub always : Option (List ℕ)
   -- what it makes of these files, or why it is refused
   pub makes : Contents → Result Made EditFault

@@ -56,7 +56,7 @@ granules_with lengths gains =
 abbrev pub side_with : ℕ → List ℕ → List ℕ → Side
 side_with begin lengths gains = record no_side { main_data_begin = begin; granules = granules_with lengths gains }
 
--- four draws are the lengths, four more the gains; all other fields but main_data_begin are 0
+-- four draws are the lengths, four more the gains; all other fields except main_data_begin are 0
 unfoldable pub drawn_side : ℕ → ℕ → Side
 drawn_side begin state = side_with begin (drawn_lengths begin state) (drawn_gains state)
 

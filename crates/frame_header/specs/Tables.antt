@@ -17,13 +17,13 @@ frequencies One = 44100 ∷ 48000 ∷ 32000 ∷ []
 frequencies Two = 22050 ∷ 24000 ∷ 16000 ∷ []
 frequencies TwoFive = 11025 ∷ 12000 ∷ 8000 ∷ []
 
--- the granules of a frame
+-- how many granules a frame has
 abbrev pub granules_of : Version → ℕ
 granules_of One = 2
 granules_of Two = 1
 granules_of TwoFive = 1
 
--- the samples of a frame in each channel, 576 for each granule
+-- how many samples a frame has in each channel, 576 for each granule
 abbrev pub samples_of : Version → ℕ
 samples_of version = 576 * granules_of version
 
@@ -33,7 +33,7 @@ window_of One = 511
 window_of Two = 255
 window_of TwoFive = 255
 
--- the bytes of the side information, by version and channels
+-- the length of the side information in bytes, by version and channels
 abbrev pub side_bytes_of : Version → ℕ → ℕ
 side_bytes_of One channels = if channels == 1 then 17 else 32
 side_bytes_of Two channels = if channels == 1 then 9 else 17
@@ -64,7 +64,7 @@ length_factor TwoFive = 72
 unfoldable pub length_of : ClassFields → SlotFields → ℕ
 length_of c s = (length_factor c.version * (1000 * rate_of c s)) / frequency_of c + (if s.padding then 1 else 0)
 
--- the bytes before the area: the header, the check word of a protected frame, and the side information
+-- how many bytes are before the area: the header, the check word of a protected frame, and the side information
 unfoldable pub overhead_of : ClassFields → Bool → ℕ
 overhead_of c protected = 4 + (if protected then 2 else 0) + side_size_of c
 

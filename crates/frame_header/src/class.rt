@@ -50,7 +50,7 @@ impl Class {
         }
     }
 
-    /// The samples of a frame in each channel: 1,152 or 576.
+    /// How many samples a frame has in each channel: 1,152 in MPEG-1, 576 in MPEG-2 and MPEG-2.5.
     pub fn samples(&self) -> u32
         ensures { result ≡ samples_of self.now.version }
     {

@@ -7,12 +7,12 @@ use Rattle.info_header.specs.declared.fields.Info.{Info}
 use Rattle.info_header.specs.Info.{entry_of}
 use Rattle.info_header.specs.InfoFrame.{info_slot_of}
 
--- the length of the Info frame
+-- the length of the Info frame in bytes
 abbrev pub info_length : ClassFields → ℕ
 info_length c = length_of c (info_slot_of c)
 
 module _ {X : Type 0} (c : ClassFields) (slot_of : X → SlotFields) where
-  -- the bytes of frames together
+  -- the length of frames together, in bytes
   abbrev pub bytes_of : List X → ℕ
   bytes_of frames = sum_by (λ frame. length_of c (slot_of frame)) frames
 
@@ -30,7 +30,7 @@ module _ {X : Type 0} (c : ClassFields) (slot_of : X → SlotFields) where
   abbrev pub IsTableOver : List X → ℕ → ℕ → List ℕ → Type 0
   IsTableOver frames before all table = (i : ℕ) → i < 100 → slice_index table i ≡ entry_of (before + bytes_of (take (i * length frames / 100) frames)) all
 
-  -- the bytes of the file from the Info frame's first to the last frame's last
+  -- the length of the file in bytes, from the Info frame's first to the last frame's last
   abbrev pub all_bytes : List X → ℕ
   all_bytes frames = info_length c + bytes_of frames
 

@@ -72,8 +72,8 @@ fn is_open<F>(opened: &Option<Opened<F>>, name: &str) -> bool
 /// follows a `find`.)
 ///
 /// It keeps two files open, the one last found or read and the one last created, and opens others again. It also keeps the
-/// names that it was asked to create, which contracts see, and writes to no others. A growth of memory that is refused
-/// counts as a fault of the call.
+/// names that it was asked to create, which contracts see, and writes to no others. A call for which memory is refused
+/// fails.
 #[derive(Drop)]
 pub struct DiskFolder<'a, R: Files> {
     rt: &'a R,

@@ -1,4 +1,4 @@
--- Why bytes that a file was found with aren't read.
+-- Why bytes that a file had when it was found aren't read.
 use Rattle.std.specs.Prelude.{◌≡◌, ◌<◌, ℕ, false}
 use Rattle.outside.specs.Files.{Files, is_told}
 use Rattle.outside.specs.Counts.{Counts, Rose, OnlyReads, NothingFailed}

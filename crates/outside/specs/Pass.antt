@@ -15,7 +15,7 @@ use Rattle.outside.specs.declared.pass.PassFault.TheVariants.{Read, Shrunk, Writ
 abbrev pub longest_input : ℕ
 longest_input = 2 ^ 32
 
--- Two files of other names are there, the input has this length, and what is held of it is of its bytes.
+-- Two files of different names are there, the input has this length, and the bytes held of it are its own.
 pub record IsReady (pass : Pass) (files : Files) (fed : Fed) : Type 0 where
   pub apart : pass.input.now ≢ pass.output.now
   pub source : IsThere files pass.input.now

@@ -1,4 +1,4 @@
-//! Bytes that a file was found with, all of them or none.
+//! Reads bytes that a file had when it was found, all of them or none.
 ghost use Rattle.std.specs.Prelude.{◌≡◌, ◌+◌, ◌^◌, ◌<◌, ◌≤◌, List, ℕ, length, take, drop, IfErr, OnOk};
 ghost use Rattle.outside.specs.Files.{Holds, IsThere};
 ghost use Rattle.outside.specs.Feed.{IsFedFrom};
@@ -9,7 +9,7 @@ use crate::feed::Feed;
 use crate::folder::Folder;
 use crate::helpers::read_full;
 
-/// Why bytes that a file was found with were not read.
+/// Why bytes that a file had when it was found were not read.
 #[derive(Clone, Copy, Debug, PartialEq, Eq)]
 pub enum ReadFault {
     /// A read failed.

@@ -5,13 +5,13 @@ use Rattle.frame_header.specs.declared.version.Version.{Version}
 use Rattle.frame_header.specs.declared.version.Version.TheVariants.{One, Two, TwoFive}
 use Rattle.side_info.specs.declared.granule.Granule.{Granule}
 
--- the bits of scalefac_compress
+-- how many bits scalefac_compress has
 abbrev pub compress_width : Version → ℕ
 compress_width One = 4
 compress_width Two = 9
 compress_width TwoFive = 9
 
--- the bits of preflag, which MPEG-1 alone has
+-- how many bits preflag has; MPEG-1 alone has it
 abbrev pub preflag_width : Version → ℕ
 preflag_width One = 1
 preflag_width Two = 0
@@ -22,7 +22,7 @@ preflag_width TwoFive = 0
 abbrev pub granule_widths : Version → List ℕ
 granule_widths version = 12 ∷ 9 ∷ 8 ∷ compress_width version ∷ 1 ∷ 22 ∷ preflag_width version ∷ 1 ∷ 1 ∷ []
 
--- the bits of one granule and channel
+-- how many bits one granule and channel has
 abbrev pub granule_size : Version → ℕ
 granule_size version = sum (granule_widths version)
 

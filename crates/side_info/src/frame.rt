@@ -9,10 +9,10 @@ use crate::division::check_word;
 use crate::side::Side;
 use frame_header::{Class, Header};
 
-/// The bytes of a header.
+/// The length of a header in bytes.
 pub(crate) const HEADER_SIZE: usize = 4;
 
-/// The bytes of a header and a check word.
+/// The length of a header and a check word in bytes.
 pub(crate) const PROTECTED_SIZE: usize = 6;
 
 /// Reads the side information that begins at byte `place` of a frame, over what was in `side`.

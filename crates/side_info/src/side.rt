@@ -24,7 +24,7 @@ pub struct Side {
     pub granules: [[Granule; 2]; 2],
 }
 
-/// The main data of a granule's channels in bits.
+/// How many bits of main data the channels of a granule have.
 fn pair_bits(pair: &[Granule; 2]) -> u32
     ensures two { length pair.now ≡ 2 }
     ensures sum { result ≡ sum_by (λ (g : Granule). g.part2_3_length) pair.now }

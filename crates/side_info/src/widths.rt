@@ -1,4 +1,4 @@
-//! The widths in bits of what a version has of a field, 0 where it lacks it.
+//! The widths in bits of the fields that a version has; 0 for one that it lacks.
 ghost use Rattle.std.specs.Prelude.{◌≡◌, ◌≤◌};
 ghost use Rattle.side_info.specs.Granule.{compress_width as compress_width_lem, preflag_width as preflag_width_lem, granule_size};
 ghost use Rattle.side_info.specs.Parts.{class_with, front_size as front_size_lem};
@@ -6,7 +6,7 @@ ghost use Rattle.frame_header.specs.Tables.{side_size_of};
 
 use frame_header::Version;
 
-/// The bits of scalefac_compress.
+/// How many bits scalefac_compress has.
 #[inline]
 pub(crate) fn compress_width(version: Version) -> u32
     ensures width { result ≡ compress_width_lem version }
@@ -18,7 +18,7 @@ pub(crate) fn compress_width(version: Version) -> u32
     }
 }
 
-/// The bits of preflag.
+/// How many bits preflag has.
 #[inline]
 pub(crate) fn preflag_width(version: Version) -> u32
     ensures width { result ≡ preflag_width_lem version }
@@ -30,7 +30,7 @@ pub(crate) fn preflag_width(version: Version) -> u32
     }
 }
 
-/// The bits of one granule and channel.
+/// How many bits one granule and channel has.
 #[inline]
 pub(crate) fn granule_width(version: Version) -> usize
     ensures { result ≡ granule_size version }
@@ -41,7 +41,7 @@ pub(crate) fn granule_width(version: Version) -> usize
     }
 }
 
-/// The bits of the fields before the granules.
+/// How many bits the fields before the granules have.
 #[inline]
 pub(crate) fn front_size(version: Version, channels: u8) -> usize
     ensures { result ≡ front_size_lem version channels }
@@ -54,7 +54,7 @@ pub(crate) fn front_size(version: Version, channels: u8) -> usize
     }
 }
 
-/// The bytes of the side information.
+/// The length of the side information in bytes.
 #[inline]
 #[tactic(auto, unfolding(frame_header::specs::Tables::side_size_of))]
 pub(crate) fn side_size(version: Version, channels: u8) -> usize

@@ -74,7 +74,7 @@ item_at bytes = if stands bytes then Some (item_front bytes) else None
 
 -- ---- items end to end
 
--- an item, but no undo item where one was met before
+-- an item, unless it is an undo item and one was met before
 abbrev pub admitted : Bool → TagItem → Option TagItem
 admitted met item = if met && is_undo item then None else Some item
 

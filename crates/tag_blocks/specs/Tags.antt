@@ -23,7 +23,7 @@ are_header_flags flags = (bit_at flags 31 == 1) && (bit_at flags 29 == 1)
 abbrev pub are_footer_flags : ℕ → Bool
 are_footer_flags flags = bit_at flags 29 == 0
 
--- all items but the undo item, and the undo item alone
+-- all items except the undo item, and the undo item alone
 abbrev pub other_items : List TagItem → List TagItem
 other_items items = filter (λ item. not (is_undo item)) items
 
