@@ -60,7 +60,7 @@ pub fn survey_at<D: Folder>(
     }
 }
 
-/// What is known of the only input of a command, which may have 2,900,000 frames.
+/// What is known of the only input of a command, which may have at most 2,900,000 frames.
 ///
 /// # Errors
 /// `Input(0, ..)` with the fault of the survey; `Memory`.

@@ -68,7 +68,7 @@ length_of c s = (length_factor c.version * (1000 * rate_of c s)) / frequency_of 
 unfoldable pub overhead_of : ClassFields → Bool → ℕ
 overhead_of c protected = 4 + (if protected then 2 else 0) + side_size_of c
 
--- the bytes of a frame in which main data are
+-- the length in bytes of a frame's area, in which main data are
 unfoldable pub area_of : ClassFields → SlotFields → Bool → ℕ
 area_of c s protected = length_of c s - overhead_of c protected
 

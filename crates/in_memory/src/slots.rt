@@ -7,7 +7,7 @@ use crate::buffer::Buffer;
 use std::alloc::{AllocError, Global};
 use std::collections::BTreeMap;
 
-/// The room for a name, and its file if there is one. (No slot of frames.)
+/// The room for a name, and its file if there is one. (Not a slot in the sense of the format.)
 #[derive(Drop)]
 pub struct Slot {
     buffer: Buffer,

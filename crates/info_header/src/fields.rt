@@ -5,7 +5,7 @@ ghost use Rattle.info_header.specs.Info.{flags_in, field_size, field_place, fiel
 
 use byteorder::{BigEndian, ByteOrder};
 
-/// The fields of a head after its text. One that the head doesn't have is `None`.
+/// The fields of a head after its text. A number or a table that the head doesn't have is `None`.
 #[derive(Clone, Copy, Debug, PartialEq, Eq)]
 pub struct Info {
     /// Whether the bit rate changes: the text is `Xing`, and not `Info`.

@@ -8,7 +8,7 @@ use Rattle.moved_gains.specs.Course.{steps_over}
 use Rattle.moved_gains.specs.Edited.{edited}
 use Rattle.moved_gains.specs.Streams.{moved_survey}
 
--- by how many steps the gains of the frame at an offset move, and the bytes of the new tag, if it changes; none take the tag out
+-- by how many steps the gains of the frame at an offset move, and the bytes of the new tag, if the tag changes; no bytes take it out
 pub record Change : Type 0 where
   pub steps : ℕ → Steps
   pub tag : Option (List ℕ)

@@ -8,6 +8,6 @@ use crate::course::Course;
 pub struct Change {
     /// By how many steps the gains of each frame move.
     pub course: Course,
-    /// The bytes of the new tag, if it changes; none take the tag out.
+    /// The bytes of the new tag, if the tag changes. No bytes take it out.
     pub tag: Option<Vec<u8>>,
 }

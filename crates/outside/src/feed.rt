@@ -119,7 +119,7 @@ impl Feed {
         self.refill(folder, name, at, n)
     }
 
-    // Moves what is held from `at` on to the buffer's first byte, and reads on after it.
+    // Moves what is held from `at` on to the beginning of the buffer, and reads on after it.
     #[inline(never)]
     fn refill<D: Folder>(
         &mut self,
@@ -159,8 +159,8 @@ impl Feed {
     }
 }
 
-// Moves what is held at the offset `at` and after it to the buffer's first byte, and answers how many bytes
-// these are: none where `at` is before or after what is held.
+// Moves what is held at the offset `at` and after it to the beginning of the buffer, and answers how many
+// bytes these are: none where `at` is before or after what is held.
 fn keep_from(room: &mut [u8], place: u64, held: usize, at: u64) -> usize
     requires early { place ≤ 2 ^ 32 }
     requires within { held ≤ length room.old }

@@ -92,7 +92,7 @@ impl ByteQueue {
     }
 }
 
-/// Moves the bytes between two places to the first of `room`, if there isn't room for `more` bytes after
+/// Moves the bytes between two places to the beginning of `room`, if there isn't room for `more` bytes after
 /// them, and answers where they begin then.
 #[inline]
 fn make_room(room: &mut [u8], from: usize, to: usize, more: usize) -> usize

@@ -17,7 +17,7 @@ end_of_kept head rows zero = 0
 end_of_kept head rows (suc i) = kept_end (place head rows i) (end_of_kept head rows i) (slice_get rows i)
 
 -- The main data that are kept before a frame end before its own area. Those of each frame that is kept begin neither before all areas nor
--- before the end of those kept before it, and end within its own area: so it is in the areas of all frames, as in those of its run.
+-- before the end of those kept before it, and end within its own area: so they are in the areas of all frames, as in those of its run.
 pub record IsKeptWell (head : Option Head) (rows : List Row) (i : ℕ) (r : Row) : Type 0 where
   pub before : end_of_kept head rows i ≤ place head rows i
   pub sound : r.lost ≡ false → is_sound (place head rows i) (end_of_kept head rows i) r ≡ true

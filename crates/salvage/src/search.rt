@@ -116,8 +116,8 @@ fn find_begin(front: &[u8], from: usize, to: usize) -> usize
     to
 }
 
-/// The next place of a look at the offset, after its first byte, at which a usable anchored frame may be, or at
-/// which this look has been searched: from 1 to 4,064.
+/// The next place of a look at the offset, after its first byte, at which a usable anchored frame may be, or
+/// up to which the look was searched: from 1 to 4,064.
 fn bare(role: &Role, front: &[u8], offset: u64) -> u64
     requires early { offset < 2 ^ 32 }
     ensures some { 0 < result }

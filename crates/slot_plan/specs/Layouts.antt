@@ -1,7 +1,7 @@
 -- Where the main data of each frame may be in the areas of all frames, one area after the other.
 use Rattle.std.specs.Prelude.{ℕ, ◌+◌, ◌-◌, ◌≤◌, max, List, [], ◌∷◌}
 
--- a frame: the bytes of its main data, and how many bytes its own area has
+-- a frame: the lengths of its main data and of its own area in bytes
 pub record Frame : Type 0 where
   pub bytes : ℕ
   pub area : ℕ

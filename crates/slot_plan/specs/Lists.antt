@@ -2,7 +2,7 @@
 use Rattle.std.specs.Prelude.{◌≡◌, ℕ, ◌<◌, ◌⊎◌, List, [], ◌∷◌, Contains}
 use Rattle.slot_plan.specs.Layouts.{Frame, IsFeasible}
 
--- a frame whose slot isn't decided: the bytes of its main data, and the areas among which there is a choice
+-- a frame whose slot isn't decided: the length of its main data in bytes, and the areas among which there is a choice
 pub record Open : Type 0 where
   pub bytes : ℕ
   pub areas : List ℕ
