@@ -1,11 +1,11 @@
 //! Of the areas of one frame, the one with which it and all frames after it have the fewest bytes.
 ghost use Rattle.std.specs.Prelude.{◌≡◌, ℕ, ◌+◌, ◌<◌, ◌≤◌, All, AllPairs, length, slice_index};
 ghost use Rattle.slot_plan.specs.Parts.{areas_with};
-ghost use Rattle.slot_plan.specs.Reserve.{free_behind as free_behind_lem};
 ghost use Rattle.best_plan.specs.Rows.{AreBounds, IsSum, IsChoice};
 
 use arrayvec::ArrayVec;
 use frame_header::{Class, Slot};
+use slot_plan::free_behind;
 
 /// The sum if no list of areas fits, in bytes. No list has as many.
 pub(crate) const NOTHING: u32 = u32::MAX;
@@ -38,19 +38,6 @@ pub(crate) fn areas_among(class: Class, protected: bool, slots: &[Slot]) -> Arra
         areas.push(class.area_of(*slot, protected));
     }
     areas
-}
-
-/// The free bytes after a frame: what it leaves of those before it and of its own area, but no more than
-/// the window.
-pub(crate) fn free_behind(window: u32, free: u32, bytes: u32, area: u32) -> u32
-    requires window { window ≤ 511 }
-    requires free { free ≤ window }
-    requires area { area ≤ 1441 }
-    requires fits { bytes ≤ free + area }
-    ensures free { result ≡ free_behind_lem window free bytes area }
-    ensures within { result ≤ window }
-{
-    (free + area - bytes).min(window)
 }
 
 /// The sum of an area and of the least sum after it, `NOTHING` if the main data don't fit.

@@ -7,11 +7,11 @@ ghost use Rattle.slot_plan.specs.Plans.{entries};
 ghost use Rattle.best_plan.specs.Best.{IsBestPlan};
 ghost use Rattle.best_plan.specs.Table.{IsLeadInBy};
 
-use crate::choice::{NOTHING, areas_among, best_choice, bounds_of, free_behind};
+use crate::choice::{NOTHING, areas_among, best_choice, bounds_of};
 use crate::table::table_of;
 use crate::walk::walk;
 use frame_header::Class;
-use slot_plan::{Need, Placed, Plan, Policy};
+use slot_plan::{Need, Placed, Plan, Policy, free_behind};
 use std::alloc::{AllocError, Global};
 
 /// The lead-in with which all frames have the fewest bytes, where `sums` has those of the frames after it.

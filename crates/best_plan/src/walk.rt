@@ -4,8 +4,7 @@ ghost use Rattle.std.specs.Prelude.{◌≡◌, ◌<◌, ◌≤◌, false, AllPai
 ghost use Rattle.slot_plan.specs.Parts.{area_in, item_of};
 ghost use Rattle.best_plan.specs.Table.{areas_for, CanWalk, Walks};
 
-use crate::choice::free_behind;
-use slot_plan::{Need, Placed, Policy};
+use slot_plan::{Need, Placed, Policy, free_behind};
 use std::alloc::AllocError;
 
 /// The frame in the slot at this place of its choices.

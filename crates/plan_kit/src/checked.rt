@@ -2,34 +2,8 @@
 ghost use Rattle.std.specs.Prelude.{◌+◌, ◌≡◌, ◌<◌, ◌≤◌, AllPairs, All, IsTrue, length, slice_index, map};
 ghost use Rattle.slot_plan.specs.Layouts.{IsFeasible};
 ghost use Rattle.slot_plan.specs.Parts.{own_frame, parts_of, AreOfOneClass, ArePartsFeasible};
-ghost use Rattle.slot_plan.specs.Reserve.{free_behind as free_behind_lem};
 
-use slot_plan::Need;
-
-/// Where the part at this place ends.
-fn end_of(needs: &[Need], parts: &[u32], at: usize) -> usize
-    requires { at < length parts.now }
-    ensures next { at + 1 < length parts.now → result ≡ slice_index parts.now (at + 1) }
-    ensures last { length parts.now ≤ at + 1 → result ≡ length needs.now }
-{
-    if at + 1 < parts.len() {
-        parts[at + 1] as usize
-    } else {
-        needs.len()
-    }
-}
-
-/// The free bytes after a frame: what it leaves of those before it and its own area, but no more than the window.
-fn free_behind(window: u32, free: u32, bytes: u32, area: u32) -> u32
-    requires window { window ≤ 511 }
-    requires free { free ≤ window }
-    requires area { area ≤ 1441 }
-    requires fits { bytes ≤ free + area }
-    ensures free { result ≡ free_behind_lem window free bytes area }
-    ensures within { result ≤ window }
-{
-    (free + area - bytes).min(window)
-}
+use slot_plan::{Need, end_of, free_behind};
 
 /// Whether each number is less than the next.
 pub fn ascend(numbers: &[u32]) -> bool

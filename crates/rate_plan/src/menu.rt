@@ -1,7 +1,7 @@
 //! The largest area of a menu, the smallest slot that is large enough, and what an area leaves free.
 ghost use Rattle.std.specs.Prelude.{◌≡◌, ◌+◌, ◌<◌, ◌≤◌, AllPairs, length};
 ghost use Rattle.slot_plan.specs.Parts.{areas_with};
-ghost use Rattle.slot_plan.specs.Reserve.{greatest, IsLeastSlot, free_behind as free_behind_lem};
+ghost use Rattle.slot_plan.specs.Reserve.{greatest, IsLeastSlot};
 
 use frame_header::{Class, Slot};
 
@@ -33,17 +33,4 @@ pub(crate) fn least_slot(class: Class, protected: bool, menu: &[Slot], wanted: u
         }
     }
     menu[low]
-}
-
-/// The free bytes after a frame: what it leaves of those before it and of its own area, but no more than
-/// the window.
-pub(crate) fn free_behind(window: u32, free: u32, bytes: u32, area: u32) -> u32
-    requires window { window ≤ 511 }
-    requires free { free ≤ window }
-    requires area { area ≤ 1441 }
-    requires fits { bytes ≤ free + area }
-    ensures free { result ≡ free_behind_lem window free bytes area }
-    ensures within { result ≤ window }
-{
-    (free + area - bytes).min(window)
 }

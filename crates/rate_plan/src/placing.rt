@@ -7,9 +7,9 @@ ghost use Rattle.slot_plan.specs.Reserve.{greatest, needed, needed_behind, opens
 ghost use Rattle.rate_plan.specs.Menus.{from_menu, AreAscending};
 ghost use Rattle.rate_plan.specs.Placing.{Places};
 
-use crate::menu::{free_behind, least_slot};
+use crate::menu::least_slot;
 use frame_header::{Class, Slot};
-use slot_plan::{Need, Placed};
+use slot_plan::{Need, Placed, free_behind};
 use std::alloc::AllocError;
 
 /// The lead-in with the smallest area that leaves `behind` bytes free after it, where nothing is before it.

@@ -6,12 +6,11 @@ ghost use Rattle.slot_plan.specs.Plans.{entries};
 ghost use Rattle.rate_plan.specs.Menus.{AreAscending, IsMenu, CanBeLaidFrom, IsMenuPlan, Refuses};
 
 use crate::fault::RateFault;
-use crate::menu::free_behind;
 use crate::placing::{lead_in, place_frames};
 use crate::reserves::reserves_of;
 use crate::unfit::first_unfit;
 use frame_header::{Class, Slot};
-use slot_plan::{Need, Plan};
+use slot_plan::{Need, Plan, free_behind};
 use std::alloc::{AllocError, Global};
 
 /// The plan of frames that have a layout after one lead-in.

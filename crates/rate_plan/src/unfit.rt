@@ -5,9 +5,9 @@ ghost use Rattle.frame_header.specs.Tables.{window_of};
 ghost use Rattle.slot_plan.specs.Parts.{AreOfClass};
 ghost use Rattle.rate_plan.specs.Menus.{AreAscending, CanBeLaidFrom, IsUnfit};
 
-use crate::menu::{free_behind, largest_area};
+use crate::menu::largest_area;
 use frame_header::{Class, Slot};
-use slot_plan::Need;
+use slot_plan::{Need, free_behind};
 
 /// The first frame up to which the frames have no layout, even after a lead-in; `None` if all have one.
 pub(crate) fn first_unfit(class: Class, needs: &[Need], menu: &[Slot]) -> Option<u32>

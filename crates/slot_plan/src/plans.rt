@@ -9,7 +9,7 @@ use crate::policy::Policy;
 use std::alloc::{AllocError, Global};
 
 /// Where the part at place `at` ends: where the next begins, or after the last of `needs`.
-pub(crate) fn end_of(needs: &[Need], parts: &[u32], at: usize) -> usize
+pub fn end_of(needs: &[Need], parts: &[u32], at: usize) -> usize
     requires { at < length parts.now }
     ensures next { at + 1 < length parts.now → result ≡ slice_index parts.now (at + 1) }
     ensures last { length parts.now ≤ at + 1 → result ≡ length needs.now }

@@ -46,7 +46,7 @@ pub(crate) fn least_slot_of(class: Class, protected: bool, wanted: u64) -> Slot
 
 /// The free bytes after a frame: what it leaves of those before it and of its own area, but no more than
 /// the window.
-pub(crate) fn free_behind(window: u32, free: u32, bytes: u32, area: u32) -> u32
+pub fn free_behind(window: u32, free: u32, bytes: u32, area: u32) -> u32
     requires window { window ≤ 511 }
     requires free { free ≤ window }
     requires area { area ≤ 1441 }
