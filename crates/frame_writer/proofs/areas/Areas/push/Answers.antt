@@ -4,32 +4,28 @@ use Rattle.frame_writer.specs.Laid.{Waiting, zeros, put_at, AreLaid}
 use Rattle.frame_writer.proofs.LaidLaws.{waits, more-put, more-laid}
 use Rattle.frame_writer.proofs.areas.Areas.push.Goals as goal
 
+-- zeros and then these bytes were added
+added : (old mid new more bytes : List ℕ) → mid ≡ old ++ more → new ≡ mid ++ bytes → new ≡ old ++ (more ++ bytes)
+added old mid new more bytes pushed appended = appended ∙ ap (λ (xs : List ℕ). xs ++ bytes) pushed ∙ append_assoc old more bytes
+
 pub returns-clause-put : goal.returns-clause-put
 returns-clause-put c =
-    let items = c.self.inside.queue in
-    let free = c.self.inside.free in
     let begin = c.args.begin in
+    let free = c.self.inside.free in
     let payload = c.args.payload.now in
     let rest = begin + c.args.area - c.len.result in
-    let rests : rest ≡ begin + c.args.area - length payload = ap (λ k. begin + c.args.area - k) c.len.ensures in
-    let reach : begin ≤ free = omega (arith, c.requires.start, ap (λ (w : Waiting). w.free) c.self.view_is) in
-    let is : c.append_to.new.queue ≡ items ++ (zeros (free - begin) ++ payload) =
-    c.append_to.ensures ∙ ap (λ (xs : List ℕ). xs ++ payload) c.push_zeros.ensures ∙ append_assoc items (zeros (free - begin)) payload in
+    let is = added c.self.inside.queue _ c.append_to.new.queue (zeros (free - begin)) payload c.push_zeros.ensures c.append_to.ensures in
     ap (λ (xs : List ℕ). xs ++ zeros rest) is
-    ∙ more-put items payload begin free (free - begin) rest c.args.area reach refl c.requires.within rests
+    ∙ more-put c.self.inside.queue payload begin free (free - begin) rest c.args.area (omega (arith, c.requires.start, ap (λ (w : Waiting). w.free) c.self.view_is)) refl c.requires.within (ap (λ k. begin + c.args.area - k) c.len.ensures)
     ∙ ap (λ (w : Waiting). put_at (length w.bytes - begin) payload (w.bytes ++ zeros c.args.area)) c.self.view_is
 
 pub returns-clause-laid : goal.returns-clause-laid
 returns-clause-laid c = λ given ps are.
-    let items = c.self.inside.queue in
-    let free = c.self.inside.free in
     let begin = c.args.begin in
+    let free = c.self.inside.free in
     let payload = c.args.payload.now in
     let rest = begin + c.args.area - c.len.result in
-    let rests : rest ≡ begin + c.args.area - length payload = ap (λ k. begin + c.args.area - k) c.len.ensures in
-    let reach : begin ≤ free = omega (arith, c.requires.start, ap (λ (w : Waiting). w.free) c.self.view_is) in
-    let is : c.append_to.new.queue ≡ items ++ (zeros (free - begin) ++ payload) =
-    c.append_to.ensures ∙ ap (λ (xs : List ℕ). xs ++ payload) c.push_zeros.ensures ∙ append_assoc items (zeros (free - begin)) payload in
+    let is = added c.self.inside.queue _ c.append_to.new.queue (zeros (free - begin)) payload c.push_zeros.ensures c.append_to.ensures in
     subst (λ (xs : List ℕ). AreLaid given (waits xs rest) (ps ++ record { payload = payload; begin = begin; area = c.args.area } ∷ [])) (sym is)
-    (more-laid given items payload begin free (free - begin) rest c.args.area ps reach refl c.requires.within rests
+    (more-laid given c.self.inside.queue payload begin free (free - begin) rest c.args.area ps (omega (arith, c.requires.start, ap (λ (w : Waiting). w.free) c.self.view_is)) refl c.requires.within (ap (λ k. begin + c.args.area - k) c.len.ensures)
     (subst (λ w. AreLaid given w ps) (sym c.self.view_is) are))

@@ -11,24 +11,22 @@ use Rattle.frame_writer.specs.Laws.{HaveRoom}
 use Rattle.frame_writer.proofs.FrameLaws.{few-wait, pushed-kept, areas_in-pushed, AreOf-more, more-written}
 use Rattle.frame_writer.proofs.writer.Writer.push.Goals as goal
 
+-- another frame may wait
+room_of : (held old : Held) → held ≡ old → AreOf held.class held.kept → areas_in held.kept ≡ length held.waiting.bytes → (IsNextSettled old → ⊥) → HaveRoom held
+room_of held old view are same unsettled = few-wait held are same (subst (λ (h : Held). IsNextSettled h → ⊥) (sym view) unsettled)
+
 pub push-requires-clause-room : goal.push-requires-clause-room
 push-requires-clause-room c =
-    let held : Held = record { class = c.self.inside.class; kept = c.self.inside.kept.items; waiting = c.self.inside.areas } in
-    let room : HaveRoom held =
-    few-wait held c.self.invariant.3 c.self.invariant.2 (subst (λ (h : Held). IsNextSettled h → ⊥) (sym c.self.view_is) c.requires.unsettled) in
+    let room = room_of (record { class = c.self.inside.class; kept = c.self.inside.kept.items; waiting = c.self.inside.areas }) c.args.self.now c.self.view_is c.self.invariant.3 c.self.invariant.2 c.requires.unsettled in
     omega (arith, room.room, c.area-area.ensures.most)
 
 pub invariant_of-self : goal.invariant_of-self
 invariant_of-self c =
-    let held : Held = record { class = c.self.inside.class; kept = c.self.inside.kept.items; waiting = c.self.inside.areas } in
-    let room : HaveRoom held =
-    few-wait held c.self.invariant.3 c.self.invariant.2 (subst (λ (h : Held). IsNextSettled h → ⊥) (sym c.self.view_is) c.requires.unsettled) in
+    let room = room_of (record { class = c.self.inside.class; kept = c.self.inside.kept.items; waiting = c.self.inside.areas }) c.args.self.now c.self.view_is c.self.invariant.3 c.self.invariant.2 c.requires.unsettled in
     let k : Kept = c.args.frame.now.kept in
     let queue = c.self.inside.kept in
-    let push_is : c.push_back.new.self ≡ buffer (keep_last queue.capacity (queue.items ++ k ∷ [])) queue.capacity =
-    c.push_back.ensures.items
-    ∙ ap (λ (f : Frame). buffer (keep_last queue.capacity (queue.items ++ f.kept ∷ [])) queue.capacity) c.frame.view_is in
-    let pushed = pushed-kept queue c.push_back.new.self k c.self.invariant.0 room.few push_is in
+    let pushed = pushed-kept queue c.push_back.new.self k c.self.invariant.0 room.few
+    (c.push_back.ensures.items ∙ ap (λ (f : Frame). buffer (keep_last queue.capacity (queue.items ++ f.kept ∷ [])) queue.capacity) c.frame.view_is) in
     let class : class_of c.args.frame.now.kept.header ≡ c.self.inside.class = c.requires.class ∙ sym (ap (λ (h : Held). h.class) c.self.view_is) in
     let fits : SideFits c.self.inside.class c.args.frame.now.kept.side = subst (λ (h : Held). SideFits h.class c.args.frame.now.kept.side) (sym c.self.view_is) c.requires.fits in
     let is : IsHeader c.args.frame.now.kept.header =
@@ -44,27 +42,19 @@ invariant_of-self c =
 
 pub returns-clause-kept : goal.returns-clause-kept
 returns-clause-kept c =
-    let held : Held = record { class = c.self.inside.class; kept = c.self.inside.kept.items; waiting = c.self.inside.areas } in
-    let room : HaveRoom held =
-    few-wait held c.self.invariant.3 c.self.invariant.2 (subst (λ (h : Held). IsNextSettled h → ⊥) (sym c.self.view_is) c.requires.unsettled) in
+    let room = room_of (record { class = c.self.inside.class; kept = c.self.inside.kept.items; waiting = c.self.inside.areas }) c.args.self.now c.self.view_is c.self.invariant.3 c.self.invariant.2 c.requires.unsettled in
     let queue = c.self.inside.kept in
-    let pushed : c.push_back.new.self ≡ buffer (keep_last queue.capacity (queue.items ++ c.args.frame.now.kept ∷ [])) queue.capacity =
-    c.push_back.ensures.items
-    ∙ ap (λ (f : Frame). buffer (keep_last queue.capacity (queue.items ++ f.kept ∷ [])) queue.capacity) c.frame.view_is in
-    (pushed-kept queue c.push_back.new.self (c.args.frame.now.kept) c.self.invariant.0 room.few pushed).1
+    (pushed-kept queue c.push_back.new.self (c.args.frame.now.kept) c.self.invariant.0 room.few
+    (c.push_back.ensures.items ∙ ap (λ (f : Frame). buffer (keep_last queue.capacity (queue.items ++ f.kept ∷ [])) queue.capacity) c.frame.view_is)).1
     ∙ ap (λ (h : Held). h.kept ++ c.args.frame.now.kept ∷ []) c.self.view_is
 
 pub returns-clause-written : goal.returns-clause-written
 returns-clause-written c = λ taken fs are.
-    let held : Held = record { class = c.self.inside.class; kept = c.self.inside.kept.items; waiting = c.self.inside.areas } in
-    let room : HaveRoom held =
-    few-wait held c.self.invariant.3 c.self.invariant.2 (subst (λ (h : Held). IsNextSettled h → ⊥) (sym c.self.view_is) c.requires.unsettled) in
+    let room = room_of (record { class = c.self.inside.class; kept = c.self.inside.kept.items; waiting = c.self.inside.areas }) c.args.self.now c.self.view_is c.self.invariant.3 c.self.invariant.2 c.requires.unsettled in
     let k : Kept = c.args.frame.now.kept in
     let queue = c.self.inside.kept in
-    let push_is : c.push_back.new.self ≡ buffer (keep_last queue.capacity (queue.items ++ k ∷ [])) queue.capacity =
-    c.push_back.ensures.items
-    ∙ ap (λ (f : Frame). buffer (keep_last queue.capacity (queue.items ++ f.kept ∷ [])) queue.capacity) c.frame.view_is in
-    let pushed = pushed-kept queue c.push_back.new.self k c.self.invariant.0 room.few push_is in
+    let pushed = pushed-kept queue c.push_back.new.self k c.self.invariant.0 room.few
+    (c.push_back.ensures.items ∙ ap (λ (f : Frame). buffer (keep_last queue.capacity (queue.items ++ f.kept ∷ [])) queue.capacity) c.frame.view_is) in
     let f : Frame = record { kept = c.frame.inside.kept; payload = c.frame.inside.payload } in
     subst (λ (ks : List Kept). AreWritten taken (record { class = c.self.inside.class; kept = ks; waiting = c.push.new.self }) (fs ++ c.args.frame.now ∷ [])) (sym pushed.1)
     (subst (λ (f : Frame). AreWritten taken (record { class = c.self.inside.class; kept = queue.items ++ f.kept ∷ []; waiting = c.push.new.self }) (fs ++ f ∷ [])) c.frame.view_is

@@ -1,41 +1,42 @@
 -- The front of the first frame that waits, and after it the first bytes of the areas.
-use Rattle.std.proofs.Common.{◌≡◌, ◌<◌, ℕ, List, ◌∷◌, ◌++◌, length, take, drop, sym, subst, ap, ◌∙◌, arith}
+use Rattle.std.proofs.Common.{◌≡◌, ◌<◌, ◌≤◌, ℕ, List, ◌∷◌, ◌++◌, length, take, drop, sym, subst, ap, ◌∙◌, arith}
 use Rattle.circular_buffer.specs.Buffer.{Buffer}
 use Rattle.frame_writer.specs.declared.frames.Kept.{Kept}
 use Rattle.frame_writer.specs.Laid.{Piece, AreLaid}
 use Rattle.frame_writer.specs.Frames.{area_in, areas_in, Held, first_bytes, framed, held_bytes}
 use Rattle.frame_writer.proofs.FrameLaws.{first-kept, first-framed}
 use Rattle.frame_writer.proofs.WritingLaws.{err-map, prefix-piece, first-handed, first-part}
+use Rattle.frame_writer.proofs.writer.Writer.take_first.Given as given
 use Rattle.frame_writer.proofs.writer.Writer.take_first.Goals as goal
+use Rattle.frame_writer.proofs.writer.Writer.take_first.Goals.{After-drop_first}
+
+-- the first frame that waits, and the others
+first : (g : given.Over) (c : After-drop_first g) → c.self.inside.kept.items ≡ c.unwrap-first.result ∷ drop 1 c.self.inside.kept.items
+first g c =
+    first-kept c.self.inside.kept.items c.unwrap-first.result (subst (λ (h : Held). 0 < length h.kept) (sym c.self.view_is) c.requires.some) (sym c.pop_front.ensures.value ∙ c.unwrap-first.ensures)
+
+-- its area is there, and is dropped
+within : (g : given.Over) (c : After-drop_first g) → area_in c.unwrap-first.result ≤ length c.self.inside.areas.bytes
+within g c =
+    let all : areas_in (c.unwrap-first.result ∷ drop 1 c.self.inside.kept.items) ≡ length c.self.inside.areas.bytes = ap (λ (js : List Kept). areas_in js) (sym (first g c)) ∙ c.self.invariant.2 in
+    omega (arith, all)
+
+drops : (g : given.Over) (c : After-drop_first g) → c.drop_first.new.self.bytes ≡ drop (area_in c.unwrap-first.result) c.self.inside.areas.bytes
+drops g c = c.drop_first.ensures.left ∙ ap (λ n. drop n c.self.inside.areas.bytes) c.area-area.ensures.area
+
+step : (g : given.Over) (c : After-drop_first g) (given : List ℕ) (ps : List Piece) → AreLaid given c.self.inside.areas ps → AreLaid (given ++ take (area_in c.unwrap-first.result) c.self.inside.areas.bytes) c.drop_first.new.self ps
+step g c = subst (λ n. (given : List ℕ) (ps : List Piece) → AreLaid given c.self.inside.areas ps → AreLaid (given ++ take n c.self.inside.areas.bytes) c.drop_first.new.self ps) c.area-area.ensures.area c.drop_first.ensures.laid
 
 pub returns-clause-moved : goal.returns-clause-moved
 returns-clause-moved g c =
-    let k = c.unwrap-first.result in
-    let items = c.self.inside.kept.items in
-    let bytes = c.self.inside.areas.bytes in
-    let some : 0 < length items = subst (λ (h : Held). 0 < length h.kept) (sym c.self.view_is) c.requires.some in
-    let ks : items ≡ k ∷ drop 1 items = first-kept items k some (sym c.pop_front.ensures.value ∙ c.unwrap-first.ensures) in
-    let all : areas_in (k ∷ drop 1 items) ≡ length bytes = ap (λ (js : List Kept). areas_in js) (sym ks) ∙ c.self.invariant.2 in
-    first-handed c.args.self.now c.self.inside.class k items c.pop_front.new.self.items c.self.inside.areas c.drop_first.new.self c.self.view_is ks
-    (ap (λ (b : Buffer Kept). b.items) c.pop_front.ensures.items)
-    (c.drop_first.ensures.left ∙ ap (λ n. drop n bytes) c.area-area.ensures.area)
-    (subst (λ n. (given : List ℕ) (ps : List Piece) → AreLaid given c.self.inside.areas ps → AreLaid (given ++ take n bytes) c.drop_first.new.self ps) c.area-area.ensures.area c.drop_first.ensures.laid)
-    (omega (arith, all))
+    first-handed c.args.self.now c.self.inside.class c.unwrap-first.result c.self.inside.kept.items c.pop_front.new.self.items c.self.inside.areas c.drop_first.new.self c.self.view_is (first g c)
+    (ap (λ (b : Buffer Kept). b.items) c.pop_front.ensures.items) (drops g c) (step g c) (within g c)
 
 pub returns-clause-part : goal.returns-clause-part
 returns-clause-part g c =
-    let k = c.unwrap-first.result in
-    let items = c.self.inside.kept.items in
-    let bytes = c.self.inside.areas.bytes in
-    let some : 0 < length items = subst (λ (h : Held). 0 < length h.kept) (sym c.self.view_is) c.requires.some in
-    let ks : items ≡ k ∷ drop 1 items = first-kept items k some (sym c.pop_front.ensures.value ∙ c.unwrap-first.ensures) in
-    let all : areas_in (k ∷ drop 1 items) ≡ length bytes = ap (λ (js : List Kept). areas_in js) (sym ks) ∙ c.self.invariant.2 in
     err-map c.add_frame-added.result
-    (first-part c.args.name.now c.args.unsent.now c.args.self.now c.self.inside.class k items c.pop_front.new.self.items c.self.inside.areas c.drop_first.new.self _ _ c.self.view_is ks
-    (ap (λ (b : Buffer Kept). b.items) c.pop_front.ensures.items)
-    (c.drop_first.ensures.left ∙ ap (λ n. drop n bytes) c.area-area.ensures.area)
-    (subst (λ n. (given : List ℕ) (ps : List Piece) → AreLaid given c.self.inside.areas ps → AreLaid (given ++ take n bytes) c.drop_first.new.self ps) c.area-area.ensures.area c.drop_first.ensures.laid)
-    (omega (arith, all)))
+    (first-part c.args.name.now c.args.unsent.now c.args.self.now c.self.inside.class c.unwrap-first.result c.self.inside.kept.items c.pop_front.new.self.items c.self.inside.areas c.drop_first.new.self _ _ c.self.view_is (first g c)
+    (ap (λ (b : Buffer Kept). b.items) c.pop_front.ensures.items) (drops g c) (step g c) (within g c))
     c.add_frame-added.ensures.prefix
 
 pub returns-clause-prefix : goal.returns-clause-prefix
@@ -43,9 +44,7 @@ returns-clause-prefix g c =
     let k = c.unwrap-first.result in
     let items = c.self.inside.kept.items in
     let bytes = c.self.inside.areas.bytes in
-    let some : 0 < length items = subst (λ (h : Held). 0 < length h.kept) (sym c.self.view_is) c.requires.some in
-    let ks : items ≡ k ∷ drop 1 items = first-kept items k some (sym c.pop_front.ensures.value ∙ c.unwrap-first.ensures) in
     err-map c.add_frame-added.result
     (prefix-piece c.args.name.now c.args.unsent.now (first_bytes k bytes) _ (framed (drop 1 items) (drop (area_in k) bytes)) _ _
-    (first-framed k (drop 1 items) bytes ∙ ap (λ (js : List Kept). framed js bytes) (sym ks) ∙ ap held_bytes c.self.view_is))
+    (first-framed k (drop 1 items) bytes ∙ ap (λ (js : List Kept). framed js bytes) (sym (first g c)) ∙ ap held_bytes c.self.view_is))
     c.add_frame-added.ensures.prefix
