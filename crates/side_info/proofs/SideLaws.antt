@@ -272,53 +272,39 @@ scfsi_fit c a b ha hb zero = ha
 scfsi_fit c a b ha hb (suc zero) = hb
 scfsi_fit c a b ha hb (suc (suc channel)) = pow_pos (front_width c (2 + suc (suc channel)))
 
+-- fields that fit in the front, and granules that fit
+fits_by : (c : ClassFields) (m p a b : ℕ) (g h k l : Granule) → (m < 2 ^ front_width c 0) × ((p < 2 ^ front_width c 1) × ((a < 2 ^ front_width c 2) × ((b < 2 ^ front_width c 3) × Unit {0})))
+    → FitsAt c (side_with m p a b g h k l) 0 0 → FitsAt c (side_with m p a b g h k l) 0 1 → FitsAt c (side_with m p a b g h k l) 1 0 → FitsAt c (side_with m p a b g h k l) 1 1 → SideFits c (side_with m p a b g h k l)
+fits_by c m p a b g h k l front x0 x1 x2 x3 = record {
+  main_data_begin = front.0;
+  private_bits = front.1.0;
+  scfsi = scfsi_fit c a b front.1.1.0 front.1.1.1.0;
+  granules = granules_fit c m p a b g h k l x0 x1 x2 x3;
+}
+
 fits_one_mono : (f : ℕ) (bs : List ℕ) → AreBits bs → SideFits (class_with One f 1) (side_at (class_with One f 1) bs)
 unfolding side_at numbers_at
 fits_one_mono f bs all =
-    let front : Fits (front_widths (class_with One f 1)) (numbers_at (front_widths (class_with One f 1)) bs) = Fits-numbers_at (front_widths (class_with One f 1)) bs all in
     let rest : AreBits (drop 18 bs) = AreBits-drop 18 bs all in
-    record {
-      main_data_begin = front.0;
-      private_bits = front.1.0;
-      scfsi = scfsi_fit (class_with One f 1) _ _ front.1.1.0 front.1.1.1.0;
-      granules = granules_fit (class_with One f 1) 0 0 0 0 _ no_granule _ no_granule (some_fits One (drop 18 bs) 0 rest) refl (some_fits One (drop 18 bs) 1 rest) refl;
-    }
+    fits_by (class_with One f 1) _ _ _ _ _ no_granule _ no_granule (Fits-numbers_at (front_widths (class_with One f 1)) bs all) (some_fits One (drop 18 bs) 0 rest) refl (some_fits One (drop 18 bs) 1 rest) refl
 
 fits_one_stereo : (f : ℕ) (bs : List ℕ) → AreBits bs → SideFits (class_with One f 2) (side_at (class_with One f 2) bs)
 unfolding side_at numbers_at
 fits_one_stereo f bs all =
-    let front : Fits (front_widths (class_with One f 2)) (numbers_at (front_widths (class_with One f 2)) bs) = Fits-numbers_at (front_widths (class_with One f 2)) bs all in
     let rest : AreBits (drop 20 bs) = AreBits-drop 20 bs all in
-    record {
-      main_data_begin = front.0;
-      private_bits = front.1.0;
-      scfsi = scfsi_fit (class_with One f 2) _ _ front.1.1.0 front.1.1.1.0;
-      granules = granules_fit (class_with One f 2) 0 0 0 0 _ _ _ _ (some_fits One (drop 20 bs) 0 rest) (some_fits One (drop 20 bs) 1 rest) (some_fits One (drop 20 bs) 2 rest) (some_fits One (drop 20 bs) 3 rest);
-    }
+    fits_by (class_with One f 2) _ _ _ _ _ _ _ _ (Fits-numbers_at (front_widths (class_with One f 2)) bs all) (some_fits One (drop 20 bs) 0 rest) (some_fits One (drop 20 bs) 1 rest) (some_fits One (drop 20 bs) 2 rest) (some_fits One (drop 20 bs) 3 rest)
 
 fits_two_mono : (f : ℕ) (bs : List ℕ) → AreBits bs → SideFits (class_with Two f 1) (side_at (class_with Two f 1) bs)
 unfolding side_at numbers_at
 fits_two_mono f bs all =
-    let front : Fits (front_widths (class_with Two f 1)) (numbers_at (front_widths (class_with Two f 1)) bs) = Fits-numbers_at (front_widths (class_with Two f 1)) bs all in
     let rest : AreBits (drop 9 bs) = AreBits-drop 9 bs all in
-    record {
-      main_data_begin = front.0;
-      private_bits = front.1.0;
-      scfsi = scfsi_fit (class_with Two f 1) _ _ front.1.1.0 front.1.1.1.0;
-      granules = granules_fit (class_with Two f 1) 0 0 0 0 _ no_granule no_granule no_granule (some_fits Two (drop 9 bs) 0 rest) refl refl refl;
-    }
+    fits_by (class_with Two f 1) _ _ _ _ _ no_granule no_granule no_granule (Fits-numbers_at (front_widths (class_with Two f 1)) bs all) (some_fits Two (drop 9 bs) 0 rest) refl refl refl
 
 fits_two_stereo : (f : ℕ) (bs : List ℕ) → AreBits bs → SideFits (class_with Two f 2) (side_at (class_with Two f 2) bs)
 unfolding side_at numbers_at
 fits_two_stereo f bs all =
-    let front : Fits (front_widths (class_with Two f 2)) (numbers_at (front_widths (class_with Two f 2)) bs) = Fits-numbers_at (front_widths (class_with Two f 2)) bs all in
     let rest : AreBits (drop 10 bs) = AreBits-drop 10 bs all in
-    record {
-      main_data_begin = front.0;
-      private_bits = front.1.0;
-      scfsi = scfsi_fit (class_with Two f 2) _ _ front.1.1.0 front.1.1.1.0;
-      granules = granules_fit (class_with Two f 2) 0 0 0 0 _ _ no_granule no_granule (some_fits Two (drop 10 bs) 0 rest) (some_fits Two (drop 10 bs) 1 rest) refl refl;
-    }
+    fits_by (class_with Two f 2) _ _ _ _ _ _ no_granule no_granule (Fits-numbers_at (front_widths (class_with Two f 2)) bs all) (some_fits Two (drop 10 bs) 0 rest) (some_fits Two (drop 10 bs) 1 rest) refl refl
 
 fits_as_two : (f channels : ℕ) (bs : List ℕ) → SideFits (class_with Two f channels) (side_at (class_with Two f channels) bs) → SideFits (class_with TwoFive f channels) (side_at (class_with TwoFive f channels) bs)
 unfolding side_at granule_at
