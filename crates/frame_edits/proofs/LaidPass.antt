@@ -19,7 +19,9 @@ use Rattle.sync_survey.specs.declared.rows.Row.{Row}
 use Rattle.sync_survey.specs.Faults.{SurveyFields, tells}
 use Rattle.sync_survey.specs.Survey.{IsLaidOut}
 use Rattle.frame_edits.specs.Laid.{Laid, file_from, file_laid, IsLaidInfo}
-use Rattle.frame_edits.specs.Chosen.{Chosen, plan_of, laid_by, chosen_file}
+use Rattle.frame_edits.specs.declared.plans.Selection.{Selection}
+use Rattle.frame_edits.specs.Chosen.{Chosen, chosen_in, plan_of, laid_by, chosen_file}
+use Rattle.frame_edits.specs.Selected.{IsWritable, IsSelected}
 
 -- the same by another function that gives the same bytes of the input
 pub appends-as : {input output : List ℕ} (made other : List ℕ → List ℕ) {old new : Files} → ((file : List ℕ) → Holds old input file → made file ≡ other file) → Appends input output made old new → Appends input output other old new
@@ -65,3 +67,12 @@ written-is laid file s info placed within plan is = at (slice_get_cases s.frames
 pub file-is : (chosen : Chosen) (placed : List Placed) (file : List ℕ) (s : SurveyFields) → placed ≡ plan_of chosen s → file_laid (laid_by chosen placed) file s ≡ chosen_file chosen file s
 unfolding chosen_file
 file-is chosen placed file s plan = ap (λ l. file_laid (laid_by chosen l) file s) plan
+
+-- and they can be written
+pub selected-writable : (s : SurveyFields) (selection : Selection) → IsSelected s selection → IsWritable s selection
+selected-writable s selection selected = record {
+  some = selected.some;
+  within = selected.within;
+  fits = selected.fits;
+  info = λ file is. subst (λ placed. IsLaidInfo (laid_by (chosen_in selection.chosen) placed) file s selection.planned.info.items) (sym selected.plan) (selected.info file is);
+}

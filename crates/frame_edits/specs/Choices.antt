@@ -1,18 +1,16 @@
 -- Both commands as one: what they choose, and what is made ready for that.
-use Rattle.std.specs.Prelude.{◌≡◌, ℕ, Bool, List, [], Ok}
-use Rattle.bit_fields.specs.Bits.{AreBytes}
-use Rattle.outside.specs.Files.{Files, Holds, IsThere}
-use Rattle.outside.specs.Feed.{IsFedFrom}
+use Rattle.std.specs.Prelude.{◌≡◌, ℕ, Bool, List, Ok}
+use Rattle.outside.specs.Files.{Files, Holds}
 use Rattle.cue_sheet.specs.Places.{IsPlace}
+use Rattle.slot_plan.specs.Plans.{entries}
 use Rattle.sync_survey.specs.Faults.{tells}
-use Rattle.sync_survey.specs.Survey.{survey_of, IsLaidOut}
 use Rattle.commands.specs.declared.fault.Refusal.{Refusal}
-use Rattle.commands.specs.One.{most_frames, Task}
+use Rattle.commands.specs.One.{Task}
 use Rattle.frame_edits.specs.declared.choice.Choice.{Choice}
 use Rattle.frame_edits.specs.declared.choice.Choice.TheVariants.{Between, All}
-use Rattle.frame_edits.specs.declared.edit.Work.{Work}
-use Rattle.frame_edits.specs.Chosen.{Choosing, chosen_in, cut_choice, all_choice, cut_refuses, pack_refuses, chosen_task}
-use Rattle.frame_edits.specs.Selected.{IsSelected}
+use Rattle.frame_edits.specs.declared.work.Work.{Work}
+use Rattle.frame_edits.specs.Chosen.{Choosing, chosen_in, plan_of, cut_choice, all_choice, cut_refuses, pack_refuses, chosen_task}
+use Rattle.frame_edits.specs.Layable.{IsLayable}
 
 abbrev pub choosing_by : Choice → Choosing
 choosing_by (Between from to slots) = cut_choice from.now to.now slots
@@ -30,13 +28,8 @@ abbrev pub IsChoice : Choice → Type 0
 IsChoice (Between from to slots) = IsPlace from.now × IsPlace to.now
 IsChoice (All slots) = Unit {0}
 
--- The input is there and was surveyed, these frames are chosen and have their plan, nothing is held of any file, and nothing waits.
+-- All is ready for the pass, and these frames are chosen and have their plan.
 pub record IsReady (input : List ℕ) (choose : Choosing) (work : Work) (files : Files) : Type 0 where
-  pub there : IsThere files input
-  pub laid : IsLaidOut (tells work.survey)
-  pub surveyed : (bytes : List ℕ) → Holds files input bytes → survey_of bytes most_frames ≡ Ok (tells work.survey)
-  pub octets : (bytes : List ℕ) → Holds files input bytes → AreBytes bytes
+  pub layable : IsLayable input work files
   pub chosen : (bytes : List ℕ) → Holds files input bytes → choose bytes (tells work.survey) ≡ Ok (chosen_in work.selection.chosen)
-  pub selected : IsSelected (tells work.survey) work.selection
-  pub fed : (others : Files) (name : List ℕ) → IsFedFrom work.buffers.feed others name
-  pub unsent : work.buffers.waiting ≡ []
+  pub plan : entries work.selection.planned.plan ≡ plan_of (chosen_in work.selection.chosen) (tells work.survey)

@@ -2,4 +2,5 @@
 pub mod Laid
 pub mod Chosen
 pub mod Selected
+pub mod Layable
 pub mod Choices

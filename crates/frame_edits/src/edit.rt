@@ -1,31 +1,20 @@
 //! The commands of this crate as cases of the one body.
-ghost use Rattle.std.specs.Prelude.{◌≡◌};
-ghost use Rattle.sync_survey.specs.Faults.{tells};
 ghost use Rattle.frame_edits.specs.Choices.{choosing_by, task_of, IsChoice, IsReady as IsReadyWork};
-ghost use Rattle.frame_edits.specs.Selected.{selected_file};
+ghost use Rattle.frame_edits.specs.Layable.{work_file};
 
 use crate::choice::Choice;
 use crate::plans::{Selection, plan_file};
-use crate::writing::write_selection;
+use crate::work::{Work, write_work};
 use commands::{Edit, EditFault, survey_input};
-use laying::{Buffers, Relay};
-use outside::{Folder, Pass, PassFault};
+use laying::Buffers;
+use outside::{Folder, PassFault};
 use std::alloc::Global;
-use sync_survey::Survey;
 
 /// An input of which frames are chosen.
 #[derive(Clone, Copy)]
 pub struct FrameEdit<'a> {
     pub input: &'a str,
     pub choice: Choice<'a>,
-}
-
-/// What is known of the input, the chosen frames with their plan, and the memory of the pass.
-#[derive(Drop)]
-pub struct Work {
-    survey: Survey,
-    selection: Selection,
-    buffers: Buffers,
 }
 
 impl<'a> Edit for FrameEdit<'a> {
@@ -35,7 +24,7 @@ impl<'a> Edit for FrameEdit<'a> {
 
     ghost IsLegal = { λ edit. IsChoice edit.choice };
 
-    ghost file_of = { λ work. selected_file (tells work.survey) work.selection };
+    ghost file_of = { λ work. work_file work };
 
     ghost IsReady = { λ edit work files.
         IsReadyWork edit.input.now (choosing_by edit.choice) work files };
@@ -62,16 +51,6 @@ impl<'a> Edit for FrameEdit<'a> {
         output: &str,
         work: &mut Work,
     ) -> Result<(), PassFault> {
-        let Work {
-            survey,
-            selection,
-            buffers,
-        } = work;
-        let pass = Pass {
-            input: self.input,
-            output,
-            length: survey.length(),
-        };
-        write_selection(folder, &Relay { pass, survey }, selection, buffers)
+        write_work(folder, self.input, output, work)
     }
 }

@@ -32,7 +32,7 @@ use Rattle.packing.specs.Rules.{unless_fault, limited_by, limited}
 same_count : (n : ℕ) → (n == n) ≡ false → ⊥
 same_count n is = search rules
 
-few-rows : (file : List ℕ) (head : Option Head) (class : ClassFields) (allowed : ℕ) (rows : List Row) → AreSound file head class allowed rows → length rows ≤ allowed
+pub few-rows : (file : List ℕ) (head : Option Head) (class : ClassFields) (allowed : ℕ) (rows : List Row) → AreSound file head class allowed rows → length rows ≤ allowed
 few-rows file head class allowed rows sound =
     elim (slice_get_cases rows allowed).1 as (λ _. length rows ≤ allowed) [
       | inl found ↦ absurd (same_count allowed (sound allowed found.0 found.2).few)

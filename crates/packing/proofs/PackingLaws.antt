@@ -27,9 +27,10 @@ use Rattle.frame_edits.specs.Laid.{Laid, file_laid, stream_laid}
 use Rattle.frame_edits.specs.Chosen.{Chosen, all_choice, laid_by}
 use Rattle.frame_edits.proofs.ChosenLaws.{all_late, all_right}
 use Rattle.frame_edits.proofs.LaidLaws.{laid-holds}
-use Rattle.packing.specs.declared.edit.Work.{Work}
+use Rattle.frame_edits.specs.declared.work.Work.{Work}
+use Rattle.frame_edits.specs.Layable.{work_file}
 use Rattle.packing.specs.Packing.{Planning, needs_of, laid_as, packed, packing, stream_with, stream_by, packed_stream, packed_task, IsPlanFault}
-use Rattle.packing.specs.Ready.{IsReady, packed_file}
+use Rattle.packing.specs.Ready.{IsReady}
 
 -- a planner whose refusals come once memory was taken, and by whose plans frames can be laid
 pub record IsPlanning (plan : Planning) : Type 0 where
@@ -75,9 +76,9 @@ module _ (plan : Planning) (is_planning : IsPlanning plan) where
   pub packed_proper : (refuses : Refusal → Bool) (input : List ℕ) → IsProper (packed_task plan refuses input)
   packed_proper refuses input = file_proper (packing plan) (packed_stream plan) packing_proper refuses input
 
-pub work_makes : (plan : Planning) (refuses : Refusal → Bool) (input : List ℕ) (work : Work) (files : Files) → IsReady input plan work files → IsMaking (packed_task plan refuses input) (packed_file work) files
+pub work_makes : (plan : Planning) (refuses : Refusal → Bool) (input : List ℕ) (work : Work) (files : Files) → IsReady input plan work files → IsMaking (packed_task plan refuses input) (work_file work) files
 work_makes plan refuses input work files ready =
-    file_makes (packing plan) (packed_stream plan) refuses input files (packed_file work) (tells work.survey) ready.there ready.surveyed ready.octets
+    file_makes (packing plan) (packed_stream plan) refuses input files (work_file work) (tells work.survey) ready.layable.there ready.layable.surveyed ready.layable.octets
     (λ bytes holds. ap (λ r. then_made r (λ laid. Ok (file_laid laid bytes (tells work.survey)))) (ready.planned bytes holds))
 
 -- ---- before the output is created

@@ -10,7 +10,7 @@ use Rattle.slot_plan.specs.declared.needs.Placed.{Placed}
 use Rattle.slot_plan.specs.Parts.{Item, item_of, AreOfClass, AreOfOneClass, window_in}
 use Rattle.slot_plan.specs.Plans.{AreFor, entries}
 use Rattle.slot_plan.specs.declared.needs.Plan.{Plan}
-use Rattle.part_needs.specs.Needs.{need_of, needs_of as needs_of_parts}
+use Rattle.part_needs.specs.Needs.{Asked, need_of, asked_of, needs_of as needs_of_parts}
 use Rattle.part_needs.specs.Fit.{IsPlaced}
 use Rattle.part_needs.proofs.FitLaws.{AreKnown, part-fits, part-known}
 use Rattle.rate_plan.specs.Menus.{from_menu, items_from, AreAscending, IsMenu, IsMenuPlan, IsUnfit, Refuses}
@@ -132,6 +132,10 @@ is-menu class menu (first ∷ needs) same ascend = subst (λ c. AreAscending c m
 pub needs-one : (rows : List Row) → needs_of_parts (rows ∷ []) ≡ map need_of rows
 unfolding needs_of_parts
 needs-one rows = append-nil (map need_of rows)
+
+-- what the planner is given of one part
+pub given-needs : (rows : List Row) (parts : Asked) (needs : List Need) → parts ≡ asked_of (rows ∷ []) → needs ≡ parts.needs → needs ≡ map need_of rows
+given-needs rows parts needs same is = is ∙ ap (λ (a : Asked). a.needs) same ∙ needs-one rows
 
 module _ (class : ClassFields) (menu : List SlotFields) (needs given : List Need) (is : given ≡ needs) (same : AreOfClass class needs) (ascend : AreAscending class menu) where
   pub given-class : AreOfOneClass given

@@ -11,14 +11,15 @@ use Rattle.commands.specs.Left.{Seen, IsOfSurvey, IsOfInput}
 use Rattle.commands.specs.One.{most_frames, IsFileFault, IsInputFault, IsEarlyFault, IsOfInputs, IsMaking, IsProper}
 use Rattle.commands.proofs.InputLaws.{fault_is_input, of_survey_input, input_is_early, input_numbers}
 use Rattle.frame_edits.specs.Chosen.{Chosen, pack_refuses}
+use Rattle.frame_edits.specs.declared.work.Work.{Work}
+use Rattle.frame_edits.specs.Layable.{work_file}
 use Rattle.packing.specs.declared.mode.Rates.{Rates as BitRates}
 use Rattle.packing.specs.declared.mode.Rule.{Rule}
 use Rattle.packing.specs.declared.mode.Rule.TheVariants.{Rates, Best}
-use Rattle.packing.specs.declared.edit.Work.{Work}
 use Rattle.packing.specs.Packing.{needs_of, packing, packed_stream}
 use Rattle.packing.specs.Rates.{rates_plan, rates_refuse}
 use Rattle.packing.specs.Rules.{best_planning, plan_by, refuses_by, most_best, allowed_by, free_task, rule_task}
-use Rattle.packing.specs.Ready.{IsReady, packed_file}
+use Rattle.packing.specs.Ready.{IsReady}
 use Rattle.packing.proofs.PlanLaws.{IsFittingFew, rates-late, chosen-fitting}
 use Rattle.packing.proofs.BestLaws.{best-fitting}
 use Rattle.packing.proofs.LimitLaws.{limited-early, limited-numbers, limited-making, limited-proper, survey-early}
@@ -69,6 +70,6 @@ pub rule_survey_numbers : (rule : Rule) (input : List ℕ) (fault : EditFault) �
 rule_survey_numbers rule input fault is = rule_numbers rule input fault (of_survey_input (refuses_by rule) fault is)
 
 -- what is written
-pub rule_makes : (rule : Rule) (input : List ℕ) (work : Work) (files : Files) → IsAllowed rule input files → IsReady input (plan_by rule) work files → IsMaking (rule_task rule input) (packed_file work) files
+pub rule_makes : (rule : Rule) (input : List ℕ) (work : Work) (files : Files) → IsAllowed rule input files → IsReady input (plan_by rule) work files → IsMaking (rule_task rule input) (work_file work) files
 rule_makes (Rates rates) input work files sound ready = work_makes (rates_plan rates) (rates_refuse rates) input work files ready
-rule_makes Best input work files sound ready = limited-making most_best (free_task Best input) (packed_file work) files sound (work_makes best_planning pack_refuses input work files ready)
+rule_makes Best input work files sound ready = limited-making most_best (free_task Best input) (work_file work) files sound (work_makes best_planning pack_refuses input work files ready)

@@ -1,27 +1,13 @@
 -- What is made ready before the output is created.
-use Rattle.std.specs.Prelude.{◌≡◌, ℕ, List, [], Ok}
-use Rattle.bit_fields.specs.Bits.{AreBytes}
-use Rattle.outside.specs.Files.{Files, Holds, IsThere}
-use Rattle.outside.specs.Feed.{IsFedFrom}
+use Rattle.std.specs.Prelude.{◌≡◌, ℕ, List, Ok}
+use Rattle.outside.specs.Files.{Files, Holds}
 use Rattle.sync_survey.specs.Faults.{tells}
-use Rattle.sync_survey.specs.Survey.{survey_of, IsLaidOut}
-use Rattle.commands.specs.One.{most_frames}
-use Rattle.frame_edits.specs.Laid.{file_laid}
-use Rattle.frame_edits.specs.Selected.{laid_in, IsWritable}
-use Rattle.packing.specs.declared.edit.Work.{Work}
+use Rattle.frame_edits.specs.declared.work.Work.{Work}
+use Rattle.frame_edits.specs.Layable.{IsLayable}
+use Rattle.frame_edits.specs.Selected.{laid_in}
 use Rattle.packing.specs.Packing.{Planning, packed}
 
--- The input is there and was surveyed, all its frames have their plan, nothing is held of any file, and nothing waits.
+-- All is ready for the pass, and all frames have their plan.
 pub record IsReady (input : List ℕ) (plan : Planning) (work : Work) (files : Files) : Type 0 where
-  pub there : IsThere files input
-  pub laid : IsLaidOut (tells work.survey)
-  pub surveyed : (bytes : List ℕ) → Holds files input bytes → survey_of bytes most_frames ≡ Ok (tells work.survey)
-  pub octets : (bytes : List ℕ) → Holds files input bytes → AreBytes bytes
+  pub layable : IsLayable input work files
   pub planned : (bytes : List ℕ) → Holds files input bytes → packed plan bytes (tells work.survey) ≡ Ok (laid_in work.selection)
-  pub writable : IsWritable (tells work.survey) work.selection
-  pub fed : (others : Files) (name : List ℕ) → IsFedFrom work.buffers.feed others name
-  pub unsent : work.buffers.waiting ≡ []
-
--- the output
-abbrev pub packed_file : Work → List ℕ → List ℕ
-packed_file work file = file_laid (laid_in work.selection) file (tells work.survey)

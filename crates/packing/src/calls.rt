@@ -1,10 +1,11 @@
 //! The command `pack` over a folder, in each of its modes.
-ghost use Rattle.std.specs.Prelude.{◌≡◌, ◌↔◌, ℕ, Some, IfErr, OnOk, IsErrOf};
+ghost use Rattle.std.specs.Prelude.{◌≡◌, ◌↔◌, ℕ, List, Some, None, IfSome, IfErr, OnOk, IsErrOf};
 ghost use Rattle.outside.specs.Counts.{NoneFell};
 ghost use Rattle.commands.specs.Command.{HoldsStreams, clash_of};
 ghost use Rattle.commands.specs.Left.{seen, IsDone, Leaves, HasNumbers};
 ghost use Rattle.commands.specs.One.{one_command};
-ghost use Rattle.packing.specs.Modes.{pack_mode_command};
+ghost use Rattle.pack_mode.specs.declared.mode.PackMode.TheVariants.{Least};
+ghost use Rattle.packing.specs.Modes.{pack_task, pack_mode_command};
 ghost use Rattle.packing.specs.Rules.{rule_task};
 
 use crate::edit::PackEdit;
@@ -40,12 +41,25 @@ fn pack_by<D: Folder>(
     make_one(alloc, folder, &PackEdit { input, rule }, output)
 }
 
-/// Writes the output, which is all frames of the input, each from the first on with the lowest bit rate and padding that the
-/// mode allows and with which the main data of all later frames still have room (ISO/IEC 11172-3, 2.4.2.7): the input's ID3v2
-/// blocks before its first frame, an Info frame with the quality and the extension of the input's head, the frames, and all
-/// other blocks. A lead-in, one silent frame, comes before them where the main data have no room without it. With
-/// `PackMode::Best` the frames have the bit rates and padding with which they take the fewest bytes in all; of several such
-/// lists of slots, those of the first in the order of their areas.
+/// The rule of a mode; `PackMode::Least` has none.
+fn rule_of(mode: &PackMode) -> Option<Rule>
+    ensures least { result ≡ None → mode.now ≡ Least }
+    ensures rule { IfSome result (λ rule. (input : List ℕ)
+        → pack_task mode.now input ≡ rule_task rule input) }
+{
+    match *mode {
+        PackMode::Least => None,
+        PackMode::Best => Some(Rule::Best),
+        PackMode::Constant(rate) => Some(Rule::Rates(Rates::Only(rate))),
+        PackMode::Floor(rate) => Some(Rule::Rates(Rates::From(rate))),
+    }
+}
+
+/// Writes the output, which is all frames of the input, each with the least bit rate and padding that the mode allows and with
+/// which all main data have room (ISO/IEC 11172-3, 2.4.2.7): its ID3v2 blocks that are in front of the first frame, an
+/// Info frame with the quality and extension of the input's, the frames, and all other blocks. A lead-in, one empty frame,
+/// is in front where the main data have no room without it. With `PackMode::Best` the frames have the bit rates and
+/// padding with which they take the fewest bytes in all, and of several such lists those of the first in the order of their areas.
 ///
 /// # Errors
 /// In this order: `EqualNames(0)` where the names are equal, byte for byte; `Input(0, ..)` with the fault of the survey of
@@ -80,16 +94,8 @@ pub fn pack_with<D: Folder>(
         (D.files folder.old)) }
     ensures counts { NoneFell (D.counts folder.old) (D.counts folder.new) }
 {
-    match *mode {
-        PackMode::Least => pack(alloc, folder, input, output),
-        PackMode::Best => pack_by(alloc, folder, input, output, Rule::Best),
-        PackMode::Constant(rate) => {
-            let rule = Rule::Rates(Rates::Only(rate));
-            pack_by(alloc, folder, input, output, rule)
-        }
-        PackMode::Floor(rate) => {
-            let rule = Rule::Rates(Rates::From(rate));
-            pack_by(alloc, folder, input, output, rule)
-        }
+    match rule_of(mode) {
+        None => pack(alloc, folder, input, output),
+        Some(rule) => pack_by(alloc, folder, input, output, rule),
     }
 }

@@ -1,30 +1,22 @@
 //! Packing by a rule as a case of the one body.
 ghost use Rattle.packing.specs.Rules.{plan_by, rule_task};
-ghost use Rattle.packing.specs.Ready.{IsReady as IsReadyWork, packed_file};
+ghost use Rattle.frame_edits.specs.Layable.{work_file};
+ghost use Rattle.packing.specs.Ready.{IsReady as IsReadyWork};
 
 use crate::inputs::survey_packed;
 use crate::mode::Rule;
 use crate::plans::plan_packed;
 use commands::{Edit, EditFault};
-use frame_edits::{Selection, Slots, all_choice, write_laid};
-use laying::{Buffers, Relay};
-use outside::{Folder, Pass, PassFault};
+use frame_edits::{Selection, Slots, Work, all_choice, write_work};
+use laying::Buffers;
+use outside::{Folder, PassFault};
 use std::alloc::Global;
-use sync_survey::Survey;
 
 /// An input that is packed by a rule.
 #[derive(Clone, Copy)]
 pub struct PackEdit<'a> {
     pub input: &'a str,
     pub rule: Rule,
-}
-
-/// What is known of the input, all its frames with their plan, and the memory of the pass.
-#[derive(Drop)]
-pub struct Work {
-    survey: Survey,
-    selection: Selection,
-    buffers: Buffers,
 }
 
 impl<'a> Edit for PackEdit<'a> {
@@ -34,7 +26,7 @@ impl<'a> Edit for PackEdit<'a> {
 
     ghost IsLegal = { λ edit. Unit {0} };
 
-    ghost file_of = { λ work. packed_file work };
+    ghost file_of = { λ work. work_file work };
 
     ghost IsReady = { λ edit work files.
         IsReadyWork edit.input.now (plan_by edit.rule) work files };
@@ -61,16 +53,6 @@ impl<'a> Edit for PackEdit<'a> {
         output: &str,
         work: &mut Work,
     ) -> Result<(), PassFault> {
-        let Work {
-            survey,
-            selection,
-            buffers,
-        } = work;
-        let pass = Pass {
-            input: self.input,
-            output,
-            length: survey.length(),
-        };
-        write_laid(folder, &Relay { pass, survey }, selection, buffers)
+        write_work(folder, self.input, output, work)
     }
 }

@@ -10,7 +10,7 @@ mod mode;
 mod plans;
 
 pub use calls::pack_with;
-pub use edit::{PackEdit, Work};
+pub use edit::PackEdit;
 pub use laws::floors_fit;
 pub use mode::{Rates, Rule};
 pub use pack_mode::PackMode;

@@ -18,62 +18,41 @@ use Rattle.frame_edits.proofs.ChosenLaws.{rows-fit, plan_same, plan_fits}
 use Rattle.frame_edits.proofs.plans.plan_chosen.Goals as goal
 
 module _ {E : Type 0} (chosen : Chosen) (s : SurveyFields) (placed : IsPlaced s) (some : chosen.from < chosen.to) (within : chosen.to ≤ length s.frames) where
-  abbrev Answers : (HeaderFields → List SlotFields) → Result Plan E → Type 0
-  Answers choices r =
-      IfOk r (λ plan. IsPlan (window_in (asked_of (chosen_rows chosen s ∷ [])).needs) choices (parts_of (asked_of (chosen_rows chosen s ∷ [])).needs (asked_of (chosen_rows chosen s ∷ [])).places) (entries plan))
-
-  same_by : (r : Result Plan E) → Answers (choices_by chosen.slots) r → IfOk r (λ plan. entries plan ≡ plan_of chosen s)
-  same_by (Ok plan) is = plan_same chosen s placed some within (entries plan) is
-  same_by (Err e) is = tt
-
   abbrev AnswersOf : List Row → (HeaderFields → List SlotFields) → Result Plan E → Type 0
   AnswersOf rows choices r = IfOk r (λ plan. IsPlan (window_in (asked_of (slice_range rows chosen.from chosen.to ∷ [])).needs) choices
       (parts_of (asked_of (slice_range rows chosen.from chosen.to ∷ [])).needs (asked_of (slice_range rows chosen.from chosen.to ∷ [])).places) (entries plan))
 
   -- by the rows and the policy of the code
-  by_rows : (rows : List Row) → rows ≡ s.frames → (slots : Slots) → chosen.slots ≡ slots → (r : Result Plan E) → AnswersOf rows (choices_by slots) r → Answers (choices_by chosen.slots) r
-  by_rows rows same slots is r h = subst (λ (b : Slots). Answers (choices_by b) r) (sym is) (subst (λ (l : List Row). AnswersOf l (choices_by slots) r) same h)
+  module _ (rows : List Row) (same : rows ≡ s.frames) (slots : Slots) (is : chosen.slots ≡ slots) where
+    by_rows : (r : Result Plan E) → AnswersOf rows (choices_by slots) r → AnswersOf s.frames (choices_by chosen.slots) r
+    by_rows r h = subst (λ (b : Slots). AnswersOf s.frames (choices_by b) r) (sym is) (subst (λ (l : List Row). AnswersOf l (choices_by slots) r) same h)
 
-  fits_by : (r : Result Plan E) → Answers (choices_by chosen.slots) r → IfOk r (λ plan. FitsFrom (window_of s.class.version) 0 (map need_of (chosen_rows chosen s)) (entries plan))
-  fits_by (Ok plan) is = plan_fits chosen s placed some within (entries plan) is
-  fits_by (Err e) is = tt
+    same_by : (r : Result Plan E) → AnswersOf rows (choices_by slots) r → IfOk r (λ plan. entries plan ≡ plan_of chosen s)
+    same_by (Ok plan) h = plan_same chosen s placed some within (entries plan) (by_rows (Ok plan) h)
+    same_by (Err e) h = tt
+
+    fits_by : (r : Result Plan E) → AnswersOf rows (choices_by slots) r → IfOk r (λ plan. FitsFrom (window_of s.class.version) 0 (map need_of (chosen_rows chosen s)) (entries plan))
+    fits_by (Ok plan) h = plan_fits chosen s placed some within (entries plan) (by_rows (Ok plan) h)
+    fits_by (Err e) h = tt
+
+-- they can be planned
+can_be : (chosen : Chosen) (s : SurveyFields) → IsPlaced s → chosen.from < chosen.to → chosen.to ≤ length s.frames → (rows : List Row) → rows ≡ s.frames → CanBePlanned (asked_of (slice_range rows chosen.from chosen.to ∷ []))
+can_be chosen s placed some within rows same = subst (λ (l : List Row). CanBePlanned (asked_of (slice_range l chosen.from chosen.to ∷ []))) (sym same) (rows-fit chosen s placed some within).planned
 
 pub plan_part-requires-clause-planned : goal.plan_part-requires-clause-planned
-plan_part-requires-clause-planned c =
-    let s = tells c.args.survey.now in
-    subst (λ (l : List Row). CanBePlanned (asked_of (slice_range l c.args.chosen.now.from c.args.chosen.now.to ∷ []))) (sym c.frames.ensures)
-    (rows-fit (chosen_in c.args.chosen.now) s c.requires.laid.placed c.requires.some c.requires.within).planned
+plan_part-requires-clause-planned c = can_be (chosen_in c.args.chosen.now) (tells c.args.survey.now) c.requires.laid.placed c.requires.some c.requires.within c.frames.result.now c.frames.ensures
 
 pub returns-in-Own-clause-plan : goal.returns-in-Own-clause-plan
-returns-in-Own-clause-plan c =
-    let s = tells c.args.survey.now in
-    let chosen = chosen_in c.args.chosen.now in
-    same_by chosen s c.requires.laid.placed c.requires.some c.requires.within c.plan_part.result
-    (by_rows chosen s c.requires.laid.placed c.requires.some c.requires.within c.frames.result.now c.frames.ensures Own c.in-Own.is c.plan_part.result c.plan_part.ensures)
+returns-in-Own-clause-plan c = same_by (chosen_in c.args.chosen.now) (tells c.args.survey.now) c.requires.laid.placed c.requires.some c.requires.within c.frames.result.now c.frames.ensures Own c.in-Own.is c.plan_part.result c.plan_part.ensures
 
 pub returns-in-Own-clause-fits : goal.returns-in-Own-clause-fits
-returns-in-Own-clause-fits c =
-    let s = tells c.args.survey.now in
-    let chosen = chosen_in c.args.chosen.now in
-    fits_by chosen s c.requires.laid.placed c.requires.some c.requires.within c.plan_part.result
-    (by_rows chosen s c.requires.laid.placed c.requires.some c.requires.within c.frames.result.now c.frames.ensures Own c.in-Own.is c.plan_part.result c.plan_part.ensures)
+returns-in-Own-clause-fits c = fits_by (chosen_in c.args.chosen.now) (tells c.args.survey.now) c.requires.laid.placed c.requires.some c.requires.within c.frames.result.now c.frames.ensures Own c.in-Own.is c.plan_part.result c.plan_part.ensures
 
 pub plan_part-requires-in-Least-clause-planned : goal.plan_part-requires-in-Least-clause-planned
-plan_part-requires-in-Least-clause-planned c =
-    let s = tells c.args.survey.now in
-    subst (λ (l : List Row). CanBePlanned (asked_of (slice_range l c.args.chosen.now.from c.args.chosen.now.to ∷ []))) (sym c.frames.ensures)
-    (rows-fit (chosen_in c.args.chosen.now) s c.requires.laid.placed c.requires.some c.requires.within).planned
+plan_part-requires-in-Least-clause-planned c = can_be (chosen_in c.args.chosen.now) (tells c.args.survey.now) c.requires.laid.placed c.requires.some c.requires.within c.frames.result.now c.frames.ensures
 
 pub returns-in-Least-clause-plan : goal.returns-in-Least-clause-plan
-returns-in-Least-clause-plan c =
-    let s = tells c.args.survey.now in
-    let chosen = chosen_in c.args.chosen.now in
-    same_by chosen s c.requires.laid.placed c.requires.some c.requires.within c.plan_part-in-Least.result
-    (by_rows chosen s c.requires.laid.placed c.requires.some c.requires.within c.frames.result.now c.frames.ensures Least c.in-Least.is c.plan_part-in-Least.result c.plan_part-in-Least.ensures)
+returns-in-Least-clause-plan c = same_by (chosen_in c.args.chosen.now) (tells c.args.survey.now) c.requires.laid.placed c.requires.some c.requires.within c.frames.result.now c.frames.ensures Least c.in-Least.is c.plan_part-in-Least.result c.plan_part-in-Least.ensures
 
 pub returns-in-Least-clause-fits : goal.returns-in-Least-clause-fits
-returns-in-Least-clause-fits c =
-    let s = tells c.args.survey.now in
-    let chosen = chosen_in c.args.chosen.now in
-    fits_by chosen s c.requires.laid.placed c.requires.some c.requires.within c.plan_part-in-Least.result
-    (by_rows chosen s c.requires.laid.placed c.requires.some c.requires.within c.frames.result.now c.frames.ensures Least c.in-Least.is c.plan_part-in-Least.result c.plan_part-in-Least.ensures)
+returns-in-Least-clause-fits c = fits_by (chosen_in c.args.chosen.now) (tells c.args.survey.now) c.requires.laid.placed c.requires.some c.requires.within c.frames.result.now c.frames.ensures Least c.in-Least.is c.plan_part-in-Least.result c.plan_part-in-Least.ensures

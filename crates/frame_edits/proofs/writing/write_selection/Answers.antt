@@ -1,25 +1,14 @@
 -- The plan is that of the chosen frames.
-use Rattle.std.proofs.Common.{sym, subst}
 use Rattle.std.proofs.lemmas.Result.{on_ok_weaker, on_err_weaker}
 use Rattle.slot_plan.specs.Plans.{entries}
 use Rattle.sync_survey.specs.Faults.{tells}
-use Rattle.frame_edits.specs.Laid.{IsLaidInfo}
-use Rattle.frame_edits.specs.Chosen.{chosen_in, laid_by}
+use Rattle.frame_edits.specs.Chosen.{chosen_in}
 use Rattle.frame_edits.specs.Selected.{selected_file}
-use Rattle.frame_edits.proofs.LaidPass.{appends-as, appends-as_prefix, file-is}
+use Rattle.frame_edits.proofs.LaidPass.{appends-as, appends-as_prefix, file-is, selected-writable}
 use Rattle.frame_edits.proofs.writing.write_selection.Goals as goal
 
 pub write_laid-requires-clause-writable : goal.write_laid-requires-clause-writable
-write_laid-requires-clause-writable g c =
-    let s = tells c.args.relay.now.survey.now in
-    let selection = c.args.selection.now in
-    let selected = c.requires.selected in
-    record {
-      some = selected.some;
-      within = selected.within;
-      fits = selected.fits;
-      info = λ file is. subst (λ placed. IsLaidInfo (laid_by (chosen_in selection.chosen) placed) file s selection.planned.info.items) (sym selected.plan) (selected.info file is);
-    }
+write_laid-requires-clause-writable g c = selected-writable (tells c.args.relay.now.survey.now) c.args.selection.now c.requires.selected
 
 pub returns-clause-written : goal.returns-clause-written
 returns-clause-written g c =

@@ -10,6 +10,7 @@ use Rattle.commands.proofs.InputLaws.{input_is_early, input_numbers, memory_is_i
 use Rattle.frame_edits.specs.Chosen.{choosing, stream_chosen}
 use Rattle.frame_edits.specs.Choices.{choosing_by, refused_by, task_of}
 use Rattle.frame_edits.proofs.EditLaws.{edit_makes}
+use Rattle.frame_edits.proofs.LaidPass.{selected-writable}
 use Rattle.frame_edits.proofs.edit.FrameEditEdit.prepare.Given as given
 use Rattle.frame_edits.proofs.edit.FrameEditEdit.prepare.Goals as goal
 use Rattle.frame_edits.proofs.edit.FrameEditEdit.prepare.Goals.{In_ok-chosen}
@@ -46,17 +47,21 @@ returns-in_err-buffers-clause-refused g c =
     let p = err_from_is_err_and c.from_residual-in_err-buffers.result c.from_residual-in_err-buffers.ensures.1 in
     rw (p.1, p.2) (forgot g (goal.at.returns-in_err-buffers-clause-refused g c).In_ok-chosen)
 
+pub returns-clause-ready : goal.returns-clause-ready
+returns-clause-ready g c = record {
+  layable = record {
+    there = c.in_ok-survey.ensures.there;
+    laid = c.in_ok-survey.ensures.laid;
+    surveyed = c.in_ok-survey.ensures.surveyed;
+    octets = c.in_ok-survey.ensures.octets;
+    writable = selected-writable (tells c.in_ok-survey.survey) (record { chosen = c.in_ok-chosen.chosen; planned = c.in_ok-planned.planned })
+        (record { some = c.in_ok-chosen.ensures.some; within = c.in_ok-chosen.ensures.within; plan = c.in_ok-planned.ensures.plan; fits = c.in_ok-planned.ensures.fits; info = c.in_ok-planned.ensures.info });
+    fed = c.in_ok-buffers.ensures.fed;
+    unsent = c.in_ok-buffers.ensures.none;
+  };
+  chosen = λ bytes holds. c.in_ok-chosen.ensures.chosen bytes (subst (λ f. Holds f c.args.self.now.input.now bytes) (sym c.survey_input.ensures.files) holds);
+  plan = c.in_ok-planned.ensures.plan;
+}
+
 pub returns-clause-making : goal.returns-clause-making
-returns-clause-making g c =
-    let edit = c.args.self.now in
-    let chosen = c.in_ok-chosen.chosen in
-    edit_makes edit.choice edit.input.now (record { survey = c.in_ok-survey.survey; selection = record { chosen = chosen; planned = c.in_ok-planned.planned }; buffers = c.in_ok-buffers.buffers }) (g.D.Folder.files c.args.folder.now) (record {
-      there = c.in_ok-survey.ensures.there;
-      laid = c.in_ok-survey.ensures.laid;
-      surveyed = c.in_ok-survey.ensures.surveyed;
-      octets = c.in_ok-survey.ensures.octets;
-      chosen = λ bytes holds. c.in_ok-chosen.ensures.chosen bytes (subst (λ f. Holds f edit.input.now bytes) (sym c.survey_input.ensures.files) holds);
-      selected = record { some = c.in_ok-chosen.ensures.some; within = c.in_ok-chosen.ensures.within; plan = c.in_ok-planned.ensures.plan; fits = c.in_ok-planned.ensures.fits; info = c.in_ok-planned.ensures.info };
-      fed = c.in_ok-buffers.ensures.fed;
-      unsent = c.in_ok-buffers.ensures.none;
-    })
+returns-clause-making g c = edit_makes c.args.self.now.choice c.args.self.now.input.now _ (g.D.Folder.files c.args.folder.now) (returns-clause-ready g c)

@@ -61,37 +61,22 @@ returns-in_err-buffers-clause-refused g c =
 
 pub returns-clause-ready : goal.returns-clause-ready
 returns-clause-ready g c =
-    let edit = c.args.self.now in
     let chosen = c.in_ok-chosen.chosen in
     record {
-      there = c.in_ok-survey.ensures.there;
-      laid = c.in_ok-survey.ensures.laid;
-      surveyed = c.in_ok-survey.ensures.surveyed;
-      octets = c.in_ok-survey.ensures.octets;
+      layable = record {
+        there = c.in_ok-survey.ensures.there;
+        laid = c.in_ok-survey.ensures.laid;
+        surveyed = c.in_ok-survey.ensures.surveyed;
+        octets = c.in_ok-survey.ensures.octets;
+        writable = record { some = c.in_ok-chosen.ensures.some; within = c.in_ok-chosen.ensures.within; fits = c.in_ok-planned.ensures.fits.fits; info = c.in_ok-planned.ensures.info };
+        fed = c.in_ok-buffers.ensures.fed;
+        unsent = c.in_ok-buffers.ensures.none;
+      };
       planned = λ bytes holds.
-          planned_is (plan_by edit.rule) bytes (tells c.in_ok-survey.survey) (chosen_in chosen) (entries c.in_ok-planned.planned.plan) (c.in_ok-chosen.ensures.chosen bytes (subst (λ f. Holds f edit.input.now bytes) (sym c.survey_packed.ensures.files) holds))
-          c.in_ok-planned.ensures.plan;
-      writable = record { some = c.in_ok-chosen.ensures.some; within = c.in_ok-chosen.ensures.within; fits = c.in_ok-planned.ensures.fits.fits; info = c.in_ok-planned.ensures.info };
-      fed = c.in_ok-buffers.ensures.fed;
-      unsent = c.in_ok-buffers.ensures.none;
+          planned_is (plan_by c.args.self.now.rule) bytes (tells c.in_ok-survey.survey) (chosen_in chosen) (entries c.in_ok-planned.planned.plan)
+          (c.in_ok-chosen.ensures.chosen bytes (subst (λ f. Holds f c.args.self.now.input.now bytes) (sym c.survey_packed.ensures.files) holds)) c.in_ok-planned.ensures.plan;
     }
 
 pub returns-clause-making : goal.returns-clause-making
 returns-clause-making g c =
-    let edit = c.args.self.now in
-    let chosen = c.in_ok-chosen.chosen in
-    rule_makes edit.rule edit.input.now
-    (record { survey = c.in_ok-survey.survey; selection = record { chosen = chosen; planned = c.in_ok-planned.planned }; buffers = c.in_ok-buffers.buffers }) (g.D.Folder.files c.args.folder.now)
-    (λ file holds. (_, c.in_ok-survey.ensures.limited file holds))
-    (record {
-      there = c.in_ok-survey.ensures.there;
-      laid = c.in_ok-survey.ensures.laid;
-      surveyed = c.in_ok-survey.ensures.surveyed;
-      octets = c.in_ok-survey.ensures.octets;
-      planned = λ bytes holds.
-          planned_is (plan_by edit.rule) bytes (tells c.in_ok-survey.survey) (chosen_in chosen) (entries c.in_ok-planned.planned.plan) (c.in_ok-chosen.ensures.chosen bytes (subst (λ f. Holds f edit.input.now bytes) (sym c.survey_packed.ensures.files) holds))
-          c.in_ok-planned.ensures.plan;
-      writable = record { some = c.in_ok-chosen.ensures.some; within = c.in_ok-chosen.ensures.within; fits = c.in_ok-planned.ensures.fits.fits; info = c.in_ok-planned.ensures.info };
-      fed = c.in_ok-buffers.ensures.fed;
-      unsent = c.in_ok-buffers.ensures.none;
-    })
+    rule_makes c.args.self.now.rule c.args.self.now.input.now _ (g.D.Folder.files c.args.folder.now) (λ file holds. (_, c.in_ok-survey.ensures.limited file holds)) (returns-clause-ready g c)

@@ -1,11 +1,7 @@
--- The output was created, and the input stayed.
-use Rattle.sync_survey.specs.Faults.{tells}
-use Rattle.laying.proofs.ChosenFrames.{survey-had}
-use Rattle.commands.specs.One.{most_frames}
-use Rattle.frame_edits.proofs.LaidPass.{relay-ready}
+-- The work is ready for the pass.
 use Rattle.packing.proofs.edit.PackEditEdit.write.Goals as goal
 
-pub write_laid-requires-clause-ready : goal.write_laid-requires-clause-ready
-write_laid-requires-clause-ready g c =
+pub write_work-requires-clause-created : goal.write_work-requires-clause-created
+write_work-requires-clause-created g c =
     let old = c.requires.created in
-    relay-ready _ old.0 (g.D.Folder.files c.args.folder.now) _ c.requires.apart old.1.there old.1.laid (λ file holds. survey-had file most_frames (tells c.args.work.now.survey) (old.1.surveyed file holds)) c.length.ensures old.2 (old.1.fed _ _)
+    (old.0, old.1.layable, old.2)
