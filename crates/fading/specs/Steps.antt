@@ -1,17 +1,14 @@
 -- The steps of the fade command.
-use Rattle.std.specs.Prelude.{◌≡◌, ◌≢◌, ℕ, Bool, true, List, Some, Ok, Err}
+use Rattle.std.specs.Prelude.{◌≡◌, ◌≢◌, ℕ, Bool, true, List, Some, Err}
 use Rattle.outside.specs.Files.{Files, Holds, IsThere}
 use Rattle.sync_survey.specs.declared.survey_fault.SurveyFault.TheVariants.{Memory as NoRoom}
-use Rattle.sync_survey.specs.Faults.{SurveyFields, tells}
-use Rattle.sync_survey.specs.Survey.{survey_of, IsLaidOut}
+use Rattle.sync_survey.specs.Faults.{SurveyFields}
 use Rattle.commands.specs.declared.fault.EditFault.{EditFault}
 use Rattle.commands.specs.declared.fault.EditFault.TheVariants.{Input, Refused, Memory}
 use Rattle.commands.specs.Kinds.{HasRightNumbers}
 use Rattle.commands.specs.Left.{Why, Rejected, Missing, Unread, Shorter, Unwritten, Unsent, NoMemory, why_of, Seen}
-use Rattle.commands.specs.One.{most_frames, ReadsNothing, LosesInput}
+use Rattle.commands.specs.One.{ReadsNothing, LosesInput}
 use Rattle.commands.specs.Sheet.{MissesSheet}
-use Rattle.moved_gains.specs.Buffers.{AreFresh}
-use Rattle.fading.specs.declared.edit.Work.{Work}
 use Rattle.fading.specs.Fade.{fade_of, fade_refuses}
 
 -- the sheet is there, and what it changes in a file with this survey is refused
@@ -39,10 +36,3 @@ IsOfChange (Input place fault) = (place ≡ 1) × (fault ≢ NoRoom) × HasRight
 IsOfChange (Refused refusal) = fade_refuses refusal ≡ true
 IsOfChange Memory = Unit {0}
 IsOfChange _ = ⊥
-
--- The input is there and was surveyed, and the buffers are new.
-pub record IsReady (input : List ℕ) (work : Work) (files : Files) : Type 0 where
-  pub there : IsThere files input
-  pub laid : IsLaidOut (tells work.survey)
-  pub surveyed : (bytes : List ℕ) → Holds files input bytes → survey_of bytes most_frames ≡ Ok (tells work.survey)
-  pub fresh : (others : Files) (name : List ℕ) → AreFresh work.buffers others name

@@ -1,15 +1,13 @@
 //! The command of this crate as a case of the one body.
-ghost use Rattle.sync_survey.specs.Faults.{tells};
-ghost use Rattle.moved_gains.specs.Change.{changed, change_in};
+ghost use Rattle.gain_edits.specs.Movable.{moved_file, IsMovable};
 ghost use Rattle.fading.specs.Fade.{fade_task};
-ghost use Rattle.fading.specs.Steps.{IsReady as IsReadyWork};
 
 use crate::fade_change::fade_change;
 use commands::{Edit, EditFault, survey_input};
-use moved_gains::{Buffers, Change, write_changed};
+use gain_edits::{Work, write_work};
+use moved_gains::Buffers;
 use outside::{Folder, PassFault};
 use std::alloc::Global;
-use sync_survey::Survey;
 
 /// An input that fades, the sheet that says how, and whether a fade by this sheet is undone.
 #[derive(Clone, Copy)]
@@ -19,14 +17,6 @@ pub struct FadeEdit<'a> {
     pub back: bool,
 }
 
-/// What is known of the input, what changes in it, and the memory of the pass.
-#[derive(Drop)]
-pub struct Work {
-    survey: Survey,
-    change: Change,
-    buffers: Buffers,
-}
-
 impl<'a> Edit for FadeEdit<'a> {
     type Work = Work;
 
@@ -34,10 +24,9 @@ impl<'a> Edit for FadeEdit<'a> {
 
     ghost IsLegal = { λ edit. Unit {0} };
 
-    ghost file_of = { λ work file.
-        changed (change_in work.change (tells work.survey)) file (tells work.survey) };
+    ghost file_of = { λ work. moved_file work };
 
-    ghost IsReady = { λ edit work files. IsReadyWork edit.input.now work files };
+    ghost IsReady = { λ edit work files. IsMovable edit.input.now work files };
 
     fn clash(&self, output: &str) -> Option<u32> {
         if self.input == output {
@@ -66,11 +55,6 @@ impl<'a> Edit for FadeEdit<'a> {
         output: &str,
         work: &mut Work,
     ) -> Result<(), PassFault> {
-        let Work {
-            survey,
-            change,
-            buffers,
-        } = work;
-        write_changed(folder, self.input, output, survey, change, buffers)
+        write_work(folder, self.input, output, work)
     }
 }

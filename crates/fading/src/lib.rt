@@ -7,5 +7,5 @@ mod fade_change;
 mod laws;
 
 pub use calls::fade;
-pub use edit::{FadeEdit, Work};
+pub use edit::FadeEdit;
 pub use laws::fade_gives_back;

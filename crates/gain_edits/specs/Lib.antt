@@ -5,5 +5,6 @@ pub mod UndoItem
 pub mod Change
 pub mod Gain
 pub mod Undo
+pub mod Movable
 pub mod Changes
 pub mod GivenBack

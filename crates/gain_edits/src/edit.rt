@@ -1,28 +1,19 @@
 //! The commands of this crate as cases of the one body.
-ghost use Rattle.sync_survey.specs.Faults.{tells};
-ghost use Rattle.moved_gains.specs.Change.{changed, change_in};
+ghost use Rattle.gain_edits.specs.Movable.{moved_file};
 ghost use Rattle.gain_edits.specs.Changes.{changing_by, task_of, IsReady as IsReadyWork};
 
 use crate::changes::Changes;
+use crate::work::{Work, write_work};
 use commands::{Edit, EditFault, survey_input};
-use moved_gains::{Buffers, Change, write_changed};
+use moved_gains::Buffers;
 use outside::{Folder, PassFault};
 use std::alloc::Global;
-use sync_survey::Survey;
 
 /// An input whose gains change.
 #[derive(Clone, Copy)]
 pub struct GainEdit<'a> {
     pub input: &'a str,
     pub changes: Changes<'a>,
-}
-
-/// What is known of the input, what changes in it, and the memory of the pass.
-#[derive(Drop)]
-pub struct Work {
-    survey: Survey,
-    change: Change,
-    buffers: Buffers,
 }
 
 impl<'a> Edit for GainEdit<'a> {
@@ -32,7 +23,7 @@ impl<'a> Edit for GainEdit<'a> {
 
     ghost IsLegal = { λ edit. Unit {0} };
 
-    ghost file_of = { λ work file. changed (change_in work.change (tells work.survey)) file (tells work.survey) };
+    ghost file_of = { λ work. moved_file work };
 
     ghost IsReady = { λ edit work files.
         IsReadyWork edit.input.now (changing_by edit.changes) work files };
@@ -58,11 +49,6 @@ impl<'a> Edit for GainEdit<'a> {
         output: &str,
         work: &mut Work,
     ) -> Result<(), PassFault> {
-        let Work {
-            survey,
-            change,
-            buffers,
-        } = work;
-        write_changed(folder, self.input, output, survey, change, buffers)
+        write_work(folder, self.input, output, work)
     }
 }

@@ -10,9 +10,11 @@ mod gain_range;
 mod laws;
 mod undo_change;
 mod undo_item;
+mod work;
 
 pub use calls::{gain, undo};
 pub use changes::Changes;
-pub use edit::{GainEdit, Work};
+pub use edit::GainEdit;
 pub use gain_range::range_fault;
 pub use laws::{opposite_gives_back, undo_gives_back};
+pub use work::{Work, write_work};

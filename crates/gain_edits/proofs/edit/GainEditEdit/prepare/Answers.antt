@@ -32,15 +32,12 @@ returns-in_err-buffers-clause-refused g c =
     (memory_is_input (changing (changing_by edit.changes)) edit.input.now (seen (g.D.Folder.files c.args.folder.now) (g.D.Folder.counts c.args.folder.now)) _ (tells c.in_ok-survey.survey) c.in_ok-survey.ensures.there c.in_ok-survey.ensures.surveyed
     (ap₂ seen (c.find.ensures.files ∙ c.survey_input.ensures.files) (c.in_ok-change.ensures.done ∙ c.in_ok-survey.ensures.done))))
 
+pub returns-clause-ready : goal.returns-clause-ready
+returns-clause-ready g c = record {
+  movable = record { there = c.in_ok-survey.ensures.there; laid = c.in_ok-survey.ensures.laid; surveyed = c.in_ok-survey.ensures.surveyed; fresh = c.in_ok-buffers.ensures.fresh };
+  octets = c.in_ok-survey.ensures.octets;
+  change = λ bytes holds. c.in_ok-change.ensures.change bytes (subst (λ f. Holds f c.args.self.now.input.now bytes) (sym c.survey_input.ensures.files) holds);
+}
+
 pub returns-clause-making : goal.returns-clause-making
-returns-clause-making g c =
-    let edit = c.args.self.now in
-    let same = c.survey_input.ensures.files in
-    edit_makes edit.changes edit.input.now (record { survey = c.in_ok-survey.survey; change = c.in_ok-change.change; buffers = c.in_ok-buffers.buffers }) (g.D.Folder.files c.args.folder.now) (record {
-      there = c.in_ok-survey.ensures.there;
-      laid = c.in_ok-survey.ensures.laid;
-      surveyed = c.in_ok-survey.ensures.surveyed;
-      octets = c.in_ok-survey.ensures.octets;
-      change = λ bytes holds. c.in_ok-change.ensures.change bytes (subst (λ f. Holds f edit.input.now bytes) (sym same) holds);
-      fresh = c.in_ok-buffers.ensures.fresh;
-    })
+returns-clause-making g c = edit_makes c.args.self.now.changes c.args.self.now.input.now _ (g.D.Folder.files c.args.folder.now) (returns-clause-ready g c)

@@ -1,23 +1,7 @@
--- The output was created, and the input stayed.
-use Rattle.std.proofs.Common.{sym, subst}
-use Rattle.outside.specs.Files.{IsThere, Holds}
-use Rattle.outside.proofs.FilesLaws.{emptied_there, emptied_keeps, emptied_held_other}
+-- The work is ready for the pass.
 use Rattle.gain_edits.proofs.edit.GainEditEdit.write.Goals as goal
 
-pub write_changed-requires-clause-source : goal.write_changed-requires-clause-source
-write_changed-requires-clause-source g c =
+pub write_work-requires-clause-created : goal.write_work-requires-clause-created
+write_work-requires-clause-created g c =
     let old = c.requires.created in
-    subst (λ f. IsThere f c.args.self.now.input.now) (sym old.2) (emptied_keeps old.0 c.args.output.now c.args.self.now.input.now old.1.there)
-
-pub write_changed-requires-clause-target : goal.write_changed-requires-clause-target
-write_changed-requires-clause-target g c =
-    let old = c.requires.created in
-    subst (λ f. IsThere f c.args.output.now) (sym old.2) (emptied_there old.0 c.args.output.now)
-
-pub write_changed-requires-clause-exact : goal.write_changed-requires-clause-exact
-write_changed-requires-clause-exact g c file holds =
-    let old = c.requires.created in
-    old.1.surveyed file (emptied_held_other old.0 c.args.output.now c.args.self.now.input.now file c.requires.apart (subst (λ f. Holds f c.args.self.now.input.now file) old.2 holds))
-
-pub write_changed-requires-clause-fresh : goal.write_changed-requires-clause-fresh
-write_changed-requires-clause-fresh g c = c.requires.created.1.fresh _ _
+    (old.0, old.1.movable, old.2)
