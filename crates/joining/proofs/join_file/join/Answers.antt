@@ -5,8 +5,8 @@ use Rattle.std.proofs.lemmas.Result.{err_from_is_err_and}
 use Rattle.sync_survey.specs.Faults.{SurveyFields, tells}
 use Rattle.outside.specs.Files.{Files}
 use Rattle.commands.specs.declared.fault.EditFault.TheVariants.{Memory}
-use Rattle.commands.specs.Left.{seen}
-use Rattle.commands.specs.One.{IsMaking, NeedsMemory, first_input}
+use Rattle.commands.specs.Left.{seen, Leaves}
+use Rattle.commands.specs.One.{IsMaking, NeedsMemory, first_input, one_command}
 use Rattle.commands.proofs.MakeLaws.{clash_left, early_left, one_done, one_left, one_streams}
 use Rattle.joining.specs.Join.{joined_file, join_task}
 use Rattle.std.specs.Prelude.{IfSome}
@@ -37,32 +37,28 @@ can g c =
 pub plan_join-requires : goal.plan_join-requires
 plan_join-requires g c = subst (λ l. CanBeJoined (map tells l)) (sym c.deref.ensures.value) (can g (goal.at.plan_join-requires g c).In_ok-surveys)
 
+-- want of memory, once all inputs were surveyed
+forgot : (g : given.Over) (c : In_ok-surveys g)
+    → Leaves (one_command (join_task (map string_bytes c.args.inputs.now)) c.args.output.now) (seen (g.D.Folder.files c.args.folder.now) (g.D.Folder.counts c.args.folder.now)) (seen (g.D.Folder.files c.survey_all.new.folder) (g.D.Folder.counts c.survey_all.new.folder)) Memory
+forgot g c =
+    let names = map string_bytes c.args.inputs.now in
+    let old = seen (g.D.Folder.files c.args.folder.now) (g.D.Folder.counts c.args.folder.now) in
+    let new = seen (g.D.Folder.files c.survey_all.new.folder) (g.D.Folder.counts c.survey_all.new.folder) in
+    let found = found-input _ names [] _ old new c.in_ok-surveys.ensures.inputs (omega (arith, c.requires.some, length-map c.args.inputs.now string_bytes)) (ap₂ seen c.survey_all.ensures.files c.in_ok-surveys.ensures.done) in
+    early_left (join_task names) c.args.output.now (sym c.clash.ensures ∙ c.in_default.is) (join-late names) old new Memory (subst (λ (l : List (List ℕ)). NeedsMemory (first_input l) old new) (append-nil names) found)
+
 pub returns-in_err-planned-clause-left : goal.returns-in_err-planned-clause-left
 returns-in_err-planned-clause-left g c =
-    let names = map string_bytes c.args.inputs.now in
-    let files = g.D.Folder.files in
-    let counts = g.D.Folder.counts in
-    let old = seen (files c.args.folder.now) (counts c.args.folder.now) in
-    let new = seen (files c.survey_all.new.folder) (counts c.survey_all.new.folder) in
-    let found = found-input _ names [] _ old new c.in_ok-surveys.ensures.inputs (omega (arith, c.requires.some, length-map c.args.inputs.now string_bytes)) (ap₂ seen c.survey_all.ensures.files c.in_ok-surveys.ensures.done) in
     let p = err_from_is_err_and c.from_residual-in_err-planned.result c.from_residual-in_err-planned.ensures.1 in
-    rw (p.1, p.2)
-    (early_left (join_task names) c.args.output.now (sym c.clash.ensures ∙ c.in_default.is) (join-late names) old new Memory (subst (λ (l : List (List ℕ)). NeedsMemory (first_input l) old new) (append-nil names) found))
+    rw (p.1, p.2) (forgot g (goal.at.returns-in_err-planned-clause-left g c).In_ok-surveys)
 
 pub new_buffers-requires : goal.new_buffers-requires
 new_buffers-requires g c = subst (λ l. CanBeJoined (map tells l)) (sym c.deref-2.ensures.value) (can g (goal.at.new_buffers-requires g c).In_ok-surveys)
 
 pub returns-in_err-buffers-clause-left : goal.returns-in_err-buffers-clause-left
 returns-in_err-buffers-clause-left g c =
-    let names = map string_bytes c.args.inputs.now in
-    let files = g.D.Folder.files in
-    let counts = g.D.Folder.counts in
-    let old = seen (files c.args.folder.now) (counts c.args.folder.now) in
-    let new = seen (files c.survey_all.new.folder) (counts c.survey_all.new.folder) in
-    let found = found-input _ names [] _ old new c.in_ok-surveys.ensures.inputs (omega (arith, c.requires.some, length-map c.args.inputs.now string_bytes)) (ap₂ seen c.survey_all.ensures.files c.in_ok-surveys.ensures.done) in
     let p = err_from_is_err_and c.from_residual-in_err-buffers.result c.from_residual-in_err-buffers.ensures.1 in
-    rw (p.1, p.2)
-    (early_left (join_task names) c.args.output.now (sym c.clash.ensures ∙ c.in_default.is) (join-late names) old new Memory (subst (λ (l : List (List ℕ)). NeedsMemory (first_input l) old new) (append-nil names) found))
+    rw (p.1, p.2) (forgot g (goal.at.returns-in_err-buffers-clause-left g c).In_ok-surveys)
 
 pub write_joined-requires-clause-fresh : goal.write_joined-requires-clause-fresh
 write_joined-requires-clause-fresh g c =
