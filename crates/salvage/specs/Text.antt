@@ -1,6 +1,7 @@
 -- The text that says what is missing of a damaged file.
-use Rattle.std.specs.Prelude.{ℕ, nat_lt, if◌then◌else◌, List, [], ◌∷◌, ◌++◌, length, map, filter_map, flat_map, codes, decimal, Option, Some, None}
+use Rattle.std.specs.Prelude.{ℕ, if◌then◌else◌, List, [], ◌∷◌, ◌++◌, length, map, filter_map, flat_map, codes, decimal, Option, Some, None}
 use Rattle.std.specs.List.{enumerate_from}
+use Rattle.offset_order.specs.Order.{ordered_by}
 use Rattle.sync_survey.specs.declared.rows.Row.{Row}
 use Rattle.salvage.specs.declared.gap.Gap.{Gap}
 use Rattle.salvage.specs.Damaged.{DamagedFields}
@@ -27,14 +28,8 @@ empty_as number r = if r.lost then Some (OfEmpty number r.offset) else None
 abbrev pub empty_lines : List Row → List Line
 empty_lines rows = filter_map (λ (p : ℕ × Row). empty_as p.0 p.1) (enumerate_from 0 rows)
 
--- these lines with one more, before the first of them that isn't about an earlier offset
-abbrev pub put_line : Line → List Line → List Line
-put_line l [] = l ∷ []
-put_line l (m ∷ ms) = if nat_lt (line_place m) (line_place l) then m ∷ put_line l ms else l ∷ m ∷ ms
-
-unfoldable pub lines_in_order : List Line → List Line
-lines_in_order [] = []
-lines_in_order (l ∷ ls) = put_line l (lines_in_order ls)
+abbrev pub lines_in_order : List Line → List Line
+lines_in_order = ordered_by line_place
 
 -- how many frames, gaps and empty frames there are
 abbrev pub count_text : ℕ → ℕ → ℕ → List ℕ

@@ -3,4 +3,3 @@ pub mod OrderLaws
 pub mod HadLaws
 pub mod StreamLaws
 pub mod CommandLaws
-pub mod TextLaws

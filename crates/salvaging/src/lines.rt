@@ -1,7 +1,8 @@
 //! The lines of the text, in order of the offsets.
 ghost use Rattle.std.specs.Prelude.{◌≡◌, drop, option_map};
 ghost use Rattle.salvage.specs.Text.{line_place, line_text, count_text};
-ghost use Rattle.salvaging.specs.Ordered.{IsInOrder, emptied_left, first_of, left, line_of, lines_of};
+ghost use Rattle.offset_order.specs.Order.{first_of};
+ghost use Rattle.salvaging.specs.Ordered.{IsInOrder, emptied_left, left, line_of, lines_of};
 
 use crate::report::Report;
 use listing::Line;

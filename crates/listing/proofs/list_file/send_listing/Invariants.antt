@@ -1,14 +1,15 @@
 -- The lines of the things so far wait or were sent, and no write failed.
 use Rattle.std.proofs.Common.{◌≡◌, length}
 use Rattle.sync_survey.specs.Faults.{tells}
-use Rattle.listing.specs.Things.{left}
-use Rattle.listing.proofs.ListingLaws.{IsListedTo}
+use Rattle.listing.specs.Listing.{line_of}
+use Rattle.listing.specs.Things.{things_of, in_order, left}
+use Rattle.listing.proofs.ListingLaws.{IsSaidTo}
 use Rattle.listing.proofs.list_file.send_listing.Given as goal
 
 abbrev pub invariant-loop-thing : goal.invariant-loop-thing
 invariant-loop-thing g l = record {
   done : g.T.Sink.faults l.out ≡ g.T.Sink.faults l.initial.out;
-  listed : IsListedTo (tells l.survey) (left l.things) l.buffer (g.T.Sink.sent l.initial.out) (g.T.Sink.sent l.out);
+  listed : IsSaidTo line_of (in_order (things_of (tells l.survey))) (left l.things) l.buffer (g.T.Sink.sent l.initial.out) (g.T.Sink.sent l.out);
 }
 
 abbrev pub decreases-loop-thing : goal.decreases-loop-thing

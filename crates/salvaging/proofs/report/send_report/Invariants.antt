@@ -1,13 +1,14 @@
 -- The lines so far wait or were sent, and no write failed.
 use Rattle.std.proofs.Common.{◌≡◌, length}
-use Rattle.salvaging.specs.Ordered.{left}
-use Rattle.salvaging.proofs.TextLaws.{IsSaidTo}
+use Rattle.salvage.specs.Text.{line_text}
+use Rattle.listing.proofs.ListingLaws.{IsSaidTo}
+use Rattle.salvaging.specs.Ordered.{left, lines_of}
 use Rattle.salvaging.proofs.report.send_report.Given as goal
 
 abbrev pub invariant-loop-told : goal.invariant-loop-told
 invariant-loop-told g l = record {
   done : g.T.Sink.faults l.out ≡ g.T.Sink.faults l.initial.out;
-  said : IsSaidTo l.report l.frames (left l.lines) l.buffer (g.T.Sink.sent l.initial.out) (g.T.Sink.sent l.out);
+  said : IsSaidTo line_text (lines_of l.report) (left l.lines) l.buffer (g.T.Sink.sent l.initial.out) (g.T.Sink.sent l.out);
 }
 
 abbrev pub decreases-loop-told : goal.decreases-loop-told

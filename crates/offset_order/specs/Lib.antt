@@ -1,0 +1,2 @@
+-- What the definitions of other crates cite.
+pub mod Order

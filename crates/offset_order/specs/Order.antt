@@ -1,0 +1,35 @@
+-- Lists in order of a number that each entry has, its key.
+use Rattle.std.specs.Prelude.{ℕ, ◌≤◌, nat_lt, if◌then◌else◌, List, [], ◌∷◌, map, drop, Option, Some, None}
+
+-- an entry before the first of these that isn't before it
+abbrev pub put_by : {A : Type 0} → (A → ℕ) → A → List A → List A
+put_by key t [] = t ∷ []
+put_by key t (u ∷ us) = if nat_lt (key u) (key t) then u ∷ put_by key t us else t ∷ u ∷ us
+
+unfoldable pub ordered_by : {A : Type 0} → (A → ℕ) → List A → List A
+ordered_by key [] = []
+ordered_by key (t ∷ ts) = put_by key t (ordered_by key ts)
+
+-- each is at or after the one before it, and the first at or after a place
+abbrev pub RisesBy : {A : Type 0} → (A → ℕ) → ℕ → List A → Type 0
+RisesBy key from [] = Unit {0}
+RisesBy key from (t ∷ ts) = (from ≤ key t) × RisesBy key (key t) ts
+
+-- ---- two lists that each are in order, as one
+
+-- the entry, or before it those of the others that are before it
+abbrev pub before_by : {A : Type 0} → (A → ℕ) → A → (List A → List A) → List A → List A
+before_by key t behind [] = t ∷ behind []
+before_by key t behind (u ∷ us) = if nat_lt (key u) (key t) then u ∷ before_by key t behind us else t ∷ behind (u ∷ us)
+
+unfoldable pub merged_by : {A : Type 0} → (A → ℕ) → List A → List A → List A
+merged_by key [] us = us
+merged_by key (t ∷ ts) us = before_by key t (merged_by key ts) us
+
+-- what a walk over both has left: of the first list the entries from this place on, and these of the other
+unfoldable pub left_by : {A B : Type 0} → (A → ℕ) → (B → A) → List B → ℕ → List A → List A
+left_by key entry bs next us = merged_by key (map entry (drop next bs)) us
+
+abbrev pub first_of : {A : Type 0} → List A → Option A
+first_of [] = None
+first_of (t ∷ ts) = Some t
