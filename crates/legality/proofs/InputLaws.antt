@@ -25,6 +25,7 @@ use Rattle.sync_survey.proofs.SurveyParts.{AreSound, frames_from, surveyed-parts
 use Rattle.sync_survey.proofs.SurveyedFiles.{survey_of-parts}
 use Rattle.commands.specs.Command.{clash_from}
 use Rattle.commands.proofs.MakeLaws.{no_clash}
+use Rattle.packing.proofs.LimitLaws.{few-rows}
 use Rattle.legality.specs.Inputs.{Each, EachNext, AreApart, Input, IsInput, AreInputs, frames_of, OfOne}
 
 -- ---- lists
@@ -64,16 +65,6 @@ apart_no-clash outputs (name ∷ names) place apart =
     ∙ apart_no-clash outputs names (place + 1) (λ k d within. apart (suc k) d (omega (arith, within)))
 
 -- ---- surveys
-
-same_count : (n : ℕ) → (n == n) ≡ false → ⊥
-same_count n is = search rules
-
-few-rows : (file : List ℕ) (head : Option Head) (class : ClassFields) (allowed : ℕ) (rows : List Row) → AreSound file head class allowed rows → length rows ≤ allowed
-few-rows file head class allowed rows sound =
-    elim (slice_get_cases rows allowed).1 as (λ _. length rows ≤ allowed) [
-      | inl found ↦ absurd (same_count allowed (sound allowed found.0 found.2).few)
-      | inr past ↦ past.0
-    ]
 
 few-sound : (file : List ℕ) (head : Option Head) (class : ClassFields) (allowed other : ℕ) (rows : List Row) → length rows ≤ other → AreSound file head class allowed rows → AreSound file head class other rows
 few-sound file head class allowed other rows few sound = λ i r is.

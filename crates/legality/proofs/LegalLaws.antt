@@ -8,19 +8,20 @@ use Rattle.sync_survey.specs.declared.survey_fault.SurveyFault.{SurveyFault}
 use Rattle.sync_survey.specs.Faults.{SurveyFields}
 use Rattle.sync_survey.specs.Survey.{survey_of}
 use Rattle.commands.specs.declared.fault.EditFault.{EditFault}
-use Rattle.commands.specs.Command.{Made}
-use Rattle.commands.specs.One.{most_frames, Making, made_where, clash_in}
+use Rattle.commands.specs.Command.{Made, clash_from}
+use Rattle.commands.specs.One.{Task, one_command, most_frames, Making, made_where}
 use Rattle.commands.specs.Refusing.{then_made}
 use Rattle.commands.proofs.RefusingLaws.{then_ok}
 use Rattle.moved_gains.specs.declared.shift.Shift.{Shift}
 use Rattle.moved_gains.specs.Change.{changed}
-use Rattle.gain_edits.specs.Change.{changed_with, changing}
-use Rattle.gain_edits.specs.Gain.{gain_change, gain_command}
-use Rattle.gain_edits.specs.Undo.{undo_change, undo_command}
+use Rattle.moved_gains.specs.Gains.{steps_of}
+use Rattle.gain_edits.specs.Change.{change_task, changed_with, changing}
+use Rattle.gain_edits.specs.Gain.{gain_change, gain_refuses, gain_command}
+use Rattle.gain_edits.specs.Undo.{undo_change, steps_back, undo_refuses, undo_command}
 use Rattle.fading.specs.Fade.{fade_of, fade_change, fade_task, fade_command}
 use Rattle.frame_edits.specs.declared.chosen.Slots.{Slots}
 use Rattle.frame_edits.specs.declared.chosen.Slots.TheVariants.{Least as LeastSlots}
-use Rattle.frame_edits.specs.Chosen.{chosen_file, laid_with, choosing, cut_choice, all_choice, slots_of, cut_command}
+use Rattle.frame_edits.specs.Chosen.{chosen_file, laid_with, choosing, chosen_task, cut_choice, all_choice, cut_refuses, slots_of, cut_command}
 use Rattle.joining.specs.Join.{joined_file, parts_of, join_task, join_command}
 use Rattle.laying.specs.Relaid.{Part}
 use Rattle.listing.specs.Listing.{listing, listed_by, listed_where, list_command}
@@ -117,6 +118,23 @@ module _ (make : Making) (Choice : Input → Type 0)
       let made = makes one.input.bytes one.input.survey surveyed one.choice in
       (made.0, of-made make files input one.input.bytes one.input.survey one.is.there surveyed ∙ made.1)
 
+-- the command is done exactly with one input of which the choice is legal, where no output is one of its inputs
+module _ (files : Contents) (input : List ℕ) (others : List (List ℕ)) (output : List ℕ) (most : ℕ) (Choice : Input → Type 0) (task : Task) (names : task.inputs ≡ input ∷ others)
+    (makes : IsOne Choice files input most → (bytes : List ℕ) × (task.makes files ≡ Ok bytes)) (made : (bytes : List ℕ) → task.makes files ≡ Ok bytes → IsOne Choice files input most) where
+  abbrev IsLegalOne : Type 0
+  IsLegalOne = AreApart (input ∷ others) (output ∷ []) × IsOne Choice files input most
+
+  one-law : (Legal : Type 0) → (Legal → IsLegalOne) → (IsLegalOne → Legal) → Legal ↔ Makes (one_command task output) files
+  one-law Legal parts whole = (
+    (λ legal.
+        let one = parts legal in
+        let bytes = makes one.1 in
+        parts-make task output files bytes.0 (ap (clash_from (output ∷ []) 0) names ∙ apart_no-clash (output ∷ []) (input ∷ others) 0 one.0) bytes.1),
+    (λ done.
+        let found = makes-parts task output files done in
+        whole (no-clash_apart (output ∷ []) (input ∷ others) 0 (sym (ap (clash_from (output ∷ []) 0) names) ∙ found.0), made found.1 found.2)),
+  )
+
 -- ---- gain and undo
 
 module _ (shift : Shift) (tags : Bool) where
@@ -127,22 +145,12 @@ module _ (shift : Shift) (tags : Bool) where
   choice-gain file s surveyed legal = let change = legal-gain shift file s tags legal in (changed change.0 file s, ap (changed_with file s) change.1)
 
   gain-law : (files : Contents) (input output : List ℕ) → IsLegalFor (Gain shift tags input output) files ↔ Makes (gain_command shift tags input output) files
-  gain-law files input output = (
-    (λ legal.
-        let one = one-of (IsLegalGain shift tags) files input most_frames legal.inputs legal.are legal.few legal.choices in
-        let made = one-made (changing (gain_change shift tags)) (IsLegalGain shift tags) gain-choice choice-gain files input one in
-        parts-make _ output files made.0 (apart_no-clash (output ∷ []) (input ∷ []) 0 legal.names) made.1),
-    (λ made.
-        let parts = makes-parts _ output files made in
-        let one = made-one (changing (gain_change shift tags)) (IsLegalGain shift tags) gain-choice choice-gain files input parts.1 parts.2 in
-        record {
-          names = no-clash_apart (output ∷ []) (input ∷ []) 0 parts.0;
-          inputs = one.input ∷ [];
-          are = (one.is, tt);
-          few = few-one (length one.input.survey.frames) most_frames one.few;
-          choices = one.choice;
-        }),
-  )
+  gain-law files input output =
+      one-law files input [] output most_frames (IsLegalGain shift tags) (change_task (gain_change shift tags) (λ file. steps_of shift) (gain_refuses tags) input) refl
+      (one-made (changing (gain_change shift tags)) (IsLegalGain shift tags) gain-choice choice-gain files input) (made-one (changing (gain_change shift tags)) (IsLegalGain shift tags) gain-choice choice-gain files input)
+      (IsLegalFor (Gain shift tags input output) files)
+      (λ legal. (legal.names, one-of (IsLegalGain shift tags) files input most_frames legal.inputs legal.are legal.few legal.choices))
+      (λ is. record { names = is.0; inputs = is.1.input ∷ []; are = (is.1.is, tt); few = few-one (length is.1.input.survey.frames) most_frames is.1.few; choices = is.1.choice })
 
 undo-choice : (file : List ℕ) (s : SurveyFields) (bytes : List ℕ) → survey_of file most_frames ≡ Ok s → changing undo_change file s ≡ Ok bytes → IsLegalUndo (record { bytes = file; survey = s })
 undo-choice file s bytes surveyed e = let made = with-parts file s (undo_change file s) bytes e in undo-legal file s made.0 made.1
@@ -151,22 +159,12 @@ choice-undo : (file : List ℕ) (s : SurveyFields) → survey_of file most_frame
 choice-undo file s surveyed legal = let change = legal-undo file s legal in (changed change.0 file s, ap (changed_with file s) change.1)
 
 undo-law : (files : Contents) (input output : List ℕ) → IsLegalFor (Undo input output) files ↔ Makes (undo_command input output) files
-undo-law files input output = (
-  (λ legal.
-      let one = one-of IsLegalUndo files input most_frames legal.inputs legal.are legal.few legal.choices in
-      let made = one-made (changing undo_change) IsLegalUndo undo-choice choice-undo files input one in
-      parts-make _ output files made.0 (apart_no-clash (output ∷ []) (input ∷ []) 0 legal.names) made.1),
-  (λ made.
-      let parts = makes-parts _ output files made in
-      let one = made-one (changing undo_change) IsLegalUndo undo-choice choice-undo files input parts.1 parts.2 in
-      record {
-        names = no-clash_apart (output ∷ []) (input ∷ []) 0 parts.0;
-        inputs = one.input ∷ [];
-        are = (one.is, tt);
-        few = few-one (length one.input.survey.frames) most_frames one.few;
-        choices = one.choice;
-      }),
-)
+undo-law files input output =
+    one-law files input [] output most_frames IsLegalUndo (change_task undo_change steps_back undo_refuses input) refl
+    (one-made (changing undo_change) IsLegalUndo undo-choice choice-undo files input) (made-one (changing undo_change) IsLegalUndo undo-choice choice-undo files input)
+    (IsLegalFor (Undo input output) files)
+    (λ legal. (legal.names, one-of IsLegalUndo files input most_frames legal.inputs legal.are legal.few legal.choices))
+    (λ is. record { names = is.0; inputs = is.1.input ∷ []; are = (is.1.is, tt); few = few-one (length is.1.input.survey.frames) most_frames is.1.few; choices = is.1.choice })
 
 -- ---- fade
 
@@ -181,22 +179,12 @@ module _ (sheet : List ℕ) (back : Bool) (files : Contents) where
   choice-fade file s surveyed legal = let change = legal-fade sheet back files file s surveyed legal in (changed change.0 file s, ap (changed_with file s) change.1)
 
   fade-law : (input output : List ℕ) → IsLegalFor (Fade back input output sheet) files ↔ Makes (fade_command sheet back input output) files
-  fade-law input output = (
-    (λ legal.
-        let one = one-of (IsLegalFade sheet back files) files input most_frames legal.inputs legal.are legal.few legal.choices in
-        let made = one-made fade_make (IsLegalFade sheet back files) fade-choice choice-fade files input one in
-        parts-make (fade_task sheet back input) output files made.0 (apart_no-clash (output ∷ []) (input ∷ sheet ∷ []) 0 legal.names) made.1),
-    (λ made.
-        let parts = makes-parts (fade_task sheet back input) output files made in
-        let one = made-one fade_make (IsLegalFade sheet back files) fade-choice choice-fade files input parts.1 parts.2 in
-        record {
-          names = no-clash_apart (output ∷ []) (input ∷ sheet ∷ []) 0 parts.0;
-          inputs = one.input ∷ [];
-          are = (one.is, tt);
-          few = few-one (length one.input.survey.frames) most_frames one.few;
-          choices = one.choice;
-        }),
-  )
+  fade-law input output =
+      one-law files input (sheet ∷ []) output most_frames (IsLegalFade sheet back files) (fade_task sheet back input) refl
+      (one-made fade_make (IsLegalFade sheet back files) fade-choice choice-fade files input) (made-one fade_make (IsLegalFade sheet back files) fade-choice choice-fade files input)
+      (IsLegalFor (Fade back input output sheet) files)
+      (λ legal. (legal.names, one-of (IsLegalFade sheet back files) files input most_frames legal.inputs legal.are legal.few legal.choices))
+      (λ is. record { names = is.0; inputs = is.1.input ∷ []; are = (is.1.is, tt); few = few-one (length is.1.input.survey.frames) most_frames is.1.few; choices = is.1.choice })
 
 -- ---- cut
 
@@ -212,22 +200,12 @@ module _ (from to : Place) (slots : Slots) where
 
 cut-law : (files : Contents) (from to : Place) (least : Bool) (input output : List ℕ) → IsLegalFor (Cut from to least input output) files ↔ Makes (cut_command from to least input output) files
 cut-law files from to least input output =
-    let slots = slots_of least in (
-      (λ legal.
-          let one = one-of (λ i. IsRange i.survey from to) files input most_frames legal.inputs legal.are legal.few legal.choices in
-          let made = one-made (choosing (cut_choice from to slots)) (λ i. IsRange i.survey from to) (cut-choice from to slots) (choice-cut from to slots) files input one in
-          parts-make _ output files made.0 (apart_no-clash (output ∷ []) (input ∷ []) 0 legal.names) made.1),
-      (λ made.
-          let parts = makes-parts _ output files made in
-          let one = made-one (choosing (cut_choice from to slots)) (λ i. IsRange i.survey from to) (cut-choice from to slots) (choice-cut from to slots) files input parts.1 parts.2 in
-          record {
-            names = no-clash_apart (output ∷ []) (input ∷ []) 0 parts.0;
-            inputs = one.input ∷ [];
-            are = (one.is, tt);
-            few = few-one (length one.input.survey.frames) most_frames one.few;
-            choices = one.choice;
-          }),
-    )
+    let slots = slots_of least in
+    one-law files input [] output most_frames (RangeOf from to slots) (chosen_task (cut_choice from to slots) cut_refuses input) refl
+    (one-made (choosing (cut_choice from to slots)) (RangeOf from to slots) (cut-choice from to slots) (choice-cut from to slots) files input) (made-one (choosing (cut_choice from to slots)) (RangeOf from to slots) (cut-choice from to slots) (choice-cut from to slots) files input)
+    (IsLegalFor (Cut from to least input output) files)
+    (λ legal. (legal.names, one-of (RangeOf from to slots) files input most_frames legal.inputs legal.are legal.few legal.choices))
+    (λ is. record { names = is.0; inputs = is.1.input ∷ []; are = (is.1.is, tt); few = few-one (length is.1.input.survey.frames) most_frames is.1.few; choices = is.1.choice })
 
 -- ---- pack
 
@@ -296,35 +274,19 @@ module _ (files : Contents) (input : List ℕ) where
   packed-one (Floor rate) bytes e = made-one (making_in (Floor rate)) (LegalIn (Floor rate)) (pack-choice (Floor rate)) (choice-pack (Floor rate)) files input bytes e
 
   -- it reads only the input
-  free-in : (mode : PackMode) (output : List ℕ) → AreApart (input ∷ []) (output ∷ []) → clash_in (pack_task mode input) output ≡ None
-  free-in Least output apart = apart_no-clash (output ∷ []) (input ∷ []) 0 apart
-  free-in Best output apart = apart_no-clash (output ∷ []) (input ∷ []) 0 apart
-  free-in (Constant rate) output apart = apart_no-clash (output ∷ []) (input ∷ []) 0 apart
-  free-in (Floor rate) output apart = apart_no-clash (output ∷ []) (input ∷ []) 0 apart
-
-  in-apart : (mode : PackMode) (output : List ℕ) → clash_in (pack_task mode input) output ≡ None → AreApart (input ∷ []) (output ∷ [])
-  in-apart Least output free = no-clash_apart (output ∷ []) (input ∷ []) 0 free
-  in-apart Best output free = no-clash_apart (output ∷ []) (input ∷ []) 0 free
-  in-apart (Constant rate) output free = no-clash_apart (output ∷ []) (input ∷ []) 0 free
-  in-apart (Floor rate) output free = no-clash_apart (output ∷ []) (input ∷ []) 0 free
+  pack-names : (mode : PackMode) → (pack_task mode input).inputs ≡ input ∷ []
+  pack-names Least = refl
+  pack-names Best = refl
+  pack-names (Constant rate) = refl
+  pack-names (Floor rate) = refl
 
   pack-law : (mode : PackMode) (output : List ℕ) → IsLegalFor (Pack mode input output) files ↔ Makes (pack_mode_command mode input output) files
-  pack-law mode output = (
-    (λ legal.
-        let one = one-of (LegalIn mode) files input (most_in_mode mode) legal.inputs legal.are legal.few legal.choices in
-        let made = one-packed mode one in
-        parts-make (pack_task mode input) output files made.0 (free-in mode output legal.names) made.1),
-    (λ made.
-        let parts = makes-parts (pack_task mode input) output files made in
-        let one = packed-one mode parts.1 parts.2 in
-        record {
-          names = in-apart mode output parts.0;
-          inputs = one.input ∷ [];
-          are = (one.is, tt);
-          few = few-one (length one.input.survey.frames) (most_in_mode mode) one.few;
-          choices = one.choice;
-        }),
-  )
+  pack-law mode output =
+      one-law files input [] output (most_in_mode mode) (LegalIn mode) (pack_task mode input) (pack-names mode)
+      (one-packed mode) (packed-one mode)
+      (IsLegalFor (Pack mode input output) files)
+      (λ legal. (legal.names, one-of (LegalIn mode) files input (most_in_mode mode) legal.inputs legal.are legal.few legal.choices))
+      (λ is. record { names = is.0; inputs = is.1.input ∷ []; are = (is.1.is, tt); few = few-one (length is.1.input.survey.frames) (most_in_mode mode) is.1.few; choices = is.1.choice })
 
 -- ---- split
 
