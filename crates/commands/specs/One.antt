@@ -1,6 +1,6 @@
 -- A command that makes one file.
 pub use Rattle.sync_survey.specs.Limits.{most_frames}
-use Rattle.std.specs.Prelude.{◌≡◌, ◌≢◌, ◌⊎◌, ℕ, ◌<◌, ◌≤◌, Bool, true, take, List, [], ◌∷◌, length, slice_get, unwrap_or, Option, Some, None, Result, Ok, Err, IfSome, IfErr, option_map}
+use Rattle.std.specs.Prelude.{◌≡◌, ◌≢◌, ◌⊎◌, ℕ, ◌<◌, ◌≤◌, Bool, true, false, take, List, [], ◌∷◌, length, slice_get, unwrap_or, Option, Some, None, Result, Ok, Err, IfSome, IfErr, option_map}
 use Rattle.bit_fields.specs.Bits.{AreBytes}
 use Rattle.outside.specs.Files.{Contents, Files, Told, Untold, is_told, with_file, with_touch, Holds, IsThere, IsMissing, IfTold}
 use Rattle.outside.specs.Counts.{Rose, NothingFailed}

@@ -30,12 +30,12 @@ use Rattle.commands.specs.Left.{Why, Rejected, Missing, Unread, Shorter, Unwritt
 use Rattle.commands.specs.One.{most_frames, IsFileFaultBy, IsFileFault}
 use Rattle.sync_survey.proofs.SurveyedFiles.{survey_of-sound}
 use Rattle.frame_edits.proofs.ChosenLaws.{cut_proper}
-use Rattle.splitting.specs.Split.{frames_between, with_first, chosen_from, chosen_at, pieces_from, made_of, made_at, made_by, made_where, unless_equal, made_result, streams_of, streams_at, streams_by, streams_where, Placing, split_command_of, given, with_end, places_where, told_by, placing_of}
+use Rattle.splitting.specs.Split.{piece_names, frames_between, with_first, chosen_from, chosen_at, pieces_from, made_of, made_at, made_by, made_where, unless_equal, made_result, streams_of, streams_at, streams_by, streams_where, Placing, split_command_of, given, with_end, places_where, told_by, placing_of}
 use Rattle.splitting.specs.declared.piece.Piece.{Piece}
 use Rattle.splitting.specs.declared.split_file.Points.{Points}
 use Rattle.splitting.specs.declared.split_file.Points.TheVariants.{Places, Sheet as InSheet}
-use Rattle.splitting.specs.Steps.{Says, IsPlacesFaultBy, IsPlacesFault, ArePieces, chosen_of, outputs_of, with_outputs, with_part, IsWrittenPart, IsPiecesFaultBy, IsPiecesFault}
-use Rattle.splitting.proofs.PiecesLaws.{outputs-are}
+use Rattle.splitting.specs.Steps.{Says, IsPlacesFaultBy, IsPlacesFault, ArePieces, chosen_of, outputs_of, names_of, with_outputs, with_part, IsWrittenPart, IsPiecesFaultBy, IsPiecesFault}
+use Rattle.splitting.proofs.PiecesLaws.{outputs-are, names-first, names-all}
 
 -- ---- the refusals that come once memory was taken
 

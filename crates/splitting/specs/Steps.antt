@@ -1,5 +1,5 @@
 -- The steps of a command that cuts a file.
-use Rattle.std.specs.Prelude.{◌≡◌, ◌≢◌, ℕ, ◌+◌, ◌<◌, true, List, [], ◌∷◌, length, map, string_bytes, Option, Some, Result, Err, IfSome, is_some, option_map}
+use Rattle.std.specs.Prelude.{◌≡◌, ◌≢◌, ℕ, ◌+◌, ◌<◌, true, List, [], ◌∷◌, length, map, take, string_bytes, Option, Some, Result, Err}
 use Rattle.outside.specs.Files.{Files, Holds, IsThere, IfTold, Told, Untold, OnlyTouches}
 use Rattle.outside.specs.Counts.{Rose}
 use Rattle.sync_survey.specs.declared.survey_fault.SurveyFault.TheVariants.{Read, Shrunk, Memory as NoRoom}
