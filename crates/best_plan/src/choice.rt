@@ -85,6 +85,7 @@ pub(crate) fn too_small(free: u32, bytes: u32, areas: &[u32], from: usize) -> us
     requires from { from ≤ length areas.now }
     ensures within { result ≤ from }
     ensures small { (k : ℕ) → k < result → free + slice_index areas.now k < bytes }
+    ensures large { result < from → bytes ≤ free + slice_index areas.now result }
 {
     for place in (0..from).rev() {
         let area = areas[place];
