@@ -64,14 +64,14 @@ plan-slots window choices rows placed slots known plan = at plan.lead_ins plan.a
 
 module _ (laid : Laid) (file : List ℕ) (s : SurveyFields) (is : HasSurvey file s) (some : laid.from < laid.to) (within : laid.to ≤ length s.frames)
     (fitting : IsFitting (window_of s.class.version) (needs_laid laid s) laid.placed) where
-  part_is : IsPart s.class (part_laid laid file s)
+  pub part_is : IsPart s.class (part_laid laid file s)
   part_is = record { has = is; class = refl; some = some; within = within }
 
   -- the frames are in the slots of the plan
   pub laid-slots : map slot_in (frames_laid laid file s) ≡ map (λ (p : Placed). p.slot) laid.placed
   laid-slots = fitting-slots s.class (part_laid laid file s) laid.placed part_is fitting
 
-  sizes : length laid.extension ≡ 36 → HasInfoSizes (info_laid laid file s)
+  pub sizes : length laid.extension ≡ 36 → HasInfoSizes (info_laid laid file s)
   sizes extension = record {
     table = length-map (range_with_len 0 100) (table_entry s.class (frames_laid laid file s)) ∙ length-range_with_len 0 100;
     extension = extension;
@@ -81,7 +81,7 @@ module _ (laid : Laid) (file : List ℕ) (s : SurveyFields) (is : HasSurvey file
     rows_are : slice_range s.frames laid.from laid.to ≡ first ∷ slice_range s.frames (laid.from + 1) laid.to
     rows_are = range-next s.frames laid.from laid.to first found some
 
-    first-header : IsHeader first.header
+    pub first-header : IsHeader first.header
     first-header = (subst AreKnown rows_are (part-known s laid.from laid.to is.placed)).0
 
     first-class : class_of first.header ≡ s.class

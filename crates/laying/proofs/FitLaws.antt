@@ -31,11 +31,11 @@ Asks [] (need ∷ needs) = ⊥
 Asks (item ∷ items) [] = ⊥
 Asks (item ∷ items) (need ∷ needs) = IsAsked item.lead_in item need × Asks items (left_behind item.lead_in need needs)
 
-asked-area : (b : Bool) (item : Item) (need : Need) (slot : SlotFields) → IsAsked b item need → area_in item slot ≡ area_of (class_of need.header) slot (cond b false need.header.protected)
+pub asked-area : (b : Bool) (item : Item) (need : Need) (slot : SlotFields) → IsAsked b item need → area_in item slot ≡ area_of (class_of need.header) slot (cond b false need.header.protected)
 asked-area true item need slot is = ap₂ (λ c protected. area_of c slot protected) is.0 is.1
 asked-area false item need slot is = ap₂ (λ c protected. area_of c slot protected) is.0 is.1
 
-asked-bytes : (b : Bool) (item : Item) (need : Need) → IsAsked b item need → item.bytes ≡ bytes_at b need
+pub asked-bytes : (b : Bool) (item : Item) (need : Need) → IsAsked b item need → item.bytes ≡ bytes_at b need
 asked-bytes true item need is = is.2
 asked-bytes false item need is = is.2
 

@@ -83,9 +83,13 @@ some-by window reach (need ∷ needs) (f ∷ fs) (p ∷ placed) are fits some = 
 pub fitting-slots : FittingSlots
 fitting-slots c part placed is fitting = slots-by (window_of c.version) 0 (needs_in part) (frames_in part) placed (part-needs c part is) fitting.fits
 
+pub fitting-laid : (c : ClassFields) (part : Part) (placed : List Placed) → IsPart c part → IsFitting (window_of c.version) (needs_in part) placed
+    → AreLaidFrom c 0 0 (relaid (frames_in part) placed) (with_lead_ins placed (map entry_of (frames_in part)))
+fitting-laid c part placed is fitting = laid-fitting c (needs_in part) (frames_in part) placed 0 0 0 (part-entries c part is) (part-needs c part is) fitting.slots fitting.fits (omega arith) (omega arith)
+
 pub fitting-files-hold : FittingFilesHold
 fitting-files-hold c part placed is fitting front first info back before header class sizes behind =
-    let laid = laid-fitting c (needs_in part) (frames_in part) placed 0 0 0 (part-entries c part is) (part-needs c part is) fitting.slots fitting.fits (omega arith) (omega arith) in
+    let laid = fitting-laid c part placed is fitting in
     subst (HoldsStream (laid_file front first info (relaid (frames_in part) placed) back)) (laid.stream_is ∙ ap (with_lead_ins placed) (part-stream c part is))
     (laid-stream c front first info (relaid (frames_in part) placed) back
     (record { blocks_before = before; header = header; class = class; sizes = sizes; some = some-by (window_of c.version) 0 (needs_in part) (frames_in part) placed (part-needs c part is) fitting.fits (part-some c part is); entries = laid.entries; laid = laid.fit; blocks_behind = behind }))

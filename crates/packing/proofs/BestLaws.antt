@@ -31,7 +31,7 @@ use Rattle.packing.proofs.PlanLaws.{IsFittingFew, for-length, one-class, window-
 
 -- ---- by a best plan frames can be laid
 
-asks-behind : (lead_in : Bool) (needs : List Need) → Asks (items_behind lead_in any_choice needs) needs
+pub asks-behind : (lead_in : Bool) (needs : List Need) → Asks (items_behind lead_in any_choice needs) needs
 unfolding items_behind
 asks-behind false needs = asks-each any_choice needs
 asks-behind true [] = tt

@@ -66,7 +66,7 @@ limited-sound : (allowed : ℕ) (o : Option (List ℕ)) (made : Result (List ℕ
 limited-sound allowed None made sound = refl
 limited-sound allowed (Some file) made sound = ap (λ r. unless_fault r made) (sound file refl).1
 
-limited-made : (allowed : ℕ) (o : Option (List ℕ)) (made : Result (List ℕ) EditFault) (new : List ℕ) → limited_by (Some allowed) o made ≡ Ok new → made ≡ Ok new
+pub limited-made : (allowed : ℕ) (o : Option (List ℕ)) (made : Result (List ℕ) EditFault) (new : List ℕ) → limited_by (Some allowed) o made ≡ Ok new → made ≡ Ok new
 limited-made allowed None made new is = is
 limited-made allowed (Some file) made new is = at (survey_of file allowed) is
   where

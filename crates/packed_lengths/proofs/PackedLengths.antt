@@ -1,0 +1,169 @@
+-- What `pack --best` writes, and what `pack` writes of the same input.
+use Rattle.std.proofs.Common.{◌≡◌, ℕ, ◌≤◌, List, [], ◌∷◌, length, Option, Some, None, Result, Ok, Err, refl, sym, ◌∙◌, ap, subst}
+use Rattle.outside.specs.Files.{Contents}
+use Rattle.frame_header.specs.Tables.{window_of}
+use Rattle.slot_plan.specs.declared.needs.Placed.{Placed}
+use Rattle.slot_plan.specs.Plans.{IsPlan}
+use Rattle.best_plan.specs.Best.{IsBestPlan}
+use Rattle.part_needs.specs.Fit.{IsPlaced, any_choice}
+use Rattle.sync_survey.specs.declared.survey_fault.SurveyFault.{SurveyFault}
+use Rattle.sync_survey.specs.Faults.{SurveyFields}
+use Rattle.sync_survey.specs.Survey.{survey_of}
+use Rattle.sync_survey.proofs.PlacedRows.{surveyed-placed}
+use Rattle.sync_survey.proofs.SurveyedFiles.{survey_of-parts}
+use Rattle.laying.specs.Fits.{IsFitting}
+use Rattle.laying.proofs.ChosenFrames.{survey-had}
+use Rattle.commands.specs.Command.{clash_from}
+use Rattle.commands.specs.One.{most_frames, made_by, made_file, made_where, unless_clash, made_result}
+use Rattle.commands.proofs.RefusingLaws.{unless_ok, then_ok}
+use Rattle.frame_edits.specs.declared.chosen.Slots.TheVariants.{Least as LeastSlots}
+use Rattle.frame_edits.specs.Laid.{Laid, file_laid}
+use Rattle.frame_edits.specs.Chosen.{Chosen, outside_fault, choices_by, plan_of, laid_by, laid_with, choosing, chosen_file, all_choice}
+use Rattle.frame_edits.proofs.ChosenLaws.{IsRight, all_right, the-plan, plan-fitting}
+use Rattle.pack_mode.specs.declared.mode.PackMode.TheVariants.{Least, Best}
+use Rattle.packing.specs.Modes.{pack_task}
+use Rattle.packing.specs.Packing.{needs_of, laid_as, packed, packing}
+use Rattle.packing.specs.Rules.{best_planning, most_best, limited_by}
+use Rattle.packing.proofs.BestLaws.{best-is, best-fitting}
+use Rattle.packing.proofs.LimitLaws.{limited-made}
+use Rattle.packing.proofs.PlanLaws.{rows-same, rows-sound}
+use Rattle.packed_lengths.specs.Fewest.{HasNoMore, IsFewest}
+use Rattle.packed_lengths.specs.Laws.{NeverLonger, FewestBytes}
+use Rattle.packed_lengths.proofs.FileLengths.{no-longer}
+use Rattle.packed_lengths.proofs.PlanLengths.{best-least, plan-no_more}
+
+-- ---- what is written
+
+-- no name clashes, the input is there without fault, all its frames are chosen, and these are the bytes of them in the slots of their best plan
+record IsMadeOf (input output : List ℕ) (files : Contents) (made : List ℕ) : Type 0 where
+  apart : clash_from (output ∷ []) 0 (input ∷ []) ≡ None
+  file : List ℕ
+  there : files input ≡ Some file
+  survey : SurveyFields
+  surveyed : survey_of file most_frames ≡ Ok survey
+  chosen : Chosen
+  chose : all_choice LeastSlots file survey ≡ Ok chosen
+  placed : List Placed
+  planned : best_planning survey.class (needs_of chosen survey) ≡ Ok placed
+  is : file_laid (laid_by chosen placed) file survey ≡ made
+
+module _ (input output : List ℕ) (files : Contents) (made : List ℕ) where
+  by-plan : clash_from (output ∷ []) 0 (input ∷ []) ≡ None → (file : List ℕ) → files input ≡ Some file → (s : SurveyFields) → survey_of file most_frames ≡ Ok s → packing best_planning file s ≡ Ok made → IsMadeOf input output files made
+  unfolding packed
+  by-plan apart file there s surveyed e =
+      let whole = then_ok (packed best_planning file s) (λ laid. Ok (file_laid laid file s)) made e in
+      let chose = then_ok (all_choice LeastSlots file s) (laid_as best_planning s) whole.0 whole.1 in
+      let planned = then_ok (best_planning s.class (needs_of chose.0 s)) (λ placed. Ok (laid_by chose.0 placed)) whole.0 chose.2 in
+      let laid : laid_by chose.0 planned.0 ≡ whole.0 = cc in
+      let bytes : file_laid whole.0 file s ≡ made = cc in
+      record {
+        apart = apart;
+        file = file;
+        there = there;
+        survey = s;
+        surveyed = surveyed;
+        chosen = chose.0;
+        chose = chose.1;
+        placed = planned.0;
+        planned = planned.1;
+        is = ap (λ (l : Laid). file_laid l file s) laid ∙ bytes;
+      }
+
+  by-survey : clash_from (output ∷ []) 0 (input ∷ []) ≡ None → (file : List ℕ) → files input ≡ Some file → (r : Result SurveyFields SurveyFault) → survey_of file most_frames ≡ r → made_by (packing best_planning) file r ≡ Ok made → IsMadeOf input output files made
+  by-survey apart file there (Err fault) surveyed e = absurd cc
+  by-survey apart file there (Ok s) surveyed e = by-plan apart file there s surveyed e
+
+  by-there : clash_from (output ∷ []) 0 (input ∷ []) ≡ None → (o : Option (List ℕ)) → files input ≡ o → made_where (packing best_planning) o ≡ Ok made → IsMadeOf input output files made
+  unfolding made_file
+  by-there apart None there e = absurd cc
+  by-there apart (Some file) there e = by-survey apart file there (survey_of file most_frames) refl e
+
+  by-clash : (o : Option ℕ) → clash_from (output ∷ []) 0 (input ∷ []) ≡ o → unless_clash o (limited_by (Some most_best) (files input) (made_where (packing best_planning) (files input))) ≡ Ok made → IsMadeOf input output files made
+  by-clash (Some place) apart e = absurd cc
+  by-clash None apart e = by-there apart (files input) refl (limited-made most_best (files input) (made_where (packing best_planning) (files input)) made e)
+
+  made-of : made_result (pack_task Best input) output files ≡ Ok made → IsMadeOf input output files made
+  unfolding made_result
+  made-of e = by-clash (clash_from (output ∷ []) 0 (input ∷ [])) refl e
+
+-- all frames are chosen
+record IsWhole (chosen : Chosen) (s : SurveyFields) : Type 0 where
+  from : chosen.from ≡ 0
+  to : chosen.to ≡ length s.frames
+  slots : chosen.slots ≡ LeastSlots
+
+all-whole : (file : List ℕ) (s : SurveyFields) (chosen : Chosen) → all_choice LeastSlots file s ≡ Ok chosen → IsWhole chosen s
+unfolding all_choice
+all-whole file s chosen e =
+    let same = (unless_ok (outside_fault 0 (length s.frames) (length s.frames)) _ chosen e).1 in
+    record { from = sym (ap (λ (c : Chosen). c.from) same); to = sym (ap (λ (c : Chosen). c.to) same); slots = sym (ap (λ (c : Chosen). c.slots) same) }
+
+-- ---- its length
+
+module _ (input output : List ℕ) (files : Contents) (best : List ℕ) (m : IsMadeOf input output files best) where
+  right : IsRight m.chosen m.survey
+  right = all_right LeastSlots m.file m.survey m.chosen m.chose
+
+  well : IsPlaced m.survey
+  well = surveyed-placed m.file most_frames m.survey (survey_of-parts m.file most_frames m.survey m.surveyed).1
+
+  abbrev window : ℕ
+  window = window_of m.survey.class.version
+
+  fitting : IsFitting window (needs_of m.chosen m.survey) m.placed
+  fitting = (best-fitting m.chosen m.survey well right.some right.within m.placed m.planned).fitting
+
+  best_plan : IsBestPlan window any_choice (needs_of m.chosen m.survey) m.placed
+  best_plan = best-is m.chosen m.survey well right.some right.within m.placed m.planned
+
+  by-other : (other : List Placed) → IsFitting window (needs_of m.chosen m.survey) other → HasNoMore m.placed other → length best ≤ length (file_laid (laid_by m.chosen other) m.file m.survey)
+  by-other other fits more =
+      subst (λ (l : List ℕ). length l ≤ length (file_laid (laid_by m.chosen other) m.file m.survey)) m.is
+      (no-longer (laid_by m.chosen m.placed) other m.file m.survey (survey-had m.file most_frames m.survey m.surveyed) right.some right.within right.extension fitting fits
+      (best-least window m.survey.class (needs_of m.chosen m.survey) (rows-sound m.chosen m.survey well right.some right.within) (rows-same m.chosen m.survey well right.some right.within) m.placed other best_plan fitting.slots fits more))
+
+  fewest-is : IsFewest m.file best
+  fewest-is =
+      let whole = all-whole m.file m.survey m.chosen m.chose in
+      record {
+        survey = m.survey;
+        surveyed = m.surveyed;
+        laid = laid_by m.chosen m.placed;
+        first = whole.from;
+        last = whole.to;
+        fits = fitting;
+        is = sym m.is;
+        fewest = by-other;
+      }
+
+  -- ---- beside that of the plain packing
+
+  plain_plan : IsPlan window any_choice (needs_of m.chosen m.survey ∷ []) (plan_of m.chosen m.survey)
+  plain_plan =
+      subst (λ slots. IsPlan window (choices_by slots) (needs_of m.chosen m.survey ∷ []) (plan_of m.chosen m.survey)) (all-whole m.file m.survey m.chosen m.chose).slots
+      (the-plan m.chosen m.survey well right.some right.within)
+
+  plain_made : made_result (pack_task Least input) output files ≡ Ok (chosen_file m.chosen m.file m.survey)
+  unfolding made_result made_file
+  plain_made =
+      let make = choosing (all_choice LeastSlots) in
+      ap (λ o. unless_clash o (made_where make (files input))) m.apart
+      ∙ ap (made_where make) m.there
+      ∙ ap (made_by make m.file) m.surveyed
+      ∙ ap (laid_with m.file m.survey) m.chose
+
+  plain-longer : length best ≤ length (chosen_file m.chosen m.file m.survey)
+  unfolding chosen_file
+  plain-longer = by-other (plan_of m.chosen m.survey) (plan-fitting m.chosen m.survey well right.some right.within) (plan-no_more window m.placed (plan_of m.chosen m.survey) (needs_of m.chosen m.survey) best_plan plain_plan)
+
+-- ---- the laws
+
+pub longer-never : NeverLonger
+longer-never = λ input output files best e.
+    let m = made-of input output files best e in
+    (chosen_file m.chosen m.file m.survey, plain_made input output files best m, plain-longer input output files best m)
+
+pub bytes-fewest : FewestBytes
+bytes-fewest = λ input output files best e.
+    let m = made-of input output files best e in
+    (m.file, m.there, fewest-is input output files best m)
